@@ -1,0 +1,16 @@
+pub mod NumberLemmas
+pub mod WriteLemmas
+pub mod ReaderLemmas
+pub mod MapLemmas
+pub mod KindLemmas
+pub mod BranchLemmas
+pub mod TableLemmas
+pub mod NumberLaws
+pub mod TextLaws
+pub mod Vectors
+pub mod EdgeLemmas
+pub mod CanonLaws
+pub mod EncodeLaws
+pub mod SizeLaws
+pub mod OrderLaws
+pub mod NodeLaws

@@ -1,0 +1,111 @@
+-- The head and the search table of a branch.
+use Rattle.std.proofs.Common.{◌≡◌, ◌≢◌, ℕ, zero, suc, ◌+◌, ◌-◌, ◌*◌, ◌/◌, ◌%◌, ◌^◌, ◌<◌, ◌≤◌, List, [], ◌∷◌, ◌++◌, length, refl, sym, ◌∙◌, ap, subst, arith, map, get_or, take, drop, length-append, Option, Some, None, Result, Ok, Err}
+use Rattle.std.specs.List.{concat}
+use Rattle.std.specs.List.Sorted.{IsBinarySearchResult}
+use Rattle.std.specs.Ordering.{nat_cmp}
+use Rattle.std.specs.Prelude.{MatchResult}
+use Rattle.std.specs.Borrow.{Bor}
+use Rattle.std.specs.Option.{option_map, IsSomeAnd}
+use Rattle.std.proofs.lemmas.Bool.{cases_lt}
+use Rattle.std.proofs.Common.{inl, inr}
+use Rattle.std.proofs.lemmas.List.{take_at, drop_at}
+use Rattle.std.proofs.lemmas.List.Sorted.{searched}
+use Rattle.zerotrie_core.specs.Kind.{Kind, simple_ascii, same_byte, fold_byte, tag, greatest_width}
+use Rattle.zerotrie_core.specs.Numbers.{Spells, BeginsWith}
+use Rattle.zerotrie_core.specs.Branches.{IsBranch, IsTable, blocks, offsets}
+use Rattle.zerotrie_core.specs.Branches.IsTable.{sorted}
+use Rattle.zerotrie_core.specs.Reading.{target_of, BranchLeads, IsTargets}
+use Rattle.zerotrie_core.proofs.ReaderLemmas.{one_reading, Rises, AllAbove, table_rises}
+use Rattle.zerotrie_core.proofs.KindLemmas.{same_itself, other_byte}
+
+pub above_at : (kind : Kind) (x i : ℕ) (edges : List ℕ) → tag kind ≡ 0 → AllAbove kind x edges → i < length edges → x < get_or edges i 0
+above_at kind x i [] t a h = absurd (omega arith)
+above_at simple_ascii x zero (e ∷ edges) t a h = a.0
+above_at simple_ascii x (suc i) (e ∷ edges) t a h = above_at simple_ascii x i edges t a.1 (omega arith)
+
+rises_at : (kind : Kind) (edges : List ℕ) → tag kind ≡ 0 → Rises kind edges → (i j : ℕ) → i ≤ j → j < length edges → get_or edges i 0 ≤ get_or edges j 0
+rises_at kind [] t r i j le h = absurd (omega arith)
+rises_at kind (e ∷ edges) t r zero zero le h = omega arith
+rises_at simple_ascii (e ∷ edges) t r zero (suc j) le h = let up = above_at simple_ascii e j edges t r.0 (omega arith) in omega arith
+rises_at kind (e ∷ edges) t r (suc i) zero le h = absurd (omega arith)
+rises_at kind (e ∷ edges) t r (suc i) (suc j) le h = rises_at kind edges t r.1 i j (omega arith) (omega arith)
+
+found_target : (kind : Kind) (c i : ℕ) (edges : List ℕ) (targets : List (List ℕ)) → tag kind ≡ 0 → Rises kind edges → length targets ≡ length edges → i < length edges → get_or edges i 0 ≡ c → target_of kind c edges targets ≡ Some (get_or targets i [])
+found_target kind c i [] targets t r n h is = absurd (omega arith)
+found_target kind c i (e ∷ edges) [] t r n h is = absurd (omega arith)
+found_target kind c zero (e ∷ edges) (f ∷ targets) t r n h is = rw (same_itself kind e c is) refl
+found_target simple_ascii c (suc i) (e ∷ edges) (f ∷ targets) t r n h is =
+    let up = above_at simple_ascii e i edges t r.0 (omega arith) in
+    rw (other_byte simple_ascii e c t (λ same. omega arith)) (found_target simple_ascii c i edges targets t r.1 (omega arith) (omega arith) is)
+
+missed_target : (kind : Kind) (c : ℕ) (edges : List ℕ) (targets : List (List ℕ)) → tag kind ≡ 0 → ((i : ℕ) → i < length edges → get_or edges i 0 ≡ c → ⊥) → target_of kind c edges targets ≡ None
+missed_target kind c [] targets t none = refl
+missed_target kind c (e ∷ edges) [] t none = refl
+missed_target kind c (e ∷ edges) (f ∷ targets) t none =
+    rw (other_byte kind e c t (none 0 (omega arith))) (missed_target kind c edges targets t (λ i h. none (suc i) (omega arith)))
+
+pub table_is_edges : {kind : Kind} {edges table : List ℕ} → IsTable kind edges table → table ≡ edges
+table_is_edges (sorted h up) = refl
+
+-- what the reader has read of a branch
+pub record Read {kind : Kind} {edges : List ℕ} {targets : List (List ℕ)} {bytes : List ℕ} (b : IsBranch kind edges targets bytes) (head : ℕ) (body : List ℕ) : Type 0 where
+  pub width : head / 256 ≡ b.width
+  pub count : head % 256 ≡ length edges % 256
+  pub body_is : body ≡ edges ++ (blocks (b.width + 1) (offsets targets) ++ concat targets)
+
+parts_of : (w n : ℕ) → ((256 * w + n % 256) / 256 ≡ w) × ((256 * w + n % 256) % 256 ≡ n % 256)
+parts_of w n = (omega arith, omega arith)
+
+pub branch_begins : {kind : Kind} {edges : List ℕ} {targets : List (List ℕ)} {bytes : List ℕ} (b : IsBranch kind edges targets bytes) → BeginsWith 32 3 (256 * b.width + length edges % 256) bytes (b.table ++ (blocks (b.width + 1) (offsets targets) ++ concat targets))
+branch_begins b = record { spelling = b.head; spells = b.is_head; bytes_are = b.bytes_are }
+
+pub read_branch : {kind : Kind} {edges : List ℕ} {targets : List (List ℕ)} (lead m head : ℕ) (rest body : List ℕ) (b : IsBranch kind edges targets (lead ∷ rest)) → BeginsWith 32 m head (lead ∷ rest) body → Read b head body
+read_branch {edges = edges} {targets = targets} lead m head rest body b begins =
+    let one = one_reading 32 m 3 head (256 * b.width + length edges % 256) lead rest body (b.table ++ (blocks (b.width + 1) (offsets targets) ++ concat targets)) begins (branch_begins b) in
+    let parts = parts_of b.width (length edges) in
+    record {
+      width = ap (λ v. v / 256) one.0 ∙ parts.0;
+      count = ap (λ v. v % 256) one.0 ∙ parts.1;
+      body_is = one.1 ∙ ap (λ t. t ++ (blocks (b.width + 1) (offsets targets) ++ concat targets)) (table_is_edges b.is_table);
+    }
+
+pub no_branch : {kind : Kind} {edges : List ℕ} {targets : List (List ℕ)} {bytes : List ℕ} → IsBranch kind edges targets bytes → ((m v : ℕ) (after : List ℕ) → BeginsWith 32 m v bytes after → ⊥) → ⊥
+no_branch b none = none 3 _ _ (branch_begins b)
+
+pub narrow : {kind : Kind} {edges : List ℕ} {targets : List (List ℕ)} {bytes : List ℕ} → tag kind ≡ 0 → IsBranch kind edges targets bytes → (head : ℕ) (body : List ℕ) (b : IsBranch kind edges targets bytes) → Read b head body → head / 256 ≤ 3
+narrow {kind = simple_ascii} t c head body b r = let w = r.width in let f = b.fits in omega arith
+
+pub edges_fit : {kind : Kind} {edges : List ℕ} {targets : List (List ℕ)} {bytes : List ℕ} (head n : ℕ) (body : List ℕ) (b : IsBranch kind edges targets bytes) → Read b head body → n ≡ length edges → n ≤ length body
+edges_fit head n body b r is = omega (arith, simp length-append at (ap length r.body_is))
+
+pub table_read : {kind : Kind} {edges : List ℕ} {targets : List (List ℕ)} {bytes : List ℕ} (head n : ℕ) (body table : List ℕ) (b : IsBranch kind edges targets bytes) → Read b head body → n ≡ length edges → table ≡ take n body → table ≡ edges
+table_read {edges = edges} head n body table b r is t = t ∙ ap (take n) r.body_is ∙ take_at edges _ n (sym is)
+
+pub targets_read : {kind : Kind} {edges : List ℕ} {targets : List (List ℕ)} {bytes : List ℕ} (head n : ℕ) (body rest : List ℕ) (b : IsBranch kind edges targets bytes) → Read b head body → n ≡ length edges → rest ≡ drop n body → IsTargets targets n (head / 256 + 1) rest
+targets_read {edges = edges} {targets = targets} head n body rest b r is t = record {
+  count = b.a_target_each ∙ sym is;
+  enough = rw r.width b.is_width.enough;
+  bytes_are = rw r.width (t ∙ ap (drop n) r.body_is ∙ drop_at edges (blocks (b.width + 1) (offsets targets) ++ concat targets) n (sym is));
+}
+
+pub mapped : (r : Option (Bor (List ℕ))) (t : List ℕ) → IsSomeAnd r (λ x. x.now ≡ t) → option_map (λ x. x.now) r ≡ Some t
+mapped None t h = absurd h
+mapped (Some x) t h = ap (λ y. Some y) h
+
+-- what the search of the table tells of the target
+pub hit_target : {kind : Kind} {edges : List ℕ} {targets : List (List ℕ)} {bytes : List ℕ} (c place : ℕ) (table : List ℕ) → tag kind ≡ 0 → IsBranch kind edges targets bytes → table ≡ edges → IsBinarySearchResult (λ y. nat_cmp y c) table (Ok place)
+    → target_of kind c edges targets ≡ Some (get_or targets place [])
+hit_target {kind = kind} {edges = edges} {targets = targets} c place table t b is found =
+    let up = table_rises b.is_table in
+    let at_place = searched edges c (Ok place) (subst (λ x. IsBinarySearchResult (λ y. nat_cmp y c) x (Ok place)) is found) (rises_at kind edges t up) in
+    found_target kind c place edges targets t up b.a_target_each at_place.0 at_place.1
+
+pub miss_target : {kind : Kind} {edges : List ℕ} {targets : List (List ℕ)} {bytes : List ℕ} (c place : ℕ) (table : List ℕ) → tag kind ≡ 0 → IsBranch kind edges targets bytes → table ≡ edges → IsBinarySearchResult (λ y. nat_cmp y c) table (Err place)
+    → target_of kind c edges targets ≡ None
+miss_target {kind = kind} {edges = edges} {targets = targets} c place table t b is missed =
+    let up = table_rises b.is_table in
+    let nowhere = searched edges c (Err place) (subst (λ x. IsBinarySearchResult (λ y. nat_cmp y c) x (Err place)) is missed) (rises_at kind edges t up) in
+    missed_target kind c edges targets t (λ i h same. elim (cases_lt i place) [
+      | inl low ↦ let less = nowhere.1 i low in absurd (omega arith)
+      | inr high ↦ let more = nowhere.2 i high h in absurd (omega arith)
+    ])

@@ -1,0 +1,27 @@
+-- Which maps have a text of a kind.
+use Rattle.std.proofs.Common.{suc}
+use Rattle.std.specs.Prelude.{ℕ, ◌+◌, ◌^◌, ◌<◌, ◌≤◌, ◌⊎◌, List, length, map, sum, All}
+use Rattle.std.specs.FinMap.{entries}
+use Rattle.zerotrie_core.specs.Kind.{Kind, edge_limit, greatest_width}
+use Rattle.zerotrie_core.specs.Maps.{Pairs, Map, edges, residual, behind_all, longest, IsCaseConsistent}
+use Rattle.zerotrie_core.specs.Canonical.{size, size_to}
+
+-- the bytes of the targets of the branch that the pairs need, together
+unfoldable pub targets_size : Kind → Pairs → ℕ
+targets_size kind pairs = sum (map (λ b. size_to (suc (longest (residual b pairs))) kind (residual b pairs)) (edges pairs))
+
+-- The map has a text of the kind: its values and bytes are in range, its keys agree in case, the targets of
+-- each branch can be reached by an offset, and the text has fewer than 2 ^ 64 bytes.
+pub record Fits (kind : Kind) (m : Map) : Type 0 where
+  pub values : All (λ e. e.1 < 2 ^ 64) (entries m)
+  pub key_bytes : All (λ e. All (λ b. b < edge_limit kind) e.0) (entries m)
+  pub case : IsCaseConsistent kind (entries m)
+  pub narrow : (front : List ℕ) → 2 ≤ length (edges (behind_all front (entries m)))
+      → targets_size kind (behind_all front (entries m)) < 256 ^ (greatest_width kind + 1)
+  pub short : size kind m < 2 ^ 64
+
+-- a text of the map would have 2 ^ 64 bytes or more, or a branch more target bytes than an offset of the kind reaches
+abbrev pub ExceedsCapacity : Kind → Map → Type 0
+ExceedsCapacity kind m = (2 ^ 64 ≤ size kind m)
+    ⊎ ((front : List ℕ) × (2 ≤ length (edges (behind_all front (entries m))))
+        × (256 ^ (greatest_width kind + 1) ≤ targets_size kind (behind_all front (entries m))))

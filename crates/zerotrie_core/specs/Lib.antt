@@ -1,0 +1,12 @@
+pub mod Kind
+pub mod Options
+pub mod Numbers
+pub mod Maps
+pub mod Branches
+pub mod Texts
+pub mod Canonical
+pub mod Fits
+pub mod Causes
+pub mod Items
+pub mod Reading
+pub mod Descending

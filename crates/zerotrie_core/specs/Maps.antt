@@ -1,0 +1,89 @@
+-- Maps from byte lists to numbers, and lists of pairs.
+use Rattle.std.specs.List.{range_with_len}
+use Rattle.std.specs.Prelude.{◌==◌, ◌||◌, ◌+◌, filter, max, length, ◌≡◌, ℕ, List, [], ◌∷◌, map, Option, Some, None, if◌then◌else◌, Bool, true, false, ◌⊎◌, All, Contains}
+use Rattle.std.specs.FinMap.{FinMap, from_entries, entries}
+use Rattle.std.specs.Cmp.Lexicographic.{slice_cmp, pointwise}
+use Rattle.std.specs.Ordering.{nat_cmp}
+use Rattle.std.specs.declared.cmp.Ordering.TheVariants.{Less}
+use Rattle.zerotrie_core.specs.Kind.{Kind, same_byte}
+
+-- pairs of a key and its value
+abbrev pub Pairs : Type 0
+Pairs = List (List ℕ × ℕ)
+
+-- a finite map from byte lists to numbers
+abbrev pub Map : Type 0
+Map = FinMap (slice_cmp nat_cmp) ℕ
+
+-- the map of a list of pairs with distinct keys
+abbrev pub map_of : Pairs → Map
+map_of pairs = from_entries pairs
+
+-- the key of the first pair, if there is one, is above this key by its bytes
+abbrev pub FirstAbove : List ℕ → Pairs → Type 0
+FirstAbove key [] = Unit {0}
+FirstAbove key (e ∷ pairs) = slice_cmp nat_cmp key e.0 ≡ Less
+
+-- the keys are strictly ascending by their bytes
+abbrev pub Ascends : Pairs → Type 0
+Ascends [] = Unit {0}
+Ascends (e ∷ pairs) = FirstAbove e.0 pairs × Ascends pairs
+
+-- some key comes twice
+abbrev pub RepeatsKey : Pairs → Type 0
+RepeatsKey [] = ⊥
+RepeatsKey (e ∷ pairs) = Contains (map {B = List ℕ} (λ f. f.0) pairs) e.0 ⊎ RepeatsKey pairs
+
+-- each key with the byte b in front
+abbrev pub with_front : ℕ → Pairs → Pairs
+with_front b pairs = map (λ e. (b ∷ e.0, e.1)) pairs
+
+-- two keys are one key to the kind
+abbrev pub same_key : Kind → List ℕ → List ℕ → Bool
+same_key kind p q = pointwise (same_byte kind) p q
+
+-- the value of the first pair whose key is this one to the kind
+abbrev pub value_at : Kind → Pairs → List ℕ → Option ℕ
+value_at kind [] key = None
+value_at kind (e ∷ pairs) key = if same_key kind e.0 key then Some e.1 else value_at kind pairs key
+
+-- what a look-up answers
+abbrev pub look : Kind → Map → List ℕ → Option ℕ
+look kind m key = value_at kind (entries m) key
+
+-- whether some key begins with b
+abbrev pub begins_some : Pairs → ℕ → Bool
+begins_some [] b = false
+begins_some (([], v) ∷ pairs) b = begins_some pairs b
+begins_some ((c ∷ key, v) ∷ pairs) b = (c == b) || begins_some pairs b
+
+-- the first bytes of the keys, ascending
+unfoldable pub edges : Pairs → List ℕ
+edges pairs = filter (begins_some pairs) (range_with_len 0 256)
+
+-- the pairs whose keys begin with b, without that byte
+abbrev pub residual : ℕ → Pairs → Pairs
+residual b [] = []
+residual b (([], v) ∷ pairs) = residual b pairs
+residual b ((c ∷ key, v) ∷ pairs) = if c == b then (key, v) ∷ residual b pairs else residual b pairs
+
+-- the pairs whose keys begin with all of front, without it
+abbrev pub behind_all : List ℕ → Pairs → Pairs
+behind_all [] pairs = pairs
+behind_all (b ∷ front) pairs = behind_all front (residual b pairs)
+
+-- the length of the longest key
+abbrev pub longest : Pairs → ℕ
+longest [] = 0
+longest (e ∷ pairs) = max (length e.0) (longest pairs)
+
+-- how long the common front of two keys is, by a test of two bytes
+abbrev pub common_front : (ℕ → ℕ → Bool) → List ℕ → List ℕ → ℕ
+common_front same [] l = 0
+common_front same (a ∷ k) [] = 0
+common_front same (a ∷ k) (b ∷ l) = if same a b then 1 + common_front same k l else 0
+
+-- whatever two keys have in front that is one to the kind, they have in common
+abbrev pub IsCaseConsistent : Kind → Pairs → Type 0
+IsCaseConsistent kind pairs =
+    All (λ e. All (λ f. common_front (same_byte kind) e.0 f.0 ≡ common_front (λ a b. a == b) e.0 f.0) pairs) pairs

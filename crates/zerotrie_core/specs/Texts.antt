@@ -1,0 +1,46 @@
+-- The grammar: which bytes are a text of a kind, and which pairs they list.
+use Rattle.std.specs.Prelude.{◌≡◌, ◌≢◌, ℕ, ◌+◌, ◌*◌, ◌/◌, ◌^◌, ◌<◌, ◌≤◌, List, [], ◌∷◌, ◌++◌, length, if◌then◌else◌}
+use Rattle.zerotrie_core.specs.Kind.{Kind, same_byte}
+use Rattle.zerotrie_core.specs.Numbers.{Spells}
+use Rattle.zerotrie_core.specs.Maps.{Pairs, Map, map_of, with_front}
+use Rattle.zerotrie_core.specs.Branches.{IsBranch}
+
+-- no bytes, or bytes that do not begin with a value node, whose lead has the bits 100
+abbrev pub NoValueFirst : List ℕ → Type 0
+NoValueFirst [] = Unit {0}
+NoValueFirst (b ∷ bs) = b / 32 ≢ 4
+
+mutual
+  -- The bytes are a text of the kind, and list these pairs in this order.
+  pub data Lists (kind : Kind) : List ℕ → Pairs → Type 0 where
+    nothing : Lists kind [] []
+    value : {v : ℕ} {spelling rest : List ℕ} {pairs : Pairs} → Spells 16 4 v spelling → NoValueFirst rest → Lists kind rest pairs → Lists kind (spelling ++ rest) (([], v) ∷ pairs)
+    literal : {b : ℕ} {rest : List ℕ} {pairs : Pairs} → b < 128 → rest ≢ [] → Lists kind rest pairs → Lists kind (b ∷ rest) (with_front b pairs)
+    branch : {edges : List ℕ} {targets : List (List ℕ)} {bytes : List ℕ} {pairs : Pairs} → IsBranch kind edges targets bytes → ListEach kind edges targets pairs → Lists kind bytes pairs
+
+  -- Each edge has one target, a text that is not empty. The pairs are those of the targets, each with its edge byte in front.
+  pub data ListEach (kind : Kind) : List ℕ → List (List ℕ) → Pairs → Type 0 where
+    no_edge : ListEach kind [] [] []
+    edge : {e : ℕ} {edges target : List ℕ} {targets : List (List ℕ)} {pairs more : Pairs} → target ≢ [] → Lists kind target pairs → ListEach kind edges targets more → ListEach kind (e ∷ edges) (target ∷ targets) (with_front e pairs ++ more)
+
+-- The bytes mean the map.
+pub record Means (kind : Kind) (bytes : List ℕ) (m : Map) : Type 0 where
+  pub short : length bytes < 2 ^ 64
+  pub pairs : Pairs
+  pub lists : Lists kind bytes pairs
+  pub is : m ≡ map_of pairs
+
+-- how many nodes a look-up of the key reads
+abbrev mutual
+  pub nodes : {kind : Kind} {bytes : List ℕ} {pairs : Pairs} → Lists kind bytes pairs → List ℕ → ℕ
+  nodes nothing key = 0
+  nodes (value s n text) [] = 1
+  nodes (value s n text) (c ∷ key) = 1 + nodes text (c ∷ key)
+  nodes (literal {b = b} l n text) [] = 1
+  nodes {kind = kind} (literal {b = b} l n text) (c ∷ key) = 1 + (if same_byte kind b c then nodes text key else 0)
+  nodes (branch b each) [] = 1
+  nodes (branch b each) (c ∷ key) = 1 + nodes_behind each c key
+
+  pub nodes_behind : {kind : Kind} {edges : List ℕ} {targets : List (List ℕ)} {pairs : Pairs} → ListEach kind edges targets pairs → ℕ → List ℕ → ℕ
+  nodes_behind no_edge c key = 0
+  nodes_behind {kind = kind} (edge {e = e} n text each) c key = if same_byte kind e c then nodes text key else nodes_behind each c key

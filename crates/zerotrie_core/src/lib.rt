@@ -1,0 +1,15 @@
+//! Tries as flat lists of bytes: numbers, the grammar, look-up and the plain encoder.
+#![tactic(auto)]
+
+mod error;
+pub mod laws;
+mod options;
+mod plain;
+mod reader;
+mod varint;
+
+pub use error::ZeroTrieBuildError;
+pub use options::{Simple, ZeroTrieWithOptions};
+pub use plain::plain_encode;
+pub use reader::get_counted;
+pub use varint::{read_varint_meta2, read_varint_meta3, write_varint_meta2, write_varint_meta3};
