@@ -161,4 +161,4 @@ module _ {targets : List (List ℕ)} {n w : ℕ} {bytes : List ℕ} (is : IsTarg
       let within = ends_within targets (suc place) in
       let all : length rest ≡ length (concat targets) = ap length (r ∙ targets_are) in
       got r' rest from to (get_or targets place []) g (omega arith) (omega arith)
-        (rw (r, targets_are, f, t) (target_between targets place inside))
+      (rw (r, targets_are, f, t) (target_between targets place inside))

@@ -91,13 +91,13 @@ width_right (suc more) t h =
     elim (cases_lt t 256) [
       | inl small ↦ rw (lt-ltb t 256 small) (record { enough = omega arith; least = λ x g. omega arith })
       | inr large ↦
-        let r = width_right more (t / 256) (omega arith) in
-        let w = width_to more (t / 256) in
-        let up : 256 ^ ((1 + w) + 1) ≡ 256 ^ (w + 1) * 256 = (let e : (1 + w) + 1 ≡ suc (w + 1) = omega arith in rw e (pow-suc 256 (w + 1))) in
-        rw (le-ltb t 256 large) (record {
-          enough = rw up ((div-lt_iff_lt-mul (lit< tt)).0 r.enough);
-          least = λ x g. wider t w x large r.least g;
-        })
+          let r = width_right more (t / 256) (omega arith) in
+          let w = width_to more (t / 256) in
+          let up : 256 ^ ((1 + w) + 1) ≡ 256 ^ (w + 1) * 256 = (let e : (1 + w) + 1 ≡ suc (w + 1) = omega arith in rw e (pow-suc 256 (w + 1))) in
+          rw (le-ltb t 256 large) (record {
+            enough = rw up ((div-lt_iff_lt-mul (lit< tt)).0 r.enough);
+            least = λ x g. wider t w x large r.least g;
+          })
     ]
   where
     wider : (t w x : ℕ) → 256 ≤ t → ((y : ℕ) → t / 256 < 256 ^ (y + 1) → w ≤ y) → t < 256 ^ (x + 1) → 1 + w ≤ x
@@ -198,7 +198,7 @@ mutual
       let here : residual e all ≡ p = same e rise.0 ∙ residual-append e (with_front e p) m ∙ ap (λ x. x ++ residual e m) (residual-front e p) ∙ ap (λ x. p ++ x) (residual_none each e rise.2) ∙ nil_end p in
       let first : t ≡ enc_to d simple_ascii p = lists_enc text d (Shorter-front d e p parts.0) in
       let rest : map (λ b. enc_to d simple_ascii (residual b all)) es ≡ ts = each_enc each d (suc e) all parts.1 rise.2 (λ b h.
-        same b (omega (arith, rise.0)) ∙ residual-append b (with_front e p) m ∙ ap (λ x. x ++ residual b m) (residual-other b e p (λ s. omega arith))) in
+      same b (omega (arith, rise.0)) ∙ residual-append b (with_front e p) m ∙ ap (λ x. x ++ residual b m) (residual-other b e p (λ s. omega arith))) in
       ap (λ x. enc_to d simple_ascii x ∷ map (λ b. enc_to d simple_ascii (residual b all)) es) here
       ∙ ap (λ x. x ∷ map (λ b. enc_to d simple_ascii (residual b all)) es) (sym first)
       ∙ ap (λ x. t ∷ x) rest

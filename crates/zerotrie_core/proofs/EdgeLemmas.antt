@@ -50,14 +50,14 @@ filter-range p a (suc n) high [] h r is =
 filter-range p a (suc n) high (e ∷ es) h r is =
     elim (cases_lt a e) [
       | inl above ↦
-        let none : p a ≡ false = is a (omega arith) ∙ member-below a (suc a) high (e ∷ es) (omega arith) (omega arith, r.1, r.2) in
-        rw none (filter-range p (a + 1) n high (e ∷ es) (omega arith) (omega arith, r.1, r.2) (λ b l. is b (omega arith)))
+          let none : p a ≡ false = is a (omega arith) ∙ member-below a (suc a) high (e ∷ es) (omega arith) (omega arith, r.1, r.2) in
+          rw none (filter-range p (a + 1) n high (e ∷ es) (omega arith) (omega arith, r.1, r.2) (λ b l. is b (omega arith)))
       | inr same ↦
-        let here : e ≡ a = omega (arith, r.0) in
-        let some : p a ≡ true = is a (omega arith) ∙ rw (eq-eqb e a here) refl in
-        let rest = filter-range p (a + 1) n high es (omega arith) (Rise-lower (a + 1) (suc e) high es (omega arith) r.2)
+          let here : e ≡ a = omega (arith, r.0) in
+          let some : p a ≡ true = is a (omega arith) ∙ rw (eq-eqb e a here) refl in
+          let rest = filter-range p (a + 1) n high es (omega arith) (Rise-lower (a + 1) (suc e) high es (omega arith) r.2)
           (λ b l. is b (omega arith) ∙ rw (ne_eqb e b (λ s. omega arith)) refl) in
-        rw some (ap (λ x. a ∷ x) rest ∙ ap (λ x. x ∷ es) (sym here))
+          rw some (ap (λ x. a ∷ x) rest ∙ ap (λ x. x ∷ es) (sym here))
     ]
 
 pub begins_some-append : (xs ys : Pairs) (b : ℕ) → begins_some (xs ++ ys) b ≡ (begins_some xs b || begins_some ys b)

@@ -17,7 +17,6 @@ use Rattle.zerotrie_core.specs.Texts.Lists.{nothing, value, literal, branch}
 use Rattle.zerotrie_core.specs.Texts.ListEach.{no_edge, edge}
 use Rattle.zerotrie_core.specs.Canonical.{enc_to, node, branch_node, value_node, width}
 use Rattle.zerotrie_core.proofs.EdgeLemmas.{Rise, Rise-lower, member, filter-range, begins_some-append, begins_some-front, residual-append, residual-front, residual-other}
-
 use Rattle.zerotrie_core.proofs.CanonLaws.{Shorter, Shorter-parts, Shorter-front, nil_end, bytes_end, width_right, edges_value, shorter_none, enc_step, edges_none}
 use Rattle.zerotrie_core.proofs.ReaderLemmas.{value_at-append, value_at-no_key, extender_one}
 use Rattle.zerotrie_core.proofs.TextLaws.{lists_once}
@@ -55,7 +54,7 @@ group_first e k v rest low ascii above (group {e = f} {es = es} {x = x} inner {m
     elim (compare_first e f k x.0 above) [
       | inl less ↦ record { es = e ∷ f ∷ es; groups = group {x = (k, v)} [] (omega arith) low (tt, tt) (ascii, tt) (group {x = x} inner less b up keys groups) }
       | inr same ↦ subst (λ g. Grouped ((g ∷ k, v) ∷ (with_front f (x ∷ inner) ++ more))) (sym same.0)
-        (record { es = f ∷ es; groups = group {x = (k, v)} (x ∷ inner) (omega arith) b (same.1, up) (ascii, keys) groups })
+          (record { es = f ∷ es; groups = group {x = (k, v)} (x ∷ inner) (omega arith) b (same.1, up) (ascii, keys) groups })
     ]
 
 -- no key is empty
@@ -196,7 +195,7 @@ branch_made es targets rise ascii two count fits =
 branch_no_value : {es : List ℕ} {targets : List (List ℕ)} {bytes : List ℕ} → IsBranch simple_ascii es targets bytes → NoValueFirst bytes
 branch_no_value {targets = targets} b =
     subst NoValueFirst (ap (λ h. h ++ (b.table ++ (blocks (b.width + 1) (offsets targets) ++ concat targets))) (sym b.is_head.bytes_are) ∙ sym b.bytes_are)
-      (λ four. let digit = b.is_head.digit_below in let one = extender_one b.is_head.trail in omega arith)
+    (λ four. let digit = b.is_head.digit_below in let one = extender_one b.is_head.trail in omega arith)
 
 pub record Behind (bytes : List ℕ) (pairs : Pairs) : Type 0 where
   pub lists : Lists simple_ascii bytes pairs
@@ -230,9 +229,9 @@ good zero pairs short up ascii small fits = subst (Lists simple_ascii []) (sym (
 good (suc d) [] short up ascii small fits = subst (λ y. Lists simple_ascii y []) (sym (enc_step d [] [] edges_none)) nothing
 good (suc d) (([], v) ∷ pairs) short up ascii small fits =
     let b = behind_good d (good d) pairs (no_empty pairs up.0 up.1) short.1 up.1 ascii.1 small.1
-      (subst (λ es. 2 ≤ length es → length (concat (map (λ b. enc_to d simple_ascii (residual b pairs)) es)) < 2 ^ 32) (edges_value v pairs) fits.0, fits.1) in
+    (subst (λ es. 2 ≤ length es → length (concat (map (λ b. enc_to d simple_ascii (residual b pairs)) es)) < 2 ^ 32) (edges_value v pairs) fits.0, fits.1) in
     subst (λ y. Lists simple_ascii y (([], v) ∷ pairs)) (sym (enc_step d (([], v) ∷ pairs) (edges pairs) (edges_value v pairs)))
-      (value (spells_spelled 16 4 v small.0 (inl refl)) b.0.no_value b.0.lists)
+    (value (spells_spelled 16 4 v small.0 (inl refl)) b.0.no_value b.0.lists)
 good (suc d) ((c ∷ k, v) ∷ pairs) short up ascii small fits =
     let b = behind_good d (good d) ((c ∷ k, v) ∷ pairs) (no_empty ((c ∷ k, v) ∷ pairs) refl up) short up ascii small fits in
     subst (λ o. Lists simple_ascii (value_node o ++ node (edges ((c ∷ k, v) ∷ pairs)) (map (λ b. enc_to d simple_ascii (residual b ((c ∷ k, v) ∷ pairs))) (edges ((c ∷ k, v) ∷ pairs)))) ((c ∷ k, v) ∷ pairs)) (sym b.1) b.0.lists

@@ -82,8 +82,8 @@ one_spelling L m v a b s t =
 pub no_front : (L m n v w : ℕ) (a b x y : List ℕ) → Spells L m v a → Spells L n w b → a ++ x ≡ b ++ y → (v ≡ w) × (x ≡ y)
 no_front L m n v w a b x y s t e =
     one_reading L m n v w (m * (2 * L) + extender s.trail * L + s.digit) (s.trail ++ x) x y
-      (record { spelling = a; spells = s; bytes_are = ap (λ z. z ++ x) (sym s.bytes_are) })
-      (record { spelling = b; spells = t; bytes_are = ap (λ z. z ++ x) (sym s.bytes_are) ∙ e })
+    (record { spelling = a; spells = s; bytes_are = ap (λ z. z ++ x) (sym s.bytes_are) })
+    (record { spelling = b; spells = t; bytes_are = ap (λ z. z ++ x) (sym s.bytes_are) ∙ e })
 
 -- The metadata bits alone differ.
 pub with_metadata : (L m n v : ℕ) (a : List ℕ) → (s : Spells L m v a) → Spells L n v ((n * (2 * L) + extender s.trail * L + s.digit) ∷ s.trail)
@@ -100,8 +100,8 @@ count_found (suc more) L v k low high =
     elim (cases_lt v (latent L (suc k))) [
       | inl here ↦ rw (lt-ltb v (latent L (suc k)) here) (record { low = low; high = here })
       | inr above ↦
-        let e : k + suc more ≡ suc k + more = omega arith in
-        rw (le-ltb v (latent L (suc k)) above) (count_found more L v (suc k) above (subst (λ x. v < latent L (suc x)) e high))
+          let e : k + suc more ≡ suc k + more = omega arith in
+          rw (le-ltb v (latent L (suc k)) above) (count_found more L v (suc k) above (subst (λ x. v < latent L (suc x)) e high))
     ]
 
 right_count : (L v : ℕ) → v < 2 ^ 64 → (L ≡ 16) ⊎ (L ≡ 32) → RightCount L v (trails_from 9 L v 0)
@@ -122,7 +122,7 @@ base_128-trail zero u = div-one u
 base_128-trail (suc k) u =
     let quotient : u / 128 ^ suc k ≡ u / 128 ^ k / 128 = rw (pow-suc 128 k) (sym (div-div-eq-div-mul u (128 ^ k) 128)) in
     let first : 128 * (u / 128 ^ suc k) + (extender (trail_bytes k u) * 128 + u / 128 ^ k % 128) % 128 ≡ u / 128 ^ k =
-      rw (trail_byte (extender (trail_bytes k u)) (u / 128 ^ k), quotient) (two_digits (u / 128 ^ k)) in
+    rw (trail_byte (extender (trail_bytes k u)) (u / 128 ^ k), quotient) (two_digits (u / 128 ^ k)) in
     ap (λ a. base_128 a (trail_bytes k u)) first ∙ base_128-trail k u
 
 length-trail_bytes : (k u : ℕ) → length (trail_bytes k u) ≡ k
@@ -158,3 +158,26 @@ spells_spelled L m v below form =
       bytes_are = refl;
       value = rw (whole, count) (omega arith);
     }
+
+extender_small : (trail : List ℕ) → extender trail ≤ 1
+extender_small [] = omega arith
+extender_small (t ∷ ts) = omega arith
+
+lead_below : (L e d : ℕ) → e ≤ 1 → d < L → e * L + d < 2 * L
+lead_below L zero d h l = omega arith
+lead_below L (suc zero) d h l = omega arith
+lead_below L (suc (suc e)) d h l = absurd (omega arith)
+
+lead_again : (a e d L : ℕ) → a * (2 * L) + e * L + d ≡ a * (2 * L) + (e * L + d)
+lead_again a e d L = omega arith
+
+-- Below the metadata, the spellings of one number are alike.
+pub below_metadata : (L m v : ℕ) (bytes : List ℕ) → Spells L m v bytes
+    → (lead : ℕ) × (trail : List ℕ) × (lead < 2 * L) × (bytes ≡ (m * (2 * L) + lead) ∷ trail) × ((n : ℕ) → Spells L n v ((n * (2 * L) + lead) ∷ trail))
+below_metadata L m v bytes s = (
+  extender s.trail * L + s.digit,
+  s.trail,
+  lead_below L (extender s.trail) s.digit (extender_small s.trail) s.digit_below,
+  s.bytes_are ∙ ap (λ x. x ∷ s.trail) (lead_again m (extender s.trail) s.digit L),
+  λ n. subst (λ x. Spells L n v (x ∷ s.trail)) (lead_again n (extender s.trail) s.digit L) (with_metadata L m n v bytes s),
+)

@@ -60,24 +60,24 @@ found L a v [] after b e = absurd (cc)
 found L a v (t ∷ ts) after b e =
     elim (chosen (ltb t 128) _ _ _ e) [
       | inl h ↦
-        let same = pair_of (128 * a + t % 128 + L, ts) (v, after) h.1 in
-        let is : 128 * a + t % 128 + L ≡ v = ap (λ p. p.0) same in
-        record {
-          first = t;
-          more = [];
-          is_trail = ltb-true t 128 h.0;
-          bytes_are = ap (λ p. t ∷ p.1) same;
-          value = omega arith;
-        }
+          let same = pair_of (128 * a + t % 128 + L, ts) (v, after) h.1 in
+          let is : 128 * a + t % 128 + L ≡ v = ap (λ p. p.0) same in
+          record {
+            first = t;
+            more = [];
+            is_trail = ltb-true t 128 h.0;
+            bytes_are = ap (λ p. t ∷ p.1) same;
+            value = omega arith;
+          }
       | inr h ↦
-        let f = found L (128 * a + t % 128 + L) v ts after (λ i. b (suc i)) h.1 in
-        record {
-          first = t;
-          more = f.first ∷ f.more;
-          is_trail = (ltb-false t 128 h.0, b 0, f.is_trail);
-          bytes_are = ap (λ r. t ∷ r) f.bytes_are;
-          value = f.value ∙ step_value L a t (f.first ∷ f.more);
-        }
+          let f = found L (128 * a + t % 128 + L) v ts after (λ i. b (suc i)) h.1 in
+          record {
+            first = t;
+            more = f.first ∷ f.more;
+            is_trail = (ltb-false t 128 h.0, b 0, f.is_trail);
+            bytes_are = ap (λ r. t ∷ r) f.bytes_are;
+            value = f.value ∙ step_value L a t (f.first ∷ f.more);
+          }
     ]
 
 pub read_grows : (L a v : ℕ) (bytes after : List ℕ) → read_from L a bytes ≡ Some (v, after) → 128 * a + L ≤ v
@@ -136,21 +136,21 @@ unfolding read
 is_read L v start rest after h bytes below e =
     elim (chosen (eqb (start / L % 2) 0) _ _ _ e) [
       | inl c ↦
-        let none : start / L % 2 ≡ 0 = eqb-true (start / L % 2) 0 c.0 in
-        let same = pair_of (start % L, rest) (v, after) c.1 in
-        record {
-          spelling = start ∷ [];
-          spells = record { digit = start % L; trail = []; below = below; digit_below = mod-lt start h; is_trail = tt; bytes_are = ap (λ x. x ∷ []) (rw none at (lead_parts L start h)); value = sym (ap (λ p. p.0) same) ∙ zero_more (start % L) };
-          bytes_are = ap (λ p. start ∷ p.1) same;
-        }
+          let none : start / L % 2 ≡ 0 = eqb-true (start / L % 2) 0 c.0 in
+          let same = pair_of (start % L, rest) (v, after) c.1 in
+          record {
+            spelling = start ∷ [];
+            spells = record { digit = start % L; trail = []; below = below; digit_below = mod-lt start h; is_trail = tt; bytes_are = ap (λ x. x ∷ []) (rw none at (lead_parts L start h)); value = sym (ap (λ p. p.0) same) ∙ zero_more (start % L) };
+            bytes_are = ap (λ p. start ∷ p.1) same;
+          }
       | inr c ↦
-        let one = not_zero (start / L) c.0 in
-        let f = found L (start % L) v rest after bytes c.1 in
-        record {
-          spelling = start ∷ f.first ∷ f.more;
-          spells = record { digit = start % L; trail = f.first ∷ f.more; below = below; digit_below = mod-lt start h; is_trail = f.is_trail; bytes_are = ap (λ x. x ∷ f.first ∷ f.more) (rw one at (lead_parts L start h)); value = f.value };
-          bytes_are = ap (λ x. start ∷ x) f.bytes_are;
-        }
+          let one = not_zero (start / L) c.0 in
+          let f = found L (start % L) v rest after bytes c.1 in
+          record {
+            spelling = start ∷ f.first ∷ f.more;
+            spells = record { digit = start % L; trail = f.first ∷ f.more; below = below; digit_below = mod-lt start h; is_trail = f.is_trail; bytes_are = ap (λ x. x ∷ f.first ∷ f.more) (rw one at (lead_parts L start h)); value = f.value };
+            bytes_are = ap (λ x. start ∷ x) f.bytes_are;
+          }
     ]
 
 pub read_alone : (L start : ℕ) (rest : List ℕ) → start / L % 2 ≡ 0 → read L start rest ≡ Some (start % L, rest)

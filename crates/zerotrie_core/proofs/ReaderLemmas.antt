@@ -162,9 +162,9 @@ literal_goes kind lead c rest key low same pairs text =
       | empty e _ _ ↦ absurd (not_empty lead rest e)
       | value_first f ↦ let range = value_leads lead rest text f in absurd (omega arith)
       | literal_first f ↦
-        let is = literal_leads lead rest text f in
-        let facts = f.same c key (subst (λ x. same_byte kind x c ≡ true) is.0 same) in
-        subst (λ r. Goes text (c ∷ key) r key) (sym is.1) (record { below = f.below; text_below = f.inner; answers = facts.0; counts = facts.1 })
+          let is = literal_leads lead rest text f in
+          let facts = f.same c key (subst (λ x. same_byte kind x c ≡ true) is.0 same) in
+          subst (λ r. Goes text (c ∷ key) r key) (sym is.1) (record { below = f.below; text_below = f.inner; answers = facts.0; counts = facts.1 })
       | branch_first f ↦ let range = branch_leads lead rest text f in absurd (omega arith)
     ]
 
@@ -174,9 +174,9 @@ literal_stops kind lead c rest key low other pairs text =
       | empty e _ _ ↦ absurd (not_empty lead rest e)
       | value_first f ↦ let range = value_leads lead rest text f in absurd (omega arith)
       | literal_first f ↦
-        let is = literal_leads lead rest text f in
-        let facts = f.other c key (subst (λ x. same_byte kind x c ≡ false) is.0 other) in
-        record { answers = facts.0; counts = facts.1 }
+          let is = literal_leads lead rest text f in
+          let facts = f.other c key (subst (λ x. same_byte kind x c ≡ false) is.0 other) in
+          record { answers = facts.0; counts = facts.1 }
       | branch_first f ↦ let range = branch_leads lead rest text f in absurd (omega arith)
     ]
 
@@ -224,8 +224,8 @@ value_ends kind m v lead rest after low high begins pairs text =
     elim (view text) [
       | empty e _ _ ↦ absurd (not_empty lead rest e)
       | value_first f ↦
-        let one = one_reading 16 m 4 v f.v lead rest after f.after begins f.begins in
-        record { answers = f.value_here ∙ ap (λ x. Some x) (sym one.0); counts = f.nodes_here }
+          let one = one_reading 16 m 4 v f.v lead rest after f.after begins f.begins in
+          record { answers = f.value_here ∙ ap (λ x. Some x) (sym one.0); counts = f.nodes_here }
       | literal_first f ↦ let is = literal_leads lead rest text f in let low' = f.low in absurd (omega arith)
       | branch_first f ↦ let range = branch_leads lead rest text f in absurd (omega arith)
     ]
@@ -235,8 +235,8 @@ value_goes kind m v lead c rest after key low high begins pairs text =
     elim (view text) [
       | empty e _ _ ↦ absurd (not_empty lead rest e)
       | value_first f ↦
-        let one = one_reading 16 m 4 v f.v lead rest after f.after begins f.begins in
-        subst (λ r. Goes text (c ∷ key) r (c ∷ key)) (sym one.1) (record { below = f.below; text_below = f.inner; answers = f.value_there c key; counts = f.nodes_there c key })
+          let one = one_reading 16 m 4 v f.v lead rest after f.after begins f.begins in
+          subst (λ r. Goes text (c ∷ key) r (c ∷ key)) (sym one.1) (record { below = f.below; text_below = f.inner; answers = f.value_there c key; counts = f.nodes_there c key })
       | literal_first f ↦ let is = literal_leads lead rest text f in let low' = f.low in absurd (omega arith)
       | branch_first f ↦ let range = branch_leads lead rest text f in absurd (omega arith)
     ]
@@ -264,8 +264,8 @@ branch_stops kind lead c rest key high leads pairs text =
       | value_first f ↦ let range = value_leads lead rest text f in absurd (omega arith)
       | literal_first f ↦ let is = literal_leads lead rest text f in let low = f.low in absurd (omega arith)
       | branch_first f ↦
-        let facts = each_ends f.each c key (leads f.edges f.targets f.is_branch) in
-        record { answers = facts.0; counts = f.nodes_there c key ∙ ap (λ n. 1 + n) facts.1 }
+          let facts = each_ends f.each c key (leads f.edges f.targets f.is_branch) in
+          record { answers = facts.0; counts = f.nodes_there c key ∙ ap (λ n. 1 + n) facts.1 }
     ]
 
 -- each edge has a greater fold than x
@@ -326,23 +326,23 @@ each_goes no_edge up c key target e = absurd (cc)
 each_goes {kind = kind} (edge {e = b} {edges = edges} {target = first} {targets = targets} {pairs = pairs} {more = more} n text each) up c key target e =
     elim (chosen_target (same_byte kind b c) first target (target_of kind c edges targets) e) [
       | inl here ↦
-        let same : fold_byte kind b ≡ fold_byte kind c = eqb-true (fold_byte kind b) (fold_byte kind c) here.0 in
-        let above = subst (λ x. AllAbove kind x edges) same up.0 in
-        let none = (each_ends each c key (target_of-above kind c edges targets above)).0 in
-        subst (λ t. Behind (edge {e = b} n text each) c key t) here.1 (record {
-          below = pairs;
-          text = text;
-          answers = value_at-some kind (c ∷ key) (with_front b pairs) more none ∙ value_at-front kind b c key pairs here.0;
-          counts = rw here.0 refl;
-        })
+          let same : fold_byte kind b ≡ fold_byte kind c = eqb-true (fold_byte kind b) (fold_byte kind c) here.0 in
+          let above = subst (λ x. AllAbove kind x edges) same up.0 in
+          let none = (each_ends each c key (target_of-above kind c edges targets above)).0 in
+          subst (λ t. Behind (edge {e = b} n text each) c key t) here.1 (record {
+            below = pairs;
+            text = text;
+            answers = value_at-some kind (c ∷ key) (with_front b pairs) more none ∙ value_at-front kind b c key pairs here.0;
+            counts = rw here.0 refl;
+          })
       | inr later ↦
-        let f = each_goes each up.1 c key target later.1 in
-        record {
-          below = f.below;
-          text = f.text;
-          answers = value_at-append kind (c ∷ key) (with_front b pairs) more (value_at-other kind b c key pairs later.0) ∙ f.answers;
-          counts = rw later.0 f.counts;
-        }
+          let f = each_goes each up.1 c key target later.1 in
+          record {
+            below = f.below;
+            text = f.text;
+            answers = value_at-append kind (c ∷ key) (with_front b pairs) more (value_at-other kind b c key pairs later.0) ∙ f.answers;
+            counts = rw later.0 f.counts;
+          }
     ]
 
 pub branch_goes : (kind : Kind) (lead c : ℕ) (rest key target : List ℕ) → 192 ≤ lead → BranchLeads kind (lead ∷ rest) c (Some target) → AlwaysGoes kind (lead ∷ rest) (c ∷ key) target key
@@ -352,8 +352,8 @@ branch_goes kind lead c rest key target high leads pairs text =
       | value_first f ↦ let range = value_leads lead rest text f in absurd (omega arith)
       | literal_first f ↦ let is = literal_leads lead rest text f in let low = f.low in absurd (omega arith)
       | branch_first f ↦
-        let b = each_goes f.each (table_rises f.is_branch.is_table) c key target (leads f.edges f.targets f.is_branch) in
-        record { below = b.below; text_below = b.text; answers = b.answers; counts = f.nodes_there c key ∙ ap (λ n. 1 + n) b.counts }
+          let b = each_goes f.each (table_rises f.is_branch.is_table) c key target (leads f.edges f.targets f.is_branch) in
+          record { below = b.below; text_below = b.text; answers = b.answers; counts = f.nodes_there c key ∙ ap (λ n. 1 + n) b.counts }
     ]
 
 -- A look-up of the key in bytes has come to trie, and to the rest of the key, over count nodes.

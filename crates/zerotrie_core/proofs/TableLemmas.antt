@@ -14,7 +14,7 @@ use Rattle.zerotrie_core.specs.Kind.{Kind, simple_ascii, same_byte, fold_byte, t
 use Rattle.zerotrie_core.specs.Numbers.{Spells, BeginsWith}
 use Rattle.zerotrie_core.specs.Branches.{IsBranch, IsTable, blocks, offsets}
 use Rattle.zerotrie_core.specs.Branches.IsTable.{sorted}
-use Rattle.zerotrie_core.specs.Reading.{target_of, BranchLeads, IsTargets}
+use Rattle.zerotrie_core.specs.Reading.{target_of, BranchLeads, IsTargets, NeverFalls}
 use Rattle.zerotrie_core.proofs.ReaderLemmas.{one_reading, Rises, AllAbove, table_rises}
 use Rattle.zerotrie_core.proofs.KindLemmas.{same_itself, other_byte}
 
@@ -93,19 +93,13 @@ mapped None t h = absurd h
 mapped (Some x) t h = ap (λ y. Some y) h
 
 -- what the search of the table tells of the target
-pub hit_target : {kind : Kind} {edges : List ℕ} {targets : List (List ℕ)} {bytes : List ℕ} (c place : ℕ) (table : List ℕ) → tag kind ≡ 0 → IsBranch kind edges targets bytes → table ≡ edges → IsBinarySearchResult (λ y. nat_cmp y c) table (Ok place)
+pub hit_target : {kind : Kind} {edges : List ℕ} {targets : List (List ℕ)} {bytes : List ℕ} (c place : ℕ) (table : List ℕ) → tag kind ≡ 0 → IsBranch kind edges targets bytes → table ≡ edges → place < length table → get_or table place 0 ≡ c
     → target_of kind c edges targets ≡ Some (get_or targets place [])
-hit_target {kind = kind} {edges = edges} {targets = targets} c place table t b is found =
-    let up = table_rises b.is_table in
-    let at_place = searched edges c (Ok place) (subst (λ x. IsBinarySearchResult (λ y. nat_cmp y c) x (Ok place)) is found) (rises_at kind edges t up) in
-    found_target kind c place edges targets t up b.a_target_each at_place.0 at_place.1
+hit_target {kind = kind} {edges = edges} {targets = targets} c place table t b is inside here =
+    found_target kind c place edges targets t (table_rises b.is_table) b.a_target_each (omega (arith, ap length is)) (ap (λ x. get_or x place 0) (sym is) ∙ here)
 
-pub miss_target : {kind : Kind} {edges : List ℕ} {targets : List (List ℕ)} {bytes : List ℕ} (c place : ℕ) (table : List ℕ) → tag kind ≡ 0 → IsBranch kind edges targets bytes → table ≡ edges → IsBinarySearchResult (λ y. nat_cmp y c) table (Err place)
-    → target_of kind c edges targets ≡ None
-miss_target {kind = kind} {edges = edges} {targets = targets} c place table t b is missed =
-    let up = table_rises b.is_table in
-    let nowhere = searched edges c (Err place) (subst (λ x. IsBinarySearchResult (λ y. nat_cmp y c) x (Err place)) is missed) (rises_at kind edges t up) in
-    missed_target kind c edges targets t (λ i h same. elim (cases_lt i place) [
-      | inl low ↦ let less = nowhere.1 i low in absurd (omega arith)
-      | inr high ↦ let more = nowhere.2 i high h in absurd (omega arith)
-    ])
+pub miss_target : {kind : Kind} {edges : List ℕ} {targets : List (List ℕ)} {bytes : List ℕ} (c : ℕ) (table : List ℕ) → tag kind ≡ 0 → IsBranch kind edges targets bytes → table ≡ edges
+    → (NeverFalls table → (k : ℕ) → k < length table → get_or table k 0 ≡ c → ⊥) → target_of kind c edges targets ≡ None
+miss_target {kind = kind} {edges = edges} {targets = targets} c table t b is missed =
+    let up = rises_at kind edges t (table_rises b.is_table) in
+    missed_target kind c edges targets t (subst (λ x. NeverFalls x → (k : ℕ) → k < length x → get_or x k 0 ≡ c → ⊥) is missed up)

@@ -43,14 +43,14 @@ same_targets n w bytes ts us a b =
     let na = a.count in
     let nb = b.count in
     from_places ts us (na ∙ sym nb) (λ i h.
-      let inside : i < n = omega arith in
-      let in_us : i < length us = omega arith in
-      let all = sym (targets_are a) ∙ targets_are b in
-      sym (target_between ts i h)
-      ∙ ap (λ c. take (length (concat (take (suc i) ts)) - length (concat (take i ts))) (drop (length (concat (take i ts))) c)) all
-      ∙ ap (λ e. take (e - length (concat (take i ts))) (drop (length (concat (take i ts))) (concat us))) (same_ends n w bytes ts us a b i inside)
-      ∙ ap (λ s. take (length (concat (take (suc i) us)) - s) (drop s (concat us))) (same_starts n w bytes ts us a b i inside)
-      ∙ target_between us i in_us)
+    let inside : i < n = omega arith in
+    let in_us : i < length us = omega arith in
+    let all = sym (targets_are a) ∙ targets_are b in
+    sym (target_between ts i h)
+    ∙ ap (λ c. take (length (concat (take (suc i) ts)) - length (concat (take i ts))) (drop (length (concat (take i ts))) c)) all
+    ∙ ap (λ e. take (e - length (concat (take i ts))) (drop (length (concat (take i ts))) (concat us))) (same_ends n w bytes ts us a b i inside)
+    ∙ ap (λ s. take (length (concat (take (suc i) us)) - s) (drop s (concat us))) (same_starts n w bytes ts us a b i inside)
+    ∙ target_between us i in_us)
 
 -- two readings of a branch are one
 record SameBranch (edges : List ℕ) (targets : List (List ℕ)) (edges' : List ℕ) (targets' : List (List ℕ)) : Type 0 where
@@ -80,9 +80,9 @@ same_branch edges edges' targets targets' bytes a b =
     let width : a.width ≡ b.width = omega arith in
     let count : length edges ≡ length edges' = omega arith in
     let other : IsTargets targets' (length edges) (a.width + 1) (drop (length edges) behind_a) =
-      subst (λ n. IsTargets targets' n (a.width + 1) (drop n behind_a)) (sym count)
-        (subst (λ w. IsTargets targets' (length edges') (w + 1) (drop (length edges') behind_a)) (sym width)
-          (subst (λ x. IsTargets targets' (length edges') (b.width + 1) (drop (length edges') x)) (sym one.1) (targets_behind b))) in
+    subst (λ n. IsTargets targets' n (a.width + 1) (drop n behind_a)) (sym count)
+    (subst (λ w. IsTargets targets' (length edges') (w + 1) (drop (length edges') behind_a)) (sym width)
+    (subst (λ x. IsTargets targets' (length edges') (b.width + 1) (drop (length edges') x)) (sym one.1) (targets_behind b))) in
     record {
       edges_same = sym (edges_first a) ∙ ap (take (length edges)) one.1 ∙ ap (λ n. take n behind_b) count ∙ edges_first b;
       targets_same = same_targets (length edges) (a.width + 1) (drop (length edges) behind_a) targets targets' (targets_behind a) other;

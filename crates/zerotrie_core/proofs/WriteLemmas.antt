@@ -24,9 +24,9 @@ few a n h room =
     elim (cases_lt n 9) [
       | inl small ↦ omega arith
       | inr large ↦
-        let power : 128 ^ 9 ≤ 128 ^ n = pow-le-pow_right (lit< tt) large in
-        let times : 16 * 128 ^ n ≤ a * 128 ^ n = mul-le-mul_right (128 ^ n) h in
-        absurd (omega arith)
+          let power : 128 ^ 9 ≤ 128 ^ n = pow-le-pow_right (lit< tt) large in
+          let times : 16 * 128 ^ n ≤ a * 128 ^ n = mul-le-mul_right (128 ^ n) h in
+          absurd (omega arith)
     ]
 
 still_room : (q a p : ℕ) → 128 * q ≤ a → a * p < 2 ^ 64 → q * (p * 128) < 2 ^ 64

@@ -24,4 +24,4 @@ pub record Fits (kind : Kind) (m : Map) : Type 0 where
 abbrev pub ExceedsCapacity : Kind → Map → Type 0
 ExceedsCapacity kind m = (2 ^ 64 ≤ size kind m)
     ⊎ ((front : List ℕ) × (2 ≤ length (edges (behind_all front (entries m))))
-        × (256 ^ (greatest_width kind + 1) ≤ targets_size kind (behind_all front (entries m))))
+    × (256 ^ (greatest_width kind + 1) ≤ targets_size kind (behind_all front (entries m))))

@@ -10,3 +10,4 @@ pub mod Causes
 pub mod Items
 pub mod Reading
 pub mod Descending
+pub mod Laws

@@ -20,9 +20,7 @@ pub enum ZeroTrieBuildError {
     #[error("Reached maximum capacity of trie")]
     CapacityExceeded,
     /// No parameters of a perfect hash were found for the edges of a branch.
-    #[error(
-        "Failed to solve the perfect hash function. This is rare! Please report your case to the ICU4X team."
-    )]
+    #[error("Failed to solve the perfect hash function. This is rare! Please report your case to the ICU4X team.")]
     CouldNotSolvePerfectHash,
     /// Two keys agree in front up to case and not exactly, and the kind of trie ignores case.
     #[error("Mixed-case data added to case-insensitive trie")]

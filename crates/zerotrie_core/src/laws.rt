@@ -1,20 +1,35 @@
-//! Laws of the definitions.
+//! The laws over the definitions alone, as contracts that a caller's proof can cite.
+//!
+//! Each function does nothing: calling one brings its law into a proof.
 
-ghost use Rattle.std.specs.Prelude.{◌≡◌, ℕ, List, length};
-ghost use Rattle.zerotrie_core.specs.Kind.{Kind, simple_ascii};
-ghost use Rattle.zerotrie_core.specs.Maps.{Map};
-ghost use Rattle.zerotrie_core.specs.Texts.{Means};
-ghost use Rattle.zerotrie_core.specs.Canonical.{enc, size};
+ghost use Rattle.zerotrie_core.specs.Kind.{simple_ascii};
+ghost use Rattle.zerotrie_core.specs.Laws.{EachIsSpelled, OneSpelling, MetadataAlone, NoneLonger, OneMeaning, MeansCanonical, LengthIsSize, FewNodes};
 
-/// The same bytes mean one map.
-pub fn one_map()
-    ensures { (kind : Kind) (bytes : List ℕ) (m n : Map) → Means kind bytes m → Means kind bytes n → m ≡ n }
-{
-}
+/// In each form every number below 2^64 has one spelling. With other bits of metadata it differs in
+/// these alone, and it begins no longer spelling.
+pub fn one_spelling()
+    ensures each { EachIsSpelled }
+    ensures one { OneSpelling }
+    ensures metadata_alone { MetadataAlone }
+    ensures none_longer { NoneLonger }
+{}
 
-/// Bytes that mean a map are its canonical text, and as long as its size.
-pub fn canonical()
-    ensures text { (bytes : List ℕ) (m : Map) → Means simple_ascii bytes m → bytes ≡ enc simple_ascii m }
-    ensures len { (bytes : List ℕ) (m : Map) → Means simple_ascii bytes m → length bytes ≡ size simple_ascii m }
-{
-}
+/// Bytes mean at most one map of a kind.
+pub fn one_meaning()
+    ensures { OneMeaning }
+{}
+
+/// Bytes that mean a map are its canonical text.
+pub fn canonical_exactly()
+    ensures { MeansCanonical simple_ascii }
+{}
+
+/// Bytes that mean a map have its size.
+pub fn length_is_size()
+    ensures { LengthIsSize simple_ascii }
+{}
+
+/// A look-up of a key of n bytes reads at most 2n + 1 nodes.
+pub fn few_nodes()
+    ensures { FewNodes }
+{}

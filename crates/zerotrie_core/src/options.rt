@@ -45,9 +45,13 @@ pub struct Simple;
 
 impl ZeroTrieWithOptions for Simple {
     const USE_PHF: bool = false;
+
     const SPANS: bool = false;
+
     const EXTENDED: bool = false;
+
     const IGNORE_CASE: bool = false;
+
     const TAG: u8 = 0;
 
     ghost USE_PHF = { false };

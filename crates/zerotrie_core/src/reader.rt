@@ -1,10 +1,14 @@
-//! Looking up a key.
+//! Looking up a key in the bytes of a trie, where they lie.
+//!
+//! Nodes are read from the front. While bytes of the key remain a value node is passed over, a literal has
+//! to equal the next byte of the key, and a branch takes the target of that byte. Where the key has ended a
+//! value node is the answer. Bytes that are no trie get some answer, and nothing outside them is read.
 
-ghost use Rattle.std.specs.Prelude.{◌≡◌, ◌≢◌, ℕ, ◌+◌, ◌-◌, ◌*◌, ◌/◌, ◌%◌, ◌^◌, ◌<◌, ◌≤◌, List, ◌∷◌, ◌++◌, length, IfSome, IsSomeAnd, slice_index_or, []};
+ghost use Rattle.std.specs.Prelude.{◌≡◌, ◌≢◌, ℕ, ◌+◌, ◌-◌, ◌*◌, ◌/◌, ◌%◌, ◌^◌, ◌<◌, ◌≤◌, List, ◌∷◌, ◌++◌, length, IfSome, IfNone, IsSomeAnd, slice_index, slice_index_or, []};
 ghost use Rattle.std.specs.Option.{option_copied, option_map};
 ghost use Rattle.std.specs.List.{concat};
 ghost use Rattle.zerotrie_core.specs.Texts.{Means, nodes};
-ghost use Rattle.zerotrie_core.specs.Reading.{BranchLeads, IsTargets, number_from};
+ghost use Rattle.zerotrie_core.specs.Reading.{BranchLeads, IsTargets, NeverFalls, number_from};
 ghost use Rattle.zerotrie_core.specs.Descending.{Descends};
 ghost use Rattle.zerotrie_core.specs.Maps.{Map, look};
 ghost use Rattle.zerotrie_core.specs.Branches.{IsBranch, blocks, offsets};
@@ -13,12 +17,16 @@ use crate::options::ZeroTrieWithOptions;
 use crate::varint::{read_varint_meta2, read_varint_meta3};
 
 /// The number whose bytes stand at one place of each block, the highest first.
+#[inline(always)]
 fn offset_at(table: &[u8], place: usize, count: usize, width: usize) -> usize
     requires place { place < count }
     requires width { width ≤ 8 }
     requires len { length table.now ≡ width * count }
     ensures { result ≡ number_from 0 width count place table.now }
 {
+    if width == 1 {
+        return table[place] as usize;
+    }
     let mut value = 0;
     let mut rest = table;
     for _block in 0..width {
@@ -29,7 +37,42 @@ fn offset_at(table: &[u8], place: usize, count: usize, width: usize) -> usize
     value
 }
 
+/// All of the half of a table where the byte in its middle is not above the byte sought, else nothing.
+#[inline(always)]
+fn half_passed(half: usize, middle: u8, byte: u8) -> usize
+    ensures passed { middle ≤ byte → result ≡ half }
+    ensures stayed { byte < middle → result ≡ 0 }
+{
+    half * ((256 + byte as usize - middle as usize) / 256)
+}
+
+/// The place of a byte in a table whose bytes do not fall.
+///
+/// The table is halved with no branch on what it holds: which edge a key takes can't be foretold.
+#[inline(always)]
+fn place_of(table: &[u8], byte: u8) -> Option<usize>
+    ensures some { IfSome result (λ place. (place < length table.now) × (slice_index table.now place ≡ byte)) }
+    ensures none { IfNone result (NeverFalls table.now → (k : ℕ) → k < length table.now → slice_index table.now k ≢ byte) }
+{
+    let mut base = 0;
+    let mut left = table.len();
+    if left == 0 {
+        return None;
+    }
+    while left > 1 {
+        let half = left / 2;
+        base += half_passed(half, table[base + half], byte);
+        left -= half;
+    }
+    if table[base] == byte {
+        Some(base)
+    } else {
+        None
+    }
+}
+
 /// The target of an edge, behind the table of a branch.
+#[inline(always)]
 fn target_at(body: &[u8], place: usize, edges: usize, width: usize) -> Option<&[u8]>
     requires edges { edges ≤ 256 }
     requires place { place < edges }
@@ -39,12 +82,21 @@ fn target_at(body: &[u8], place: usize, edges: usize, width: usize) -> Option<&[
 {
     let count = edges - 1;
     let (table, targets) = body.split_at_checked(width * count)?;
-    let from = if place == 0 { 0 } else { offset_at(table, place - 1, count, width) };
-    let to = if place == count { targets.len() } else { offset_at(table, place, count, width) };
+    let from = if place == 0 {
+        0
+    } else {
+        offset_at(table, place - 1, count, width)
+    };
+    let to = if place == count {
+        targets.len()
+    } else {
+        offset_at(table, place, count, width)
+    };
     targets.get(from..to)
 }
 
 /// The target of the edge that is the byte.
+#[inline(always)]
 fn branch_target<K: ZeroTrieWithOptions>(lead: u8, rest: &[u8], byte: u8) -> Option<&[u8]>
     requires { K.TAG ≡ 0 }
     ensures shorter { IfSome result (λ r. length r.now ≤ length rest.now) }
@@ -57,18 +109,20 @@ fn branch_target<K: ZeroTrieWithOptions>(lead: u8, rest: &[u8], byte: u8) -> Opt
         return None;
     }
     let (table, body) = body.split_at_checked(edges)?;
-    match table.binary_search(&byte) {
-        Ok(place) => target_at(body, place, edges, width + 1),
-        Err(_) => None,
-    }
+    let place = place_of(table, byte)?;
+    target_at(body, place, edges, width + 1)
 }
 
+/// What reading one node comes to.
 enum Descent<'a> {
+    /// The look-up ends with this answer.
     Answer(Option<usize>),
+    /// It goes on in these bytes, with this rest of the key.
     Down(&'a [u8], &'a [u8]),
 }
 
 /// Reads one node.
+#[inline(always)]
 fn descend<'a, K: ZeroTrieWithOptions>(lead: u8, rest: &'a [u8], key: &'a [u8]) -> Descent<'a>
     requires { K.TAG ≡ 0 }
     ensures { Descends K.kind (lead ∷ rest.now) key.now result }
@@ -108,7 +162,16 @@ fn descend<'a, K: ZeroTrieWithOptions>(lead: u8, rest: &'a [u8], key: &'a [u8]) 
     }
 }
 
-/// The number of the key, and how many nodes were read.
+/// The value of a key, and how many nodes the look-up read.
+///
+/// ```text
+/// let bytes = [0x61, 0x85];               // the key "a" with value 5
+/// get_counted::<Simple>(&bytes, b"a")     // (Some(5), 2)
+/// get_counted::<Simple>(&bytes, b"b")     // (None, 1)
+/// ```
+///
+/// It returns on any bytes. On bytes that mean a map the first part is the value of the key in that map,
+/// and the second is at most 2n + 1 for a key of n bytes. It takes no memory.
 pub fn get_counted<K: ZeroTrieWithOptions>(bytes: &[u8], key: &[u8]) -> (Option<usize>, usize)
     requires { K.TAG ≡ 0 }
     ensures value { (m : Map) → Means K.kind bytes.now m → result.0 ≡ look K.kind m key.now }
@@ -137,14 +200,45 @@ mod tests {
     use std::test::Fail;
 
     #[test]
-    fn row_2(rt: HostRuntime) -> Result<(), Fail> {
-        let bytes = [0x8B, 0x61, 0x64, 0x90, 0x06, 0xC2, 0x65, 0x67, 0x03, 0x66, 0x90, 0x11, 0x68, 0x6B, 0x90, 0x1C];
-        assert_eq!(rt; get_counted::<Simple>(&bytes, b""), (Some(11), 1));
-        assert_eq!(rt; get_counted::<Simple>(&bytes, b"ad"), (Some(22), 4));
-        assert_eq!(rt; get_counted::<Simple>(&bytes, b"adef"), (Some(33), 7));
-        assert_eq!(rt; get_counted::<Simple>(&bytes, b"x"), (None, 2));
-        assert_eq!(rt; get_counted::<Simple>(&bytes, b"adz"), (None, 5));
-        assert_eq!(rt; get_counted::<Simple>(&bytes, b"adeff"), (None, 7));
+    fn a_value_on_the_way_is_no_answer(rt: HostRuntime) -> Result<(), Fail> {
+        let bytes = [
+            0x8B, 0x61, 0x64, 0x90, 0x06, 0xC2, 0x65, 0x67, 0x03, 0x66, 0x90, 0x11, 0x68, 0x6B,
+            0x90, 0x1C,
+        ];
+        let table: [(&[u8], Option<usize>, usize); 6] = [
+            (b"", Some(11), 1),
+            (b"ad", Some(22), 4),
+            (b"adef", Some(33), 7),
+            (b"x", None, 2),
+            (b"adz", None, 5),
+            (b"adeff", None, 7),
+        ];
+        for (key, value, nodes) in table {
+            assert_eq!(rt; get_counted::<Simple>(&bytes, key), (value, nodes));
+        }
         Ok(())
+    }
+
+    /// No answer is promised on such bytes, but there is one.
+    #[test]
+    fn returns_on_bytes_that_are_no_trie(rt: HostRuntime) {
+        let table: [&[u8]; 10] = [
+            &[0x61],
+            &[0x80, 0x80],
+            &[0xC1, 0x61, 0x81],
+            &[0xC2, 0x62, 0x61, 0x01, 0x80, 0x80],
+            &[0xE1, 0x62, 0x61, 0x62, 0x00, 0x01, 0x80, 0x81],
+            &[0x90],
+            &[0xA1, 0xC3, 0xA1, 0xA5, 0x81],
+            &[0xC0, 0x61],
+            &[0xE1, 0xDF, 0xDF, 0xDF, 0xDF, 0xDF, 0xDF, 0xDF, 0xDF, 0x5F],
+            &[0xC2, 0x61, 0x62, 0xFF, 0x80, 0x81],
+        ];
+        for bytes in table {
+            for key in [b"".as_slice(), b"a", b"b", b"ab", b"aa"] {
+                let (_, nodes) = get_counted::<Simple>(bytes, key);
+                assert!(rt; nodes <= bytes.len());
+            }
+        }
     }
 }

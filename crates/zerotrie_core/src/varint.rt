@@ -1,10 +1,22 @@
 //! Numbers of variable length.
+//!
+//! A number is a lead byte and trail bytes. The lead has metadata on top, then a bit that says whether a
+//! byte follows, then the first bits of the value; a trail byte has such a bit and seven bits of the value.
+//! With each further byte the values go on where the shorter spellings end, so each number below 2^64 has
+//! one spelling. It has at most ten bytes.
+//!
+//! | Form | Metadata | Value bits of the lead | Used for |
+//! |---|---|---|---|
+//! | `meta3` | 3 bits | 4 | values, lengths of spans |
+//! | `meta2` | 2 bits | 5 | heads of branches |
 
 ghost use Rattle.std.specs.Prelude.{◌≡◌, ◌≢◌, ℕ, ◌+◌, ◌*◌, ◌/◌, ◌%◌, ◌^◌, ◌<◌, ◌≤◌, ◌⊎◌, List, ◌∷◌, ◌++◌, IfSome, IfNone};
 ghost use Rattle.zerotrie_core.specs.Numbers.{Spells, BeginsWith};
 
 use arrayvec::ArrayVec;
 
+/// Reads a number of the form whose shortest number of two bytes is `latent`.
+#[inline(always)]
 fn read_number(latent: u8, start: u8, rest: &[u8]) -> Option<(usize, &[u8])>
     requires { (latent ≡ 16) ⊎ (latent ≡ 32) }
     ensures found { IfSome result (λ r. BeginsWith latent (start / (2 * latent)) r.0 (start ∷ rest.now) r.1.now) }
@@ -25,6 +37,15 @@ fn read_number(latent: u8, start: u8, rest: &[u8]) -> Option<(usize, &[u8])>
     None
 }
 
+/// Reads a number with three bits of metadata, which are ignored: the number, and the bytes behind it.
+///
+/// ```text
+/// read_varint_meta3(0x10, [0x00, 0x85]) is Some((16, [0x85]))
+/// ```
+///
+/// `None` exactly where no front of `start` and `rest` spells a number below 2^64: the bytes end too soon,
+/// or the number is too large.
+#[inline]
 pub fn read_varint_meta3(start: u8, rest: &[u8]) -> Option<(usize, &[u8])>
     ensures found { IfSome result (λ r. BeginsWith 16 (start / 32) r.0 (start ∷ rest.now) r.1.now) }
     ensures none { IfNone result ((metadata v : ℕ) (after : List ℕ) → BeginsWith 16 metadata v (start ∷ rest.now) after → ⊥) }
@@ -32,6 +53,14 @@ pub fn read_varint_meta3(start: u8, rest: &[u8]) -> Option<(usize, &[u8])>
     read_number(16, start, rest)
 }
 
+/// Reads a number with two bits of metadata, which are ignored: the number, and the bytes behind it.
+///
+/// ```text
+/// read_varint_meta2(0x20, [0x44]) is Some((100, []))
+/// ```
+///
+/// `None` exactly where no front of `start` and `rest` spells a number below 2^64.
+#[inline]
 pub fn read_varint_meta2(start: u8, rest: &[u8]) -> Option<(usize, &[u8])>
     ensures found { IfSome result (λ r. BeginsWith 32 (start / 64) r.0 (start ∷ rest.now) r.1.now) }
     ensures none { IfNone result ((metadata v : ℕ) (after : List ℕ) → BeginsWith 32 metadata v (start ∷ rest.now) after → ⊥) }
@@ -39,6 +68,7 @@ pub fn read_varint_meta2(start: u8, rest: &[u8]) -> Option<(usize, &[u8])>
     read_number(32, start, rest)
 }
 
+/// Writes a number in the form whose shortest number of two bytes is `latent`.
 fn write_number(latent: u8, v: usize) -> ArrayVec<u8, 10>
     requires { (latent ≡ 16) ⊎ (latent ≡ 32) }
     ensures { Spells latent 0 v result.items }
@@ -57,14 +87,84 @@ fn write_number(latent: u8, v: usize) -> ArrayVec<u8, 10>
     out
 }
 
+/// The spelling of a number with three bits of metadata, all 0: at most ten bytes.
+///
+/// ```text
+/// write_varint_meta3(16) is [0x10, 0x00]
+/// ```
 pub fn write_varint_meta3(v: usize) -> ArrayVec<u8, 10>
     ensures { Spells 16 0 v result.items }
 {
     write_number(16, v)
 }
 
+/// The spelling of a number with two bits of metadata, both 0: at most ten bytes.
+///
+/// ```text
+/// write_varint_meta2(500) is [0x23, 0x54]
+/// ```
 pub fn write_varint_meta2(v: usize) -> ArrayVec<u8, 10>
     ensures { Spells 32 0 v result.items }
 {
     write_number(32, v)
+}
+
+#[cfg(test)]
+mod tests {
+    use super::*;
+    use std::test::Fail;
+
+    /// Spellings from the format's own tables, each with the number and the bytes behind it.
+    #[test]
+    fn latent_sums_of_each_length(rt: HostRuntime) -> Result<(), Fail> {
+        let meta2: [(&[u8], usize, &[u8]); 11] = [
+            (&[0x23, 0x54], 500, &[]),
+            (&[0x20, 0x86, 0x68], 5000, &[]),
+            (&[0x1F, 0xAA], 31, &[0xAA]),
+            (&[0x20, 0x44], 100, &[]),
+            (&[0x3F, 0x7F], 4127, &[]),
+            (&[0x20, 0x80, 0x00], 4128, &[]),
+            (&[0x20, 0xFF, 0x7F], 20511, &[]),
+            (&[0x21, 0x80, 0x00], 20512, &[]),
+            (&[0x3F, 0xFF, 0x7F], 528415, &[]),
+            (&[0x20, 0x80, 0x80, 0x00], 528416, &[]),
+            (&[0x3F, 0xFF, 0xFF, 0x7F], 67637279, &[]),
+        ];
+        for (bytes, value, rest) in meta2 {
+            let (start, behind) = bytes.split_first().ok_or("no lead")?;
+            let (read, left) = read_varint_meta2(*start, behind).ok_or("no number")?;
+            assert_eq!(rt; read, value);
+            assert_eq!(rt; left, rest);
+            let front = bytes
+                .get(..bytes.len() - left.len())
+                .ok_or("longer than it was")?;
+            assert_eq!(rt; write_varint_meta2(value).as_slice(), front);
+        }
+        let meta3: [(&[u8], usize); 5] = [
+            (&[0x10, 0x00], 16),
+            (&[0x10, 0x80, 0x00], 2064),
+            (&[0x10, 0x80, 0x80, 0x00], 264208),
+            (&[0x10, 0x80, 0x80, 0x80, 0x00], 33818640),
+            (
+                &[0x11, 0xEF, 0xEF, 0xEF, 0xEF, 0xEF, 0xEF, 0xEF, 0xEF, 0x6F],
+                usize::MAX,
+            ),
+        ];
+        for (bytes, value) in meta3 {
+            let (start, behind) = bytes.split_first().ok_or("no lead")?;
+            let (read, left) = read_varint_meta3(*start, behind).ok_or("no number")?;
+            assert_eq!(rt; read, value);
+            assert!(rt; left.is_empty());
+            assert_eq!(rt; write_varint_meta3(value).as_slice(), bytes);
+        }
+        Ok(())
+    }
+
+    #[test]
+    fn cut_or_too_large_is_none(rt: HostRuntime) {
+        let large = [0xEF, 0xEF, 0xEF, 0xEF, 0xEF, 0xEF, 0xEF, 0xEF, 0x70];
+        assert!(rt; read_varint_meta3(0x11, &large).is_none());
+        assert!(rt; read_varint_meta2(0x20, &[]).is_none());
+        assert!(rt; read_varint_meta3(0x10, &[0x80]).is_none());
+    }
 }

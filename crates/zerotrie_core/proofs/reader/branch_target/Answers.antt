@@ -27,8 +27,8 @@ returns-in_err-table-clause-target g c edges targets b =
     let fit = edges_fit c.in_ok-head.head c.if-head-eq0.edges c.in_ok-head.body.now b r n in
     absurd (omega (arith, c.in_err-table.ensures.cases))
 
-pub returns-in-Ok-clause-target : goal.returns-in-Ok-clause-target
-returns-in-Ok-clause-target g c edges targets b =
+pub returns-clause-target : goal.returns-clause-target
+returns-clause-target g c edges targets b =
     let r = read_branch c.args.lead _ c.in_ok-head.head c.args.rest.now c.in_ok-head.body.now b c.in_ok-head.ensures.found in
     let same = r.count in
     let two = b.two in
@@ -40,11 +40,11 @@ returns-in-Ok-clause-target g c edges targets b =
     let cut = c.in_ok-table.ensures.cases in
     let table = table_read c.in_ok-head.head c.if-head-eq0.edges c.in_ok-head.body.now c.in_ok-table.table.now b r n cut.1 in
     let rest = targets_read c.in_ok-head.head c.if-head-eq0.edges c.in_ok-head.body.now c.in_ok-table.body.now b r n cut.2 in
-    hit_target c.args.byte c.in-Ok.place c.in_ok-table.table.now (sym g.K.ZeroTrieWithOptions.tag_is ∙ c.requires) b table c.in-Ok.ensures.position
+    hit_target c.args.byte c.in_ok-place.place c.in_ok-table.table.now (sym g.K.ZeroTrieWithOptions.tag_is ∙ c.requires) b table c.in_ok-place.ensures.some.0 c.in_ok-place.ensures.some.1
     ∙ sym (mapped c.target_at.result _ (c.target_at.ensures.target targets rest))
 
-pub returns-in-Err-clause-target : goal.returns-in-Err-clause-target
-returns-in-Err-clause-target g c edges targets b =
+pub returns-in_err-place-clause-target : goal.returns-in_err-place-clause-target
+returns-in_err-place-clause-target g c edges targets b =
     let r = read_branch c.args.lead _ c.in_ok-head.head c.args.rest.now c.in_ok-head.body.now b c.in_ok-head.ensures.found in
     let same = r.count in
     let two = b.two in
@@ -55,4 +55,4 @@ returns-in-Err-clause-target g c edges targets b =
     ] in
     let cut = c.in_ok-table.ensures.cases in
     let table = table_read c.in_ok-head.head c.if-head-eq0.edges c.in_ok-head.body.now c.in_ok-table.table.now b r n cut.1 in
-    miss_target c.args.byte c.in-Err.field-0 c.in_ok-table.table.now (sym g.K.ZeroTrieWithOptions.tag_is ∙ c.requires) b table c.in-Err.ensures.position
+    rw c.from_residual-in_err-place.ensures (miss_target c.args.byte c.in_ok-table.table.now (sym g.K.ZeroTrieWithOptions.tag_is ∙ c.requires) b table c.in_err-place.ensures.none)

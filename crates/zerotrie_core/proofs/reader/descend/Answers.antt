@@ -12,14 +12,16 @@ returns-in-None g c =
     subst (λ k. AlwaysEnds g.K.ZeroTrieWithOptions.kind (c.args.lead ∷ c.args.rest.now) k None) (sym (nil_from_length c.args.key.now c.in-None.ensures.cases)) (literal_ends _ _ _ c.if-lead-lt128.true)
 
 pub returns-then-byte-lead : goal.returns-then-byte-lead
-returns-then-byte-lead g c =
-    (omega arith, subst (λ k. AlwaysGoes g.K.ZeroTrieWithOptions.kind (c.args.lead ∷ c.args.rest.now) k c.args.rest.now c.in-Some.after.now) (sym c.in-Some.ensures.cases.0)
-      (literal_goes _ _ _ _ _ c.if-lead-lt128.true (same_itself _ _ _ (sym c.if-byte-lead.true))))
+returns-then-byte-lead g c = (
+  omega arith,
+  subst (λ k. AlwaysGoes g.K.ZeroTrieWithOptions.kind (c.args.lead ∷ c.args.rest.now) k c.args.rest.now c.in-Some.after.now) (sym c.in-Some.ensures.cases.0)
+      (literal_goes _ _ _ _ _ c.if-lead-lt128.true (same_itself _ _ _ (sym c.if-byte-lead.true))),
+)
 
 pub returns-else-byte-lead : goal.returns-else-byte-lead
 returns-else-byte-lead g c =
     subst (λ k. AlwaysEnds g.K.ZeroTrieWithOptions.kind (c.args.lead ∷ c.args.rest.now) k None) (sym c.in-Some.ensures.cases.0)
-      (literal_stops _ _ _ _ _ c.if-lead-lt128.true (other_byte _ _ _ (sym g.K.ZeroTrieWithOptions.tag_is ∙ c.requires) (λ e. c.if-byte-lead.false (sym e))))
+    (literal_stops _ _ _ _ _ c.if-lead-lt128.true (other_byte _ _ _ (sym g.K.ZeroTrieWithOptions.tag_is ∙ c.requires) (λ e. c.if-byte-lead.false (sym e))))
 
 pub returns-in-None-read_varint_meta3 : goal.returns-in-None-read_varint_meta3
 returns-in-None-read_varint_meta3 g c = value_fails _ _ _ _ c.if-lead-lt160.true c.if-lead-lt128.false c.in-None-read_varint_meta3.ensures.none
@@ -27,7 +29,7 @@ returns-in-None-read_varint_meta3 g c = value_fails _ _ _ _ c.if-lead-lt160.true
 pub returns-then-is_empty : goal.returns-then-is_empty
 returns-then-is_empty g c =
     subst (λ k. AlwaysEnds g.K.ZeroTrieWithOptions.kind (c.args.lead ∷ c.args.rest.now) k (Some c.in-Some-read_varint_meta3.value)) (sym (nil_from_length c.args.key.now (eqb-true _ _ (sym c.is_empty.ensures ∙ c.if-is_empty.true))))
-      (value_ends g.K.ZeroTrieWithOptions.kind _ c.in-Some-read_varint_meta3.value _ _ _ c.if-lead-lt160.true c.if-lead-lt128.false c.in-Some-read_varint_meta3.ensures.found)
+    (value_ends g.K.ZeroTrieWithOptions.kind _ c.in-Some-read_varint_meta3.value _ _ _ c.if-lead-lt160.true c.if-lead-lt128.false c.in-Some-read_varint_meta3.ensures.found)
 
 pub returns-else-is_empty : goal.returns-else-is_empty
 returns-else-is_empty g c =
@@ -41,10 +43,12 @@ returns-in-None-split_first g c =
 pub returns-in-None-branch_target : goal.returns-in-None-branch_target
 returns-in-None-branch_target g c =
     subst (λ k. AlwaysEnds g.K.ZeroTrieWithOptions.kind (c.args.lead ∷ c.args.rest.now) k None) (sym c.in-Some-split_first.ensures.cases.0)
-      (branch_stops _ _ _ _ _ c.if-lead-lt192.false c.in-None-branch_target.ensures.target)
+    (branch_stops _ _ _ _ _ c.if-lead-lt192.false c.in-None-branch_target.ensures.target)
 
 pub returns-in-Some-branch_target : goal.returns-in-Some-branch_target
 returns-in-Some-branch_target g c =
-    let short = c.in-Some-branch_target.ensures.shorter in
-    (omega (arith, short), subst (λ k. AlwaysGoes g.K.ZeroTrieWithOptions.kind (c.args.lead ∷ c.args.rest.now) k c.in-Some-branch_target.target.now c.in-Some-split_first.after.now) (sym c.in-Some-split_first.ensures.cases.0)
-      (branch_goes _ _ _ _ _ _ c.if-lead-lt192.false c.in-Some-branch_target.ensures.target))
+    let short = c.in-Some-branch_target.ensures.shorter in (
+      omega (arith, short),
+      subst (λ k. AlwaysGoes g.K.ZeroTrieWithOptions.kind (c.args.lead ∷ c.args.rest.now) k c.in-Some-branch_target.target.now c.in-Some-split_first.after.now) (sym c.in-Some-split_first.ensures.cases.0)
+          (branch_goes _ _ _ _ _ _ c.if-lead-lt192.false c.in-Some-branch_target.ensures.target),
+    )

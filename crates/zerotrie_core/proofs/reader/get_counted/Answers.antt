@@ -13,7 +13,7 @@ answered : (g : _) (c : goal.In-Answer g) → AlwaysFinds g.K.ZeroTrieWithOption
 answered g c =
     let front = c.in-Some.ensures.cases in
     finds_at_end g.K.ZeroTrieWithOptions.kind c.args.bytes.now c.args.key.now c.loop-lead.trie.now c.loop-lead.key.now c.in-Answer.answer c.loop-lead.count c.loop-lead.invariant.came
-      (subst (λ t. AlwaysEnds g.K.ZeroTrieWithOptions.kind t c.loop-lead.key.now c.in-Answer.answer) (sym front.0) c.in-Answer.ensures)
+    (subst (λ t. AlwaysEnds g.K.ZeroTrieWithOptions.kind t c.loop-lead.key.now c.in-Answer.answer) (sym front.0) c.in-Answer.ensures)
 
 pub returns-in-Answer-clause-value : goal.returns-in-Answer-clause-value
 returns-in-Answer-clause-value g c = value_found _ _ _ _ _ (answered g c)
@@ -28,7 +28,7 @@ loop-lead-preserved g c =
     record {
       bound = omega (arith, down.0, front.1);
       came = came_more g.K.ZeroTrieWithOptions.kind c.args.bytes.now c.args.key.now c.loop-lead.trie.now c.loop-lead.key.now c.in-Down.below.now c.in-Down.after.now c.loop-lead.count c.loop-lead.invariant.came
-        (subst (λ t. AlwaysGoes g.K.ZeroTrieWithOptions.kind t c.loop-lead.key.now c.in-Down.below.now c.in-Down.after.now) (sym front.0) down.1);
+          (subst (λ t. AlwaysGoes g.K.ZeroTrieWithOptions.kind t c.loop-lead.key.now c.in-Down.below.now c.in-Down.after.now) (sym front.0) down.1);
     }
 
 ended : (g : _) (c : goal.In_default g) → AlwaysFinds g.K.ZeroTrieWithOptions.kind c.args.bytes.now c.args.key.now None c.loop-lead.count

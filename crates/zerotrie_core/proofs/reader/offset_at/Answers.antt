@@ -33,4 +33,4 @@ loop-block-preserved c =
 pub returns : goal.returns
 returns c =
     subst (λ (n : ℕ). number_from c.loop-block.value n c.args.count c.args.place c.loop-block.rest.now ≡ number_from 0 c.args.width c.args.count c.args.place c.args.table.now)
-      (none_left c.args.width c.loop-block._block c.loop-block-test.false) c.loop-block.invariant.same
+    (none_left c.args.width c.loop-block._block c.loop-block-test.false) c.loop-block.invariant.same

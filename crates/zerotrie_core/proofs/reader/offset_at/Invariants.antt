@@ -6,5 +6,5 @@ abbrev pub invariant-loop-block : goal.invariant-loop-block
 invariant-loop-block l = record {
   bound : l.value < 256 ^ l._block;
   len : length l.rest ≡ (l.width - l._block) * l.count;
-  same : number_from l.value (l.width - l._block) l.count l.place l.rest ≡ number_from 0 l.width l.count l.place l.table
+  same : number_from l.value (l.width - l._block) l.count l.place l.rest ≡ number_from 0 l.width l.count l.place l.table;
 }

@@ -22,7 +22,7 @@ returns-then-t-lt128-clause-found c =
     let v_is : c.in_ok-value.value ≡ 128 * c.loop-i.value + get_or c.args.rest.now c.loop-i.i 0 % 128 + c.args.latent = omega (arith, c.in_ok-checked_mul.ensures, c.in_ok-value.ensures) in
     let e = ended c.args.latent c.args.start c.loop-i.value c.loop-i.i c.args.rest.now c.loop-i-test.true c.if-t-lt128.true c.if-start-latent-eq0.false c.loop-i.invariant in
     rw (between_to_end c.args.rest.now (c.loop-i.i + 1) (length c.args.rest.now) (omega arith), add-one)
-      (is_read _ _ _ _ _ (omega arith) (λ i. omega (arith, c.type_inv.rest i)) (omega arith) (rw v_is e))
+    (is_read _ _ _ _ _ (omega arith) (λ i. omega (arith, c.type_inv.rest i)) (omega arith) (rw v_is e))
 
 pub returns-clause-none : goal.returns-clause-none
 returns-clause-none c = cut _ _ _ _ _ (omega arith) c.if-start-latent-eq0.false c.loop-i.invariant

@@ -6,7 +6,7 @@ use Rattle.zerotrie_core.proofs.WriteLemmas.{Completes}
 abbrev pub invariant-loop-value : goal.invariant-loop-value
 invariant-loop-value l = record {
   extended : l.extended ≡ 128 * extender l.out.items;
-  completes : Completes l.latent l.v l.value l.out.items
+  completes : Completes l.latent l.v l.value l.out.items;
 }
 
 abbrev pub decreases-loop-value : goal.decreases-loop-value

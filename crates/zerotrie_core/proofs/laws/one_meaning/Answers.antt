@@ -1,5 +1,5 @@
 use Rattle.zerotrie_core.proofs.TextLaws.{means_once}
-use Rattle.zerotrie_core.proofs.laws.one_map.Goals as goal
+use Rattle.zerotrie_core.proofs.laws.one_meaning.Goals as goal
 
 pub returns : goal.returns
 returns c = means_once

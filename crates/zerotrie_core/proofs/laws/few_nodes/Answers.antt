@@ -1,0 +1,5 @@
+use Rattle.zerotrie_core.proofs.NodeLaws.{nodes_few}
+use Rattle.zerotrie_core.proofs.laws.few_nodes.Goals as goal
+
+pub returns : goal.returns
+returns c kind bytes key m means = nodes_few means.lists key

@@ -1,0 +1,54 @@
+-- The laws over the definitions alone.
+use Rattle.std.specs.Prelude.{◌≡◌, ℕ, ◌+◌, ◌*◌, ◌^◌, ◌<◌, ◌≤◌, ◌⊎◌, List, [], ◌∷◌, ◌++◌, length}
+use Rattle.zerotrie_core.specs.Kind.{Kind}
+use Rattle.zerotrie_core.specs.Numbers.{Spells, spelled}
+use Rattle.zerotrie_core.specs.Maps.{Map}
+use Rattle.zerotrie_core.specs.Texts.{Means, nodes}
+use Rattle.zerotrie_core.specs.Canonical.{enc, size}
+use Rattle.zerotrie_core.specs.Fits.{Fits}
+
+-- the latent values of the two forms of numbers
+abbrev pub IsForm : ℕ → Type 0
+IsForm L = (L ≡ 16) ⊎ (L ≡ 32)
+
+-- each number below 2 ^ 64 has a spelling in each form, with each metadata
+abbrev pub EachIsSpelled : Type 0
+EachIsSpelled = (L metadata v : ℕ) → IsForm L → v < 2 ^ 64 → Spells L metadata v (spelled L metadata v)
+
+-- and one alone
+abbrev pub OneSpelling : Type 0
+OneSpelling = (L metadata v : ℕ) (a b : List ℕ) → Spells L metadata v a → Spells L metadata v b → a ≡ b
+
+-- spellings of one number differ in the bits of metadata alone, which stand on top of the lead byte
+abbrev pub MetadataAlone : Type 0
+MetadataAlone = (L metadata v : ℕ) (bytes : List ℕ) → Spells L metadata v bytes
+    → (lead : ℕ) × (trail : List ℕ) × (lead < 2 * L) × (bytes ≡ (metadata * (2 * L) + lead) ∷ trail)
+    × ((other : ℕ) → Spells L other v ((other * (2 * L) + lead) ∷ trail))
+
+-- no spelling begins a longer one
+abbrev pub NoneLonger : Type 0
+NoneLonger = (L metadata other v w : ℕ) (bytes more : List ℕ) → Spells L metadata v bytes → Spells L other w (bytes ++ more) → more ≡ []
+
+-- the same bytes mean one map of a kind
+abbrev pub OneMeaning : Type 0
+OneMeaning = (kind : Kind) (bytes : List ℕ) (m n : Map) → Means kind bytes m → Means kind bytes n → m ≡ n
+
+-- the canonical text of a map that fits means that map
+abbrev pub CanonicalMeans : Kind → Type 0
+CanonicalMeans kind = (m : Map) → Fits kind m → Means kind (enc kind m) m
+
+-- bytes that mean a map are its canonical text
+abbrev pub MeansCanonical : Kind → Type 0
+MeansCanonical kind = (bytes : List ℕ) (m : Map) → Means kind bytes m → bytes ≡ enc kind m
+
+-- a map that some bytes mean fits
+abbrev pub MeansFits : Kind → Type 0
+MeansFits kind = (bytes : List ℕ) (m : Map) → Means kind bytes m → Fits kind m
+
+-- bytes that mean a map are as long as its size
+abbrev pub LengthIsSize : Kind → Type 0
+LengthIsSize kind = (bytes : List ℕ) (m : Map) → Means kind bytes m → length bytes ≡ size kind m
+
+-- a look-up of a key of n bytes reads at most 2 * n + 1 nodes
+abbrev pub FewNodes : Type 0
+FewNodes = (kind : Kind) (bytes key : List ℕ) (m : Map) (means : Means kind bytes m) → nodes means.lists key ≤ 2 * length key + 1
