@@ -8,15 +8,19 @@ use thiserror::Error;
 
 /// Why a trie was not built.
 ///
-/// Each case but the last is answered only where its condition holds of the pairs that were given. Want
-/// of memory is answered only where a growth was refused, and may then stand in place of another case.
+/// ```text
+/// plain_encode(alloc, &[(b"b", 1), (b"a", 2)])    // Err(ZeroTrieBuildError::Unsorted)
+/// ```
+///
+/// A build that answers one of the first ten cases was given pairs of which the condition beside it is true.
+/// The last comes of a refused growth alone, whatever else is true of the pairs.
 #[derive(Clone, PartialEq, Eq, Debug, Drop, Error)]
 pub enum ZeroTrieBuildError {
     /// A key holds a byte of 128 or more, and the kind of trie is for ASCII alone.
     #[error("Non-ASCII cannot be added to an ASCII-only trie")]
     NonAsciiError,
-    /// The targets of a branch together have 2^32 bytes or more, in a kind whose offsets have at most
-    /// four bytes, or the whole text has 2^64 bytes or more.
+    /// A branch would have targets of 2^32 bytes or more and the kind's offsets have at most four bytes,
+    /// or the whole text would reach 2^64 bytes.
     #[error("Reached maximum capacity of trie")]
     CapacityExceeded,
     /// No parameters of a perfect hash were found for the edges of a branch.

@@ -5,8 +5,8 @@
 ghost use Rattle.zerotrie_core.specs.Kind.{simple_ascii};
 ghost use Rattle.zerotrie_core.specs.Laws.{EachIsSpelled, OneSpelling, MetadataAlone, NoneLonger, OneMeaning, MeansCanonical, LengthIsSize, FewNodes};
 
-/// In each form every number below 2^64 has one spelling. With other bits of metadata it differs in
-/// these alone, and it begins no longer spelling.
+/// Numbers below 2^64 have exactly one spelling in each form. Other metadata changes these bits alone, and
+/// no spelling is the front of a longer one.
 pub fn one_spelling()
     ensures each { EachIsSpelled }
     ensures one { OneSpelling }
@@ -14,7 +14,7 @@ pub fn one_spelling()
     ensures none_longer { NoneLonger }
 {}
 
-/// Bytes mean at most one map of a kind.
+/// No bytes mean two maps of one kind.
 pub fn one_meaning()
     ensures { OneMeaning }
 {}

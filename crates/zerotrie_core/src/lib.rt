@@ -6,10 +6,12 @@ pub mod laws;
 mod options;
 mod plain;
 mod reader;
+mod store;
 mod varint;
 
 pub use error::ZeroTrieBuildError;
-pub use options::{Simple, ZeroTrieWithOptions};
+pub use options::{Simple, ZeroTrieBuilderOptions, ZeroTrieWithOptions};
 pub use plain::plain_encode;
 pub use reader::get_counted;
+pub use store::{ConvertStore, TrieKey, TrieStore};
 pub use varint::{read_varint_meta2, read_varint_meta3, write_varint_meta2, write_varint_meta3};

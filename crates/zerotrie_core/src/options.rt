@@ -5,6 +5,8 @@ ghost use Rattle.std.proofs.Common.{inl};
 ghost use Rattle.zerotrie_core.specs.Kind.{Kind, Flags, simple_ascii, tag, flags};
 ghost use Rattle.zerotrie_core.specs.Options.{IsTag};
 
+use std::marker::Model;
+
 /// The constants of a kind of trie.
 ///
 /// `TAG` is the number that stands for the kind in tagged bytes: 1, 2, 4 and 8 for each of the other
@@ -71,4 +73,70 @@ impl ZeroTrieWithOptions for Simple {
     ghost tag_is = { refl };
 
     ghost lawful = { (refl, inl refl) };
+}
+
+/// The constants of a kind of trie, as a value.
+///
+/// ```
+/// let options = ZeroTrieBuilderOptions::of::<Simple>();
+/// assert!(!options.ignore_case());
+/// ```
+#[derive(Clone, Copy, Debug, PartialEq, Eq)]
+pub struct ZeroTrieBuilderOptions {
+    use_phf: bool,
+    spans: bool,
+    extended: bool,
+    ignore_case: bool,
+}
+
+impl Model for ZeroTrieBuilderOptions {
+    ghost use Rattle.zerotrie_core.specs.Kind.{Flags};
+
+    ghost Value = { Flags };
+
+    ghost view = { λ o. record { use_phf = o.use_phf; spans = o.spans; extended = o.extended; ignore_case = o.ignore_case } };
+
+    ghost inverse = { λ f. record { use_phf = f.use_phf; spans = f.spans; extended = f.extended; ignore_case = f.ignore_case } };
+}
+
+impl ZeroTrieBuilderOptions {
+    /// The constants of `K`.
+    pub fn of<K: ZeroTrieWithOptions>() -> Self
+        ensures { result ≡ flags K.kind }
+    {
+        ZeroTrieBuilderOptions {
+            use_phf: K::USE_PHF,
+            spans: K::SPANS,
+            extended: K::EXTENDED,
+            ignore_case: K::IGNORE_CASE,
+        }
+    }
+
+    /// Whether a branch of 16 edges or more has a perfect hash for its table.
+    pub fn use_phf(&self) -> bool
+        ensures { result ≡ self.now.use_phf }
+    {
+        self.use_phf
+    }
+
+    /// Whether bytes of 128 or more that lie on no branch stand in spans.
+    pub fn spans(&self) -> bool
+        ensures { result ≡ self.now.spans }
+    {
+        self.spans
+    }
+
+    /// Whether the offsets of a branch may have more than four bytes.
+    pub fn extended(&self) -> bool
+        ensures { result ≡ self.now.extended }
+    {
+        self.extended
+    }
+
+    /// Whether ASCII letters are looked up without their case.
+    pub fn ignore_case(&self) -> bool
+        ensures { result ≡ self.now.ignore_case }
+    {
+        self.ignore_case
+    }
 }

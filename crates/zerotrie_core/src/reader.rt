@@ -1,8 +1,8 @@
 //! Looking up a key in the bytes of a trie, where they lie.
 //!
-//! Nodes are read from the front. While bytes of the key remain a value node is passed over, a literal has
-//! to equal the next byte of the key, and a branch takes the target of that byte. Where the key has ended a
-//! value node is the answer. Bytes that are no trie get some answer, and nothing outside them is read.
+//! The look-up goes from node to node with the key in hand. It passes over value nodes until the key is used
+//! up, and then a value node is its answer. A literal has to be the next byte of the key, and a branch leads
+//! on by that byte. Bytes that are no trie get some answer, and nothing outside them is read.
 
 ghost use Rattle.std.specs.Prelude.{◌≡◌, ◌≢◌, ℕ, ◌+◌, ◌-◌, ◌*◌, ◌/◌, ◌%◌, ◌^◌, ◌<◌, ◌≤◌, List, ◌∷◌, ◌++◌, length, IfSome, IfNone, IsSomeAnd, slice_index, slice_index_or, []};
 ghost use Rattle.std.specs.Option.{option_copied, option_map};
@@ -170,8 +170,8 @@ fn descend<'a, K: ZeroTrieWithOptions>(lead: u8, rest: &'a [u8], key: &'a [u8]) 
 /// get_counted::<Simple>(&bytes, b"b")     // (None, 1)
 /// ```
 ///
-/// It returns on any bytes. On bytes that mean a map the first part is the value of the key in that map,
-/// and the second is at most 2n + 1 for a key of n bytes. It takes no memory.
+/// It returns on any bytes, and takes no memory. On bytes that mean a map the first part is the key's value
+/// in that map. A key of n bytes makes it read at most 2n + 1 nodes.
 pub fn get_counted<K: ZeroTrieWithOptions>(bytes: &[u8], key: &[u8]) -> (Option<usize>, usize)
     requires { K.TAG ≡ 0 }
     ensures value { (m : Map) → Means K.kind bytes.now m → result.0 ≡ look K.kind m key.now }
