@@ -14,7 +14,7 @@ use Rattle.zerotrie_core.specs.Kind.{Kind, simple_ascii, same_byte, fold_byte, t
 use Rattle.zerotrie_core.specs.Numbers.{Spells, BeginsWith}
 use Rattle.zerotrie_core.specs.Branches.{IsBranch, IsTable, blocks, offsets}
 use Rattle.zerotrie_core.specs.Branches.IsTable.{sorted}
-use Rattle.zerotrie_core.specs.Reading.{target_of, BranchLeads, IsTargets, NeverFalls}
+use Rattle.zerotrie_core.specs.Reading.{target_of, BranchLeads, IsTargets, AlwaysRises}
 use Rattle.zerotrie_core.proofs.ReaderLemmas.{one_reading, Rises, AllAbove, table_rises}
 use Rattle.zerotrie_core.proofs.KindLemmas.{same_itself, other_byte}
 
@@ -23,12 +23,48 @@ above_at kind x i [] t a h = absurd (omega arith)
 above_at simple_ascii x zero (e ∷ edges) t a h = a.0
 above_at simple_ascii x (suc i) (e ∷ edges) t a h = above_at simple_ascii x i edges t a.1 (omega arith)
 
-rises_at : (kind : Kind) (edges : List ℕ) → tag kind ≡ 0 → Rises kind edges → (i j : ℕ) → i ≤ j → j < length edges → get_or edges i 0 ≤ get_or edges j 0
+rises_at : (kind : Kind) (edges : List ℕ) → tag kind ≡ 0 → Rises kind edges → (i j : ℕ) → i < j → j < length edges → get_or edges i 0 < get_or edges j 0
 rises_at kind [] t r i j le h = absurd (omega arith)
-rises_at kind (e ∷ edges) t r zero zero le h = omega arith
-rises_at simple_ascii (e ∷ edges) t r zero (suc j) le h = let up = above_at simple_ascii e j edges t r.0 (omega arith) in omega arith
-rises_at kind (e ∷ edges) t r (suc i) zero le h = absurd (omega arith)
+rises_at kind (e ∷ edges) t r i zero le h = absurd (omega arith)
+rises_at simple_ascii (e ∷ edges) t r zero (suc j) le h = above_at simple_ascii e j edges t r.0 (omega arith)
 rises_at kind (e ∷ edges) t r (suc i) (suc j) le h = rises_at kind edges t r.1 i j (omega arith) (omega arith)
+
+-- numbers that rise by one at least
+pub rises_by : (xs : List ℕ) → AlwaysRises xs → (i d : ℕ) → i + d < length xs → get_or xs i 0 + d ≤ get_or xs (i + d) 0
+rises_by xs up i zero h = let e : i + 0 ≡ i = omega arith in rw e (omega arith)
+rises_by xs up i (suc d) h =
+    let e : i + suc d ≡ suc (i + d) = omega arith in
+    let below = rises_by xs up i d (omega arith) in
+    let next = up (i + d) (suc (i + d)) (omega arith) (omega arith) in
+    rw e (omega arith)
+
+-- where a number can stand between the first and the last
+pub bounded_place : (xs : List ℕ) (b k end : ℕ) → AlwaysRises xs → end + 1 ≡ length xs → k < length xs → get_or xs k 0 ≡ b
+    → (k + get_or xs 0 0 ≤ b) × (b + (end - k) ≤ get_or xs end 0)
+bounded_place xs b k end up n h is =
+    let low = rises_by xs up 0 k (omega arith) in
+    let high = rises_by xs up k (end - k) (omega arith) in
+    let z : 0 + k ≡ k = omega arith in
+    let e : k + (end - k) ≡ end = omega arith in
+    let low' = subst (λ i. get_or xs 0 0 + k ≤ get_or xs i 0) z low in
+    let high' = subst (λ i. get_or xs k 0 + (end - k) ≤ get_or xs i 0) e high in
+    (omega arith, omega arith)
+
+-- the middle of a table bounds the place of a number
+pub below_middle : (xs : List ℕ) (b mid k : ℕ) → AlwaysRises xs → k < length xs → get_or xs k 0 ≡ b → b < get_or xs mid 0 → k < mid
+below_middle xs b mid k up h is above = elim (cases_lt k mid) [
+  | inl less ↦ less
+  | inr more ↦ elim (cases_lt mid k) [
+    | inl later ↦ let f = up mid k later h in absurd (omega arith)
+    | inr same ↦ let e : k ≡ mid = omega arith in let f = ap (λ i. get_or xs i 0) e in absurd (omega arith)
+  ]
+]
+
+pub above_middle : (xs : List ℕ) (b mid k : ℕ) → AlwaysRises xs → mid < length xs → get_or xs k 0 ≡ b → get_or xs mid 0 ≤ b → mid ≤ k
+above_middle xs b mid k up h is low = elim (cases_lt k mid) [
+  | inl less ↦ let f = up k mid less h in absurd (omega arith)
+  | inr more ↦ more
+]
 
 found_target : (kind : Kind) (c i : ℕ) (edges : List ℕ) (targets : List (List ℕ)) → tag kind ≡ 0 → Rises kind edges → length targets ≡ length edges → i < length edges → get_or edges i 0 ≡ c → target_of kind c edges targets ≡ Some (get_or targets i [])
 found_target kind c i [] targets t r n h is = absurd (omega arith)
@@ -99,7 +135,7 @@ hit_target {kind = kind} {edges = edges} {targets = targets} c place table t b i
     found_target kind c place edges targets t (table_rises b.is_table) b.a_target_each (omega (arith, ap length is)) (ap (λ x. get_or x place 0) (sym is) ∙ here)
 
 pub miss_target : {kind : Kind} {edges : List ℕ} {targets : List (List ℕ)} {bytes : List ℕ} (c : ℕ) (table : List ℕ) → tag kind ≡ 0 → IsBranch kind edges targets bytes → table ≡ edges
-    → (NeverFalls table → (k : ℕ) → k < length table → get_or table k 0 ≡ c → ⊥) → target_of kind c edges targets ≡ None
+    → (AlwaysRises table → (k : ℕ) → k < length table → get_or table k 0 ≡ c → ⊥) → target_of kind c edges targets ≡ None
 miss_target {kind = kind} {edges = edges} {targets = targets} c table t b is missed =
     let up = rises_at kind edges t (table_rises b.is_table) in
-    missed_target kind c edges targets t (subst (λ x. NeverFalls x → (k : ℕ) → k < length x → get_or x k 0 ≡ c → ⊥) is missed up)
+    missed_target kind c edges targets t (subst (λ x. AlwaysRises x → (k : ℕ) → k < length x → get_or x k 0 ≡ c → ⊥) is missed up)

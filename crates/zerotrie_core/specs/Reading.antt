@@ -1,6 +1,6 @@
 -- What one step of a look-up does.
 use Rattle.std.proofs.Common.{zero, suc}
-use Rattle.std.specs.Prelude.{◌*◌, ◌^◌, ◌<◌, ◌≤◌, ◌++◌, length, slice_index, drop, ◌≡◌, ℕ, ◌+◌, List, [], ◌∷◌, Option, Some, None, if◌then◌else◌}
+use Rattle.std.specs.Prelude.{◌*◌, ◌^◌, ◌<◌, ◌++◌, length, slice_index, drop, ◌≡◌, ℕ, ◌+◌, List, [], ◌∷◌, Option, Some, None, if◌then◌else◌}
 use Rattle.zerotrie_core.specs.Kind.{Kind, same_byte}
 use Rattle.zerotrie_core.specs.Maps.{Pairs, value_at}
 use Rattle.zerotrie_core.specs.Branches.{IsBranch, blocks, offsets}
@@ -47,6 +47,6 @@ pub record IsTargets (targets : List (List ℕ)) (edges w : ℕ) (bytes : List �
   pub enough : length (concat targets) < 256 ^ w
   pub bytes_are : bytes ≡ blocks w (offsets targets) ++ concat targets
 
--- no number is above a later one
-abbrev pub NeverFalls : List ℕ → Type 0
-NeverFalls xs = (i j : ℕ) → i ≤ j → j < length xs → slice_index xs i ≤ slice_index xs j
+-- each number is below all later ones
+abbrev pub AlwaysRises : List ℕ → Type 0
+AlwaysRises xs = (i j : ℕ) → i < j → j < length xs → slice_index xs i < slice_index xs j

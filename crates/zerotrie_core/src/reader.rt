@@ -8,7 +8,7 @@ ghost use Rattle.std.specs.Prelude.{◌≡◌, ◌≢◌, ℕ, ◌+◌, ◌-◌,
 ghost use Rattle.std.specs.Option.{option_copied, option_map};
 ghost use Rattle.std.specs.List.{concat};
 ghost use Rattle.zerotrie_core.specs.Texts.{Means, nodes};
-ghost use Rattle.zerotrie_core.specs.Reading.{BranchLeads, IsTargets, NeverFalls, number_from};
+ghost use Rattle.zerotrie_core.specs.Reading.{BranchLeads, IsTargets, AlwaysRises, number_from};
 ghost use Rattle.zerotrie_core.specs.Descending.{Descends};
 ghost use Rattle.zerotrie_core.specs.Maps.{Map, look};
 ghost use Rattle.zerotrie_core.specs.Branches.{IsBranch, blocks, offsets};
@@ -46,16 +46,23 @@ fn half_passed(half: usize, middle: u8, byte: u8) -> usize
     half * ((256 + byte as usize - middle as usize) / 256)
 }
 
-/// The place of a byte in a table whose bytes do not fall.
+/// The place of a byte in a table whose bytes rise.
 ///
-/// The table is halved with no branch on what it holds: which edge a key takes can't be foretold.
+/// Since each byte is above the one before it, the first and the last bound the place, closely where the
+/// edges lie close together. What is left is halved, with no branch on what it holds: which edge a key
+/// takes can't be foretold.
 #[inline(always)]
 fn place_of(table: &[u8], byte: u8) -> Option<usize>
     ensures some { IfSome result (λ place. (place < length table.now) × (slice_index table.now place ≡ byte)) }
-    ensures none { IfNone result (NeverFalls table.now → (k : ℕ) → k < length table.now → slice_index table.now k ≢ byte) }
+    ensures none { IfNone result (AlwaysRises table.now → (k : ℕ) → k < length table.now → slice_index table.now k ≢ byte) }
 {
-    let mut base = 0;
-    let mut left = table.len();
+    let end = table.len().checked_sub(1)?;
+    let (first, last) = (table[0], table[end]);
+    if byte < first || last < byte {
+        return None;
+    }
+    let mut base = end.saturating_sub((last - byte) as usize);
+    let mut left = (end.min((byte - first) as usize) + 1).saturating_sub(base);
     if left == 0 {
         return None;
     }
@@ -72,8 +79,11 @@ fn place_of(table: &[u8], byte: u8) -> Option<usize>
 }
 
 /// The target of an edge, behind the table of a branch.
+///
+/// Two offsets are read whichever edge it is, so that nothing waits for a test of its place.
 #[inline(always)]
 fn target_at(body: &[u8], place: usize, edges: usize, width: usize) -> Option<&[u8]>
+    requires two { 2 ≤ edges }
     requires edges { edges ≤ 256 }
     requires place { place < edges }
     requires width { width ≤ 8 }
@@ -82,16 +92,10 @@ fn target_at(body: &[u8], place: usize, edges: usize, width: usize) -> Option<&[
 {
     let count = edges - 1;
     let (table, targets) = body.split_at_checked(width * count)?;
-    let from = if place == 0 {
-        0
-    } else {
-        offset_at(table, place - 1, count, width)
-    };
-    let to = if place == count {
-        targets.len()
-    } else {
-        offset_at(table, place, count, width)
-    };
+    let before = offset_at(table, place.saturating_sub(1), count, width);
+    let behind = offset_at(table, place.min(count - 1), count, width);
+    let from = if place == 0 { 0 } else { before };
+    let to = if place == count { targets.len() } else { behind };
     targets.get(from..to)
 }
 
@@ -105,7 +109,7 @@ fn branch_target<K: ZeroTrieWithOptions>(lead: u8, rest: &[u8], byte: u8) -> Opt
     let (head, body) = read_varint_meta2(lead, rest)?;
     let width = head / 256;
     let edges = if head % 256 == 0 { 256 } else { head % 256 };
-    if width > 3 {
+    if width > 3 || edges < 2 {
         return None;
     }
     let (table, body) = body.split_at_checked(edges)?;
