@@ -1,18 +1,18 @@
 -- The text of an ASCII kind is the canonical one.
-use Rattle.std.proofs.Common.{◌≡◌, ◌≢◌, ℕ, zero, suc, ◌+◌, ◌-◌, ◌*◌, ◌/◌, ◌%◌, ◌^◌, ◌<◌, ◌≤◌, List, [], ◌∷◌, ◌++◌, length, refl, sym, ◌∙◌, ap, subst, arith, inl, inr, ◌⊎◌, map, Bool, true, false, cond, eqb, get_or, lit<, Option, None, Some}
-use Rattle.std.specs.Prelude.{◌||◌, All}
-use Rattle.std.specs.List.{range_with_len, concat}
-use Rattle.std.proofs.lemmas.Bool.{eqb-true, eq-eqb, ne_eqb, cases_lt, lt-ltb, le-ltb}
-use Rattle.zerotrie_core.specs.Kind.{Kind, simple_ascii, edge_limit}
-use Rattle.zerotrie_core.specs.Numbers.{Spells, spelled}
+use Rattle.std.proofs.Common.{◌≡◌, ℕ, zero, suc, ◌+◌, ◌*◌, ◌/◌, ◌%◌, ◌^◌, ◌<◌, ◌≤◌, List, [], ◌∷◌, ◌++◌, length, refl, sym, ◌∙◌, ap, subst, arith, inl, inr, map, Bool, true, false, eqb, get_or, lit<, None}
+use Rattle.std.specs.Prelude.{◌||◌}
+use Rattle.std.specs.List.{concat}
+use Rattle.std.proofs.lemmas.Bool.{cases_lt, lt-ltb, le-ltb}
+use Rattle.zerotrie_core.specs.Kind.{Kind, simple_ascii}
+use Rattle.zerotrie_core.specs.Numbers.{spelled}
 use Rattle.zerotrie_core.specs.Maps.{Pairs, with_front, begins_some, edges, residual, value_at}
-use Rattle.zerotrie_core.specs.Branches.{IsBranch, IsTable, IsWidth, blocks, offsets}
+use Rattle.zerotrie_core.specs.Branches.{IsBranch, IsWidth, blocks, offsets}
 use Rattle.zerotrie_core.specs.Texts.{Lists, ListEach, NoValueFirst}
 use Rattle.zerotrie_core.specs.Texts.Lists.{nothing, value, literal, branch}
 use Rattle.zerotrie_core.specs.Texts.ListEach.{no_edge, edge}
 use Rattle.zerotrie_core.specs.Canonical.{enc_to, node, branch_node, value_node, width, width_to}
 use Rattle.zerotrie_core.proofs.EdgeLemmas.{Rise, Rise-lower, member, filter-range, begins_some-append, begins_some-front, residual-append, residual-front, residual-other}
-use Rattle.zerotrie_core.proofs.ReaderLemmas.{Rises, AllAbove, table_rises, value_at-no_key, behind_none, extender_one}
+use Rattle.zerotrie_core.proofs.ReaderLemmas.{Rises, table_rises, value_at-no_key, behind_none, extender_one}
 use Rattle.zerotrie_core.proofs.NumberLaws.{one_spelling, spells_spelled}
 use Rattle.std.proofs.Math.Nat.{pow-suc, div-lt_iff_lt-mul}
 use Rattle.zerotrie_core.proofs.TableLemmas.{table_is_edges, above_at}
@@ -61,7 +61,7 @@ rises_rise : (es : List ℕ) (low : ℕ) → Rises simple_ascii es → ((i : ℕ
 rises_rise [] low r below first = tt
 rises_rise (e ∷ es) low r below first = (first (omega arith), below 0 (omega arith), rises_rise es (suc e) r.1 (λ i h. below (suc i) (omega arith)) (λ h. above_at simple_ascii e 0 es refl r.0 h))
 
-begins_each : {kind : Kind} {es : List ℕ} {targets : List (List ℕ)} {pairs : Pairs} → ListEach kind es targets pairs → (b : ℕ) → begins_some pairs b ≡ member b es
+pub begins_each : {kind : Kind} {es : List ℕ} {targets : List (List ℕ)} {pairs : Pairs} → ListEach kind es targets pairs → (b : ℕ) → begins_some pairs b ≡ member b es
 begins_each no_edge b = refl
 begins_each (edge {e = e} {pairs = p} {more = m} n text each) b =
     begins_some-append (with_front e p) m b ∙ rw (begins_some-front e b p (lists_some text n), begins_each each b) refl
@@ -73,7 +73,7 @@ edges_each : {es : List ℕ} {targets : List (List ℕ)} {bytes : List ℕ} {pai
 unfolding edges
 edges_each {es = es} {pairs = pairs} b each = filter-range (begins_some pairs) 0 256 256 es refl (branch_rise b) (λ x h. begins_each each x)
 
-edges_front : (b : ℕ) (pairs : Pairs) → b < 128 → (pairs ≡ [] → ⊥) → edges (with_front b pairs) ≡ b ∷ []
+pub edges_front : (b : ℕ) (pairs : Pairs) → b < 128 → (pairs ≡ [] → ⊥) → edges (with_front b pairs) ≡ b ∷ []
 unfolding edges
 edges_front b pairs low some = filter-range (begins_some (with_front b pairs)) 0 256 256 (b ∷ []) refl (omega arith, omega arith, tt) (λ x h. begins_some-front b x pairs some ∙ sym (or_false' (eqb b x)))
 
@@ -123,7 +123,7 @@ pub bytes_end : (bytes : List ℕ) → bytes ++ [] ≡ bytes
 bytes_end [] = refl
 bytes_end (e ∷ bytes) = ap (λ x. e ∷ x) (bytes_end bytes)
 
-residual_none : {es : List ℕ} {targets : List (List ℕ)} {pairs : Pairs} → ListEach simple_ascii es targets pairs → (b : ℕ) → Rise (suc b) 256 es → residual b pairs ≡ []
+pub residual_none : {es : List ℕ} {targets : List (List ℕ)} {pairs : Pairs} → ListEach simple_ascii es targets pairs → (b : ℕ) → Rise (suc b) 256 es → residual b pairs ≡ []
 residual_none no_edge b rise = refl
 residual_none (edge {e = e} {pairs = p} {more = m} n text each) b rise =
     residual-append b (with_front e p) m ∙ ap (λ x. x ++ residual b m) (residual-other b e p (λ s. omega (arith, rise.0))) ∙ residual_none each b (Rise-lower (suc b) (suc e) 256 _ (omega (arith, rise.0)) rise.2)

@@ -1,35 +1,25 @@
 -- The canonical text of pairs that fit lists them.
-use Rattle.std.proofs.Common.{◌≡◌, ◌≢◌, ℕ, zero, suc, ◌+◌, ◌-◌, ◌*◌, ◌/◌, ◌%◌, ◌^◌, ◌<◌, ◌≤◌, List, [], ◌∷◌, ◌++◌, length, refl, sym, ◌∙◌, ap, subst, arith, inl, inr, ◌⊎◌, map, Bool, true, false, cond, eqb, get_or, lit<, Option, None, Some, Ordering, Less, Equal, Greater}
-use Rattle.std.specs.List.{range_with_len, concat}
+use Rattle.std.proofs.Common.{◌≡◌, ℕ, zero, suc, ◌+◌, ◌*◌, ◌%◌, ◌^◌, ◌<◌, ◌≤◌, List, [], ◌∷◌, ◌++◌, length, refl, sym, ◌∙◌, ap, subst, arith, inl, inr, ◌⊎◌, map, get_or, None, Ordering, Less, Equal, Greater}
+use Rattle.std.specs.List.{concat}
 use Rattle.std.specs.List.Sorted.{IsStrictlyIncreasing}
 use Rattle.std.specs.Ordering.{nat_cmp, ordering_then, MatchOrdering}
 use Rattle.std.specs.Cmp.Lexicographic.{slice_cmp}
 use Rattle.std.specs.Cmp.{ranked}
-use Rattle.std.proofs.lemmas.Bool.{cases_lt, eq-eqb, ne_eqb}
-use Rattle.std.proofs.lemmas.Bool.Decides.{nat_tests}
-use Rattle.zerotrie_core.specs.Kind.{Kind, simple_ascii, edge_limit, fold_byte}
-use Rattle.zerotrie_core.specs.Numbers.{Spells, spelled}
+use Rattle.zerotrie_core.specs.Kind.{Kind, simple_ascii, fold_byte}
+use Rattle.zerotrie_core.specs.Numbers.{spelled}
 use Rattle.zerotrie_core.specs.Maps.{Pairs, with_front, begins_some, edges, residual, value_at, FirstAbove, Ascends}
-use Rattle.zerotrie_core.specs.Branches.{IsBranch, IsTable, IsWidth, blocks, offsets}
+use Rattle.zerotrie_core.specs.Branches.{IsBranch, blocks, offsets}
 use Rattle.zerotrie_core.specs.Branches.IsTable.{sorted}
+use Rattle.zerotrie_core.specs.Encoding.{AsciiKey, AsciiKeys}
 use Rattle.zerotrie_core.specs.Texts.{Lists, ListEach, NoValueFirst}
 use Rattle.zerotrie_core.specs.Texts.Lists.{nothing, value, literal, branch}
 use Rattle.zerotrie_core.specs.Texts.ListEach.{no_edge, edge}
 use Rattle.zerotrie_core.specs.Canonical.{enc_to, node, branch_node, value_node, width}
-use Rattle.zerotrie_core.proofs.EdgeLemmas.{Rise, Rise-lower, member, filter-range, begins_some-append, begins_some-front, residual-append, residual-front, residual-other}
+use Rattle.zerotrie_core.proofs.EdgeLemmas.{Rise, member, filter-range, begins_some-append, begins_some-front, residual-append, residual-front, residual-other}
 use Rattle.zerotrie_core.proofs.CanonLaws.{Shorter, Shorter-parts, Shorter-front, nil_end, bytes_end, width_right, edges_value, shorter_none, enc_step, edges_none}
 use Rattle.zerotrie_core.proofs.ReaderLemmas.{value_at-append, value_at-no_key, extender_one}
 use Rattle.zerotrie_core.proofs.TextLaws.{lists_once}
 use Rattle.zerotrie_core.proofs.NumberLaws.{spells_spelled}
-
-abbrev pub AsciiKey : List ℕ → Type 0
-AsciiKey [] = Unit {0}
-AsciiKey (b ∷ key) = (b < 128) × AsciiKey key
-
--- the bytes of each key are ASCII
-abbrev pub AsciiKeys : Pairs → Type 0
-AsciiKeys [] = Unit {0}
-AsciiKeys (e ∷ pairs) = AsciiKey e.0 × AsciiKeys pairs
 
 -- pairs without the empty key, by their first bytes, which rise from low on
 data Groups : ℕ → List ℕ → Pairs → Type 0 where
@@ -134,7 +124,7 @@ no_empty [] h up = tt
 no_empty (([], v) ∷ pairs) h up = absurd (cc)
 no_empty ((b ∷ k, v) ∷ pairs) h up = no_empty pairs (above_nil (b ∷ k) pairs up.0) up.1
 
-rise_count : (low high : ℕ) (es : List ℕ) → low ≤ high → Rise low high es → length es + low ≤ high
+pub rise_count : (low high : ℕ) (es : List ℕ) → low ≤ high → Rise low high es → length es + low ≤ high
 rise_count low high [] h r = omega arith
 rise_count low high (e ∷ es) h r = let more = rise_count (suc e) high es (omega (arith, r.1)) r.2 in omega (arith, r.0)
 
@@ -158,7 +148,7 @@ rise_next low high (e ∷ []) r k h = absurd (omega arith)
 rise_next low high (e ∷ f ∷ es) r zero h = omega (arith, r.2.0)
 rise_next low high (e ∷ f ∷ es) r (suc k) h = rise_next (suc e) high (f ∷ es) r.2 k (omega arith)
 
-rise_increasing : (low high : ℕ) (es : List ℕ) → Rise low high es → IsStrictlyIncreasing (map (fold_byte simple_ascii) es)
+pub rise_increasing : (low high : ℕ) (es : List ℕ) → Rise low high es → IsStrictlyIncreasing (map (fold_byte simple_ascii) es)
 rise_increasing low high es r k h =
     let n = fold_length es in
     let next = rise_next low high es r k (omega arith) in
@@ -192,7 +182,7 @@ branch_made es targets rise ascii two count fits =
       bytes_are = refl;
     }
 
-branch_no_value : {es : List ℕ} {targets : List (List ℕ)} {bytes : List ℕ} → IsBranch simple_ascii es targets bytes → NoValueFirst bytes
+pub branch_no_value : {es : List ℕ} {targets : List (List ℕ)} {bytes : List ℕ} → IsBranch simple_ascii es targets bytes → NoValueFirst bytes
 branch_no_value {targets = targets} b =
     subst NoValueFirst (ap (λ h. h ++ (b.table ++ (blocks (b.width + 1) (offsets targets) ++ concat targets))) (sym b.is_head.bytes_are) ∙ sym b.bytes_are)
     (λ four. let digit = b.is_head.digit_below in let one = extender_one b.is_head.trail in omega arith)

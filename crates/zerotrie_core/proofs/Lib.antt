@@ -14,3 +14,10 @@ pub mod EncodeLaws
 pub mod SizeLaws
 pub mod OrderLaws
 pub mod NodeLaws
+pub mod ItemLemmas
+pub mod ListedLemmas
+pub mod FitsLaws
+pub mod GroupLemmas
+pub mod CutLemmas
+pub mod RefusalLemmas
+pub mod MeansLaws

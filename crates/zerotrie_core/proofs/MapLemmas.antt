@@ -1,11 +1,10 @@
 -- The map of a list of pairs answers as the list.
-use Rattle.std.proofs.Common.{◌≡◌, ℕ, List, [], ◌∷◌, refl, sym, ◌∙◌, ap, arith, Option, Some, None, cond, Bool, true, false, eqb, map}
-use Rattle.std.specs.Prelude.{◌&&◌}
-use Rattle.std.specs.FinMap.{FinMap, from_entries, entries, find, get, get-from_entries, get-entries}
+use Rattle.std.proofs.Common.{◌≡◌, ℕ, List, [], ◌∷◌, refl, sym, ◌∙◌, ap, Option}
+use Rattle.std.specs.FinMap.{entries, find, get-from_entries, get-entries}
 use Rattle.std.specs.Cmp.{unsigned_ties, eq_by_cmp_equiv}
 use Rattle.std.specs.Cmp.Lexicographic.{slice_cmp, nat_list_cmp_total, lists_ties}
-use Rattle.std.specs.Ordering.{nat_cmp, eq_by_cmp, is_eq, ordering_then}
-use Rattle.zerotrie_core.specs.Kind.{Kind, simple_ascii, same_byte, fold_byte}
+use Rattle.std.specs.Ordering.{nat_cmp, eq_by_cmp}
+use Rattle.zerotrie_core.specs.Kind.{Kind, simple_ascii}
 use Rattle.zerotrie_core.specs.Maps.{Pairs, Map, map_of, value_at, same_key, look}
 use Rattle.zerotrie_core.specs.Texts.{Means, nodes}
 use Rattle.zerotrie_core.proofs.ReaderLemmas.{AlwaysFinds}

@@ -1,10 +1,9 @@
 -- Laws of the spellings alone.
-use Rattle.std.proofs.Common.{◌≡◌, ◌≢◌, ℕ, zero, suc, ◌+◌, ◌-◌, ◌*◌, ◌/◌, ◌%◌, ◌^◌, ◌<◌, ◌≤◌, List, [], ◌∷◌, ◌++◌, length, refl, sym, ◌∙◌, ap, subst, arith, inl, inr, ◌⊎◌, zero-add, length-append}
+use Rattle.std.proofs.Common.{◌≡◌, ℕ, zero, suc, ◌+◌, ◌-◌, ◌*◌, ◌/◌, ◌%◌, ◌^◌, ◌<◌, ◌≤◌, List, [], ◌∷◌, ◌++◌, length, refl, sym, ◌∙◌, ap, subst, arith, inl, inr, ◌⊎◌, zero-add}
 use Rattle.std.proofs.lemmas.Bool.{cases_lt, lt-ltb, le-ltb}
-use Rattle.std.specs.Prelude.{if◌then◌else◌, ◌==◌}
 use Rattle.std.proofs.Common.{lit≤, lit<}
 use Rattle.std.proofs.Math.Nat.{pow-suc, mul-le-mul_right, div-one, div-div-eq-div-mul, div-lt_iff_lt-mul, one-le-pow}
-use Rattle.zerotrie_core.specs.Numbers.{IsTrail, base_128, latent, extender, Spells, BeginsWith, trails_from, trail_bytes, spelled}
+use Rattle.zerotrie_core.specs.Numbers.{IsTrail, base_128, latent, extender, Spells, trails_from, trail_bytes, spelled}
 use Rattle.zerotrie_core.proofs.NumberLemmas.{base_128-shift}
 use Rattle.zerotrie_core.proofs.ReaderLemmas.{one_reading}
 

@@ -1,12 +1,12 @@
 -- Lemmas on numbers of variable length.
-use Rattle.std.proofs.Common.{◌≡◌, ◌≢◌, ℕ, zero, suc, ◌+◌, ◌-◌, ◌*◌, ◌/◌, ◌%◌, ◌^◌, ◌<◌, ◌≤◌, List, [], ◌∷◌, ◌++◌, length, refl, sym, ◌∙◌, ap, subst, arith, Option, Some, None, cond, ltb, eqb, Bool, true, false, get_or, take, drop, ◌⊎◌, inl, inr}
+use Rattle.std.proofs.Common.{◌≡◌, ℕ, suc, ◌+◌, ◌*◌, ◌/◌, ◌%◌, ◌^◌, ◌<◌, ◌≤◌, List, [], ◌∷◌, ◌++◌, length, refl, sym, ◌∙◌, ap, arith, Option, Some, None, cond, ltb, eqb, Bool, true, false, get_or, drop, ◌⊎◌, inl, inr}
 use Rattle.std.proofs.Math.Nat.{pow-suc, mod-lt}
 use Rattle.std.proofs.lemmas.Nat.{div-add-mod'}
 use Rattle.std.proofs.Math.Seq.{drop-cons}
 use Rattle.std.proofs.Math.Arith.{mod-mul, digits_mod, digits_div}
 use Rattle.std.proofs.lemmas.List.{drop_all}
 use Rattle.std.proofs.lemmas.Bool.{ltb-true, ltb-false, lt-ltb, le-ltb, eqb-true, eqb-false, ne_eqb}
-use Rattle.zerotrie_core.specs.Numbers.{IsTrail, base_128, latent, extender, Spells, BeginsWith}
+use Rattle.zerotrie_core.specs.Numbers.{IsTrail, base_128, latent, extender, BeginsWith}
 
 -- what a reader finds behind the digit a
 abbrev pub read_from : ℕ → ℕ → List ℕ → Option (ℕ × List ℕ)

@@ -1,18 +1,17 @@
 -- The pairs of a text ascend, so they are the entries of their map.
-use Rattle.std.proofs.Common.{◌≡◌, ℕ, zero, suc, ◌+◌, ◌<◌, ◌≤◌, List, [], ◌∷◌, ◌++◌, length, refl, sym, ◌∙◌, ap, subst, arith, map, Option, None, Some, Ordering, Less, Equal, Greater, Bool, true, false}
-use Rattle.std.specs.FinMap.{FinMap, from_entries, entries, entries-insert, insert, put, empty, len-entries, len-empty}
+use Rattle.std.proofs.Common.{◌≡◌, ℕ, suc, ◌<◌, List, [], ◌∷◌, ◌++◌, length, refl, sym, ◌∙◌, ap, arith, None, Less, Equal}
+use Rattle.std.specs.FinMap.{entries, entries-insert, put, len-entries, len-empty}
 use Rattle.std.proofs.lemmas.List.{nil_from_length}
-use Rattle.std.specs.Ordering.{nat_cmp, ordering_then, MatchOrdering}
+use Rattle.std.specs.Ordering.{nat_cmp}
 use Rattle.std.specs.Cmp.{nat_cmp_is}
 use Rattle.std.specs.Cmp.Lexicographic.{slice_cmp, nat_list_cmp_total}
-use Rattle.zerotrie_core.specs.Kind.{Kind, simple_ascii}
+use Rattle.zerotrie_core.specs.Kind.{simple_ascii}
 use Rattle.zerotrie_core.specs.Maps.{Pairs, Map, map_of, with_front, value_at, longest}
 use Rattle.zerotrie_core.specs.Maps.{FirstAbove, Ascends}
-use Rattle.zerotrie_core.specs.Branches.{IsBranch}
-use Rattle.zerotrie_core.specs.Texts.{Lists, ListEach, Means, NoValueFirst}
+use Rattle.zerotrie_core.specs.Texts.{Lists, ListEach, Means}
 use Rattle.zerotrie_core.specs.Texts.Lists.{nothing, value, literal, branch}
 use Rattle.zerotrie_core.specs.Texts.ListEach.{no_edge, edge}
-use Rattle.zerotrie_core.specs.Canonical.{enc, enc_to, size, size_to}
+use Rattle.zerotrie_core.specs.Canonical.{enc, enc_to, size}
 use Rattle.zerotrie_core.proofs.EdgeLemmas.{Rise}
 use Rattle.zerotrie_core.proofs.CanonLaws.{no_value, branch_rise, lists_enc, Shorter, lists_some}
 use Rattle.zerotrie_core.proofs.SizeLaws.{length-enc_to}
@@ -71,7 +70,7 @@ entries-map_of [] h = nil_from_length (entries (map_of [])) (sym (len-entries (m
 entries-map_of (e ∷ pairs) h =
     entries-insert nat_list_cmp_total (map_of pairs) e.0 e.1 ∙ ap (put (slice_cmp nat_cmp) e.0 e.1) (entries-map_of pairs h.1) ∙ put_first e.0 e.1 pairs h.0
 
-longest_shorter : (pairs : Pairs) (d : ℕ) → longest pairs < d → Shorter d pairs
+pub longest_shorter : (pairs : Pairs) (d : ℕ) → longest pairs < d → Shorter d pairs
 longest_shorter [] d h = tt
 longest_shorter (e ∷ pairs) d h = (omega arith, longest_shorter pairs d (omega arith))
 

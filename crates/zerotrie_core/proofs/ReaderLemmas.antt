@@ -1,5 +1,5 @@
 -- A look-up against the grammar.
-use Rattle.std.proofs.Common.{◌≡◌, ◌≢◌, ℕ, zero, suc, ◌+◌, ◌-◌, ◌*◌, ◌/◌, ◌%◌, ◌^◌, ◌<◌, ◌≤◌, List, [], ◌∷◌, ◌++◌, length, refl, sym, ◌∙◌, ap, subst, arith, Option, Some, None, cond, ltb, eqb, Bool, true, false, map, inl, inr, ◌⊎◌}
+use Rattle.std.proofs.Common.{◌≡◌, ℕ, suc, ◌+◌, ◌*◌, ◌<◌, ◌≤◌, List, [], ◌∷◌, ◌++◌, length, refl, sym, ◌∙◌, ap, subst, arith, Option, Some, None, cond, Bool, true, false, map, inl, inr, ◌⊎◌}
 use Rattle.zerotrie_core.specs.Kind.{Kind, same_byte, fold_byte}
 use Rattle.zerotrie_core.specs.Maps.{Pairs, value_at, same_key, with_front}
 use Rattle.zerotrie_core.specs.Numbers.{Spells, BeginsWith, extender}
@@ -9,10 +9,10 @@ use Rattle.std.proofs.lemmas.Bool.{eqb-true, ne_eqb}
 use Rattle.std.proofs.Common.{length-append}
 use Rattle.zerotrie_core.specs.Branches.{IsBranch, IsTable, blocks, offsets}
 use Rattle.zerotrie_core.specs.Branches.IsTable.{sorted}
-use Rattle.zerotrie_core.specs.Texts.{Lists, ListEach, nodes, nodes_behind, NoValueFirst}
+use Rattle.zerotrie_core.specs.Texts.{Lists, ListEach, nodes, nodes_behind}
 use Rattle.zerotrie_core.specs.Texts.Lists.{nothing, value, literal, branch}
 use Rattle.zerotrie_core.specs.Texts.ListEach.{no_edge, edge}
-use Rattle.zerotrie_core.specs.Reading.{target_of, Ends, Goes, AlwaysEnds, AlwaysGoes, BranchLeads}
+use Rattle.zerotrie_core.specs.Reading.{target_of, Goes, AlwaysEnds, AlwaysGoes, BranchLeads}
 use Rattle.zerotrie_core.proofs.NumberLemmas.{read_is, pair_of}
 
 no_target : (b : Bool) (v : List ℕ) (x : Option (List ℕ)) → cond b (Some v) x ≡ None → (b ≡ false) × (x ≡ None)

@@ -1,8 +1,8 @@
 -- The length of the canonical text.
-use Rattle.std.proofs.Common.{◌≡◌, ℕ, zero, suc, ◌+◌, ◌-◌, ◌*◌, ◌%◌, ◌^◌, List, [], ◌∷◌, ◌++◌, length, refl, sym, ◌∙◌, ap, arith, map, length-append, Option, None, Some, sum}
+use Rattle.std.proofs.Common.{◌≡◌, ℕ, zero, suc, ◌+◌, ◌-◌, ◌*◌, ◌%◌, List, [], ◌∷◌, ◌++◌, length, refl, sym, ◌∙◌, ap, arith, map, length-append, sum}
 use Rattle.std.specs.List.{concat}
 use Rattle.std.proofs.lemmas.List.Sums.{sum_by-cons}
-use Rattle.zerotrie_core.specs.Kind.{Kind, simple_ascii}
+use Rattle.zerotrie_core.specs.Kind.{simple_ascii}
 use Rattle.zerotrie_core.specs.Numbers.{spelled}
 use Rattle.zerotrie_core.specs.Maps.{Pairs, edges, residual, value_at}
 use Rattle.zerotrie_core.specs.Branches.{blocks, offsets}
@@ -12,7 +12,7 @@ use Rattle.zerotrie_core.proofs.BranchLemmas.{length-blocks, length-offsets}
 lengths : List (List ℕ) → List ℕ
 lengths ts = map length ts
 
-length-concat : (ts : List (List ℕ)) → length (concat ts) ≡ sum (map length ts)
+pub length-concat : (ts : List (List ℕ)) → length (concat ts) ≡ sum (map length ts)
 length-concat [] = refl
 length-concat (t ∷ ts) = length-append t (concat ts) ∙ ap (λ n. length t + n) (length-concat ts) ∙ sym (sum_by-cons (λ x. x) (length t) (map length ts))
 
@@ -49,11 +49,11 @@ length-node (b ∷ c ∷ es) [] n = absurd (omega arith)
 length-node (b ∷ c ∷ es) (t ∷ []) n = absurd (omega arith)
 length-node (b ∷ c ∷ es) (t ∷ u ∷ ts) n = length-branch (b ∷ c ∷ es) (t ∷ u ∷ ts) n
 
-same_map : (f g : ℕ → ℕ) (es : List ℕ) → ((b : ℕ) → f b ≡ g b) → map f es ≡ map g es
+pub same_map : (f g : ℕ → ℕ) (es : List ℕ) → ((b : ℕ) → f b ≡ g b) → map f es ≡ map g es
 same_map f g [] h = refl
 same_map f g (e ∷ es) h = ap (λ x. x ∷ map f es) (h e) ∙ ap (λ x. g e ∷ x) (same_map f g es h)
 
-map_map : (f : ℕ → List ℕ) (es : List ℕ) → map length (map f es) ≡ map (λ b. length (f b)) es
+pub map_map : (f : ℕ → List ℕ) (es : List ℕ) → map length (map f es) ≡ map (λ b. length (f b)) es
 map_map f [] = refl
 map_map f (e ∷ es) = ap (λ x. length (f e) ∷ x) (map_map f es)
 

@@ -1,20 +1,16 @@
 -- The head and the search table of a branch.
-use Rattle.std.proofs.Common.{◌≡◌, ◌≢◌, ℕ, zero, suc, ◌+◌, ◌-◌, ◌*◌, ◌/◌, ◌%◌, ◌^◌, ◌<◌, ◌≤◌, List, [], ◌∷◌, ◌++◌, length, refl, sym, ◌∙◌, ap, subst, arith, map, get_or, take, drop, length-append, Option, Some, None, Result, Ok, Err}
+use Rattle.std.proofs.Common.{◌≡◌, ℕ, zero, suc, ◌+◌, ◌-◌, ◌*◌, ◌/◌, ◌%◌, ◌<◌, ◌≤◌, List, [], ◌∷◌, ◌++◌, length, refl, sym, ◌∙◌, ap, subst, arith, get_or, take, drop, length-append, Option, Some, None}
 use Rattle.std.specs.List.{concat}
-use Rattle.std.specs.List.Sorted.{IsBinarySearchResult}
-use Rattle.std.specs.Ordering.{nat_cmp}
-use Rattle.std.specs.Prelude.{MatchResult}
 use Rattle.std.specs.Borrow.{Bor}
 use Rattle.std.specs.Option.{option_map, IsSomeAnd}
 use Rattle.std.proofs.lemmas.Bool.{cases_lt}
 use Rattle.std.proofs.Common.{inl, inr}
 use Rattle.std.proofs.lemmas.List.{take_at, drop_at}
-use Rattle.std.proofs.lemmas.List.Sorted.{searched}
-use Rattle.zerotrie_core.specs.Kind.{Kind, simple_ascii, same_byte, fold_byte, tag, greatest_width}
-use Rattle.zerotrie_core.specs.Numbers.{Spells, BeginsWith}
+use Rattle.zerotrie_core.specs.Kind.{Kind, simple_ascii, tag}
+use Rattle.zerotrie_core.specs.Numbers.{BeginsWith}
 use Rattle.zerotrie_core.specs.Branches.{IsBranch, IsTable, blocks, offsets}
 use Rattle.zerotrie_core.specs.Branches.IsTable.{sorted}
-use Rattle.zerotrie_core.specs.Reading.{target_of, BranchLeads, IsTargets, AlwaysRises}
+use Rattle.zerotrie_core.specs.Reading.{target_of, IsTargets, AlwaysRises}
 use Rattle.zerotrie_core.proofs.ReaderLemmas.{one_reading, Rises, AllAbove, table_rises}
 use Rattle.zerotrie_core.proofs.KindLemmas.{same_itself, other_byte}
 

@@ -1,19 +1,19 @@
 -- Laws of the grammar alone.
-use Rattle.std.proofs.Common.{◌≡◌, ◌≢◌, ℕ, zero, suc, ◌+◌, ◌-◌, ◌*◌, ◌/◌, ◌%◌, ◌^◌, ◌<◌, ◌≤◌, List, [], ◌∷◌, ◌++◌, length, refl, sym, ◌∙◌, ap, subst, arith, inl, inr, ◌⊎◌, get_or, take, drop, map, length-append}
+use Rattle.std.proofs.Common.{◌≡◌, ℕ, zero, suc, ◌+◌, ◌-◌, ◌*◌, ◌<◌, List, [], ◌∷◌, ◌++◌, length, refl, sym, ◌∙◌, ap, subst, arith, inl, inr, get_or, take, drop}
 use Rattle.std.specs.List.{concat}
 use Rattle.std.proofs.lemmas.List.{take_at, drop_at}
 use Rattle.std.proofs.lemmas.Bool.{cases_lt}
 use Rattle.zerotrie_core.specs.Kind.{Kind}
-use Rattle.zerotrie_core.specs.Numbers.{Spells, BeginsWith, extender}
+use Rattle.zerotrie_core.specs.Numbers.{Spells, extender}
 use Rattle.zerotrie_core.specs.Maps.{Pairs, Map, with_front, map_of}
-use Rattle.zerotrie_core.specs.Branches.{IsBranch, IsTable, blocks, offsets}
-use Rattle.zerotrie_core.specs.Texts.{Lists, ListEach, Means, NoValueFirst}
+use Rattle.zerotrie_core.specs.Branches.{IsBranch, blocks, offsets}
+use Rattle.zerotrie_core.specs.Texts.{Lists, ListEach, Means}
 use Rattle.zerotrie_core.specs.Texts.Lists.{nothing, value, literal, branch}
 use Rattle.zerotrie_core.specs.Texts.ListEach.{no_edge, edge}
 use Rattle.zerotrie_core.specs.Reading.{IsTargets, number_from}
 use Rattle.zerotrie_core.proofs.NumberLaws.{no_front}
-use Rattle.zerotrie_core.proofs.BranchLemmas.{table_is, targets_are, offset_is, target_between, all_of, next_end}
-use Rattle.zerotrie_core.proofs.TableLemmas.{read_branch, table_read, targets_read, Read, branch_begins, table_is_edges}
+use Rattle.zerotrie_core.proofs.BranchLemmas.{table_is, targets_are, offset_is, target_between, all_of}
+use Rattle.zerotrie_core.proofs.TableLemmas.{table_is_edges}
 use Rattle.zerotrie_core.proofs.ReaderLemmas.{value_lead, branch_lead}
 
 -- the ends of two lists of targets that lie in the same bytes

@@ -1,5 +1,5 @@
 -- What holds of the pairs where a build of them is refused.
-use Rattle.std.specs.Prelude.{ℕ, ◌≤◌, Any}
+use Rattle.std.specs.Prelude.{◌≤◌, Any}
 use Rattle.zerotrie_core.specs.Kind.{Kind, edge_limit}
 use Rattle.zerotrie_core.specs.Maps.{Pairs, map_of, Ascends, RepeatsKey, IsCaseConsistent}
 use Rattle.zerotrie_core.specs.Fits.{ExceedsCapacity}

@@ -1,5 +1,5 @@
 -- What a look-up reads of a node.
-use Rattle.std.specs.Prelude.{ℕ, ◌<◌, ◌≤◌, List, length}
+use Rattle.std.specs.Prelude.{ℕ, ◌<◌, List, length}
 use Rattle.zerotrie_core.specs.Kind.{Kind}
 use Rattle.zerotrie_core.specs.Reading.{AlwaysEnds, AlwaysGoes}
 use Rattle.zerotrie_core.specs.declared.reader.Descent.{Descent}

@@ -8,6 +8,7 @@ pub mod Canonical
 pub mod Fits
 pub mod Causes
 pub mod Items
+pub mod Encoding
 pub mod Reading
 pub mod Descending
 pub mod Laws

@@ -3,7 +3,7 @@
 //! Each function does nothing: calling one brings its law into a proof.
 
 ghost use Rattle.zerotrie_core.specs.Kind.{simple_ascii};
-ghost use Rattle.zerotrie_core.specs.Laws.{EachIsSpelled, OneSpelling, MetadataAlone, NoneLonger, OneMeaning, MeansCanonical, LengthIsSize, FewNodes};
+ghost use Rattle.zerotrie_core.specs.Laws.{EachIsSpelled, OneSpelling, MetadataAlone, NoneLonger, OneMeaning, CanonicalMeans, MeansCanonical, MeansFits, LengthIsSize, FewNodes};
 
 /// Numbers below 2^64 have exactly one spelling in each form. Other metadata changes these bits alone, and
 /// no spelling is the front of a longer one.
@@ -19,9 +19,11 @@ pub fn one_meaning()
     ensures { OneMeaning }
 {}
 
-/// Bytes that mean a map are its canonical text.
+/// Bytes mean a map exactly if the map fits and they are its canonical text.
 pub fn canonical_exactly()
-    ensures { MeansCanonical simple_ascii }
+    ensures means { CanonicalMeans simple_ascii }
+    ensures text { MeansCanonical simple_ascii }
+    ensures fits { MeansFits simple_ascii }
 {}
 
 /// Bytes that mean a map have its size.

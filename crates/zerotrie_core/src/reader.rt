@@ -95,7 +95,11 @@ fn target_at(body: &[u8], place: usize, edges: usize, width: usize) -> Option<&[
     let before = offset_at(table, place.saturating_sub(1), count, width);
     let behind = offset_at(table, place.min(count - 1), count, width);
     let from = if place == 0 { 0 } else { before };
-    let to = if place == count { targets.len() } else { behind };
+    let to = if place == count {
+        targets.len()
+    } else {
+        behind
+    };
     targets.get(from..to)
 }
 

@@ -1,5 +1,13 @@
 use Rattle.zerotrie_core.proofs.OrderLaws.{means_enc}
+use Rattle.zerotrie_core.proofs.FitsLaws.{fits_meant}
+use Rattle.zerotrie_core.proofs.MeansLaws.{enc_means}
 use Rattle.zerotrie_core.proofs.laws.canonical_exactly.Goals as goal
 
-pub returns : goal.returns
-returns c = means_enc
+pub returns-clause-means : goal.returns-clause-means
+returns-clause-means c = enc_means
+
+pub returns-clause-text : goal.returns-clause-text
+returns-clause-text c = means_enc
+
+pub returns-clause-fits : goal.returns-clause-fits
+returns-clause-fits c = fits_meant

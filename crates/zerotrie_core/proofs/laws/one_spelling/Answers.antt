@@ -1,5 +1,5 @@
-use Rattle.std.proofs.Common.{◌≡◌, ◌++◌, [], ◌+◌, ◌*◌, ◌<◌, arith, sym, ap, refl}
-use Rattle.zerotrie_core.proofs.NumberLaws.{one_spelling, no_front, with_metadata, spells_spelled, below_metadata}
+use Rattle.std.proofs.Common.{◌++◌, [], sym}
+use Rattle.zerotrie_core.proofs.NumberLaws.{one_spelling, no_front, spells_spelled, below_metadata}
 use Rattle.zerotrie_core.proofs.CanonLaws.{bytes_end}
 use Rattle.zerotrie_core.proofs.laws.one_spelling.Goals as goal
 

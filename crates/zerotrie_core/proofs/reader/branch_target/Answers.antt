@@ -1,6 +1,5 @@
-use Rattle.std.proofs.Common.{◌≡◌, ◌*◌, ◌+◌, ◌-◌, ◌/◌, ◌%◌, ◌<◌, ◌≤◌, ◌^◌, ◌∷◌, length, arith, get_or, drop, take, ap, sym, ◌∙◌, refl, subst, ℕ, List, suc}
-use Rattle.zerotrie_core.specs.Branches.{IsBranch}
-use Rattle.zerotrie_core.proofs.TableLemmas.{no_branch, read_branch, narrow, edges_fit, table_read, targets_read, mapped, hit_target, miss_target, Read}
+use Rattle.std.proofs.Common.{◌≡◌, length, arith, sym, ◌∙◌}
+use Rattle.zerotrie_core.proofs.TableLemmas.{no_branch, read_branch, narrow, edges_fit, table_read, targets_read, mapped, hit_target, miss_target}
 use Rattle.zerotrie_core.proofs.reader.branch_target.Goals as goal
 use Rattle.zerotrie_core.proofs.reader.branch_target.Goals.{then-head-eq0, else-head-eq0, then-width-gt3-via-then-width-gt3, then-width-gt3-via-else-width-gt3+then-edges-lt2}
 
@@ -12,18 +11,18 @@ returns-then-width-gt3-clause-target g c edges targets b =
     let r = read_branch c.args.lead _ c.in_ok-head.head c.args.rest.now c.in_ok-head.body.now b c.in_ok-head.ensures.found in
     elim c.then-width-gt3.branch [
       | then-width-gt3-via-then-width-gt3 w ↦
-        let small = narrow (sym g.K.ZeroTrieWithOptions.tag_is ∙ c.requires) b c.in_ok-head.head c.in_ok-head.body.now b r in
-        let large = w.if-width-gt3.true in
-        absurd (omega arith)
+          let small = narrow (sym g.K.ZeroTrieWithOptions.tag_is ∙ c.requires) b c.in_ok-head.head c.in_ok-head.body.now b r in
+          let large = w.if-width-gt3.true in
+          absurd (omega arith)
       | then-width-gt3-via-else-width-gt3+then-edges-lt2 w ↦
-        let same = r.count in
-        let two = b.two in
-        let most = b.at_most in
-        let few = w.if-edges-lt2.true in
-        elim c.if-head-eq0.branch [
-          | then-head-eq0 v ↦ let e = v.edges-is in absurd (omega arith)
-          | else-head-eq0 v ↦ let e = v.edges-is in let z = v.if-head-eq0.false in absurd (omega arith)
-        ]
+          let same = r.count in
+          let two = b.two in
+          let most = b.at_most in
+          let few = w.if-edges-lt2.true in
+          elim c.if-head-eq0.branch [
+            | then-head-eq0 v ↦ let e = v.edges-is in absurd (omega arith)
+            | else-head-eq0 v ↦ let e = v.edges-is in let z = v.if-head-eq0.false in absurd (omega arith)
+          ]
     ]
 
 pub returns-in_err-table-clause-target : goal.returns-in_err-table-clause-target

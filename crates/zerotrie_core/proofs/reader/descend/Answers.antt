@@ -1,10 +1,9 @@
-use Rattle.std.proofs.Common.{◌≡◌, ◌+◌, ◌∷◌, ◌≤◌, ◌<◌, length, arith, subst, sym, ap, refl, None, Some, List, ℕ, Option, [], drop, take, ◌∙◌}
+use Rattle.std.proofs.Common.{◌∷◌, arith, subst, sym, None, Some, ◌∙◌}
 use Rattle.std.proofs.lemmas.List.{nil_from_length}
 use Rattle.std.proofs.lemmas.Bool.{eqb-true, eqb-false}
-use Rattle.zerotrie_core.specs.Descending.{Descends}
-use Rattle.zerotrie_core.specs.Reading.{AlwaysEnds, AlwaysGoes, BranchLeads}
+use Rattle.zerotrie_core.specs.Reading.{AlwaysEnds, AlwaysGoes}
 use Rattle.zerotrie_core.proofs.KindLemmas.{same_itself, other_byte}
-use Rattle.zerotrie_core.proofs.ReaderLemmas.{literal_goes, literal_stops, literal_ends, branch_ends, branch_stops, branch_goes, span_ends, value_ends, value_passed, value_fails, after_shorter}
+use Rattle.zerotrie_core.proofs.ReaderLemmas.{literal_goes, literal_stops, literal_ends, branch_ends, branch_stops, branch_goes, value_ends, value_passed, value_fails, after_shorter}
 use Rattle.zerotrie_core.proofs.reader.descend.Goals as goal
 
 pub returns-in-None : goal.returns-in-None

@@ -1,8 +1,7 @@
-use Rattle.std.proofs.Common.{◌≡◌, ◌+◌, ◌∷◌, ◌≤◌, length, arith, subst, sym, ap, refl, None, List, ℕ, Option, [], drop, take}
+use Rattle.std.proofs.Common.{◌+◌, arith, subst, sym, None}
 use Rattle.std.proofs.lemmas.List.{nil_from_length}
 use Rattle.zerotrie_core.specs.Reading.{AlwaysEnds, AlwaysGoes}
-use Rattle.zerotrie_core.specs.Descending.{Descends}
-use Rattle.zerotrie_core.proofs.ReaderLemmas.{AlwaysCame, AlwaysFinds, came_nowhere, came_more, finds_at_end, finds_nothing}
+use Rattle.zerotrie_core.proofs.ReaderLemmas.{AlwaysFinds, came_nowhere, came_more, finds_at_end, finds_nothing}
 use Rattle.zerotrie_core.proofs.MapLemmas.{value_found, count_found}
 use Rattle.zerotrie_core.proofs.reader.get_counted.Goals as goal
 

@@ -1,4 +1,4 @@
-use Rattle.std.proofs.Common.{◌≡◌, ◌*◌, ◌+◌, ◌-◌, ◌<◌, ◌≤◌, ◌^◌, length, arith, get_or, drop, take, ap, sym, ◌∙◌, refl, subst, ℕ, List}
+use Rattle.std.proofs.Common.{◌≡◌, ◌<◌, arith, get_or, refl, subst, ℕ}
 use Rattle.zerotrie_core.specs.Reading.{number_from}
 use Rattle.zerotrie_core.proofs.BranchLemmas.{rest_long, below_more, number_more, none_left, all_left}
 use Rattle.zerotrie_core.proofs.reader.offset_at.Goals as goal

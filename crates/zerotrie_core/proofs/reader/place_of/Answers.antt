@@ -1,6 +1,5 @@
-use Rattle.std.proofs.Common.{◌≡◌, ◌≢◌, ℕ, ◌+◌, ◌-◌, ◌/◌, ◌<◌, ◌≤◌, length, get_or, arith, inl, inr}
+use Rattle.std.proofs.Common.{◌+◌, ◌/◌, get_or, arith, inl, inr}
 use Rattle.std.proofs.lemmas.Bool.{cases_lt}
-use Rattle.zerotrie_core.specs.Reading.{AlwaysRises}
 use Rattle.zerotrie_core.proofs.TableLemmas.{bounded_place, below_middle, above_middle}
 use Rattle.zerotrie_core.proofs.reader.place_of.Goals as goal
 
@@ -13,7 +12,7 @@ pub loop-left-init : goal.loop-left-init
 loop-left-init c = record {
   some = omega arith;
   inside = omega arith;
-  within = λ up k h is. (let bounds = bounded_place c.args.table.now c.args.byte k c.in_ok-end.end up (omega (arith, c.in_ok-end.ensures)) h is in (omega arith, omega arith))
+  within = λ up k h is. (let bounds = bounded_place c.args.table.now c.args.byte k c.in_ok-end.end up (omega (arith, c.in_ok-end.ensures)) h is in (omega arith, omega arith));
 }
 
 pub loop-left-preserved : goal.loop-left-preserved
@@ -21,17 +20,17 @@ loop-left-preserved c =
     let mid = c.loop-left.base + c.loop-left.left / 2 in
     elim (cases_lt c.args.byte (get_or c.args.table.now mid 0)) [
       | inl above ↦
-        let e = c.half_passed-base.ensures.stayed above in
-        record {
-          some = omega arith;
-          inside = omega arith;
-          within = λ up k h is. (let w = c.loop-left.invariant.within up k h is in let b = below_middle c.args.table.now c.args.byte mid k up h is above in (omega arith, omega arith))
-        }
+          let e = c.half_passed-base.ensures.stayed above in
+          record {
+            some = omega arith;
+            inside = omega arith;
+            within = λ up k h is. (let w = c.loop-left.invariant.within up k h is in let b = below_middle c.args.table.now c.args.byte mid k up h is above in (omega arith, omega arith));
+          }
       | inr not_above ↦
-        let e = c.half_passed-base.ensures.passed not_above in
-        record {
-          some = omega arith;
-          inside = omega arith;
-          within = λ up k h is. (let w = c.loop-left.invariant.within up k h is in let b = above_middle c.args.table.now c.args.byte mid k up (omega arith) is not_above in (omega arith, omega arith))
-        }
+          let e = c.half_passed-base.ensures.passed not_above in
+          record {
+            some = omega arith;
+            inside = omega arith;
+            within = λ up k h is. (let w = c.loop-left.invariant.within up k h is in let b = above_middle c.args.table.now c.args.byte mid k up (omega arith) is not_above in (omega arith, omega arith));
+          }
     ]

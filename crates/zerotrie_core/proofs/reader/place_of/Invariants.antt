@@ -6,7 +6,7 @@ abbrev pub invariant-loop-left : goal.invariant-loop-left
 invariant-loop-left l = record {
   some : 0 < l.left;
   inside : l.base + l.left ≤ length l.table;
-  within : AlwaysRises l.table → (k : ℕ) → k < length l.table → get_or l.table k 0 ≡ l.byte → (l.base ≤ k) × (k < l.base + l.left)
+  within : AlwaysRises l.table → (k : ℕ) → k < length l.table → get_or l.table k 0 ≡ l.byte → (l.base ≤ k) × (k < l.base + l.left);
 }
 
 abbrev pub decreases-loop-left : goal.decreases-loop-left

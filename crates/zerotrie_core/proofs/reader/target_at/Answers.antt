@@ -1,6 +1,6 @@
-use Rattle.std.proofs.Common.{◌≡◌, ◌*◌, ◌+◌, ◌-◌, ◌<◌, ◌≤◌, ◌^◌, length, arith, get_or, drop, take, ap, sym, ◌∙◌, refl, subst, ℕ, List, suc}
+use Rattle.std.proofs.Common.{◌≡◌, ◌-◌, length, arith, take, ap, sym, ◌∙◌, suc}
 use Rattle.std.specs.List.{concat}
-use Rattle.zerotrie_core.specs.Reading.{number_from, IsTargets}
+use Rattle.zerotrie_core.specs.Reading.{number_from}
 use Rattle.zerotrie_core.proofs.BranchLemmas.{table_fits, begins_at, ends_at, last_ends, target_got}
 use Rattle.zerotrie_core.proofs.reader.target_at.Goals as goal
 use Rattle.zerotrie_core.proofs.reader.target_at.Goals.{then-place-eq0, else-place-eq0, then-place-count, else-place-count}

@@ -1,4 +1,4 @@
-use Rattle.std.proofs.Common.{◌≡◌, ◌*◌, ◌/◌, ◌%◌, ◌+◌, drop}
+use Rattle.std.proofs.Common.{◌≡◌, ◌%◌, drop}
 use Rattle.zerotrie_core.proofs.varint.read_number.Given as goal
 use Rattle.zerotrie_core.proofs.NumberLemmas.{read_from}
 

@@ -1,6 +1,6 @@
-use Rattle.std.proofs.Common.{◌≡◌, ◌+◌, ◌*◌, ◌-◌, ◌/◌, ◌%◌, ◌∷◌, arith, sym, ◌∙◌, ap, rules, List, ℕ}
+use Rattle.std.proofs.Common.{◌≡◌, ◌+◌, ◌*◌, ◌-◌, ◌%◌, ◌∷◌, arith, ◌∙◌, ap}
 use Rattle.zerotrie_core.specs.Numbers.{extender}
-use Rattle.zerotrie_core.proofs.WriteLemmas.{completes_more, completed}
+use Rattle.zerotrie_core.proofs.WriteLemmas.{completes_more}
 use Rattle.zerotrie_core.proofs.varint.write_number.Goals as goal
 
 pub loop-value-preserved : goal.loop-value-preserved

@@ -1,0 +1,5 @@
+use Rattle.zerotrie_core.proofs.ItemLemmas.{AscendsTo}
+use Rattle.zerotrie_core.proofs.plain.is_ascending.Given as goal
+
+abbrev pub invariant-loop-i : goal.invariant-loop-i
+invariant-loop-i l = AscendsTo l.i l.items

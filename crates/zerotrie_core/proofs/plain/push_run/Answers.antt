@@ -1,0 +1,67 @@
+use Rattle.std.proofs.Common.{◌≡◌, ◌+◌, ◌<◌, ◌≤◌, length, arith, drop, take, get_or, sym, ◌∙◌, ap, subst}
+use Rattle.zerotrie_core.specs.Maps.{with_front}
+use Rattle.zerotrie_core.specs.Encoding.{pairs_from, Leads, weight, BeginsAll, BeginsNone}
+use Rattle.zerotrie_core.proofs.ItemLemmas.{key_at}
+use Rattle.zerotrie_core.proofs.GroupLemmas.{leads_value, leads_literal}
+use Rattle.zerotrie_core.proofs.CutLemmas.{ended, deep_next, deep_here, deeper, shared, some_rest, branches, first_at, literal_lighter}
+use Rattle.zerotrie_core.proofs.plain.push_run.Goals as goal
+
+pub loop-at-preserved-then-key_len-depth : goal.loop-at-preserved-then-key_len-depth
+loop-at-preserved-then-key_len-depth c =
+    let inside = c.loop-at-test.true in
+    let k = c.in_ok-push_value.ensures.ok in
+    let is = ended c.loop-at.depth c.loop-at.at c.args.items.now inside (sym c.key_len.ensures ∙ c.if-key_len-depth.true) in
+    record {
+      within = omega arith;
+      deep = deep_next c.loop-at.depth c.loop-at.at c.args.items.now inside c.loop-at.invariant.deep;
+      leads = leads_value _ _ _ k.0 _ _ _ (subst (Leads c.args.out.now.items (pairs_from c.args.depth c.args.items.now) c.loop-at.out.items) is c.loop-at.invariant.leads) k.1 k.2;
+    }
+
+pub loop-at-smaller-then-key_len-depth : goal.loop-at-smaller-then-key_len-depth
+loop-at-smaller-then-key_len-depth c =
+    let is = ap weight (ended c.loop-at.depth c.loop-at.at c.args.items.now c.loop-at-test.true (sym c.key_len.ensures ∙ c.if-key_len-depth.true)) in
+    omega arith
+
+pub returns-then-group_len-rest-clause-deep : goal.returns-then-group_len-rest-clause-deep
+returns-then-group_len-rest-clause-deep c = deeper c.loop-at.depth c.loop-at.at c.args.items.now c.loop-at-test.true (λ e. c.if-key_len-depth.false (c.key_len.ensures ∙ e)) c.loop-at.invariant.deep c.loop-at.invariant.leads.ascends
+
+pub returns-then-group_len-rest-clause-branching : goal.returns-then-group_len-rest-clause-branching
+returns-then-group_len-rest-clause-branching c =
+    let s = c.split_at.ensures.back in
+    let deep = deeper c.loop-at.depth c.loop-at.at c.args.items.now c.loop-at-test.true (λ e. c.if-key_len-depth.false (c.key_len.ensures ∙ e)) c.loop-at.invariant.deep c.loop-at.invariant.leads.ascends in
+    λ h. branches c.loop-at.depth (get_or (key_at c.args.items.now c.loop-at.at) c.loop-at.depth 0) c.group_len.result (drop c.loop-at.at c.args.items.now) deep
+    (ap (λ k. get_or k c.loop-at.depth 0) (first_at c.loop-at.at c.args.items.now c.loop-at-test.true))
+    (subst (λ r. c.group_len.result < length r) s c.if-group_len-rest.true)
+    (subst (λ r. BeginsNone c.loop-at.depth (get_or (key_at c.args.items.now c.loop-at.at) c.loop-at.depth 0) (drop c.group_len.result r)) s c.group_len.ensures.other)
+
+pub overflow_add-depth : goal.overflow_add-depth
+overflow_add-depth c =
+    let n = c.key_len.ensures in let fits = c.key_len.type_inv in
+    let h = deep_here c.loop-at.depth c.loop-at.at c.args.items.now c.loop-at-test.true c.loop-at.invariant.deep in
+    let k : c.loop-at.depth + 1 ≤ length (key_at c.args.items.now c.loop-at.at) = omega arith in
+    omega arith
+
+same : (c : goal.In_ok-push) → pairs_from c.loop-at.depth (drop c.loop-at.at c.args.items.now) ≡ with_front (get_or (key_at c.args.items.now c.loop-at.at) c.loop-at.depth 0) (pairs_from (c.loop-at.depth + 1) (drop c.loop-at.at c.args.items.now))
+same c =
+    let s = c.split_at.ensures.back in
+    shared c.loop-at.depth (get_or (key_at c.args.items.now c.loop-at.at) c.loop-at.depth 0) c.group_len.result (drop c.loop-at.at c.args.items.now)
+    (subst (λ r. length r ≤ c.group_len.result) s c.if-group_len-rest.false)
+    (subst (λ r. BeginsAll c.loop-at.depth (get_or (key_at c.args.items.now c.loop-at.at) c.loop-at.depth 0) (take c.group_len.result r)) s c.group_len.ensures.same)
+
+pub loop-at-smaller : goal.loop-at-smaller
+loop-at-smaller c = literal_lighter _ c.loop-at.depth c.loop-at.at c.args.items.now c.loop-at-test.true (same c)
+
+pub loop-at-preserved : goal.loop-at-preserved
+loop-at-preserved c = record {
+  within = c.loop-at.invariant.within;
+  deep = deeper c.loop-at.depth c.loop-at.at c.args.items.now c.loop-at-test.true (λ e. c.if-key_len-depth.false (c.key_len.ensures ∙ e)) c.loop-at.invariant.deep c.loop-at.invariant.leads.ascends;
+  leads = leads_literal _ _ _ _ _ _ (subst (Leads c.args.out.now.items (pairs_from c.args.depth c.args.items.now) c.loop-at.out.items) (same c) c.loop-at.invariant.leads) (some_rest (c.loop-at.depth + 1) c.loop-at.at c.args.items.now c.loop-at-test.true) c.in_ok-push.ensures.items;
+}
+
+pub returns-then-group_len-rest-clause-room : goal.returns-then-group_len-rest-clause-room
+returns-then-group_len-rest-clause-room c =
+    let n = c.key_len.ensures in
+    let fits = c.key_len.type_inv in
+    let h = deep_here c.loop-at.depth c.loop-at.at c.args.items.now c.loop-at-test.true c.loop-at.invariant.deep in
+    let longer = c.if-key_len-depth.false in
+    λ l. omega arith

@@ -1,0 +1,87 @@
+-- What the parts of the plain encoder do.
+use Rattle.std.specs.Prelude.{◌≡◌, ◌≢◌, ℕ, ◌+◌, ◌*◌, ◌%◌, ◌^◌, ◌<◌, ◌≤◌, ◌⊎◌, List, [], ◌∷◌, ◌++◌, length, map, drop, slice_index}
+use Rattle.zerotrie_core.specs.Kind.{simple_ascii}
+use Rattle.zerotrie_core.specs.Numbers.{Spells}
+use Rattle.zerotrie_core.specs.Maps.{Pairs, with_front, edges, behind_all, Ascends}
+use Rattle.zerotrie_core.specs.Branches.{IsWidth, blocks}
+use Rattle.zerotrie_core.specs.Texts.{Lists}
+use Rattle.zerotrie_core.specs.Fits.{targets_size}
+use Rattle.zerotrie_core.specs.Items.{Items}
+use Rattle.zerotrie_core.specs.declared.error.ZeroTrieBuildError.{ZeroTrieBuildError}
+use Rattle.zerotrie_core.specs.declared.error.ZeroTrieBuildError.TheVariants.{CapacityExceeded, OutOfMemory}
+
+-- the pairs of a slice of items, each key without so many first bytes
+abbrev pub pairs_from : ℕ → Items → Pairs
+pairs_from depth items = map (λ e. (drop depth e.0.now, e.1)) items
+
+-- the bytes of a key are ASCII
+abbrev pub AsciiKey : List ℕ → Type 0
+AsciiKey [] = Unit {0}
+AsciiKey (b ∷ key) = (b < 128) × AsciiKey key
+
+-- the bytes of each key are ASCII
+abbrev pub AsciiKeys : Pairs → Type 0
+AsciiKeys [] = Unit {0}
+AsciiKeys (e ∷ pairs) = AsciiKey e.0 × AsciiKeys pairs
+
+-- no key is shorter
+abbrev pub Deep : ℕ → Items → Type 0
+Deep depth [] = Unit {0}
+Deep depth (e ∷ items) = (depth ≤ length e.0.now) × Deep depth items
+
+-- each key has the byte at the place
+abbrev pub BeginsAll : ℕ → ℕ → Items → Type 0
+BeginsAll depth byte [] = Unit {0}
+BeginsAll depth byte (e ∷ items) = (depth < length e.0.now) × (slice_index e.0.now depth ≡ byte) × BeginsAll depth byte items
+
+-- the first key, if there is one, has not
+abbrev pub BeginsNone : ℕ → ℕ → Items → Type 0
+BeginsNone depth byte [] = Unit {0}
+BeginsNone depth byte (e ∷ items) = depth < length e.0.now → slice_index e.0.now depth ≢ byte
+
+-- the keys and their bytes, counted
+abbrev pub weight : Pairs → ℕ
+weight [] = 0
+weight (e ∷ pairs) = 1 + length e.0 + weight pairs
+
+-- the keys have no first byte in common
+abbrev pub IsBranching : Pairs → Type 0
+IsBranching pairs = (b : ℕ) (behind : Pairs) → pairs ≢ with_front b behind
+
+-- some branch that the pairs need has more target bytes than an offset reaches
+pub record TooWide (pairs : Pairs) : Type 0 where
+  pub front : List ℕ
+  pub two : 2 ≤ length (edges (behind_all front pairs))
+  pub wide : 2 ^ 32 ≤ targets_size simple_ascii (behind_all front pairs)
+
+-- why the pairs are refused
+abbrev pub IsRefusal : Pairs → ZeroTrieBuildError → Type 0
+IsRefusal pairs e = (e ≡ OutOfMemory) ⊎ ((e ≡ CapacityExceeded) × TooWide pairs)
+
+-- a text of the pairs was appended
+pub record Writes (before after : List ℕ) (pairs : Pairs) : Type 0 where
+  pub text : List ℕ
+  pub lists : Lists simple_ascii text pairs
+  pub is : after ≡ before ++ text
+
+-- The first nodes of a text of all the pairs were appended: where a text of those left follows, it is whole.
+pub record Leads (before : List ℕ) (all : Pairs) (out : List ℕ) (left : Pairs) : Type 0 where
+  pub finish : (after : List ℕ) → Writes out after left → Writes before after all
+  pub wide : TooWide left → TooWide all
+  pub ascends : Ascends left
+  pub ascii : AsciiKeys left
+  pub lighter : weight left ≤ weight all
+
+-- a number with these bits added to its lead byte
+abbrev pub with_bits : ℕ → List ℕ → List ℕ
+with_bits bits [] = []
+with_bits bits (lead ∷ trail) = (bits + lead) ∷ trail
+
+-- The bytes are a branch with these edges, offsets and target bytes.
+pub record BranchBytes (edge_bytes offsets targets bytes : List ℕ) : Type 0 where
+  pub head : List ℕ
+  pub width : ℕ
+  pub is_width : IsWidth (length targets) width
+  pub fits : width ≤ 3
+  pub is_head : Spells 32 3 (256 * width + length edge_bytes % 256) head
+  pub bytes_are : bytes ≡ head ++ (edge_bytes ++ (blocks (width + 1) offsets ++ targets))
