@@ -1,0 +1,52 @@
+-- Which output and status answer an input.
+use Rattle.std.specs.Prelude.{◌≡◌, ◌≢◌, ℕ, ◌+◌, ◌⊎◌, List, [], ◌∷◌, ◌++◌, max, Option, Some, None}
+use Rattle.zerotrie_core.specs.Kind.{Kind}
+use Rattle.zerotrie_core.specs.Maps.{Pairs, map_of, look, RepeatsKey}
+use Rattle.zerotrie_core.specs.Texts.{Means}
+use Rattle.zerotrie_core.specs.Causes.{Cause}
+use Rattle.zerotrie_core.specs.declared.error.ZeroTrieBuildError.{ZeroTrieBuildError}
+use Rattle.zerotrie_core.specs.declared.error.ZeroTrieBuildError.TheVariants.{Unsorted, OutOfMemory}
+use Rattle.zerotrie_tool.specs.declared.command.Choice.{Choice}
+use Rattle.zerotrie_tool.specs.Lines.{lines_of}
+use Rattle.zerotrie_tool.specs.Commands.{Command, choose, add, build, query, IsCommand, kind_of}
+use Rattle.zerotrie_tool.specs.Replies.{ok_line, refused_line, number_line, bad_line}
+
+-- What is held between two lines, from the first choice of a kind on.
+pub record State : Type 0 where
+  pub choice : Choice
+  -- those that were added since the choice, in that order
+  pub pairs : Pairs
+  -- those that the trie was built from
+  pub built : Pairs
+
+-- why a build of the pairs may be refused
+abbrev pub MayRefuse : Kind → Pairs → ZeroTrieBuildError → Type 0
+MayRefuse kind pairs error = (error ≡ OutOfMemory) ⊎ ((error ≢ Unsorted) × Cause kind pairs error)
+
+-- Before the first choice only a choice can be made.
+abbrev pub CanDo : Option State → Command → Type 0
+CanDo None (choose choice) = Unit {0}
+CanDo None (add value key) = ⊥
+CanDo None build = ⊥
+CanDo None (query key) = ⊥
+CanDo (Some s) command = Unit {0}
+
+-- What a command does to what is held: what it prints, a status that the run's is not below, and what is held then.
+pub data Does : Option State → Command → List ℕ → ℕ → Option State → Type 0 where
+  chosen : {held : Option State} {choice : Choice} → Does held (choose choice) [] 0 (Some (record { choice = choice; pairs = []; built = [] }))
+  added : {s : State} {value : ℕ} {key : List ℕ} → Does (Some s) (add value key) [] 0 (Some (record s { pairs = s.pairs ++ (key, value) ∷ [] }))
+  ok : {s : State} {text : List ℕ} → (RepeatsKey s.pairs → ⊥) → Means (kind_of s.choice) text (map_of s.pairs) → Does (Some s) build (ok_line text) 0 (Some (record s { built = s.pairs }))
+  refused : {s : State} {error : ZeroTrieBuildError} → MayRefuse (kind_of s.choice) s.pairs error → Does (Some s) build (refused_line error) 1 (Some (record s { built = [] }))
+  asked : {s : State} {key : List ℕ} → Does (Some s) (query key) (number_line (look (kind_of s.choice) (map_of s.built) key)) 0 (Some s)
+
+-- Lines, the first of them with number n, are answered by an output and a status. An empty line does nothing, and a
+-- line that is no command, or none that can be done, ends the run.
+pub data Run : ℕ → Option State → List (List ℕ) → List ℕ → ℕ → Type 0 where
+  end : {n : ℕ} {held : Option State} → Run n held [] [] 0
+  empty : {n status : ℕ} {held : Option State} {lines : List (List ℕ)} {output : List ℕ} → Run (n + 1) held lines output status → Run n held ([] ∷ lines) output status
+  does : {n least status : ℕ} {held after : Option State} {line : List ℕ} {command : Command} {lines : List (List ℕ)} {printed output : List ℕ} → IsCommand line command → Does held command printed least after → Run (n + 1) after lines output status → Run n held (line ∷ lines) (printed ++ output) (max least status)
+  bad : {n : ℕ} {held : Option State} {line : List ℕ} {lines : List (List ℕ)} → line ≢ [] → ((command : Command) → IsCommand line command → CanDo held command → ⊥) → Run n held (line ∷ lines) (bad_line n) 2
+
+-- The output and the status answer the input.
+abbrev pub Answers : List ℕ → List ℕ → ℕ → Type 0
+Answers input output status = Run 1 None (lines_of input) output status

@@ -1,0 +1,31 @@
+-- Which lines are commands.
+use Rattle.std.specs.Prelude.{◌≡◌, ℕ, ◌⊎◌, List, [], ◌∷◌, ◌++◌, codes}
+use Rattle.zerotrie_core.specs.Kind.{Kind, simple_ascii}
+use Rattle.zerotrie_tool.specs.Numbers.{IsNumber}
+use Rattle.zerotrie_tool.specs.declared.command.Choice.{Choice}
+use Rattle.zerotrie_tool.specs.declared.command.Choice.TheVariants.{Simple}
+
+-- the name of a choice
+abbrev pub name_of : Choice → List ℕ
+name_of Simple = codes "simple"
+
+-- the kind of the trie that a choice takes
+abbrev pub kind_of : Choice → Kind
+kind_of Simple = simple_ascii
+
+pub data Command : Type 0 where
+  choose : Choice → Command
+  add : (value : ℕ) (key : List ℕ) → Command
+  build : Command
+  query : (key : List ℕ) → Command
+
+-- The line is the words, a space and the key. The words alone stand for the empty key too.
+abbrev pub HasKey : List ℕ → List ℕ → List ℕ → Type 0
+HasKey words key line = ((line ≡ words) × (key ≡ [])) ⊎ (line ≡ words ++ 32 ∷ key)
+
+-- the line is the command
+abbrev pub IsCommand : List ℕ → Command → Type 0
+IsCommand line (choose choice) = line ≡ codes "kind " ++ name_of choice
+IsCommand line (add value key) = (digits : List ℕ) × IsNumber digits value × HasKey (codes "+ " ++ digits) key line
+IsCommand line build = line ≡ codes "build"
+IsCommand line (query key) = HasKey (codes "?") key line

@@ -1,0 +1,7 @@
+pub mod Lines
+pub mod Numbers
+pub mod Commands
+pub mod Replies
+pub mod Answers
+pub mod Parsing
+pub mod Sessions

@@ -1,0 +1,50 @@
+-- What a session holds, and what a line does to it.
+use Rattle.std.specs.Prelude.{◌≡◌, ℕ, List, ◌++◌, Option, Some, None}
+use Rattle.std.specs.List.Sorted.{IsPermutation}
+use Rattle.zerotrie_core.specs.Items.{pairs_of}
+use Rattle.zerotrie_core.specs.Maps.{map_of}
+use Rattle.zerotrie_core.specs.Texts.{Means}
+use Rattle.zerotrie_tool.specs.Commands.{Command, IsCommand, kind_of}
+use Rattle.zerotrie_tool.specs.Answers.{State, Does, CanDo}
+use Rattle.zerotrie_tool.specs.declared.answer.Session.{Session}
+use Rattle.zerotrie_tool.specs.declared.answer.Outcome.{Outcome}
+use Rattle.zerotrie_tool.specs.declared.answer.Outcome.TheVariants.{Done, Refused, Bad}
+
+-- The session holds the state: its pairs in some order, and a text of the trie.
+pub record Holds (session : Session) (s : State) : Type 0 where
+  pub choice : session.choice ≡ s.choice
+  pub pairs : IsPermutation (pairs_of session.pairs.items) s.pairs
+  pub trie : Means (kind_of s.choice) session.trie.items (map_of s.built)
+
+-- the same, before the first choice too
+abbrev pub HoldsSome : Option Session → Option State → Type 0
+HoldsSome None None = Unit {0}
+HoldsSome None (Some s) = ⊥
+HoldsSome (Some session) None = ⊥
+HoldsSome (Some session) (Some s) = Holds session s
+
+-- A command was done, from what was held: it printed what the output has behind the old one.
+pub record Performed (command : Command) (held : Option State) (after : Option Session) (old new : List ℕ) (least : ℕ) : Type 0 where
+  pub printed : List ℕ
+  pub state : Option State
+  pub does : Does held command printed least state
+  pub holds : HoldsSome after state
+  pub output : new ≡ old ++ printed
+
+-- how a command ended, of those that a session can do
+abbrev pub AfterRequest : Command → Session → Session → List ℕ → List ℕ → Outcome → Type 0
+AfterRequest command before after old new Done = (s : State) → Holds before s → Performed command (Some s) (Some after) old new 0
+AfterRequest command before after old new Refused = (s : State) → Holds before s → Performed command (Some s) (Some after) old new 1
+AfterRequest command before after old new Bad = ⊥
+
+-- a line that is a command was done
+abbrev pub AfterCommand : List ℕ → Option Session → Option Session → List ℕ → List ℕ → ℕ → Type 0
+AfterCommand line before after old new least = (held : Option State) → HoldsSome before held
+    → (command : Command) × IsCommand line command × Performed command held after old new least
+
+-- how a line ended
+abbrev pub AfterLine : List ℕ → Option Session → Option Session → List ℕ → List ℕ → Outcome → Type 0
+AfterLine line before after old new Done = AfterCommand line before after old new 0
+AfterLine line before after old new Refused = AfterCommand line before after old new 1
+AfterLine line before after old new Bad = (new ≡ old)
+    × ((held : Option State) → HoldsSome before held → (command : Command) → IsCommand line command → CanDo held command → ⊥)

@@ -1,0 +1,196 @@
+//! The answers to an input.
+
+ghost use Rattle.std.specs.Prelude.{◌≡◌, ◌==◌, ◌++◌, ◌∷◌, [], ◌↔◌, ℕ, Option, Some, map, IsTrue, OnOk, IfOk, IfErr, string_bytes};
+ghost use Rattle.std.specs.List.Sorted.{IsPermutation};
+ghost use Rattle.zerotrie_core.specs.Items.{pairs_of};
+ghost use Rattle.zerotrie_core.specs.Maps.{Ascends, RepeatsKey, look, map_of};
+ghost use Rattle.zerotrie_core.specs.Texts.{Means};
+ghost use Rattle.zerotrie_tool.specs.Lines.{lines_of};
+ghost use Rattle.zerotrie_tool.specs.Commands.{kind_of, build};
+ghost use Rattle.zerotrie_tool.specs.Parsing.{meaning};
+ghost use Rattle.zerotrie_tool.specs.Answers.{Answers, State, MayRefuse};
+ghost use Rattle.zerotrie_tool.specs.Sessions.{Holds, HoldsSome, AfterLine, AfterRequest};
+
+use crate::command::{Choice, Request, parse};
+use crate::reply::{write_bad, write_number, write_ok, write_refused};
+use std::alloc::{AllocError, Global};
+use zerotrie_core::{Simple, ZeroTrieBuildError, get_counted, plain_encode};
+
+/// What is printed for an input, and the status that the run ends with.
+#[derive(Drop)]
+pub struct Answered {
+    pub output: String,
+    pub status: u8,
+}
+
+/// How a line ended.
+enum Outcome {
+    Done,
+    Refused,
+    Bad,
+}
+
+/// What is held from the first `kind` line on. The pairs are those since the last, in some order.
+#[derive(Drop)]
+struct Session<'a> {
+    choice: Choice,
+    pairs: Vec<(&'a [u8], usize)>,
+    trie: Vec<u8>,
+}
+
+/// Whether each key is above the one before it.
+fn ascends(pairs: &[(&[u8], usize)]) -> bool
+    ensures { IsTrue result ↔ Ascends (pairs_of pairs.now) }
+{
+    pairs.is_sorted_by(|first, second| first.0.cmp(&second.0).is_lt())
+}
+
+/// The bytes of a trie of the pairs. It sorts them.
+fn encode(
+    alloc: Global,
+    choice: Choice,
+    pairs: &mut [(&[u8], usize)],
+) -> Result<Vec<u8>, ZeroTrieBuildError>
+    ensures order { IsPermutation (pairs_of pairs.old) (pairs_of pairs.new) }
+    ensures distinct { OnOk result (RepeatsKey (pairs_of pairs.new) → ⊥) }
+    ensures means { IfOk result (λ text. Means (kind_of choice) text.items (map_of (pairs_of pairs.new))) }
+    ensures refused { IfErr result (MayRefuse (kind_of choice) (pairs_of pairs.new)) }
+{
+    pairs.sort_unstable();
+    if !ascends(pairs) {
+        return Err(ZeroTrieBuildError::DuplicateKey);
+    }
+    match choice {
+        Choice::Simple => plain_encode(alloc, pairs),
+    }
+}
+
+impl<'a> Session<'a> {
+    fn new(alloc: Global, choice: Choice) -> Self
+        ensures { Holds result (record { choice = choice; pairs = []; built = [] }) }
+    {
+        Session {
+            choice,
+            pairs: Vec::new(alloc),
+            trie: Vec::new(alloc),
+        }
+    }
+
+    fn add(&mut self, value: usize, key: &'a [u8]) -> Result<(), AllocError>
+        ensures { OnOk result ((s : State) → Holds self.old s → Holds self.new (record s { pairs = s.pairs ++ (key.now, value) ∷ [] })) }
+    {
+        self.pairs.push((key, value))?;
+        Ok(())
+    }
+
+    /// Builds the trie. After an error it is empty.
+    fn build(&mut self, alloc: Global) -> Result<(), ZeroTrieBuildError>
+        ensures distinct { OnOk result ((s : State) → Holds self.old s → RepeatsKey s.pairs → ⊥) }
+        ensures built { OnOk result ((s : State) → Holds self.old s → Holds self.new (record s { built = s.pairs })) }
+        ensures cause { IfErr result (λ error. (s : State) → Holds self.old s → MayRefuse (kind_of s.choice) s.pairs error) }
+        ensures empty { IfErr result (λ error. (s : State) → Holds self.old s → Holds self.new (record s { built = [] })) }
+    {
+        self.trie.clear();
+        match encode(alloc, self.choice, self.pairs.as_mut_slice()) {
+            Ok(text) => {
+                self.trie = text;
+                Ok(())
+            }
+            Err(error) => Err(error),
+        }
+    }
+
+    fn get(&self, key: &[u8]) -> Option<usize>
+        ensures { (s : State) → Holds self.now s → result ≡ look (kind_of s.choice) (map_of s.built) key.now }
+    {
+        match self.choice {
+            Choice::Simple => get_counted::<Simple>(self.trie.as_slice(), key).0,
+        }
+    }
+
+    fn answer_build(&mut self, alloc: Global, output: &mut String) -> Result<Outcome, AllocError>
+        ensures { IfOk result (AfterRequest build self.old self.new (string_bytes output.old) (string_bytes output.new)) }
+    {
+        match self.build(alloc) {
+            Ok(()) => {
+                write_ok(output, self.trie.as_slice())?;
+                Ok(Outcome::Done)
+            }
+            Err(error) => {
+                write_refused(output, &error)?;
+                Ok(Outcome::Refused)
+            }
+        }
+    }
+
+    fn answer(
+        &mut self,
+        alloc: Global,
+        request: Request<'a>,
+        output: &mut String,
+    ) -> Result<Outcome, AllocError>
+        ensures { IfOk result (AfterRequest (meaning request.entry) self.old self.new (string_bytes output.old) (string_bytes output.new)) }
+    {
+        match request {
+            Request::Kind(choice) => *self = Session::new(alloc, choice),
+            Request::Add { value, key } => self.add(value, key)?,
+            Request::Build => return self.answer_build(alloc, output),
+            Request::Query(key) => write_number(output, self.get(key))?,
+        }
+        Ok(Outcome::Done)
+    }
+}
+
+/// Answers a line that is not empty.
+fn answer_line<'a>(
+    alloc: Global,
+    held: &mut Option<Session<'a>>,
+    line: &'a [u8],
+    output: &mut String,
+) -> Result<Outcome, AllocError>
+    ensures { IfOk result (AfterLine line.now held.old held.new (string_bytes output.old) (string_bytes output.new)) }
+{
+    let Some(request) = parse(line) else {
+        return Ok(Outcome::Bad);
+    };
+    match held {
+        Some(session) => session.answer(alloc, request, output),
+        None => match request {
+            Request::Kind(choice) => {
+                *held = Some(Session::new(alloc, choice));
+                Ok(Outcome::Done)
+            }
+            _ => Ok(Outcome::Bad),
+        },
+    }
+}
+
+fn split_lines(alloc: Global, input: &[u8]) -> Result<Vec<&[u8]>, AllocError>
+    ensures { IfOk result (λ lines. map (λ line. line.now) lines.items ≡ lines_of input.now) }
+{
+    input.split(|b| *b == b'\n').collect(alloc)
+}
+
+/// All answers to an input, up to the first bad line.
+pub fn answer_all(alloc: Global, input: &[u8]) -> Result<Answered, AllocError>
+    ensures { IfOk result (λ answered. Answers input.now (string_bytes answered.output) answered.status) }
+{
+    let lines = split_lines(alloc, input)?;
+    let mut held = None;
+    let mut output = String::new(alloc);
+    let mut status = 0;
+    for (index, line) in lines.iter().enumerate() {
+        if line.is_empty() {
+            continue;
+        }
+        match answer_line(alloc, &mut held, line, &mut output)? {
+            Outcome::Done => {}
+            Outcome::Refused => status = 1,
+            Outcome::Bad => {
+                write_bad(&mut output, index + 1)?;
+                return Ok(Answered { output, status: 2 });
+            }
+        }
+    }
+    Ok(Answered { output, status })
+}

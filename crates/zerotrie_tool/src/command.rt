@@ -1,0 +1,109 @@
+//! The commands that lines are.
+
+ghost use Rattle.std.specs.Prelude.{◌≡◌, ◌==◌, ℕ, List, IfSome, IfNone};
+ghost use Rattle.std.specs.List.{before_first, position};
+ghost use Rattle.zerotrie_tool.specs.Numbers.{IsNumber};
+ghost use Rattle.zerotrie_tool.specs.Commands.{Command, choose, add, HasKey, IsCommand};
+ghost use Rattle.zerotrie_tool.specs.Parsing.{meaning};
+
+/// A kind of trie, as a `kind` line names it.
+#[derive(Clone, Copy, PartialEq, Eq, Debug)]
+pub enum Choice {
+    Simple,
+}
+
+/// What a line asks for.
+#[derive(Clone, Copy, PartialEq, Eq, Debug)]
+pub enum Request<'a> {
+    Kind(Choice),
+    Add { value: usize, key: &'a [u8] },
+    Build,
+    Query(&'a [u8]),
+}
+
+/// The number that 1 to 20 decimal digits spell.
+fn parse_number(digits: &[u8]) -> Option<usize>
+    ensures some { IfSome result (IsNumber digits.now) }
+    ensures none { IfNone result ((value : ℕ) → IsNumber digits.now value → ⊥) }
+{
+    if digits.is_empty() || digits.len() > 20 {
+        return None;
+    }
+    let mut value: usize = 0;
+    for digit in digits {
+        if !digit.is_ascii_digit() {
+            return None;
+        }
+        value = value
+            .checked_mul(10)?
+            .checked_add((*digit - b'0') as usize)?;
+    }
+    Some(value)
+}
+
+fn first_space(text: &[u8]) -> Option<usize>
+    ensures { result ≡ position (λ b. b == 32) text.now }
+{
+    text.iter().position(|b| *b == b' ')
+}
+
+/// What stands before the first space, and what stands behind it.
+fn split_word(text: &[u8]) -> (&[u8], &[u8])
+    ensures word { result.0.now ≡ before_first (λ b. b == 32) text.now }
+    ensures key { HasKey result.0.now result.1.now text.now }
+{
+    match first_space(text) {
+        Some(place) => (&text[..place], &text[place + 1..]),
+        None => (text, &[]),
+    }
+}
+
+/// The key behind the words, which is empty where they stand alone.
+fn key_behind<'a>(words: &[u8], line: &'a [u8]) -> Option<&'a [u8]>
+    ensures some { IfSome result (λ key. HasKey words.now key.now line.now) }
+    ensures none { IfNone result ((key : List ℕ) → HasKey words.now key line.now → ⊥) }
+{
+    let rest = line.strip_prefix(words)?;
+    match rest.split_first() {
+        None => Some(rest),
+        Some((first, key)) => { if *first == b' ' { Some(key) } else { None } }
+    }
+}
+
+fn parse_choice(line: &[u8]) -> Option<Choice>
+    ensures some { IfSome result (λ choice. IsCommand line.now (choose choice)) }
+    ensures none { IfNone result ((choice : Choice) → IsCommand line.now (choose choice) → ⊥) }
+{
+    let name = line.strip_prefix(b"kind ")?;
+    if name == b"simple".as_slice() {
+        Some(Choice::Simple)
+    } else {
+        None
+    }
+}
+
+fn parse_pair(line: &[u8]) -> Option<(usize, &[u8])>
+    ensures some { IfSome result (λ pair. IsCommand line.now (add pair.0 pair.1.now)) }
+    ensures none { IfNone result ((value : ℕ) (key : List ℕ) → IsCommand line.now (add value key) → ⊥) }
+{
+    let (digits, key) = split_word(line.strip_prefix(b"+ ")?);
+    let value = parse_number(digits)?;
+    Some((value, key))
+}
+
+/// What a line asks for; `None` for a line that is no command.
+pub fn parse(line: &[u8]) -> Option<Request<'_>>
+    ensures some { IfSome result (λ request. IsCommand line.now (meaning request)) }
+    ensures none { IfNone result ((command : Command) → IsCommand line.now command → ⊥) }
+{
+    if let Some(choice) = parse_choice(line) {
+        Some(Request::Kind(choice))
+    } else if let Some((value, key)) = parse_pair(line) {
+        Some(Request::Add { value, key })
+    } else if line == b"build".as_slice() {
+        Some(Request::Build)
+    } else {
+        let key = key_behind(b"?", line)?;
+        Some(Request::Query(key))
+    }
+}

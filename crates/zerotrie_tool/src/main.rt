@@ -1,0 +1,31 @@
+//! Builds tries from pairs, and looks keys up in them, as the lines of standard input say.
+#![tactic(auto)]
+
+mod answer;
+mod command;
+mod noted;
+mod reply;
+mod run;
+#[cfg(test)]
+mod tests;
+
+use noted::Noted;
+use run::{RunError, run};
+use std::process::ExitCode;
+
+fn main(rt: HostRuntime) -> ExitCode {
+    let mut reader = Noted::new(rt.stdin());
+    let mut writer = Noted::new(rt.stdout());
+    match run(rt.alloc(), &mut reader, &mut writer) {
+        Ok(status) => ExitCode::from(status),
+        Err(error) => {
+            let message = match error {
+                RunError::Read => "read failed",
+                RunError::Write => "write failed",
+                RunError::OutOfMemory => "out of memory",
+            };
+            let _ = eprintln!(rt; "{message}");
+            ExitCode::from(3)
+        }
+    }
+}

@@ -1,0 +1,74 @@
+//! The lines that are printed.
+
+ghost use Rattle.std.specs.Prelude.{◌≡◌, ◌++◌, OnOk, string_bytes};
+ghost use Rattle.zerotrie_tool.specs.Replies.{hex, error_name, ok_line, refused_line, number_line, bad_line};
+
+use std::alloc::AllocError;
+use zerotrie_core::ZeroTrieBuildError;
+
+/// Writes bytes in hexadecimal, and for none a dash.
+fn write_hex(output: &mut String, bytes: &[u8]) -> Result<(), AllocError>
+    ensures { OnOk result (string_bytes output.new ≡ string_bytes output.old ++ hex bytes.now) }
+{
+    if bytes.is_empty() {
+        return output.push_str("-");
+    }
+    for byte in bytes {
+        write!(output, "{byte:02x}")?;
+    }
+    Ok(())
+}
+
+/// The variant's name.
+fn name_of(error: &ZeroTrieBuildError) -> &'static str
+    ensures { result.now ≡ error_name error.now }
+{
+    match error {
+        ZeroTrieBuildError::NonAsciiError => "NonAsciiError",
+        ZeroTrieBuildError::CapacityExceeded => "CapacityExceeded",
+        ZeroTrieBuildError::CouldNotSolvePerfectHash => "CouldNotSolvePerfectHash",
+        ZeroTrieBuildError::MixedCase => "MixedCase",
+        ZeroTrieBuildError::IllegalDelimiter => "IllegalDelimiter",
+        ZeroTrieBuildError::DuplicateKey => "DuplicateKey",
+        ZeroTrieBuildError::Unsorted => "Unsorted",
+        ZeroTrieBuildError::BufferTooSmall => "BufferTooSmall",
+        ZeroTrieBuildError::BufferTooLarge(_) => "BufferTooLarge",
+        ZeroTrieBuildError::StackExceeded => "StackExceeded",
+        ZeroTrieBuildError::OutOfMemory => "OutOfMemory",
+    }
+}
+
+/// Writes that a trie was built, with its bytes.
+pub fn write_ok(output: &mut String, text: &[u8]) -> Result<(), AllocError>
+    ensures { OnOk result (string_bytes output.new ≡ string_bytes output.old ++ ok_line text.now) }
+{
+    let length = text.len();
+    write!(output, "ok {length} ")?;
+    write_hex(output, text)?;
+    writeln!(output)
+}
+
+/// Writes why no trie was built.
+pub fn write_refused(output: &mut String, error: &ZeroTrieBuildError) -> Result<(), AllocError>
+    ensures { OnOk result (string_bytes output.new ≡ string_bytes output.old ++ refused_line error.now) }
+{
+    let name = name_of(error);
+    writeln!(output, "refused {name}")
+}
+
+/// Writes the number of a key.
+pub fn write_number(output: &mut String, number: Option<usize>) -> Result<(), AllocError>
+    ensures { OnOk result (string_bytes output.new ≡ string_bytes output.old ++ number_line number) }
+{
+    match number {
+        Some(value) => writeln!(output, "{value}"),
+        None => writeln!(output, "none"),
+    }
+}
+
+/// Writes that the line with this number is no command.
+pub fn write_bad(output: &mut String, line_number: usize) -> Result<(), AllocError>
+    ensures { OnOk result (string_bytes output.new ≡ string_bytes output.old ++ bad_line line_number) }
+{
+    writeln!(output, "bad line {line_number}")
+}

@@ -1,0 +1,79 @@
+//! One run of the program, over a reader and a writer.
+
+ghost use Rattle.std.specs.Prelude.{◌≡◌, ◌≢◌, ◌↔◌, ℕ, List, false, true, IfOk, IfErr, IfSome, IsErrOf};
+ghost use Rattle.std.specs.Io.KnownBytes.{Appends};
+ghost use Rattle.zerotrie_tool.specs.Answers.{Answers};
+ghost use Rattle.zerotrie_tool.specs.declared.run.RunError.TheVariants.{OutOfMemory};
+
+use crate::answer::answer_all;
+use crate::noted::Noted;
+use std::alloc::{AllocError, Global};
+use std::io::{Read, Write};
+use thiserror::Error;
+
+/// Why a run has no status.
+#[derive(Clone, PartialEq, Eq, Debug, Drop, Error)]
+pub enum RunError {
+    /// The reader failed.
+    #[error("Read")]
+    Read,
+    /// The writer failed.
+    #[error("Write")]
+    Write,
+    /// A growth was refused, outside of a build.
+    #[error("OutOfMemory")]
+    OutOfMemory,
+}
+
+impl From<AllocError> for RunError {
+    ghost from_gives = { λ _ e. e ≡ OutOfMemory };
+
+    fn from(_: AllocError) -> Self {
+        RunError::OutOfMemory
+    }
+}
+
+/// Reads to the end.
+fn read_all<R: Read>(alloc: Global, reader: &mut Noted<R>) -> Result<Vec<u8>, RunError>
+    requires { reader.old.failed ≡ false }
+    ensures flag { reader.new.failed ≡ true ↔ IsErrOf result RunError.Read }
+    ensures ok { IfOk result (λ input. IfSome (R.remaining reader.old.inner) (λ known. input.items ≡ known)) }
+    ensures err { IfErr result (λ e. e ≢ RunError.Write) }
+{
+    let mut input: Vec<u8> = Vec::new(alloc);
+    let mut chunk = [0u8; 1024];
+    loop {
+        let Ok(count) = reader.read(&mut chunk) else {
+            return Err(RunError::Read);
+        };
+        if count == 0 {
+            return Ok(input);
+        }
+        input.extend_from_slice(&chunk[..count])?;
+    }
+}
+
+/// Reads all input, forms all answers, and then writes them. It answers the status to end with.
+///
+/// An error but `Write` has written nothing.
+pub fn run<R: Read, W: Write>(
+    alloc: Global,
+    reader: &mut Noted<R>,
+    writer: &mut Noted<W>,
+) -> Result<u8, RunError>
+    requires reader_is_fresh { reader.old.failed ≡ false }
+    requires writer_is_fresh { writer.old.failed ≡ false }
+    ensures read { reader.new.failed ≡ true ↔ IsErrOf result RunError.Read }
+    ensures write { writer.new.failed ≡ true ↔ IsErrOf result RunError.Write }
+    ensures ok { IfOk result (λ status. IfSome (R.remaining reader.old.inner) (λ input.
+        (output : List ℕ) × Answers input output status
+        × Appends (W.contents writer.old.inner) (W.contents writer.new.inner) output)) }
+    ensures unwritten { IfErr result (λ e. e ≢ RunError.Write → writer.new ≡ writer.old) }
+{
+    let input = read_all(alloc, reader)?;
+    let answered = answer_all(alloc, input.as_slice())?;
+    if writer.write_all(answered.output.as_bytes()).is_err() || writer.flush().is_err() {
+        return Err(RunError::Write);
+    }
+    Ok(answered.status)
+}

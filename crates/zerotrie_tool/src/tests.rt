@@ -1,0 +1,182 @@
+//! Whole runs over memory, and over readers and writers that fail.
+
+use crate::noted::Noted;
+use crate::run::{RunError, run};
+use std::io;
+use std::io::{Read, Write};
+use std::process::Abort;
+use std::test::Fail;
+
+/// An input gives this output and status.
+fn runs<H: AllocGlobal + Abort>(
+    rt: &H,
+    input: &[u8],
+    output: &[u8],
+    status: u8,
+) -> Result<(), Fail> {
+    let mut reader = Noted::new(input);
+    let mut writer = Noted::new(Vec::new(rt.alloc()));
+    let answer = run(rt.alloc(), &mut reader, &mut writer);
+    assert_eq!(rt; writer.into_inner().as_slice(), output);
+    assert_eq!(rt; answer, Ok(status));
+    Ok(())
+}
+
+#[test]
+fn builds_and_look_ups(rt: HostRuntime) -> Result<(), Fail> {
+    let rows: [(&[u8], &[u8], u8); 10] = [
+        (b"", b"", 0),
+        (
+            b"kind simple\n+ 11\n+ 22 ad\n+ 33 adef\n+ 44 adghk\nbuild\n? ad\n? unknown\n",
+            b"ok 16 8b61649006c2656703669011686b901c\n22\nnone\n",
+            0,
+        ),
+        // The order of the pairs is free, the last line may lack its end, and empty lines do nothing.
+        (
+            b"\n\nkind simple\n\n+ 44 adghk\n+ 33 adef\n+ 22 ad\n+ 11 \nbuild\n?\n\n? \n? ade",
+            b"ok 16 8b61649006c2656703669011686b901c\n11\n11\nnone\n",
+            0,
+        ),
+        (b"kind simple\nbuild\n?\n", b"ok 0 -\nnone\n", 0),
+        // A twin is refused, and the pairs stay.
+        (
+            b"kind simple\n+ 1 b\nbuild\n? b\n+ 2 b\nbuild\n? b\n",
+            b"ok 2 6281\n1\nrefused DuplicateKey\nnone\n",
+            1,
+        ),
+        // A new choice forgets pairs and trie; a build takes all pairs since.
+        (
+            b"kind simple\n+ 1 a\nbuild\nkind simple\n? a\n+ 2 b\nbuild\n+ 3 c\n? c\nbuild\n? a\n? c\n",
+            b"ok 2 6181\nnone\nok 2 6282\nnone\nok 6 c26263018283\nnone\n3\n",
+            0,
+        ),
+        // Keys are bytes: spaces in front, within and behind belong to them.
+        (
+            b"kind simple\n+ 5  a b \nbuild\n?  a b \n? a b\n",
+            b"ok 6 206120622085\n5\nnone\n",
+            0,
+        ),
+        // The largest number, and twenty digits with zeros in front.
+        (
+            b"kind simple\n+ 18446744073709551615 \n+ 00000000000000000001 a\nbuild\n?\n? a\n",
+            b"ok 12 91efefefefefefefef6f6181\n18446744073709551615\n1\n",
+            0,
+        ),
+        (
+            b"kind simple\n+ 7 \xC3\xA9\nbuild\n? \xC3\xA9\nkind simple\nbuild\n",
+            b"refused NonAsciiError\nnone\nok 0 -\n",
+            1,
+        ),
+        // A bad line counts for more than a refusal, and stops the run.
+        (
+            b"kind simple\n+ 1\n+ 1\nbuild\nlist\nbuild\n",
+            b"refused DuplicateKey\nbad line 5\n",
+            2,
+        ),
+    ];
+    for (input, output, status) in rows {
+        runs(&rt, input, output, status)?;
+    }
+    Ok(())
+}
+
+/// Lines that are no command, each as the second of an input.
+#[test]
+fn bad_lines(rt: HostRuntime) -> Result<(), Fail> {
+    let lines: [&[u8]; 24] = [
+        b"kind",
+        b"kind ",
+        b"kind  simple",
+        b" kind simple",
+        b"kind simple ",
+        b"KIND simple",
+        b"kind hash",
+        b"+",
+        b"+ ",
+        b"+ x a",
+        b"+  1",
+        b"+ 1x",
+        b"+ -1",
+        b"+ +1",
+        b"+1 a",
+        b"+ 123456789012345678901",
+        b"+ 000000000000000000001",
+        b"+ 18446744073709551616",
+        b"?x",
+        b" ?",
+        b"build ",
+        b"builds",
+        b"list",
+        b"\r",
+    ];
+    for line in lines {
+        let mut input = vec![in rt.alloc()]?;
+        input.extend_from_slice(b"kind simple\n")?;
+        input.extend_from_slice(line)?;
+        input.extend_from_slice(b"\nbuild\n")?;
+        runs(&rt, input.as_slice(), b"bad line 2\n", 2)?;
+    }
+    // Before the first choice only a choice is none.
+    for line in [b"build".as_slice(), b"?", b"? a", b"+ 1 a", b"kind"] {
+        runs(&rt, line, b"bad line 1\n", 2)?;
+    }
+    Ok(())
+}
+
+/// Gives its bytes a few at a time, and then a fault.
+#[derive(Drop)]
+struct FailingReader {
+    calls: usize,
+}
+
+impl Read for FailingReader {
+    fn read(&mut self, buf: &mut [u8]) -> io::Result<usize> {
+        if self.calls == 0 || buf.is_empty() {
+            return Err(io::Error::from(io::ErrorKind::Interrupted));
+        }
+        self.calls -= 1;
+        buf[0] = b'\n';
+        Ok(1)
+    }
+}
+
+/// Takes so many bytes, and then fails.
+#[derive(Drop)]
+struct FailingWriter {
+    room: usize,
+}
+
+impl Write for FailingWriter {
+    fn write(&mut self, buf: &[u8]) -> io::Result<usize> {
+        let count = self.room.min(buf.len());
+        if count == 0 {
+            return Err(io::Error::from(io::ErrorKind::Other));
+        }
+        self.room -= count;
+        Ok(count)
+    }
+
+    fn flush(&mut self) -> io::Result<()> {
+        Ok(())
+    }
+}
+
+#[test]
+fn faults(rt: HostRuntime) -> Result<(), Fail> {
+    for calls in 0..3 {
+        let mut reader = Noted::new(FailingReader { calls });
+        let mut writer = Noted::new(Vec::new(rt.alloc()));
+        let answer = run(rt.alloc(), &mut reader, &mut writer);
+        assert_eq!(rt; answer, Err(RunError::Read));
+        assert!(rt; reader.failed() && !writer.failed());
+        assert!(rt; writer.into_inner().is_empty());
+    }
+    for room in [0, 1, 8] {
+        let mut reader = Noted::new(b"kind simple\n?\n?\n".as_slice());
+        let mut writer = Noted::new(FailingWriter { room });
+        let answer = run(rt.alloc(), &mut reader, &mut writer);
+        assert_eq!(rt; answer, Err(RunError::Write));
+        assert!(rt; writer.failed() && !reader.failed());
+    }
+    Ok(())
+}
