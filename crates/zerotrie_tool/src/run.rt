@@ -55,7 +55,15 @@ fn read_all<R: Read>(alloc: Global, reader: &mut Noted<R>) -> Result<Vec<u8>, Ru
 
 /// Reads all input, forms all answers, and then writes them. It answers the status to end with.
 ///
-/// An error but `Write` has written nothing.
+/// ```text
+/// kind simple     chooses a kind of trie, without pairs
+/// + 22 ad         adds a pair
+/// build           prints ok 4 61649006, the number of bytes and the bytes
+/// ? ad            prints 22
+/// ```
+///
+/// A line that is no command ends the run with `bad line N` and status 2. Else the status is 1 where a build
+/// was refused, and 0 where none was. An error but `Write` has written nothing.
 pub fn run<R: Read, W: Write>(
     alloc: Global,
     reader: &mut Noted<R>,
