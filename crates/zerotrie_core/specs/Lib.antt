@@ -12,3 +12,8 @@ pub mod Encoding
 pub mod Reading
 pub mod Descending
 pub mod Laws
+pub mod Hashes
+pub mod Refusals
+pub mod Search
+pub mod Caches
+pub mod CacheCalls

@@ -1,6 +1,7 @@
 //! Tries as flat lists of bytes: numbers, the grammar, look-up and the plain encoder.
 #![tactic(auto)]
 
+mod byte_phf;
 mod error;
 pub mod laws;
 mod options;
@@ -9,6 +10,7 @@ mod reader;
 mod store;
 mod varint;
 
+pub use byte_phf::{PerfectByteHashMap, PerfectByteHashMapCacheOwned, are_distinct, f1, f2};
 pub use error::ZeroTrieBuildError;
 pub use options::{Simple, ZeroTrieBuilderOptions, ZeroTrieWithOptions};
 pub use plain::plain_encode;

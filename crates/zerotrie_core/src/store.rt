@@ -153,7 +153,7 @@ impl TrieKey for &[u8] {
     ghost key = { λ k. k.now };
 
     fn key_bytes(&self) -> &[u8] {
-        *self
+        &self[..]
     }
 }
 

@@ -1,0 +1,127 @@
+use super::*;
+use std::test::Fail;
+
+/// Whether the table answers each of its keys' places, and nothing at other bytes.
+fn finds_its_keys<S: TrieStore>(table: &PerfectByteHashMap<S>) -> bool {
+    for byte in 0..=255u8 {
+        if table.get(byte) != table.keys().iter().position(|key| *key == byte) {
+            return false;
+        }
+    }
+    true
+}
+
+#[test]
+fn known_tables(rt: HostRuntime) -> Result<(), Fail> {
+    let rows: [(&[u8], &[u8]); 12] = [
+        (b"", &[0]),
+        (b"ab", &[0, 0, 0, 0x62, 0x61]),
+        (b"abc", &[0, 0, 0, 0, 0x63, 0x61, 0x62]),
+        (b"ac", &[1, 0, 1, 0x63, 0x61]),
+        (b"abd", &[0, 0, 1, 3, 0x61, 0x62, 0x64]),
+        (b"aq", &[4, 0, 1, 0x61, 0x71]),
+        (b"xyz", &[0, 0, 0, 0, 0x78, 0x79, 0x7A]),
+        (b"aceg", &[1, 0, 0, 1, 1, 0x65, 0x61, 0x63, 0x67]),
+        (b"JFNv", &[1, 0x62, 0, 2, 0, 0x4A, 0x46, 0x4E, 0x76]),
+        (b"Jbej", &[2, 0, 0, 0x66, 0, 0x6A, 0x65, 0x62, 0x4A]),
+        (
+            b"abcdefghij",
+            &[
+                0, 0, 0, 0, 0, 0, 0, 0, 0, 0, 0, 0x64, 0x65, 0x66, 0x67, 0x68, 0x69, 0x6A, 0x61,
+                0x62, 0x63,
+            ],
+        ),
+        (
+            b"abcdhirt",
+            &[
+                2, 0, 4, 0, 0, 1, 0, 0, 2, 0x68, 0x61, 0x62, 0x72, 0x74, 0x69, 0x64, 0x63,
+            ],
+        ),
+    ];
+    for (keys, bytes) in rows {
+        assert!(rt; are_distinct(keys));
+        let table = PerfectByteHashMap::try_new(rt.alloc(), keys)?;
+        assert_eq!(rt; table.as_bytes(), bytes);
+        assert_eq!(rt; table.num_items(), keys.len());
+        assert!(rt; finds_its_keys(&table.as_borrowed()));
+        assert!(rt; table.as_borrowed() == PerfectByteHashMap::from_bytes(bytes));
+    }
+    Ok(())
+}
+
+#[test]
+fn all_bytes(rt: HostRuntime) -> Result<(), Fail> {
+    let mut keys = Vec::new(rt.alloc());
+    for byte in 0..=255u8 {
+        keys.push(byte)?;
+    }
+    assert!(rt; are_distinct(keys.as_slice()));
+    let table = PerfectByteHashMap::try_new(rt.alloc(), keys.as_slice())?;
+    assert_eq!(rt; table.get(200), Some(200));
+    assert_eq!(rt; table.keys(), keys.as_slice());
+    assert_eq!(rt; table.as_bytes().iter().filter(|b| **b == 0).count(), 258);
+    assert!(rt; finds_its_keys(&table));
+    Ok(())
+}
+
+#[test]
+fn no_tables(rt: HostRuntime) -> Result<(), Fail> {
+    let rows: [&[u8]; 3] = [&[], &[5], &[5, 0, 0x61, 0x62]];
+    for bytes in rows {
+        let table = PerfectByteHashMap::from_bytes(bytes);
+        let mut found = 0usize;
+        for byte in 0..=255u8 {
+            found = found.saturating_add(table.get(byte).is_some() as usize);
+        }
+        assert!(rt; found < 2);
+        assert!(rt;
+            bytes.len() > 1 || found == 0 && table.num_items() == 0 && table.keys().is_empty()
+        );
+    }
+    assert_eq!(rt;
+        PerfectByteHashMap::from_store([5, 0, 0x61, 0x62]).keys(),
+        b"b".as_slice()
+    );
+    Ok(())
+}
+
+#[test]
+fn buckets_and_places(rt: HostRuntime) {
+    let rows = [
+        (0, 0, 1, 0, 1),
+        (1, 1, 0, 1, 0),
+        (2, 2, 2, 2, 3),
+        (9, 9, 2, 9, 8),
+        (10, 0, 4, 0, 1),
+        (11, 1, 5, 1, 0),
+        (12, 2, 1, 2, 3),
+        (19, 9, 7, 9, 8),
+    ];
+    for (byte, bucket_0, bucket_1, place_0, place_1) in rows {
+        assert_eq!(rt; f1(byte, 0, 10), bucket_0);
+        assert_eq!(rt; f1(byte, 1, 10), bucket_1);
+        assert_eq!(rt; f2(byte, 0, 10), place_0);
+        assert_eq!(rt; f2(byte, 1, 10), place_1);
+        assert_eq!(rt; f1(byte, 9, 0), byte);
+        assert_eq!(rt; f2(byte, 97, 0), byte);
+    }
+    assert_eq!(rt; f2(2, 96, 255), 98 ^ 196 ^ 49);
+    assert!(rt; !are_distinct(b"abca"));
+}
+
+#[test]
+fn cache(rt: HostRuntime) -> Result<(), Fail> {
+    let aceg: [u8; 9] = [1, 0, 0, 1, 1, 0x65, 0x61, 0x63, 0x67];
+    let xyz: [u8; 7] = [0, 0, 0, 0, 0x78, 0x79, 0x7A];
+    let mut cache = PerfectByteHashMapCacheOwned::new_empty(rt.alloc());
+    for (keys, bytes) in [
+        (b"aceg".as_slice(), aceg.as_slice()),
+        (b"xyz", &xyz),
+        (b"aceg", &aceg),
+    ] {
+        assert!(rt; are_distinct(keys));
+        let table = cache.try_get_or_insert(Vec::from_slice(rt.alloc(), keys)?)?;
+        assert_eq!(rt; table.as_bytes(), bytes);
+    }
+    Ok(())
+}
