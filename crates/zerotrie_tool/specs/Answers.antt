@@ -1,11 +1,11 @@
 -- Which output and status answer an input.
 use Rattle.std.specs.Prelude.{◌≡◌, ◌≢◌, ℕ, ◌+◌, ◌⊎◌, List, [], ◌∷◌, ◌++◌, max, Option, Some, None}
-use Rattle.zerotrie_core.specs.Kind.{Kind}
-use Rattle.zerotrie_core.specs.Maps.{Pairs, map_of, look, RepeatsKey}
-use Rattle.zerotrie_core.specs.Texts.{Means}
-use Rattle.zerotrie_core.specs.Causes.{Cause}
-use Rattle.zerotrie_core.specs.declared.error.ZeroTrieBuildError.{ZeroTrieBuildError}
-use Rattle.zerotrie_core.specs.declared.error.ZeroTrieBuildError.TheVariants.{Unsorted, OutOfMemory}
+use Rattle.zerotrie.specs.Kind.{Kind}
+use Rattle.zerotrie.specs.Maps.{Pairs, map_of, look, RepeatsKey}
+use Rattle.zerotrie.specs.Texts.{Means}
+use Rattle.zerotrie.specs.Causes.{Cause}
+use Rattle.zerotrie.specs.declared.ZeroTrieBuildError.{ZeroTrieBuildError}
+use Rattle.zerotrie.specs.declared.ZeroTrieBuildError.TheVariants.{Unsorted, OutOfMemory}
 use Rattle.zerotrie_tool.specs.declared.command.Choice.{Choice}
 use Rattle.zerotrie_tool.specs.Lines.{lines_of}
 use Rattle.zerotrie_tool.specs.Commands.{Command, choose, add, build, query, IsCommand, kind_of}

@@ -1,6 +1,6 @@
 -- Which lines are commands.
 use Rattle.std.specs.Prelude.{◌≡◌, ℕ, ◌⊎◌, List, [], ◌∷◌, ◌++◌, codes}
-use Rattle.zerotrie_core.specs.Kind.{Kind, simple_ascii}
+use Rattle.zerotrie.specs.Kind.{Kind, simple_ascii}
 use Rattle.zerotrie_tool.specs.Numbers.{IsNumber}
 use Rattle.zerotrie_tool.specs.declared.command.Choice.{Choice}
 use Rattle.zerotrie_tool.specs.declared.command.Choice.TheVariants.{Simple}

@@ -1,8 +1,8 @@
 -- The lines that are printed.
 use Rattle.std.specs.Prelude.{ℕ, ◌+◌, ◌/◌, ◌%◌, List, [], ◌∷◌, ◌++◌, length, codes, Option, Some, None, if◌then◌else◌, nat_lt}
 use Rattle.std.specs.Fmt.{decimal}
-use Rattle.zerotrie_core.specs.declared.error.ZeroTrieBuildError.{ZeroTrieBuildError}
-use Rattle.zerotrie_core.specs.declared.error.ZeroTrieBuildError.TheVariants.{NonAsciiError, CapacityExceeded, CouldNotSolvePerfectHash, MixedCase, IllegalDelimiter, DuplicateKey, Unsorted, BufferTooSmall, BufferTooLarge, StackExceeded, OutOfMemory}
+use Rattle.zerotrie.specs.declared.ZeroTrieBuildError.{ZeroTrieBuildError}
+use Rattle.zerotrie.specs.declared.ZeroTrieBuildError.TheVariants.{NonAsciiError, CapacityExceeded, CouldNotSolvePerfectHash, MixedCase, IllegalDelimiter, DuplicateKey, Unsorted, BufferTooSmall, BufferTooLarge, StackExceeded, OutOfMemory}
 
 -- the text, as a line
 abbrev pub line_of : List ℕ → List ℕ

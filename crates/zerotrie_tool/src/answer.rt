@@ -1,10 +1,9 @@
 //! The answers to an input.
 
-ghost use Rattle.std.specs.Prelude.{◌≡◌, ◌==◌, ◌++◌, ◌∷◌, [], ◌↔◌, ℕ, Option, Some, map, IsTrue, OnOk, IfOk, IfErr, string_bytes};
-ghost use Rattle.std.specs.List.Sorted.{IsPermutation};
-ghost use Rattle.zerotrie_core.specs.Items.{pairs_of};
-ghost use Rattle.zerotrie_core.specs.Maps.{Ascends, RepeatsKey, look, map_of};
-ghost use Rattle.zerotrie_core.specs.Texts.{Means};
+ghost use Rattle.std.specs.Prelude.{◌≡◌, ◌++◌, ◌∷◌, [], ℕ, Option, Some, map, OnOk, IfOk, IfErr, string_bytes};
+ghost use Rattle.zerotrie.specs.Items.{pairs_of};
+ghost use Rattle.zerotrie.specs.Maps.{RepeatsKey, look, map_of};
+ghost use Rattle.zerotrie.specs.Texts.{Means};
 ghost use Rattle.zerotrie_tool.specs.Lines.{lines_of};
 ghost use Rattle.zerotrie_tool.specs.Commands.{kind_of, build};
 ghost use Rattle.zerotrie_tool.specs.Parsing.{meaning};
@@ -14,7 +13,7 @@ ghost use Rattle.zerotrie_tool.specs.Sessions.{Holds, HoldsSome, AfterLine, Afte
 use crate::command::{Choice, Request, parse};
 use crate::reply::{write_bad, write_number, write_ok, write_refused};
 use std::alloc::{AllocError, Global};
-use zerotrie_core::{Simple, ZeroTrieBuildError, get_counted, plain_encode};
+use zerotrie::{ZeroTrieBuildError, ZeroTrieSimpleAscii};
 
 /// What is printed for an input, and the status that the run ends with.
 #[derive(Drop)]
@@ -30,38 +29,26 @@ enum Outcome {
     Bad,
 }
 
-/// What is held from the first `kind` line on. The pairs are those since the last, in some order.
+/// What is held from the first `kind` line on. The pairs are those since the last, in order.
 #[derive(Drop)]
 struct Session<'a> {
     choice: Choice,
     pairs: Vec<(&'a [u8], usize)>,
-    trie: Vec<u8>,
+    trie: ZeroTrieSimpleAscii<Vec<u8>>,
 }
 
-/// Whether each key is above the one before it.
-fn ascends(pairs: &[(&[u8], usize)]) -> bool
-    ensures { IsTrue result ↔ Ascends (pairs_of pairs.now) }
-{
-    pairs.is_sorted_by(|first, second| first.0.cmp(&second.0).is_lt())
-}
-
-/// The bytes of a trie of the pairs. It sorts them.
+/// The trie of the pairs.
 fn encode(
     alloc: Global,
     choice: Choice,
-    pairs: &mut [(&[u8], usize)],
-) -> Result<Vec<u8>, ZeroTrieBuildError>
-    ensures order { IsPermutation (pairs_of pairs.old) (pairs_of pairs.new) }
-    ensures distinct { OnOk result (RepeatsKey (pairs_of pairs.new) → ⊥) }
-    ensures means { IfOk result (λ text. Means (kind_of choice) text.items (map_of (pairs_of pairs.new))) }
-    ensures refused { IfErr result (MayRefuse (kind_of choice) (pairs_of pairs.new)) }
+    pairs: &[(&[u8], usize)],
+) -> Result<ZeroTrieSimpleAscii<Vec<u8>>, ZeroTrieBuildError>
+    ensures distinct { OnOk result (RepeatsKey (pairs_of pairs.now) → ⊥) }
+    ensures means { IfOk result (λ trie. Means (kind_of choice) trie.store.items (map_of (pairs_of pairs.now))) }
+    ensures refused { IfErr result (MayRefuse (kind_of choice) (pairs_of pairs.now)) }
 {
-    pairs.sort_unstable();
-    if !ascends(pairs) {
-        return Err(ZeroTrieBuildError::DuplicateKey);
-    }
     match choice {
-        Choice::Simple => plain_encode(alloc, pairs),
+        Choice::Simple => ZeroTrieSimpleAscii::try_from_iter(alloc, pairs.iter().copied()),
     }
 }
 
@@ -72,7 +59,7 @@ impl<'a> Session<'a> {
         Session {
             choice,
             pairs: Vec::new(alloc),
-            trie: Vec::new(alloc),
+            trie: ZeroTrieSimpleAscii::from_store(Vec::new(alloc)),
         }
     }
 
@@ -90,21 +77,16 @@ impl<'a> Session<'a> {
         ensures cause { IfErr result (λ error. (s : State) → Holds self.old s → MayRefuse (kind_of s.choice) s.pairs error) }
         ensures empty { IfErr result (λ error. (s : State) → Holds self.old s → Holds self.new (record s { built = [] })) }
     {
-        self.trie.clear();
-        match encode(alloc, self.choice, self.pairs.as_mut_slice()) {
-            Ok(text) => {
-                self.trie = text;
-                Ok(())
-            }
-            Err(error) => Err(error),
-        }
+        self.trie = ZeroTrieSimpleAscii::from_store(Vec::new(alloc));
+        self.trie = encode(alloc, self.choice, self.pairs.as_slice())?;
+        Ok(())
     }
 
     fn get(&self, key: &[u8]) -> Option<usize>
         ensures { (s : State) → Holds self.now s → result ≡ look (kind_of s.choice) (map_of s.built) key.now }
     {
         match self.choice {
-            Choice::Simple => get_counted::<Simple>(self.trie.as_slice(), key).0,
+            Choice::Simple => self.trie.get(key),
         }
     }
 
@@ -113,7 +95,7 @@ impl<'a> Session<'a> {
     {
         match self.build(alloc) {
             Ok(()) => {
-                write_ok(output, self.trie.as_slice())?;
+                write_ok(output, self.trie.as_bytes())?;
                 Ok(Outcome::Done)
             }
             Err(error) => {

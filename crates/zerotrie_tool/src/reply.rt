@@ -4,7 +4,7 @@ ghost use Rattle.std.specs.Prelude.{◌≡◌, ◌++◌, OnOk, string_bytes};
 ghost use Rattle.zerotrie_tool.specs.Replies.{hex, error_name, ok_line, refused_line, number_line, bad_line};
 
 use std::alloc::AllocError;
-use zerotrie_core::ZeroTrieBuildError;
+use zerotrie::ZeroTrieBuildError;
 
 /// Writes bytes in hexadecimal, and for none a dash.
 fn write_hex(output: &mut String, bytes: &[u8]) -> Result<(), AllocError>

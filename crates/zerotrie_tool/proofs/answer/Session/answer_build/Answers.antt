@@ -4,7 +4,7 @@ use Rattle.zerotrie_tool.proofs.answer.Session.answer_build.Goals as goal
 
 pub returns-in_ok-write_ok-in-Ok : goal.returns-in_ok-write_ok-in-Ok
 returns-in_ok-write_ok-in-Ok c = λ s h.
-    performed_ok c.build.new.self s (string_bytes c.args.output.now) (string_bytes c.write_ok.new.output) c.as_slice.result.now (c.in-Ok.ensures.distinct s h) (c.in-Ok.ensures.built s h) c.as_slice.ensures.value c.in_ok-write_ok-in-Ok.ensures
+    performed_ok c.build.new.self s (string_bytes c.args.output.now) (string_bytes c.write_ok.new.output) c.as_bytes.result.now (c.in-Ok.ensures.distinct s h) (c.in-Ok.ensures.built s h) c.as_bytes.ensures c.in_ok-write_ok-in-Ok.ensures
 
 pub returns-in_ok-write_refused-in-Err : goal.returns-in_ok-write_refused-in-Err
 returns-in_ok-write_refused-in-Err c = λ s h.

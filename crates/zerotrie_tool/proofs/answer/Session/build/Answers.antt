@@ -1,14 +1,14 @@
-use Rattle.zerotrie_tool.proofs.SessionLemmas.{distinct_state, after_build, refused_state, after_refusal}
+use Rattle.std.proofs.Common.{refl}
+use Rattle.std.proofs.lemmas.Result.{err_from_is_err_and}
+use Rattle.zerotrie_tool.proofs.SessionLemmas.{after_refusal, refused_state}
 use Rattle.zerotrie_tool.proofs.answer.Session.build.Goals as goal
 
-pub returns-in-Ok-clause-distinct : goal.returns-in-Ok-clause-distinct
-returns-in-Ok-clause-distinct c = λ s h. distinct_state c.args.self.now c.encode.new.pairs s h (rw c.as_mut_slice.ensures.value at c.encode.ensures.order) c.in-Ok.ensures.distinct
+pub returns-in_err-self-clause-cause : goal.returns-in_err-self-clause-cause
+returns-in_err-self-clause-cause c =
+    let r = err_from_is_err_and c.from_residual.result c.from_residual.ensures.1 in
+    rw r.1 (λ s h. refused_state c.args.self.now s r.0 h (rw r.2 (rw c.as_slice.ensures.value at c.in_err-self.ensures.refused)))
 
-pub returns-in-Ok-clause-built : goal.returns-in-Ok-clause-built
-returns-in-Ok-clause-built c = λ s h. after_build c.args.self.now c.encode.new.pairs c.in-Ok.text s h (rw c.as_mut_slice.ensures.value at c.encode.ensures.order) c.in-Ok.ensures.distinct c.in-Ok.ensures.means
-
-pub returns-in-Err-clause-cause : goal.returns-in-Err-clause-cause
-returns-in-Err-clause-cause c = λ s h. refused_state c.args.self.now c.encode.new.pairs s c.in-Err.error h (rw c.as_mut_slice.ensures.value at c.encode.ensures.order) c.in-Err.ensures.refused
-
-pub returns-in-Err-clause-empty : goal.returns-in-Err-clause-empty
-returns-in-Err-clause-empty c = λ s h. after_refusal c.args.self.now c.encode.new.pairs c.clear.new.self s h (rw c.as_mut_slice.ensures.value at c.encode.ensures.order) c.clear.ensures.items
+pub returns-in_err-self-clause-empty : goal.returns-in_err-self-clause-empty
+returns-in_err-self-clause-empty c =
+    let r = err_from_is_err_and c.from_residual.result c.from_residual.ensures.1 in
+    rw r.1 (λ s h. after_refusal c.args.self.now _ s h refl refl (rw c.from_store.ensures c.new.ensures.items))

@@ -1,12 +1,12 @@
-use Rattle.std.proofs.Common.{[], refl}
-use Rattle.std.proofs.lemmas.List.Sorted.{IsPermutation-refl}
+use Rattle.std.proofs.Common.{refl, ap}
+use Rattle.zerotrie.specs.Items.{pairs_of}
 use Rattle.zerotrie_tool.specs.Commands.{kind_of}
-use Rattle.zerotrie_tool.proofs.SessionLemmas.{empty_means}
+use Rattle.zerotrie_tool.proofs.SessionLemmas.{no_trie_means}
 use Rattle.zerotrie_tool.proofs.answer.Session.new.Goals as goal
 
 pub returns : goal.returns
 returns c = record {
   choice = refl;
-  pairs = rw c.new.ensures.items (IsPermutation-refl []);
-  trie = rw c.new-2.ensures.items (empty_means (kind_of c.args.choice));
+  pairs = ap pairs_of c.new.ensures.items;
+  trie = no_trie_means (kind_of c.args.choice) c.from_store.result.store.items (rw c.from_store.ensures c.new-2.ensures.items);
 }

@@ -1,0 +1,32 @@
+//! Maps from byte strings to numbers, as flat lists of bytes that are read where they lie.
+//!
+//! ```
+//! use zerotrie::{ZeroTrieBuildError, ZeroTrieSimpleAscii};
+//!
+//! fn main(rt: HostRuntime) -> Result<(), ZeroTrieBuildError> {
+//!     let pairs = [("foo", 1), ("bar", 2), ("bazzoo", 3)];
+//!     let trie = ZeroTrieSimpleAscii::try_from_iter(rt.alloc(), pairs)?;
+//!     assert_eq!(rt; trie.get(b"bar"), Some(2));
+//!     assert_eq!(rt; trie.get(b"unknown"), None);
+//!     assert_eq!(rt; trie.byte_len(), 17);
+//!
+//!     // The bytes are the whole trie: keep them, and read them again where they lie.
+//!     let bytes = trie.into_store();
+//!     let again = ZeroTrieSimpleAscii::from_bytes(bytes.as_slice());
+//!     assert_eq!(rt; again.get(b"bazzoo"), Some(3));
+//!     Ok(())
+//! }
+//! ```
+//!
+//! A look-up takes no memory and copies nothing. A build answers the one text of the map, whichever way
+//! the pairs came, so tries of one map have equal bytes.
+#![tactic(auto)]
+
+#[cfg(test)]
+mod tests;
+
+pub use zerotrie_any::TextKey;
+pub use zerotrie_ascii::ZeroTrieSimpleAscii;
+pub use zerotrie_core::{
+    ConvertStore, TrieKey, TrieStore, ZeroTrieBuildError, ZeroTrieWithOptions,
+};

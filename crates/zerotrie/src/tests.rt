@@ -1,0 +1,147 @@
+use super::*;
+use std::borrow::CowSlice;
+use std::collections::BTreeMap;
+use std::test::Fail;
+use zerotrie_core::plain_encode;
+
+#[test]
+fn given_bytes_are_read_over_every_store(rt: HostRuntime) -> Result<(), Fail> {
+    let borrowed = ZeroTrieSimpleAscii::from_bytes(b"abc\x85");
+    let owned = borrowed.to_owned(rt.alloc())?;
+    let cow: ZeroTrieSimpleAscii<CowSlice<'_, u8>> = owned.convert_store();
+    assert_eq!(rt; cow.get(b"abc"), Some(5));
+    assert_eq!(rt; cow.get(b"ab"), None);
+    assert_eq!(rt; cow.get(b"ab\xFF"), None);
+    assert!(rt; cow.as_borrowed() == borrowed);
+    assert!(rt; cow.as_borrowed_slice() == borrowed.clone()?);
+    let array = ZeroTrieSimpleAscii::from_store([0x61, 0x62, 0x63, 0x86]);
+    assert!(rt; array.as_borrowed() != borrowed);
+    assert_eq!(rt; array.into_store(), [0x61, 0x62, 0x63, 0x86]);
+    Ok(())
+}
+
+#[test]
+fn a_map_has_one_text_by_every_route(rt: HostRuntime) -> Result<(), Fail> {
+    let items: [(&[u8], usize); 4] = [(b"", 11), (b"ad", 22), (b"adef", 33), (b"adghk", 44)];
+    let mut texts: BTreeMap<&str, usize> = BTreeMap::new(rt.alloc());
+    for (key, value) in [("adghk", 44), ("ad", 22), ("", 11), ("adef", 33)] {
+        texts.insert(key, value)?;
+    }
+    let mut strings: BTreeMap<String, usize> = BTreeMap::new(rt.alloc());
+    let mut vectors: BTreeMap<Vec<u8>, usize> = BTreeMap::new(rt.alloc());
+    for (key, value) in &texts {
+        strings.insert(String::from_str(rt.alloc(), *key)?, *value)?;
+        vectors.insert(Vec::from_slice(rt.alloc(), key.as_bytes())?, *value)?;
+    }
+    let trie = ZeroTrieSimpleAscii::try_from_sorted_slice(rt.alloc(), &items)?;
+    let bytes = [
+        0x8B, 0x61, 0x64, 0x90, 0x06, 0xC2, 0x65, 0x67, 0x03, 0x66, 0x90, 0x11, 0x68, 0x6B, 0x90,
+        0x1C,
+    ];
+    assert_eq!(rt; trie.as_bytes(), bytes.as_slice());
+    assert_eq!(rt;
+        plain_encode(rt.alloc(), &items)?.as_slice(),
+        bytes.as_slice()
+    );
+    assert!(rt; ZeroTrieSimpleAscii::try_from_btree_map_str(rt.alloc(), &texts)? == trie);
+    assert!(rt; ZeroTrieSimpleAscii::try_from_btree_map_str(rt.alloc(), &strings)? == trie);
+    assert!(rt; ZeroTrieSimpleAscii::try_from_btree_map(rt.alloc(), &texts)? == trie);
+    assert!(rt; ZeroTrieSimpleAscii::try_from_btree_map(rt.alloc(), &vectors)? == trie);
+    assert!(rt;
+        ZeroTrieSimpleAscii::try_from_iter(rt.alloc(), items.iter().rev().copied())? == trie
+    );
+    for (key, value) in items {
+        assert_eq!(rt; trie.get(key), Some(value));
+    }
+    assert_eq!(rt; trie.get(b"unknown"), None);
+    Ok(())
+}
+
+#[test]
+fn fourteen_locales_take_71_bytes(rt: HostRuntime) -> Result<(), Fail> {
+    let keys = [
+        "ar/FR", "ar/IR", "ar/SA", "ar/UK", "ar/US", "en/AU", "en/FR", "en/UK", "en/US", "fr/FR",
+        "fr/SA", "fr/UK", "fr/US", "it/IT",
+    ];
+    let mut map: BTreeMap<&str, usize> = BTreeMap::new(rt.alloc());
+    for (value, key) in keys.iter().enumerate() {
+        map.insert(*key, value)?;
+    }
+    let trie = ZeroTrieSimpleAscii::try_from_btree_map_str(rt.alloc(), &map)?;
+    assert_eq!(rt; trie.byte_len(), 71);
+    for (value, key) in keys.iter().enumerate() {
+        assert_eq!(rt; trie.get(key.as_bytes()), Some(value));
+    }
+    Ok(())
+}
+
+/// A value below 16 has one byte, and below 2064 two.
+#[test]
+fn one_value_is_one_node(rt: HostRuntime) -> Result<(), Fail> {
+    let table: [(usize, &[u8]); 5] = [
+        (15, &[0x8F]),
+        (16, &[0x90, 0x00]),
+        (2063, &[0x9F, 0x7F]),
+        (2064, &[0x90, 0x80, 0x00]),
+        (
+            usize::MAX,
+            &[0x91, 0xEF, 0xEF, 0xEF, 0xEF, 0xEF, 0xEF, 0xEF, 0xEF, 0x6F],
+        ),
+    ];
+    for (value, bytes) in table {
+        let trie = ZeroTrieSimpleAscii::try_from_iter(rt.alloc(), [("", value)])?;
+        assert_eq!(rt; trie.as_bytes(), bytes, "at {value}");
+        assert_eq!(rt; trie.get(b""), Some(value));
+    }
+    Ok(())
+}
+
+/// Targets of 255 bytes together have offsets of one byte, and of 256 bytes two.
+#[test]
+fn a_wide_branch_has_wide_offsets(rt: HostRuntime) -> Result<(), Fail> {
+    let table: [(usize, usize, &[u8]); 2] = [
+        (253, 259, &[0xC2, 0x61, 0x62, 0xFE, 0x78]),
+        (254, 262, &[0xE1, 0x62, 0x61, 0x62, 0x00, 0xFF, 0x78]),
+    ];
+    for (count, len, front) in table {
+        let mut long = vec![in rt.alloc(); b'a']?;
+        for _ in 0..count {
+            long.push(b'x')?;
+        }
+        let items = [(long.as_slice(), 0), (b"b".as_slice(), 0)];
+        let trie = ZeroTrieSimpleAscii::try_from_sorted_slice(rt.alloc(), &items)?;
+        assert_eq!(rt; trie.byte_len(), len);
+        assert!(rt; trie.as_bytes().starts_with(front));
+        assert_eq!(rt; trie.get(long.as_slice()), Some(0));
+        assert_eq!(rt; trie.get(b"b"), Some(0));
+    }
+    Ok(())
+}
+
+#[test]
+fn refused_with_a_cause(rt: HostRuntime) -> Result<(), Fail> {
+    let pairs = [("a", 1), ("b", 2), ("b", 3)];
+    let refused = ZeroTrieSimpleAscii::try_from_iter(rt.alloc(), pairs).err();
+    assert!(rt; refused == Some(ZeroTrieBuildError::DuplicateKey));
+    let twice: [(&[u8], usize); 3] = [(b"a", 1), (b"b", 2), (b"b", 3)];
+    let refused = ZeroTrieSimpleAscii::try_from_sorted_slice(rt.alloc(), &twice).err();
+    assert!(rt; refused == Some(ZeroTrieBuildError::Unsorted));
+    let high: [(&[u8], usize); 2] = [(b"a", 1), (b"\xE5", 2)];
+    let refused = ZeroTrieSimpleAscii::try_from_sorted_slice(rt.alloc(), &high).err();
+    assert!(rt; refused == Some(ZeroTrieBuildError::NonAsciiError));
+    let refused = ZeroTrieSimpleAscii::try_from_iter(rt.alloc(), high).err();
+    assert!(rt; refused == Some(ZeroTrieBuildError::NonAsciiError));
+    Ok(())
+}
+
+#[test]
+fn no_pairs_have_no_bytes(rt: HostRuntime) -> Result<(), Fail> {
+    let map: BTreeMap<&str, usize> = BTreeMap::new(rt.alloc());
+    let pairs: [(&str, usize); 0] = [];
+    let trie = ZeroTrieSimpleAscii::try_from_btree_map_str(rt.alloc(), &map)?;
+    assert!(rt; trie.is_empty());
+    assert_eq!(rt; trie.get(b""), None);
+    assert!(rt; ZeroTrieSimpleAscii::try_from_sorted_slice(rt.alloc(), &[])? == trie);
+    assert!(rt; ZeroTrieSimpleAscii::try_from_iter(rt.alloc(), pairs)? == trie);
+    Ok(())
+}

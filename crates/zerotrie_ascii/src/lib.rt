@@ -1,0 +1,7 @@
+//! Tries over ASCII keys.
+#![tactic(auto)]
+
+pub mod laws;
+mod zerotrie;
+
+pub use zerotrie::ZeroTrieSimpleAscii;

@@ -1,0 +1,107 @@
+use Rattle.std.proofs.Common.{◌≡◌, ℕ, zero, suc, ◌+◌, ◌<◌, ◌≤◌, ◌⊎◌, List, [], ◌∷◌, ◌++◌, length, get_or, take, arith, refl, ap, ◌∙◌, sym, map, Option, Some, slice_get, All, Ordering, Equal, Greater, is_lt, Bool, true, false, subst, inl, inr}
+use Rattle.std.proofs.lemmas.Option.{slice_get-map, slice_get-get_or, slice_get_within, get_or_from_slice_get}
+use Rattle.std.proofs.lemmas.List.{length-map}
+use Rattle.std.proofs.lemmas.Grind.{common_steps}
+use Rattle.std.specs.Borrow.{Bor}
+use Rattle.std.proofs.Math.Nat.{eq-or-lt_of_le}
+use Rattle.std.specs.Str.{IsAscii, IsNotAscii}
+use Rattle.std.specs.Cmp.Lexicographic.{slice_cmp}
+use Rattle.std.specs.Ordering.{nat_cmp}
+use Rattle.std.specs.Prelude.{option_map}
+use Rattle.std.specs.declared.cmp.Ordering.TheVariants.{Less}
+use Rattle.zerotrie_core.specs.Maps.{Pairs, Ascends, FirstAbove}
+use Rattle.zerotrie_core.specs.Items.{Items, pairs_of}
+
+-- the item at a place, as a pair
+pub item_at : (items : Items) (i : ℕ) (d : Bor (List ℕ) × ℕ) → i < length (pairs_of items)
+    → slice_get (pairs_of items) i ≡ Some ((get_or items i d).0.now, (get_or items i d).1)
+item_at items i d h =
+    let f : (Bor (List ℕ) × ℕ) → (List ℕ × ℕ) = λ e. (e.0.now, e.1) in
+    let k : i < length items = omega (arith, h, length-map items f) in
+    slice_get-map f items i ∙ ap (option_map f) (slice_get-get_or items i d k)
+
+-- the keys at two places that follow one another ascend
+abbrev pub Rising : Pairs → ℕ → Type 0
+Rising pairs k = slice_cmp nat_cmp (get_or pairs k ([], 0)).0 (get_or pairs (suc k) ([], 0)).0 ≡ Less
+
+pub ascends_each : (pairs : Pairs) → ((k : ℕ) → suc k < length pairs → Rising pairs k) → Ascends pairs
+ascends_each [] h = tt
+ascends_each (e ∷ []) h = (tt, tt)
+ascends_each (e ∷ f ∷ pairs) h =
+    (h 0 (omega arith), ascends_each (f ∷ pairs) (λ k below. h (suc k) (let g : suc k < suc (length pairs) = below in omega (arith, g))))
+
+pub each_ascends : (pairs : Pairs) (k : ℕ) → Ascends pairs → suc k < length pairs → Rising pairs k
+each_ascends [] k a h = let g : suc k < 0 = h in absurd (omega (arith, g))
+each_ascends (e ∷ []) k a h = let g : suc k < 1 = h in absurd (omega (arith, g))
+each_ascends (e ∷ f ∷ pairs) zero a h = a.0
+each_ascends (e ∷ f ∷ pairs) (suc k) a h = each_ascends (f ∷ pairs) k a.1 (let g : suc (suc k) < suc (suc (length pairs)) = h in let r : suc k < suc (length pairs) = omega (arith, g) in r)
+
+-- what a `get` reads
+pub got : (pairs : Pairs) (i : ℕ) (d a : List ℕ × ℕ) → slice_get pairs i ≡ Some a → get_or pairs i d ≡ a
+got pairs i d a h = get_or_from_slice_get pairs i a d h
+
+pub below_or_from : (n m : ℕ) → (n < m) ⊎ (m ≤ n)
+below_or_from n zero = inr (omega arith)
+below_or_from zero (suc m) = inl (omega arith)
+below_or_from (suc n) (suc m) = elim (below_or_from n m) [ inl h ↦ inl (omega arith) | inr h ↦ inr (omega arith) ]
+
+pub less_from : (o : Ordering) → is_lt o ≡ true → o ≡ Less
+less_from Less h = refl
+less_from Equal h = cc
+less_from Greater h = cc
+
+pub rising_on : (pairs : Pairs) (j i : ℕ) (a b : List ℕ × ℕ) → suc j ≡ i → slice_get pairs j ≡ Some a → slice_get pairs i ≡ Some b
+    → slice_cmp nat_cmp a.0 b.0 ≡ Less → ((k : ℕ) → suc k < i → Rising pairs k) → (k : ℕ) → suc k < i + 1 → Rising pairs k
+rising_on pairs j i a b e p q h before k below =
+    let at_i : get_or pairs (suc j) ([], 0) ≡ b = rw e (got pairs i ([], 0) b q) in
+    let here : Rising pairs j = rw (got pairs j ([], 0) a p, at_i) h in
+    let le : k ≤ j = omega arith in
+    elim (eq-or-lt_of_le le) [
+      | inl same ↦ subst (Rising pairs) (sym same) here
+      | inr less ↦ before k (omega arith)
+    ]
+
+pub not_rising : (pairs : Pairs) (j i : ℕ) (a b : List ℕ × ℕ) → suc j ≡ i → slice_get pairs j ≡ Some a → slice_get pairs i ≡ Some b
+    → (slice_cmp nat_cmp a.0 b.0 ≡ Less → ⊥) → Ascends pairs → ⊥
+not_rising pairs j i a b e p q h up =
+    let at_i : get_or pairs (suc j) ([], 0) ≡ b = rw e (got pairs i ([], 0) b q) in
+    let within : i < length pairs = slice_get_within pairs i b q in
+    let here : Rising pairs j = each_ascends pairs j up (omega (arith, e, within)) in
+    h (subst (λ y. slice_cmp nat_cmp a.0 y.0 ≡ Less) at_i (subst (λ x. slice_cmp nat_cmp x.0 (get_or pairs (suc j) ([], 0)).0 ≡ Less) (got pairs j ([], 0) a p) here))
+
+abbrev pub AsciiAt : Pairs → ℕ → Type 0
+AsciiAt pairs k = (d : List ℕ × ℕ) → All (λ b. b < 128) (get_or pairs k d).0
+
+get_or-any : (xs : List ℕ) (k d e : ℕ) → k < length xs → get_or xs k d ≡ get_or xs k e
+get_or-any [] k d e h = let g : k < 0 = h in absurd (omega arith)
+get_or-any (x ∷ xs) zero d e h = refl
+get_or-any (x ∷ xs) (suc k) d e h = get_or-any xs k d e (let g : suc k < suc (length xs) = h in omega arith)
+
+get_or-past : (xs : List ℕ) (k d : ℕ) → length xs ≤ k → get_or xs k d ≡ d
+get_or-past [] k d h = refl
+get_or-past (x ∷ xs) zero d h = let g : suc (length xs) ≤ 0 = h in absurd (omega arith)
+get_or-past (x ∷ xs) (suc k) d h = get_or-past xs k d (let g : suc (length xs) ≤ suc k = h in omega arith)
+
+pub ascii_here : (pairs : Pairs) (i : ℕ) (a : List ℕ × ℕ) → slice_get pairs i ≡ Some a → IsAscii a.0 → AsciiAt pairs i
+ascii_here pairs i a p h d = rw (got pairs i d a p) (λ k e below. rw (get_or-any a.0 k e 0 below) (h k))
+
+pub not_ascii : (pairs : Pairs) (i : ℕ) (a : List ℕ × ℕ) → slice_get pairs i ≡ Some a → IsNotAscii a.0
+    → All (λ e. All (λ b. b < 128) e.0) pairs → ⊥
+not_ascii pairs i a p h all =
+    let here : All (λ b. b < 128) a.0 = subst (λ x. All (λ b. b < 128) x.0) (got pairs i a a p) (all i a (slice_get_within pairs i a p)) in
+    elim (below_or_from h.0 (length a.0)) [
+      | inl within ↦ let low : get_or a.0 h.0 0 < 128 = here h.0 0 within in let high : 128 ≤ get_or a.0 h.0 0 = h.1 in omega arith
+      | inr past ↦ let zero_there : get_or a.0 h.0 0 ≡ 0 = get_or-past a.0 h.0 0 past in let high : 128 ≤ get_or a.0 h.0 0 = h.1 in omega arith
+    ]
+
+pub ascii_on : (pairs : Pairs) (i : ℕ) → ((k : ℕ) (d : List ℕ × ℕ) → k < i → All (λ b. b < 128) (get_or pairs k d).0) → AsciiAt pairs i
+    → (k : ℕ) (d : List ℕ × ℕ) → k < i + 1 → All (λ b. b < 128) (get_or pairs k d).0
+ascii_on pairs i before here k d below =
+    let le : k ≤ i = omega arith in
+    elim (eq-or-lt_of_le le) [
+      | inl same ↦ subst (λ x. All (λ b. b < 128) (get_or pairs x d).0) (sym same) (here d)
+      | inr less ↦ before k d less
+    ]
+
+pub take_one_more : (pairs : Pairs) (i : ℕ) (a : List ℕ × ℕ) → slice_get pairs i ≡ Some a → take (i + 1) pairs ≡ take i pairs ++ a ∷ []
+take_one_more pairs i a h = grind (arith, common_steps, got pairs i a a h, slice_get_within pairs i a h)

@@ -1,0 +1,12 @@
+mod Ranges
+mod Items
+mod NodeLemmas
+mod Runs
+mod Parting
+mod Asides
+mod Overflow
+mod Closing
+mod Taking
+mod Adding
+mod Building
+mod Sorting

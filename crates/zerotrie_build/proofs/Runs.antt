@@ -1,0 +1,59 @@
+-- Runs of bytes in front of keys.
+use Rattle.std.proofs.Common.{◌≡◌, ℕ, zero, suc, ◌+◌, ◌<◌, ◌≤◌, List, [], ◌∷◌, ◌++◌, length, refl, sym, ◌∙◌, ap, arith, map, take, drop, get_or, append_assoc}
+use Rattle.zerotrie_core.specs.Maps.{Pairs, with_front, residual, behind_all}
+use Rattle.zerotrie_core.proofs.EdgeLemmas.{residual-append, residual-front, residual-other}
+use Rattle.zerotrie_build.specs.Growing.{with_run}
+
+pub with_run-nil : (pairs : Pairs) → with_run [] pairs ≡ pairs
+with_run-nil [] = refl
+with_run-nil (e ∷ pairs) = ap (λ x. e ∷ x) (with_run-nil pairs)
+
+pub with_run-append : (run : List ℕ) (xs ys : Pairs) → with_run run (xs ++ ys) ≡ with_run run xs ++ with_run run ys
+with_run-append run [] ys = refl
+with_run-append run (e ∷ xs) ys = ap (λ x. (run ++ e.0, e.1) ∷ x) (with_run-append run xs ys)
+
+-- a byte behind the run is a byte in front of the keys
+pub with_run-push : (run : List ℕ) (b : ℕ) (pairs : Pairs) → with_run (run ++ b ∷ []) pairs ≡ with_run run (with_front b pairs)
+with_run-push run b [] = refl
+with_run-push run b (e ∷ pairs) =
+    ap (λ k. (k, e.1) ∷ with_run (run ++ b ∷ []) pairs) (append_assoc run (b ∷ []) e.0)
+    ∙ ap (λ x. (run ++ b ∷ e.0, e.1) ∷ x) (with_run-push run b pairs)
+
+pub with_run-front : (b : ℕ) (run : List ℕ) (pairs : Pairs) → with_run (b ∷ run) pairs ≡ with_front b (with_run run pairs)
+with_run-front b run [] = refl
+with_run-front b run (e ∷ pairs) = ap (λ x. (b ∷ (run ++ e.0), e.1) ∷ x) (with_run-front b run pairs)
+
+pub take_one_more : (key : List ℕ) (d : ℕ) → d < length key → take (suc d) key ≡ take d key ++ get_or key d 0 ∷ []
+take_one_more [] d h = let g : d < 0 = h in absurd (omega arith)
+take_one_more (x ∷ key) zero h = refl
+take_one_more (x ∷ key) (suc d) h = ap (λ y. x ∷ y) (take_one_more key d (let g : suc d < suc (length key) = h in omega arith))
+
+-- what is under one byte more
+pub run_step : (key : List ℕ) (d : ℕ) (pairs : Pairs) → d < length key → with_run (take (suc d) key) pairs ≡ with_run (take d key) (with_front (get_or key d 0) pairs)
+run_step key d pairs h = ap (λ run. with_run run pairs) (take_one_more key d h) ∙ with_run-push (take d key) (get_or key d 0) pairs
+
+pub behind_all-nil : (front : List ℕ) → behind_all front [] ≡ []
+behind_all-nil [] = refl
+behind_all-nil (b ∷ front) = behind_all-nil front
+
+pub behind_all-append : (front : List ℕ) (xs ys : Pairs) → behind_all front (xs ++ ys) ≡ behind_all front xs ++ behind_all front ys
+behind_all-append [] xs ys = refl
+behind_all-append (b ∷ front) xs ys = ap (behind_all front) (residual-append b xs ys) ∙ behind_all-append front (residual b xs) (residual b ys)
+
+pub behind_all-run : (run : List ℕ) (pairs : Pairs) → behind_all run (with_run run pairs) ≡ pairs
+behind_all-run [] pairs = with_run-nil pairs
+behind_all-run (b ∷ run) pairs =
+    ap (λ x. behind_all run (residual b x)) (with_run-front b run pairs) ∙ ap (behind_all run) (residual-front b (with_run run pairs)) ∙ behind_all-run run pairs
+
+-- a run that leaves the key before its byte number d
+pub behind_all-other : (key : List ℕ) (k d b : ℕ) (pairs : Pairs) → k < d → d ≤ length key → (get_or key k 0 ≡ b → ⊥)
+    → behind_all (take d key) (with_run (take k key ++ b ∷ []) pairs) ≡ []
+behind_all-other [] k d b pairs h l n = let g : d ≤ 0 = l in absurd (omega arith)
+behind_all-other (x ∷ key) k zero b pairs h l n = absurd (omega arith)
+behind_all-other (x ∷ key) zero (suc d) b pairs h l n =
+    ap (λ y. behind_all (take d key) (residual x y)) (with_run-front b [] pairs ∙ ap (with_front b) (with_run-nil pairs))
+    ∙ ap (behind_all (take d key)) (residual-other x b pairs (λ e. n (sym e))) ∙ behind_all-nil (take d key)
+behind_all-other (x ∷ key) (suc k) (suc d) b pairs h l n =
+    ap (λ y. behind_all (take d key) (residual x y)) (with_run-front x (take k key ++ b ∷ []) pairs)
+    ∙ ap (behind_all (take d key)) (residual-front x (with_run (take k key ++ b ∷ []) pairs))
+    ∙ behind_all-other key k d b pairs (omega arith) (let g : suc d ≤ suc (length key) = l in omega arith) n

@@ -1,0 +1,11 @@
+use Rattle.std.proofs.Common.{◌≡◌, ◌≤◌, length, arith, sym, subst, ◌∙◌}
+use Rattle.zerotrie_build.specs.Items.{pairs}
+use Rattle.zerotrie_build.specs.Growing.{tops, BuiltFrom}
+use Rattle.zerotrie_build.proofs.Adding.{built_nothing}
+use Rattle.zerotrie_build.proofs.growing.grow.Goals as goal
+
+pub loop-index-init : goal.loop-index-init
+loop-index-init g c = record {
+  built = rw c.new.ensures.items (built_nothing (pairs c.args.items) c.len-index.result (g.S.TrieBuilderStore.list c.atbs_new_empty.result) c.len-index.ensures c.atbs_new_empty.ensures);
+  within = let e = c.len-index.ensures in omega arith;
+}

@@ -1,0 +1,10 @@
+-- Slices of items, as pairs.
+use Rattle.zerotrie_core.specs.Maps.{Pairs}
+use Rattle.zerotrie_core.specs.Items.{pairs_of}
+use Rattle.zerotrie_build.specs.declared.slice_indices.ByteSliceWithIndices.{ByteSliceWithIndices}
+use Rattle.zerotrie_build.specs.declared.slice_indices.ByteSliceWithIndices.TheVariants.{Bytes, Str}
+
+-- the pairs, each key by its bytes
+abbrev pub pairs : ByteSliceWithIndices → Pairs
+pairs (Bytes items) = pairs_of items.now
+pairs (Str items) = pairs_of items.now

@@ -1,0 +1,5 @@
+pub mod Items
+pub mod Ranges
+pub mod Routes
+pub mod Branches
+pub mod Growing

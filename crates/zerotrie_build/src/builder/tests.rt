@@ -1,0 +1,171 @@
+use super::*;
+use std::collections::VecDeque;
+use std::test::Fail;
+use zerotrie_core::Simple;
+
+type Builder = ZeroTrieBuilder<VecDeque<u8>>;
+
+/// The text by the slice route.
+fn by_slice(alloc: Global, items: &[(&[u8], usize)]) -> Result<Vec<u8>, ZeroTrieBuildError> {
+    let items = ByteSliceWithIndices::from_byte_slice(items);
+    let options = ZeroTrieBuilderOptions::of::<Simple>();
+    let builder: Builder = ZeroTrieBuilder::from_sorted_tuple_slice(alloc, items, options)?;
+    Ok(builder.to_bytes(alloc)?)
+}
+
+/// The text by the route of text keys.
+fn by_text(alloc: Global, items: &[(&str, usize)]) -> Result<Vec<u8>, ZeroTrieBuildError> {
+    let items = ByteSliceWithIndices::from_str_slice(items);
+    let options = ZeroTrieBuilderOptions::of::<Simple>();
+    let builder: Builder = ZeroTrieBuilder::from_sorted_tuple_slice(alloc, items, options)?;
+    Ok(builder.to_bytes(alloc)?)
+}
+
+/// The text by the iterator route.
+fn by_iter(alloc: Global, items: &[(&[u8], usize)]) -> Result<Vec<u8>, ZeroTrieBuildError> {
+    let options = ZeroTrieBuilderOptions::of::<Simple>();
+    let builder: Builder = ZeroTrieBuilder::from_bytes_iter(alloc, items.iter().copied(), options)?;
+    Ok(builder.to_bytes(alloc)?)
+}
+
+/// Texts from the format's own tables, by both routes.
+#[test]
+fn texts_of_the_format(rt: HostRuntime) -> Result<(), Fail> {
+    let rows: [(&[(&[u8], usize)], &[u8]); 10] = [
+        (&[], &[]),
+        (
+            &[(b"", 11), (b"ad", 22), (b"adef", 33), (b"adghk", 44)],
+            &[
+                0x8B, 0x61, 0x64, 0x90, 0x06, 0xC2, 0x65, 0x67, 0x03, 0x66, 0x90, 0x11, 0x68, 0x6B,
+                0x90, 0x1C,
+            ],
+        ),
+        (
+            &[(b"abc", 11), (b"axyb", 33), (b"xyz", 22)],
+            &[
+                0xC2, 0x61, 0x78, 0x0A, 0xC2, 0x62, 0x78, 0x02, 0x63, 0x8B, 0x79, 0x62, 0x90, 0x11,
+                0x79, 0x7A, 0x90, 0x06,
+            ],
+        ),
+        (&[(b"", 15)], &[0x8F]),
+        (&[(b"", 16)], &[0x90, 0x00]),
+        (&[(b"", 2063)], &[0x9F, 0x7F]),
+        (&[(b"", 2064)], &[0x90, 0x80, 0x00]),
+        (
+            &[(b"", usize::MAX)],
+            &[0x91, 0xEF, 0xEF, 0xEF, 0xEF, 0xEF, 0xEF, 0xEF, 0xEF, 0x6F],
+        ),
+        (
+            &[(b"bar", 2), (b"bazzoo", 3), (b"foo", 1)],
+            &[
+                0xC2, 0x62, 0x66, 0x0A, 0x61, 0xC2, 0x72, 0x7A, 0x01, 0x82, 0x7A, 0x6F, 0x6F, 0x83,
+                0x6F, 0x6F, 0x81,
+            ],
+        ),
+        (
+            &[
+                (b"", 0),
+                (b"axb", 100),
+                (b"ayc", 2),
+                (b"azd", 3),
+                (b"bxe", 4),
+                (b"bxefg", 500),
+                (b"bxefh", 6),
+                (b"bxei", 7),
+                (b"bxeikl", 8),
+            ],
+            &[
+                0x80, 0xC2, 0x61, 0x62, 0x0D, 0xC3, 0x78, 0x79, 0x7A, 0x03, 0x05, 0x62, 0x90, 0x54,
+                0x63, 0x82, 0x64, 0x83, 0x78, 0x65, 0x84, 0xC2, 0x66, 0x69, 0x07, 0xC2, 0x67, 0x68,
+                0x02, 0x93, 0x64, 0x86, 0x87, 0x6B, 0x6C, 0x88,
+            ],
+        ),
+    ];
+    for (items, bytes) in rows {
+        assert_eq!(rt; by_slice(rt.alloc(), items)?.as_slice(), bytes);
+        assert_eq!(rt; by_iter(rt.alloc(), items)?.as_slice(), bytes);
+    }
+    Ok(())
+}
+
+/// An offset of one byte reaches 255 target bytes, and one more needs two.
+#[test]
+fn widths_grow_at_256(rt: HostRuntime) -> Result<(), Fail> {
+    let key = [b'x'; 254];
+    for (count, head, len) in [
+        (253usize, [0xC2, 0x61, 0x62, 0xFE], 259usize),
+        (254, [0xE1, 0x62, 0x61, 0x62], 262),
+    ] {
+        let mut first = Vec::new(rt.alloc());
+        first.push(b'a')?;
+        first.extend_from_slice(key.get(..count).ok_or("short")?)?;
+        let text = by_slice(rt.alloc(), &[(first.as_slice(), 0), (b"b", 0)])?;
+        assert_eq!(rt; text.len(), len);
+        assert_eq!(rt; text.as_slice().get(..4).ok_or("short")?, head.as_slice());
+    }
+    Ok(())
+}
+
+#[test]
+fn refusals(rt: HostRuntime) -> Result<(), Fail> {
+    let unsorted = by_slice(rt.alloc(), &[(b"foo", 1), (b"bar", 2), (b"bazzoo", 3)]);
+    assert!(rt; unsorted.is_err_and(|e| e == ZeroTrieBuildError::Unsorted));
+    let twice: [(&[u8], usize); 3] = [(b"a", 1), (b"b", 2), (b"b", 3)];
+    assert!(rt; by_slice(rt.alloc(), &twice).is_err_and(|e| e == ZeroTrieBuildError::Unsorted));
+    assert!(rt; by_iter(rt.alloc(), &twice).is_err_and(|e| e == ZeroTrieBuildError::DuplicateKey));
+    let bytes: [(&[u8], usize); 2] = [(&[0x61], 1), (&[0xE5], 2)];
+    assert!(rt;
+        by_slice(rt.alloc(), &bytes).is_err_and(|e| e == ZeroTrieBuildError::NonAsciiError)
+    );
+    assert!(rt; by_iter(rt.alloc(), &bytes).is_err_and(|e| e == ZeroTrieBuildError::NonAsciiError));
+    let text = by_text(rt.alloc(), &[("bazzoo", 3), ("bår", 2), ("foo", 1)]);
+    assert!(rt; text.is_err_and(|e| e == ZeroTrieBuildError::NonAsciiError));
+    Ok(())
+}
+
+/// A route in another order, and text keys, give the same bytes.
+#[test]
+fn routes_agree(rt: HostRuntime) -> Result<(), Fail> {
+    let falling = by_iter(rt.alloc(), &[(b"foo", 1), (b"bazzoo", 3), (b"bar", 2)])?;
+    let text = by_text(rt.alloc(), &[("bar", 2), ("bazzoo", 3), ("foo", 1)])?;
+    assert_eq!(rt; falling.as_slice(), text.as_slice());
+    let places = [
+        "ar/FR", "ar/IR", "ar/SA", "ar/UK", "ar/US", "en/AU", "en/FR", "en/UK", "en/US", "fr/FR",
+        "fr/SA", "fr/UK", "fr/US", "it/IT",
+    ];
+    let mut items = Vec::new(rt.alloc());
+    for (value, place) in places.iter().enumerate() {
+        items.push((*place, value))?;
+    }
+    assert_eq!(rt; by_text(rt.alloc(), items.as_slice())?.len(), 71);
+    Ok(())
+}
+
+/// A branch of 101 edges, which the array builder's stack does not hold.
+#[test]
+fn more_edges_than_a_stack_of_100(rt: HostRuntime) -> Result<(), Fail> {
+    let mut bytes = [0u8; 101];
+    for (i, byte) in bytes.iter_mut().enumerate() {
+        *byte = (i % 128) as u8;
+    }
+    let mut items: Vec<(&[u8], usize)> = Vec::new(rt.alloc());
+    for byte in bytes.as_slice().chunks(1) {
+        items.push((byte, 0))?;
+    }
+    let text = by_slice(rt.alloc(), items.as_slice())?;
+    assert_eq!(rt; text.len(), 304);
+    assert_eq!(rt;
+        text.as_slice().get(..2).ok_or("short")?,
+        [0xE0, 0x45].as_slice()
+    );
+    Ok(())
+}
+
+/// Nothing calls itself for each byte of a key.
+#[test]
+fn a_key_of_100000_bytes(rt: HostRuntime) -> Result<(), Fail> {
+    let key = vec![in rt.alloc(); b'a'; 100000]?;
+    let text = by_slice(rt.alloc(), &[(key.as_slice(), 1)])?;
+    assert_eq!(rt; text.len(), 100001);
+    Ok(())
+}
