@@ -4,6 +4,20 @@ use std::collections::BTreeMap;
 use std::test::Fail;
 use zerotrie_core::plain_encode;
 
+/// The example that the library's page opens with.
+#[test]
+fn the_first_example_answers(rt: HostRuntime) -> Result<(), Fail> {
+    let pairs = [("foo", 1), ("bar", 2), ("bazzoo", 3)];
+    let trie = ZeroTrieSimpleAscii::try_from_iter(rt.alloc(), pairs)?;
+    assert_eq!(rt; trie.get(b"bar"), Some(2));
+    assert_eq!(rt; trie.get(b"unknown"), None);
+    assert_eq!(rt; trie.byte_len(), 17);
+    let bytes = trie.into_store();
+    let again = ZeroTrieSimpleAscii::from_bytes(bytes.as_slice());
+    assert_eq!(rt; again.get(b"bazzoo"), Some(3));
+    Ok(())
+}
+
 #[test]
 fn given_bytes_are_read_over_every_store(rt: HostRuntime) -> Result<(), Fail> {
     let borrowed = ZeroTrieSimpleAscii::from_bytes(b"abc\x85");

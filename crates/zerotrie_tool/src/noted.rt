@@ -1,3 +1,5 @@
+//! Readers and writers that remember whether a call failed.
+
 ghost use Rattle.std.specs.Prelude.{◌≡◌, ◌||◌, Bool, true, false, is_err, OnOk};
 ghost use Rattle.std.specs.Io.KnownBytes.{ReadConsumes, WriteAppends, Appends, Keeps};
 ghost use Rattle.std.specs.Io.{ReadsAtMost, WritesAtMost};
@@ -6,6 +8,12 @@ use std::io;
 use std::io::{Read, Write};
 
 /// A reader or writer with a flag that is set from its first fault on.
+///
+/// ```text
+/// let mut reader = Noted::new(stdin);
+/// let count = reader.read(&mut buffer);   // as stdin's own
+/// reader.failed()                         // whether some call failed so far
+/// ```
 #[derive(Drop)]
 pub struct Noted<T> {
     pub inner: T,
