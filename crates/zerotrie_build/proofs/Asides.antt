@@ -1,13 +1,13 @@
 -- The texts of siblings.
-use Rattle.std.proofs.Common.{◌≡◌, ◌≢◌, ℕ, zero, suc, ◌+◌, ◌-◌, ◌<◌, ◌≤◌, ◌⊎◌, inl, inr, List, [], ◌∷◌, ◌++◌, length, refl, sym, ◌∙◌, ap, subst, arith, map, take, get_or, append_assoc}
+use Rattle.std.proofs.Common.{◌≡◌, ℕ, zero, suc, ◌<◌, ◌≤◌, inl, inr, List, [], ◌∷◌, ◌++◌, length, refl, sym, ◌∙◌, ap, arith, map, take, get_or, append_assoc}
 use Rattle.std.specs.List.{concat}
 use Rattle.zerotrie_core.specs.Kind.{simple_ascii}
 use Rattle.zerotrie_core.specs.Maps.{Pairs, with_front, behind_all}
-use Rattle.zerotrie_core.specs.Texts.{Lists, ListEach}
+use Rattle.zerotrie_core.specs.Texts.{ListEach}
 use Rattle.zerotrie_core.specs.Texts.ListEach.{no_edge, edge}
 use Rattle.zerotrie_core.proofs.EdgeLemmas.{Rise}
 use Rattle.zerotrie_build.specs.declared.siblings.Sibling.{Sibling}
-use Rattle.zerotrie_build.specs.Growing.{with_run, DepthsBelow, NoneAt, ComesBefore, IsFirst, Aside, AllAt}
+use Rattle.zerotrie_build.specs.Growing.{with_run, DepthsBelow, NoneAt, ComesBefore, Aside, AllAt}
 use Rattle.zerotrie_build.proofs.Runs.{with_run-append, with_run-push, behind_all-nil, behind_all-append, behind_all-other}
 
 pub next_below : (d : ℕ) (s : Sibling) (siblings : List Sibling) → s.depth < d → ComesBefore s siblings → DepthsBelow d siblings

@@ -1,6 +1,6 @@
 -- What a build owes for its pairs.
-use Rattle.std.proofs.Common.{◌≡◌, ◌≢◌, ℕ, zero, suc, ◌<◌, ◌≤◌, ◌⊎◌, inl, inr, List, [], ◌∷◌, length, refl, sym, ◌∙◌, ap, subst, arith, map, get_or, All, Ordering, Less, Equal, Greater}
-use Rattle.std.specs.Prelude.{Any, Contains}
+use Rattle.std.proofs.Common.{◌≡◌, ◌≢◌, ℕ, zero, suc, ◌<◌, ◌≤◌, ◌⊎◌, inl, inr, List, [], ◌∷◌, length, refl, sym, subst, arith, map, get_or, All, Less, Equal, Greater}
+use Rattle.std.specs.Prelude.{Any}
 use Rattle.std.specs.Cmp.Lexicographic.{slice_cmp, nat_list_cmp_total}
 use Rattle.std.specs.Ordering.{nat_cmp, match_ordering}
 use Rattle.std.specs.FinMap.{entries, entries-insert, put}
@@ -14,7 +14,7 @@ use Rattle.zerotrie_core.specs.Laws.{MeansFits, MeansCanonical}
 use Rattle.zerotrie_core.proofs.OrderLaws.{entries-map_of}
 use Rattle.zerotrie_core.specs.Causes.{Cause}
 use Rattle.zerotrie_core.specs.declared.error.ZeroTrieBuildError.{ZeroTrieBuildError}
-use Rattle.zerotrie_core.specs.declared.error.ZeroTrieBuildError.TheVariants.{DuplicateKey, Unsorted, NonAsciiError, CapacityExceeded}
+use Rattle.zerotrie_core.specs.declared.error.ZeroTrieBuildError.TheVariants.{DuplicateKey, Unsorted}
 use Rattle.zerotrie_build.specs.Routes.{IsRefused}
 use Rattle.zerotrie_build.proofs.Items.{below_or_from}
 use Rattle.zerotrie_build.proofs.Sorting.{map_of-entries}

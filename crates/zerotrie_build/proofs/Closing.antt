@@ -1,5 +1,5 @@
 -- One level after another is closed.
-use Rattle.std.proofs.Common.{◌≡◌, ◌≢◌, ℕ, zero, suc, ◌+◌, ◌-◌, ◌*◌, ◌/◌, ◌^◌, ◌<◌, ◌≤◌, ◌⊎◌, inl, inr, List, [], ◌∷◌, ◌++◌, length, refl, sym, ◌∙◌, ap, subst, arith, map, take, drop, get_or, append_assoc, length-append, All}
+use Rattle.std.proofs.Common.{◌≡◌, ℕ, zero, suc, ◌-◌, ◌/◌, ◌^◌, ◌<◌, ◌≤◌, inl, inr, List, [], ◌∷◌, ◌++◌, length, refl, sym, ◌∙◌, ap, subst, arith, map, take, get_or, append_assoc, length-append, All}
 use Rattle.std.specs.List.{concat}
 use Rattle.std.proofs.lemmas.List.{append-nil}
 use Rattle.std.proofs.Math.Seq.{take-length}
@@ -7,7 +7,7 @@ use Rattle.std.proofs.Math.Nat.{eq-or-lt_of_le}
 use Rattle.zerotrie_core.specs.Kind.{simple_ascii}
 use Rattle.zerotrie_core.specs.Numbers.{Spells}
 use Rattle.zerotrie_core.specs.Maps.{Pairs, with_front}
-use Rattle.zerotrie_core.specs.Texts.{Lists, ListEach, NoValueFirst}
+use Rattle.zerotrie_core.specs.Texts.{Lists, ListEach}
 use Rattle.zerotrie_core.specs.Texts.Lists.{nothing, value, literal}
 use Rattle.zerotrie_core.specs.Texts.ListEach.{no_edge, edge}
 use Rattle.zerotrie_core.specs.Canonical.{node}
@@ -17,7 +17,7 @@ use Rattle.zerotrie_core.proofs.EncodeLaws.{node_lists, not_empty_text}
 use Rattle.zerotrie_build.specs.declared.siblings.Sibling.{Sibling}
 use Rattle.zerotrie_build.specs.Ranges.{total}
 use Rattle.zerotrie_build.specs.Branches.{branch_front}
-use Rattle.zerotrie_build.specs.Growing.{with_run, DepthsBelow, NoneAt, ComesBefore, IsFirst, Aside, Holds, Waits, Stands, AllAt, OverflowsAt, TakesOff}
+use Rattle.zerotrie_build.specs.Growing.{with_run, DepthsBelow, NoneAt, ComesBefore, Aside, Holds, Waits, Stands, AllAt, OverflowsAt, TakesOff}
 use Rattle.zerotrie_build.proofs.NodeLemmas.{total-lengths, branch_front-node}
 use Rattle.zerotrie_build.proofs.Runs.{with_run-nil, with_run-append, take_one_more, run_step}
 use Rattle.zerotrie_build.proofs.Parting.{Parts}

@@ -1,10 +1,10 @@
 -- Where a key parts from the key before it.
-use Rattle.std.proofs.Common.{◌≡◌, ℕ, zero, suc, ◌+◌, ◌<◌, ◌≤◌, ◌⊎◌, inl, inr, List, [], ◌∷◌, ◌++◌, length, refl, sym, ◌∙◌, ap, subst, arith, take, drop, get_or, Less, Bool, true, false, eqb}
+use Rattle.std.proofs.Common.{◌≡◌, ℕ, zero, suc, ◌+◌, ◌<◌, ◌≤◌, ◌⊎◌, inl, inr, List, [], ◌∷◌, ◌++◌, length, refl, ◌∙◌, ap, arith, take, drop, get_or, Less}
 use Rattle.std.specs.Prelude.{◌==◌}
 use Rattle.std.specs.Cmp.Lexicographic.{slice_cmp}
 use Rattle.std.specs.Ordering.{nat_cmp}
 use Rattle.std.proofs.lemmas.Bool.{eq-eqb, ne_eqb}
-use Rattle.zerotrie_core.specs.Maps.{Pairs, FirstAbove, Ascends, residual, behind_all, common_front}
+use Rattle.zerotrie_core.specs.Maps.{Pairs, Ascends, residual, behind_all, common_front}
 use Rattle.zerotrie_core.proofs.EncodeLaws.{compare_first}
 use Rattle.zerotrie_core.proofs.EdgeLemmas.{residual-append}
 use Rattle.zerotrie_build.specs.Growing.{AtMost}

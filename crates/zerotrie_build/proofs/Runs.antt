@@ -1,5 +1,5 @@
 -- Runs of bytes in front of keys.
-use Rattle.std.proofs.Common.{◌≡◌, ℕ, zero, suc, ◌+◌, ◌<◌, ◌≤◌, List, [], ◌∷◌, ◌++◌, length, refl, sym, ◌∙◌, ap, arith, map, take, drop, get_or, append_assoc}
+use Rattle.std.proofs.Common.{◌≡◌, ℕ, zero, suc, ◌<◌, ◌≤◌, List, [], ◌∷◌, ◌++◌, length, refl, sym, ◌∙◌, ap, arith, take, get_or, append_assoc}
 use Rattle.zerotrie_core.specs.Maps.{Pairs, with_front, residual, behind_all}
 use Rattle.zerotrie_core.proofs.EdgeLemmas.{residual-append, residual-front, residual-other}
 use Rattle.zerotrie_build.specs.Growing.{with_run}

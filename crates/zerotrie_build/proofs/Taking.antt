@@ -1,5 +1,5 @@
 -- Siblings are taken off one by one.
-use Rattle.std.proofs.Common.{◌≡◌, ℕ, List, [], ◌∷◌, ◌++◌, refl, sym, ◌∙◌, ap, subst, map, append_assoc}
+use Rattle.std.proofs.Common.{◌≡◌, ℕ, List, [], ◌∷◌, ◌++◌, sym, ◌∙◌, ap, append_assoc}
 use Rattle.std.proofs.lemmas.List.{map-append}
 use Rattle.zerotrie_build.specs.declared.siblings.Sibling.{Sibling}
 use Rattle.zerotrie_build.specs.Growing.{AllAt, TakesOff}

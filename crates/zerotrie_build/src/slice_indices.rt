@@ -103,8 +103,8 @@ impl<'a> ByteSliceWithIndices<'a> {
         ensures { IsTrue result ↔ All (λ e. All (λ b. b < 128) e.0) (pairs self.entry) }
     {
         for index in 0..self.len() {
-            let (key, _) = self.get(index);
-            if !key.is_ascii() {
+            let (bytes, _) = self.get(index);
+            if !bytes.is_ascii() {
                 return false;
             }
         }

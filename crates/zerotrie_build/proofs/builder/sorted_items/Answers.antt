@@ -1,6 +1,4 @@
-use Rattle.std.proofs.Common.{◌≡◌, ◌+◌, ◌∷◌, ◌++◌, suc, sym, ap, subst, ◌∙◌, refl, arith, take, [], append_assoc}
-use Rattle.std.proofs.lemmas.Grind.{common_steps}
-use Rattle.std.proofs.lemmas.List.{map-append, append-nil}
+use Rattle.std.proofs.Common.{◌≡◌, ◌+◌, suc, sym, ap, subst, ◌∙◌, refl, arith, take, []}
 use Rattle.std.specs.FinMap.{entries}
 use Rattle.zerotrie_core.specs.Maps.{RepeatsKey, Ascends, map_of}
 use Rattle.zerotrie_core.specs.Items.{pairs_of}

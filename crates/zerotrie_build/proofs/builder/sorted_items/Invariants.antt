@@ -1,4 +1,4 @@
-use Rattle.std.proofs.Common.{◌≡◌, ◌++◌, take}
+use Rattle.std.proofs.Common.{◌≡◌, take}
 use Rattle.std.specs.FinMap.{entries}
 use Rattle.zerotrie_core.specs.Maps.{RepeatsKey, map_of}
 use Rattle.zerotrie_core.specs.Items.{pairs_of}

@@ -1,6 +1,5 @@
-use Rattle.std.proofs.Common.{◌≡◌, ◌≤◌, length, arith, sym, subst, ◌∙◌}
+use Rattle.std.proofs.Common.{arith}
 use Rattle.zerotrie_build.specs.Items.{pairs}
-use Rattle.zerotrie_build.specs.Growing.{tops, BuiltFrom}
 use Rattle.zerotrie_build.proofs.Adding.{built_nothing}
 use Rattle.zerotrie_build.proofs.growing.grow.Goals as goal
 

@@ -1,4 +1,4 @@
-use Rattle.std.proofs.Common.{◌≡◌, ◌+◌, ◌-◌, ◌∙◌, ap, sym, arith, map, take}
+use Rattle.std.proofs.Common.{◌≡◌, ◌+◌, ◌-◌, ◌∙◌, ap, arith, map, take}
 use Rattle.std.specs.List.{range_with_len}
 use Rattle.zerotrie_build.specs.Ranges.{total}
 use Rattle.zerotrie_build.proofs.NodeLemmas.{offsets_more}

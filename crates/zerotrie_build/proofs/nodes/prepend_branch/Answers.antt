@@ -1,4 +1,4 @@
-use Rattle.std.proofs.Common.{◌≡◌, ◌+◌, ◌*◌, ◌%◌, ◌<◌, ◌≤◌, ◌++◌, ◌∙◌, ap, refl, arith, sym, subst, ℕ, length}
+use Rattle.std.proofs.Common.{◌≡◌, ◌+◌, ◌*◌, ◌%◌, ◌≤◌, ◌++◌, ◌∙◌, ap, arith, subst, length}
 use Rattle.zerotrie_core.specs.Numbers.{Spells}
 use Rattle.zerotrie_core.specs.Branches.{IsWidth, blocks}
 use Rattle.zerotrie_build.specs.Branches.{ends}

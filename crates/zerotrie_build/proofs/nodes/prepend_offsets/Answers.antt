@@ -1,4 +1,4 @@
-use Rattle.std.proofs.Common.{arith, sym, ◌∙◌, ap, subst, ◌<◌}
+use Rattle.std.proofs.Common.{arith, sym, ◌∙◌, subst, ◌<◌}
 use Rattle.zerotrie_build.proofs.NodeLemmas.{power_fits, power_some, blocks_more}
 use Rattle.zerotrie_build.proofs.nodes.prepend_offsets.Goals as goal
 

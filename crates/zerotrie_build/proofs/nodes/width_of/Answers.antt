@@ -1,4 +1,4 @@
-use Rattle.std.proofs.Common.{ℕ, ◌≡◌, ◌+◌, arith, subst}
+use Rattle.std.proofs.Common.{◌≡◌, ◌+◌, arith, subst}
 use Rattle.zerotrie_core.specs.Branches.{IsWidth}
 use Rattle.zerotrie_build.proofs.NodeLemmas.{small_width, wider}
 use Rattle.zerotrie_build.proofs.nodes.width_of.Goals as goal

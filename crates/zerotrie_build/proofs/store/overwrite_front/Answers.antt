@@ -1,5 +1,3 @@
-use Rattle.std.proofs.Common.{arith, ap, ◌∙◌}
-use Rattle.std.specs.Prelude.{slice_set, slice_index_or}
 use Rattle.zerotrie_build.proofs.Ranges.{set_front}
 use Rattle.zerotrie_build.proofs.store.overwrite_front.Goals as goal
 

@@ -1,4 +1,4 @@
-use Rattle.std.proofs.Common.{◌≡◌, ◌++◌, take, drop, length}
+use Rattle.std.proofs.Common.{◌≡◌, ◌++◌, take, drop}
 use Rattle.zerotrie_build.proofs.store.overwrite_front.Given as goal
 
 abbrev pub invariant-loop-i : goal.invariant-loop-i

@@ -1,7 +1,6 @@
-use Rattle.std.proofs.Common.{◌≡◌, ◌-◌, suc, arith, length, drop, take}
+use Rattle.std.proofs.Common.{◌≡◌, ◌-◌, suc, arith, drop, take}
 use Rattle.std.proofs.lemmas.Result.{on_ok_weaker, IfErr-weaker}
 use Rattle.zerotrie_build.specs.Items.{pairs}
-use Rattle.zerotrie_build.specs.Growing.{tops, Stands}
 use Rattle.zerotrie_build.proofs.Adding.{stands_at, built_at_start, built_before, rising_at, ascii_at, exceeds_at_start, exceeds_before}
 use Rattle.zerotrie_build.proofs.growing.Growing.add.Goals as goal
 

@@ -1,7 +1,6 @@
-use Rattle.std.proofs.Common.{◌≡◌, ◌-◌, ◌≤◌, ◌<◌, ◌++◌, ◌∙◌, ap, sym, refl, subst, arith}
+use Rattle.std.proofs.Common.{◌-◌, ◌≤◌, ◌<◌, sym, refl, subst, arith}
 use Rattle.zerotrie_build.specs.Ranges.{total}
-use Rattle.zerotrie_build.specs.Branches.{branch_front}
-use Rattle.zerotrie_build.specs.Growing.{tops, Stands}
+use Rattle.zerotrie_build.specs.Growing.{tops}
 use Rattle.zerotrie_build.proofs.Closing.{opens_at, closed, too_wide, total_within}
 use Rattle.zerotrie_build.proofs.growing.Growing.close_branch.Goals as goal
 

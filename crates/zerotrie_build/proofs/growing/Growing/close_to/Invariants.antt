@@ -1,4 +1,4 @@
-use Rattle.std.proofs.Common.{◌-◌, ◌≤◌, length}
+use Rattle.std.proofs.Common.{◌≤◌, length}
 use Rattle.zerotrie_build.specs.Growing.{tops, Closes}
 use Rattle.zerotrie_build.proofs.growing.Growing.close_to.Given as goal
 

@@ -1,7 +1,7 @@
-use Rattle.std.proofs.Common.{◌≡◌, ◌+◌, ◌-◌, ◌<◌, ◌≤◌, ◌∙◌, suc, sym, arith, subst, inl, inr, take, get_or, length, ap, refl}
+use Rattle.std.proofs.Common.{◌≡◌, ◌+◌, ◌<◌, suc, sym, arith, subst, inl, inr, take, get_or, length, refl}
 use Rattle.std.proofs.lemmas.Result.{err_from_is_err_and, on_ok_weaker, IfErr-weaker}
-use Rattle.zerotrie_build.specs.Growing.{tops, Stands, OverflowsAt, Waits}
-use Rattle.zerotrie_build.proofs.Parting.{Parts, parts, common, at_most_front}
+use Rattle.zerotrie_build.specs.Growing.{tops, Stands}
+use Rattle.zerotrie_build.proofs.Parting.{Parts, parts, at_most_front}
 use Rattle.zerotrie_build.proofs.Closing.{goes_on, set_aside, behind_within}
 use Rattle.zerotrie_build.proofs.growing.Growing.go_before.Goals as goal
 

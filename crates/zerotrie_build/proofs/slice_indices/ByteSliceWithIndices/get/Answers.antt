@@ -1,5 +1,3 @@
-use Rattle.std.proofs.Common.{arith, length, ap, ◌<◌}
-use Rattle.std.proofs.lemmas.List.{length-map}
 use Rattle.zerotrie_build.proofs.Items.{item_at}
 use Rattle.zerotrie_build.proofs.slice_indices.ByteSliceWithIndices.get.Goals as goal
 

@@ -1,4 +1,4 @@
-use Rattle.std.proofs.Common.{ℕ, ◌<◌, All, get_or, [], List}
+use Rattle.std.proofs.Common.{ℕ, ◌<◌, All, get_or, List}
 use Rattle.zerotrie_build.specs.Items.{pairs}
 use Rattle.zerotrie_build.proofs.slice_indices.ByteSliceWithIndices.is_all_ascii.Given as goal
 

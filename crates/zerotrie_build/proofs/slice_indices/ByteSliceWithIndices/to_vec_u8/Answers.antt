@@ -1,6 +1,5 @@
-use Rattle.std.proofs.Common.{◌≡◌, ◌++◌, ◌∷◌, [], ap, sym, ◌∙◌}
+use Rattle.std.proofs.Common.{sym}
 use Rattle.std.proofs.lemmas.List.{map-append}
-use Rattle.zerotrie_core.specs.Items.{pairs_of}
 use Rattle.zerotrie_build.specs.Items.{pairs}
 use Rattle.zerotrie_build.proofs.Items.{take_one_more}
 use Rattle.zerotrie_build.proofs.slice_indices.ByteSliceWithIndices.to_vec_u8.Goals as goal

@@ -1,4 +1,4 @@
-use Rattle.std.proofs.Common.{◌≡◌, ℕ, ◌+◌, ◌≤◌, ◌++◌, length, drop}
+use Rattle.std.proofs.Common.{◌≡◌, ◌+◌, ◌≤◌, ◌++◌, length, drop}
 use Rattle.std.specs.VecDeque.{deque_len, deque_capacity}
 use Rattle.zerotrie_build.proofs.store.VecDequeU8TrieBuilderStore.atbs_extend_front.Given as goal
 

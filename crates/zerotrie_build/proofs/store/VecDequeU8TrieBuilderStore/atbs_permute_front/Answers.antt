@@ -1,6 +1,6 @@
-use Rattle.std.proofs.Common.{◌≡◌, ◌<◌, ◌≤◌, ◌++◌, length, map, drop, arith, ap, ◌∙◌, sym, refl}
+use Rattle.std.proofs.Common.{◌≡◌, map, arith, ◌∙◌, refl}
 use Rattle.std.specs.List.{concat}
-use Rattle.zerotrie_build.specs.Ranges.{total, range_at}
+use Rattle.zerotrie_build.specs.Ranges.{range_at}
 use Rattle.zerotrie_build.proofs.Ranges.{order_in_range, length-laid}
 use Rattle.zerotrie_build.proofs.store.VecDequeU8TrieBuilderStore.atbs_permute_front.Goals as goal
 
