@@ -4,7 +4,7 @@ pub use Rattle.zerotrie_core.specs.Texts
 pub use Rattle.zerotrie_core.specs.Canonical
 pub use Rattle.zerotrie_core.specs.Fits
 pub use Rattle.zerotrie_core.specs.Causes
+pub use Rattle.zerotrie_core.specs.Built
 pub use Rattle.zerotrie_core.specs.Items
 pub use Rattle.zerotrie_build.specs.Routes
-pub use Rattle.zerotrie_any.specs.Built
 pub use Rattle.zerotrie_any.specs.Order

@@ -18,6 +18,8 @@
 //! }
 //! ```
 //!
+//! `ZeroAsciiIgnoreCaseTrie` has the same calls, and finds keys without the case of their letters.
+//!
 //! A look-up takes no memory and copies nothing. A build answers the one text of the map, whichever way
 //! the pairs came, so tries of one map have equal bytes.
 #![tactic(auto)]
@@ -26,7 +28,7 @@
 mod tests;
 
 pub use zerotrie_any::TextKey;
-pub use zerotrie_ascii::ZeroTrieSimpleAscii;
+pub use zerotrie_ascii::{AsciiKind, AsciiTrie, ZeroAsciiIgnoreCaseTrie, ZeroTrieSimpleAscii};
 pub use zerotrie_core::{
-    ConvertStore, TrieKey, TrieStore, ZeroTrieBuildError, ZeroTrieWithOptions,
+    ConvertStore, Ignore, Simple, TrieKey, TrieStore, ZeroTrieBuildError, ZeroTrieWithOptions,
 };

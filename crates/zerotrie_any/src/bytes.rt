@@ -3,11 +3,12 @@
 ghost use Rattle.std.specs.Prelude.{◌≡◌, ◌≢◌, IfOk, OnOk, IfErr};
 ghost use Rattle.std.specs.Iterator.{IsFinite};
 ghost use Rattle.std.specs.Iterator.Runs.{WholeRun};
+ghost use Rattle.zerotrie_core.specs.Kind.{IsAscii};
 ghost use Rattle.zerotrie_core.specs.Maps.{Ascends, RepeatsKey};
 ghost use Rattle.zerotrie_core.specs.Items.{pairs_of};
 ghost use Rattle.zerotrie_core.specs.Causes.{Cause};
 ghost use Rattle.zerotrie_build.specs.Routes.{keyed};
-ghost use Rattle.zerotrie_any.specs.Built.{IsBuilt};
+ghost use Rattle.zerotrie_core.specs.Built.{IsBuilt};
 ghost use Rattle.zerotrie_any.specs.Order.{IsByBytes};
 
 use std::alloc::{AllocError, Global};
@@ -15,7 +16,7 @@ use std::collections::{BTreeMap, VecDeque};
 use zerotrie_build::{ByteSliceWithIndices, ZeroTrieBuilder};
 use zerotrie_core::{TrieKey, ZeroTrieBuildError, ZeroTrieBuilderOptions, ZeroTrieWithOptions};
 
-/// The bytes of the trie of a slice whose keys are strictly ascending, for no items no bytes.
+/// The bytes of the trie of a slice whose keys are strictly ascending by their bytes, for no items no bytes.
 ///
 /// ```
 /// let bytes = bytes_from_slice::<Simple>(alloc, &[(b"ad", 22), (b"adef", 33)])?;
@@ -27,6 +28,7 @@ use zerotrie_core::{TrieKey, ZeroTrieBuildError, ZeroTrieBuilderOptions, ZeroTri
 ///
 /// - `Unsorted` where the keys are not strictly ascending by their bytes,
 /// - `NonAsciiError` where a key holds a byte of 128 or more, in a kind for ASCII alone,
+/// - `MixedCase` where two keys agree in front up to case and not exactly, in the kind without case,
 /// - `CapacityExceeded` where a branch needs 2^32 target bytes or more, in a kind whose offsets have at
 ///   most four bytes, or the text has 2^64 bytes or more,
 /// - `OutOfMemory` where a growth was refused.
@@ -34,7 +36,7 @@ pub fn bytes_from_slice<K: ZeroTrieWithOptions>(
     alloc: Global,
     items: &[(&[u8], usize)],
 ) -> Result<Vec<u8>, ZeroTrieBuildError>
-    requires { K.TAG ≡ 0 }
+    requires { IsAscii K.kind }
     ensures ascends { OnOk result (Ascends (pairs_of items.now)) }
     ensures built { IfOk result (λ bytes. IsBuilt K.kind (pairs_of items.now) bytes.items) }
     ensures cause { IfErr result (λ e. e ≢ ZeroTrieBuildError.OutOfMemory → Cause K.kind (pairs_of items.now) e) }
@@ -71,7 +73,7 @@ pub fn bytes_from_map<K: ZeroTrieWithOptions, Key: TrieKey + Ord>(
     alloc: Global,
     entries: &BTreeMap<Key, usize>,
 ) -> Result<Vec<u8>, ZeroTrieBuildError>
-    requires { K.TAG ≡ 0 }
+    requires { IsAscii K.kind }
     ensures ascends { OnOk result (Ascends (keyed Key.key entries.now.entries)) }
     ensures built { IfOk result (λ bytes. IsBuilt K.kind (keyed Key.key entries.now.entries) bytes.items) }
     ensures cause { IfErr result (λ e. e ≢ ZeroTrieBuildError.OutOfMemory → Cause K.kind (keyed Key.key entries.now.entries) e) }
@@ -98,7 +100,7 @@ pub fn bytes_from_iter<
 >(alloc: Global, iter: U) -> Result<Vec<u8>, ZeroTrieBuildError>
 where
     U::IntoIter: Drop,
-    requires simple { K.TAG ≡ 0 }
+    requires ascii { IsAscii K.kind }
     requires steps { (it : U.IntoIter) → U.into_iter_gives iter it → U.IntoIter.can_next it × IsFinite (U.IntoIter.remaining it) }
     ensures distinct { OnOk result ((it : U.IntoIter) × U.into_iter_gives iter it
         × WholeRun U.IntoIter.next_gives it (λ p. RepeatsKey (keyed Key.key p.items) → ⊥)) }

@@ -1,7 +1,9 @@
-//! Tries over ASCII keys.
+//! Tries over ASCII keys, with the case of letters and without.
 #![tactic(auto)]
 
 pub mod laws;
+mod options;
 mod zerotrie;
 
-pub use zerotrie::ZeroTrieSimpleAscii;
+pub use options::AsciiKind;
+pub use zerotrie::{AsciiTrie, ZeroAsciiIgnoreCaseTrie, ZeroTrieSimpleAscii};

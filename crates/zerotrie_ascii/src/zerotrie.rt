@@ -1,4 +1,4 @@
-//! The trie over ASCII keys whose branches have sorted tables.
+//! The tries over ASCII keys: one type, of which each kind is an alias.
 
 ghost use Rattle.std.specs.Prelude.{◌≡◌, ◌≢◌, ◌==◌, ◌↔◌, IsTrue, IfOk, OnOk, IfErr, length, []};
 ghost use Rattle.std.specs.Cmp.{on_equiv, on_per};
@@ -6,22 +6,39 @@ ghost use Rattle.std.specs.Cmp as cmp;
 ghost use Rattle.std.specs.Cmp.Lexicographic.{pointwise, nat_list_eq_equiv};
 ghost use Rattle.std.specs.Iterator.{IsFinite};
 ghost use Rattle.std.specs.Iterator.Runs.{WholeRun};
-ghost use Rattle.zerotrie_core.specs.Kind.{simple_ascii};
 ghost use Rattle.zerotrie_core.specs.Maps.{Map, look, Ascends, RepeatsKey};
 ghost use Rattle.zerotrie_core.specs.Texts.{Means};
 ghost use Rattle.zerotrie_core.specs.Items.{pairs_of};
 ghost use Rattle.zerotrie_core.specs.Causes.{Cause};
 ghost use Rattle.zerotrie_build.specs.Routes.{keyed};
-ghost use Rattle.zerotrie_any.specs.Built.{IsBuilt};
+ghost use Rattle.zerotrie_core.specs.Built.{IsBuilt};
 ghost use Rattle.zerotrie_any.specs.Order.{IsByBytes};
 
 use crate::laws;
+use crate::options::AsciiKind;
 use std::alloc::{AllocError, Global};
 use std::collections::BTreeMap;
+use std::marker::PhantomData;
 use zerotrie_any::{TextKey, bytes_from_iter, bytes_from_map, bytes_from_slice};
-use zerotrie_core::{ConvertStore, Simple, TrieKey, TrieStore, ZeroTrieBuildError, get_counted};
+use zerotrie_core::{
+    ConvertStore, Ignore, Simple, TrieKey, TrieStore, ZeroTrieBuildError, get_counted,
+};
 
-/// A map from ASCII keys to numbers, as a flat list of bytes that is read where it lies.
+/// A map from ASCII keys to numbers, as a flat list of bytes that is read where it lies. `K` is its kind.
+///
+/// Use it by the name of a kind, `ZeroTrieSimpleAscii` or `ZeroAsciiIgnoreCaseTrie`.
+///
+/// Any store of bytes is a trie: nothing is tested and no call panics. On bytes that mean a map, as those
+/// of every build do, each call answers as that map. A map has one text of a kind, so tries of it have
+/// equal bytes.
+#[derive(Debug, Drop)]
+pub struct AsciiTrie<K, S> {
+    /// The bytes of the trie.
+    pub store: S,
+    kind: PhantomData<K>,
+}
+
+/// A map from ASCII keys to numbers.
 ///
 /// ```
 /// let trie = ZeroTrieSimpleAscii::from_bytes(b"abc\x85");
@@ -29,51 +46,58 @@ use zerotrie_core::{ConvertStore, Simple, TrieKey, TrieStore, ZeroTrieBuildError
 /// assert_eq!(trie.get(b"ab"), None);
 /// ```
 ///
-/// Any store of bytes is a trie: nothing is tested and no call stops. On bytes that mean a map, as those
-/// of every build do, each call answers as that map. A map has one text, so tries of it have equal bytes.
-#[derive(Debug, Drop)]
-pub struct ZeroTrieSimpleAscii<S> {
-    /// The bytes of the trie.
-    pub store: S,
-}
+/// Its edges ascend by their bytes.
+pub type ZeroTrieSimpleAscii<S> = AsciiTrie<Simple, S>;
 
-impl<S> ZeroTrieSimpleAscii<S> {
+/// A map from ASCII keys to numbers that is looked up without the case of letters.
+///
+/// ```
+/// let trie = ZeroAsciiIgnoreCaseTrie::from_bytes(b"aBc\x85");
+/// assert_eq!(trie.get(b"abc"), Some(5));
+/// assert_eq!(trie.get(b"ABC"), Some(5));
+/// assert_eq!(trie.get(b"ab"), None);
+/// ```
+///
+/// Its bytes keep the case of each key, and its edges ascend by their bytes in lower case. A key has one
+/// spelling, and what two keys have in front up to case they have byte by byte: a build of other keys is
+/// refused `MixedCase`.
+///
+/// ```
+/// let refused = ZeroAsciiIgnoreCaseTrie::try_from_iter(alloc, [("ab", 1), ("Ac", 2)]).err();
+/// assert_eq!(refused, Some(ZeroTrieBuildError::MixedCase));
+/// ```
+pub type ZeroAsciiIgnoreCaseTrie<S> = AsciiTrie<Ignore, S>;
+
+impl<K, S> AsciiTrie<K, S> {
     /// The trie whose bytes the store holds.
     pub fn from_store(store: S) -> Self
         ensures { result.store ≡ store }
     {
-        ZeroTrieSimpleAscii { store }
+        AsciiTrie {
+            store,
+            kind: PhantomData,
+        }
     }
 
     /// The store of the trie.
     pub fn into_store(self) -> S
         ensures { result ≡ self.store }
     {
-        let ZeroTrieSimpleAscii { store } = self;
+        let AsciiTrie { store, kind: _ } = self;
         store
     }
 }
 
-impl<S: TrieStore> ZeroTrieSimpleAscii<S> {
+impl<K, S: TrieStore> AsciiTrie<K, S> {
     /// The trie of the same bytes over another store. It takes no memory.
     ///
     /// ```
-    /// let cow: ZeroTrieSimpleAscii<CowSlice<u8>> = trie.convert_store();
+    /// let shared: ZeroTrieSimpleAscii<CowSlice<u8>> = owned.convert_store();
     /// ```
-    pub fn convert_store<X: ConvertStore<S>>(self) -> ZeroTrieSimpleAscii<X>
+    pub fn convert_store<X: ConvertStore<S>>(self) -> AsciiTrie<K, X>
         ensures { X.stored result.store ≡ S.stored self.store }
     {
-        ZeroTrieSimpleAscii::from_store(X::convert(self.into_store()))
-    }
-
-    /// The value of the key, or `None` where the trie has no such key.
-    ///
-    /// It takes no memory. On bytes that mean no map it gives some answer.
-    pub fn get(&self, key: &[u8]) -> Option<usize>
-        ensures { (m : Map) → Means simple_ascii (S.stored self.now.store) m → result ≡ look simple_ascii m key.now }
-    {
-        let (value, _nodes) = get_counted::<Simple>(self.as_bytes(), key);
-        value
+        AsciiTrie::from_store(X::convert(self.into_store()))
     }
 
     /// Whether there are no bytes, as of a trie with no keys.
@@ -98,14 +122,14 @@ impl<S: TrieStore> ZeroTrieSimpleAscii<S> {
     }
 
     /// The same trie over these bytes where they lie.
-    pub fn as_borrowed(&self) -> ZeroTrieSimpleAscii<&[u8]>
+    pub fn as_borrowed(&self) -> AsciiTrie<K, &[u8]>
         ensures { result.store.now ≡ S.stored self.now.store }
     {
-        ZeroTrieSimpleAscii::from_bytes(self.as_bytes())
+        AsciiTrie::from_bytes(self.as_bytes())
     }
 
     /// The same trie over these bytes where they lie, as `as_borrowed`.
-    pub fn as_borrowed_slice(&self) -> ZeroTrieSimpleAscii<&[u8]>
+    pub fn as_borrowed_slice(&self) -> AsciiTrie<K, &[u8]>
         ensures { result.store.now ≡ S.stored self.now.store }
     {
         self.as_borrowed()
@@ -119,29 +143,42 @@ impl<S: TrieStore> ZeroTrieSimpleAscii<S> {
     /// ```
     ///
     /// Refused for want of memory alone.
-    pub fn to_owned(&self, alloc: Global) -> Result<ZeroTrieSimpleAscii<Vec<u8>>, AllocError>
+    pub fn to_owned(&self, alloc: Global) -> Result<AsciiTrie<K, Vec<u8>>, AllocError>
         ensures { IfOk result (λ trie. trie.store.items ≡ S.stored self.now.store) }
     {
         let store = Vec::from_slice(alloc, self.as_bytes())?;
-        Ok(ZeroTrieSimpleAscii { store })
+        Ok(AsciiTrie::from_store(store))
     }
 }
 
-impl<'a> ZeroTrieSimpleAscii<&'a [u8]> {
+impl<K: AsciiKind, S: TrieStore> AsciiTrie<K, S> {
+    /// The value of the key, or `None` where the trie has no such key.
+    ///
+    /// In the kind without case, keys that differ in the case of ASCII letters alone are one. The call takes
+    /// no memory. On bytes that mean no map it gives some answer.
+    pub fn get(&self, key: &[u8]) -> Option<usize>
+        ensures { (m : Map) → Means K.kind (S.stored self.now.store) m → result ≡ look K.kind m key.now }
+    {
+        let (value, _nodes) = get_counted::<K>(self.as_bytes(), key);
+        value
+    }
+}
+
+impl<'a, K> AsciiTrie<K, &'a [u8]> {
     /// The trie of these bytes.
     ///
     /// ```
-    /// let trie = ZeroTrieSimpleAscii::from_bytes(b"abc\x80def\x81");
-    /// assert_eq!(trie.get(b"abcdef"), Some(1));
+    /// let trie = ZeroTrieSimpleAscii::from_bytes(b"in\x83to\x84");
+    /// assert_eq!(trie.get(b"into"), Some(4));
     /// ```
     pub fn from_bytes(bytes: &'a [u8]) -> Self
         ensures { result.store.now ≡ bytes.now }
     {
-        ZeroTrieSimpleAscii { store: bytes }
+        AsciiTrie::from_store(bytes)
     }
 }
 
-impl ZeroTrieSimpleAscii<Vec<u8>> {
+impl<K: AsciiKind> AsciiTrie<K, Vec<u8>> {
     /// Builds the trie of a map with text keys, `&str` or `String`, for no entries no bytes.
     ///
     /// ```
@@ -152,13 +189,13 @@ impl ZeroTrieSimpleAscii<Vec<u8>> {
     /// ```
     ///
     /// Refused as `try_from_btree_map` is, but for `Unsorted`: text is in the order of its bytes.
-    pub fn try_from_btree_map_str<K: TextKey + Ord>(
+    pub fn try_from_btree_map_str<Key: TextKey>(
         alloc: Global,
-        entries: &BTreeMap<K, usize>,
+        entries: &BTreeMap<Key, usize>,
     ) -> Result<Self, ZeroTrieBuildError>
-        ensures ascends { OnOk result (Ascends (keyed K.key entries.now.entries)) }
-        ensures built { IfOk result (λ trie. IsBuilt simple_ascii (keyed K.key entries.now.entries) trie.store.items) }
-        ensures cause { IfErr result (λ e. e ≢ ZeroTrieBuildError.OutOfMemory → Cause simple_ascii (keyed K.key entries.now.entries) e) }
+        ensures ascends { OnOk result (Ascends (keyed Key.key entries.now.entries)) }
+        ensures built { IfOk result (λ trie. IsBuilt K.kind (keyed Key.key entries.now.entries) trie.store.items) }
+        ensures cause { IfErr result (λ e. e ≢ ZeroTrieBuildError.OutOfMemory → Cause K.kind (keyed Key.key entries.now.entries) e) }
         ensures never { IfErr result (λ e. e ≢ ZeroTrieBuildError.DuplicateKey) }
         ensures never_unsorted { IfErr result (λ e. e ≢ ZeroTrieBuildError.Unsorted) }
     {
@@ -170,22 +207,23 @@ impl ZeroTrieSimpleAscii<Vec<u8>> {
     /// Refused:
     ///
     /// - `NonAsciiError` where a key holds a byte of 128 or more,
+    /// - `MixedCase` where two keys agree in front up to case and not exactly, in the kind without case,
     /// - `CapacityExceeded` where a branch needs 2^32 target bytes or more, or the text has 2^64 bytes or
     ///   more,
     /// - `Unsorted` where the order of the map is not that of the keys' bytes (that of bytes and of text is),
     /// - `OutOfMemory` where a growth was refused.
-    pub fn try_from_btree_map<K: TrieKey + Ord>(
+    pub fn try_from_btree_map<Key: TrieKey + Ord>(
         alloc: Global,
-        entries: &BTreeMap<K, usize>,
+        entries: &BTreeMap<Key, usize>,
     ) -> Result<Self, ZeroTrieBuildError>
-        ensures ascends { OnOk result (Ascends (keyed K.key entries.now.entries)) }
-        ensures built { IfOk result (λ trie. IsBuilt simple_ascii (keyed K.key entries.now.entries) trie.store.items) }
-        ensures cause { IfErr result (λ e. e ≢ ZeroTrieBuildError.OutOfMemory → Cause simple_ascii (keyed K.key entries.now.entries) e) }
+        ensures ascends { OnOk result (Ascends (keyed Key.key entries.now.entries)) }
+        ensures built { IfOk result (λ trie. IsBuilt K.kind (keyed Key.key entries.now.entries) trie.store.items) }
+        ensures cause { IfErr result (λ e. e ≢ ZeroTrieBuildError.OutOfMemory → Cause K.kind (keyed Key.key entries.now.entries) e) }
         ensures never { IfErr result (λ e. e ≢ ZeroTrieBuildError.DuplicateKey) }
-        ensures by_bytes { IsByBytes K.cmp K.key → IfErr result (λ e. e ≢ ZeroTrieBuildError.Unsorted) }
+        ensures by_bytes { IsByBytes Key.cmp Key.key → IfErr result (λ e. e ≢ ZeroTrieBuildError.Unsorted) }
     {
-        let store = bytes_from_map::<Simple, K>(alloc, entries)?;
-        Ok(ZeroTrieSimpleAscii { store })
+        let store = bytes_from_map::<K, Key>(alloc, entries)?;
+        Ok(AsciiTrie::from_store(store))
     }
 
     /// Builds the trie of a slice whose keys are strictly ascending, for no items no bytes.
@@ -202,12 +240,12 @@ impl ZeroTrieSimpleAscii<Vec<u8>> {
         items: &[(&[u8], usize)],
     ) -> Result<Self, ZeroTrieBuildError>
         ensures ascends { OnOk result (Ascends (pairs_of items.now)) }
-        ensures built { IfOk result (λ trie. IsBuilt simple_ascii (pairs_of items.now) trie.store.items) }
-        ensures cause { IfErr result (λ e. e ≢ ZeroTrieBuildError.OutOfMemory → Cause simple_ascii (pairs_of items.now) e) }
+        ensures built { IfOk result (λ trie. IsBuilt K.kind (pairs_of items.now) trie.store.items) }
+        ensures cause { IfErr result (λ e. e ≢ ZeroTrieBuildError.OutOfMemory → Cause K.kind (pairs_of items.now) e) }
         ensures never { IfErr result (λ e. e ≢ ZeroTrieBuildError.DuplicateKey) }
     {
-        let store = bytes_from_slice::<Simple>(alloc, items)?;
-        Ok(ZeroTrieSimpleAscii { store })
+        let store = bytes_from_slice::<K>(alloc, items)?;
+        Ok(AsciiTrie::from_store(store))
     }
 
     /// Builds the trie of what an iterator gives, in any order, for nothing no bytes.
@@ -219,7 +257,7 @@ impl ZeroTrieSimpleAscii<Vec<u8>> {
     ///
     /// Refused as `try_from_btree_map` is, but for `Unsorted`, and besides `DuplicateKey` where one key
     /// came twice.
-    pub fn try_from_iter<K: TrieKey + Drop, U: IntoIterator<Item = (K, usize)>>(
+    pub fn try_from_iter<Key: TrieKey + Drop, U: IntoIterator<Item = (Key, usize)>>(
         alloc: Global,
         iter: U,
     ) -> Result<Self, ZeroTrieBuildError>
@@ -227,43 +265,43 @@ impl ZeroTrieSimpleAscii<Vec<u8>> {
         U::IntoIter: Drop,
         requires { (it : U.IntoIter) → U.into_iter_gives iter it → U.IntoIter.can_next it × IsFinite (U.IntoIter.remaining it) }
         ensures distinct { OnOk result ((it : U.IntoIter) × U.into_iter_gives iter it
-            × WholeRun U.IntoIter.next_gives it (λ p. RepeatsKey (keyed K.key p.items) → ⊥)) }
+            × WholeRun U.IntoIter.next_gives it (λ p. RepeatsKey (keyed Key.key p.items) → ⊥)) }
         ensures built { IfOk result (λ trie. (it : U.IntoIter) × U.into_iter_gives iter it
-            × WholeRun U.IntoIter.next_gives it (λ p. IsBuilt simple_ascii (keyed K.key p.items) trie.store.items)) }
+            × WholeRun U.IntoIter.next_gives it (λ p. IsBuilt K.kind (keyed Key.key p.items) trie.store.items)) }
         ensures cause { IfErr result (λ e. e ≢ ZeroTrieBuildError.OutOfMemory → (it : U.IntoIter) × U.into_iter_gives iter it
-            × WholeRun U.IntoIter.next_gives it (λ p. Cause simple_ascii (keyed K.key p.items) e)) }
+            × WholeRun U.IntoIter.next_gives it (λ p. Cause K.kind (keyed Key.key p.items) e)) }
         ensures never { IfErr result (λ e. e ≢ ZeroTrieBuildError.Unsorted) }
     {
-        let store = bytes_from_iter::<Simple, K, U>(alloc, iter)?;
-        Ok(ZeroTrieSimpleAscii { store })
+        let store = bytes_from_iter::<K, Key, U>(alloc, iter)?;
+        Ok(AsciiTrie::from_store(store))
     }
 }
 
-impl<S: Copy> Clone for ZeroTrieSimpleAscii<S> {
+impl<K, S: Copy> Clone for AsciiTrie<K, S> {
     fn clone(&self) -> Result<Self, AllocError>
         ensures { result ≡ Ok self.now }
     {
-        Ok(*self)
+        Ok(AsciiTrie::from_store(self.store))
     }
 }
 
-impl<S: Copy> Copy for ZeroTrieSimpleAscii<S> {}
+impl<K, S: Copy> Copy for AsciiTrie<K, S> {}
 
-impl<S: TrieStore> PartialEq for ZeroTrieSimpleAscii<S> {
+impl<K: AsciiKind, S: TrieStore> PartialEq for AsciiTrie<K, S> {
     ghost eq = { λ x y. pointwise ◌==◌ (S.stored x.store) (S.stored y.store) };
 
     ghost laws = { on_per (λ x. S.stored x.store) (cmp.partial_equiv_from_equiv nat_list_eq_equiv) };
 
     fn eq(&self, other: &Self) -> bool
         ensures bytes { IsTrue result ↔ (S.stored self.now.store ≡ S.stored other.now.store) }
-        ensures maps { (m n : Map) → Means simple_ascii (S.stored self.now.store) m
-            → Means simple_ascii (S.stored other.now.store) n → IsTrue result ↔ (m ≡ n) }
+        ensures maps { (m n : Map) → Means K.kind (S.stored self.now.store) m
+            → Means K.kind (S.stored other.now.store) n → IsTrue result ↔ (m ≡ n) }
     {
         laws::equal_exactly_if_maps_are();
         self.as_bytes() == other.as_bytes()
     }
 }
 
-impl<S: TrieStore> Eq for ZeroTrieSimpleAscii<S> {
+impl<K: AsciiKind, S: TrieStore> Eq for AsciiTrie<K, S> {
     ghost laws = { on_equiv (λ x. S.stored x.store) nat_list_eq_equiv };
 }

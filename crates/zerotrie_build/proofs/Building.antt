@@ -1,23 +1,25 @@
 -- What a build owes for its pairs.
-use Rattle.std.proofs.Common.{◌≡◌, ◌≢◌, ℕ, zero, suc, ◌<◌, ◌≤◌, ◌⊎◌, inl, inr, List, [], ◌∷◌, length, refl, sym, subst, arith, map, get_or, All, Less, Equal, Greater}
-use Rattle.std.specs.Prelude.{Any}
+use Rattle.std.proofs.Common.{◌≡◌, ◌≢◌, ℕ, zero, suc, ◌^◌, ◌<◌, ◌≤◌, ◌⊎◌, inl, inr, List, [], ◌∷◌, length, refl, sym, subst, arith, get_or, All, Less, Equal, Greater}
+use Rattle.std.specs.Prelude.{Any, IfOk, IfErr}
+use Rattle.std.proofs.Common.{Result, Ok, Err}
+use Rattle.std.proofs.lemmas.Result.{IfErr-weaker}
 use Rattle.std.specs.Cmp.Lexicographic.{slice_cmp, nat_list_cmp_total}
 use Rattle.std.specs.Ordering.{nat_cmp, match_ordering}
 use Rattle.std.specs.FinMap.{entries, entries-insert, put}
-use Rattle.std.proofs.lemmas.Cmp.{tied_itself}
-use Rattle.zerotrie_core.specs.Kind.{Kind, simple_ascii}
-use Rattle.zerotrie_core.specs.Maps.{Pairs, Map, map_of, Ascends, FirstAbove, RepeatsKey}
-use Rattle.zerotrie_core.specs.Texts.{Means}
-use Rattle.zerotrie_core.specs.Canonical.{enc}
-use Rattle.zerotrie_core.specs.Fits.{Fits, ExceedsCapacity}
+use Rattle.zerotrie_core.specs.Kind.{Kind, IsAscii, edge_limit}
+use Rattle.zerotrie_core.specs.Maps.{Pairs, Map, map_of, Ascends, RepeatsKey}
+use Rattle.zerotrie_core.specs.Texts.{Lists, Means}
+use Rattle.zerotrie_core.specs.Fits.{ExceedsCapacity}
 use Rattle.zerotrie_core.specs.Laws.{MeansFits, MeansCanonical}
 use Rattle.zerotrie_core.proofs.OrderLaws.{entries-map_of}
+use Rattle.zerotrie_core.proofs.RefusalLemmas.{ascends_apart}
+use Rattle.zerotrie_core.proofs.FitsLaws.{consistent_entries}
 use Rattle.zerotrie_core.specs.Causes.{Cause}
+use Rattle.zerotrie_core.specs.Built.{IsBuilt}
 use Rattle.zerotrie_core.specs.declared.error.ZeroTrieBuildError.{ZeroTrieBuildError}
-use Rattle.zerotrie_core.specs.declared.error.ZeroTrieBuildError.TheVariants.{DuplicateKey, Unsorted}
-use Rattle.zerotrie_build.specs.Routes.{IsRefused}
+use Rattle.zerotrie_core.specs.declared.error.ZeroTrieBuildError.TheVariants.{NonAsciiError, CapacityExceeded, MixedCase, DuplicateKey, Unsorted, OutOfMemory}
 use Rattle.zerotrie_build.proofs.Items.{below_or_from}
-use Rattle.zerotrie_build.proofs.Sorting.{map_of-entries}
+use Rattle.zerotrie_build.proofs.Sorting.{entries_ascend, map_of-entries}
 
 module _ {X : Type 0} (P Q : X → Type 0) (decide : (x : X) → P x ⊎ Q x) where
   none_there : (k : ℕ) (d : X) → k < length (let none : List X = [] in none) → P d
@@ -46,41 +48,26 @@ some_not_ascii pairs none =
       | inr any ↦ any
     ]
 
-each_above : (key : List ℕ) (pairs : Pairs) → FirstAbove key pairs → Ascends pairs → (k : ℕ) (d : List ℕ) → k < length (map {B = List ℕ} (λ f. f.0) pairs)
-    → slice_cmp nat_cmp key (get_or (map {B = List ℕ} (λ f. f.0) pairs) k d) ≡ Less
-each_above key [] a up k d h = let g : k < 0 = h in absurd (omega arith)
-each_above key (f ∷ pairs) a up zero d h = a
-each_above key (f ∷ pairs) a up (suc k) d h =
-    let g : suc k < suc (length (map {B = List ℕ} (λ e. e.0) pairs)) = h in
-    nat_list_cmp_total.trans key f.0 _ a (each_above f.0 pairs up.0 up.1 k d (omega arith))
+-- what is grown means the map of the pairs, if that is the map of what it lists
+pub grown_means : {S E : Type 0} (list : S → List ℕ) (r : Result S E) (kind grown : Kind) (m : Map) (pairs : Pairs) → kind ≡ grown → m ≡ map_of pairs
+    → IfOk r (λ s. Lists grown (list s) pairs) → IfOk r (λ s. length (list s) < 2 ^ 64) → IfOk r (λ s. Means kind (list s) m)
+grown_means list (Ok s) kind grown m pairs same is lists short = subst (λ k. Means k (list s) m) (sym same) (record { short = short; pairs = pairs; lists = lists; is = is })
+grown_means list (Err e) kind grown m pairs same is lists short = tt
 
-pub ascends_distinct : (pairs : Pairs) → Ascends pairs → RepeatsKey pairs → ⊥
-ascends_distinct [] up r = r
-ascends_distinct (e ∷ pairs) up r = elim r [
-  | inl c ↦
-      let less = each_above e.0 pairs up.0 up.1 c.0 e.0 c.1 in
-      let same : slice_cmp nat_cmp e.0 e.0 ≡ Less = subst (λ k. slice_cmp nat_cmp e.0 k ≡ Less) c.2 less in
-      let tied : slice_cmp nat_cmp e.0 e.0 ≡ Equal = tied_itself nat_list_cmp_total e.0 in
-      absurd (cc)
-  | inr rest ↦ ascends_distinct pairs up.1 rest
-]
-
--- why a refusal is one
-pub cause_of : (kind : Kind) (pairs : Pairs) (e : ZeroTrieBuildError) → (RepeatsKey pairs → ⊥) → IsRefused pairs e → Cause kind pairs e
-cause_of simple_ascii pairs e distinct r = elim r [
-  | inl low ↦ subst (Cause simple_ascii pairs) (sym low.0) low.1
-  | inr large ↦ subst (Cause simple_ascii pairs) (sym large.0) (distinct, large.1)
-]
-
-pub never_duplicate : (pairs : Pairs) (e : ZeroTrieBuildError) → IsRefused pairs e → e ≢ DuplicateKey
-never_duplicate pairs e r same = elim r [ inl low ↦ let x = low.0 in absurd (cc) | inr large ↦ let x = large.0 in absurd (cc) ]
-
-pub never_unsorted : (pairs : Pairs) (e : ZeroTrieBuildError) → IsRefused pairs e → e ≢ Unsorted
-never_unsorted pairs e r same = elim r [ inl low ↦ let x = low.0 in absurd (cc) | inr large ↦ let x = large.0 in absurd (cc) ]
+pub grown_refused : {S : Type 0} (r : Result S ZeroTrieBuildError) (kind grown : Kind) (pairs listed : Pairs) → kind ≡ grown → map_of listed ≡ map_of pairs → Ascends pairs
+    → IfErr r (λ e. e ≢ OutOfMemory → (e ≡ CapacityExceeded) × ExceedsCapacity grown (map_of listed)) → IfErr r (λ e. e ≢ OutOfMemory → Cause kind pairs e)
+grown_refused r kind grown pairs listed same is up refused = IfErr-weaker r _ _ (λ e h other.
+    let x = h other in
+    subst (Cause kind pairs) (sym x.0) (ascends_apart pairs up, subst (λ k. ExceedsCapacity k (map_of pairs)) (sym same) (subst (ExceedsCapacity grown) is x.1))) refused
 
 -- what the laws give for bytes that mean the map
-pub built_for : (kind : Kind) (bytes : List ℕ) (m : Map) → MeansFits simple_ascii → MeansCanonical simple_ascii → Means simple_ascii bytes m → Fits kind m × (bytes ≡ enc kind m) × Means kind bytes m
-built_for simple_ascii bytes m fits canonical means = (fits bytes m means, canonical bytes m means, means)
+pub built_for : (kind : Kind) (pairs : Pairs) (bytes : List ℕ) → IsAscii kind → ((k : Kind) → IsAscii k → MeansFits k) → ((k : Kind) → IsAscii k → MeansCanonical k) → Means kind bytes (map_of pairs)
+    → IsBuilt kind pairs bytes
+built_for kind pairs bytes is_ascii fits canonical means = record {
+  fits = fits kind is_ascii bytes (map_of pairs) means;
+  text = λ a. canonical kind a bytes (map_of pairs) means;
+  means = means;
+}
 
 -- some key has Q
 abbrev SomeKey : (List ℕ → Type 0) → Pairs → Type 0
@@ -119,11 +106,13 @@ some_entries Q (e ∷ pairs) s =
       | inr there ↦ inr (some_entries Q pairs there)
     ]
 
--- a refusal of the entries of a map is one of its pairs
-pub refused_entries : (pairs : Pairs) (e : ZeroTrieBuildError) → IsRefused (entries (map_of pairs)) e → IsRefused pairs e
-refused_entries pairs e r = elim r [
-  | inl low ↦
-      let Q : List ℕ → Type 0 = λ key. Any (λ b. 128 ≤ b) key in
-      inl (low.0, any_key Q pairs (some_entries Q pairs (some_key Q (entries (map_of pairs)) low.1)))
-  | inr large ↦ inr (large.0, subst (ExceedsCapacity simple_ascii) (map_of-entries pairs) large.1)
-]
+-- a cause in the entries of a map is one in its pairs
+pub cause_entries : (kind : Kind) (pairs : Pairs) (e : ZeroTrieBuildError) → (RepeatsKey pairs → ⊥) → Cause kind (entries (map_of pairs)) e → Cause kind pairs e
+cause_entries kind pairs NonAsciiError distinct high =
+    let Q : List ℕ → Type 0 = λ key. Any (λ b. edge_limit kind ≤ b) key in
+    any_key Q pairs (some_entries Q pairs (some_key Q (entries (map_of pairs)) high))
+cause_entries kind pairs MixedCase distinct mixed = λ consistent. mixed (consistent_entries kind pairs consistent)
+cause_entries kind pairs CapacityExceeded distinct large = (distinct, subst (ExceedsCapacity kind) (map_of-entries pairs) large.1)
+cause_entries kind pairs DuplicateKey distinct twice = absurd (ascends_apart (entries (map_of pairs)) (entries_ascend pairs) twice)
+cause_entries kind pairs Unsorted distinct unsorted = absurd (unsorted (entries_ascend pairs))
+cause_entries kind pairs e distinct none = none

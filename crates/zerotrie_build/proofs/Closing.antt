@@ -4,20 +4,21 @@ use Rattle.std.specs.List.{concat}
 use Rattle.std.proofs.lemmas.List.{append-nil}
 use Rattle.std.proofs.Math.Seq.{take-length}
 use Rattle.std.proofs.Math.Nat.{eq-or-lt_of_le}
-use Rattle.zerotrie_core.specs.Kind.{simple_ascii}
+use Rattle.zerotrie_core.specs.Kind.{Kind, IsAscii, fold_byte}
 use Rattle.zerotrie_core.specs.Numbers.{Spells}
 use Rattle.zerotrie_core.specs.Maps.{Pairs, with_front}
 use Rattle.zerotrie_core.specs.Texts.{Lists, ListEach}
 use Rattle.zerotrie_core.specs.Texts.Lists.{nothing, value, literal}
 use Rattle.zerotrie_core.specs.Texts.ListEach.{no_edge, edge}
 use Rattle.zerotrie_core.specs.Canonical.{node}
-use Rattle.zerotrie_core.proofs.EdgeLemmas.{Rise}
+use Rattle.zerotrie_core.specs.Fits.{OverflowsAt}
+use Rattle.zerotrie_core.proofs.ReaderLemmas.{Rises}
 use Rattle.zerotrie_core.proofs.CanonLaws.{lists_some}
 use Rattle.zerotrie_core.proofs.EncodeLaws.{node_lists, not_empty_text}
 use Rattle.zerotrie_build.specs.declared.siblings.Sibling.{Sibling}
 use Rattle.zerotrie_build.specs.Ranges.{total}
 use Rattle.zerotrie_build.specs.Branches.{branch_front}
-use Rattle.zerotrie_build.specs.Growing.{with_run, DepthsBelow, NoneAt, ComesBefore, Aside, Holds, Waits, Stands, AllAt, OverflowsAt, TakesOff}
+use Rattle.zerotrie_build.specs.Growing.{with_run, DepthsBelow, NoneAt, ComesBefore, Aside, Holds, Waits, Stands, AllAt, TakesOff}
 use Rattle.zerotrie_build.proofs.NodeLemmas.{total-lengths, branch_front-node}
 use Rattle.zerotrie_build.proofs.Runs.{with_run-nil, with_run-append, take_one_more, run_step}
 use Rattle.zerotrie_build.proofs.Parting.{Parts}
@@ -25,9 +26,9 @@ use Rattle.zerotrie_build.proofs.Asides.{next_below, below_here, moved, nothing_
 use Rattle.zerotrie_build.proofs.Overflow.{overflows}
 
 -- a value node in front
-pub with_value : (key : List ℕ) (v : ℕ) (spelling : List ℕ) (siblings : List Sibling) (behind : ℕ) (bytes : List ℕ) (listed : Pairs) → Spells 16 4 v spelling → Waits key siblings behind bytes listed
-    → Stands key (length key) siblings behind (spelling ++ bytes) ((key, v) ∷ listed)
-with_value key v spelling siblings behind bytes listed s h = record {
+pub with_value : (kind : Kind) (key : List ℕ) (v : ℕ) (spelling : List ℕ) (siblings : List Sibling) (behind : ℕ) (bytes : List ℕ) (listed : Pairs) → Spells 16 4 v spelling → Waits kind key siblings behind bytes listed
+    → Stands kind key (length key) siblings behind (spelling ++ bytes) ((key, v) ∷ listed)
+with_value kind key v spelling siblings behind bytes listed s h = record {
   text = spelling ++ h.text;
   rest = h.rest;
   inner = ([], v) ∷ h.inner;
@@ -44,9 +45,9 @@ with_value key v spelling siblings behind bytes listed s h = record {
 }
 
 -- a literal in front
-pub with_literal : (key : List ℕ) (d b : ℕ) (siblings : List Sibling) (behind : ℕ) (bytes : List ℕ) (listed : Pairs) → d < length key → b ≡ get_or key d 0 → b < 128 → NoneAt d siblings
-    → Stands key (suc d) siblings behind bytes listed → Stands key d siblings behind (b ∷ bytes) listed
-with_literal key d b siblings behind bytes listed within is low none h = record {
+pub with_literal : (kind : Kind) (key : List ℕ) (d b : ℕ) (siblings : List Sibling) (behind : ℕ) (bytes : List ℕ) (listed : Pairs) → d < length key → b ≡ get_or key d 0 → b < 128 → NoneAt d siblings
+    → Stands kind key (suc d) siblings behind bytes listed → Stands kind key d siblings behind (b ∷ bytes) listed
+with_literal kind key d b siblings behind bytes listed within is low none h = record {
   text = b ∷ h.text;
   rest = h.rest;
   inner = with_front b h.inner;
@@ -61,13 +62,13 @@ with_literal key d b siblings behind bytes listed within is low none h = record 
 }
 
 -- The targets of a branch stand in front.
-pub record Opens (key : List ℕ) (d len : ℕ) (after : List Sibling) (edges lengths : List ℕ) (behind : ℕ) (bytes : List ℕ) (listed : Pairs) : Type 0 where
+pub record Opens (kind : Kind) (key : List ℕ) (d len : ℕ) (after : List Sibling) (edges lengths : List ℕ) (behind : ℕ) (bytes : List ℕ) (listed : Pairs) : Type 0 where
   pub targets : List (List ℕ)
   pub node_pairs : Pairs
   pub rest : List ℕ
   pub others : Pairs
-  pub each : ListEach simple_ascii edges targets node_pairs
-  pub rise : Rise 0 256 edges
+  pub each : ListEach kind edges targets node_pairs
+  pub rises : Rises kind edges
   pub ascii : (i e : ℕ) → i < length edges → get_or edges i e < 128
   pub two : 2 ≤ length edges
   pub count : length targets ≡ length edges
@@ -76,7 +77,7 @@ pub record Opens (key : List ℕ) (d len : ℕ) (after : List Sibling) (edges le
   pub len_within : len ≤ total lengths
   pub behind_within : total lengths - len ≤ behind
   pub behind_is : behind - (total lengths - len) ≡ length rest
-  pub aside : Aside key after rest others
+  pub aside : Aside kind key after rest others
   pub below : DepthsBelow d after
   pub bytes_are : bytes ≡ concat targets ++ rest
   pub pairs_are : listed ≡ with_run (take d key) node_pairs ++ others
@@ -84,12 +85,11 @@ pub record Opens (key : List ℕ) (d len : ℕ) (after : List Sibling) (edges le
 some_taken : (d : ℕ) (taken before after : List Sibling) → before ≡ taken ++ after → (NoneAt d before → ⊥) → NoneAt d after → taken ≡ [] → ⊥
 some_taken d taken before after split some none e = some (subst (NoneAt d) (sym (split ∙ ap (λ t. t ++ after) e)) none)
 
-first_above : (key : List ℕ) (d : ℕ) (taken after : List Sibling) (rest : List ℕ) (others : Pairs) → AllAt d taken → Aside key (taken ++ after) rest others → FirstFrom (suc (get_or key d 0)) taken
-first_above key d [] after rest others level aside = tt
-first_above key d (s ∷ taken) after rest others level aside =
-    let h : get_or key s.depth 0 < s.byte = aside.1.above in
-    let g : get_or key d 0 < s.byte = subst (λ k. get_or key k 0 < s.byte) level.0 h in
-    omega arith
+first_above : (kind : Kind) (key : List ℕ) (d : ℕ) (taken after : List Sibling) (rest : List ℕ) (others : Pairs) → AllAt d taken → Aside kind key (taken ++ after) rest others → FirstFrom kind (get_or key d 0) taken
+first_above kind key d [] after rest others level aside = tt
+first_above kind key d (s ∷ taken) after rest others level aside =
+    let h : fold_byte kind (get_or key s.depth 0) < fold_byte kind s.byte = aside.1.above in
+    subst (λ k. fold_byte kind (get_or key k 0) < fold_byte kind s.byte) level.0 h
 
 at_least_two : (b : ℕ) (taken : List Sibling) → (taken ≡ [] → ⊥) → 2 ≤ length (b ∷ bytes_of taken)
 at_least_two b [] h = absurd (h refl)
@@ -99,15 +99,15 @@ ascii_each : (b : ℕ) (es : List ℕ) → b < 128 → ((i e : ℕ) → i < leng
 ascii_each b es l h zero e g = l
 ascii_each b es l h (suc i) e g = h i e (let k : suc i < suc (length es) = g in omega arith)
 
-pub opens : (key : List ℕ) (d : ℕ) (first : Sibling) (before after : List Sibling) (edges lengths : List ℕ) (behind : ℕ) (bytes : List ℕ) (listed : Pairs)
+pub opens : (kind : Kind) (key : List ℕ) (d : ℕ) (first : Sibling) (before after : List Sibling) (edges lengths : List ℕ) (behind : ℕ) (bytes : List ℕ) (listed : Pairs)
     → d < length key → get_or key d 0 < 128 → first.depth ≡ d → first.byte ≡ get_or key d 0 → first.len ≡ length bytes - behind
-    → (NoneAt d before → ⊥) → NoneAt d after → TakesOff first before after edges lengths → Stands key (suc d) before behind bytes listed
-    → Opens key d first.len after edges lengths behind bytes listed
-opens key d first before after edges lengths behind bytes listed within low depth_is byte_is len_is some none t h =
+    → (NoneAt d before → ⊥) → NoneAt d after → TakesOff first before after edges lengths → Stands kind key (suc d) before behind bytes listed
+    → Opens kind key d first.len after edges lengths behind bytes listed
+opens kind key d first before after edges lengths behind bytes listed within low depth_is byte_is len_is some none t h =
     let b = get_or key d 0 in
     let level : AllAt d t.taken = subst (λ k. AllAt k t.taken) depth_is t.level in
-    let aside : Aside key (t.taken ++ after) h.rest h.others = subst (λ x. Aside key x h.rest h.others) t.split h.aside in
-    let g = gather key d (suc b) t.taken after h.rest h.others level (first_above key d t.taken after h.rest h.others level aside) aside in
+    let aside : Aside kind key (t.taken ++ after) h.rest h.others = subst (λ x. Aside kind key x h.rest h.others) t.split h.aside in
+    let g = gather kind key d b t.taken after h.rest h.others level (first_above kind key d t.taken after h.rest h.others level aside) aside in
     let es = b ∷ bytes_of t.taken in
     let edges_is : es ≡ edges = sym (t.edges_are ∙ ap (λ x. x ∷ bytes_of t.taken) byte_is) in
     let text_len : first.len ≡ length h.text =
@@ -122,8 +122,8 @@ opens key d first before after edges lengths behind bytes listed within low dept
       node_pairs = with_front b h.inner ++ g.node;
       rest = g.rest_after;
       others = g.others_after;
-      each = subst (λ x. ListEach simple_ascii x (h.text ∷ g.targets) (with_front b h.inner ++ g.node)) edges_is (edge h.front.0 h.lists g.each);
-      rise = subst (Rise 0 256) edges_is (omega arith, omega arith, g.rise);
+      each = subst (λ x. ListEach kind x (h.text ∷ g.targets) (with_front b h.inner ++ g.node)) edges_is (edge h.front.0 h.lists g.each);
+      rises = subst (Rises kind) edges_is (g.above, g.rises);
       ascii = subst (λ x. (i e : ℕ) → i < length x → get_or x i e < 128) edges_is (ascii_each b (bytes_of t.taken) low g.ascii);
       two = subst (λ x. 2 ≤ length x) edges_is (at_least_two b t.taken (some_taken d t.taken before after t.split some none));
       count = subst (λ x. length (h.text ∷ g.targets) ≡ length x) edges_is (ap suc g.count);
@@ -143,22 +143,22 @@ opens key d first before after edges lengths behind bytes listed within low dept
           ∙ ap (λ x. x ++ g.others_after) (sym (with_run-append (take d key) (with_front b h.inner) g.node));
     }
   where
-    below_after : (e : ℕ) (taken last : List Sibling) (rest : List ℕ) (others : Pairs) → DepthsBelow (suc e) (taken ++ last) → Aside key (taken ++ last) rest others → DepthsBelow (suc e) last
+    below_after : (e : ℕ) (taken last : List Sibling) (rest : List ℕ) (others : Pairs) → DepthsBelow (suc e) (taken ++ last) → Aside kind key (taken ++ last) rest others → DepthsBelow (suc e) last
     below_after e [] last rest others below aside = below
-    below_after e (s ∷ taken) last rest others below aside = below_after e taken last aside.1.rest aside.1.others (next_below (suc e) s (taken ++ last) below aside.0) aside.1.behind
+    below_after e (s ∷ taken) last rest others below aside = below_after e taken last aside.1.rest aside.1.others (next_below kind (suc e) s (taken ++ last) below aside.0) aside.1.behind
 
 front_none : (b : ℕ) (pairs more : Pairs) → with_front b pairs ++ more ≡ [] → pairs ≡ []
 front_none b [] more e = refl
 front_none b (x ∷ pairs) more e = absurd (cc)
 
-each_pairs : {es : List ℕ} {targets : List (List ℕ)} {pairs : Pairs} → ListEach simple_ascii es targets pairs → 2 ≤ length es → pairs ≡ [] → ⊥
+each_pairs : {kind : Kind} {es : List ℕ} {targets : List (List ℕ)} {pairs : Pairs} → ListEach kind es targets pairs → 2 ≤ length es → pairs ≡ [] → ⊥
 each_pairs no_edge two none = omega arith
 each_pairs (edge {e = e} {pairs = p} {more = m} n text each) two none = lists_some text n (front_none e p m none)
 
-pub closed : {key : List ℕ} {d len : ℕ} {after : List Sibling} {edges lengths : List ℕ} {behind : ℕ} {bytes : List ℕ} {listed : Pairs} → Opens key d len after edges lengths behind bytes listed
-    → total lengths < 2 ^ 32 → Stands key d after (behind - (total lengths - len)) (branch_front edges lengths ++ bytes) listed
-closed {key = key} {d = d} {edges = es} {lengths = ls} {bytes = bytes} o narrow =
-    let made = node_lists o.each o.rise o.ascii o.count (λ two. let t = o.total_is in omega arith) in
+pub closed : {kind : Kind} → IsAscii kind → {key : List ℕ} {d len : ℕ} {after : List Sibling} {edges lengths : List ℕ} {behind : ℕ} {bytes : List ℕ} {listed : Pairs} → Opens kind key d len after edges lengths behind bytes listed
+    → total lengths < 2 ^ 32 → Stands kind key d after (behind - (total lengths - len)) (branch_front edges lengths ++ bytes) listed
+closed is_ascii {key = key} {d = d} {edges = es} {lengths = ls} {bytes = bytes} o narrow =
+    let made = node_lists is_ascii o.each o.rises o.ascii o.count (λ two. let t = o.total_is in omega arith) in
     let some : o.node_pairs ≡ [] → ⊥ = each_pairs o.each o.two in
     record {
       text = node es o.targets;
@@ -178,36 +178,36 @@ closed {key = key} {d = d} {edges = es} {lengths = ls} {bytes = bytes} o narrow 
       pairs_are = o.pairs_are;
     }
 
-pub too_wide : {key : List ℕ} {d len : ℕ} {after : List Sibling} {edges lengths : List ℕ} {behind : ℕ} {bytes : List ℕ} {listed : Pairs} → Opens key d len after edges lengths behind bytes listed
-    → d ≤ length key → 2 ^ 32 ≤ total lengths → OverflowsAt (take d key) listed
-too_wide {key = key} {d = d} {after = after} {listed = listed} o within large =
-    overflows (take d key) listed o.node_pairs o.others o.each o.rise o.two (let t = o.total_is in omega arith) o.pairs_are (nothing_aside key d after o.rest o.others within o.below o.aside)
+pub too_wide : {kind : Kind} → IsAscii kind → {key : List ℕ} {d len : ℕ} {after : List Sibling} {edges lengths : List ℕ} {behind : ℕ} {bytes : List ℕ} {listed : Pairs} → Opens kind key d len after edges lengths behind bytes listed
+    → d ≤ length key → 2 ^ 32 ≤ total lengths → OverflowsAt kind (take d key) listed
+too_wide {kind = kind} is_ascii {key = key} {d = d} {after = after} {listed = listed} o within large =
+    overflows is_ascii (take d key) listed o.node_pairs o.others o.each o.rises o.ascii o.two (let t = o.total_is in omega arith) o.pairs_are (nothing_aside kind key d after o.rest o.others within o.below o.aside)
 
-comes_first : (key : List ℕ) (c b len : ℕ) (siblings : List Sibling) (bytes : List ℕ) (pairs : Pairs) → b ≡ get_or key c 0 → DepthsBelow (suc c) siblings → Aside key siblings bytes pairs
-    → ComesBefore (record { depth = c; byte = b; len = len }) siblings
-comes_first key c b len [] bytes pairs is below aside = tt
-comes_first key c b len (t ∷ siblings) bytes pairs is below aside =
+comes_first : (kind : Kind) (key : List ℕ) (c b len : ℕ) (siblings : List Sibling) (bytes : List ℕ) (pairs : Pairs) → b ≡ get_or key c 0 → DepthsBelow (suc c) siblings → Aside kind key siblings bytes pairs
+    → ComesBefore kind (record { depth = c; byte = b; len = len }) siblings
+comes_first kind key c b len [] bytes pairs is below aside = tt
+comes_first kind key c b len (t ∷ siblings) bytes pairs is below aside =
     let le : t.depth ≤ c = omega arith in
     elim (eq-or-lt_of_le le) [
       | inl same ↦
-          let h : get_or key t.depth 0 < t.byte = aside.1.above in
-          let g : get_or key c 0 < t.byte = subst (λ k. get_or key k 0 < t.byte) same h in
-          inr (same, omega arith)
+          let h : fold_byte kind (get_or key t.depth 0) < fold_byte kind t.byte = aside.1.above in
+          let g : fold_byte kind (get_or key c 0) < fold_byte kind t.byte = subst (λ k. fold_byte kind (get_or key k 0) < fold_byte kind t.byte) same h in
+          inr (same, subst (λ x. fold_byte kind x < fold_byte kind t.byte) (sym is) g)
       | inr less ↦ inl less
     ]
 
-low_enough : (before key : List ℕ) (c : ℕ) → Parts before key c → c < length before → (k : ℕ) → k < suc c → get_or before k 0 ≤ get_or key k 0
-low_enough before key c p more k h =
+low_enough : (kind : Kind) (before key : List ℕ) (c : ℕ) → Parts kind before key c → c < length before → (k : ℕ) → k < suc c → fold_byte kind (get_or before k 0) ≤ fold_byte kind (get_or key k 0)
+low_enough kind before key c p more k h =
     let le : k ≤ c = omega arith in
     elim (eq-or-lt_of_le le) [
       | inl same ↦ let l = p.less more in rw same (omega arith)
-      | inr less ↦ let e = p.equal k less in omega arith
+      | inr less ↦ let e = ap (fold_byte kind) (p.equal k less) in omega arith
     ]
 
 -- the text is set aside, and the key before has none yet
-pub set_aside : (before key : List ℕ) (c b len : ℕ) (siblings : List Sibling) (behind : ℕ) (bytes : List ℕ) (listed : Pairs) → Parts before key c → c < length before → b ≡ get_or key c 0 → b < 128
-    → len ≡ length bytes - behind → Stands key (suc c) siblings behind bytes listed → Waits before (record { depth = c; byte = b; len = len } ∷ siblings) (length bytes) bytes listed
-set_aside before key c b len siblings behind bytes listed p more is low len_is h = record {
+pub set_aside : (kind : Kind) (before key : List ℕ) (c b len : ℕ) (siblings : List Sibling) (behind : ℕ) (bytes : List ℕ) (listed : Pairs) → Parts kind before key c → c < length before → b ≡ get_or key c 0 → b < 128
+    → len ≡ length bytes - behind → Stands kind key (suc c) siblings behind bytes listed → Waits kind before (record { depth = c; byte = b; len = len } ∷ siblings) (length bytes) bytes listed
+set_aside kind before key c b len siblings behind bytes listed p more is low len_is h = record {
   text = [];
   rest = bytes;
   inner = [];
@@ -215,19 +215,19 @@ set_aside before key c b len siblings behind bytes listed p more is low len_is h
   front = tt;
   lists = nothing;
   aside = (
-    comes_first key c b len siblings h.rest h.others is h.below h.aside,
+    comes_first kind key c b len siblings h.rest h.others is h.below h.aside,
     record {
       text = h.text;
       rest = h.rest;
       inner = h.inner;
       others = h.others;
       within = more;
-      above = (let l = p.less more in omega arith);
+      above = subst (λ x. fold_byte kind (get_or before c 0) < fold_byte kind x) (sym is) (p.less more);
       low = low;
       some = h.front.0;
       lists = h.lists;
       len = len_is ∙ (let e = ap length h.bytes_are ∙ length-append h.text h.rest in let k = h.behind_is in omega arith);
-      behind = moved key before (suc c) siblings h.rest h.others (omega arith) (λ k l. p.same k (omega arith)) (low_enough before key c p more) h.below h.aside;
+      behind = moved kind key before (suc c) siblings h.rest h.others (omega arith) (λ k l. p.same k (omega arith)) (low_enough kind before key c p more) h.below h.aside;
       bytes_are = h.bytes_are;
       pairs_are =
           h.pairs_are
@@ -241,16 +241,16 @@ set_aside before key c b len siblings behind bytes listed p more is low len_is h
 }
 
 -- the key before is a front of the key
-pub goes_on : (before key : List ℕ) (c : ℕ) (siblings : List Sibling) (behind : ℕ) (bytes : List ℕ) (listed : Pairs) → Parts before key c → c ≡ length before
-    → Stands key c siblings behind bytes listed → Waits before siblings behind bytes listed
-goes_on before key c siblings behind bytes listed p ends h = record {
+pub goes_on : (kind : Kind) (before key : List ℕ) (c : ℕ) (siblings : List Sibling) (behind : ℕ) (bytes : List ℕ) (listed : Pairs) → Parts kind before key c → c ≡ length before
+    → Stands kind key c siblings behind bytes listed → Waits kind before siblings behind bytes listed
+goes_on kind before key c siblings behind bytes listed p ends h = record {
   text = h.text;
   rest = h.rest;
   inner = h.inner;
   others = h.others;
   front = h.front.1 p.room;
   lists = h.lists;
-  aside = moved key before c siblings h.rest h.others p.upto (λ k l. p.same k (omega arith)) (λ k l. let e = p.equal k l in omega arith) h.below h.aside;
+  aside = moved kind key before c siblings h.rest h.others p.upto (λ k l. p.same k (omega arith)) (λ k l. let e = ap (fold_byte kind) (p.equal k l) in omega arith) h.below h.aside;
   below = subst (λ n. DepthsBelow n siblings) ends h.below;
   behind_is = h.behind_is;
   bytes_are = h.bytes_are;
@@ -258,24 +258,24 @@ goes_on before key c siblings behind bytes listed p ends h = record {
 }
 
 -- at depth 0 nothing is set aside
-pub whole : (key : List ℕ) (siblings : List Sibling) (behind : ℕ) (bytes : List ℕ) (listed : Pairs) → Stands key 0 siblings behind bytes listed → Lists simple_ascii bytes listed
-whole key [] behind bytes listed h =
+pub whole : (kind : Kind) (key : List ℕ) (siblings : List Sibling) (behind : ℕ) (bytes : List ℕ) (listed : Pairs) → Stands kind key 0 siblings behind bytes listed → Lists kind bytes listed
+whole kind key [] behind bytes listed h =
     let bytes_is : bytes ≡ h.text = h.bytes_are ∙ ap (λ r. h.text ++ r) h.aside.0 ∙ append-nil h.text in
     let pairs_is : listed ≡ h.inner = h.pairs_are ∙ ap (λ o. with_run [] h.inner ++ o) h.aside.1 ∙ append-nil (with_run [] h.inner) ∙ with_run-nil h.inner in
-    subst (λ x. Lists simple_ascii x listed) (sym bytes_is) (subst (Lists simple_ascii h.text) (sym pairs_is) h.lists)
-whole key (s ∷ siblings) behind bytes listed h = absurd (let g : s.depth < 0 = h.below in omega arith)
+    subst (λ x. Lists kind x listed) (sym bytes_is) (subst (Lists kind h.text) (sym pairs_is) h.lists)
+whole kind key (s ∷ siblings) behind bytes listed h = absurd (let g : s.depth < 0 = h.below in omega arith)
 
-pub opens_at : (key : List ℕ) (d len : ℕ) (before after : List Sibling) (edges lengths : List ℕ) (behind end : ℕ) (bytes : List ℕ) (listed : Pairs)
+pub opens_at : (kind : Kind) (key : List ℕ) (d len : ℕ) (before after : List Sibling) (edges lengths : List ℕ) (behind end : ℕ) (bytes : List ℕ) (listed : Pairs)
     → d < length key → All (λ b. b < 128) key → end ≡ length bytes → len ≡ end - behind
-    → (NoneAt d before → ⊥) → NoneAt d after → TakesOff (record { depth = d; byte = get_or key d 0; len = len }) before after edges lengths → Stands key (suc d) before behind bytes listed
-    → Opens key d len after edges lengths behind bytes listed
-opens_at key d len before after edges lengths behind end bytes listed within ascii end_is len_is some none t h =
-    opens key d (record { depth = d; byte = get_or key d 0; len = len }) before after edges lengths behind bytes listed
+    → (NoneAt d before → ⊥) → NoneAt d after → TakesOff (record { depth = d; byte = get_or key d 0; len = len }) before after edges lengths → Stands kind key (suc d) before behind bytes listed
+    → Opens kind key d len after edges lengths behind bytes listed
+opens_at kind key d len before after edges lengths behind end bytes listed within ascii end_is len_is some none t h =
+    opens kind key d (record { depth = d; byte = get_or key d 0; len = len }) before after edges lengths behind bytes listed
     within (ascii d 0 within) refl refl (len_is ∙ ap (λ n. n - behind) end_is) some none t h
 
-pub total_within : {key : List ℕ} {d len : ℕ} {after : List Sibling} {edges lengths : List ℕ} {behind : ℕ} {bytes : List ℕ} {listed : Pairs} → Opens key d len after edges lengths behind bytes listed
+pub total_within : {kind : Kind} {key : List ℕ} {d len : ℕ} {after : List Sibling} {edges lengths : List ℕ} {behind : ℕ} {bytes : List ℕ} {listed : Pairs} → Opens kind key d len after edges lengths behind bytes listed
     → total lengths ≤ length bytes
 total_within o = let t = o.total_is in let b = ap length o.bytes_are ∙ length-append (concat o.targets) o.rest in omega arith
 
-pub behind_within : {Front : List ℕ → Type 0} {key : List ℕ} {d : ℕ} {siblings : List Sibling} {behind : ℕ} {bytes : List ℕ} {listed : Pairs} → Holds Front key d siblings behind bytes listed → behind ≤ length bytes
+pub behind_within : {kind : Kind} {Front : List ℕ → Type 0} {key : List ℕ} {d : ℕ} {siblings : List Sibling} {behind : ℕ} {bytes : List ℕ} {listed : Pairs} → Holds kind Front key d siblings behind bytes listed → behind ≤ length bytes
 behind_within h = let b = ap length h.bytes_are ∙ length-append h.text h.rest in let k = h.behind_is in omega arith

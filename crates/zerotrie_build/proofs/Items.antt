@@ -1,6 +1,5 @@
 use Rattle.std.proofs.Common.{◌≡◌, ℕ, zero, suc, ◌+◌, ◌<◌, ◌≤◌, ◌⊎◌, List, [], ◌∷◌, ◌++◌, length, get_or, take, arith, refl, ap, ◌∙◌, sym, Some, slice_get, All, Ordering, Equal, Greater, is_lt, true, subst, inl, inr}
 use Rattle.std.proofs.lemmas.Option.{slice_get-map, slice_get-get_or, slice_get_within, get_or_from_slice_get}
-use Rattle.std.proofs.lemmas.List.{length-map}
 use Rattle.std.proofs.lemmas.Grind.{common_steps}
 use Rattle.std.specs.Borrow.{Bor}
 use Rattle.std.proofs.Math.Nat.{eq-or-lt_of_le}
@@ -9,32 +8,54 @@ use Rattle.std.specs.Cmp.Lexicographic.{slice_cmp}
 use Rattle.std.specs.Ordering.{nat_cmp}
 use Rattle.std.specs.Prelude.{option_map}
 use Rattle.std.specs.declared.cmp.Ordering.TheVariants.{Less}
+use Rattle.zerotrie_core.specs.Kind.{Kind}
 use Rattle.zerotrie_core.specs.Maps.{Pairs, Ascends}
 use Rattle.zerotrie_core.specs.Items.{Items, pairs_of}
+use Rattle.zerotrie_build.specs.Order.{Before, Ordered}
+
+pub count_pairs : (items : Items) → length (pairs_of items) ≡ length items
+count_pairs [] = refl
+count_pairs (e ∷ items) = ap suc (count_pairs items)
 
 -- the item at a place, as a pair
 pub item_at : (items : Items) (i : ℕ) (d : Bor (List ℕ) × ℕ) → i < length (pairs_of items)
     → slice_get (pairs_of items) i ≡ Some ((get_or items i d).0.now, (get_or items i d).1)
 item_at items i d h =
     let f : (Bor (List ℕ) × ℕ) → (List ℕ × ℕ) = λ e. (e.0.now, e.1) in
-    let k : i < length items = omega (arith, h, length-map items f) in
+    let n = count_pairs items in
+    let k : i < length items = omega arith in
     slice_get-map f items i ∙ ap (option_map f) (slice_get-get_or items i d k)
 
--- the keys at two places that follow one another ascend
-abbrev pub Rising : Pairs → ℕ → Type 0
-Rising pairs k = slice_cmp nat_cmp (get_or pairs k ([], 0)).0 (get_or pairs (suc k) ([], 0)).0 ≡ Less
+-- the keys at two places that follow one another are in this order
+abbrev pub Follows : (List ℕ → List ℕ → Type 0) → Pairs → ℕ → Type 0
+Follows R pairs k = R (get_or pairs k ([], 0)).0 (get_or pairs (suc k) ([], 0)).0
 
-pub ascends_each : (pairs : Pairs) → ((k : ℕ) → suc k < length pairs → Rising pairs k) → Ascends pairs
+abbrev pub Below : List ℕ → List ℕ → Type 0
+Below key next = slice_cmp nat_cmp key next ≡ Less
+
+pub ascends_each : (pairs : Pairs) → ((k : ℕ) → suc k < length pairs → Follows Below pairs k) → Ascends pairs
 ascends_each [] h = tt
 ascends_each (e ∷ []) h = (tt, tt)
 ascends_each (e ∷ f ∷ pairs) h =
     (h 0 (omega arith), ascends_each (f ∷ pairs) (λ k below. h (suc k) (let g : suc k < suc (length pairs) = below in omega (arith, g))))
 
-pub each_ascends : (pairs : Pairs) (k : ℕ) → Ascends pairs → suc k < length pairs → Rising pairs k
+pub each_ascends : (pairs : Pairs) (k : ℕ) → Ascends pairs → suc k < length pairs → Follows Below pairs k
 each_ascends [] k a h = let g : suc k < 0 = h in absurd (omega (arith, g))
 each_ascends (e ∷ []) k a h = let g : suc k < 1 = h in absurd (omega (arith, g))
 each_ascends (e ∷ f ∷ pairs) zero a h = a.0
 each_ascends (e ∷ f ∷ pairs) (suc k) a h = each_ascends (f ∷ pairs) k a.1 (let g : suc (suc k) < suc (suc (length pairs)) = h in let r : suc k < suc (length pairs) = omega (arith, g) in r)
+
+pub ordered_each : (kind : Kind) (pairs : Pairs) → ((k : ℕ) → suc k < length pairs → Follows (Before kind) pairs k) → Ordered kind pairs
+ordered_each kind [] h = tt
+ordered_each kind (e ∷ []) h = (tt, tt)
+ordered_each kind (e ∷ f ∷ pairs) h =
+    (h 0 (omega arith), ordered_each kind (f ∷ pairs) (λ k below. h (suc k) (let g : suc k < suc (length pairs) = below in omega (arith, g))))
+
+pub each_ordered : (kind : Kind) (pairs : Pairs) (k : ℕ) → Ordered kind pairs → suc k < length pairs → Follows (Before kind) pairs k
+each_ordered kind [] k a h = let g : suc k < 0 = h in absurd (omega (arith, g))
+each_ordered kind (e ∷ []) k a h = let g : suc k < 1 = h in absurd (omega (arith, g))
+each_ordered kind (e ∷ f ∷ pairs) zero a h = a.0
+each_ordered kind (e ∷ f ∷ pairs) (suc k) a h = each_ordered kind (f ∷ pairs) k a.1 (let g : suc (suc k) < suc (suc (length pairs)) = h in let r : suc k < suc (length pairs) = omega (arith, g) in r)
 
 -- what a `get` reads
 pub got : (pairs : Pairs) (i : ℕ) (d a : List ℕ × ℕ) → slice_get pairs i ≡ Some a → get_or pairs i d ≡ a
@@ -50,24 +71,25 @@ less_from Less h = refl
 less_from Equal h = cc
 less_from Greater h = cc
 
-pub rising_on : (pairs : Pairs) (j i : ℕ) (a b : List ℕ × ℕ) → suc j ≡ i → slice_get pairs j ≡ Some a → slice_get pairs i ≡ Some b
-    → slice_cmp nat_cmp a.0 b.0 ≡ Less → ((k : ℕ) → suc k < i → Rising pairs k) → (k : ℕ) → suc k < i + 1 → Rising pairs k
-rising_on pairs j i a b e p q h before k below =
+pub follows_on : (R : List ℕ → List ℕ → Type 0) (pairs : Pairs) (j i : ℕ) (a b : List ℕ × ℕ) → suc j ≡ i → slice_get pairs j ≡ Some a → slice_get pairs i ≡ Some b
+    → R a.0 b.0 → ((k : ℕ) → suc k < i → Follows R pairs k) → (k : ℕ) → suc k < i + 1 → Follows R pairs k
+follows_on R pairs j i a b e p q h before k below =
     let at_i : get_or pairs (suc j) ([], 0) ≡ b = rw e (got pairs i ([], 0) b q) in
-    let here : Rising pairs j = rw (got pairs j ([], 0) a p, at_i) h in
+    let here : Follows R pairs j = rw (got pairs j ([], 0) a p, at_i) h in
     let le : k ≤ j = omega arith in
     elim (eq-or-lt_of_le le) [
-      | inl same ↦ subst (Rising pairs) (sym same) here
+      | inl same ↦ subst (Follows R pairs) (sym same) here
       | inr less ↦ before k (omega arith)
     ]
 
-pub not_rising : (pairs : Pairs) (j i : ℕ) (a b : List ℕ × ℕ) → suc j ≡ i → slice_get pairs j ≡ Some a → slice_get pairs i ≡ Some b
-    → (slice_cmp nat_cmp a.0 b.0 ≡ Less → ⊥) → Ascends pairs → ⊥
-not_rising pairs j i a b e p q h up =
+-- where two items follow one another and their keys are not in this order, not all are
+pub not_following : (R : List ℕ → List ℕ → Type 0) (pairs : Pairs) (j i : ℕ) (a b : List ℕ × ℕ) → suc j ≡ i → slice_get pairs j ≡ Some a → slice_get pairs i ≡ Some b
+    → (R a.0 b.0 → ⊥) → ((k : ℕ) → suc k < length pairs → Follows R pairs k) → ⊥
+not_following R pairs j i a b e p q h each =
     let at_i : get_or pairs (suc j) ([], 0) ≡ b = rw e (got pairs i ([], 0) b q) in
     let within : i < length pairs = slice_get_within pairs i b q in
-    let here : Rising pairs j = each_ascends pairs j up (omega (arith, e, within)) in
-    h (subst (λ y. slice_cmp nat_cmp a.0 y.0 ≡ Less) at_i (subst (λ x. slice_cmp nat_cmp x.0 (get_or pairs (suc j) ([], 0)).0 ≡ Less) (got pairs j ([], 0) a p) here))
+    let here : Follows R pairs j = each j (omega (arith, e, within)) in
+    h (subst (λ y. R a.0 y.0) at_i (subst (λ x. R x.0 (get_or pairs (suc j) ([], 0)).0) (got pairs j ([], 0) a p) here))
 
 abbrev pub AsciiAt : Pairs → ℕ → Type 0
 AsciiAt pairs k = (d : List ℕ × ℕ) → All (λ b. b < 128) (get_or pairs k d).0

@@ -1,28 +1,31 @@
 -- Where a key parts from the key before it.
-use Rattle.std.proofs.Common.{◌≡◌, ℕ, zero, suc, ◌+◌, ◌<◌, ◌≤◌, ◌⊎◌, inl, inr, List, [], ◌∷◌, ◌++◌, length, refl, ◌∙◌, ap, arith, take, drop, get_or, Less}
+use Rattle.std.proofs.Common.{◌≡◌, ℕ, zero, suc, ◌+◌, ◌<◌, ◌≤◌, ◌⊎◌, inl, inr, List, [], ◌∷◌, ◌++◌, length, refl, ◌∙◌, ap, arith, take, drop, get_or}
 use Rattle.std.specs.Prelude.{◌==◌}
-use Rattle.std.specs.Cmp.Lexicographic.{slice_cmp}
-use Rattle.std.specs.Ordering.{nat_cmp}
-use Rattle.std.proofs.lemmas.Bool.{eq-eqb, ne_eqb}
-use Rattle.zerotrie_core.specs.Maps.{Pairs, Ascends, residual, behind_all, common_front}
-use Rattle.zerotrie_core.proofs.EncodeLaws.{compare_first}
+use Rattle.std.proofs.lemmas.Bool.{eq-eqb, ne_eqb, cases_eq}
+use Rattle.zerotrie_core.specs.Kind.{Kind, fold_byte}
+use Rattle.zerotrie_core.specs.Maps.{Pairs, residual, behind_all, common_front}
 use Rattle.zerotrie_core.proofs.EdgeLemmas.{residual-append}
+use Rattle.zerotrie_build.specs.Order.{Before, Ordered}
 use Rattle.zerotrie_build.specs.Growing.{AtMost}
 use Rattle.zerotrie_build.proofs.Runs.{behind_all-nil, behind_all-append}
 
 abbrev pub common : List ℕ → List ℕ → ℕ
 common before key = common_front (λ a b. a == b) before key
 
--- after c common bytes the key before ends, or has a lower byte
-pub record Parts (before key : List ℕ) (c : ℕ) : Type 0 where
+-- bytes that the kind tells apart
+pub apart : (kind : Kind) (a b : ℕ) → fold_byte kind a < fold_byte kind b → a ≡ b → ⊥
+apart kind a b h e = let f = ap (fold_byte kind) e in omega arith
+
+-- after c common bytes the key before ends, or has a byte that is lower to the kind
+pub record Parts (kind : Kind) (before key : List ℕ) (c : ℕ) : Type 0 where
   pub upto : c ≤ length before
   pub room : c < length key
   pub same : (j : ℕ) → j ≤ c → take j before ≡ take j key
   pub equal : (j : ℕ) → j < c → get_or before j 0 ≡ get_or key j 0
-  pub less : c < length before → get_or before c 0 < get_or key c 0
+  pub less : c < length before → fold_byte kind (get_or before c 0) < fold_byte kind (get_or key c 0)
 
-parts_at_once : (x y : ℕ) (before key : List ℕ) → x < y → Parts (x ∷ before) (y ∷ key) 0
-parts_at_once x y before key h = record {
+parts_at_once : (kind : Kind) (x y : ℕ) (before key : List ℕ) → fold_byte kind x < fold_byte kind y → Parts kind (x ∷ before) (y ∷ key) 0
+parts_at_once kind x y before key h = record {
   upto = omega arith;
   room = omega arith;
   same = λ j l. let e : j ≡ 0 = omega arith in rw e refl;
@@ -30,8 +33,8 @@ parts_at_once x y before key h = record {
   less = λ l. h;
 }
 
-parts_later : (x y c : ℕ) (before key : List ℕ) → x ≡ y → Parts before key c → Parts (x ∷ before) (y ∷ key) (1 + c)
-parts_later x y c before key e p = record {
+parts_later : (kind : Kind) (x y c : ℕ) (before key : List ℕ) → x ≡ y → Parts kind before key c → Parts kind (x ∷ before) (y ∷ key) (1 + c)
+parts_later kind x y c before key e p = record {
   upto = let u = p.upto in omega arith;
   room = let u = p.room in omega arith;
   same = later_same;
@@ -47,97 +50,98 @@ parts_later x y c before key e p = record {
     later_equal zero l = e
     later_equal (suc j) l = p.equal j (omega arith)
 
-pub parts : (before key : List ℕ) → slice_cmp nat_cmp before key ≡ Less → Parts before key (common before key)
-parts [] [] h = absurd (cc)
-parts [] (y ∷ key) h = record {
+pub parts : (kind : Kind) (before key : List ℕ) → Before kind before key → Parts kind before key (common before key)
+parts kind [] [] h = absurd h
+parts kind [] (y ∷ key) h = record {
   upto = omega arith;
   room = omega arith;
   same = λ j l. let e : j ≡ 0 = omega arith in rw e refl;
   equal = λ j l. absurd (omega arith);
   less = λ l. absurd (let g : 0 < 0 = l in omega arith);
 }
-parts (x ∷ before) [] h = absurd (cc)
-parts (x ∷ before) (y ∷ key) h =
-    elim (compare_first x y before key h) [
-      | inl less ↦ rw (ne_eqb x y (λ e. omega arith)) (parts_at_once x y before key less)
-      | inr same ↦ rw (eq-eqb x y same.0) (parts_later x y (common before key) before key same.0 (parts before key same.1))
+parts kind (x ∷ before) [] h = absurd h
+parts kind (x ∷ before) (y ∷ key) h =
+    elim h [
+      | inl less ↦ rw (ne_eqb x y (apart kind x y less)) (parts_at_once kind x y before key less)
+      | inr same ↦ rw (eq-eqb x y same.0) (parts_later kind x y (common before key) before key same.0 (parts kind before key same.1))
     ]
 
 -- no key at most the front stands strictly behind it
-at_most_none : (front key : List ℕ) (v b : ℕ) → AtMost front key → residual b (behind_all front ((key, v) ∷ [])) ≡ []
-at_most_none [] [] v b h = refl
-at_most_none [] (c ∷ key) v b h = absurd (cc)
-at_most_none (f ∷ front) [] v b h = ap (residual b) (behind_all-nil front)
-at_most_none (f ∷ front) (c ∷ key) v b h =
+at_most_none : (kind : Kind) (front key : List ℕ) (v b : ℕ) → AtMost kind front key → residual b (behind_all front ((key, v) ∷ [])) ≡ []
+at_most_none kind [] [] v b h = refl
+at_most_none kind [] (c ∷ key) v b h = absurd (cc)
+at_most_none kind (f ∷ front) [] v b h = ap (residual b) (behind_all-nil front)
+at_most_none kind (f ∷ front) (c ∷ key) v b h =
     elim h [
-      | inl less ↦ rw (ne_eqb c f (λ e. omega arith)) (ap (residual b) (behind_all-nil front))
-      | inr same ↦ rw (eq-eqb c f same.0) (at_most_none front key v b same.1)
+      | inl less ↦ rw (ne_eqb c f (apart kind c f less)) (ap (residual b) (behind_all-nil front))
+      | inr same ↦ rw (eq-eqb c f same.0) (at_most_none kind front key v b same.1)
     ]
 
-at_most_below : (front a m : List ℕ) → slice_cmp nat_cmp a m ≡ Less → AtMost front m → AtMost front a
-at_most_below [] [] m h l = refl
-at_most_below [] (x ∷ a) [] h l = absurd (cc)
-at_most_below [] (x ∷ a) (c ∷ m) h l = absurd (cc)
-at_most_below (f ∷ front) [] m h l = tt
-at_most_below (f ∷ front) (x ∷ a) [] h l = absurd (cc)
-at_most_below (f ∷ front) (x ∷ a) (c ∷ m) h l =
-    elim (compare_first x c a m h) [
-      | inl less ↦ elim l [ inl low ↦ inl (omega arith) | inr same ↦ let e = same.0 in inl (omega arith) ]
-      | inr equal ↦ let g = equal.0 in elim l [
+at_most_below : (kind : Kind) (front a m : List ℕ) → Before kind a m → AtMost kind front m → AtMost kind front a
+at_most_below kind [] [] m h l = refl
+at_most_below kind [] (x ∷ a) [] h l = absurd h
+at_most_below kind [] (x ∷ a) (c ∷ m) h l = absurd (cc)
+at_most_below kind (f ∷ front) [] m h l = tt
+at_most_below kind (f ∷ front) (x ∷ a) [] h l = absurd h
+at_most_below kind (f ∷ front) (x ∷ a) (c ∷ m) h l =
+    elim h [
+      | inl less ↦ elim l [ inl low ↦ inl (omega arith) | inr same ↦ let e = ap (fold_byte kind) same.0 in inl (omega arith) ]
+      | inr equal ↦ let g = ap (fold_byte kind) equal.0 in elim l [
         | inl low ↦ inl (omega arith)
-        | inr same ↦ inr (g ∙ same.0, at_most_below front a m equal.1 same.1)
+        | inr same ↦ inr (equal.0 ∙ same.0, at_most_below kind front a m equal.1 same.1)
       ]
     ]
 
-abbrev EachAtMost : List ℕ → Pairs → Type 0
-EachAtMost front [] = Unit {0}
-EachAtMost front (e ∷ pairs) = AtMost front e.0 × EachAtMost front pairs
+abbrev EachAtMost : Kind → List ℕ → Pairs → Type 0
+EachAtMost kind front [] = Unit {0}
+EachAtMost kind front (e ∷ pairs) = AtMost kind front e.0 × EachAtMost kind front pairs
 
-each_at_most : (front : List ℕ) (pairs : Pairs) (i : ℕ) → Ascends pairs → i < length pairs → AtMost front (get_or pairs i ([], 0)).0 → EachAtMost front (take (suc i) pairs)
-each_at_most front [] i up h l = let g : i < 0 = h in absurd (omega arith)
-each_at_most front (e ∷ pairs) zero up h l = (l, tt)
-each_at_most front (e ∷ []) (suc i) up h l = let g : suc i < 1 = h in absurd (omega arith)
-each_at_most front (e ∷ f ∷ pairs) (suc i) up h l =
-    let rest = each_at_most front (f ∷ pairs) i up.1 (let g : suc i < suc (suc (length pairs)) = h in let r : i < suc (length pairs) = omega arith in r) l in
-    (at_most_below front e.0 f.0 up.0 rest.0, rest)
+each_at_most : (kind : Kind) (front : List ℕ) (pairs : Pairs) (i : ℕ) → Ordered kind pairs → i < length pairs → AtMost kind front (get_or pairs i ([], 0)).0
+    → EachAtMost kind front (take (suc i) pairs)
+each_at_most kind front [] i up h l = let g : i < 0 = h in absurd (omega arith)
+each_at_most kind front (e ∷ pairs) zero up h l = (l, tt)
+each_at_most kind front (e ∷ []) (suc i) up h l = let g : suc i < 1 = h in absurd (omega arith)
+each_at_most kind front (e ∷ f ∷ pairs) (suc i) up h l =
+    let rest = each_at_most kind front (f ∷ pairs) i up.1 (let g : suc i < suc (suc (length pairs)) = h in let r : i < suc (length pairs) = omega arith in r) l in
+    (at_most_below kind front e.0 f.0 up.0 rest.0, rest)
 
-each_none : (front : List ℕ) (pairs : Pairs) (b : ℕ) → EachAtMost front pairs → residual b (behind_all front pairs) ≡ []
-each_none front [] b h = ap (residual b) (behind_all-nil front)
-each_none front (e ∷ pairs) b h =
+each_none : (kind : Kind) (front : List ℕ) (pairs : Pairs) (b : ℕ) → EachAtMost kind front pairs → residual b (behind_all front pairs) ≡ []
+each_none kind front [] b h = ap (residual b) (behind_all-nil front)
+each_none kind front (e ∷ pairs) b h =
     ap (residual b) (behind_all-append front (e ∷ []) pairs)
     ∙ residual-append b (behind_all front (e ∷ [])) (behind_all front pairs)
-    ∙ ap (λ x. x ++ residual b (behind_all front pairs)) (at_most_none front e.0 e.1 b h.0)
-    ∙ each_none front pairs b h.1
+    ∙ ap (λ x. x ++ residual b (behind_all front pairs)) (at_most_none kind front e.0 e.1 b h.0)
+    ∙ each_none kind front pairs b h.1
 
 -- no pair up to number i stands strictly behind a front that its key does not pass
-pub nothing_before : (front : List ℕ) (pairs : Pairs) (i b : ℕ) → Ascends pairs → i < length pairs → AtMost front (get_or pairs i ([], 0)).0
+pub nothing_before : (kind : Kind) (front : List ℕ) (pairs : Pairs) (i b : ℕ) → Ordered kind pairs → i < length pairs → AtMost kind front (get_or pairs i ([], 0)).0
     → residual b (behind_all front (take (suc i) pairs)) ≡ []
-nothing_before front pairs i b up h l = each_none front (take (suc i) pairs) b (each_at_most front pairs i up h l)
+nothing_before kind front pairs i b up h l = each_none kind front (take (suc i) pairs) b (each_at_most kind front pairs i up h l)
 
 -- the key before does not pass a front that is longer than what it has in common, or as long where it ends there
-pub at_most_front : (before key : List ℕ) (d : ℕ) → slice_cmp nat_cmp before key ≡ Less
-    → ((length before ≡ common before key) × (common before key ≤ d)) ⊎ (common before key < d) → AtMost (take d key) before
-at_most_front [] key zero h l = refl
-at_most_front [] [] (suc d) h l = absurd (cc)
-at_most_front [] (y ∷ key) (suc d) h l = tt
-at_most_front (x ∷ before) [] d h l = absurd (cc)
-at_most_front (x ∷ before) (y ∷ key) zero h l =
-    elim (compare_first x y before key h) [
+pub at_most_front : (kind : Kind) (before key : List ℕ) (d : ℕ) → Before kind before key
+    → ((length before ≡ common before key) × (common before key ≤ d)) ⊎ (common before key < d) → AtMost kind (take d key) before
+at_most_front kind [] key zero h l = refl
+at_most_front kind [] [] (suc d) h l = absurd h
+at_most_front kind [] (y ∷ key) (suc d) h l = tt
+at_most_front kind (x ∷ before) [] d h l = absurd h
+at_most_front kind (x ∷ before) (y ∷ key) zero h l =
+    elim h [
       | inl less ↦
-          let m = rw (ne_eqb x y (λ e. omega arith)) at l in
+          let m = rw (ne_eqb x y (apart kind x y less)) at l in
           absurd (elim m [ inl ends ↦ let e = ends.0 in let r : ⊥ = omega arith in r | inr more ↦ let r : ⊥ = omega arith in r ])
       | inr same ↦
           let m = rw (eq-eqb x y same.0) at l in
           absurd (elim m [ inl ends ↦ let e = ends.1 in let r : ⊥ = omega arith in r | inr more ↦ let r : ⊥ = omega arith in r ])
     ]
-at_most_front (x ∷ before) (y ∷ key) (suc d) h l =
-    elim (compare_first x y before key h) [
+at_most_front kind (x ∷ before) (y ∷ key) (suc d) h l =
+    elim h [
       | inl less ↦ inl less
       | inr same ↦
           let m = rw (eq-eqb x y same.0) at l in
           inr (
             same.0,
-            at_most_front before key d same.1
+            at_most_front kind before key d same.1
                 (elim m [ inl ends ↦ inl (let e = ends.0 in omega arith, let e = ends.1 in omega arith) | inr more ↦ inr (omega arith) ]),
           )
     ]
@@ -158,3 +162,30 @@ common_nil (x ∷ before) = refl
 -- behind the end of the key nothing is in common
 pub common_past : (before key : List ℕ) (n : ℕ) → length key ≤ n → common (drop n before) (drop n key) ≡ 0
 common_past before key n h = ap (common (drop n before)) (drop_past key n h) ∙ common_nil (drop n before)
+
+-- what is in common is in both
+pub common_most : (before key : List ℕ) → (common before key ≤ length before) × (common before key ≤ length key)
+common_most [] key = (omega arith, omega arith)
+common_most (x ∷ before) [] = (omega arith, omega arith)
+common_most (x ∷ before) (y ∷ key) =
+    let rest = common_most before key in
+    elim (cases_eq x y) [
+      | inl same ↦ rw (eq-eqb x y same) (let a = rest.0 in omega arith, let b = rest.1 in omega arith)
+      | inr other ↦ rw (ne_eqb x y other) (omega arith, omega arith)
+    ]
+
+-- the key before is one, if it ends at what the two have in common or has a lower byte there
+pub before_at : (kind : Kind) (before key : List ℕ) → common before key < length key
+    → (common before key < length before → fold_byte kind (get_or before (common before key) 0) < fold_byte kind (get_or key (common before key) 0)) → Before kind before key
+before_at kind [] [] room less = let g : 0 < 0 = room in omega arith
+before_at kind [] (y ∷ key) room less = tt
+before_at kind (x ∷ before) [] room less = let g : 0 < 0 = room in omega arith
+before_at kind (x ∷ before) (y ∷ key) room less =
+    elim (cases_eq x y) [
+      | inl same ↦
+          let next : 1 + common before key ≡ suc (common before key) = omega arith in
+          let room' = rw (eq-eqb x y same, next) at room in
+          let less' = rw (eq-eqb x y same, next) at less in
+          inr (same, before_at kind before key (omega arith) (λ l. less' (omega arith)))
+      | inr other ↦ let less' = rw (ne_eqb x y other) at less in inl (less' (omega arith))
+    ]

@@ -1,5 +1,6 @@
 pub mod Items
 pub mod Ranges
 pub mod Routes
+pub mod Order
 pub mod Branches
 pub mod Growing

@@ -5,35 +5,44 @@ ghost use Rattle.std.specs.Iterator.{IsFinite};
 ghost use Rattle.std.specs.Iterator.Runs.{WholeRun};
 ghost use Rattle.std.specs.FinMap.{entries};
 ghost use Rattle.zerotrie_core.specs.Items.{pairs_of};
-ghost use Rattle.zerotrie_core.specs.Kind.{Kind, simple_ascii, flags};
+ghost use Rattle.zerotrie_core.specs.Kind.{Kind, IsAscii, flags};
 ghost use Rattle.zerotrie_core.specs.Maps.{Ascends, RepeatsKey, map_of};
 ghost use Rattle.zerotrie_core.specs.Texts.{Means};
-ghost use Rattle.zerotrie_core.specs.Canonical.{enc};
-ghost use Rattle.zerotrie_core.specs.Fits.{Fits};
 ghost use Rattle.zerotrie_core.specs.Causes.{Cause};
+ghost use Rattle.zerotrie_core.specs.Built.{IsBuilt};
 ghost use Rattle.zerotrie_build.specs.Items.{pairs};
-ghost use Rattle.zerotrie_build.specs.Routes.{keyed, IsRefused};
+ghost use Rattle.zerotrie_build.specs.Routes.{keyed};
 
 use crate::growing::grow;
+use crate::order::sorted_ignoring_case;
 use crate::slice_indices::ByteSliceWithIndices;
 use crate::store::TrieBuilderStore;
 use std::alloc::{AllocError, Global};
 use std::collections::BTreeMap;
-use zerotrie_core::{TrieKey, ZeroTrieBuildError, ZeroTrieBuilderOptions, laws};
+use zerotrie_core::{Ignore, Simple, TrieKey, ZeroTrieBuildError, ZeroTrieBuilderOptions, laws};
 
-/// The bytes of the trie of items in ascending order, if all their keys are ASCII.
+/// The bytes of the trie of items that ascend by the bytes of their keys, if the kind takes all of these.
 fn grow_ascii<S: TrieBuilderStore + Drop>(
     alloc: Global,
     items: ByteSliceWithIndices<'_>,
+    options: ZeroTrieBuilderOptions,
 ) -> Result<S, ZeroTrieBuildError>
-    requires { Ascends (pairs items) }
-    ensures means { IfOk result (λ store. Means simple_ascii (S.list store) (map_of (pairs items.entry))) }
-    ensures refused { IfErr result (λ e. e ≢ ZeroTrieBuildError.OutOfMemory → IsRefused (pairs items.entry) e) }
+    requires kind { (kind : Kind) × IsAscii kind × (flags kind ≡ options) }
+    requires sorted { Ascends (pairs items) }
+    ensures means { (kind : Kind) → flags kind ≡ options → IfOk result (λ store. Means kind (S.list store) (map_of (pairs items.entry))) }
+    ensures refused { (kind : Kind) → flags kind ≡ options
+        → IfErr result (λ e. e ≢ ZeroTrieBuildError.OutOfMemory → Cause kind (pairs items.entry) e) }
+    ensures never { IfErr result (λ e. (e ≢ ZeroTrieBuildError.DuplicateKey) × (e ≢ ZeroTrieBuildError.Unsorted)) }
 {
     if !items.is_all_ascii() {
         return Err(ZeroTrieBuildError::NonAsciiError);
     }
-    grow(alloc, items)
+    if !options.ignore_case() {
+        return grow::<Simple, S>(alloc, items);
+    }
+    let sorted = sorted_ignoring_case(alloc, items)?;
+    let items = ByteSliceWithIndices::from_byte_slice(sorted.as_slice());
+    grow::<Ignore, S>(alloc, items)
 }
 
 /// All that the iterator gives.
@@ -98,7 +107,7 @@ fn sorted_items<K: TrieKey>(
 ///     ZeroTrieBuilder::from_sorted_tuple_slice(alloc, items, options)?;
 /// assert_eq!(builder.to_bytes(alloc)?.as_slice(), b"ad\x90\x06ef\x90\x11");
 /// ```
-#[derive(Drop)]
+#[derive(Debug, Drop)]
 pub struct ZeroTrieBuilder<S> {
     /// The bytes of the trie.
     pub data: S,
@@ -110,8 +119,9 @@ impl<S: TrieBuilderStore + Drop> ZeroTrieBuilder<S> {
     /// The bytes mean the map of the items, and for a kind whose tables are sorted they are the map's one
     /// text. Refused:
     ///
-    /// - `Unsorted` where the keys are not strictly ascending by their bytes,
+    /// - `Unsorted` where the keys are not strictly ascending by their bytes, in a kind without case too,
     /// - `NonAsciiError` where a key holds a byte of 128 or more, in a kind for ASCII alone,
+    /// - `MixedCase` where two keys agree in front up to case and not exactly, in the kind without case,
     /// - `CapacityExceeded` where a branch needs 2^32 target bytes or more, in a kind whose offsets have
     ///   at most four bytes, or the text has 2^64 bytes or more,
     /// - `OutOfMemory` where a growth was refused.
@@ -120,21 +130,18 @@ impl<S: TrieBuilderStore + Drop> ZeroTrieBuilder<S> {
         items: ByteSliceWithIndices<'_>,
         options: ZeroTrieBuilderOptions,
     ) -> Result<Self, ZeroTrieBuildError>
-        requires { options ≡ flags simple_ascii }
+        requires { (kind : Kind) × IsAscii kind × (flags kind ≡ options) }
         ensures ascends { OnOk result (Ascends (pairs items.entry)) }
-        ensures fits { (kind : Kind) → flags kind ≡ options → OnOk result (Fits kind (map_of (pairs items.entry))) }
-        ensures text { (kind : Kind) → flags kind ≡ options → IfOk result (λ b. S.list b.data ≡ enc kind (map_of (pairs items.entry))) }
-        ensures means { (kind : Kind) → flags kind ≡ options → IfOk result (λ b. Means kind (S.list b.data) (map_of (pairs items.entry))) }
+        ensures built { (kind : Kind) → flags kind ≡ options → IfOk result (λ b. IsBuilt kind (pairs items.entry) (S.list b.data)) }
         ensures cause { (kind : Kind) → flags kind ≡ options
             → IfErr result (λ e. e ≢ ZeroTrieBuildError.OutOfMemory → Cause kind (pairs items.entry) e) }
         ensures never { IfErr result (λ e. e ≢ ZeroTrieBuildError.DuplicateKey) }
     {
-        let _options = options;
         laws::canonical_exactly();
         if !items.is_sorted() {
             return Err(ZeroTrieBuildError::Unsorted);
         }
-        let data = grow_ascii(alloc, items)?;
+        let data = grow_ascii(alloc, items, options)?;
         Ok(ZeroTrieBuilder { data })
     }
 
@@ -149,24 +156,22 @@ impl<S: TrieBuilderStore + Drop> ZeroTrieBuilder<S> {
     ) -> Result<Self, ZeroTrieBuildError>
     where
         U::IntoIter: Drop,
-        requires simple { options ≡ flags simple_ascii }
+        requires kind { (kind : Kind) × IsAscii kind × (flags kind ≡ options) }
         requires steps { (it : U.IntoIter) → U.into_iter_gives iter it → U.IntoIter.can_next it × IsFinite (U.IntoIter.remaining it) }
         ensures distinct { OnOk result ((it : U.IntoIter) × U.into_iter_gives iter it
             × WholeRun U.IntoIter.next_gives it (λ p. RepeatsKey (keyed K.key p.items) → ⊥)) }
-        ensures built { IfOk result (λ b. (it : U.IntoIter) × U.into_iter_gives iter it
-            × WholeRun U.IntoIter.next_gives it (λ p. (kind : Kind) → flags kind ≡ options
-            → Fits kind (map_of (keyed K.key p.items)) × (S.list b.data ≡ enc kind (map_of (keyed K.key p.items)))
-            × Means kind (S.list b.data) (map_of (keyed K.key p.items)))) }
-        ensures cause { IfErr result (λ e. e ≢ ZeroTrieBuildError.OutOfMemory → (it : U.IntoIter) × U.into_iter_gives iter it
-            × WholeRun U.IntoIter.next_gives it (λ p. (kind : Kind) → flags kind ≡ options → Cause kind (keyed K.key p.items) e)) }
+        ensures built { (kind : Kind) → flags kind ≡ options → IfOk result (λ b. (it : U.IntoIter) × U.into_iter_gives iter it
+            × WholeRun U.IntoIter.next_gives it (λ p. IsBuilt kind (keyed K.key p.items) (S.list b.data))) }
+        ensures cause { (kind : Kind) → flags kind ≡ options
+            → IfErr result (λ e. e ≢ ZeroTrieBuildError.OutOfMemory → (it : U.IntoIter) × U.into_iter_gives iter it
+            × WholeRun U.IntoIter.next_gives it (λ p. Cause kind (keyed K.key p.items) e)) }
         ensures never { IfErr result (λ e. e ≢ ZeroTrieBuildError.Unsorted) }
     {
-        let _options = options;
         laws::canonical_exactly();
         let given = drained(alloc, iter)?;
         let items = sorted_items(alloc, given.as_slice())?;
         let items = ByteSliceWithIndices::from_byte_slice(items.as_slice());
-        let data = grow_ascii(alloc, items)?;
+        let data = grow_ascii(alloc, items, options)?;
         Ok(ZeroTrieBuilder { data })
     }
 

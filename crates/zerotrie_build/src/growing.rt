@@ -1,45 +1,35 @@
 //! The bytes of a trie, from the last node to the first.
 
-ghost use Rattle.std.specs.Prelude.{◌≡◌, ◌≢◌, ◌==◌, ℕ, ◌+◌, ◌-◌, ◌^◌, ◌<◌, ◌≤◌, ◌∷◌, length, take, All, IfOk, OnOk, IfErr, List, suc, true, false};
-ghost use Rattle.std.specs.Cmp.Lexicographic.{slice_cmp};
-ghost use Rattle.std.specs.Ordering.{nat_cmp};
-ghost use Rattle.std.specs.declared.cmp.Ordering.TheVariants.{Less};
-ghost use Rattle.zerotrie_core.specs.Kind.{simple_ascii};
-ghost use Rattle.zerotrie_core.specs.Maps.{Pairs, Ascends, map_of, common_front};
+ghost use Rattle.std.specs.Prelude.{◌≡◌, ◌≢◌, ℕ, ◌+◌, ◌-◌, ◌^◌, ◌<◌, ◌≤◌, ◌∷◌, length, take, All, IfOk, OnOk, IfErr, List, suc, true, false};
+ghost use Rattle.zerotrie_core.specs.Kind.{IsAscii};
+ghost use Rattle.zerotrie_core.specs.Maps.{Pairs, map_of};
 ghost use Rattle.zerotrie_core.specs.Texts.{Lists};
-ghost use Rattle.zerotrie_core.specs.Fits.{ExceedsCapacity};
+ghost use Rattle.zerotrie_core.specs.Fits.{OverflowsAt, ExceedsCapacity};
 ghost use Rattle.zerotrie_build.specs.Items.{pairs};
-ghost use Rattle.zerotrie_build.specs.Growing.{tops, NoneAt, Stands, Waits, Closes, BuiltFrom, AtMost, OverflowsAt};
+ghost use Rattle.zerotrie_build.specs.Order.{Before, Ordered};
+ghost use Rattle.zerotrie_build.specs.Growing.{tops, NoneAt, Stands, Waits, Closes, BuiltFrom, AtMost};
 
 use crate::nodes::{prepend_branch, prepend_value};
+use crate::order::common_front_len;
 use crate::siblings::{Sibling, pop_branch};
 use crate::slice_indices::ByteSliceWithIndices;
 use crate::store::TrieBuilderStore;
 use std::alloc::Global;
-use zerotrie_core::ZeroTrieBuildError;
-
-/// How many bytes two keys have in common in front.
-fn common_front_len(before: &[u8], key: &[u8]) -> usize
-    ensures { result ≡ common_front (λ a b. a == b) before.now key.now }
-{
-    let mut count = 0;
-    while count < before.len() && count < key.len() && before[count] == key[count] {
-        count += 1;
-    }
-    count
-}
+use std::marker::PhantomData;
+use zerotrie_core::{ZeroTrieBuildError, ZeroTrieWithOptions};
 
 /// A trie in the making: in front the text of what lies under the first bytes of one key, and behind it
 /// the targets of open branches, the one that was set aside last in front.
 #[derive(Drop)]
-struct Growing<S> {
+struct Growing<K, S> {
     data: S,
     siblings: Vec<Sibling>,
     /// How many bytes lie behind the text in front.
     behind: usize,
+    kind: PhantomData<K>,
 }
 
-impl<S: TrieBuilderStore + Drop> Growing<S> {
+impl<K: ZeroTrieWithOptions, S: TrieBuilderStore + Drop> Growing<K, S> {
     /// Makes a branch of the text in front, whose edge is the key's next byte, and the siblings at this depth.
     fn close_branch(
         &mut self,
@@ -47,13 +37,14 @@ impl<S: TrieBuilderStore + Drop> Growing<S> {
         key: &[u8],
         depth: usize,
     ) -> Result<(), ZeroTrieBuildError>
+        requires kind { IsAscii K.kind }
         requires within { depth < length key.now }
         requires ascii { All (λ b. b < 128) key.now }
-        requires stands { (listed : Pairs) × Stands key.now (suc depth) (tops self.old.siblings.items) self.old.behind (S.list self.old.data) listed }
+        requires stands { (listed : Pairs) × Stands K.kind key.now (suc depth) (tops self.old.siblings.items) self.old.behind (S.list self.old.data) listed }
         requires siblings { NoneAt depth (tops self.old.siblings.items) → ⊥ }
-        ensures ok { OnOk result (Closes key.now (suc depth) depth (tops self.old.siblings.items) self.old.behind (S.list self.old.data) (tops self.new.siblings.items) self.new.behind (S.list self.new.data)) }
+        ensures ok { OnOk result (Closes K.kind key.now (suc depth) depth (tops self.old.siblings.items) self.old.behind (S.list self.old.data) (tops self.new.siblings.items) self.new.behind (S.list self.new.data)) }
         ensures refused { IfErr result (λ e. e ≢ ZeroTrieBuildError.OutOfMemory → (e ≡ ZeroTrieBuildError.CapacityExceeded)
-            × ((listed : Pairs) → Stands key.now (suc depth) (tops self.old.siblings.items) self.old.behind (S.list self.old.data) listed → OverflowsAt (take depth key.now) listed)) }
+            × ((listed : Pairs) → Stands K.kind key.now (suc depth) (tops self.old.siblings.items) self.old.behind (S.list self.old.data) listed → OverflowsAt K.kind (take depth key.now) listed)) }
     {
         let len = self.data.atbs_len() - self.behind;
         let first = Sibling {
@@ -89,12 +80,13 @@ impl<S: TrieBuilderStore + Drop> Growing<S> {
         key: &[u8],
         depth: usize,
     ) -> Result<(), ZeroTrieBuildError>
+        requires kind { IsAscii K.kind }
         requires within { depth < length key.now }
         requires ascii { All (λ b. b < 128) key.now }
-        requires stands { (listed : Pairs) × Stands key.now (suc depth) (tops self.old.siblings.items) self.old.behind (S.list self.old.data) listed }
-        ensures ok { OnOk result (Closes key.now (suc depth) depth (tops self.old.siblings.items) self.old.behind (S.list self.old.data) (tops self.new.siblings.items) self.new.behind (S.list self.new.data)) }
+        requires stands { (listed : Pairs) × Stands K.kind key.now (suc depth) (tops self.old.siblings.items) self.old.behind (S.list self.old.data) listed }
+        ensures ok { OnOk result (Closes K.kind key.now (suc depth) depth (tops self.old.siblings.items) self.old.behind (S.list self.old.data) (tops self.new.siblings.items) self.new.behind (S.list self.new.data)) }
         ensures refused { IfErr result (λ e. e ≢ ZeroTrieBuildError.OutOfMemory → (e ≡ ZeroTrieBuildError.CapacityExceeded)
-            × ((listed : Pairs) → Stands key.now (suc depth) (tops self.old.siblings.items) self.old.behind (S.list self.old.data) listed → OverflowsAt (take depth key.now) listed)) }
+            × ((listed : Pairs) → Stands K.kind key.now (suc depth) (tops self.old.siblings.items) self.old.behind (S.list self.old.data) listed → OverflowsAt K.kind (take depth key.now) listed)) }
     {
         if self.has_siblings_at(depth) {
             return self.close_branch(alloc, key, depth);
@@ -105,13 +97,14 @@ impl<S: TrieBuilderStore + Drop> Growing<S> {
 
     /// Goes from the text of the whole key to what lies under its first `stop` bytes.
     fn close_to(&mut self, alloc: Global, key: &[u8], stop: usize) -> Result<(), ZeroTrieBuildError>
+        requires kind { IsAscii K.kind }
         requires within { stop ≤ length key.now }
         requires ascii { All (λ b. b < 128) key.now }
-        requires stands { (listed : Pairs) × Stands key.now (length key.now) (tops self.old.siblings.items) self.old.behind (S.list self.old.data) listed }
-        ensures ok { OnOk result (Closes key.now (length key.now) stop (tops self.old.siblings.items) self.old.behind (S.list self.old.data) (tops self.new.siblings.items) self.new.behind (S.list self.new.data)) }
+        requires stands { (listed : Pairs) × Stands K.kind key.now (length key.now) (tops self.old.siblings.items) self.old.behind (S.list self.old.data) listed }
+        ensures ok { OnOk result (Closes K.kind key.now (length key.now) stop (tops self.old.siblings.items) self.old.behind (S.list self.old.data) (tops self.new.siblings.items) self.new.behind (S.list self.new.data)) }
         ensures refused { IfErr result (λ e. e ≢ ZeroTrieBuildError.OutOfMemory → (e ≡ ZeroTrieBuildError.CapacityExceeded)
-            × ((listed : Pairs) → Stands key.now (length key.now) (tops self.old.siblings.items) self.old.behind (S.list self.old.data) listed
-            → (depth : ℕ) × (stop ≤ depth) × (depth < length key.now) × OverflowsAt (take depth key.now) listed)) }
+            × ((listed : Pairs) → Stands K.kind key.now (length key.now) (tops self.old.siblings.items) self.old.behind (S.list self.old.data) listed
+            → (depth : ℕ) × (stop ≤ depth) × (depth < length key.now) × OverflowsAt K.kind (take depth key.now) listed)) }
     {
         let mut depth = key.len();
         while depth > stop {
@@ -142,14 +135,15 @@ impl<S: TrieBuilderStore + Drop> Growing<S> {
         before: &[u8],
         key: &[u8],
     ) -> Result<(), ZeroTrieBuildError>
-        requires sorted { slice_cmp nat_cmp before.now key.now ≡ Less }
+        requires kind { IsAscii K.kind }
+        requires sorted { Before K.kind before.now key.now }
         requires ascii { All (λ b. b < 128) key.now }
-        requires stands { (listed : Pairs) × Stands key.now (length key.now) (tops self.old.siblings.items) self.old.behind (S.list self.old.data) listed }
-        ensures ok { OnOk result ((listed : Pairs) → Stands key.now (length key.now) (tops self.old.siblings.items) self.old.behind (S.list self.old.data) listed
-            → Waits before.now (tops self.new.siblings.items) self.new.behind (S.list self.new.data) listed) }
+        requires stands { (listed : Pairs) × Stands K.kind key.now (length key.now) (tops self.old.siblings.items) self.old.behind (S.list self.old.data) listed }
+        ensures ok { OnOk result ((listed : Pairs) → Stands K.kind key.now (length key.now) (tops self.old.siblings.items) self.old.behind (S.list self.old.data) listed
+            → Waits K.kind before.now (tops self.new.siblings.items) self.new.behind (S.list self.new.data) listed) }
         ensures refused { IfErr result (λ e. e ≢ ZeroTrieBuildError.OutOfMemory → (e ≡ ZeroTrieBuildError.CapacityExceeded)
-            × ((listed : Pairs) → Stands key.now (length key.now) (tops self.old.siblings.items) self.old.behind (S.list self.old.data) listed
-            → (front : List ℕ) × AtMost front before.now × OverflowsAt front listed)) }
+            × ((listed : Pairs) → Stands K.kind key.now (length key.now) (tops self.old.siblings.items) self.old.behind (S.list self.old.data) listed
+            → (front : List ℕ) × AtMost K.kind front before.now × OverflowsAt K.kind front listed)) }
     {
         let common = common_front_len(before, key);
         if common == before.len() {
@@ -166,13 +160,14 @@ impl<S: TrieBuilderStore + Drop> Growing<S> {
         items: ByteSliceWithIndices<'_>,
         index: usize,
     ) -> Result<(), ZeroTrieBuildError>
+        requires kind { IsAscii K.kind }
         requires within { index < length (pairs items) }
-        requires sorted { Ascends (pairs items) }
+        requires sorted { Ordered K.kind (pairs items) }
         requires ascii { All (λ e. All (λ b. b < 128) e.0) (pairs items) }
-        requires built { BuiltFrom (suc index) (pairs items) (tops self.old.siblings.items) self.old.behind (S.list self.old.data) }
-        ensures ok { OnOk result (BuiltFrom index (pairs items.entry) (tops self.new.siblings.items) self.new.behind (S.list self.new.data)) }
+        requires built { BuiltFrom K.kind (suc index) (pairs items) (tops self.old.siblings.items) self.old.behind (S.list self.old.data) }
+        ensures ok { OnOk result (BuiltFrom K.kind index (pairs items.entry) (tops self.new.siblings.items) self.new.behind (S.list self.new.data)) }
         ensures refused { IfErr result (λ e. e ≢ ZeroTrieBuildError.OutOfMemory
-            → (e ≡ ZeroTrieBuildError.CapacityExceeded) × ExceedsCapacity simple_ascii (map_of (pairs items.entry))) }
+            → (e ≡ ZeroTrieBuildError.CapacityExceeded) × ExceedsCapacity K.kind (map_of (pairs items.entry))) }
     {
         let (key, value) = items.get(index);
         prepend_value(&mut self.data, value)?;
@@ -185,21 +180,23 @@ impl<S: TrieBuilderStore + Drop> Growing<S> {
 }
 
 /// The bytes of the trie of the items.
-pub(crate) fn grow<S: TrieBuilderStore + Drop>(
+pub(crate) fn grow<K: ZeroTrieWithOptions, S: TrieBuilderStore + Drop>(
     alloc: Global,
     items: ByteSliceWithIndices<'_>,
 ) -> Result<S, ZeroTrieBuildError>
-    requires sorted { Ascends (pairs items) }
+    requires kind { IsAscii K.kind }
+    requires sorted { Ordered K.kind (pairs items) }
     requires ascii { All (λ e. All (λ b. b < 128) e.0) (pairs items) }
-    ensures lists { IfOk result (λ store. Lists simple_ascii (S.list store) (pairs items.entry)) }
+    ensures lists { IfOk result (λ store. Lists K.kind (S.list store) (pairs items.entry)) }
     ensures short { IfOk result (λ store. length (S.list store) < 2 ^ 64) }
     ensures refused { IfErr result (λ e. e ≢ ZeroTrieBuildError.OutOfMemory
-        → (e ≡ ZeroTrieBuildError.CapacityExceeded) × ExceedsCapacity simple_ascii (map_of (pairs items.entry))) }
+        → (e ≡ ZeroTrieBuildError.CapacityExceeded) × ExceedsCapacity K.kind (map_of (pairs items.entry))) }
 {
-    let mut growing = Growing {
+    let mut growing: Growing<K, S> = Growing {
         data: S::atbs_new_empty(alloc),
         siblings: Vec::new(alloc),
         behind: 0,
+        kind: PhantomData,
     };
     let mut index = items.len();
     while index > 0 {
@@ -210,7 +207,9 @@ pub(crate) fn grow<S: TrieBuilderStore + Drop>(
         data,
         siblings: _,
         behind: _,
+        kind: _,
     } = growing;
+    // That a length is below 2^64 tells the proof that so are the bytes.
     let _len = data.atbs_len();
     Ok(data)
 }

@@ -4,6 +4,7 @@
 mod builder;
 mod growing;
 mod nodes;
+mod order;
 mod siblings;
 mod slice_indices;
 mod store;

@@ -3,7 +3,8 @@ use Rattle.std.proofs.Common.{◌≡◌, ℕ, zero, suc, ◌+◌, ◌*◌, ◌/�
 use Rattle.std.specs.Prelude.{◌||◌}
 use Rattle.std.specs.List.{concat}
 use Rattle.std.proofs.lemmas.Bool.{cases_lt, lt-ltb, le-ltb}
-use Rattle.zerotrie_core.specs.Kind.{Kind, simple_ascii}
+use Rattle.std.proofs.lemmas.Bool.Decides.{eqb_tells}
+use Rattle.zerotrie_core.specs.Kind.{Kind, simple_ascii, ignore_case, IsAscii, fold_byte, edge_limit, ordered}
 use Rattle.zerotrie_core.specs.Numbers.{spelled}
 use Rattle.zerotrie_core.specs.Maps.{Pairs, with_front, begins_some, edges, residual, value_at}
 use Rattle.zerotrie_core.specs.Branches.{IsBranch, IsWidth, blocks, offsets}
@@ -11,11 +12,13 @@ use Rattle.zerotrie_core.specs.Texts.{Lists, ListEach, NoValueFirst}
 use Rattle.zerotrie_core.specs.Texts.Lists.{nothing, value, literal, branch}
 use Rattle.zerotrie_core.specs.Texts.ListEach.{no_edge, edge}
 use Rattle.zerotrie_core.specs.Canonical.{enc_to, node, branch_node, value_node, width, width_to}
-use Rattle.zerotrie_core.proofs.EdgeLemmas.{Rise, Rise-lower, member, filter-range, begins_some-append, begins_some-front, residual-append, residual-front, residual-other}
-use Rattle.zerotrie_core.proofs.ReaderLemmas.{Rises, table_rises, value_at-no_key, behind_none, extender_one}
+use Rattle.zerotrie_core.proofs.EdgeLemmas.{Rise, member, member_head, member_later, member_other, filter-range, begins_some-append, begins_some-front, residual-append, residual-front, residual-other}
+use Rattle.zerotrie_core.proofs.OrderedLemmas.{ordered_is, edges_rise, member-edges, member-edges_past, not_member}
+use Rattle.zerotrie_core.proofs.ReaderLemmas.{Rises, AllAbove, table_rises, value_at-no_key, behind_none, extender_one}
+use Rattle.zerotrie_core.proofs.SameLemmas.{some_pair, begins_behind}
 use Rattle.zerotrie_core.proofs.NumberLaws.{one_spelling, spells_spelled}
 use Rattle.std.proofs.Math.Nat.{pow-suc, div-lt_iff_lt-mul}
-use Rattle.zerotrie_core.proofs.TableLemmas.{table_is_edges, above_at}
+use Rattle.zerotrie_core.proofs.TableLemmas.{table_is_edges}
 
 or_false' : (x : Bool) → (x || false) ≡ x
 or_false' true = refl
@@ -57,21 +60,56 @@ mutual
   each_some no_edge some none = some refl
   each_some (edge {e = e} {pairs = p} {more = m} n text each) some none = lists_some text n (front_none e p (append_none (with_front e p) m none))
 
-rises_rise : (es : List ℕ) (low : ℕ) → Rises simple_ascii es → ((i : ℕ) → i < length es → get_or es i 0 < 256) → (0 < length es → low ≤ get_or es 0 0) → Rise low 256 es
-rises_rise [] low r below first = tt
-rises_rise (e ∷ es) low r below first = (first (omega arith), below 0 (omega arith), rises_rise es (suc e) r.1 (λ i h. below (suc i) (omega arith)) (λ h. above_at simple_ascii e 0 es refl r.0 h))
-
 pub begins_each : {kind : Kind} {es : List ℕ} {targets : List (List ℕ)} {pairs : Pairs} → ListEach kind es targets pairs → (b : ℕ) → begins_some pairs b ≡ member b es
 begins_each no_edge b = refl
 begins_each (edge {e = e} {pairs = p} {more = m} n text each) b =
     begins_some-append (with_front e p) m b ∙ rw (begins_some-front e b p (lists_some text n), begins_each each b) refl
 
-pub branch_rise : {es : List ℕ} {targets : List (List ℕ)} {bytes : List ℕ} → IsBranch simple_ascii es targets bytes → Rise 0 256 es
-branch_rise {es = es} b = rises_rise es 0 (table_rises b.is_table) (λ i h. let low = b.edge_bytes i 0 h in omega arith) (λ h. omega arith)
+pub branch_rises : {kind : Kind} {es : List ℕ} {targets : List (List ℕ)} {bytes : List ℕ} → IsBranch kind es targets bytes → Rises kind es
+branch_rises b = table_rises b.is_table
 
-edges_each : {es : List ℕ} {targets : List (List ℕ)} {bytes : List ℕ} {pairs : Pairs} → IsBranch simple_ascii es targets bytes → ListEach simple_ascii es targets pairs → edges pairs ≡ es
-unfolding edges
-edges_each {es = es} {pairs = pairs} b each = filter-range (begins_some pairs) 0 256 256 es refl (branch_rise b) (λ x h. begins_each each x)
+-- each of the edges is a byte
+abbrev pub Bytes : List ℕ → Type 0
+Bytes es = (b : ℕ) → member b es ≡ true → b < 256
+
+byte_edge : (kind : Kind) → IsAscii kind → (b : ℕ) → b < edge_limit kind → b < 256
+byte_edge simple_ascii ascii b h = omega arith
+byte_edge ignore_case ascii b h = omega arith
+
+pub bytes_all : (es : List ℕ) → ((i d : ℕ) → i < length es → get_or es i d < 256) → Bytes es
+bytes_all [] h b is = absurd (cc)
+bytes_all (e ∷ es) h b is = elim (eqb_tells e b) [
+  | inl same ↦ let first = h 0 0 (omega arith) in let s = same.1 in omega arith
+  | inr other ↦ bytes_all es (λ i d l. h (suc i) d (omega arith)) b (sym (member_other b e es other.1) ∙ is)
+]
+
+pub rise_bytes : (low : ℕ) (es : List ℕ) → Rise low 256 es → Bytes es
+rise_bytes low [] rise b is = absurd (cc)
+rise_bytes low (e ∷ es) rise b is = elim (eqb_tells e b) [
+  | inl same ↦ let s = same.1 in omega (arith, rise.1)
+  | inr other ↦ rise_bytes (suc e) es rise.2 b (sym (member_other b e es other.1) ∙ is)
+]
+
+pub branch_bytes : {kind : Kind} {es : List ℕ} {targets : List (List ℕ)} {bytes : List ℕ} → IsAscii kind → IsBranch kind es targets bytes → Bytes es
+branch_bytes {kind = kind} {es = es} ascii b = bytes_all es (λ i d h. byte_edge kind ascii (get_or es i d) (b.edge_bytes i d h))
+
+no_byte : (is : Bool) (b : ℕ) → 256 ≤ b → (is ≡ true → b < 256) → is ≡ false
+no_byte true b high h = absurd (let low = h refl in omega arith)
+no_byte false b high h = refl
+
+-- the edges of a branch are the first bytes of its pairs, in the order of the kind
+members_each : {kind : Kind} {es : List ℕ} {targets : List (List ℕ)} {pairs : Pairs} → ListEach kind es targets pairs → Bytes es → (b : ℕ) → member b (edges pairs) ≡ member b es
+members_each {es = es} {pairs = pairs} each bytes b =
+    elim (cases_lt b 256) [
+      | inl low ↦ member-edges pairs b low ∙ begins_each each b
+      | inr high ↦ member-edges_past pairs b high ∙ sym (no_byte (member b es) b high (bytes b))
+    ]
+
+pub edges_listed : {kind : Kind} {es : List ℕ} {targets : List (List ℕ)} {pairs : Pairs} → IsAscii kind → ListEach kind es targets pairs → Rises kind es → Bytes es → ordered kind (edges pairs) ≡ es
+edges_listed {kind = kind} {es = es} {pairs = pairs} ascii each rises bytes = ordered_is kind ascii 0 256 (edges pairs) es (edges_rise pairs) rises (members_each each bytes)
+
+pub edges_each : {kind : Kind} {es : List ℕ} {targets : List (List ℕ)} {bytes : List ℕ} {pairs : Pairs} → IsAscii kind → IsBranch kind es targets bytes → ListEach kind es targets pairs → ordered kind (edges pairs) ≡ es
+edges_each ascii b each = edges_listed ascii each (branch_rises b) (branch_bytes ascii b)
 
 pub edges_front : (b : ℕ) (pairs : Pairs) → b < 128 → (pairs ≡ [] → ⊥) → edges (with_front b pairs) ≡ b ∷ []
 unfolding edges
@@ -80,6 +118,20 @@ edges_front b pairs low some = filter-range (begins_some (with_front b pairs)) 0
 pub edges_none : edges [] ≡ []
 unfolding edges
 edges_none = filter-range (begins_some []) 0 256 256 [] refl tt (λ x h. refl)
+
+ordered_none : (kind : Kind) → ordered kind [] ≡ []
+ordered_none simple_ascii = refl
+ordered_none ignore_case = refl
+
+ordered_one : (kind : Kind) (b : ℕ) → ordered kind (b ∷ []) ≡ b ∷ []
+ordered_one simple_ascii b = refl
+ordered_one ignore_case b = refl
+
+pub ordered_front : (kind : Kind) (b : ℕ) (pairs : Pairs) → b < 128 → (pairs ≡ [] → ⊥) → ordered kind (edges (with_front b pairs)) ≡ b ∷ []
+ordered_front kind b pairs low some = ap (ordered kind) (edges_front b pairs low some) ∙ ordered_one kind b
+
+pub no_edge_ordered : (kind : Kind) → ordered kind (edges []) ≡ []
+no_edge_ordered kind = ap (ordered kind) edges_none ∙ ordered_none kind
 
 small_width : (t : ℕ) → t < 256 → (x : ℕ) → 0 ≤ x
 small_width t h x = omega arith
@@ -123,10 +175,28 @@ pub bytes_end : (bytes : List ℕ) → bytes ++ [] ≡ bytes
 bytes_end [] = refl
 bytes_end (e ∷ bytes) = ap (λ x. e ∷ x) (bytes_end bytes)
 
-pub residual_none : {es : List ℕ} {targets : List (List ℕ)} {pairs : Pairs} → ListEach simple_ascii es targets pairs → (b : ℕ) → Rise (suc b) 256 es → residual b pairs ≡ []
-residual_none no_edge b rise = refl
-residual_none (edge {e = e} {pairs = p} {more = m} n text each) b rise =
-    residual-append b (with_front e p) m ∙ ap (λ x. x ++ residual b m) (residual-other b e p (λ s. omega (arith, rise.0))) ∙ residual_none each b (Rise-lower (suc b) (suc e) 256 _ (omega (arith, rise.0)) rise.2)
+no_pair : (pairs : Pairs) → some_pair pairs ≡ false → pairs ≡ []
+no_pair [] h = refl
+no_pair (e ∷ pairs) h = absurd (cc)
+
+-- no pair is behind a byte that is no edge
+pub residual_none : {kind : Kind} {es : List ℕ} {targets : List (List ℕ)} {pairs : Pairs} → ListEach kind es targets pairs → (b : ℕ) → member b es ≡ false → residual b pairs ≡ []
+residual_none {pairs = pairs} each b h = no_pair (residual b pairs) (sym (begins_behind pairs b) ∙ begins_each each b ∙ h)
+
+-- the pairs of the first target, and those behind it
+pub residual_first : {kind : Kind} {es : List ℕ} {targets : List (List ℕ)} {more : Pairs} (e : ℕ) (p : Pairs) → ListEach kind es targets more → member e es ≡ false → residual e (with_front e p ++ more) ≡ p
+residual_first {more = more} e p each h =
+    residual-append e (with_front e p) more ∙ ap (λ x. x ++ residual e more) (residual-front e p) ∙ ap (λ x. p ++ x) (residual_none each e h) ∙ nil_end p
+
+pub residual_later : (b e : ℕ) (p more : Pairs) → (e ≡ b → ⊥) → residual b (with_front e p ++ more) ≡ residual b more
+residual_later b e p more apart = residual-append b (with_front e p) more ∙ ap (λ x. x ++ residual b more) (residual-other b e p apart)
+
+-- the first edge is not among the later ones, and none of them is the first
+pub edge_once : (kind : Kind) (e : ℕ) (es : List ℕ) → AllAbove kind (fold_byte kind e) es → member e es ≡ false
+edge_once kind e es above = not_member kind (fold_byte kind e) e es (omega arith) above
+
+pub not_first : (e b : ℕ) (es : List ℕ) → member e es ≡ false → member b es ≡ true → e ≡ b → ⊥
+not_first e b es out there same = let t = ap (λ x. member x es) same in absurd (cc)
 
 pub no_value : {kind : Kind} {bytes : List ℕ} {pairs : Pairs} → Lists kind bytes pairs → NoValueFirst bytes → value_at kind pairs [] ≡ None
 no_value nothing none = refl
@@ -138,8 +208,8 @@ no_value (value {v = v} {spelling = sp} {rest = r} s n text) none =
 no_value {kind = kind} (literal {b = b} {pairs = p} low n text) none = value_at-no_key kind b p
 no_value (branch b each) none = behind_none each
 
-pub enc_step : (d : ℕ) (pairs : Pairs) (es : List ℕ) → edges pairs ≡ es → enc_to (suc d) simple_ascii pairs ≡ value_node (value_at simple_ascii pairs []) ++ node es (map (λ b. enc_to d simple_ascii (residual b pairs)) es)
-enc_step d pairs es e = ap (λ x. value_node (value_at simple_ascii pairs []) ++ node x (map (λ b. enc_to d simple_ascii (residual b pairs)) x)) e
+pub enc_step : (d : ℕ) (kind : Kind) (pairs : Pairs) (es : List ℕ) → ordered kind (edges pairs) ≡ es → enc_to (suc d) kind pairs ≡ value_node (value_at kind pairs []) ++ node es (map (λ b. enc_to d kind (residual b pairs)) es)
+enc_step d kind pairs es e = ap (λ x. value_node (value_at kind pairs []) ++ node x (map (λ b. enc_to d kind (residual b pairs)) x)) e
 
 pub edges_value : (v : ℕ) (pairs : Pairs) → edges (([], v) ∷ pairs) ≡ edges pairs
 unfolding edges
@@ -150,7 +220,7 @@ node_many [] targets h = absurd (omega arith)
 node_many (b ∷ []) targets h = absurd (omega arith)
 node_many (b ∷ c ∷ more) targets h = refl
 
-branch_is_node : {es : List ℕ} {targets : List (List ℕ)} {bytes : List ℕ} → IsBranch simple_ascii es targets bytes → bytes ≡ branch_node es targets
+branch_is_node : {kind : Kind} {es : List ℕ} {targets : List (List ℕ)} {bytes : List ℕ} → IsBranch kind es targets bytes → bytes ≡ branch_node es targets
 branch_is_node {es = es} {targets = targets} b =
     let w = width_is (length (concat targets)) b.width b.is_width in
     let head = one_spelling 32 3 (256 * b.width + length es % 256) b.head _ b.is_head (spells_spelled 32 3 (256 * b.width + length es % 256) b.is_head.below (inr refl)) in
@@ -163,42 +233,44 @@ pub shorter_none : (pairs : Pairs) → Shorter 0 pairs → pairs ≡ []
 shorter_none [] h = refl
 shorter_none (e ∷ pairs) h = absurd (omega (arith, h.0))
 
--- the canonical bytes of each residual are the targets
+-- bytes that list pairs are their canonical text, and so each target is that of a residual
 mutual
-  pub lists_enc : {bytes : List ℕ} {pairs : Pairs} → Lists simple_ascii bytes pairs → (d : ℕ) → Shorter d pairs → bytes ≡ enc_to d simple_ascii pairs
-  lists_enc nothing zero short = refl
-  lists_enc nothing (suc d) short = sym (enc_step d [] [] edges_none)
-  lists_enc (value {v = v} {spelling = sp} {rest = r} {pairs = p} s n text) zero short = absurd (omega (arith, short.0))
-  lists_enc (value {v = v} {spelling = sp} {rest = r} {pairs = p} s n text) (suc d) short =
-      let rest : r ≡ enc_to (suc d) simple_ascii p = lists_enc text (suc d) short.1 in
-      let behind : enc_to (suc d) simple_ascii p ≡ node (edges p) (map (λ b. enc_to d simple_ascii (residual b p)) (edges p)) = ap (λ o. value_node o ++ node (edges p) (map (λ b. enc_to d simple_ascii (residual b p)) (edges p))) (no_value text n) in
+  pub lists_enc : {kind : Kind} {bytes : List ℕ} {pairs : Pairs} → IsAscii kind → Lists kind bytes pairs → (d : ℕ) → Shorter d pairs → bytes ≡ enc_to d kind pairs
+  lists_enc ascii nothing zero short = refl
+  lists_enc {kind = kind} ascii nothing (suc d) short = sym (enc_step d kind [] [] (no_edge_ordered kind))
+  lists_enc ascii (value s n text) zero short = absurd (omega (arith, short.0))
+  lists_enc {kind = kind} ascii (value {v = v} {spelling = sp} {rest = r} {pairs = p} s n text) (suc d) short =
+      let es = ordered kind (edges p) in
+      let rest : r ≡ enc_to (suc d) kind p = lists_enc ascii text (suc d) short.1 in
+      let behind : enc_to (suc d) kind p ≡ node es (map (λ b. enc_to d kind (residual b p)) es) = ap (λ o. value_node o ++ node es (map (λ b. enc_to d kind (residual b p)) es)) (no_value text n) in
       ap (λ x. x ++ r) (one_spelling 16 4 v sp (spelled 16 4 v) s (spells_spelled 16 4 v s.below (inl refl)))
       ∙ ap (λ x. spelled 16 4 v ++ x) (rest ∙ behind)
-      ∙ sym (enc_step d (([], v) ∷ p) (edges p) (edges_value v p))
-  lists_enc (literal {b = b} {rest = r} {pairs = p} low n text) zero short = absurd (lists_some text n (front_none b p (shorter_none (with_front b p) short)))
-  lists_enc (literal {b = b} {rest = r} {pairs = p} low n text) (suc d) short =
-      let rest : r ≡ enc_to d simple_ascii p = lists_enc text d (Shorter-front d b p short) in
-      ap (λ x. b ∷ x) (rest ∙ ap (enc_to d simple_ascii) (sym (residual-front b p)) ∙ sym (bytes_end (enc_to d simple_ascii (residual b (with_front b p)))))
-      ∙ ap (λ o. value_node o ++ node (b ∷ []) (map (λ c. enc_to d simple_ascii (residual c (with_front b p))) (b ∷ []))) (sym (value_at-no_key simple_ascii b p))
-      ∙ sym (enc_step d (with_front b p) (b ∷ []) (edges_front b p low (lists_some text n)))
-  lists_enc (branch {pairs = p} b each) zero short = absurd (each_some each (no_edges b) (shorter_none p short))
-  lists_enc (branch {edges = es} {targets = ts} {pairs = p} b each) (suc d) short =
-      let targets_are = each_enc each d 0 p short (branch_rise b) (λ x h. refl) in
+      ∙ sym (enc_step d kind (([], v) ∷ p) es (ap (ordered kind) (edges_value v p)))
+  lists_enc ascii (literal {b = b} {pairs = p} low n text) zero short = absurd (lists_some text n (front_none b p (shorter_none (with_front b p) short)))
+  lists_enc {kind = kind} ascii (literal {b = b} {rest = r} {pairs = p} low n text) (suc d) short =
+      let rest : r ≡ enc_to d kind p = lists_enc ascii text d (Shorter-front d b p short) in
+      ap (λ x. b ∷ x) (rest ∙ ap (enc_to d kind) (sym (residual-front b p)) ∙ sym (bytes_end (enc_to d kind (residual b (with_front b p)))))
+      ∙ ap (λ o. value_node o ++ node (b ∷ []) (map (λ c. enc_to d kind (residual c (with_front b p))) (b ∷ []))) (sym (value_at-no_key kind b p))
+      ∙ sym (enc_step d kind (with_front b p) (b ∷ []) (ordered_front kind b p low (lists_some text n)))
+  lists_enc ascii (branch {pairs = p} b each) zero short = absurd (each_some each (no_edges b) (shorter_none p short))
+  lists_enc {kind = kind} ascii (branch {edges = es} {targets = ts} {pairs = p} b each) (suc d) short =
+      let targets_are = each_enc ascii each d p short (branch_rises b) (λ x h. refl) in
       branch_is_node b
       ∙ sym (node_many es ts b.two)
       ∙ ap (node es) (sym targets_are)
-      ∙ ap (λ o. value_node o ++ node es (map (λ c. enc_to d simple_ascii (residual c p)) es)) (sym (behind_none each))
-      ∙ sym (enc_step d p es (edges_each b each))
+      ∙ ap (λ o. value_node o ++ node es (map (λ c. enc_to d kind (residual c p)) es)) (sym (behind_none each))
+      ∙ sym (enc_step d kind p es (edges_each ascii b each))
 
-  pub each_enc : {es : List ℕ} {targets : List (List ℕ)} {pairs : Pairs} → ListEach simple_ascii es targets pairs → (d low : ℕ) (all : Pairs) → Shorter (suc d) pairs → Rise low 256 es → ((b : ℕ) → low ≤ b → residual b all ≡ residual b pairs)
-      → map (λ b. enc_to d simple_ascii (residual b all)) es ≡ targets
-  each_enc no_edge d low all short rise same = refl
-  each_enc (edge {e = e} {edges = es} {target = t} {targets = ts} {pairs = p} {more = m} n text each) d low all short rise same =
+  pub each_enc : {kind : Kind} {es : List ℕ} {targets : List (List ℕ)} {pairs : Pairs} → IsAscii kind → ListEach kind es targets pairs → (d : ℕ) (all : Pairs) → Shorter (suc d) pairs → Rises kind es → ((b : ℕ) → member b es ≡ true → residual b all ≡ residual b pairs)
+      → map (λ b. enc_to d kind (residual b all)) es ≡ targets
+  each_enc ascii no_edge d all short rises same = refl
+  each_enc {kind = kind} ascii (edge {e = e} {edges = es} {target = t} {targets = ts} {pairs = p} {more = m} n text each) d all short rises same =
       let parts = Shorter-parts (suc d) (with_front e p) m short in
-      let here : residual e all ≡ p = same e rise.0 ∙ residual-append e (with_front e p) m ∙ ap (λ x. x ++ residual e m) (residual-front e p) ∙ ap (λ x. p ++ x) (residual_none each e rise.2) ∙ nil_end p in
-      let first : t ≡ enc_to d simple_ascii p = lists_enc text d (Shorter-front d e p parts.0) in
-      let rest : map (λ b. enc_to d simple_ascii (residual b all)) es ≡ ts = each_enc each d (suc e) all parts.1 rise.2 (λ b h.
-      same b (omega (arith, rise.0)) ∙ residual-append b (with_front e p) m ∙ ap (λ x. x ++ residual b m) (residual-other b e p (λ s. omega arith))) in
-      ap (λ x. enc_to d simple_ascii x ∷ map (λ b. enc_to d simple_ascii (residual b all)) es) here
-      ∙ ap (λ x. x ∷ map (λ b. enc_to d simple_ascii (residual b all)) es) (sym first)
+      let out = edge_once kind e es rises.0 in
+      let here : residual e all ≡ p = same e (member_head e es) ∙ residual_first e p each out in
+      let first : t ≡ enc_to d kind p = lists_enc ascii text d (Shorter-front d e p parts.0) in
+      let rest : map (λ b. enc_to d kind (residual b all)) es ≡ ts = each_enc ascii each d all parts.1 rises.1 (λ b h.
+      same b (member_later b e es h) ∙ residual_later b e p m (not_first e b es out h)) in
+      ap (λ x. enc_to d kind x ∷ map (λ b. enc_to d kind (residual b all)) es) here
+      ∙ ap (λ x. x ∷ map (λ b. enc_to d kind (residual b all)) es) (sym first)
       ∙ ap (λ x. t ∷ x) rest

@@ -18,9 +18,22 @@ pub Rise-lower : (low low' high : ℕ) (es : List ℕ) → low ≤ low' → Rise
 Rise-lower low low' high [] h r = tt
 Rise-lower low low' high (e ∷ es) h r = (omega arith, r.1, r.2)
 
-member-below : (b low high : ℕ) (es : List ℕ) → b < low → Rise low high es → member b es ≡ false
+pub member-below : (b low high : ℕ) (es : List ℕ) → b < low → Rise low high es → member b es ≡ false
 member-below b low high [] h r = refl
 member-below b low high (e ∷ es) h r = rw (ne_eqb e b (λ s. omega (arith, r.0))) (member-below b (suc e) high es (omega (arith, r.0)) r.2)
+
+or_true : (x : Bool) → (x || true) ≡ true
+or_true true = refl
+or_true false = refl
+
+pub member_head : (e : ℕ) (es : List ℕ) → member e (e ∷ es) ≡ true
+member_head e es = rw (eq-eqb e e refl) refl
+
+pub member_later : (b e : ℕ) (es : List ℕ) → member b es ≡ true → member b (e ∷ es) ≡ true
+member_later b e es h = rw h (or_true (eqb e b))
+
+pub member_other : (b e : ℕ) (es : List ℕ) → (e ≡ b → ⊥) → member b (e ∷ es) ≡ member b es
+member_other b e es h = rw (ne_eqb e b h) refl
 
 or_false : (x : Bool) → (x || false) ≡ x
 or_false true = refl

@@ -1,34 +1,30 @@
--- The canonical text of pairs that fit lists them.
-use Rattle.std.proofs.Common.{◌≡◌, ℕ, zero, suc, ◌+◌, ◌*◌, ◌%◌, ◌^◌, ◌<◌, ◌≤◌, List, [], ◌∷◌, ◌++◌, length, refl, sym, ◌∙◌, ap, subst, arith, inl, inr, ◌⊎◌, map, get_or, None, Ordering, Less, Equal, Greater}
+-- The canonical text of pairs that fit lists what they answer.
+use Rattle.std.proofs.Common.{◌≡◌, ℕ, zero, suc, ◌+◌, ◌*◌, ◌%◌, ◌^◌, ◌<◌, ◌≤◌, List, [], ◌∷◌, ◌++◌, length, refl, sym, ◌∙◌, ap, subst, arith, inl, inr, ◌⊎◌, map, get_or, Option, Some, None, Ordering, Less, Equal, Greater, Bool, true, false, cond}
 use Rattle.std.specs.List.{concat}
 use Rattle.std.specs.List.Sorted.{IsStrictlyIncreasing}
 use Rattle.std.specs.Ordering.{nat_cmp, ordering_then, MatchOrdering}
 use Rattle.std.specs.Cmp.Lexicographic.{slice_cmp}
 use Rattle.std.specs.Cmp.{ranked}
-use Rattle.zerotrie_core.specs.Kind.{Kind, simple_ascii, fold_byte}
+use Rattle.std.specs.Prelude.{◌==◌}
+use Rattle.std.proofs.lemmas.Bool.{eq-eqb, ne_eqb, cases_eq, cases_lt, false_from_ne_true}
+use Rattle.zerotrie_core.specs.Kind.{Kind, simple_ascii, ignore_case, IsAscii, fold_byte, same_byte, ordered, is_hashed}
 use Rattle.zerotrie_core.specs.Numbers.{spelled}
-use Rattle.zerotrie_core.specs.Maps.{Pairs, with_front, begins_some, edges, residual, value_at, FirstAbove, Ascends}
+use Rattle.zerotrie_core.specs.Maps.{Pairs, with_front, begins_some, edges, residual, value_at, FirstAbove, common_front}
 use Rattle.zerotrie_core.specs.Branches.{IsBranch, blocks, offsets}
 use Rattle.zerotrie_core.specs.Branches.IsTable.{sorted}
-use Rattle.zerotrie_core.specs.Encoding.{AsciiKey, AsciiKeys}
+use Rattle.zerotrie_core.specs.Encoding.{AsciiKey}
 use Rattle.zerotrie_core.specs.Texts.{Lists, ListEach, NoValueFirst}
 use Rattle.zerotrie_core.specs.Texts.Lists.{nothing, value, literal, branch}
 use Rattle.zerotrie_core.specs.Texts.ListEach.{no_edge, edge}
 use Rattle.zerotrie_core.specs.Canonical.{enc_to, node, branch_node, value_node, width}
-use Rattle.zerotrie_core.proofs.EdgeLemmas.{Rise, member, filter-range, begins_some-append, begins_some-front, residual-append, residual-front, residual-other}
-use Rattle.zerotrie_core.proofs.CanonLaws.{Shorter, Shorter-parts, Shorter-front, nil_end, bytes_end, width_right, edges_value, shorter_none, enc_step, edges_none}
-use Rattle.zerotrie_core.proofs.ReaderLemmas.{value_at-append, value_at-no_key, extender_one}
+use Rattle.zerotrie_core.proofs.KindLemmas.{edge_limit_is, greatest_width_is}
+use Rattle.zerotrie_core.proofs.EdgeLemmas.{member}
+use Rattle.zerotrie_core.proofs.OrderedLemmas.{Each, Each-member, member-ordered, length-ordered, rises_ordered, rise_apart, not_member, edges_rise, member-edges, member-edges_past}
+use Rattle.zerotrie_core.proofs.SameLemmas.{Same, same-none, value_exact, value_at-residual, some_pair, begins_behind, first_found}
+use Rattle.zerotrie_core.proofs.CanonLaws.{nil_end, bytes_end, width_right}
+use Rattle.zerotrie_core.proofs.ReaderLemmas.{Rises, AllAbove, extender_one, behind_none, value_at-some, value_at-front, value_at-append, value_at-other}
 use Rattle.zerotrie_core.proofs.TextLaws.{lists_once}
 use Rattle.zerotrie_core.proofs.NumberLaws.{spells_spelled}
-
--- pairs without the empty key, by their first bytes, which rise from low on
-data Groups : ℕ → List ℕ → Pairs → Type 0 where
-  no_group : {low : ℕ} → Groups low [] []
-  group : {low e : ℕ} {es : List ℕ} {x : List ℕ × ℕ} (inner : Pairs) {more : Pairs} → low ≤ e → e < 128 → Ascends (x ∷ inner) → AsciiKeys (x ∷ inner) → Groups (suc e) es more → Groups low (e ∷ es) (with_front e (x ∷ inner) ++ more)
-
-record Grouped (pairs : Pairs) : Type 0 where
-  es : List ℕ
-  groups : Groups 0 es pairs
 
 cmp_cases : {e f : ℕ} (r o : Ordering) → MatchOrdering r (e < f) (e ≡ f) (f < e) → ordering_then r o ≡ Less → (e < f) ⊎ ((e ≡ f) × (o ≡ Less))
 cmp_cases Less o m h = inl m
@@ -38,135 +34,65 @@ cmp_cases Greater o m h = absurd (cc)
 pub compare_first : (e f : ℕ) (k l : List ℕ) → slice_cmp nat_cmp (e ∷ k) (f ∷ l) ≡ Less → (e < f) ⊎ ((e ≡ f) × (slice_cmp nat_cmp k l ≡ Less))
 compare_first e f k l h = cmp_cases (nat_cmp e f) (slice_cmp nat_cmp k l) (ranked e f (nat_cmp e f) refl) h
 
-group_first : (e : ℕ) (k : List ℕ) (v : ℕ) (rest : Pairs) → e < 128 → AsciiKey k → FirstAbove (e ∷ k) rest → {es : List ℕ} → Groups 0 es rest → Grouped ((e ∷ k, v) ∷ rest)
-group_first e k v rest low ascii above no_group = record { es = e ∷ []; groups = group {x = (k, v)} [] (omega arith) low (tt, tt) (ascii, tt) no_group }
-group_first e k v rest low ascii above (group {e = f} {es = es} {x = x} inner {more = more} l b up keys groups) =
-    elim (compare_first e f k x.0 above) [
-      | inl less ↦ record { es = e ∷ f ∷ es; groups = group {x = (k, v)} [] (omega arith) low (tt, tt) (ascii, tt) (group {x = x} inner less b up keys groups) }
-      | inr same ↦ subst (λ g. Grouped ((g ∷ k, v) ∷ (with_front f (x ∷ inner) ++ more))) (sym same.0)
-          (record { es = f ∷ es; groups = group {x = (k, v)} (x ∷ inner) (omega arith) b (same.1, up) (ascii, keys) groups })
-    ]
-
--- no key is empty
-abbrev pub NoEmpty : Pairs → Type 0
-NoEmpty [] = Unit {0}
-NoEmpty (([], v) ∷ pairs) = ⊥
-NoEmpty ((b ∷ key, v) ∷ pairs) = NoEmpty pairs
-
-group_all : (pairs : Pairs) → NoEmpty pairs → Ascends pairs → AsciiKeys pairs → Grouped pairs
-group_all [] none up ascii = record { es = []; groups = no_group }
-group_all (([], v) ∷ pairs) none up ascii = absurd none
-group_all ((e ∷ k, v) ∷ pairs) none up ascii = let g = group_all pairs none up.1 ascii.1 in group_first e k v pairs ascii.0.0 ascii.0.1 up.0 g.groups
-
-groups_rise : {low : ℕ} {es : List ℕ} {pairs : Pairs} → Groups low es pairs → Rise low 256 es
-groups_rise no_group = tt
-groups_rise (group inner l b up keys groups) = (l, omega arith, groups_rise groups)
-
-groups_begin : {low : ℕ} {es : List ℕ} {pairs : Pairs} → Groups low es pairs → (b : ℕ) → begins_some pairs b ≡ member b es
-groups_begin no_group b = refl
-groups_begin (group {e = e} {x = x} inner {more = m} l low up keys groups) b =
-    begins_some-append (with_front e (x ∷ inner)) m b ∙ rw (begins_some-front e b (x ∷ inner) (λ z. absurd (cc)), groups_begin groups b) refl
-
-edges_groups : {es : List ℕ} {pairs : Pairs} → Groups 0 es pairs → edges pairs ≡ es
-unfolding edges
-edges_groups {es = es} {pairs = pairs} g = filter-range (begins_some pairs) 0 256 256 es refl (groups_rise g) (λ b h. groups_begin g b)
-
-groups_no_value : {low : ℕ} {es : List ℕ} {pairs : Pairs} → Groups low es pairs → value_at simple_ascii pairs [] ≡ None
-groups_no_value no_group = refl
-groups_no_value (group {e = e} {x = x} inner {more = m} l b up keys groups) = value_at-append simple_ascii [] (with_front e (x ∷ inner)) m (value_at-no_key simple_ascii e (x ∷ inner)) ∙ groups_no_value groups
-
-groups_residual_none : {low : ℕ} {es : List ℕ} {pairs : Pairs} → Groups low es pairs → (b : ℕ) → b < low → residual b pairs ≡ []
-groups_residual_none no_group b h = refl
-groups_residual_none (group {e = e} {x = x} inner {more = m} l lo up keys groups) b h =
-    residual-append b (with_front e (x ∷ inner)) m ∙ ap (λ y. y ++ residual b m) (residual-other b e (x ∷ inner) (λ s. omega arith)) ∙ groups_residual_none groups b (omega arith)
-
--- values below 2 ^ 64
-abbrev pub SmallValues : Pairs → Type 0
-SmallValues [] = Unit {0}
-SmallValues (e ∷ pairs) = (e.1 < 2 ^ 64) × SmallValues pairs
-
--- the targets of each branch are shorter than 2 ^ 32 bytes
-abbrev pub FitsTo : ℕ → Pairs → Type 0
-FitsTo zero pairs = Unit {0}
-FitsTo (suc d) pairs = (2 ≤ length (edges pairs) → length (concat (map (λ b. enc_to d simple_ascii (residual b pairs)) (edges pairs))) < 2 ^ 32) × ((b : ℕ) → FitsTo d (residual b pairs))
-
-SmallValues-front : (b : ℕ) (xs ys : Pairs) → SmallValues (with_front b xs ++ ys) → SmallValues xs × SmallValues ys
-SmallValues-front b [] ys h = (tt, h)
-SmallValues-front b (e ∷ xs) ys h = let r = SmallValues-front b xs ys h.1 in ((h.0, r.0), r.1)
-
--- what each group needs of the canonical text
-abbrev pub Good : ℕ → Type 0
-Good d = (pairs : Pairs) → Shorter d pairs → Ascends pairs → AsciiKeys pairs → SmallValues pairs → FitsTo d pairs → Lists simple_ascii (enc_to d simple_ascii pairs) pairs
-
-pub not_empty_text : {kind : Kind} {bytes : List ℕ} {pairs : Pairs} → Lists kind bytes pairs → (pairs ≡ [] → ⊥) → bytes ≡ [] → ⊥
-not_empty_text text some none = some (sym (lists_once nothing (sym none) text))
-
-groups_list : (d : ℕ) → Good d → {low : ℕ} {es : List ℕ} {pairs : Pairs} → Groups low es pairs → (all : Pairs) → Shorter (suc d) pairs → SmallValues pairs → ((b : ℕ) → FitsTo d (residual b all)) → ((b : ℕ) → low ≤ b → residual b all ≡ residual b pairs)
-    → ListEach simple_ascii es (map (λ b. enc_to d simple_ascii (residual b all)) es) pairs
-groups_list d good no_group all short values fits same = no_edge
-groups_list d good (group {e = e} {es = es} {x = x} inner {more = m} l b up keys groups) all short values fits same =
-    let parts = Shorter-parts (suc d) (with_front e (x ∷ inner)) m short in
-    let small = SmallValues-front e (x ∷ inner) m values in
-    let here : residual e all ≡ x ∷ inner = same e l ∙ residual-append e (with_front e (x ∷ inner)) m ∙ ap (λ y. y ++ residual e m) (residual-front e (x ∷ inner)) ∙ ap (λ y. (x ∷ inner) ++ y) (groups_residual_none groups e (omega arith)) ∙ nil_end (x ∷ inner) in
-    let text = good (x ∷ inner) (Shorter-front d e (x ∷ inner) parts.0) up keys small.0 (subst (FitsTo d) here (fits e)) in
-    let text_here : Lists simple_ascii (enc_to d simple_ascii (residual e all)) (x ∷ inner) = subst (λ y. Lists simple_ascii (enc_to d simple_ascii y) (x ∷ inner)) (sym here) text in
-    let rest = groups_list d good groups all parts.1 small.1 fits (λ c h. same c (omega arith) ∙ residual-append c (with_front e (x ∷ inner)) m ∙ ap (λ y. y ++ residual c m) (residual-other c e (x ∷ inner) (λ s. omega arith))) in
-    edge (not_empty_text text_here (λ z. absurd (cc))) text_here rest
-
 pub above_nil : (key : List ℕ) (pairs : Pairs) → FirstAbove key pairs → FirstAbove [] pairs
 above_nil key [] h = tt
 above_nil [] (e ∷ pairs) h = h
 above_nil (b ∷ key) (([], v) ∷ pairs) h = absurd (cc)
 above_nil (b ∷ key) ((c ∷ k, v) ∷ pairs) h = refl
 
-pub no_empty : (pairs : Pairs) → FirstAbove [] pairs → Ascends pairs → NoEmpty pairs
-no_empty [] h up = tt
-no_empty (([], v) ∷ pairs) h up = absurd (cc)
-no_empty ((b ∷ k, v) ∷ pairs) h up = no_empty pairs (above_nil (b ∷ k) pairs up.0) up.1
+-- values below 2 ^ 64
+abbrev pub SmallValues : Pairs → Type 0
+SmallValues [] = Unit {0}
+SmallValues (e ∷ pairs) = (e.1 < 2 ^ 64) × SmallValues pairs
 
-pub rise_count : (low high : ℕ) (es : List ℕ) → low ≤ high → Rise low high es → length es + low ≤ high
-rise_count low high [] h r = omega arith
-rise_count low high (e ∷ es) h r = let more = rise_count (suc e) high es (omega (arith, r.1)) r.2 in omega (arith, r.0)
+pub not_empty_text : {kind : Kind} {bytes : List ℕ} {pairs : Pairs} → Lists kind bytes pairs → (pairs ≡ [] → ⊥) → bytes ≡ [] → ⊥
+not_empty_text text some none = some (sym (lists_once nothing (sym none) text))
 
-groups_ascii : {low : ℕ} {es : List ℕ} {pairs : Pairs} → Groups low es pairs → (i d : ℕ) → i < length es → get_or es i d < 128
-groups_ascii no_group i d h = absurd (omega arith)
-groups_ascii (group inner l b up keys groups) zero d h = b
-groups_ascii (group inner l b up keys groups) (suc i) d h = groups_ascii groups i d (omega arith)
+-- the tables of the ASCII kinds are sorted
+none_hashed : (kind : Kind) → IsAscii kind → (n : ℕ) → is_hashed kind n ≡ false
+none_hashed simple_ascii ascii n = refl
+none_hashed ignore_case ascii n = refl
 
-folded : (es : List ℕ) (i : ℕ) → get_or (map (fold_byte simple_ascii) es) i 0 ≡ get_or es i 0
-folded [] i = refl
-folded (e ∷ es) zero = refl
-folded (e ∷ es) (suc i) = folded es i
+lower : (b : ℕ) → b < 128 → fold_byte ignore_case b < 128
+lower b h = grind arith
 
-fold_length : (es : List ℕ) → length (map (fold_byte simple_ascii) es) ≡ length es
-fold_length [] = refl
-fold_length (e ∷ es) = ap suc (fold_length es)
+-- the fold of an ASCII byte is one
+pub fold_ascii : (kind : Kind) (b : ℕ) → b < 128 → fold_byte kind b < 128
+fold_ascii simple_ascii b h = h
+fold_ascii ignore_case b h = lower b h
 
-rise_next : (low high : ℕ) (es : List ℕ) → Rise low high es → (k : ℕ) → suc k < length es → get_or es k 0 < get_or es (suc k) 0
-rise_next low high [] r k h = absurd (omega arith)
-rise_next low high (e ∷ []) r k h = absurd (omega arith)
-rise_next low high (e ∷ f ∷ es) r zero h = omega (arith, r.2.0)
-rise_next low high (e ∷ f ∷ es) r (suc k) h = rise_next (suc e) high (f ∷ es) r.2 k (omega arith)
+-- as many edges as folds below the bound at most
+count_above : (kind : Kind) (x high : ℕ) (es : List ℕ) → x < high → AllAbove kind x es → Rises kind es → ((i d : ℕ) → i < length es → fold_byte kind (get_or es i d) < high) → length es + suc x ≤ high
+count_above kind x high [] h a up low = omega arith
+count_above kind x high (e ∷ es) h a up low =
+    let more = count_above kind (fold_byte kind e) high es (low 0 0 (omega arith)) up.0 up.1 (λ i d l. low (suc i) d (omega arith)) in
+    omega (arith, a.0)
 
-pub rise_increasing : (low high : ℕ) (es : List ℕ) → Rise low high es → IsStrictlyIncreasing (map (fold_byte simple_ascii) es)
-rise_increasing low high es r k h =
-    let n = fold_length es in
-    let next = rise_next low high es r k (omega arith) in
-    let a = folded es k in
-    let b = folded es (suc k) in
+pub rises_count : (kind : Kind) (es : List ℕ) → Rises kind es → ((i d : ℕ) → i < length es → get_or es i d < 128) → length es ≤ 128
+rises_count kind [] up low = omega arith
+rises_count kind (e ∷ es) up low =
+    let more = count_above kind (fold_byte kind e) 128 es (fold_ascii kind e (low 0 0 (omega arith))) up.0 up.1 (λ i d l. fold_ascii kind (get_or es i d) (low (suc i) d (omega arith))) in
+    omega arith
+
+rises_next : (kind : Kind) (es : List ℕ) → Rises kind es → (k : ℕ) → suc k < length (map (fold_byte kind) es) → get_or (map (fold_byte kind) es) k 0 < get_or (map (fold_byte kind) es) (suc k) 0
+rises_next kind [] up k h = absurd (omega arith)
+rises_next kind (e ∷ []) up k h = absurd (omega arith)
+rises_next kind (e ∷ f ∷ es) up zero h = up.0.0
+rises_next kind (e ∷ f ∷ es) up (suc k) h = rises_next kind (f ∷ es) up.1 k (omega arith)
+
+pub rises_increasing : (kind : Kind) (es : List ℕ) → Rises kind es → IsStrictlyIncreasing (map (fold_byte kind) es)
+rises_increasing kind es up k h =
     let e : k + 1 ≡ suc k = omega arith in
-    subst (λ j. get_or (map (fold_byte simple_ascii) es) k 0 < get_or (map (fold_byte simple_ascii) es) j 0) (sym e) (omega arith)
+    subst (λ j. get_or (map (fold_byte kind) es) k 0 < get_or (map (fold_byte kind) es) j 0) (sym e) (rises_next kind es up k (omega arith))
 
-targets_count : (f : ℕ → List ℕ) (es : List ℕ) → length (map f es) ≡ length es
-targets_count f [] = refl
-targets_count f (e ∷ es) = ap suc (targets_count f es)
-
-branch_made : (es : List ℕ) (targets : List (List ℕ)) → Rise 0 256 es → ((i d : ℕ) → i < length es → get_or es i d < 128) → 2 ≤ length es → length targets ≡ length es → length (concat targets) < 2 ^ 32 → IsBranch simple_ascii es targets (branch_node es targets)
+branch_made : (kind : Kind) → IsAscii kind → (es : List ℕ) (targets : List (List ℕ)) → Rises kind es → ((i d : ℕ) → i < length es → get_or es i d < 128) → 2 ≤ length es → length targets ≡ length es → length (concat targets) < 2 ^ 32 → IsBranch kind es targets (branch_node es targets)
 unfolding width
-branch_made es targets rise ascii two count fits =
+branch_made kind is_ascii es targets up ascii two count fits =
     let right = width_right (length (concat targets)) (length (concat targets)) (omega arith) in
     let narrow = right.least 3 fits in
-    let most = rise_count 0 256 es (omega arith) rise in
+    let most = rises_count kind es up ascii in
+    let limit = edge_limit_is kind is_ascii in
+    let widest = greatest_width_is kind is_ascii in
     record {
       head = spelled 32 3 (256 * width (length (concat targets)) + length es % 256);
       table = es;
@@ -174,54 +100,204 @@ branch_made es targets rise ascii two count fits =
       two = two;
       at_most = omega arith;
       a_target_each = count;
-      edge_bytes = λ i d h. ascii i d h;
+      edge_bytes = λ i d h. (let low = ascii i d h in omega arith);
       is_width = right;
-      fits = narrow;
+      fits = omega arith;
       is_head = spells_spelled 32 3 _ (omega arith) (inr refl);
-      is_table = sorted refl (rise_increasing 0 256 es rise);
+      is_table = sorted (none_hashed kind is_ascii (length es)) (rises_increasing kind es up);
       bytes_are = refl;
     }
 
-pub branch_no_value : {es : List ℕ} {targets : List (List ℕ)} {bytes : List ℕ} → IsBranch simple_ascii es targets bytes → NoValueFirst bytes
+pub branch_no_value : {kind : Kind} {es : List ℕ} {targets : List (List ℕ)} {bytes : List ℕ} → IsBranch kind es targets bytes → NoValueFirst bytes
 branch_no_value {targets = targets} b =
     subst NoValueFirst (ap (λ h. h ++ (b.table ++ (blocks (b.width + 1) (offsets targets) ++ concat targets))) (sym b.is_head.bytes_are) ∙ sym b.bytes_are)
     (λ four. let digit = b.is_head.digit_below in let one = extender_one b.is_head.trail in omega arith)
 
-pub record Behind (bytes : List ℕ) (pairs : Pairs) : Type 0 where
-  pub lists : Lists simple_ascii bytes pairs
+pub record Behind (kind : Kind) (bytes : List ℕ) (pairs : Pairs) : Type 0 where
+  pub lists : Lists kind bytes pairs
   pub no_value : NoValueFirst bytes
 
-pub node_lists : {es : List ℕ} {targets : List (List ℕ)} {pairs : Pairs} → ListEach simple_ascii es targets pairs → Rise 0 256 es → ((i d : ℕ) → i < length es → get_or es i d < 128) → length targets ≡ length es → (2 ≤ length es → length (concat targets) < 2 ^ 32) → Behind (node es targets) pairs
-node_lists no_edge rise ascii count fits = record { lists = nothing; no_value = tt }
-node_lists (edge {e = e} {target = t} {pairs = p} n text no_edge) rise ascii count fits = record {
-  lists = subst (λ y. Lists simple_ascii (e ∷ y) (with_front e p ++ [])) (sym (bytes_end t)) (subst (Lists simple_ascii (e ∷ t)) (sym (nil_end (with_front e p))) (literal (ascii 0 0 (omega arith)) n text));
+-- the canonical node in front of texts lists what they list
+pub node_lists : {kind : Kind} {es : List ℕ} {targets : List (List ℕ)} {pairs : Pairs} → IsAscii kind → ListEach kind es targets pairs → Rises kind es → ((i d : ℕ) → i < length es → get_or es i d < 128) → length targets ≡ length es → (2 ≤ length es → length (concat targets) < 2 ^ 32) → Behind kind (node es targets) pairs
+node_lists is_ascii no_edge up ascii count fits = record { lists = nothing; no_value = tt }
+node_lists {kind = kind} is_ascii (edge {e = e} {target = t} {pairs = p} n text no_edge) up ascii count fits = record {
+  lists = subst (λ y. Lists kind (e ∷ y) (with_front e p ++ [])) (sym (bytes_end t)) (subst (Lists kind (e ∷ t)) (sym (nil_end (with_front e p))) (literal (ascii 0 0 (omega arith)) n text));
   no_value = λ four. let low = ascii 0 0 (omega arith) in omega arith;
 }
-node_lists (edge {e = e} {edges = es} {target = t} {targets = ts} n text (edge {e = e'} {edges = es'} {target = t'} {targets = ts'} n' text' each)) rise ascii count fits =
-    let made = branch_made (e ∷ e' ∷ es') (t ∷ t' ∷ ts') rise ascii (omega arith) count (fits (omega arith)) in
+node_lists {kind = kind} is_ascii (edge {e = e} {edges = es} {target = t} {targets = ts} n text (edge {e = e'} {edges = es'} {target = t'} {targets = ts'} n' text' each)) up ascii count fits =
+    let made = branch_made kind is_ascii (e ∷ e' ∷ es') (t ∷ t' ∷ ts') up ascii (omega arith) count (fits (omega arith)) in
     record { lists = branch made (edge n text (edge n' text' each)); no_value = branch_no_value made }
 
--- behind a value
-behind_good : (d : ℕ) → Good d → (pairs : Pairs) → NoEmpty pairs → Shorter (suc d) pairs → Ascends pairs → AsciiKeys pairs → SmallValues pairs → FitsTo (suc d) pairs
-    → Behind (node (edges pairs) (map (λ b. enc_to d simple_ascii (residual b pairs)) (edges pairs))) pairs × (value_at simple_ascii pairs [] ≡ None)
-behind_good d good pairs none short up ascii small fits =
-    let g = group_all pairs none up ascii in
-    let es_are = edges_groups g.groups in
-    let targets = map (λ b. enc_to d simple_ascii (residual b pairs)) g.es in
-    let narrow = subst (λ es. 2 ≤ length es → length (concat (map (λ b. enc_to d simple_ascii (residual b pairs)) es)) < 2 ^ 32) es_are fits.0 in
-    let each = groups_list d good g.groups pairs short small fits.1 (λ b h. refl) in
-    let b = node_lists each (groups_rise g.groups) (groups_ascii g.groups) (targets_count (λ b. enc_to d simple_ascii (residual b pairs)) g.es) narrow in
-    (subst (λ es. Behind (node es (map (λ b. enc_to d simple_ascii (residual b pairs)) es)) pairs) (sym es_are) b, groups_no_value g.groups)
+-- What the canonical text needs of the pairs, by what they answer: keys shorter than d, of ASCII bytes, that
+-- agree in case, and small values.
+pub record Sound (kind : Kind) (d : ℕ) (pairs : Pairs) : Type 0 where
+  pub shorter : (key : List ℕ) (v : ℕ) → value_at simple_ascii pairs key ≡ Some v → length key < d
+  pub ascii : (key : List ℕ) (v : ℕ) → value_at simple_ascii pairs key ≡ Some v → AsciiKey key
+  pub small : (key : List ℕ) (v : ℕ) → value_at simple_ascii pairs key ≡ Some v → v < 2 ^ 64
+  pub agree : (k l : List ℕ) (v w : ℕ) → value_at simple_ascii pairs k ≡ Some v → value_at simple_ascii pairs l ≡ Some w
+      → common_front (same_byte kind) k l ≡ common_front (λ a b. a == b) k l
 
--- The canonical text of pairs that fit lists them.
-pub good : (d : ℕ) → Good d
-good zero pairs short up ascii small fits = subst (Lists simple_ascii []) (sym (shorter_none pairs short)) nothing
-good (suc d) [] short up ascii small fits = subst (λ y. Lists simple_ascii y []) (sym (enc_step d [] [] edges_none)) nothing
-good (suc d) (([], v) ∷ pairs) short up ascii small fits =
-    let b = behind_good d (good d) pairs (no_empty pairs up.0 up.1) short.1 up.1 ascii.1 small.1
-    (subst (λ es. 2 ≤ length es → length (concat (map (λ b. enc_to d simple_ascii (residual b pairs)) es)) < 2 ^ 32) (edges_value v pairs) fits.0, fits.1) in
-    subst (λ y. Lists simple_ascii y (([], v) ∷ pairs)) (sym (enc_step d (([], v) ∷ pairs) (edges pairs) (edges_value v pairs)))
-    (value (spells_spelled 16 4 v small.0 (inl refl)) b.0.no_value b.0.lists)
-good (suc d) ((c ∷ k, v) ∷ pairs) short up ascii small fits =
-    let b = behind_good d (good d) ((c ∷ k, v) ∷ pairs) (no_empty ((c ∷ k, v) ∷ pairs) refl up) short up ascii small fits in
-    subst (λ o. Lists simple_ascii (value_node o ++ node (edges ((c ∷ k, v) ∷ pairs)) (map (λ b. enc_to d simple_ascii (residual b ((c ∷ k, v) ∷ pairs))) (edges ((c ∷ k, v) ∷ pairs)))) ((c ∷ k, v) ∷ pairs)) (sym b.1) b.0.lists
+-- the targets of each branch are shorter than 2 ^ 32 bytes
+abbrev pub FitsTo : Kind → ℕ → Pairs → Type 0
+FitsTo kind zero pairs = Unit {0}
+FitsTo kind (suc d) pairs = (2 ≤ length (edges pairs) → length (concat (map (λ b. enc_to d kind (residual b pairs)) (ordered kind (edges pairs)))) < 2 ^ 32)
+    × ((b : ℕ) → FitsTo kind d (residual b pairs))
+
+one_more : (kind : Kind) (b : ℕ) (k l : List ℕ) → common_front (same_byte kind) (b ∷ k) (b ∷ l) ≡ common_front (λ a c. a == c) (b ∷ k) (b ∷ l) → common_front (same_byte kind) k l ≡ common_front (λ a c. a == c) k l
+one_more kind b k l h = let g = rw (eq-eqb (fold_byte kind b) (fold_byte kind b) refl, eq-eqb b b refl) at h in omega arith
+
+sound_behind : (kind : Kind) (d : ℕ) (pairs : Pairs) → Sound kind (suc d) pairs → (b : ℕ) → Sound kind d (residual b pairs)
+sound_behind kind d pairs s b =
+    let there : (k : List ℕ) (v : ℕ) → value_at simple_ascii (residual b pairs) k ≡ Some v → value_at simple_ascii pairs (b ∷ k) ≡ Some v = λ k v h. sym (value_at-residual b pairs k) ∙ h in
+    record {
+      shorter = λ k v h. (let n = s.shorter (b ∷ k) v (there k v h) in omega arith);
+      ascii = λ k v h. (s.ascii (b ∷ k) v (there k v h)).1;
+      small = λ k v h. s.small (b ∷ k) v (there k v h);
+      agree = λ k l v w h g. one_more kind b k l (s.agree (b ∷ k) (b ∷ l) v w (there k v h) (there l w g));
+    }
+
+-- a key that begins with the edge
+record Key (b : ℕ) (pairs : Pairs) : Type 0 where
+  key : List ℕ
+  v : ℕ
+  is : value_at simple_ascii pairs (b ∷ key) ≡ Some v
+
+some_key : (b : ℕ) (pairs behind : Pairs) → behind ≡ residual b pairs → some_pair behind ≡ true → Key b pairs
+some_key b pairs [] e h = absurd (cc)
+some_key b pairs (x ∷ behind) e h = record {
+  key = x.0;
+  v = x.1;
+  is = sym (value_at-residual b pairs x.0) ∙ ap (λ p. value_at simple_ascii p x.0) (sym e) ∙ first_found x behind;
+}
+
+edge_key : (b : ℕ) (pairs : Pairs) → begins_some pairs b ≡ true → Key b pairs
+edge_key b pairs h = some_key b pairs (residual b pairs) refl (sym (begins_behind pairs b) ∙ h)
+
+edge_ascii : (kind : Kind) (d b : ℕ) (pairs : Pairs) → Sound kind d pairs → begins_some pairs b ≡ true → b < 128
+edge_ascii kind d b pairs s h = let k = edge_key b pairs h in (s.ascii (b ∷ k.key) k.v k.is).0
+
+-- the first bytes of the keys are the edges
+edge_begins : (kind : Kind) (d b : ℕ) (pairs : Pairs) → Sound kind d pairs → member b (edges pairs) ≡ begins_some pairs b
+edge_begins kind d b pairs s = elim (cases_lt b 256) [
+  | inl low ↦ member-edges pairs b low
+  | inr high ↦ member-edges_past pairs b high ∙ sym (false_from_ne_true (begins_some pairs b) (λ h. let low = edge_ascii kind d b pairs s h in omega arith))
+]
+
+-- edges of one fold are one edge
+one_front : (kind : Kind) (b c : ℕ) (k l : List ℕ) → common_front (same_byte kind) (b ∷ k) (c ∷ l) ≡ common_front (λ a e. a == e) (b ∷ k) (c ∷ l) → fold_byte kind b ≡ fold_byte kind c → b ≡ c
+one_front kind b c k l h f = elim (cases_eq b c) [
+  | inl same ↦ same
+  | inr other ↦ absurd (let g = rw (eq-eqb (fold_byte kind b) (fold_byte kind c) f, ne_eqb b c other) at h in omega arith)
+]
+
+edge_once : (kind : Kind) (d : ℕ) (pairs : Pairs) → Sound kind d pairs → (b c : ℕ) → member b (edges pairs) ≡ true → member c (edges pairs) ≡ true → fold_byte kind b ≡ fold_byte kind c → b ≡ c
+edge_once kind d pairs s b c m n f =
+    let k = edge_key b pairs (sym (edge_begins kind d b pairs s) ∙ m) in
+    let l = edge_key c pairs (sym (edge_begins kind d c pairs s) ∙ n) in
+    one_front kind b c k.key l.key (s.agree (b ∷ k.key) (c ∷ l.key) k.v l.v k.is l.is) f
+
+-- The bytes list pairs that answer as these.
+pub record Listed (kind : Kind) (bytes : List ℕ) (pairs : Pairs) : Type 0 where
+  pub listed : Pairs
+  pub lists : Lists kind bytes listed
+  pub same : Same listed pairs
+
+-- The targets list the answers behind these edges.
+record ListedEach (kind : Kind) (es : List ℕ) (targets : List (List ℕ)) (pairs : Pairs) : Type 0 where
+  listed : Pairs
+  each : ListEach kind es targets listed
+  same : (c : ℕ) (key : List ℕ) → value_at simple_ascii listed (c ∷ key) ≡ cond (member c es) (value_at simple_ascii pairs (c ∷ key)) None
+
+-- the answers behind the first edge, and behind the others
+answers_first : (e c : ℕ) (key es : List ℕ) (p more pairs : Pairs) → member e es ≡ false → Same p (residual e pairs)
+    → ((key : List ℕ) → value_at simple_ascii more (c ∷ key) ≡ cond (member c es) (value_at simple_ascii pairs (c ∷ key)) None)
+    → value_at simple_ascii (with_front e p ++ more) (c ∷ key) ≡ cond (member c (e ∷ es)) (value_at simple_ascii pairs (c ∷ key)) None
+answers_first e c key es p more pairs once same rest = elim (cases_eq e c) [
+  | inl here ↦
+      let none : value_at simple_ascii more (c ∷ key) ≡ None = rest key ∙ rw (subst (λ x. member x es ≡ false) here once) refl in
+      value_at-some simple_ascii (c ∷ key) (with_front e p) more none
+      ∙ value_at-front simple_ascii e c key p (eq-eqb e c here)
+      ∙ same key ∙ value_at-residual e pairs key
+      ∙ ap (λ x. value_at simple_ascii pairs (x ∷ key)) here
+      ∙ rw (eq-eqb e c here) refl
+  | inr other ↦
+      value_at-append simple_ascii (c ∷ key) (with_front e p) more (value_at-other simple_ascii e c key p (ne_eqb e c other))
+      ∙ rest key ∙ rw (ne_eqb e c other) refl
+]
+
+no_listed : (p q : Pairs) → Same p q → (q ≡ [] → ⊥) → p ≡ [] → ⊥
+no_listed p q same some none = some (same-none q (λ key. sym (same key) ∙ ap (λ x. value_at simple_ascii x key) none))
+
+some_behind : (b : ℕ) (pairs : Pairs) → begins_some pairs b ≡ true → residual b pairs ≡ [] → ⊥
+some_behind b pairs h none = let e = sym (begins_behind pairs b) ∙ h in let f : some_pair (residual b pairs) ≡ false = ap some_pair none in absurd (cc)
+
+targets_listed : (d : ℕ) (kind : Kind) (pairs : Pairs) → ((b : ℕ) → Listed kind (enc_to d kind (residual b pairs)) (residual b pairs)) → (es : List ℕ) → Rises kind es → Each (λ b. begins_some pairs b ≡ true) es
+    → ListedEach kind es (map (λ b. enc_to d kind (residual b pairs)) es) pairs
+targets_listed d kind pairs below [] up begin = record { listed = []; each = no_edge; same = λ c key. refl }
+targets_listed d kind pairs below (e ∷ es) up begin =
+    let first = below e in
+    let rest = targets_listed d kind pairs below es up.1 begin.1 in
+    record {
+      listed = with_front e first.listed ++ rest.listed;
+      each = edge (not_empty_text first.lists (no_listed first.listed (residual e pairs) first.same (some_behind e pairs begin.0))) first.lists rest.each;
+      same = λ c key. answers_first e c key es first.listed rest.listed pairs (not_member kind (fold_byte kind e) e es (omega arith) up.0) first.same (rest.same c);
+    }
+
+-- a value in front of what lists the longer keys
+with_value : (kind : Kind) (o : Option ℕ) (bytes : List ℕ) (below pairs : Pairs) → Behind kind bytes below → value_at simple_ascii pairs [] ≡ o → ((v : ℕ) → o ≡ Some v → v < 2 ^ 64)
+    → value_at simple_ascii below [] ≡ None → ((c : ℕ) (key : List ℕ) → value_at simple_ascii below (c ∷ key) ≡ value_at simple_ascii pairs (c ∷ key)) → Listed kind (value_node o ++ bytes) pairs
+with_value kind None bytes below pairs b is small none same = record { listed = below; lists = b.lists; same = by_key }
+  where
+    by_key : Same below pairs
+    by_key [] = none ∙ sym is
+    by_key (c ∷ key) = same c key
+with_value kind (Some v) bytes below pairs b is small none same = record {
+  listed = ([], v) ∷ below;
+  lists = value (spells_spelled 16 4 v (small v refl) (inl refl)) b.no_value b.lists;
+  same = by_key;
+}
+  where
+    by_key : Same (([], v) ∷ below) pairs
+    by_key [] = sym is
+    by_key (c ∷ key) = same c key
+
+targets_count : (f : ℕ → List ℕ) (es : List ℕ) → length (map f es) ≡ length es
+targets_count f [] = refl
+targets_count f (e ∷ es) = ap suc (targets_count f es)
+
+Each-at : (P : ℕ → Type 0) (es : List ℕ) → Each P es → (i d : ℕ) → i < length es → P (get_or es i d)
+Each-at P [] each i d h = absurd (omega arith)
+Each-at P (e ∷ es) each zero d h = each.0
+Each-at P (e ∷ es) each (suc i) d h = Each-at P es each.1 i d (omega arith)
+
+no_pairs : (kind : Kind) (pairs : Pairs) → Sound kind 0 pairs → Same [] pairs
+no_pairs kind pairs s key = go (value_at simple_ascii pairs key) refl
+  where
+    go : (o : Option ℕ) → value_at simple_ascii pairs key ≡ o → None ≡ o
+    go None h = refl
+    go (Some v) h = absurd (let n = s.shorter key v h in omega arith)
+
+none_at : (key : List ℕ) (p : Pairs) → some_pair p ≡ false → value_at simple_ascii p key ≡ None
+none_at key [] h = refl
+none_at key (e ∷ p) h = absurd (cc)
+
+-- the edges that are not there have no answers
+all_answers : (c : ℕ) (key : List ℕ) (pairs : Pairs) (t : Bool) → begins_some pairs c ≡ t → cond t (value_at simple_ascii pairs (c ∷ key)) None ≡ value_at simple_ascii pairs (c ∷ key)
+all_answers c key pairs true h = refl
+all_answers c key pairs false h = sym (none_at key (residual c pairs) (sym (begins_behind pairs c) ∙ h)) ∙ value_at-residual c pairs key
+
+-- The canonical text lists what the pairs answer.
+pub listed_enc : (d : ℕ) (kind : Kind) (pairs : Pairs) → IsAscii kind → Sound kind d pairs → FitsTo kind d pairs → Listed kind (enc_to d kind pairs) pairs
+listed_enc zero kind pairs is_ascii s fits = record { listed = []; lists = nothing; same = no_pairs kind pairs s }
+listed_enc (suc d) kind pairs is_ascii s fits =
+    let es = ordered kind (edges pairs) in
+    let rise = edges_rise pairs in
+    let begin : (b : ℕ) → member b es ≡ begins_some pairs b = λ b. member-ordered kind b (edges pairs) ∙ edge_begins kind (suc d) b pairs s in
+    let up = rises_ordered kind is_ascii 0 256 (edges pairs) rise (rise_apart kind 0 256 (edges pairs) rise (edge_once kind (suc d) pairs s)) in
+    let each = targets_listed d kind pairs (λ b. listed_enc d kind (residual b pairs) is_ascii (sound_behind kind d pairs s b) (fits.1 b)) es up
+    (Each-member (λ b. begins_some pairs b ≡ true) es (λ b m. sym (begin b) ∙ m)) in
+    let low = Each-at (λ b. b < 128) es (Each-member (λ b. b < 128) es (λ b m. edge_ascii kind (suc d) b pairs s (sym (begin b) ∙ m))) in
+    let node = node_lists is_ascii each.each up low (targets_count (λ b. enc_to d kind (residual b pairs)) es) (λ two. fits.0 (subst (λ n. 2 ≤ n) (length-ordered kind (edges pairs)) two)) in
+    with_value kind (value_at kind pairs []) _ each.listed pairs node (sym (value_exact kind pairs)) (λ v h. s.small [] v (sym (value_exact kind pairs) ∙ h))
+    (sym (value_exact kind each.listed) ∙ behind_none each.each)
+    (λ c key. each.same c key ∙ ap (λ t. cond t (value_at simple_ascii pairs (c ∷ key)) None) (begin c) ∙ all_answers c key pairs (begins_some pairs c) refl)

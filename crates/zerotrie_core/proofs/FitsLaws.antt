@@ -1,69 +1,80 @@
 -- Bytes mean only maps that fit.
-use Rattle.std.proofs.Common.{◌≡◌, ℕ, zero, suc, ◌+◌, ◌^◌, ◌<◌, ◌≤◌, List, [], ◌∷◌, ◌++◌, length, refl, sym, ◌∙◌, ap, subst, arith, get_or, inl, inr, ◌⊎◌, lit<}
+use Rattle.std.proofs.Common.{◌≡◌, ℕ, zero, suc, ◌+◌, ◌^◌, ◌<◌, ◌≤◌, List, [], ◌∷◌, ◌++◌, length, refl, sym, ◌∙◌, ap, subst, arith, get_or, inl, inr, lit<, Ordering, Less, Equal, Greater}
 use Rattle.std.specs.Prelude.{All}
-use Rattle.std.specs.List.{concat}
-use Rattle.std.specs.FinMap.{entries}
-use Rattle.std.proofs.lemmas.Bool.{cases_lt}
+use Rattle.std.specs.List.{concat, AllByRecursion}
+use Rattle.std.specs.FinMap.{entries, entries-insert, put, slice_cmp-IsAntisymmetric, nat_cmp-IsAntisymmetric}
+use Rattle.std.specs.FinMap.Entries.{by_order}
+use Rattle.std.specs.Ordering.{nat_cmp}
+use Rattle.std.specs.Cmp.Lexicographic.{slice_cmp, nat_list_cmp_total}
+use Rattle.std.proofs.lemmas.Bool.Decides.{eqb_tells}
 use Rattle.std.proofs.Math.Nat.{pow-le-pow_right}
-use Rattle.zerotrie_core.specs.Kind.{simple_ascii}
-use Rattle.zerotrie_core.specs.Maps.{Pairs, Map, with_front, edges, residual, behind_all, IsCaseConsistent}
+use Rattle.zerotrie_core.specs.Kind.{Kind, IsAscii, edge_limit, greatest_width}
+use Rattle.zerotrie_core.specs.Maps.{Pairs, Map, map_of, with_front, edges, residual, behind_all, IsCaseConsistent}
 use Rattle.zerotrie_core.specs.Branches.{IsBranch}
 use Rattle.zerotrie_core.specs.Texts.{Lists, ListEach, Means}
 use Rattle.zerotrie_core.specs.Texts.Lists.{nothing, value, literal, branch}
 use Rattle.zerotrie_core.specs.Texts.ListEach.{no_edge, edge}
 use Rattle.zerotrie_core.specs.Fits.{targets_size, Fits}
 use Rattle.zerotrie_core.specs.Encoding.{AsciiKey, AsciiKeys}
-use Rattle.zerotrie_core.proofs.EdgeLemmas.{Rise, residual-front, residual-other}
-use Rattle.zerotrie_core.proofs.CanonLaws.{edges_none, edges_front, edges_value, branch_rise, lists_some}
-use Rattle.zerotrie_core.proofs.OrderLaws.{entries-map_of, lists_ascend, means_size}
+use Rattle.zerotrie_core.proofs.EdgeLemmas.{residual-front, residual-other}
+use Rattle.zerotrie_core.proofs.ReaderLemmas.{Rises}
+use Rattle.zerotrie_core.proofs.SameLemmas.{Same, same-edges, same-behind, same-targets}
+use Rattle.zerotrie_core.proofs.CaseLemmas.{Agrees, every_all, lists_consistent}
+use Rattle.zerotrie_core.proofs.KindLemmas.{edge_limit_is}
+use Rattle.zerotrie_core.proofs.CanonLaws.{edges_none, edges_front, edges_value, branch_rises, branch_bytes, edge_once, residual_first, residual_later, lists_some}
+use Rattle.zerotrie_core.proofs.OrderLaws.{entries-map_of, means_same, means_size}
 use Rattle.zerotrie_core.proofs.EncodeLaws.{SmallValues}
-use Rattle.zerotrie_core.proofs.ListedLemmas.{targets_each, targets_value, behind_none, residual_first, residual_later}
+use Rattle.zerotrie_core.proofs.ListedLemmas.{targets_each, targets_value, behind_none}
 
--- the targets of each branch that the pairs need have fewer than 2 ^ 32 bytes
-abbrev pub NarrowBehind : List ℕ → Pairs → Type 0
-NarrowBehind front pairs = 2 ≤ length (edges (behind_all front pairs)) → targets_size simple_ascii (behind_all front pairs) < 2 ^ 32
+-- the targets of each branch that the pairs need can be reached by an offset
+abbrev pub NarrowBehind : Kind → List ℕ → Pairs → Type 0
+NarrowBehind kind front pairs = 2 ≤ length (edges (behind_all front pairs)) → targets_size kind (behind_all front pairs) < 256 ^ (greatest_width kind + 1)
 
-narrow_none : (front : List ℕ) → NarrowBehind front []
-narrow_none front two = absurd (let none = ap length (ap edges (behind_none front) ∙ edges_none) in omega arith)
+narrow_none : (kind : Kind) (front : List ℕ) → NarrowBehind kind front []
+narrow_none kind front two = absurd (let none = ap length (ap edges (behind_none front) ∙ edges_none) in omega arith)
 
-narrow_value : (v : ℕ) (pairs : Pairs) → NarrowBehind [] pairs → NarrowBehind [] (([], v) ∷ pairs)
-narrow_value v pairs narrow two = let e = targets_value v pairs in let h = narrow (subst (λ es. 2 ≤ length es) (edges_value v pairs) two) in subst (λ n. n < 2 ^ 32) (sym e) h
+narrow_value : (kind : Kind) (v : ℕ) (pairs : Pairs) → NarrowBehind kind [] pairs → NarrowBehind kind [] (([], v) ∷ pairs)
+narrow_value kind v pairs narrow two =
+    subst (λ n. n < 256 ^ (greatest_width kind + 1)) (sym (targets_value kind v pairs)) (narrow (subst (λ es. 2 ≤ length es) (edges_value v pairs) two))
 
-narrow_at : (c : ℕ) (front : List ℕ) (pairs behind : Pairs) → residual c pairs ≡ behind → NarrowBehind front behind → NarrowBehind (c ∷ front) pairs
-narrow_at c front pairs behind e = subst (NarrowBehind front) (sym e)
+narrow_at : (kind : Kind) (c : ℕ) (front : List ℕ) (pairs behind : Pairs) → residual c pairs ≡ behind → NarrowBehind kind front behind → NarrowBehind kind (c ∷ front) pairs
+narrow_at kind c front pairs behind e = subst (NarrowBehind kind front) (sym e)
 
-apart : (a b : ℕ) → (a ≡ b) ⊎ (a ≡ b → ⊥)
-apart a b = elim (cases_lt a b) [
-  | inl less ↦ inr (λ e. omega arith)
-  | inr more ↦ elim (cases_lt b a) [ inl above ↦ inr (λ e. omega arith) | inr same ↦ inl (omega arith) ]
-]
+-- pairs that answer alike need the same branches
+pub narrow-same : (kind : Kind) (front : List ℕ) (p q : Pairs) → Same p q → NarrowBehind kind front q → NarrowBehind kind front p
+narrow-same kind front p q s narrow two =
+    let behind = same-behind front p q s in
+    subst (λ n. n < 256 ^ (greatest_width kind + 1)) (sym (same-targets kind (behind_all front p) (behind_all front q) behind))
+    (narrow (subst (λ es. 2 ≤ length es) (same-edges (behind_all front p) (behind_all front q) behind) two))
 
-narrow_width : (w n : ℕ) → w ≤ 3 → n < 256 ^ (w + 1) → n < 2 ^ 32
-narrow_width w n h below = let up : 256 ^ (w + 1) ≤ 256 ^ 4 = pow-le-pow_right (lit< tt) (let k : w + 1 ≤ 4 = omega arith in k) in let e : 256 ^ 4 ≡ 2 ^ 32 = refl in omega arith
+narrow_width : (g w n : ℕ) → w ≤ g → n < 256 ^ (w + 1) → n < 256 ^ (g + 1)
+narrow_width g w n h below = let up : 256 ^ (w + 1) ≤ 256 ^ (g + 1) = pow-le-pow_right (lit< tt) (let k : w + 1 ≤ g + 1 = omega arith in k) in omega arith
 
-narrow_branch : {es : List ℕ} {targets : List (List ℕ)} {bytes : List ℕ} {pairs : Pairs} → IsBranch simple_ascii es targets bytes → ListEach simple_ascii es targets pairs → NarrowBehind [] pairs
-narrow_branch {targets = targets} b each two = subst (λ n. n < 2 ^ 32) (sym (targets_each each (branch_rise b))) (narrow_width b.width (length (concat targets)) b.fits b.is_width.enough)
+narrow_branch : {kind : Kind} {es : List ℕ} {targets : List (List ℕ)} {bytes : List ℕ} {pairs : Pairs} → IsAscii kind → IsBranch kind es targets bytes → ListEach kind es targets pairs → NarrowBehind kind [] pairs
+narrow_branch {kind = kind} {targets = targets} ascii b each two =
+    subst (λ n. n < 256 ^ (greatest_width kind + 1)) (sym (targets_each ascii each (branch_rises b) (branch_bytes ascii b)))
+    (narrow_width (greatest_width kind) b.width (length (concat targets)) b.fits b.is_width.enough)
 
 mutual
-  narrow_lists : {bytes : List ℕ} {pairs : Pairs} → Lists simple_ascii bytes pairs → (front : List ℕ) → NarrowBehind front pairs
-  narrow_lists nothing front = narrow_none front
-  narrow_lists (value {v = v} {pairs = p} s n text) [] = narrow_value v p (narrow_lists text [])
-  narrow_lists (value {v = v} {pairs = p} s n text) (c ∷ front) = narrow_lists text (c ∷ front)
-  narrow_lists (literal {b = b} {pairs = p} low n text) [] = λ two. absurd (let one = ap length (edges_front b p low (lists_some text n)) in omega arith)
-  narrow_lists (literal {b = b} {pairs = p} low n text) (c ∷ front) =
-      elim (apart b c) [
-        | inl same ↦ narrow_at c front (with_front b p) p (ap (λ x. residual c (with_front x p)) same ∙ residual-front c p) (narrow_lists text front)
-        | inr other ↦ narrow_at c front (with_front b p) [] (residual-other c b p other) (narrow_none front)
+  narrow_lists : {kind : Kind} {bytes : List ℕ} {pairs : Pairs} → IsAscii kind → Lists kind bytes pairs → (front : List ℕ) → NarrowBehind kind front pairs
+  narrow_lists {kind = kind} ascii nothing front = narrow_none kind front
+  narrow_lists {kind = kind} ascii (value {v = v} {pairs = p} s n text) [] = narrow_value kind v p (narrow_lists ascii text [])
+  narrow_lists ascii (value {v = v} {pairs = p} s n text) (c ∷ front) = narrow_lists ascii text (c ∷ front)
+  narrow_lists ascii (literal {b = b} {pairs = p} low n text) [] = λ two. absurd (let one = ap length (edges_front b p low (lists_some text n)) in omega arith)
+  narrow_lists {kind = kind} ascii (literal {b = b} {pairs = p} low n text) (c ∷ front) =
+      elim (eqb_tells b c) [
+        | inl same ↦ narrow_at kind c front (with_front b p) p (ap (λ x. residual c (with_front x p)) same.1 ∙ residual-front c p) (narrow_lists ascii text front)
+        | inr other ↦ narrow_at kind c front (with_front b p) [] (residual-other c b p other.1) (narrow_none kind front)
       ]
-  narrow_lists (branch b each) [] = narrow_branch b each
-  narrow_lists (branch b each) (c ∷ front) = narrow_each each 0 (branch_rise b) c front
+  narrow_lists ascii (branch b each) [] = narrow_branch ascii b each
+  narrow_lists ascii (branch b each) (c ∷ front) = narrow_each ascii each (branch_rises b) c front
 
-  narrow_each : {es : List ℕ} {targets : List (List ℕ)} {pairs : Pairs} → ListEach simple_ascii es targets pairs → (low : ℕ) → Rise low 256 es → (c : ℕ) (front : List ℕ) → NarrowBehind (c ∷ front) pairs
-  narrow_each no_edge low rise c front = narrow_none front
-  narrow_each (edge {e = e} {pairs = p} {more = m} n text each) low rise c front =
-      elim (apart e c) [
-        | inl same ↦ narrow_at c front (with_front e p ++ m) p (ap (λ x. residual x (with_front e p ++ m)) (sym same) ∙ residual_first e p each rise.2) (narrow_lists text front)
-        | inr other ↦ narrow_at c front (with_front e p ++ m) (residual c m) (residual_later c e p m other) (narrow_each each (suc e) rise.2 c front)
+  narrow_each : {kind : Kind} {es : List ℕ} {targets : List (List ℕ)} {pairs : Pairs} → IsAscii kind → ListEach kind es targets pairs → Rises kind es → (c : ℕ) (front : List ℕ) → NarrowBehind kind (c ∷ front) pairs
+  narrow_each {kind = kind} ascii no_edge rises c front = narrow_none kind front
+  narrow_each {kind = kind} ascii (edge {e = e} {edges = es} {pairs = p} {more = m} n text each) rises c front =
+      elim (eqb_tells e c) [
+        | inl same ↦ narrow_at kind c front (with_front e p ++ m) p (ap (λ x. residual x (with_front e p ++ m)) (sym same.1) ∙ residual_first e p each (edge_once kind e es rises.0)) (narrow_lists ascii text front)
+        | inr other ↦ narrow_at kind c front (with_front e p ++ m) (residual c m) (residual_later c e p m other.1) (narrow_each ascii each rises.1 c front)
       ]
 
 AsciiKeys-front : (b : ℕ) (pairs : Pairs) → b < 128 → AsciiKeys pairs → AsciiKeys (with_front b pairs)
@@ -79,16 +90,16 @@ abbrev Low : List ℕ → Type 0
 Low es = (i d : ℕ) → i < length es → get_or es i d < 128
 
 mutual
-  ascii_lists : {bytes : List ℕ} {pairs : Pairs} → Lists simple_ascii bytes pairs → AsciiKeys pairs
-  ascii_lists nothing = tt
-  ascii_lists (value s n text) = (tt, ascii_lists text)
-  ascii_lists (literal {b = b} {pairs = p} low n text) = AsciiKeys-front b p low (ascii_lists text)
-  ascii_lists (branch b each) = ascii_each each (λ i d h. b.edge_bytes i d h)
+  ascii_lists : {kind : Kind} {bytes : List ℕ} {pairs : Pairs} → IsAscii kind → Lists kind bytes pairs → AsciiKeys pairs
+  ascii_lists ascii nothing = tt
+  ascii_lists ascii (value s n text) = (tt, ascii_lists ascii text)
+  ascii_lists ascii (literal {b = b} {pairs = p} low n text) = AsciiKeys-front b p low (ascii_lists ascii text)
+  ascii_lists {kind = kind} ascii (branch {edges = es} b each) = ascii_each ascii each (λ i d h. subst (λ n. get_or es i d < n) (edge_limit_is kind ascii) (b.edge_bytes i d h))
 
-  ascii_each : {es : List ℕ} {targets : List (List ℕ)} {pairs : Pairs} → ListEach simple_ascii es targets pairs → Low es → AsciiKeys pairs
-  ascii_each no_edge low = tt
-  ascii_each (edge {e = e} {pairs = p} {more = m} n text each) low =
-      AsciiKeys-append (with_front e p) m (AsciiKeys-front e p (low 0 0 (omega arith)) (ascii_lists text)) (ascii_each each (λ i d h. low (suc i) d (omega arith)))
+  ascii_each : {kind : Kind} {es : List ℕ} {targets : List (List ℕ)} {pairs : Pairs} → IsAscii kind → ListEach kind es targets pairs → Low es → AsciiKeys pairs
+  ascii_each ascii no_edge low = tt
+  ascii_each ascii (edge {e = e} {pairs = p} {more = m} n text each) low =
+      AsciiKeys-append (with_front e p) m (AsciiKeys-front e p (low 0 0 (omega arith)) (ascii_lists ascii text)) (ascii_each ascii each (λ i d h. low (suc i) d (omega arith)))
 
 SmallValues-front : (b : ℕ) (pairs : Pairs) → SmallValues pairs → SmallValues (with_front b pairs)
 SmallValues-front b [] h = tt
@@ -99,13 +110,13 @@ SmallValues-append [] ys a b = b
 SmallValues-append (e ∷ xs) ys a b = (a.0, SmallValues-append xs ys a.1 b)
 
 mutual
-  small_lists : {bytes : List ℕ} {pairs : Pairs} → Lists simple_ascii bytes pairs → SmallValues pairs
+  small_lists : {kind : Kind} {bytes : List ℕ} {pairs : Pairs} → Lists kind bytes pairs → SmallValues pairs
   small_lists nothing = tt
   small_lists (value s n text) = (s.below, small_lists text)
   small_lists (literal {b = b} {pairs = p} low n text) = SmallValues-front b p (small_lists text)
   small_lists (branch b each) = small_each each
 
-  small_each : {es : List ℕ} {targets : List (List ℕ)} {pairs : Pairs} → ListEach simple_ascii es targets pairs → SmallValues pairs
+  small_each : {kind : Kind} {es : List ℕ} {targets : List (List ℕ)} {pairs : Pairs} → ListEach kind es targets pairs → SmallValues pairs
   small_each no_edge = tt
   small_each (edge {e = e} {pairs = p} {more = m} n text each) = SmallValues-append (with_front e p) m (SmallValues-front e p (small_lists text)) (small_each each)
 
@@ -124,16 +135,43 @@ all_values [] h i d l = absurd (omega arith)
 all_values (e ∷ pairs) h zero d l = h.0
 all_values (e ∷ pairs) h (suc i) d l = all_values pairs h.1 i d (omega arith)
 
-one_case : (pairs : Pairs) → IsCaseConsistent simple_ascii pairs
-one_case pairs i d h j f l = refl
+-- what holds of each pair holds of each entry of their map
+every_put : (P : List ℕ × ℕ → Type 0) (key : List ℕ) (v : ℕ) (pairs : Pairs) → P (key, v) → AllByRecursion P pairs → AllByRecursion P (put (slice_cmp nat_cmp) key v pairs)
+every_put P key v [] here h = (here, tt)
+every_put P key v (e ∷ pairs) here h = go (slice_cmp nat_cmp key e.0) refl (every_put P key v pairs here h.1)
+  where
+    go : (o : Ordering) → slice_cmp nat_cmp key e.0 ≡ o → AllByRecursion P (put (slice_cmp nat_cmp) key v pairs) → AllByRecursion P (by_order o ((key, v) ∷ e ∷ pairs) ((e.0, v) ∷ pairs) (e ∷ put (slice_cmp nat_cmp) key v pairs))
+    go Less is rest = (here, h)
+    go Equal is rest = (subst (λ k. P (k, v)) (slice_cmp-IsAntisymmetric nat_cmp-IsAntisymmetric key e.0 is) here, h.1)
+    go Greater is rest = (h.0, rest)
 
-pub fits_meant : (bytes : List ℕ) (m : Map) → Means simple_ascii bytes m → Fits simple_ascii m
-fits_meant bytes m means =
-    let e : means.pairs ≡ entries m = sym (ap entries means.is ∙ entries-map_of means.pairs (lists_ascend means.lists)) in
+pub every_entry : (P : List ℕ × ℕ → Type 0) (pairs : Pairs) → AllByRecursion P pairs → AllByRecursion P (entries (map_of pairs))
+every_entry P [] h = subst (AllByRecursion P) (sym (entries-map_of [] tt)) tt
+every_entry P (e ∷ pairs) h =
+    subst (AllByRecursion P) (sym (entries-insert nat_list_cmp_total (map_of pairs) e.0 e.1)) (every_put P e.0 e.1 (entries (map_of pairs)) h.0 (every_entry P pairs h.1))
+
+by_recursion : (P : List ℕ × ℕ → Type 0) (pairs : Pairs) → All P pairs → AllByRecursion P pairs
+by_recursion P [] h = tt
+by_recursion P (e ∷ pairs) h = (h 0 e (omega arith), by_recursion P pairs (λ i d l. h (suc i) d (omega arith)))
+
+pub all_entries : (P : List ℕ × ℕ → Type 0) (pairs : Pairs) → All P pairs → All P (entries (map_of pairs))
+all_entries P pairs h = every_all P (entries (map_of pairs)) (every_entry P pairs (by_recursion P pairs h))
+
+-- the entries agree in case if the pairs do
+pub consistent_entries : (kind : Kind) (pairs : Pairs) → IsCaseConsistent kind pairs → IsCaseConsistent kind (entries (map_of pairs))
+consistent_entries kind pairs h =
+    all_entries (λ e. All (λ f. Agrees kind e.0 f.0) (entries (map_of pairs))) pairs
+    (λ i d l. all_entries (λ f. Agrees kind (get_or pairs i d).0 f.0) pairs (h i d l))
+
+pub fits_meant : (kind : Kind) → IsAscii kind → (bytes : List ℕ) (m : Map) → Means kind bytes m → Fits kind m
+fits_meant kind ascii bytes m means =
+    let pairs = means.pairs in
+    let e : entries (map_of pairs) ≡ entries m = ap entries (sym means.is) in
+    let low = subst (λ n. All (λ f. All (λ b. b < n) f.0) pairs) (sym (edge_limit_is kind ascii)) (all_keys pairs (ascii_lists ascii means.lists)) in
     record {
-      values = subst (All (λ f. f.1 < 2 ^ 64)) e (all_values means.pairs (small_lists means.lists));
-      key_bytes = subst (All (λ f. All (λ b. b < 128) f.0)) e (all_keys means.pairs (ascii_lists means.lists));
-      case = one_case (entries m);
-      narrow = λ front. subst (NarrowBehind front) e (narrow_lists means.lists front);
-      short = subst (λ n. n < 2 ^ 64) (means_size bytes m means) means.short;
+      values = subst (All (λ f. f.1 < 2 ^ 64)) e (all_entries (λ f. f.1 < 2 ^ 64) pairs (all_values pairs (small_lists means.lists)));
+      key_bytes = subst (All (λ f. All (λ b. b < edge_limit kind) f.0)) e (all_entries (λ f. All (λ b. b < edge_limit kind) f.0) pairs low);
+      case = subst (IsCaseConsistent kind) e (consistent_entries kind pairs (lists_consistent means.lists));
+      narrow = λ front. narrow-same kind front (entries m) pairs (means_same means) (narrow_lists ascii means.lists front);
+      short = subst (λ n. n < 2 ^ 64) (means_size kind bytes m means) means.short;
     }

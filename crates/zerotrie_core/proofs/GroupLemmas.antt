@@ -3,21 +3,22 @@ use Rattle.std.proofs.Common.{◌≡◌, ℕ, zero, suc, ◌+◌, ◌^◌, ◌<�
 use Rattle.std.specs.List.{concat}
 use Rattle.zerotrie_core.specs.Kind.{simple_ascii}
 use Rattle.zerotrie_core.specs.Numbers.{Spells}
-use Rattle.zerotrie_core.specs.Maps.{Pairs, with_front, edges, residual, behind_all, Ascends, FirstAbove}
+use Rattle.zerotrie_core.specs.Maps.{Pairs, with_front, residual, Ascends, FirstAbove}
 use Rattle.zerotrie_core.specs.Branches.{IsWidth, offsets, blocks}
 use Rattle.zerotrie_core.specs.Branches.IsTable.{sorted}
 use Rattle.zerotrie_core.specs.Texts.{Lists, ListEach}
 use Rattle.zerotrie_core.specs.Texts.Lists.{nothing, value, literal, branch}
 use Rattle.zerotrie_core.specs.Texts.ListEach.{no_edge, edge}
-use Rattle.zerotrie_core.specs.Fits.{targets_size}
+use Rattle.zerotrie_core.specs.Fits.{OverflowsAt}
 use Rattle.zerotrie_core.specs.Encoding.{AsciiKeys, weight, IsBranching, IsRefusal, TooWide, Writes, Leads, BranchBytes}
 use Rattle.zerotrie_core.specs.declared.error.ZeroTrieBuildError.{ZeroTrieBuildError}
 use Rattle.zerotrie_core.specs.declared.error.ZeroTrieBuildError.TheVariants.{OutOfMemory, CapacityExceeded}
 use Rattle.zerotrie_core.proofs.EdgeLemmas.{Rise, residual-append, residual-front}
-use Rattle.zerotrie_core.proofs.CanonLaws.{edges_value, nil_end, bytes_end}
+use Rattle.zerotrie_core.proofs.CanonLaws.{edges_value, edges_listed, rise_bytes, residual_none, nil_end, bytes_end}
 use Rattle.zerotrie_core.proofs.BranchLemmas.{length-offsets, get_or-offsets}
-use Rattle.zerotrie_core.proofs.EncodeLaws.{compare_first, not_empty_text, rise_count, rise_increasing}
-use Rattle.zerotrie_core.proofs.ListedLemmas.{edges_listed, targets_each, targets_value, no_value_first, each_push, each_count, residual_done, residual_above, Rise-push, Rise-below, Rise-higher, FirstFrom, first_from}
+use Rattle.zerotrie_core.proofs.OrderedLemmas.{rise_rises, member-past}
+use Rattle.zerotrie_core.proofs.EncodeLaws.{compare_first, not_empty_text, rises_count, rises_increasing}
+use Rattle.zerotrie_core.proofs.ListedLemmas.{targets_each, targets_value, no_value_first, each_push, each_count, residual_above, Rise-push, Rise-below, Rise-higher, FirstFrom, first_from}
 
 pub weight-append : (xs ys : Pairs) → weight (xs ++ ys) ≡ weight xs + weight ys
 weight-append [] ys = omega arith
@@ -33,19 +34,12 @@ some_long (e ∷ pairs) some = omega arith
 
 -- a branch that is too wide behind a byte
 pub too_wide_front : (b : ℕ) (pairs behind : Pairs) → residual b pairs ≡ behind → TooWide behind → TooWide pairs
-too_wide_front b pairs behind e w = record {
-  front = b ∷ w.front;
-  two = subst (λ p. 2 ≤ length (edges (behind_all w.front p))) (sym e) w.two;
-  wide = subst (λ p. 2 ^ 32 ≤ targets_size simple_ascii (behind_all w.front p)) (sym e) w.wide;
-}
+too_wide_front b pairs behind e w = (b ∷ w.0, subst (OverflowsAt simple_ascii w.0) (sym e) w.1)
 
-too_wide_value : (v : ℕ) (pairs : Pairs) (front : List ℕ) → 2 ≤ length (edges (behind_all front pairs)) → 2 ^ 32 ≤ targets_size simple_ascii (behind_all front pairs) → TooWide (([], v) ∷ pairs)
-too_wide_value v pairs [] two wide = record {
-  front = [];
-  two = subst (λ es. 2 ≤ length es) (sym (edges_value v pairs)) two;
-  wide = subst (λ n. 2 ^ 32 ≤ n) (sym (targets_value v pairs)) wide;
-}
-too_wide_value v pairs (b ∷ front) two wide = record { front = b ∷ front; two = two; wide = wide }
+too_wide_value : (v : ℕ) (pairs : Pairs) (front : List ℕ) → OverflowsAt simple_ascii front pairs → TooWide (([], v) ∷ pairs)
+too_wide_value v pairs [] over =
+    ([], (subst (λ es. 2 ≤ length es) (sym (edges_value v pairs)) over.0, subst (λ n. 2 ^ 32 ≤ n) (sym (targets_value simple_ascii v pairs)) over.1))
+too_wide_value v pairs (b ∷ front) over = (b ∷ front, over)
 
 above_behind : (b : ℕ) (key : List ℕ) (pairs : Pairs) → FirstAbove (b ∷ key) (with_front b pairs) → FirstAbove key pairs
 above_behind b key [] h = tt
@@ -89,7 +83,7 @@ leads_value before out out' spelling v all left l s e = record {
     lists = value s (no_value_first w.lists l.ascends.0) w.lists;
     is = w.is ∙ ap (λ x. x ++ w.text) e ∙ append_assoc out spelling w.text;
   });
-  wide = λ w. l.wide (too_wide_value v left w.front w.two w.wide);
+  wide = λ w. l.wide (too_wide_value v left w.0 w.1);
   ascends = l.ascends.1;
   ascii = l.ascii.1;
   lighter = let h = l.lighter in omega arith;
@@ -254,7 +248,7 @@ module _ {all : Pairs} {edge_bytes starts target_bytes : List ℕ} {left : Pairs
   group_residual =
       ap (residual b) (g.whole ∙ ap (λ x. g.done ++ x) h.pairs)
       ∙ residual-append b g.done (with_front b p ++ more)
-      ∙ ap (λ x. x ++ residual b (with_front b p ++ more)) (residual_done g.lists 0 g.low b g.rise low_here)
+      ∙ ap (λ x. x ++ residual b (with_front b p ++ more)) (residual_none g.lists b (member-past 0 g.low b edge_bytes g.rise low_here))
       ∙ residual-append b (with_front b p) more
       ∙ ap (λ x. x ++ residual b more) (residual-front b p)
       ∙ ap (λ x. p ++ x) (residual_above b (suc b) more (omega arith) next_low parts_up.1)
@@ -303,7 +297,7 @@ module _ {all : Pairs} {edge_bytes starts target_bytes : List ℕ} (g : Grown al
   pub grown_lists : (bytes : List ℕ) → BranchBytes edge_bytes (drop 1 starts) target_bytes bytes → Lists simple_ascii bytes all
   grown_lists bytes b =
       let count = each_count all_lists in
-      let most = rise_count 0 256 edge_bytes (omega arith) rise_256 in
+      let most = rises_count simple_ascii edge_bytes (rise_rises 0 256 edge_bytes rise_256) (λ i d h. Rise-below 0 128 edge_bytes rise_128 i d h) in
       let some = two in
       let offsets_are = ap (drop 1) g.starts_are ∙ starts_offsets g.texts (omega arith) in
       branch (record {
@@ -317,19 +311,17 @@ module _ {all : Pairs} {edge_bytes starts target_bytes : List ℕ} (g : Grown al
         is_width = subst (λ x. IsWidth (length x) b.width) g.bytes b.is_width;
         fits = b.fits;
         is_head = b.is_head;
-        is_table = sorted refl (rise_increasing 0 256 edge_bytes rise_256);
+        is_table = sorted refl (rises_increasing simple_ascii edge_bytes (rise_rises 0 256 edge_bytes rise_256));
         bytes_are = b.bytes_are ∙ ap (λ x. b.head ++ (edge_bytes ++ (blocks (b.width + 1) x ++ target_bytes))) offsets_are ∙ ap (λ x. b.head ++ (edge_bytes ++ (blocks (b.width + 1) (offsets g.texts) ++ x))) g.bytes;
       }) all_lists
 
   -- the targets together are too wide
   pub grown_wide : 2 ^ 32 ≤ length target_bytes → TooWide all
   grown_wide h =
-      let size = targets_each all_lists rise_256 ∙ ap length (sym g.bytes) in
-      record {
-        front = [];
-        two = subst (λ es. 2 ≤ length es) (sym (edges_listed all_lists rise_256)) two;
-        wide = subst (λ n. 2 ^ 32 ≤ n) (sym size) h;
-      }
+      let rises = rise_rises 0 256 edge_bytes rise_256 in
+      let bytes = rise_bytes 0 edge_bytes rise_256 in
+      let size = targets_each tt all_lists rises bytes ∙ ap length (sym g.bytes) in
+      ([], (subst (λ es. 2 ≤ length es) (sym (edges_listed tt all_lists rises bytes)) two, subst (λ n. 2 ^ 32 ≤ n) (sym size) h))
 
   -- there is a first target
   pub grown_starts : 1 ≤ length starts

@@ -3,12 +3,15 @@ pub mod WriteLemmas
 pub mod ReaderLemmas
 pub mod MapLemmas
 pub mod KindLemmas
+pub mod CaseLemmas
 pub mod BranchLemmas
 pub mod TableLemmas
 pub mod NumberLaws
 pub mod TextLaws
 pub mod Vectors
 pub mod EdgeLemmas
+pub mod OrderedLemmas
+pub mod SameLemmas
 pub mod CanonLaws
 pub mod EncodeLaws
 pub mod SizeLaws

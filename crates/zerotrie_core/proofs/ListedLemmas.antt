@@ -1,91 +1,83 @@
 -- What the pairs of a text are like: the edges of a branch and the sizes of its targets.
-use Rattle.std.proofs.Common.{◌≡◌, ℕ, zero, suc, ◌<◌, ◌≤◌, List, [], ◌∷◌, ◌++◌, length, refl, sym, ◌∙◌, ap, subst, arith, get_or, map, inl, inr, append_assoc, sum}
+use Rattle.std.proofs.Common.{◌≡◌, ℕ, zero, suc, ◌<◌, ◌≤◌, List, [], ◌∷◌, ◌++◌, length, refl, sym, ◌∙◌, ap, subst, arith, get_or, map, inl, inr, append_assoc, sum, true}
 use Rattle.std.specs.List.{concat}
 use Rattle.std.proofs.lemmas.Bool.{ne_eqb}
-use Rattle.zerotrie_core.specs.Kind.{simple_ascii}
-use Rattle.zerotrie_core.specs.Maps.{Pairs, with_front, begins_some, edges, residual, behind_all, longest, Ascends, FirstAbove}
+use Rattle.zerotrie_core.specs.Kind.{Kind, IsAscii}
+use Rattle.zerotrie_core.specs.Maps.{Pairs, with_front, edges, residual, behind_all, longest, Ascends, FirstAbove}
 use Rattle.zerotrie_core.specs.Texts.{Lists, ListEach, NoValueFirst}
 use Rattle.zerotrie_core.specs.Texts.Lists.{nothing, value, literal, branch}
 use Rattle.zerotrie_core.specs.Texts.ListEach.{no_edge, edge}
 use Rattle.zerotrie_core.specs.Canonical.{size_to}
 use Rattle.zerotrie_core.specs.Fits.{targets_size}
-use Rattle.zerotrie_core.proofs.EdgeLemmas.{Rise, filter-range, residual-append, residual-front, residual-other}
-use Rattle.zerotrie_core.proofs.CanonLaws.{begins_each, residual_none, lists_enc, nil_end}
+use Rattle.zerotrie_core.proofs.EdgeLemmas.{Rise, member, member_head, member_later}
+use Rattle.zerotrie_core.proofs.OrderedLemmas.{sum-ordered, length-ordered}
+use Rattle.zerotrie_core.proofs.ReaderLemmas.{Rises}
+use Rattle.zerotrie_core.proofs.CanonLaws.{Bytes, edges_listed, edge_once, residual_first, residual_later, not_first, lists_enc, nil_end}
 use Rattle.zerotrie_core.proofs.SizeLaws.{length-concat, length-enc_to}
 use Rattle.zerotrie_core.proofs.OrderLaws.{longest_shorter}
 use Rattle.zerotrie_core.proofs.EncodeLaws.{compare_first, branch_no_value}
 
--- the edges of a branch are the first bytes of its pairs
-pub edges_listed : {es : List ℕ} {targets : List (List ℕ)} {pairs : Pairs} → ListEach simple_ascii es targets pairs → Rise 0 256 es → edges pairs ≡ es
-unfolding edges
-edges_listed {es = es} {pairs = pairs} each rise = filter-range (begins_some pairs) 0 256 256 es refl rise (λ x h. begins_each each x)
+-- the bytes of a text, by its pairs
+size_of : Kind → Pairs → ℕ
+size_of kind pairs = size_to (suc (longest pairs)) kind pairs
 
--- the pairs of the first target
-pub residual_first : (e : ℕ) (p : Pairs) {es : List ℕ} {targets : List (List ℕ)} {more : Pairs} → ListEach simple_ascii es targets more → Rise (suc e) 256 es → residual e (with_front e p ++ more) ≡ p
-residual_first e p {more = more} each rise =
-    residual-append e (with_front e p) more ∙ ap (λ x. x ++ residual e more) (residual-front e p) ∙ ap (λ x. p ++ x) (residual_none each e rise) ∙ nil_end p
-
-pub residual_later : (b e : ℕ) (p more : Pairs) → (e ≡ b → ⊥) → residual b (with_front e p ++ more) ≡ residual b more
-residual_later b e p more apart = residual-append b (with_front e p) more ∙ ap (λ x. x ++ residual b more) (residual-other b e p apart)
-
-size_of : Pairs → ℕ
-size_of pairs = size_to (suc (longest pairs)) simple_ascii pairs
-
-listed_size : {bytes : List ℕ} {pairs : Pairs} → Lists simple_ascii bytes pairs → size_of pairs ≡ length bytes
+listed_size : {kind : Kind} {bytes : List ℕ} {pairs : Pairs} → IsAscii kind → Lists kind bytes pairs → size_of kind pairs ≡ length bytes
 unfolding size_of
-listed_size {pairs = pairs} text =
-    sym (length-enc_to (suc (longest pairs)) pairs) ∙ ap length (sym (lists_enc text (suc (longest pairs)) (longest_shorter pairs (suc (longest pairs)) (omega arith))))
+listed_size {kind = kind} {pairs = pairs} ascii text =
+    let d = suc (longest pairs) in
+    sym (length-enc_to kind ascii d pairs) ∙ ap length (sym (lists_enc ascii text d (longest_shorter pairs d (omega arith))))
 
 cons_sizes : (a b : ℕ) (xs ys : List ℕ) → a ≡ b → xs ≡ ys → a ∷ xs ≡ b ∷ ys
 cons_sizes a b xs ys e f = cc
 
-each_sizes : {es : List ℕ} {targets : List (List ℕ)} {pairs : Pairs} → ListEach simple_ascii es targets pairs → (low : ℕ) (all : Pairs) → Rise low 256 es → ((b : ℕ) → low ≤ b → residual b all ≡ residual b pairs)
-    → map (λ b. size_of (residual b all)) es ≡ map length targets
-each_sizes no_edge low all rise same = refl
-each_sizes (edge {e = e} {edges = es} {target = t} {targets = ts} {pairs = p} {more = m} n text each) low all rise same =
-    cons_sizes (size_of (residual e all)) (length t) _ _
-    (ap size_of (same e rise.0 ∙ residual_first e p each rise.2) ∙ listed_size text)
-    (each_sizes each (suc e) all rise.2 (λ b h. same b (omega (arith, rise.0)) ∙ residual_later b e p m (λ s. omega arith)))
+each_sizes : {kind : Kind} {es : List ℕ} {targets : List (List ℕ)} {pairs : Pairs} → IsAscii kind → ListEach kind es targets pairs → (all : Pairs) → Rises kind es → ((b : ℕ) → member b es ≡ true → residual b all ≡ residual b pairs)
+    → map (λ b. size_of kind (residual b all)) es ≡ map length targets
+each_sizes ascii no_edge all rises same = refl
+each_sizes {kind = kind} ascii (edge {e = e} {edges = es} {target = t} {targets = ts} {pairs = p} {more = m} n text each) all rises same =
+    let out = edge_once kind e es rises.0 in
+    cons_sizes (size_of kind (residual e all)) (length t) _ _
+    (ap (size_of kind) (same e (member_head e es) ∙ residual_first e p each out) ∙ listed_size ascii text)
+    (each_sizes ascii each all rises.1 (λ b h. same b (member_later b e es h) ∙ residual_later b e p m (not_first e b es out h)))
 
 -- the bytes of the targets of a branch
-pub targets_each : {es : List ℕ} {targets : List (List ℕ)} {pairs : Pairs} → ListEach simple_ascii es targets pairs → Rise 0 256 es → targets_size simple_ascii pairs ≡ length (concat targets)
+pub targets_each : {kind : Kind} {es : List ℕ} {targets : List (List ℕ)} {pairs : Pairs} → IsAscii kind → ListEach kind es targets pairs → Rises kind es → Bytes es → targets_size kind pairs ≡ length (concat targets)
 unfolding targets_size size_of
-targets_each {targets = targets} {pairs = pairs} each rise =
-    ap (λ es. sum (map (λ b. size_to (suc (longest (residual b pairs))) simple_ascii (residual b pairs)) es)) (edges_listed each rise)
-    ∙ ap sum (each_sizes each 0 pairs rise (λ b h. refl))
+targets_each {kind = kind} {targets = targets} {pairs = pairs} ascii each rises bytes =
+    sym (sum-ordered kind (λ b. size_of kind (residual b pairs)) (edges pairs))
+    ∙ ap (λ es. sum (map (λ b. size_of kind (residual b pairs)) es)) (edges_listed ascii each rises bytes)
+    ∙ ap sum (each_sizes ascii each pairs rises (λ b h. refl))
     ∙ sym (length-concat targets)
 
+-- how many edges the pairs have
+pub edges_count : {kind : Kind} {es : List ℕ} {targets : List (List ℕ)} {pairs : Pairs} → IsAscii kind → ListEach kind es targets pairs → Rises kind es → Bytes es → length (edges pairs) ≡ length es
+edges_count {kind = kind} {pairs = pairs} ascii each rises bytes = sym (length-ordered kind (edges pairs)) ∙ ap length (edges_listed ascii each rises bytes)
+
 -- the value of the empty key is in no branch
-pub targets_value : (v : ℕ) (pairs : Pairs) → targets_size simple_ascii (([], v) ∷ pairs) ≡ targets_size simple_ascii pairs
+pub targets_value : (kind : Kind) (v : ℕ) (pairs : Pairs) → targets_size kind (([], v) ∷ pairs) ≡ targets_size kind pairs
 unfolding targets_size edges
-targets_value v pairs = refl
+targets_value kind v pairs = refl
 
 pub behind_none : (front : List ℕ) → behind_all front [] ≡ []
 behind_none [] = refl
 behind_none (b ∷ front) = behind_none front
 
 -- bytes that list pairs without the empty key do not begin with a value node
-pub no_value_first : {bytes : List ℕ} {pairs : Pairs} → Lists simple_ascii bytes pairs → FirstAbove [] pairs → NoValueFirst bytes
+pub no_value_first : {kind : Kind} {bytes : List ℕ} {pairs : Pairs} → Lists kind bytes pairs → FirstAbove [] pairs → NoValueFirst bytes
 no_value_first nothing h = tt
 no_value_first (value s n text) h = absurd (cc)
 no_value_first (literal low n text) h = λ four. omega arith
 no_value_first (branch b each) h = branch_no_value b
 
 -- a target more
-pub each_push : {es : List ℕ} {targets : List (List ℕ)} {pairs : Pairs} → ListEach simple_ascii es targets pairs → (e : ℕ) (target : List ℕ) (p : Pairs) → (target ≡ [] → ⊥) → Lists simple_ascii target p
-    → ListEach simple_ascii (es ++ e ∷ []) (targets ++ target ∷ []) (pairs ++ with_front e p)
-each_push no_edge e target p n text = subst (ListEach simple_ascii (e ∷ []) (target ∷ [])) (nil_end (with_front e p)) (edge n text no_edge)
-each_push (edge {e = f} {edges = es} {target = t} {targets = ts} {pairs = q} {more = m} n' text' each) e target p n text =
-    subst (ListEach simple_ascii (f ∷ (es ++ e ∷ [])) (t ∷ (ts ++ target ∷ []))) (sym (append_assoc (with_front f q) m (with_front e p))) (edge n' text' (each_push each e target p n text))
+pub each_push : {kind : Kind} {es : List ℕ} {targets : List (List ℕ)} {pairs : Pairs} → ListEach kind es targets pairs → (e : ℕ) (target : List ℕ) (p : Pairs) → (target ≡ [] → ⊥) → Lists kind target p
+    → ListEach kind (es ++ e ∷ []) (targets ++ target ∷ []) (pairs ++ with_front e p)
+each_push {kind = kind} no_edge e target p n text = subst (ListEach kind (e ∷ []) (target ∷ [])) (nil_end (with_front e p)) (edge n text no_edge)
+each_push {kind = kind} (edge {e = f} {edges = es} {target = t} {targets = ts} {pairs = q} {more = m} n' text' each) e target p n text =
+    subst (ListEach kind (f ∷ (es ++ e ∷ [])) (t ∷ (ts ++ target ∷ []))) (sym (append_assoc (with_front f q) m (with_front e p))) (edge n' text' (each_push each e target p n text))
 
-pub each_count : {es : List ℕ} {targets : List (List ℕ)} {pairs : Pairs} → ListEach simple_ascii es targets pairs → length targets ≡ length es
+pub each_count : {kind : Kind} {es : List ℕ} {targets : List (List ℕ)} {pairs : Pairs} → ListEach kind es targets pairs → length targets ≡ length es
 each_count no_edge = refl
 each_count (edge n text each) = ap suc (each_count each)
-
--- no pair of edges below b is behind b
-pub residual_done : {es : List ℕ} {targets : List (List ℕ)} {pairs : Pairs} → ListEach simple_ascii es targets pairs → (from low b : ℕ) → Rise from low es → low ≤ b → residual b pairs ≡ []
-residual_done no_edge from low b rise h = refl
-residual_done (edge {e = e} {pairs = p} {more = m} n text each) from low b rise h = residual_later b e p m (λ s. omega (arith, rise.1)) ∙ residual_done each (suc e) low b rise.2 h
 
 pub Rise-push : (from low b : ℕ) (es : List ℕ) → Rise from low es → from ≤ low → low ≤ b → Rise from (suc b) (es ++ b ∷ [])
 Rise-push from low b [] rise l h = (omega arith, omega arith, tt)

@@ -1,110 +1,121 @@
 -- The canonical text of a map that fits means it.
-use Rattle.std.proofs.Common.{◌≡◌, ℕ, zero, suc, ◌+◌, ◌^◌, ◌<◌, List, [], ◌∷◌, length, refl, sym, ◌∙◌, ap, subst, arith, map, Bool, true, false, eqb, cond, sum, Less, Ordering, Equal, Greater}
-use Rattle.std.specs.Prelude.{All, ◌&&◌, T}
+use Rattle.std.proofs.Common.{◌≡◌, ℕ, zero, suc, ◌+◌, ◌^◌, ◌<◌, List, [], ◌∷◌, length, refl, sym, ◌∙◌, ap, subst, arith, map, Bool, true, false, eqb, cond, sum, get_or, Option, Some, inl, inr, ◌⊎◌}
+use Rattle.std.specs.Prelude.{All, ◌==◌}
 use Rattle.std.specs.List.{concat}
-use Rattle.std.specs.Ordering.{nat_cmp, is_lt}
-use Rattle.std.specs.Cmp.Lexicographic.{slice_cmp}
-use Rattle.std.specs.FinMap.{entries, entries_sorted, same_entries_map}
-use Rattle.std.specs.FinMap.Entries.{is_sorted, below_all}
-use Rattle.zerotrie_core.specs.Kind.{simple_ascii}
-use Rattle.zerotrie_core.specs.Maps.{Pairs, Map, map_of, value_at, edges, residual, longest, Ascends, FirstAbove}
+use Rattle.std.specs.FinMap.{entries, same_map, get-entries, get-from_entries, slice_cmp-IsAntisymmetric, nat_cmp-IsAntisymmetric}
+use Rattle.std.specs.Cmp.Lexicographic.{nat_list_cmp_total}
+use Rattle.zerotrie_core.specs.Kind.{Kind, simple_ascii, IsAscii, edge_limit, same_byte, ordered}
+use Rattle.zerotrie_core.specs.Maps.{Pairs, Map, map_of, value_at, same_key, edges, residual, longest, common_front}
 use Rattle.zerotrie_core.specs.Texts.{Means}
-use Rattle.zerotrie_core.specs.Canonical.{enc, enc_to, size, size_to, node_size, value_node}
+use Rattle.zerotrie_core.specs.Canonical.{enc, enc_to, size, size_to}
 use Rattle.zerotrie_core.specs.Fits.{targets_size, Fits}
-use Rattle.zerotrie_core.specs.Encoding.{AsciiKey, AsciiKeys}
+use Rattle.zerotrie_core.specs.Encoding.{AsciiKey}
 use Rattle.zerotrie_core.proofs.CanonLaws.{Shorter, shorter_none, edges_none}
-use Rattle.zerotrie_core.proofs.EncodeLaws.{SmallValues, FitsTo, good}
-use Rattle.zerotrie_core.proofs.SizeLaws.{length-enc_to, length-concat, same_map, map_map}
-use Rattle.zerotrie_core.proofs.OrderLaws.{longest_shorter, entries-map_of}
+use Rattle.zerotrie_core.proofs.OrderedLemmas.{sum-ordered}
+use Rattle.zerotrie_core.proofs.SameLemmas.{Same, value_at-find, exact_same, longest_least, map_agree}
+use Rattle.zerotrie_core.proofs.EncodeLaws.{Sound, FitsTo, listed_enc}
+use Rattle.zerotrie_core.proofs.KindLemmas.{edge_limit_is, greatest_width_is}
+use Rattle.zerotrie_core.proofs.SizeLaws.{length-enc_to, length-concat, map_map, size_step}
+use Rattle.zerotrie_core.proofs.OrderLaws.{longest_shorter}
 use Rattle.zerotrie_core.proofs.FitsLaws.{NarrowBehind}
 
-residual_here : (d : ℕ) (c b : ℕ) (key : List ℕ) (v : ℕ) (rest : Pairs) (same : Bool) → suc (length key) < suc d → Shorter d rest → Shorter d (cond same ((key, v) ∷ rest) rest)
-residual_here d c b key v rest true h s = (omega arith, s)
-residual_here d c b key v rest false h s = s
+residual_here : (d : ℕ) (key : List ℕ) (v : ℕ) (rest : Pairs) (same : Bool) → suc (length key) < suc d → Shorter d rest → Shorter d (cond same ((key, v) ∷ rest) rest)
+residual_here d key v rest true h s = (omega arith, s)
+residual_here d key v rest false h s = s
 
 pub Shorter-residual : (d b : ℕ) (pairs : Pairs) → Shorter (suc d) pairs → Shorter d (residual b pairs)
 Shorter-residual d b [] s = tt
 Shorter-residual d b (([], v) ∷ pairs) s = Shorter-residual d b pairs s.1
-Shorter-residual d b ((c ∷ key, v) ∷ pairs) s = residual_here d c b key v (residual b pairs) (eqb c b) s.0 (Shorter-residual d b pairs s.1)
+Shorter-residual d b ((c ∷ key, v) ∷ pairs) s = residual_here d key v (residual b pairs) (eqb c b) s.0 (Shorter-residual d b pairs s.1)
 
-size_none : (d : ℕ) → size_to d simple_ascii [] ≡ 0
-size_none zero = refl
-size_none (suc d) = ap (λ es. (let sizes = map (λ b. size_to d simple_ascii (residual b [])) es in length (value_node (value_at simple_ascii [] [])) + node_size simple_ascii sizes + sum sizes)) edges_none
+size_none : (kind : Kind) (d : ℕ) → size_to d kind [] ≡ 0
+size_none kind zero = refl
+size_none kind (suc d) = size_step d kind [] [] (ap (map (λ b. size_to d kind (residual b []))) edges_none)
 
 -- the size does not depend on how much longer than the keys the bound is
-pub size_any : (d e : ℕ) (pairs : Pairs) → Shorter d pairs → Shorter e pairs → size_to d simple_ascii pairs ≡ size_to e simple_ascii pairs
-size_any zero e pairs s t = ap (size_to zero simple_ascii) (shorter_none pairs s) ∙ sym (size_none e) ∙ ap (size_to e simple_ascii) (sym (shorter_none pairs s))
-size_any (suc d) zero pairs s t = ap (size_to (suc d) simple_ascii) (shorter_none pairs t) ∙ size_none (suc d) ∙ ap (size_to zero simple_ascii) (sym (shorter_none pairs t))
-size_any (suc d) (suc e) pairs s t =
-    ap (λ sizes. length (value_node (value_at simple_ascii pairs [])) + node_size simple_ascii sizes + sum sizes)
-    (same_map (λ b. size_to d simple_ascii (residual b pairs)) (λ b. size_to e simple_ascii (residual b pairs)) (edges pairs)
-    (λ b. size_any d e (residual b pairs) (Shorter-residual d b pairs s) (Shorter-residual e b pairs t)))
+pub size_any : (kind : Kind) (d e : ℕ) (pairs : Pairs) → Shorter d pairs → Shorter e pairs → size_to d kind pairs ≡ size_to e kind pairs
+size_any kind zero e pairs s t = ap (size_to zero kind) (shorter_none pairs s) ∙ sym (size_none kind e) ∙ ap (size_to e kind) (sym (shorter_none pairs s))
+size_any kind (suc d) zero pairs s t = ap (size_to (suc d) kind) (shorter_none pairs t) ∙ size_none kind (suc d) ∙ ap (size_to zero kind) (sym (shorter_none pairs t))
+size_any kind (suc d) (suc e) pairs s t =
+    size_step d kind pairs (map (λ b. size_to e kind (residual b pairs)) (edges pairs))
+    (map_agree (λ b. size_to d kind (residual b pairs)) (λ b. size_to e kind (residual b pairs)) (edges pairs)
+    (λ b. size_any kind d e (residual b pairs) (Shorter-residual d b pairs s) (Shorter-residual e b pairs t)))
+    ∙ sym (size_step e kind pairs (map (λ b. size_to e kind (residual b pairs)) (edges pairs)) refl)
 
 -- the bytes of the canonical targets
-targets_enc : (d : ℕ) (pairs : Pairs) → Shorter (suc d) pairs → targets_size simple_ascii pairs ≡ length (concat (map (λ b. enc_to d simple_ascii (residual b pairs)) (edges pairs)))
+targets_enc : (d : ℕ) (kind : Kind) → IsAscii kind → (pairs : Pairs) → Shorter (suc d) pairs
+    → targets_size kind pairs ≡ length (concat (map (λ b. enc_to d kind (residual b pairs)) (ordered kind (edges pairs))))
 unfolding targets_size
-targets_enc d pairs s =
-    ap sum (same_map (λ b. size_to (suc (longest (residual b pairs))) simple_ascii (residual b pairs)) (λ b. length (enc_to d simple_ascii (residual b pairs))) (edges pairs)
-    (λ b. size_any (suc (longest (residual b pairs))) d (residual b pairs) (longest_shorter (residual b pairs) (suc (longest (residual b pairs))) (omega arith)) (Shorter-residual d b pairs s)
-    ∙ sym (length-enc_to d (residual b pairs))))
-    ∙ ap sum (sym (map_map (λ b. enc_to d simple_ascii (residual b pairs)) (edges pairs)))
-    ∙ sym (length-concat (map (λ b. enc_to d simple_ascii (residual b pairs)) (edges pairs)))
+targets_enc d kind is_ascii pairs s =
+    let text : ℕ → List ℕ = λ b. enc_to d kind (residual b pairs) in
+    ap sum (map_agree (λ b. size_to (suc (longest (residual b pairs))) kind (residual b pairs)) (λ b. length (text b)) (edges pairs)
+    (λ b. size_any kind (suc (longest (residual b pairs))) d (residual b pairs) (longest_shorter (residual b pairs) (suc (longest (residual b pairs))) (omega arith)) (Shorter-residual d b pairs s)
+    ∙ sym (length-enc_to kind is_ascii d (residual b pairs))))
+    ∙ sym (sum-ordered kind (λ b. length (text b)) (edges pairs))
+    ∙ ap sum (sym (map_map text (ordered kind (edges pairs))))
+    ∙ sym (length-concat (map text (ordered kind (edges pairs))))
 
-fits_to : (d : ℕ) (pairs : Pairs) → Shorter d pairs → ((front : List ℕ) → NarrowBehind front pairs) → FitsTo d pairs
-fits_to zero pairs s narrow = tt
-fits_to (suc d) pairs s narrow =
-    (λ two. subst (λ n. n < 2 ^ 32) (targets_enc d pairs s) (narrow [] two), λ b. fits_to d (residual b pairs) (Shorter-residual d b pairs s) (λ front. narrow (b ∷ front)))
-
-first_test : (a b : Bool) → T (a && b) → T a
-first_test true b h = tt
-first_test false b h = absurd h
-
-second_test : (a b : Bool) → T (a && b) → T b
-second_test true b h = h
-second_test false b h = absurd h
-
-less_by : (o : Ordering) → T (is_lt o) → o ≡ Less
-less_by Less h = refl
-less_by Equal h = absurd h
-less_by Greater h = absurd h
-
-first_above : (key : List ℕ) (pairs : Pairs) → T (below_all (slice_cmp nat_cmp) key pairs) → FirstAbove key pairs
-first_above key [] h = tt
-first_above key (e ∷ pairs) h = less_by (slice_cmp nat_cmp key e.0) (first_test (is_lt (slice_cmp nat_cmp key e.0)) (below_all (slice_cmp nat_cmp) key pairs) h)
-
-sorted_ascends : (pairs : Pairs) → T (is_sorted (slice_cmp nat_cmp) pairs) → Ascends pairs
-sorted_ascends [] h = tt
-sorted_ascends (e ∷ pairs) h = (
-  first_above e.0 pairs (first_test (below_all (slice_cmp nat_cmp) e.0 pairs) (is_sorted (slice_cmp nat_cmp) pairs) h),
-  sorted_ascends pairs (second_test (below_all (slice_cmp nat_cmp) e.0 pairs) (is_sorted (slice_cmp nat_cmp) pairs) h),
+fits_to : (d : ℕ) (kind : Kind) → IsAscii kind → (pairs : Pairs) → Shorter d pairs → ((front : List ℕ) → NarrowBehind kind front pairs) → FitsTo kind d pairs
+fits_to zero kind is_ascii pairs s narrow = tt
+fits_to (suc d) kind is_ascii pairs s narrow = (
+  λ two. subst (λ n. n < 2 ^ 32) (targets_enc d kind is_ascii pairs s) (subst (λ w. targets_size kind pairs < 256 ^ (w + 1)) (greatest_width_is kind is_ascii) (narrow [] two)),
+  λ b. fits_to d kind is_ascii (residual b pairs) (Shorter-residual d b pairs s) (λ front. narrow (b ∷ front)),
 )
 
--- the entries of a map ascend
-pub entries_ascend : (m : Map) → Ascends (entries m)
-entries_ascend m = sorted_ascends (entries m) (entries_sorted m)
+-- where a key with an answer stands
+record Found (pairs : Pairs) (key : List ℕ) (v : ℕ) : Type 0 where
+  place : ℕ
+  inside : place < length pairs
+  is : (d : List ℕ × ℕ) → get_or pairs place d ≡ (key, v)
+
+here_or_later : (same : Bool) (u v : ℕ) (x : Option ℕ) → cond same (Some u) x ≡ Some v → ((same ≡ true) × (u ≡ v)) ⊎ (x ≡ Some v)
+here_or_later true u v x h = inl (refl, cc)
+here_or_later false u v x h = inr h
+
+found : (pairs : Pairs) (key : List ℕ) (v : ℕ) → value_at simple_ascii pairs key ≡ Some v → Found pairs key v
+found [] key v h = absurd (cc)
+found ((k, u) ∷ pairs) key v h = elim (here_or_later (same_key simple_ascii k key) u v (value_at simple_ascii pairs key) h) [
+  | inl here ↦ record { place = 0; inside = omega arith; is = λ d. ap (λ x. (x, u)) (exact_same k key here.0) ∙ ap (λ n. (key, n)) here.1 }
+  | inr later ↦ let f = found pairs key v later in let inside = f.inside in record { place = suc f.place; inside = omega arith; is = f.is }
+]
 
 key_ascii : (key : List ℕ) → All (λ b. b < 128) key → AsciiKey key
 key_ascii [] h = tt
 key_ascii (b ∷ key) h = (h 0 0 (omega arith), key_ascii key (λ i d l. h (suc i) d (omega arith)))
 
-keys_ascii : (pairs : Pairs) → All (λ e. All (λ b. b < 128) e.0) pairs → AsciiKeys pairs
-keys_ascii [] h = tt
-keys_ascii (e ∷ pairs) h = (key_ascii e.0 (h 0 e (omega arith)), keys_ascii pairs (λ i d l. h (suc i) d (omega arith)))
+-- what a map that fits answers
+sound : (kind : Kind) → IsAscii kind → (m : Map) → Fits kind m → Sound kind (suc (longest (entries m))) (entries m)
+sound kind is_ascii m fits =
+    let pairs = entries m in
+    let none : List ℕ × ℕ = ([], 0) in
+    record {
+      shorter = λ key v h. (let n = longest_least pairs key v h in omega arith);
+      ascii = λ key v h. (let f = found pairs key v h in
+          let low : All (λ b. b < edge_limit kind) key = subst (λ e. All (λ b. b < edge_limit kind) e.0) (f.is none) (fits.key_bytes f.place none f.inside) in
+          key_ascii key (subst (λ n. All (λ b. b < n) key) (edge_limit_is kind is_ascii) low));
+      small = λ key v h. (let f = found pairs key v h in subst (λ e. e.1 < 2 ^ 64) (f.is none) (fits.values f.place none f.inside));
+      agree = λ k l v w h g. (let a = found pairs k v h in let b = found pairs l w g in
+          subst (λ e. common_front (same_byte kind) e.0 l ≡ common_front (λ x y. x == y) e.0 l) (a.is none)
+          (subst (λ e. common_front (same_byte kind) (get_or pairs a.place none).0 e.0 ≡ common_front (λ x y. x == y) (get_or pairs a.place none).0 e.0) (b.is none)
+          (fits.case a.place none a.inside b.place none b.inside)));
+    }
 
-values_small : (pairs : Pairs) → All (λ e. e.1 < 2 ^ 64) pairs → SmallValues pairs
-values_small [] h = tt
-values_small (e ∷ pairs) h = (h 0 e (omega arith), values_small pairs (λ i d l. h (suc i) d (omega arith)))
+-- a map is the map of a list that answers as its entries
+map_same : (m : Map) (listed : Pairs) → Same listed (entries m) → m ≡ map_of listed
+map_same m listed same =
+    same_map nat_list_cmp_total (slice_cmp-IsAntisymmetric nat_cmp-IsAntisymmetric) m (map_of listed) (λ key.
+    get-entries m key ∙ sym (value_at-find (entries m) key) ∙ sym (same key) ∙ value_at-find listed key ∙ sym (get-from_entries nat_list_cmp_total listed key))
 
-pub enc_means : (m : Map) → Fits simple_ascii m → Means simple_ascii (enc simple_ascii m) m
+pub enc_means : (kind : Kind) → IsAscii kind → (m : Map) → Fits kind m → Means kind (enc kind m) m
 unfolding enc size
-enc_means m fits =
+enc_means kind is_ascii m fits =
     let pairs = entries m in
     let d = suc (longest pairs) in
     let short = longest_shorter pairs d (omega arith) in
-    let up = entries_ascend m in
+    let text = listed_enc d kind pairs is_ascii (sound kind is_ascii m fits) (fits_to d kind is_ascii pairs short fits.narrow) in
     record {
-      short = subst (λ n. n < 2 ^ 64) (sym (length-enc_to d pairs)) fits.short;
-      pairs = pairs;
-      lists = good d pairs short up (keys_ascii pairs fits.key_bytes) (values_small pairs fits.values) (fits_to d pairs short fits.narrow);
-      is = same_entries_map m (map_of pairs) (sym (entries-map_of pairs up));
+      short = subst (λ n. n < 2 ^ 64) (sym (length-enc_to kind is_ascii d pairs)) fits.short;
+      pairs = text.listed;
+      lists = text.lists;
+      is = map_same m text.listed text.same;
     }

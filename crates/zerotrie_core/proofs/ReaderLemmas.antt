@@ -5,7 +5,7 @@ use Rattle.zerotrie_core.specs.Maps.{Pairs, value_at, same_key, with_front}
 use Rattle.zerotrie_core.specs.Numbers.{Spells, BeginsWith, extender}
 use Rattle.std.specs.List.{slice_index, concat}
 use Rattle.std.specs.List.Sorted.{IsStrictlyIncreasing}
-use Rattle.std.proofs.lemmas.Bool.{eqb-true, ne_eqb}
+use Rattle.std.proofs.lemmas.Bool.{eqb-true}
 use Rattle.std.proofs.Common.{length-append}
 use Rattle.zerotrie_core.specs.Branches.{IsBranch, IsTable, blocks, offsets}
 use Rattle.zerotrie_core.specs.Branches.IsTable.{sorted}
@@ -14,6 +14,7 @@ use Rattle.zerotrie_core.specs.Texts.Lists.{nothing, value, literal, branch}
 use Rattle.zerotrie_core.specs.Texts.ListEach.{no_edge, edge}
 use Rattle.zerotrie_core.specs.Reading.{target_of, Goes, AlwaysEnds, AlwaysGoes, BranchLeads}
 use Rattle.zerotrie_core.proofs.NumberLemmas.{read_is, pair_of}
+use Rattle.zerotrie_core.proofs.KindLemmas.{two_folds}
 
 no_target : (b : Bool) (v : List ℕ) (x : Option (List ℕ)) → cond b (Some v) x ≡ None → (b ≡ false) × (x ≡ None)
 no_target true v x e = absurd (cc)
@@ -32,7 +33,7 @@ pub value_at-no_key : (kind : Kind) (b : ℕ) (pairs : Pairs) → value_at kind 
 value_at-no_key kind b [] = refl
 value_at-no_key kind b (e ∷ pairs) = value_at-no_key kind b pairs
 
-chosen_none : (b : Bool) (v : ℕ) (x : Option ℕ) → cond b (Some v) x ≡ None → (b ≡ false) × (x ≡ None)
+pub chosen_none : (b : Bool) (v : ℕ) (x : Option ℕ) → cond b (Some v) x ≡ None → (b ≡ false) × (x ≡ None)
 chosen_none true v x e = absurd (cc)
 chosen_none false v x e = (refl, e)
 
@@ -278,7 +279,7 @@ abbrev pub Rises : Kind → List ℕ → Type 0
 Rises kind [] = Unit {0}
 Rises kind (e ∷ edges) = AllAbove kind (fold_byte kind e) edges × Rises kind edges
 
-AllAbove-lower : (kind : Kind) (x y : ℕ) (edges : List ℕ) → x < y → AllAbove kind y edges → AllAbove kind x edges
+pub AllAbove-lower : (kind : Kind) (x y : ℕ) (edges : List ℕ) → x < y → AllAbove kind y edges → AllAbove kind x edges
 AllAbove-lower kind x y [] h a = tt
 AllAbove-lower kind x y (e ∷ edges) h a = (omega arith, AllAbove-lower kind x y edges h a.1)
 
@@ -302,13 +303,10 @@ increasing_rises kind (e ∷ edges) up =
 pub table_rises : {kind : Kind} {edges table : List ℕ} → IsTable kind edges table → Rises kind edges
 table_rises (sorted h up) = increasing_rises _ _ up
 
-apart : (kind : Kind) (e c : ℕ) → (fold_byte kind e ≡ fold_byte kind c → ⊥) → same_byte kind e c ≡ false
-apart kind e c h = ne_eqb (fold_byte kind e) (fold_byte kind c) h
-
 target_of-above : (kind : Kind) (c : ℕ) (edges : List ℕ) (targets : List (List ℕ)) → AllAbove kind (fold_byte kind c) edges → target_of kind c edges targets ≡ None
 target_of-above kind c [] targets a = refl
 target_of-above kind c (e ∷ edges) [] a = refl
-target_of-above kind c (e ∷ edges) (t ∷ targets) a = rw (apart kind e c (λ is. omega (arith, a.0))) (target_of-above kind c edges targets a.1)
+target_of-above kind c (e ∷ edges) (t ∷ targets) a = rw (two_folds kind e c (λ is. omega (arith, a.0))) (target_of-above kind c edges targets a.1)
 
 -- where a look-up goes on behind a branch
 record Behind {kind : Kind} {edges : List ℕ} {targets : List (List ℕ)} {pairs : Pairs} (each : ListEach kind edges targets pairs) (c : ℕ) (key target : List ℕ) : Type 0 where

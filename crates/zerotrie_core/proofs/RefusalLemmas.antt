@@ -8,10 +8,10 @@ use Rattle.std.specs.Cmp.Lexicographic.{slice_cmp, nat_list_cmp_total}
 use Rattle.std.proofs.lemmas.Bool.{cases_lt, lt-ltb, le-ltb}
 use Rattle.std.proofs.lemmas.List.Elements.{All-contains}
 use Rattle.zerotrie_core.specs.Kind.{simple_ascii}
-use Rattle.zerotrie_core.specs.Maps.{Pairs, map_of, edges, behind_all, Ascends, FirstAbove, RepeatsKey}
+use Rattle.zerotrie_core.specs.Maps.{Pairs, map_of, Ascends, FirstAbove, RepeatsKey}
 use Rattle.zerotrie_core.specs.Items.{Items, pairs_of}
 use Rattle.zerotrie_core.specs.Texts.{Lists, Means}
-use Rattle.zerotrie_core.specs.Fits.{targets_size, ExceedsCapacity}
+use Rattle.zerotrie_core.specs.Fits.{OverflowsAt, ExceedsCapacity}
 use Rattle.zerotrie_core.specs.Causes.{Cause}
 use Rattle.zerotrie_core.specs.Encoding.{pairs_from, AsciiKey, AsciiKeys, Deep, TooWide, IsRefusal, Writes}
 use Rattle.zerotrie_core.specs.declared.error.ZeroTrieBuildError.{ZeroTrieBuildError}
@@ -86,9 +86,7 @@ ascends_apart (e ∷ pairs) up again =
     ]
 
 too_wide_exceeds : (pairs : Pairs) → Ascends pairs → TooWide pairs → ExceedsCapacity simple_ascii (map_of pairs)
-too_wide_exceeds pairs up w =
-    let e = sym (entries-map_of pairs up) in
-    inr (w.front, subst (λ p. 2 ≤ length (edges (behind_all w.front p))) e w.two, subst (λ p. 2 ^ 32 ≤ targets_size simple_ascii (behind_all w.front p)) e w.wide)
+too_wide_exceeds pairs up w = inr (w.0, subst (OverflowsAt simple_ascii w.0) (sym (entries-map_of pairs up)) w.1)
 
 -- a refusal of pairs that ascend has its cause
 pub refusal_cause : (pairs : Pairs) (e : ZeroTrieBuildError) → Ascends pairs → IsRefusal pairs e → e ≢ OutOfMemory → Cause simple_ascii pairs e

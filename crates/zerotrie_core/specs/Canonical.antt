@@ -3,7 +3,7 @@ use Rattle.std.proofs.Common.{zero, suc}
 use Rattle.std.specs.Prelude.{ℕ, ◌+◌, ◌-◌, ◌*◌, ◌/◌, ◌%◌, List, [], ◌∷◌, ◌++◌, length, map, if◌then◌else◌, nat_lt, Option, Some, None, sum}
 use Rattle.std.specs.List.{concat}
 use Rattle.std.specs.FinMap.{entries}
-use Rattle.zerotrie_core.specs.Kind.{Kind, simple_ascii, ordered}
+use Rattle.zerotrie_core.specs.Kind.{Kind, simple_ascii, ignore_case, ordered}
 use Rattle.zerotrie_core.specs.Numbers.{spelled}
 use Rattle.zerotrie_core.specs.Maps.{Pairs, Map, value_at, edges, residual, longest}
 use Rattle.zerotrie_core.specs.Branches.{blocks, offsets}
@@ -46,6 +46,8 @@ enc kind m = enc_to (suc (longest (entries m))) kind (entries m)
 abbrev pub branch_size : Kind → List ℕ → ℕ
 branch_size simple_ascii sizes = let w = width (sum sizes) in
     length (spelled 32 3 (256 * w + length sizes % 256)) + length sizes + (w + 1) * (length sizes - 1)
+branch_size ignore_case sizes = let w = width (sum sizes) in
+    length (spelled 32 3 (256 * w + length sizes % 256)) + length sizes + (w + 1) * (length sizes - 1)
 
 -- the bytes before the targets, whose lengths are these, where each stands behind one byte
 abbrev pub node_size : Kind → List ℕ → ℕ
@@ -58,6 +60,8 @@ abbrev pub size_to : ℕ → Kind → Pairs → ℕ
 size_to zero kind pairs = 0
 size_to (suc d) simple_ascii pairs = let sizes = map (λ b. size_to d simple_ascii (residual b pairs)) (edges pairs) in
     length (value_node (value_at simple_ascii pairs [])) + node_size simple_ascii sizes + sum sizes
+size_to (suc d) ignore_case pairs = let sizes = map (λ b. size_to d ignore_case (residual b pairs)) (edges pairs) in
+    length (value_node (value_at ignore_case pairs [])) + node_size ignore_case sizes + sum sizes
 
 -- the length of the texts of a map
 unfoldable pub size : Kind → Map → ℕ

@@ -1,11 +1,11 @@
 -- What the parts of the plain encoder do.
-use Rattle.std.specs.Prelude.{◌≡◌, ◌≢◌, ℕ, ◌+◌, ◌*◌, ◌%◌, ◌^◌, ◌<◌, ◌≤◌, ◌⊎◌, List, [], ◌∷◌, ◌++◌, length, map, drop, slice_index}
+use Rattle.std.specs.Prelude.{◌≡◌, ◌≢◌, ℕ, ◌+◌, ◌*◌, ◌%◌, ◌<◌, ◌≤◌, ◌⊎◌, List, [], ◌∷◌, ◌++◌, length, map, drop, slice_index}
 use Rattle.zerotrie_core.specs.Kind.{simple_ascii}
 use Rattle.zerotrie_core.specs.Numbers.{Spells}
-use Rattle.zerotrie_core.specs.Maps.{Pairs, with_front, edges, behind_all, Ascends}
+use Rattle.zerotrie_core.specs.Maps.{Pairs, with_front, Ascends}
 use Rattle.zerotrie_core.specs.Branches.{IsWidth, blocks}
 use Rattle.zerotrie_core.specs.Texts.{Lists}
-use Rattle.zerotrie_core.specs.Fits.{targets_size}
+use Rattle.zerotrie_core.specs.Fits.{OverflowsAt}
 use Rattle.zerotrie_core.specs.Items.{Items}
 use Rattle.zerotrie_core.specs.declared.error.ZeroTrieBuildError.{ZeroTrieBuildError}
 use Rattle.zerotrie_core.specs.declared.error.ZeroTrieBuildError.TheVariants.{CapacityExceeded, OutOfMemory}
@@ -49,10 +49,8 @@ abbrev pub IsBranching : Pairs → Type 0
 IsBranching pairs = (b : ℕ) (behind : Pairs) → pairs ≢ with_front b behind
 
 -- some branch that the pairs need has more target bytes than an offset reaches
-pub record TooWide (pairs : Pairs) : Type 0 where
-  pub front : List ℕ
-  pub two : 2 ≤ length (edges (behind_all front pairs))
-  pub wide : 2 ^ 32 ≤ targets_size simple_ascii (behind_all front pairs)
+abbrev pub TooWide : Pairs → Type 0
+TooWide pairs = (front : List ℕ) × OverflowsAt simple_ascii front pairs
 
 -- why the pairs are refused
 abbrev pub IsRefusal : Pairs → ZeroTrieBuildError → Type 0

@@ -20,8 +20,11 @@ pub record Fits (kind : Kind) (m : Map) : Type 0 where
       → targets_size kind (behind_all front (entries m)) < 256 ^ (greatest_width kind + 1)
   pub short : size kind m < 2 ^ 64
 
+-- the pairs need a branch behind these bytes whose targets no offset of the kind reaches
+abbrev pub OverflowsAt : Kind → List ℕ → Pairs → Type 0
+OverflowsAt kind front pairs = (2 ≤ length (edges (behind_all front pairs)))
+    × (256 ^ (greatest_width kind + 1) ≤ targets_size kind (behind_all front pairs))
+
 -- a text of the map would have 2 ^ 64 bytes or more, or a branch more target bytes than an offset of the kind reaches
 abbrev pub ExceedsCapacity : Kind → Map → Type 0
-ExceedsCapacity kind m = (2 ^ 64 ≤ size kind m)
-    ⊎ ((front : List ℕ) × (2 ≤ length (edges (behind_all front (entries m))))
-    × (256 ^ (greatest_width kind + 1) ≤ targets_size kind (behind_all front (entries m))))
+ExceedsCapacity kind m = (2 ^ 64 ≤ size kind m) ⊎ ((front : List ℕ) × OverflowsAt kind front (entries m))

@@ -7,6 +7,7 @@ pub mod Texts
 pub mod Canonical
 pub mod Fits
 pub mod Causes
+pub mod Built
 pub mod Items
 pub mod Encoding
 pub mod Reading

@@ -1,7 +1,7 @@
 -- What one step of a look-up does.
 use Rattle.std.proofs.Common.{zero, suc}
 use Rattle.std.specs.Prelude.{◌*◌, ◌^◌, ◌<◌, ◌++◌, length, slice_index, drop, ◌≡◌, ℕ, ◌+◌, List, [], ◌∷◌, Option, Some, None, if◌then◌else◌}
-use Rattle.zerotrie_core.specs.Kind.{Kind, same_byte}
+use Rattle.zerotrie_core.specs.Kind.{Kind, same_byte, fold_byte}
 use Rattle.zerotrie_core.specs.Maps.{Pairs, value_at}
 use Rattle.zerotrie_core.specs.Branches.{IsBranch, blocks, offsets}
 use Rattle.std.specs.List.{concat}
@@ -47,6 +47,6 @@ pub record IsTargets (targets : List (List ℕ)) (edges w : ℕ) (bytes : List �
   pub enough : length (concat targets) < 256 ^ w
   pub bytes_are : bytes ≡ blocks w (offsets targets) ++ concat targets
 
--- each number is below all later ones
-abbrev pub AlwaysRises : List ℕ → Type 0
-AlwaysRises xs = (i j : ℕ) → i < j → j < length xs → slice_index xs i < slice_index xs j
+-- each byte is by its fold below all later ones
+abbrev pub AlwaysRises : Kind → List ℕ → Type 0
+AlwaysRises kind xs = (i j : ℕ) → i < j → j < length xs → fold_byte kind (slice_index xs i) < fold_byte kind (slice_index xs j)

@@ -2,7 +2,7 @@
 //!
 //! Each function does nothing: calling one brings its law into a proof.
 
-ghost use Rattle.zerotrie_core.specs.Kind.{simple_ascii};
+ghost use Rattle.zerotrie_core.specs.Kind.{Kind, IsAscii};
 ghost use Rattle.zerotrie_core.specs.Laws.{EachIsSpelled, OneSpelling, MetadataAlone, NoneLonger, OneMeaning, CanonicalMeans, MeansCanonical, MeansFits, LengthIsSize, FewNodes};
 
 /// Numbers below 2^64 have exactly one spelling in each form. Other metadata changes these bits alone, and
@@ -19,16 +19,16 @@ pub fn one_meaning()
     ensures { OneMeaning }
 {}
 
-/// Bytes mean a map exactly if the map fits and they are its canonical text.
+/// Bytes of an ASCII kind mean a map exactly if the map fits and they are its canonical text.
 pub fn canonical_exactly()
-    ensures means { CanonicalMeans simple_ascii }
-    ensures text { MeansCanonical simple_ascii }
-    ensures fits { MeansFits simple_ascii }
+    ensures means { (kind : Kind) → IsAscii kind → CanonicalMeans kind }
+    ensures text { (kind : Kind) → IsAscii kind → MeansCanonical kind }
+    ensures fits { (kind : Kind) → IsAscii kind → MeansFits kind }
 {}
 
-/// Bytes that mean a map have its size.
+/// Bytes that mean a map of a kind have its size.
 pub fn length_is_size()
-    ensures { LengthIsSize simple_ascii }
+    ensures { (kind : Kind) → LengthIsSize kind }
 {}
 
 /// A look-up of a key of n bytes reads at most 2n + 1 nodes.

@@ -12,7 +12,7 @@ mod varint;
 
 pub use byte_phf::{PerfectByteHashMap, PerfectByteHashMapCacheOwned, are_distinct, f1, f2};
 pub use error::ZeroTrieBuildError;
-pub use options::{Simple, ZeroTrieBuilderOptions, ZeroTrieWithOptions};
+pub use options::{Ignore, Simple, ZeroTrieBuilderOptions, ZeroTrieWithOptions};
 pub use plain::plain_encode;
 pub use reader::get_counted;
 pub use store::{ConvertStore, TrieKey, TrieStore};

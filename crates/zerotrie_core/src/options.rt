@@ -1,8 +1,8 @@
 //! The kinds of trie, as types.
 
-ghost use Rattle.std.specs.Prelude.{◌≡◌, ℕ, ◌+◌, ◌*◌, ◌⊎◌, Bool, false, refl, cond};
-ghost use Rattle.std.proofs.Common.{inl};
-ghost use Rattle.zerotrie_core.specs.Kind.{Kind, Flags, simple_ascii, tag, flags};
+ghost use Rattle.std.specs.Prelude.{◌≡◌, ℕ, ◌+◌, ◌*◌, ◌⊎◌, Bool, true, false, refl, cond};
+ghost use Rattle.std.proofs.Common.{inl, inr};
+ghost use Rattle.zerotrie_core.specs.Kind.{Kind, Flags, simple_ascii, ignore_case, tag, flags};
 ghost use Rattle.zerotrie_core.specs.Options.{IsTag};
 
 use std::marker::Model;
@@ -43,6 +43,7 @@ pub trait ZeroTrieWithOptions {
 }
 
 /// The options of tries over ASCII keys whose branches have sorted tables.
+#[derive(Clone, Copy, Debug, PartialEq, Eq)]
 pub struct Simple;
 
 impl ZeroTrieWithOptions for Simple {
@@ -73,6 +74,40 @@ impl ZeroTrieWithOptions for Simple {
     ghost tag_is = { refl };
 
     ghost lawful = { (refl, inl refl) };
+}
+
+/// The options of tries over ASCII keys that are looked up without their case.
+#[derive(Clone, Copy, Debug, PartialEq, Eq)]
+pub struct Ignore;
+
+impl ZeroTrieWithOptions for Ignore {
+    const USE_PHF: bool = false;
+
+    const SPANS: bool = false;
+
+    const EXTENDED: bool = false;
+
+    const IGNORE_CASE: bool = true;
+
+    const TAG: u8 = 8;
+
+    ghost USE_PHF = { false };
+
+    ghost SPANS = { false };
+
+    ghost EXTENDED = { false };
+
+    ghost IGNORE_CASE = { true };
+
+    ghost TAG = { 8 };
+
+    ghost kind = { ignore_case };
+
+    ghost flags_are = { refl };
+
+    ghost tag_is = { refl };
+
+    ghost lawful = { (refl, inr (inr (inr refl))) };
 }
 
 /// The constants of a kind of trie, as a value.

@@ -2,7 +2,7 @@
 use Rattle.std.proofs.Common.{◌≡◌, ℕ, List, [], ◌∷◌, ◌++◌, refl, sym, ◌∙◌, ap, subst, arith}
 use Rattle.std.specs.Borrow.{Bor}
 use Rattle.std.proofs.lemmas.List.{map-append, append-nil}
-use Rattle.zerotrie.specs.Kind.{Kind, simple_ascii}
+use Rattle.zerotrie.specs.Kind.{Kind}
 use Rattle.zerotrie.specs.Items.{Items, pairs_of}
 use Rattle.zerotrie.specs.Maps.{Pairs, map_of, look, RepeatsKey}
 use Rattle.zerotrie.specs.Texts.{Means}
@@ -11,11 +11,11 @@ use Rattle.zerotrie.specs.declared.ZeroTrieBuildError.{ZeroTrieBuildError}
 use Rattle.std.proofs.Common.{Option, Some}
 use Rattle.zerotrie_tool.specs.Replies.{ok_line, refused_line, number_line}
 use Rattle.zerotrie_tool.specs.declared.command.Choice.{Choice}
-use Rattle.zerotrie_tool.specs.declared.command.Choice.TheVariants.{Simple}
 use Rattle.zerotrie_tool.specs.declared.answer.Session.{Session}
 use Rattle.zerotrie_tool.specs.Commands.{kind_of, choose, add, build, query}
 use Rattle.zerotrie_tool.specs.Answers.{State, MayRefuse}
 use Rattle.zerotrie_tool.specs.Answers.Does.{chosen, added, ok, refused, asked}
+use Rattle.zerotrie_tool.specs.Tries.{IsTrie, choice_of, bytes_of}
 use Rattle.zerotrie_tool.specs.Sessions.{Holds, Performed}
 
 -- no bytes mean the map of no pairs
@@ -27,27 +27,23 @@ pub one_more : (items : Items) (pairs : Pairs) (key : Bor (List ℕ)) (value : �
 one_more items pairs key value e =
     map-append {B = List ℕ × ℕ} (λ e. (e.0.now, e.1)) items ((key, value) ∷ []) ∙ ap (λ ps. ps ++ (key.now, value) ∷ []) e
 
-pub kind_of-is : (choice : Choice) → kind_of choice ≡ simple_ascii
-kind_of-is Simple = refl
-
 -- A build that was refused leaves the session without a trie.
-pub after_refusal : (session after : Session) (s : State) → Holds session s → after.choice ≡ session.choice → after.pairs.items ≡ session.pairs.items → after.trie.store.items ≡ [] → Holds after (record s { built = [] })
-after_refusal session after s h choice pairs none = record {
-  choice = choice ∙ h.choice;
+pub after_refusal : (session after : Session) (s : State) → Holds session s → after.pairs.items ≡ session.pairs.items → IsTrie after.trie (choice_of session.trie) [] → Holds after (record s { built = [] })
+after_refusal session after s h pairs none = record {
   pairs = ap pairs_of pairs ∙ h.pairs;
-  trie = no_trie_means (kind_of s.choice) after.trie.store.items none;
+  trie = subst (λ choice. IsTrie after.trie choice []) h.trie.choice_is none;
 }
 
-pub refused_state : (session : Session) (s : State) (e : ZeroTrieBuildError) → Holds session s → MayRefuse (kind_of session.choice) (pairs_of session.pairs.items) e → MayRefuse (kind_of s.choice) s.pairs e
+pub refused_state : (session : Session) (s : State) (e : ZeroTrieBuildError) → Holds session s → MayRefuse (kind_of (choice_of session.trie)) (pairs_of session.pairs.items) e → MayRefuse (kind_of s.choice) s.pairs e
 refused_state session s e h refuses =
     subst (λ pairs. MayRefuse (kind_of s.choice) pairs e) h.pairs
-    (subst (λ choice. MayRefuse (kind_of choice) (pairs_of session.pairs.items) e) h.choice refuses)
+    (subst (λ choice. MayRefuse (kind_of choice) (pairs_of session.pairs.items) e) h.trie.choice_is refuses)
 
-pub performed_ok : (after : Session) (s : State) (old new text : List ℕ) → (RepeatsKey s.pairs → ⊥) → Holds after (record s { built = s.pairs }) → text ≡ after.trie.store.items → new ≡ old ++ ok_line text → Performed build (Some s) (Some after) old new 0
+pub performed_ok : (after : Session) (s : State) (old new text : List ℕ) → (RepeatsKey s.pairs → ⊥) → Holds after (record s { built = s.pairs }) → text ≡ bytes_of after.trie → new ≡ old ++ ok_line text → Performed build (Some s) (Some after) old new 0
 performed_ok after s old new text distinct h e output = record {
   printed = ok_line text;
   state = Some (record s { built = s.pairs });
-  does = ok distinct (subst (λ t. Means (kind_of s.choice) t (map_of s.pairs)) (sym e) h.trie);
+  does = ok distinct (subst (λ t. Means (kind_of s.choice) t (map_of s.pairs)) (sym e) h.trie.means);
   holds = h;
   output = output;
 }

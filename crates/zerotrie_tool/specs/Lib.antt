@@ -4,4 +4,5 @@ pub mod Commands
 pub mod Replies
 pub mod Answers
 pub mod Parsing
+pub mod Tries
 pub mod Sessions

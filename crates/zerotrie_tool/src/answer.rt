@@ -1,22 +1,21 @@
 //! The answers to an input.
 
-ghost use Rattle.std.specs.Prelude.{◌≡◌, ◌++◌, ◌∷◌, [], ℕ, Option, Some, map, OnOk, IfOk, IfErr, string_bytes};
-ghost use Rattle.zerotrie.specs.Items.{pairs_of};
-ghost use Rattle.zerotrie.specs.Maps.{RepeatsKey, look, map_of};
-ghost use Rattle.zerotrie.specs.Texts.{Means};
+ghost use Rattle.std.specs.Prelude.{◌≡◌, ◌++◌, ◌∷◌, [], map, OnOk, IfOk, IfErr, string_bytes};
+ghost use Rattle.zerotrie.specs.Maps.{RepeatsKey};
 ghost use Rattle.zerotrie_tool.specs.Lines.{lines_of};
 ghost use Rattle.zerotrie_tool.specs.Commands.{kind_of, build};
 ghost use Rattle.zerotrie_tool.specs.Parsing.{meaning};
 ghost use Rattle.zerotrie_tool.specs.Answers.{Answers, State, MayRefuse};
-ghost use Rattle.zerotrie_tool.specs.Sessions.{Holds, HoldsSome, AfterLine, AfterRequest};
+ghost use Rattle.zerotrie_tool.specs.Sessions.{Holds, AfterLine, AfterRequest};
 
 use crate::command::{Choice, Request, parse};
 use crate::reply::{write_bad, write_number, write_ok, write_refused};
+use crate::trie::Trie;
 use std::alloc::{AllocError, Global};
-use zerotrie::{ZeroTrieBuildError, ZeroTrieSimpleAscii};
+use zerotrie::ZeroTrieBuildError;
 
 /// What is printed for an input, and the status that the run ends with.
-#[derive(Drop)]
+#[derive(Debug, Drop)]
 pub struct Answered {
     pub output: String,
     pub status: u8,
@@ -29,27 +28,12 @@ enum Outcome {
     Bad,
 }
 
-/// What is held from the first `kind` line on. The pairs are those since the last, in order.
+/// What is held from the first `kind` line on. The pairs are those since the last, in order, and the trie is
+/// of its choice.
 #[derive(Drop)]
 struct Session<'a> {
-    choice: Choice,
     pairs: Vec<(&'a [u8], usize)>,
-    trie: ZeroTrieSimpleAscii<Vec<u8>>,
-}
-
-/// The trie of the pairs.
-fn encode(
-    alloc: Global,
-    choice: Choice,
-    pairs: &[(&[u8], usize)],
-) -> Result<ZeroTrieSimpleAscii<Vec<u8>>, ZeroTrieBuildError>
-    ensures distinct { OnOk result (RepeatsKey (pairs_of pairs.now) → ⊥) }
-    ensures means { IfOk result (λ trie. Means (kind_of choice) trie.store.items (map_of (pairs_of pairs.now))) }
-    ensures refused { IfErr result (MayRefuse (kind_of choice) (pairs_of pairs.now)) }
-{
-    match choice {
-        Choice::Simple => ZeroTrieSimpleAscii::try_from_iter(alloc, pairs.iter().copied()),
-    }
+    trie: Trie,
 }
 
 impl<'a> Session<'a> {
@@ -57,9 +41,8 @@ impl<'a> Session<'a> {
         ensures { Holds result (record { choice = choice; pairs = []; built = [] }) }
     {
         Session {
-            choice,
             pairs: Vec::new(alloc),
-            trie: ZeroTrieSimpleAscii::from_store(Vec::new(alloc)),
+            trie: Trie::empty(alloc, choice),
         }
     }
 
@@ -77,17 +60,10 @@ impl<'a> Session<'a> {
         ensures cause { IfErr result (λ error. (s : State) → Holds self.old s → MayRefuse (kind_of s.choice) s.pairs error) }
         ensures empty { IfErr result (λ error. (s : State) → Holds self.old s → Holds self.new (record s { built = [] })) }
     {
-        self.trie = ZeroTrieSimpleAscii::from_store(Vec::new(alloc));
-        self.trie = encode(alloc, self.choice, self.pairs.as_slice())?;
+        let choice = self.trie.choice();
+        self.trie = Trie::empty(alloc, choice);
+        self.trie = Trie::build(alloc, choice, self.pairs.as_slice())?;
         Ok(())
-    }
-
-    fn get(&self, key: &[u8]) -> Option<usize>
-        ensures { (s : State) → Holds self.now s → result ≡ look (kind_of s.choice) (map_of s.built) key.now }
-    {
-        match self.choice {
-            Choice::Simple => self.trie.get(key),
-        }
     }
 
     fn answer_build(&mut self, alloc: Global, output: &mut String) -> Result<Outcome, AllocError>
@@ -117,7 +93,7 @@ impl<'a> Session<'a> {
             Request::Kind(choice) => *self = Session::new(alloc, choice),
             Request::Add { value, key } => self.add(value, key)?,
             Request::Build => return self.answer_build(alloc, output),
-            Request::Query(key) => write_number(output, self.get(key))?,
+            Request::Query(key) => write_number(output, self.trie.get(key))?,
         }
         Ok(Outcome::Done)
     }

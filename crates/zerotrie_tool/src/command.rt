@@ -9,7 +9,10 @@ ghost use Rattle.zerotrie_tool.specs.Parsing.{meaning};
 /// A kind of trie, as a `kind` line names it.
 #[derive(Clone, Copy, PartialEq, Eq, Debug)]
 pub enum Choice {
+    /// `simple`: keys are ASCII.
     Simple,
+    /// `ignore`: keys are ASCII and are looked up without the case of letters.
+    Ignore,
 }
 
 /// What a line asks for.
@@ -77,6 +80,8 @@ fn parse_choice(line: &[u8]) -> Option<Choice>
     let name = line.strip_prefix(b"kind ")?;
     if name == b"simple".as_slice() {
         Some(Choice::Simple)
+    } else if name == b"ignore".as_slice() {
+        Some(Choice::Ignore)
     } else {
         None
     }

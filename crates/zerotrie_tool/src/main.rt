@@ -8,6 +8,7 @@ mod reply;
 mod run;
 #[cfg(test)]
 mod tests;
+mod trie;
 
 use noted::Noted;
 use run::{RunError, run};

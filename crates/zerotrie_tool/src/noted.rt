@@ -14,7 +14,7 @@ use std::io::{Read, Write};
 /// let count = reader.read(&mut buffer);   // as stdin's own
 /// reader.failed()                         // whether some call failed so far
 /// ```
-#[derive(Drop)]
+#[derive(Debug, Drop)]
 pub struct Noted<T> {
     pub inner: T,
     pub failed: bool,

@@ -56,7 +56,7 @@ fn read_all<R: Read>(alloc: Global, reader: &mut Noted<R>) -> Result<Vec<u8>, Ru
 /// Reads all input, forms all answers, and then writes them. It answers the status to end with.
 ///
 /// ```text
-/// kind simple     chooses a kind of trie, without pairs
+/// kind simple     chooses a kind of trie, simple or ignore, without pairs
 /// + 22 ad         adds a pair
 /// build           prints ok 4 61649006, the number of bytes and the bytes
 /// ? ad            prints 22

@@ -24,7 +24,7 @@ fn runs<H: AllocGlobal + Abort>(
 
 #[test]
 fn builds_and_look_ups(rt: HostRuntime) -> Result<(), Fail> {
-    let rows: [(&[u8], &[u8], u8); 10] = [
+    let rows: [(&[u8], &[u8], u8); 13] = [
         (b"", b"", 0),
         (
             b"kind simple\n+ 11\n+ 22 ad\n+ 33 adef\n+ 44 adghk\nbuild\n? ad\n? unknown\n",
@@ -67,6 +67,24 @@ fn builds_and_look_ups(rt: HostRuntime) -> Result<(), Fail> {
             b"refused NonAsciiError\nnone\nok 0 -\n",
             1,
         ),
+        // Keys without case: by lower case l stands before t, by bytes behind T.
+        (
+            b"kind ignore\n+ 1 Content-Type\n+ 2 Content-length\nbuild\n? content-type\n? CONTENT-LENGTH\n",
+            b"ok 22 436f6e74656e742dc26c5406656e6774688279706581\n1\n2\n",
+            0,
+        ),
+        // Two keys agree in front up to case and not exactly.
+        (
+            b"kind ignore\n+ 1 ab\n+ 2 Ac\nbuild\n? ab\n",
+            b"refused MixedCase\nnone\n",
+            1,
+        ),
+        // A new choice changes the kind.
+        (
+            b"kind ignore\n+ 1 a\nbuild\n? A\nkind simple\n+ 1 ab\n+ 2 Ac\nbuild\n? ab\n? AB\n",
+            b"ok 2 6181\n1\nok 8 c241610263826281\n1\nnone\n",
+            0,
+        ),
         // A bad line counts for more than a refusal, and stops the run.
         (
             b"kind simple\n+ 1\n+ 1\nbuild\nlist\nbuild\n",
@@ -83,13 +101,14 @@ fn builds_and_look_ups(rt: HostRuntime) -> Result<(), Fail> {
 /// Lines that are no command, each as the second of an input.
 #[test]
 fn bad_lines(rt: HostRuntime) -> Result<(), Fail> {
-    let lines: [&[u8]; 24] = [
+    let lines: [&[u8]; 25] = [
         b"kind",
         b"kind ",
         b"kind  simple",
         b" kind simple",
         b"kind simple ",
         b"KIND simple",
+        b"kind Ignore",
         b"kind hash",
         b"+",
         b"+ ",

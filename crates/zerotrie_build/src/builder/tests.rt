@@ -1,29 +1,47 @@
+ghost use Rattle.zerotrie_core.specs.Kind.{IsAscii};
+
 use super::*;
 use std::collections::VecDeque;
 use std::test::Fail;
-use zerotrie_core::Simple;
+use zerotrie_core::{Ignore, Simple, ZeroTrieWithOptions};
 
 type Builder = ZeroTrieBuilder<VecDeque<u8>>;
 
-/// The text by the slice route.
-fn by_slice(alloc: Global, items: &[(&[u8], usize)]) -> Result<Vec<u8>, ZeroTrieBuildError> {
-    let items = ByteSliceWithIndices::from_byte_slice(items);
-    let options = ZeroTrieBuilderOptions::of::<Simple>();
+/// The text of sorted items.
+fn text_of<K: ZeroTrieWithOptions>(
+    alloc: Global,
+    items: ByteSliceWithIndices<'_>,
+) -> Result<Vec<u8>, ZeroTrieBuildError>
+    requires { IsAscii K.kind }
+{
+    let options = ZeroTrieBuilderOptions::of::<K>();
     let builder: Builder = ZeroTrieBuilder::from_sorted_tuple_slice(alloc, items, options)?;
     Ok(builder.to_bytes(alloc)?)
+}
+
+/// The text by the slice route.
+fn by_slice<K: ZeroTrieWithOptions>(
+    alloc: Global,
+    items: &[(&[u8], usize)],
+) -> Result<Vec<u8>, ZeroTrieBuildError>
+    requires { IsAscii K.kind }
+{
+    text_of::<K>(alloc, ByteSliceWithIndices::from_byte_slice(items))
 }
 
 /// The text by the route of text keys.
 fn by_text(alloc: Global, items: &[(&str, usize)]) -> Result<Vec<u8>, ZeroTrieBuildError> {
-    let items = ByteSliceWithIndices::from_str_slice(items);
-    let options = ZeroTrieBuilderOptions::of::<Simple>();
-    let builder: Builder = ZeroTrieBuilder::from_sorted_tuple_slice(alloc, items, options)?;
-    Ok(builder.to_bytes(alloc)?)
+    text_of::<Simple>(alloc, ByteSliceWithIndices::from_str_slice(items))
 }
 
 /// The text by the iterator route.
-fn by_iter(alloc: Global, items: &[(&[u8], usize)]) -> Result<Vec<u8>, ZeroTrieBuildError> {
-    let options = ZeroTrieBuilderOptions::of::<Simple>();
+fn by_iter<K: ZeroTrieWithOptions>(
+    alloc: Global,
+    items: &[(&[u8], usize)],
+) -> Result<Vec<u8>, ZeroTrieBuildError>
+    requires { IsAscii K.kind }
+{
+    let options = ZeroTrieBuilderOptions::of::<K>();
     let builder: Builder = ZeroTrieBuilder::from_bytes_iter(alloc, items.iter().copied(), options)?;
     Ok(builder.to_bytes(alloc)?)
 }
@@ -82,8 +100,8 @@ fn texts_of_the_format(rt: HostRuntime) -> Result<(), Fail> {
         ),
     ];
     for (items, bytes) in rows {
-        assert_eq!(rt; by_slice(rt.alloc(), items)?.as_slice(), bytes);
-        assert_eq!(rt; by_iter(rt.alloc(), items)?.as_slice(), bytes);
+        assert_eq!(rt; by_slice::<Simple>(rt.alloc(), items)?.as_slice(), bytes);
+        assert_eq!(rt; by_iter::<Simple>(rt.alloc(), items)?.as_slice(), bytes);
     }
     Ok(())
 }
@@ -99,7 +117,7 @@ fn widths_grow_at_256(rt: HostRuntime) -> Result<(), Fail> {
         let mut first = Vec::new(rt.alloc());
         first.push(b'a')?;
         first.extend_from_slice(key.get(..count).ok_or("short")?)?;
-        let text = by_slice(rt.alloc(), &[(first.as_slice(), 0), (b"b", 0)])?;
+        let text = by_slice::<Simple>(rt.alloc(), &[(first.as_slice(), 0), (b"b", 0)])?;
         assert_eq!(rt; text.len(), len);
         assert_eq!(rt; text.as_slice().get(..4).ok_or("short")?, head.as_slice());
     }
@@ -108,25 +126,30 @@ fn widths_grow_at_256(rt: HostRuntime) -> Result<(), Fail> {
 
 #[test]
 fn refusals(rt: HostRuntime) -> Result<(), Fail> {
-    let unsorted = by_slice(rt.alloc(), &[(b"foo", 1), (b"bar", 2), (b"bazzoo", 3)]);
-    assert!(rt; unsorted.is_err_and(|e| e == ZeroTrieBuildError::Unsorted));
+    let unsorted = by_slice::<Simple>(rt.alloc(), &[(b"foo", 1), (b"bar", 2), (b"bazzoo", 3)]);
+    assert!(rt; unsorted.err() == Some(ZeroTrieBuildError::Unsorted));
     let twice: [(&[u8], usize); 3] = [(b"a", 1), (b"b", 2), (b"b", 3)];
-    assert!(rt; by_slice(rt.alloc(), &twice).is_err_and(|e| e == ZeroTrieBuildError::Unsorted));
-    assert!(rt; by_iter(rt.alloc(), &twice).is_err_and(|e| e == ZeroTrieBuildError::DuplicateKey));
+    assert!(rt; by_slice::<Simple>(rt.alloc(), &twice).err() == Some(ZeroTrieBuildError::Unsorted));
+    assert!(rt;
+        by_iter::<Simple>(rt.alloc(), &twice).err() == Some(ZeroTrieBuildError::DuplicateKey)
+    );
     let bytes: [(&[u8], usize); 2] = [(&[0x61], 1), (&[0xE5], 2)];
     assert!(rt;
-        by_slice(rt.alloc(), &bytes).is_err_and(|e| e == ZeroTrieBuildError::NonAsciiError)
+        by_slice::<Simple>(rt.alloc(), &bytes).is_err_and(|e| e
+            == ZeroTrieBuildError::NonAsciiError)
     );
-    assert!(rt; by_iter(rt.alloc(), &bytes).is_err_and(|e| e == ZeroTrieBuildError::NonAsciiError));
+    assert!(rt;
+        by_iter::<Simple>(rt.alloc(), &bytes).err() == Some(ZeroTrieBuildError::NonAsciiError)
+    );
     let text = by_text(rt.alloc(), &[("bazzoo", 3), ("bår", 2), ("foo", 1)]);
-    assert!(rt; text.is_err_and(|e| e == ZeroTrieBuildError::NonAsciiError));
+    assert!(rt; text.err() == Some(ZeroTrieBuildError::NonAsciiError));
     Ok(())
 }
 
 /// A route in another order, and text keys, give the same bytes.
 #[test]
 fn routes_agree(rt: HostRuntime) -> Result<(), Fail> {
-    let falling = by_iter(rt.alloc(), &[(b"foo", 1), (b"bazzoo", 3), (b"bar", 2)])?;
+    let falling = by_iter::<Simple>(rt.alloc(), &[(b"foo", 1), (b"bazzoo", 3), (b"bar", 2)])?;
     let text = by_text(rt.alloc(), &[("bar", 2), ("bazzoo", 3), ("foo", 1)])?;
     assert_eq!(rt; falling.as_slice(), text.as_slice());
     let places = [
@@ -152,7 +175,7 @@ fn more_edges_than_a_stack_of_100(rt: HostRuntime) -> Result<(), Fail> {
     for byte in bytes.as_slice().chunks(1) {
         items.push((byte, 0))?;
     }
-    let text = by_slice(rt.alloc(), items.as_slice())?;
+    let text = by_slice::<Simple>(rt.alloc(), items.as_slice())?;
     assert_eq!(rt; text.len(), 304);
     assert_eq!(rt;
         text.as_slice().get(..2).ok_or("short")?,
@@ -165,7 +188,91 @@ fn more_edges_than_a_stack_of_100(rt: HostRuntime) -> Result<(), Fail> {
 #[test]
 fn a_key_of_100000_bytes(rt: HostRuntime) -> Result<(), Fail> {
     let key = vec![in rt.alloc(); b'a'; 100000]?;
-    let text = by_slice(rt.alloc(), &[(key.as_slice(), 1)])?;
+    let text = by_slice::<Simple>(rt.alloc(), &[(key.as_slice(), 1)])?;
     assert_eq!(rt; text.len(), 100001);
+    Ok(())
+}
+
+/// Texts without case, whose edges ascend by lower case and whose bytes keep their case.
+#[test]
+fn texts_without_case(rt: HostRuntime) -> Result<(), Fail> {
+    let rows: [(&[(&[u8], usize)], &[u8]); 4] = [
+        (
+            &[(b"foo", 1), (b"Bar", 2), (b"Bazzoo", 3)],
+            &[
+                0xC2, 0x42, 0x66, 0x0A, 0x61, 0xC2, 0x72, 0x7A, 0x01, 0x82, 0x7A, 0x6F, 0x6F, 0x83,
+                0x6F, 0x6F, 0x81,
+            ],
+        ),
+        (
+            &[(b"baZ", 2), (b"bar", 1)],
+            &[0x62, 0x61, 0xC2, 0x72, 0x5A, 0x01, 0x81, 0x82],
+        ),
+        (
+            &[
+                (b"", 0),
+                (b"aBc", 1),
+                (b"aBcD", 2),
+                (b"aBcF", 4),
+                (b"aBce", 3),
+                (b"aBcghi", 5),
+            ],
+            &[
+                0x80, 0x61, 0x42, 0x63, 0x81, 0xC4, 0x44, 0x65, 0x46, 0x67, 0x01, 0x02, 0x03, 0x82,
+                0x83, 0x84, 0x68, 0x69, 0x85,
+            ],
+        ),
+        (
+            &[
+                (b"_", 1),
+                (b"a", 2),
+                (b"B", 3),
+                (b"[", 4),
+                (b"@", 5),
+                (b"`", 6),
+                (b"{", 7),
+            ],
+            &[
+                0xC7, 0x40, 0x5B, 0x5F, 0x60, 0x61, 0x42, 0x7B, 0x01, 0x02, 0x03, 0x04, 0x05, 0x06,
+                0x85, 0x84, 0x81, 0x86, 0x82, 0x83, 0x87,
+            ],
+        ),
+    ];
+    for (items, bytes) in rows {
+        assert_eq!(rt; by_iter::<Ignore>(rt.alloc(), items)?.as_slice(), bytes);
+    }
+    let (items, bytes) = rows[1];
+    assert_eq!(rt; by_slice::<Ignore>(rt.alloc(), items)?.as_slice(), bytes);
+    let falling = by_slice::<Ignore>(rt.alloc(), &[(b"bar", 1), (b"baZ", 2)]);
+    assert!(rt; falling.err() == Some(ZeroTrieBuildError::Unsorted));
+    Ok(())
+}
+
+/// Keys that agree in front up to case must do so exactly.
+#[test]
+fn mixed_case(rt: HostRuntime) -> Result<(), Fail> {
+    let more: [&[u8]; 5] = [b"A", b"ab", b"abc", b"aBcd", b"aBcgHi"];
+    for key in more {
+        let items: [(&[u8], usize); 7] = [
+            (b"", 0),
+            (b"aBc", 1),
+            (b"aBcD", 2),
+            (b"aBcF", 4),
+            (b"aBce", 3),
+            (b"aBcghi", 5),
+            (key, 6),
+        ];
+        let refused = by_iter::<Ignore>(rt.alloc(), &items);
+        assert!(rt; refused.err() == Some(ZeroTrieBuildError::MixedCase));
+    }
+    let below: [(&[u8], usize); 4] = [(b"Ac", 2), (b"Ad", 3), (b"ab", 1), (b"ae", 4)];
+    assert!(rt; by_iter::<Ignore>(rt.alloc(), &below).err() == Some(ZeroTrieBuildError::MixedCase));
+    assert!(rt;
+        by_slice::<Ignore>(rt.alloc(), &below).err() == Some(ZeroTrieBuildError::MixedCase)
+    );
+    let differing: [(&[u8], usize); 3] = [(b"bar", 1), (b"baZ", 2), (b"baR", 2)];
+    assert!(rt;
+        by_iter::<Ignore>(rt.alloc(), &differing).err() == Some(ZeroTrieBuildError::MixedCase)
+    );
     Ok(())
 }

@@ -21,7 +21,7 @@ use std::collections::BTreeMap;
 /// ```
 ///
 /// Keys in another order are other keys.
-#[derive(Drop)]
+#[derive(Debug, Drop)]
 pub struct PerfectByteHashMapCacheOwned {
     alloc: Global,
     tables: BTreeMap<Vec<u8>, PerfectByteHashMap<Vec<u8>>>,

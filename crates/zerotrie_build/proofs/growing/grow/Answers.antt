@@ -5,6 +5,6 @@ use Rattle.zerotrie_build.proofs.growing.grow.Goals as goal
 
 pub loop-index-init : goal.loop-index-init
 loop-index-init g c = record {
-  built = rw c.new.ensures.items (built_nothing (pairs c.args.items) c.len-index.result (g.S.TrieBuilderStore.list c.atbs_new_empty.result) c.len-index.ensures c.atbs_new_empty.ensures);
+  built = rw c.new.ensures.items (built_nothing g.K.ZeroTrieWithOptions.kind (pairs c.args.items) c.len-index.result (g.S.TrieBuilderStore.list c.atbs_new_empty.result) c.len-index.ensures c.atbs_new_empty.ensures);
   within = let e = c.len-index.ensures in omega arith;
 }

@@ -5,7 +5,7 @@ use Rattle.zerotrie_build.proofs.growing.grow.Given as goal
 
 abbrev pub invariant-loop-index : goal.invariant-loop-index
 invariant-loop-index g l = record {
-  built : BuiltFrom l.index (pairs l.items) (tops l.growing.siblings.items) l.growing.behind (g.S.TrieBuilderStore.list l.growing.data);
+  built : BuiltFrom g.K.ZeroTrieWithOptions.kind l.index (pairs l.items) (tops l.growing.siblings.items) l.growing.behind (g.S.TrieBuilderStore.list l.growing.data);
   within : l.index ≤ length (pairs l.items);
 }
 

@@ -2,6 +2,7 @@ use Rattle.std.proofs.Common.{arith, sym, ◌∙◌, subst}
 use Rattle.std.proofs.lemmas.Result.{err_from_is_err_and}
 use Rattle.zerotrie_core.specs.Items.{pairs_of}
 use Rattle.zerotrie_core.specs.Encoding.{Writes}
+use Rattle.zerotrie_core.specs.Kind.{simple_ascii}
 use Rattle.zerotrie_core.proofs.FitsLaws.{fits_meant}
 use Rattle.zerotrie_core.proofs.OrderLaws.{means_enc}
 use Rattle.zerotrie_core.proofs.RefusalLemmas.{deep_none, ascii_keys, some_high, refusal_cause, written_means}
@@ -28,7 +29,7 @@ returns-clause-means c =
     written_means _ _ (omega arith) (subst (λ x. Writes x c.encode.new.out.items (pairs_of c.args.items.now)) c.new-text.ensures.items c.in_ok-encode.ensures.ok)
 
 pub returns-clause-fits : goal.returns-clause-fits
-returns-clause-fits c = fits_meant _ _ (returns-clause-means c)
+returns-clause-fits c = fits_meant simple_ascii tt _ _ (returns-clause-means c)
 
 pub returns-clause-text : goal.returns-clause-text
-returns-clause-text c = means_enc _ _ (returns-clause-means c)
+returns-clause-text c = means_enc simple_ascii tt _ _ (returns-clause-means c)

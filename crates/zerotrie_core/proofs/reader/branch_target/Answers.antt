@@ -11,7 +11,7 @@ returns-then-width-gt3-clause-target g c edges targets b =
     let r = read_branch c.args.lead _ c.in_ok-head.head c.args.rest.now c.in_ok-head.body.now b c.in_ok-head.ensures.found in
     elim c.then-width-gt3.branch [
       | then-width-gt3-via-then-width-gt3 w ↦
-          let small = narrow (sym g.K.ZeroTrieWithOptions.tag_is ∙ c.requires) b c.in_ok-head.head c.in_ok-head.body.now b r in
+          let small = narrow c.requires c.in_ok-head.head c.in_ok-head.body.now b r in
           let large = w.if-width-gt3.true in
           absurd (omega arith)
       | then-width-gt3-via-else-width-gt3+then-edges-lt2 w ↦
@@ -51,7 +51,7 @@ returns-clause-target g c edges targets b =
     let cut = c.in_ok-table.ensures.cases in
     let table = table_read c.in_ok-head.head c.if-head-eq0.edges c.in_ok-head.body.now c.in_ok-table.table.now b r n cut.1 in
     let rest = targets_read c.in_ok-head.head c.if-head-eq0.edges c.in_ok-head.body.now c.in_ok-table.body.now b r n cut.2 in
-    hit_target c.args.byte c.in_ok-place.place c.in_ok-table.table.now (sym g.K.ZeroTrieWithOptions.tag_is ∙ c.requires) b table c.in_ok-place.ensures.some.0 c.in_ok-place.ensures.some.1
+    hit_target c.args.byte c.in_ok-place.place c.in_ok-table.table.now b table c.in_ok-place.ensures.some.0 c.in_ok-place.ensures.some.1
     ∙ sym (mapped c.target_at.result _ (c.target_at.ensures.target targets rest))
 
 pub returns-in_err-place-clause-target : goal.returns-in_err-place-clause-target
@@ -66,4 +66,4 @@ returns-in_err-place-clause-target g c edges targets b =
     ] in
     let cut = c.in_ok-table.ensures.cases in
     let table = table_read c.in_ok-head.head c.if-head-eq0.edges c.in_ok-head.body.now c.in_ok-table.table.now b r n cut.1 in
-    rw c.from_residual-in_err-place.ensures (miss_target c.args.byte c.in_ok-table.table.now (sym g.K.ZeroTrieWithOptions.tag_is ∙ c.requires) b table c.in_err-place.ensures.none)
+    rw c.from_residual-in_err-place.ensures (miss_target c.args.byte c.in_ok-table.table.now b table c.in_err-place.ensures.none)

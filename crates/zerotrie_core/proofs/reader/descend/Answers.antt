@@ -2,7 +2,7 @@ use Rattle.std.proofs.Common.{◌∷◌, arith, subst, sym, None, Some, ◌∙�
 use Rattle.std.proofs.lemmas.List.{nil_from_length}
 use Rattle.std.proofs.lemmas.Bool.{eqb-true, eqb-false}
 use Rattle.zerotrie_core.specs.Reading.{AlwaysEnds, AlwaysGoes}
-use Rattle.zerotrie_core.proofs.KindLemmas.{same_itself, other_byte}
+use Rattle.zerotrie_core.proofs.KindLemmas.{one_fold, two_folds}
 use Rattle.zerotrie_core.proofs.ReaderLemmas.{literal_goes, literal_stops, literal_ends, branch_ends, branch_stops, branch_goes, value_ends, value_passed, value_fails, after_shorter}
 use Rattle.zerotrie_core.proofs.reader.descend.Goals as goal
 
@@ -10,17 +10,17 @@ pub returns-in-None : goal.returns-in-None
 returns-in-None g c =
     subst (λ k. AlwaysEnds g.K.ZeroTrieWithOptions.kind (c.args.lead ∷ c.args.rest.now) k None) (sym (nil_from_length c.args.key.now c.in-None.ensures.cases)) (literal_ends _ _ _ c.if-lead-lt128.true)
 
-pub returns-then-byte-lead : goal.returns-then-byte-lead
-returns-then-byte-lead g c = (
+pub returns-then-folded : goal.returns-then-folded
+returns-then-folded g c = (
   omega arith,
   subst (λ k. AlwaysGoes g.K.ZeroTrieWithOptions.kind (c.args.lead ∷ c.args.rest.now) k c.args.rest.now c.in-Some.after.now) (sym c.in-Some.ensures.cases.0)
-      (literal_goes _ _ _ _ _ c.if-lead-lt128.true (same_itself _ _ _ (sym c.if-byte-lead.true))),
+      (literal_goes _ _ _ _ _ c.if-lead-lt128.true (one_fold g.K.ZeroTrieWithOptions.kind c.args.lead c.in-Some.byte.now (sym c.folded-in-Some.ensures ∙ sym c.if-folded.true ∙ c.folded.ensures))),
 )
 
-pub returns-else-byte-lead : goal.returns-else-byte-lead
-returns-else-byte-lead g c =
+pub returns-else-folded : goal.returns-else-folded
+returns-else-folded g c =
     subst (λ k. AlwaysEnds g.K.ZeroTrieWithOptions.kind (c.args.lead ∷ c.args.rest.now) k None) (sym c.in-Some.ensures.cases.0)
-    (literal_stops _ _ _ _ _ c.if-lead-lt128.true (other_byte _ _ _ (sym g.K.ZeroTrieWithOptions.tag_is ∙ c.requires) (λ e. c.if-byte-lead.false (sym e))))
+    (literal_stops _ _ _ _ _ c.if-lead-lt128.true (two_folds g.K.ZeroTrieWithOptions.kind c.args.lead c.in-Some.byte.now (λ e. c.if-folded.false (c.folded.ensures ∙ sym e ∙ sym c.folded-in-Some.ensures))))
 
 pub returns-in-None-read_varint_meta3 : goal.returns-in-None-read_varint_meta3
 returns-in-None-read_varint_meta3 g c = value_fails _ _ _ _ c.if-lead-lt160.true c.if-lead-lt128.false c.in-None-read_varint_meta3.ensures.none

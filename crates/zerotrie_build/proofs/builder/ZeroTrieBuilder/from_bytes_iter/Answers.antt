@@ -1,15 +1,15 @@
 use Rattle.std.proofs.Common.{◌≡◌, ◌∙◌, sym, ap, subst}
 use Rattle.std.proofs.lemmas.Result.{err_from_is_err_and}
 use Rattle.std.specs.FinMap.{entries}
-use Rattle.zerotrie_core.specs.Kind.{simple_ascii}
 use Rattle.zerotrie_core.specs.Maps.{RepeatsKey, map_of}
 use Rattle.zerotrie_core.specs.Items.{pairs_of}
 use Rattle.zerotrie_core.specs.Texts.{Means}
 use Rattle.zerotrie_core.specs.Causes.{Cause}
 use Rattle.zerotrie_build.specs.Items.{pairs}
-use Rattle.zerotrie_build.specs.Routes.{keyed, IsRefused}
-use Rattle.zerotrie_build.proofs.Building.{built_for, cause_of, refused_entries}
+use Rattle.zerotrie_build.specs.Routes.{keyed}
+use Rattle.zerotrie_build.proofs.Building.{built_for, cause_entries}
 use Rattle.zerotrie_build.proofs.Sorting.{map_of-entries}
+use Rattle.zerotrie_build.proofs.Casing.{ascii_by}
 use Rattle.zerotrie_build.proofs.builder.ZeroTrieBuilder.from_bytes_iter.Goals as goal
 
 pub returns-in_err-items-clause-cause : goal.returns-in_err-items-clause-cause
@@ -17,7 +17,7 @@ returns-in_err-items-clause-cause g c =
     let q = err_from_is_err_and c.from_residual-in_err-items.result c.from_residual-in_err-items.ensures.1 in
     let w = c.in_ok-given.ensures.ok in
     let view = c.as_slice.ensures.value ∙ w.2.3 in
-    rw (q.1, q.2) (λ other.
+    λ kind same. rw (q.1, q.2) (λ other.
     let r = c.in_err-items.ensures.refused other in (
       w.0,
       w.1,
@@ -25,8 +25,7 @@ returns-in_err-items-clause-cause g c =
         w.2.0,
         w.2.1,
         w.2.2,
-        λ kind same.
-            subst (Cause kind (keyed g.K.TrieKey.key w.2.0.items)) (sym r.0) (subst (λ xs. RepeatsKey (keyed g.K.TrieKey.key xs)) view r.1),
+        subst (Cause kind (keyed g.K.TrieKey.key w.2.0.items)) (sym r.0) (subst (λ xs. RepeatsKey (keyed g.K.TrieKey.key xs)) view r.1),
       ),
     ))
 
@@ -37,17 +36,16 @@ returns-in_err-data-clause-cause g c =
     let view = c.as_slice.ensures.value ∙ w.2.3 in
     let sorted : pairs c.from_byte_slice-items.result ≡ entries (map_of (keyed g.K.TrieKey.key w.2.0.items)) =
     c.from_byte_slice-items.ensures ∙ ap pairs_of c.as_slice-2.ensures.value ∙ c.in_ok-items.ensures.sorted ∙ ap (λ xs. entries (map_of (keyed g.K.TrieKey.key xs))) view in
-    rw (q.1, q.2) (λ other.
-    let r = c.in_err-data.ensures.refused other in (
+    λ kind same. rw (q.1, q.2) (λ other.
+    let r = c.in_err-data.ensures.refused kind same other in (
       w.0,
       w.1,
       (
         w.2.0,
         w.2.1,
         w.2.2,
-        λ kind same.
-            cause_of kind (keyed g.K.TrieKey.key w.2.0.items) _ (λ twice. c.in_ok-items.ensures.distinct (subst (λ xs. RepeatsKey (keyed g.K.TrieKey.key xs)) (sym view) twice))
-            (refused_entries (keyed g.K.TrieKey.key w.2.0.items) _ (subst (λ p. IsRefused p c.in_err-data.field-0.0) sorted r)),
+        cause_entries kind (keyed g.K.TrieKey.key w.2.0.items) _ (λ twice. c.in_ok-items.ensures.distinct (subst (λ xs. RepeatsKey (keyed g.K.TrieKey.key xs)) (sym view) twice))
+            (subst (λ p. Cause kind p c.in_err-data.field-0.0) sorted r),
       ),
     ))
 
@@ -63,5 +61,7 @@ returns-clause-built g c =
     let view = c.as_slice.ensures.value ∙ w.2.3 in
     let sorted : pairs c.from_byte_slice-items.result ≡ entries (map_of (keyed g.K.TrieKey.key w.2.0.items)) =
     c.from_byte_slice-items.ensures ∙ ap pairs_of c.as_slice-2.ensures.value ∙ c.in_ok-items.ensures.sorted ∙ ap (λ xs. entries (map_of (keyed g.K.TrieKey.key xs))) view in
-    let means = subst (Means simple_ascii (g.S.TrieBuilderStore.list c.in_ok-data.data)) (ap map_of sorted ∙ map_of-entries (keyed g.K.TrieKey.key w.2.0.items)) c.in_ok-data.ensures.means in
-    (w.0, w.1, (w.2.0, w.2.1, w.2.2, λ kind same. built_for kind (g.S.TrieBuilderStore.list c.in_ok-data.data) (map_of (keyed g.K.TrieKey.key w.2.0.items)) c.canonical_exactly.ensures.fits c.canonical_exactly.ensures.text means))
+    λ kind same.
+    let means = subst (Means kind (g.S.TrieBuilderStore.list c.in_ok-data.data)) (ap map_of sorted ∙ map_of-entries (keyed g.K.TrieKey.key w.2.0.items)) (c.in_ok-data.ensures.means kind same) in
+    let is_ascii = ascii_by kind c.requires.kind.0 c.args.options same c.requires.kind.1 c.requires.kind.2 in
+    (w.0, w.1, (w.2.0, w.2.1, w.2.2, built_for kind (keyed g.K.TrieKey.key w.2.0.items) (g.S.TrieBuilderStore.list c.in_ok-data.data) is_ascii c.canonical_exactly.ensures.fits c.canonical_exactly.ensures.text means))

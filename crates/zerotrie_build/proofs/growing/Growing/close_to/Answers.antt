@@ -11,6 +11,16 @@ returns-in_err-close_level-clause-refused g c =
       r.0,
       λ listed h.
           let next : c.loop-depth.depth ≡ suc (c.loop-depth.depth - 1) = let t = c.loop-depth-test.true in omega arith in
-          let stands = subst (λ d. Stands c.args.key.now d (tops c.loop-depth.self.siblings.items) c.loop-depth.self.behind (g.S.TrieBuilderStore.list c.loop-depth.self.data) listed) next (c.loop-depth.invariant.closes listed h) in
+          let stands = subst (λ d. Stands g.K.ZeroTrieWithOptions.kind c.args.key.now d (tops c.loop-depth.self.siblings.items) c.loop-depth.self.behind (g.S.TrieBuilderStore.list c.loop-depth.self.data) listed) next (c.loop-depth.invariant.closes listed h) in
           (c.loop-depth.depth - 1, (let t = c.loop-depth-test.true in omega arith), (let w = c.loop-depth.invariant.within in let t = c.loop-depth-test.true in omega arith), r.1 listed stands),
     ))
+
+pub loop-depth-preserved : goal.loop-depth-preserved
+loop-depth-preserved g c = record {
+  closes = λ listed h.
+      let next : c.loop-depth.depth ≡ suc (c.loop-depth.depth - 1) = let t = c.loop-depth-test.true in omega arith in
+      c.in_ok-close_level.ensures.ok listed
+      (subst (λ d. Stands g.K.ZeroTrieWithOptions.kind c.args.key.now d (tops c.loop-depth.self.siblings.items) c.loop-depth.self.behind (g.S.TrieBuilderStore.list c.loop-depth.self.data) listed) next (c.loop-depth.invariant.closes listed h));
+  above = omega arith;
+  within = omega arith;
+}
