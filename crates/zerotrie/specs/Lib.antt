@@ -6,5 +6,5 @@ pub use Rattle.zerotrie_core.specs.Fits
 pub use Rattle.zerotrie_core.specs.Causes
 pub use Rattle.zerotrie_core.specs.Built
 pub use Rattle.zerotrie_core.specs.Items
-pub use Rattle.zerotrie_build.specs.Routes
+pub use Rattle.zerotrie_core.specs.Routes
 pub use Rattle.zerotrie_any.specs.Order

@@ -3,7 +3,7 @@ use Rattle.std.proofs.Common.{ℕ, List, [], ◌∷◌, Ordering, sym, ◌∙◌
 use Rattle.std.specs.List.Sorted.{IsStrictlySortedBy}
 use Rattle.std.proofs.lemmas.Map.Keys.{sorted_head, sorted_tail}
 use Rattle.zerotrie_core.specs.Maps.{Ascends}
-use Rattle.zerotrie_build.specs.Routes.{keyed}
+use Rattle.zerotrie_core.specs.Items.{keyed}
 use Rattle.zerotrie_any.specs.Order.{IsByBytes}
 
 -- keys that are in order ascend by their bytes, if the order is that of the bytes

@@ -10,7 +10,7 @@ ghost use Rattle.zerotrie_core.specs.Maps.{Map, look, Ascends, RepeatsKey};
 ghost use Rattle.zerotrie_core.specs.Texts.{Means};
 ghost use Rattle.zerotrie_core.specs.Items.{pairs_of};
 ghost use Rattle.zerotrie_core.specs.Causes.{Cause};
-ghost use Rattle.zerotrie_build.specs.Routes.{keyed};
+ghost use Rattle.zerotrie_core.specs.Items.{keyed};
 ghost use Rattle.zerotrie_core.specs.Built.{IsBuilt};
 ghost use Rattle.zerotrie_any.specs.Order.{IsByBytes};
 

@@ -1,6 +1,5 @@
 pub mod Items
 pub mod Ranges
-pub mod Routes
 pub mod Order
 pub mod Branches
 pub mod Growing

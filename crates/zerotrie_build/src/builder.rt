@@ -11,7 +11,7 @@ ghost use Rattle.zerotrie_core.specs.Texts.{Means};
 ghost use Rattle.zerotrie_core.specs.Causes.{Cause};
 ghost use Rattle.zerotrie_core.specs.Built.{IsBuilt};
 ghost use Rattle.zerotrie_build.specs.Items.{pairs};
-ghost use Rattle.zerotrie_build.specs.Routes.{keyed};
+ghost use Rattle.zerotrie_core.specs.Items.{keyed};
 
 use crate::growing::grow;
 use crate::order::sorted_ignoring_case;

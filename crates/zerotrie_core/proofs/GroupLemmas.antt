@@ -11,8 +11,8 @@ use Rattle.zerotrie_core.specs.Texts.Lists.{nothing, value, literal, branch}
 use Rattle.zerotrie_core.specs.Texts.ListEach.{no_edge, edge}
 use Rattle.zerotrie_core.specs.Fits.{OverflowsAt}
 use Rattle.zerotrie_core.specs.Encoding.{AsciiKeys, weight, IsBranching, IsRefusal, TooWide, Writes, Leads, BranchBytes}
-use Rattle.zerotrie_core.specs.declared.error.ZeroTrieBuildError.{ZeroTrieBuildError}
-use Rattle.zerotrie_core.specs.declared.error.ZeroTrieBuildError.TheVariants.{OutOfMemory, CapacityExceeded}
+use Rattle.zerotrie_base.specs.declared.error.ZeroTrieBuildError.{ZeroTrieBuildError}
+use Rattle.zerotrie_base.specs.declared.error.ZeroTrieBuildError.TheVariants.{OutOfMemory, CapacityExceeded}
 use Rattle.zerotrie_core.proofs.EdgeLemmas.{Rise, residual-append, residual-front}
 use Rattle.zerotrie_core.proofs.CanonLaws.{edges_value, edges_listed, rise_bytes, residual_none, nil_end, bytes_end}
 use Rattle.zerotrie_core.proofs.BranchLemmas.{length-offsets, get_or-offsets}

@@ -24,12 +24,3 @@ pub mod GroupLemmas
 pub mod CutLemmas
 pub mod RefusalLemmas
 pub mod MeansLaws
-pub mod HashLemmas
-pub mod ApartLemmas
-pub mod MarkLemmas
-pub mod TableReads
-pub mod FillLemmas
-pub mod OrderLemmas
-pub mod PlacedLemmas
-pub mod SolveLemmas
-pub mod CacheLemmas

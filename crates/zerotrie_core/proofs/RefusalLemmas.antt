@@ -14,8 +14,8 @@ use Rattle.zerotrie_core.specs.Texts.{Lists, Means}
 use Rattle.zerotrie_core.specs.Fits.{OverflowsAt, ExceedsCapacity}
 use Rattle.zerotrie_core.specs.Causes.{Cause}
 use Rattle.zerotrie_core.specs.Encoding.{pairs_from, AsciiKey, AsciiKeys, Deep, TooWide, IsRefusal, Writes}
-use Rattle.zerotrie_core.specs.declared.error.ZeroTrieBuildError.{ZeroTrieBuildError}
-use Rattle.zerotrie_core.specs.declared.error.ZeroTrieBuildError.TheVariants.{OutOfMemory}
+use Rattle.zerotrie_base.specs.declared.error.ZeroTrieBuildError.{ZeroTrieBuildError}
+use Rattle.zerotrie_base.specs.declared.error.ZeroTrieBuildError.TheVariants.{OutOfMemory}
 use Rattle.zerotrie_core.proofs.OrderLaws.{entries-map_of}
 
 pub deep_none : (items : Items) → Deep 0 items

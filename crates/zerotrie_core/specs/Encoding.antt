@@ -7,8 +7,8 @@ use Rattle.zerotrie_core.specs.Branches.{IsWidth, blocks}
 use Rattle.zerotrie_core.specs.Texts.{Lists}
 use Rattle.zerotrie_core.specs.Fits.{OverflowsAt}
 use Rattle.zerotrie_core.specs.Items.{Items}
-use Rattle.zerotrie_core.specs.declared.error.ZeroTrieBuildError.{ZeroTrieBuildError}
-use Rattle.zerotrie_core.specs.declared.error.ZeroTrieBuildError.TheVariants.{CapacityExceeded, OutOfMemory}
+use Rattle.zerotrie_base.specs.declared.error.ZeroTrieBuildError.{ZeroTrieBuildError}
+use Rattle.zerotrie_base.specs.declared.error.ZeroTrieBuildError.TheVariants.{CapacityExceeded, OutOfMemory}
 
 -- the pairs of a slice of items, each key without so many first bytes
 abbrev pub pairs_from : ℕ → Items → Pairs

@@ -17,6 +17,10 @@ abbrev pub flags : Kind → Flags
 flags simple_ascii = record { use_phf = false; spans = false; extended = false; ignore_case = false }
 flags ignore_case = record { use_phf = false; spans = false; extended = false; ignore_case = true }
 
+-- the kind that these options switch on
+abbrev pub kind_with : Flags → Kind
+kind_with options = if options.ignore_case then ignore_case else simple_ascii
+
 -- the number that stands for a kind in tagged bytes
 abbrev pub tag : Kind → ℕ
 tag simple_ascii = 0

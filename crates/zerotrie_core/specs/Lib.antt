@@ -8,13 +8,9 @@ pub mod Canonical
 pub mod Fits
 pub mod Causes
 pub mod Built
+pub mod Routes
 pub mod Items
 pub mod Encoding
 pub mod Reading
 pub mod Descending
 pub mod Laws
-pub mod Hashes
-pub mod Refusals
-pub mod Search
-pub mod Caches
-pub mod CacheCalls

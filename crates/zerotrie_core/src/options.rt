@@ -2,7 +2,7 @@
 
 ghost use Rattle.std.specs.Prelude.{◌≡◌, ℕ, ◌+◌, ◌*◌, ◌⊎◌, Bool, true, false, refl, cond};
 ghost use Rattle.std.proofs.Common.{inl, inr};
-ghost use Rattle.zerotrie_core.specs.Kind.{Kind, Flags, simple_ascii, ignore_case, tag, flags};
+ghost use Rattle.zerotrie_core.specs.Kind.{Kind, Flags, simple_ascii, ignore_case, tag, flags, kind_with};
 ghost use Rattle.zerotrie_core.specs.Options.{IsTag};
 
 use std::marker::Model;
@@ -126,10 +126,13 @@ pub struct ZeroTrieBuilderOptions {
 
 impl Model for ZeroTrieBuilderOptions {
     ghost use Rattle.zerotrie_core.specs.Kind.{Flags};
+    ghost use Rattle.zerotrie_core.specs.Options.{IsLawful};
 
     ghost Value = { Flags };
 
     ghost view = { λ o. record { use_phf = o.use_phf; spans = o.spans; extended = o.extended; ignore_case = o.ignore_case } };
+
+    ghost invariant = { λ o. IsLawful (record { use_phf = o.use_phf; spans = o.spans; extended = o.extended; ignore_case = o.ignore_case }) };
 
     ghost inverse = { λ f. record { use_phf = f.use_phf; spans = f.spans; extended = f.extended; ignore_case = f.ignore_case } };
 }
@@ -137,7 +140,8 @@ impl Model for ZeroTrieBuilderOptions {
 impl ZeroTrieBuilderOptions {
     /// The constants of `K`.
     pub fn of<K: ZeroTrieWithOptions>() -> Self
-        ensures { result ≡ flags K.kind }
+        ensures flags { result ≡ flags K.kind }
+        ensures kind { kind_with result ≡ K.kind }
     {
         ZeroTrieBuilderOptions {
             use_phf: K::USE_PHF,

@@ -16,9 +16,9 @@ ghost use Rattle.zerotrie_core.specs.Fits.{Fits};
 ghost use Rattle.zerotrie_core.specs.Causes.{Cause};
 ghost use Rattle.zerotrie_core.specs.Encoding.{pairs_from, AsciiKeys, Deep, BeginsAll, BeginsNone, IsBranching, IsRefusal, Writes, Leads, with_bits, BranchBytes};
 
-use crate::error::ZeroTrieBuildError;
 use crate::varint::{write_varint_meta2, write_varint_meta3};
 use std::alloc::Global;
+use zerotrie_base::ZeroTrieBuildError;
 
 /// Whether the key is below the next one.
 fn is_below(key: &[u8], next: &[u8]) -> bool

@@ -1,7 +1,7 @@
 use Rattle.std.proofs.Common.{sym, subst}
 use Rattle.std.proofs.lemmas.Result.{err_from_is_err_and}
 use Rattle.zerotrie_core.specs.Built.{IsBuilt}
-use Rattle.zerotrie_build.specs.Routes.{keyed}
+use Rattle.zerotrie_core.specs.Items.{keyed}
 use Rattle.zerotrie_any.proofs.bytes.bytes_from_iter.Goals as goal
 
 pub returns-in_err-builder-clause-cause : goal.returns-in_err-builder-clause-cause

@@ -1,6 +1,6 @@
 use Rattle.std.proofs.Common.{◌≡◌, ◌++◌}
 use Rattle.zerotrie_core.specs.Items.{pairs_of}
-use Rattle.zerotrie_build.specs.Routes.{keyed}
+use Rattle.zerotrie_core.specs.Items.{keyed}
 use Rattle.zerotrie_any.proofs.bytes.items_of.Given as goal
 
 abbrev pub invariant-loop-key : goal.invariant-loop-key

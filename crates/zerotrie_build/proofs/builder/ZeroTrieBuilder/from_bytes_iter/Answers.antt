@@ -6,7 +6,7 @@ use Rattle.zerotrie_core.specs.Items.{pairs_of}
 use Rattle.zerotrie_core.specs.Texts.{Means}
 use Rattle.zerotrie_core.specs.Causes.{Cause}
 use Rattle.zerotrie_build.specs.Items.{pairs}
-use Rattle.zerotrie_build.specs.Routes.{keyed}
+use Rattle.zerotrie_core.specs.Items.{keyed}
 use Rattle.zerotrie_build.proofs.Building.{built_for, cause_entries}
 use Rattle.zerotrie_build.proofs.Sorting.{map_of-entries}
 use Rattle.zerotrie_build.proofs.Casing.{ascii_by}

@@ -1,0 +1,9 @@
+mod HashLemmas
+mod ApartLemmas
+mod MarkLemmas
+mod TableReads
+mod FillLemmas
+mod OrderLemmas
+mod PlacedLemmas
+mod SolveLemmas
+mod CacheLemmas

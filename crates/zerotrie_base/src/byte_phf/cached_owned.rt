@@ -1,0 +1,107 @@
+//! Tables that are made once for each list of keys.
+
+ghost use Rattle.std.specs.Prelude.{◌≡◌, ℕ, List, [], IfOk, OnOk, OnErr, IfErr, IsOk, IsSome, IsNone, IfNone, Some, is_some, nat_eq};
+ghost use Rattle.std.specs.Borrow.{sem};
+ghost use Rattle.std.specs.List.{IsDistinct};
+ghost use Rattle.zerotrie_base.specs.Hashes.{IsPerfectTable};
+ghost use Rattle.zerotrie_base.specs.Refusals.{IsTableRefusal};
+ghost use Rattle.zerotrie_base.specs.Caches.{AllPerfect, find, put};
+
+use super::PerfectByteHashMap;
+use crate::error::ZeroTrieBuildError;
+use std::alloc::Global;
+use std::collections::BTreeMap;
+
+/// Tables by the keys that they were made for.
+///
+/// ```
+/// let mut cache = PerfectByteHashMapCacheOwned::new_empty(alloc);
+/// let keys = Vec::from_slice(alloc, b"aceg")?;
+/// assert_eq!(cache.try_get_or_insert(keys)?.get(b'e'), Some(0));
+/// ```
+///
+/// Keys in another order are other keys.
+#[derive(Debug, Drop)]
+pub struct PerfectByteHashMapCacheOwned {
+    alloc: Global,
+    tables: BTreeMap<Vec<u8>, PerfectByteHashMap<Vec<u8>>>,
+}
+
+impl PerfectByteHashMapCacheOwned {
+    ghost use Rattle.zerotrie_base.specs.CacheCalls.{tables_in, ends_with};
+
+    /// A cache that holds no table. It takes no memory.
+    pub fn new_empty(alloc: Global) -> Self
+        ensures { tables_in result ≡ [] }
+    {
+        PerfectByteHashMapCacheOwned {
+            alloc,
+            tables: BTreeMap::new(alloc),
+        }
+    }
+
+    /// The table of the keys. Where the cache holds one for just these keys, in this order, that is the
+    /// answer, no memory is taken and nothing changes. Else the table is made and held, beside all others.
+    ///
+    /// The keys have to be distinct, which [`super::are_distinct`] tells. Keys whose table is not held are
+    /// refused as by [`PerfectByteHashMap::try_new`], and then the cache holds what it held.
+    pub fn try_get_or_insert(
+        &mut self,
+        keys: Vec<u8>,
+    ) -> Result<PerfectByteHashMap<&[u8]>, ZeroTrieBuildError>
+        requires { IsDistinct nat_eq keys.items }
+        ensures* after { sem 𝓛 (ends_with self.entry keys.items result) }
+        ensures table { AllPerfect (tables_in self.old) → IfOk result (λ table. IsPerfectTable keys.items table.store.now) }
+        ensures succeeds { IsSome (find keys.items (tables_in self.old)) → IsOk result }
+        ensures refused { IfErr result (IsTableRefusal keys.items) }
+    {
+        self.hold(keys.as_slice())?;
+        Ok(self.held_table(keys.as_slice()))
+    }
+
+    /// Whether there is a table for these keys.
+    fn has(&self, keys: &[u8]) -> bool
+        ensures { result ≡ is_some (find keys.now (tables_in self.now)) }
+    {
+        self.tables.contains_key(keys)
+    }
+
+    /// Makes and holds the table of new keys.
+    fn add(&mut self, keys: &[u8]) -> Result<(), ZeroTrieBuildError>
+        requires { IsDistinct nat_eq keys.now }
+        ensures ok { OnOk result ((table : List ℕ) × (tables_in self.new ≡ put keys.now table (tables_in self.old)) × IsPerfectTable keys.now table) }
+        ensures err { OnErr result (tables_in self.new ≡ tables_in self.old) }
+        ensures refused { IfErr result (IsTableRefusal keys.now) }
+    {
+        let table = PerfectByteHashMap::try_new(self.alloc, keys)?;
+        let copy = Vec::from_slice(self.alloc, keys)?;
+        self.tables.insert(copy, table)?;
+        Ok(())
+    }
+
+    /// Makes and holds the table where it is not held.
+    fn hold(&mut self, keys: &[u8]) -> Result<(), ZeroTrieBuildError>
+        requires { IsDistinct nat_eq keys.now }
+        ensures held { IsSome (find keys.now (tables_in self.old)) → IsOk result × (tables_in self.new ≡ tables_in self.old) }
+        ensures new { IfNone (find keys.now (tables_in self.old)) (OnOk result ((table : List ℕ) × (tables_in self.new ≡ put keys.now table (tables_in self.old)) × IsPerfectTable keys.now table)) }
+        ensures err { OnErr result (tables_in self.new ≡ tables_in self.old) }
+        ensures refused { IfErr result (IsTableRefusal keys.now) }
+        ensures there { OnOk result (IsSome (find keys.now (tables_in self.new))) }
+    {
+        if self.has(keys) {
+            return Ok(());
+        }
+        self.add(keys)
+    }
+
+    /// The table of keys that are held.
+    fn held_table(&self, keys: &[u8]) -> PerfectByteHashMap<&[u8]>
+        requires { IsSome (find keys.now (tables_in self.now)) }
+        ensures { find keys.now (tables_in self.now) ≡ Some result.store.now }
+    {
+        match self.tables.get(keys) {
+            Some(table) => table.as_borrowed(),
+            None => unreachable!(),
+        }
+    }
+}

@@ -1,7 +1,0 @@
-use Rattle.std.proofs.Common.{take, nat_eq}
-use Rattle.std.specs.List.{IsDistinct}
-use Rattle.zerotrie_core.specs.Search.{IsMarked}
-use Rattle.zerotrie_core.proofs.byte_phf.are_distinct.Given as goal
-
-abbrev pub invariant-loop-key : goal.invariant-loop-key
-invariant-loop-key l = record { distinct : IsDistinct nat_eq (take l.key-index l.keys); marked : IsMarked (take l.key-index l.keys) l.seen }

@@ -1,0 +1,50 @@
+-- The routes of a build, and what each answers.
+use Rattle.std.specs.Prelude.{◌≡◌, ◌≢◌, ℕ, ◌⊎◌, List, Option, Result, Ok, Err}
+use Rattle.std.specs.Iterator.Runs.{WholeRun}
+use Rattle.zerotrie_core.specs.Kind.{Kind}
+use Rattle.zerotrie_core.specs.Maps.{Pairs, Ascends, RepeatsKey}
+use Rattle.zerotrie_core.specs.Items.{keyed}
+use Rattle.zerotrie_core.specs.Causes.{Cause}
+use Rattle.zerotrie_core.specs.Built.{IsBuilt}
+use Rattle.zerotrie_base.specs.declared.error.ZeroTrieBuildError.{ZeroTrieBuildError}
+use Rattle.zerotrie_base.specs.declared.error.ZeroTrieBuildError.TheVariants.{DuplicateKey, Unsorted, OutOfMemory}
+
+pub data Route : Type 0 where
+  -- a list that is to ascend by the bytes of its keys
+  ascending : Route
+  -- a map whose order is that of its keys' bytes
+  in_order : Route
+  -- pairs in any order
+  any_order : Route
+
+-- what a build by the route asks of the pairs, beside that their map fits
+abbrev pub Takes : Route → Pairs → Type 0
+Takes ascending pairs = Ascends pairs
+Takes in_order pairs = Ascends pairs
+Takes any_order pairs = RepeatsKey pairs → ⊥
+
+-- an error that the route never answers, whatever holds of the pairs
+abbrev pub IsForeign : Route → ZeroTrieBuildError → Type 0
+IsForeign ascending e = e ≡ DuplicateKey
+IsForeign in_order e = (e ≡ DuplicateKey) ⊎ (e ≡ Unsorted)
+IsForeign any_order e = e ≡ Unsorted
+
+-- why a build of the pairs by the route is refused: want of memory, or a cause that holds of them
+abbrev pub IsRefusal : Route → Kind → Pairs → ZeroTrieBuildError → Type 0
+IsRefusal route kind pairs e = (e ≡ OutOfMemory) ⊎ ((IsForeign route e → ⊥) × Cause kind pairs e)
+
+-- What a build of the pairs by the route answers, where the bytes of an answer are these: bytes that mean the
+-- pairs, or a refusal.
+abbrev pub IsBuild : {B : Type 0} → Route → Kind → (B → List ℕ) → Pairs → Result B ZeroTrieBuildError → Type 0
+IsBuild route kind bytes pairs (Ok b) = Takes route pairs × IsBuilt kind pairs (bytes b)
+IsBuild route kind bytes pairs (Err e) = IsRefusal route kind pairs e
+
+-- the fact holds of the pairs that an iterator gives, one after another and no more
+abbrev pub OfAllGiven : {U I K : Type 0} → (U → I → Type 0) → (I → Option (K × ℕ) → I → Type 0) → (K → List ℕ) → U → (Pairs → Type 0) → Type 0
+OfAllGiven {I = I} into_iter_gives next_gives key given Fact =
+    (it : I) × into_iter_gives given it × WholeRun next_gives it (λ run. Fact (keyed key run.items))
+
+-- What a build of all pairs that an iterator gives answers. Where memory was wanting, it may not have given them all.
+abbrev pub IsBuildOfAll : {B : Type 0} → ((Pairs → Type 0) → Type 0) → Kind → (B → List ℕ) → Result B ZeroTrieBuildError → Type 0
+IsBuildOfAll OfAll kind bytes (Ok b) = OfAll (λ pairs. IsBuild any_order kind bytes pairs (Ok b))
+IsBuildOfAll OfAll kind bytes (Err e) = (e ≡ OutOfMemory) ⊎ OfAll (λ pairs. (e ≢ Unsorted) × Cause kind pairs e)
