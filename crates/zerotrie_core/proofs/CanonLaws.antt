@@ -14,11 +14,12 @@ use Rattle.zerotrie_core.specs.Texts.ListEach.{no_edge, edge}
 use Rattle.zerotrie_core.specs.Canonical.{enc_to, node, branch_node, value_node, width, width_to}
 use Rattle.zerotrie_core.proofs.EdgeLemmas.{Rise, member, member_head, member_later, member_other, filter-range, begins_some-append, begins_some-front, residual-append, residual-front, residual-other}
 use Rattle.zerotrie_core.proofs.OrderedLemmas.{ordered_is, edges_rise, member-edges, member-edges_past, not_member}
-use Rattle.zerotrie_core.proofs.ReaderLemmas.{Rises, AllAbove, table_rises, value_at-no_key, behind_none, extender_one}
+use Rattle.zerotrie_core.proofs.NumberLemmas.{extender_one}
+use Rattle.zerotrie_core.proofs.TableLemmas.{Rises, AllAbove, table_rises, table_is_edges}
+use Rattle.zerotrie_core.proofs.ValueLemmas.{value_at-no_key, behind_none}
 use Rattle.zerotrie_core.proofs.SameLemmas.{some_pair, begins_behind}
 use Rattle.zerotrie_core.proofs.NumberLaws.{one_spelling, spells_spelled}
 use Rattle.std.proofs.Math.Nat.{pow-suc, div-lt_iff_lt-mul}
-use Rattle.zerotrie_core.proofs.TableLemmas.{table_is_edges}
 
 or_false' : (x : Bool) → (x || false) ≡ x
 or_false' true = refl

@@ -19,10 +19,12 @@ use Rattle.zerotrie_core.specs.Texts.ListEach.{no_edge, edge}
 use Rattle.zerotrie_core.specs.Canonical.{enc_to, node, branch_node, value_node, width}
 use Rattle.zerotrie_core.proofs.KindLemmas.{edge_limit_is, greatest_width_is}
 use Rattle.zerotrie_core.proofs.EdgeLemmas.{member}
-use Rattle.zerotrie_core.proofs.OrderedLemmas.{Each, Each-member, member-ordered, length-ordered, rises_ordered, rise_apart, not_member, edges_rise, member-edges, member-edges_past}
+use Rattle.zerotrie_core.proofs.OrderedLemmas.{Each-member, member-ordered, length-ordered, rises_ordered, rise_apart, not_member, edges_rise, member-edges, member-edges_past}
 use Rattle.zerotrie_core.proofs.SameLemmas.{Same, same-none, value_exact, value_at-residual, some_pair, begins_behind, first_found}
 use Rattle.zerotrie_core.proofs.CanonLaws.{nil_end, bytes_end, width_right}
-use Rattle.zerotrie_core.proofs.ReaderLemmas.{Rises, AllAbove, extender_one, behind_none, value_at-some, value_at-front, value_at-append, value_at-other}
+use Rattle.zerotrie_core.proofs.NumberLemmas.{extender_one}
+use Rattle.zerotrie_core.proofs.TableLemmas.{Each, Rises, AllAbove}
+use Rattle.zerotrie_core.proofs.ValueLemmas.{behind_none, value_at-some, value_at-front, value_at-append, value_at-other}
 use Rattle.zerotrie_core.proofs.TextLaws.{lists_once}
 use Rattle.zerotrie_core.proofs.NumberLaws.{spells_spelled}
 

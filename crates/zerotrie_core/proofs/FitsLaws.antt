@@ -17,11 +17,11 @@ use Rattle.zerotrie_core.specs.Texts.ListEach.{no_edge, edge}
 use Rattle.zerotrie_core.specs.Fits.{targets_size, Fits}
 use Rattle.zerotrie_core.specs.Encoding.{AsciiKey, AsciiKeys}
 use Rattle.zerotrie_core.proofs.EdgeLemmas.{residual-front, residual-other}
-use Rattle.zerotrie_core.proofs.ReaderLemmas.{Rises}
+use Rattle.zerotrie_core.proofs.TableLemmas.{Distinct, none_member, table_distinct}
 use Rattle.zerotrie_core.proofs.SameLemmas.{Same, same-edges, same-behind, same-targets}
 use Rattle.zerotrie_core.proofs.CaseLemmas.{Agrees, every_all, lists_consistent}
 use Rattle.zerotrie_core.proofs.KindLemmas.{edge_limit_is}
-use Rattle.zerotrie_core.proofs.CanonLaws.{edges_none, edges_front, edges_value, branch_rises, branch_bytes, edge_once, residual_first, residual_later, lists_some}
+use Rattle.zerotrie_core.proofs.CanonLaws.{edges_none, edges_front, edges_value, branch_rises, branch_bytes, residual_first, residual_later, lists_some}
 use Rattle.zerotrie_core.proofs.OrderLaws.{entries-map_of, means_same, means_size}
 use Rattle.zerotrie_core.proofs.EncodeLaws.{SmallValues}
 use Rattle.zerotrie_core.proofs.ListedLemmas.{targets_each, targets_value, behind_none}
@@ -67,14 +67,14 @@ mutual
         | inr other ↦ narrow_at kind c front (with_front b p) [] (residual-other c b p other.1) (narrow_none kind front)
       ]
   narrow_lists ascii (branch b each) [] = narrow_branch ascii b each
-  narrow_lists ascii (branch b each) (c ∷ front) = narrow_each ascii each (branch_rises b) c front
+  narrow_lists ascii (branch b each) (c ∷ front) = narrow_each ascii each (table_distinct b.is_table) c front
 
-  narrow_each : {kind : Kind} {es : List ℕ} {targets : List (List ℕ)} {pairs : Pairs} → IsAscii kind → ListEach kind es targets pairs → Rises kind es → (c : ℕ) (front : List ℕ) → NarrowBehind kind (c ∷ front) pairs
-  narrow_each {kind = kind} ascii no_edge rises c front = narrow_none kind front
-  narrow_each {kind = kind} ascii (edge {e = e} {edges = es} {pairs = p} {more = m} n text each) rises c front =
+  narrow_each : {kind : Kind} {es : List ℕ} {targets : List (List ℕ)} {pairs : Pairs} → IsAscii kind → ListEach kind es targets pairs → Distinct kind es → (c : ℕ) (front : List ℕ) → NarrowBehind kind (c ∷ front) pairs
+  narrow_each {kind = kind} ascii no_edge apart c front = narrow_none kind front
+  narrow_each {kind = kind} ascii (edge {e = e} {edges = es} {pairs = p} {more = m} n text each) apart c front =
       elim (eqb_tells e c) [
-        | inl same ↦ narrow_at kind c front (with_front e p ++ m) p (ap (λ x. residual x (with_front e p ++ m)) (sym same.1) ∙ residual_first e p each (edge_once kind e es rises.0)) (narrow_lists ascii text front)
-        | inr other ↦ narrow_at kind c front (with_front e p ++ m) (residual c m) (residual_later c e p m other.1) (narrow_each ascii each rises.1 c front)
+        | inl same ↦ narrow_at kind c front (with_front e p ++ m) p (ap (λ x. residual x (with_front e p ++ m)) (sym same.1) ∙ residual_first e p each (none_member kind e es apart.0)) (narrow_lists ascii text front)
+        | inr other ↦ narrow_at kind c front (with_front e p ++ m) (residual c m) (residual_later c e p m other.1) (narrow_each ascii each apart.1 c front)
       ]
 
 AsciiKeys-front : (b : ℕ) (pairs : Pairs) → b < 128 → AsciiKeys pairs → AsciiKeys (with_front b pairs)

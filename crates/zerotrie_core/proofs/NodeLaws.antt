@@ -6,7 +6,7 @@ use Rattle.zerotrie_core.specs.Texts.{Lists, ListEach, nodes, nodes_behind, NoVa
 use Rattle.zerotrie_core.specs.Texts.Lists.{nothing, value, literal, branch}
 use Rattle.zerotrie_core.specs.Texts.ListEach.{no_edge, edge}
 use Rattle.zerotrie_core.specs.Numbers.{Spells}
-use Rattle.zerotrie_core.proofs.ReaderLemmas.{extender_one}
+use Rattle.zerotrie_core.proofs.NumberLemmas.{extender_one}
 
 chosen_small : (b : Bool) (x y n : ℕ) → x ≤ n → y ≤ n → cond b x y ≤ n
 chosen_small true x y n h k = h

@@ -7,17 +7,7 @@ use Rattle.std.proofs.lemmas.List.Sums.{sum_by-cons}
 use Rattle.zerotrie_core.specs.Kind.{Kind, simple_ascii, ignore_case, IsAscii, fold_byte, ordered, sorted_by, put_by}
 use Rattle.zerotrie_core.specs.Maps.{Pairs, begins_some, edges}
 use Rattle.zerotrie_core.proofs.EdgeLemmas.{Rise, Rise-lower, member, member-below, member_head, member_later}
-use Rattle.zerotrie_core.proofs.ReaderLemmas.{Rises, AllAbove, AllAbove-lower}
-
--- each has the property
-abbrev pub Each : (ℕ → Type 0) → List ℕ → Type 0
-Each P [] = Unit {0}
-Each P (e ∷ es) = P e × Each P es
-
--- no two have one fold
-abbrev pub Apart : Kind → List ℕ → Type 0
-Apart kind [] = Unit {0}
-Apart kind (e ∷ es) = Each (λ f. fold_byte kind e ≡ fold_byte kind f → ⊥) es × Apart kind es
+use Rattle.zerotrie_core.proofs.TableLemmas.{Each, NoneLike, Distinct, Rises, AllAbove, AllAbove-lower}
 
 swap_or : (x y z : Bool) → (x || (y || z)) ≡ (y || (x || z))
 swap_or true true z = refl
@@ -103,7 +93,7 @@ above_put : (kind : Kind) (x a : ℕ) (es : List ℕ) → x < fold_byte kind a �
 above_put kind x a [] h up = (h, tt)
 above_put kind x a (c ∷ es) h up = both (AllAbove kind x) (ltb (fold_byte kind c) (fold_byte kind a)) (c ∷ put_by (fold_byte kind) a es) (a ∷ c ∷ es) (up.0, above_put kind x a es h up.1) (h, up)
 
-rises_put : (kind : Kind) (a : ℕ) (es : List ℕ) → Each (λ f. fold_byte kind a ≡ fold_byte kind f → ⊥) es → Rises kind es → Rises kind (put_by (fold_byte kind) a es)
+rises_put : (kind : Kind) (a : ℕ) (es : List ℕ) → NoneLike kind a es → Rises kind es → Rises kind (put_by (fold_byte kind) a es)
 rises_put kind a [] apart up = (tt, tt)
 rises_put kind a (c ∷ es) apart up = elim (cases_lt (fold_byte kind c) (fold_byte kind a)) [
   | inl less ↦ rw (lt-ltb (fold_byte kind c) (fold_byte kind a) less) (above_put kind (fold_byte kind c) a es less up.0, rises_put kind a es apart.1 up.1)
@@ -116,7 +106,7 @@ rises_put kind a (c ∷ es) apart up = elim (cases_lt (fold_byte kind c) (fold_b
     above_or : (a b : ℕ) → a ≤ b → (a ≡ b → ⊥) → a < b
     above_or a b le ne = omega arith
 
-rises_sorted : (kind : Kind) (es : List ℕ) → Apart kind es → Rises kind (sorted_by (fold_byte kind) es)
+rises_sorted : (kind : Kind) (es : List ℕ) → Distinct kind es → Rises kind (sorted_by (fold_byte kind) es)
 rises_sorted kind [] apart = tt
 rises_sorted kind (e ∷ es) apart = rises_put kind e (sorted_by (fold_byte kind) es) (Each-sorted_by _ (fold_byte kind) es apart.0) (rises_sorted kind es apart.1)
 
@@ -130,7 +120,7 @@ rise_rises low high [] r = tt
 rise_rises low high (e ∷ es) r = (rise_above e (suc e) high es (omega arith) r.2, rise_rises (suc e) high es r.2)
 
 -- they rise in the order of the kind
-pub rises_ordered : (kind : Kind) → IsAscii kind → (low high : ℕ) (es : List ℕ) → Rise low high es → Apart kind es → Rises kind (ordered kind es)
+pub rises_ordered : (kind : Kind) → IsAscii kind → (low high : ℕ) (es : List ℕ) → Rise low high es → Distinct kind es → Rises kind (ordered kind es)
 rises_ordered simple_ascii ascii low high es rise apart = rise_rises low high es rise
 rises_ordered ignore_case ascii low high es rise apart = rises_sorted ignore_case es apart
 
@@ -202,7 +192,7 @@ member_from low high b (e ∷ es) r m = elim (or_cases (eqb e b) (member b es) m
 ]
 
 -- edges that rise by byte are apart, if two of one fold are one
-pub rise_apart : (kind : Kind) (low high : ℕ) (es : List ℕ) → Rise low high es → ((b c : ℕ) → member b es ≡ true → member c es ≡ true → fold_byte kind b ≡ fold_byte kind c → b ≡ c) → Apart kind es
+pub rise_apart : (kind : Kind) (low high : ℕ) (es : List ℕ) → Rise low high es → ((b c : ℕ) → member b es ≡ true → member c es ≡ true → fold_byte kind b ≡ fold_byte kind c → b ≡ c) → Distinct kind es
 rise_apart kind low high [] r one = tt
 rise_apart kind low high (e ∷ es) r one = (
   Each-member _ es (λ f m same. let h = member_from (suc e) high f es r.2 m in let is = one e f (member_head e es) (member_later f e es m) same in omega arith),

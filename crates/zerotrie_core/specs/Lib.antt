@@ -4,6 +4,9 @@ pub mod Numbers
 pub mod Maps
 pub mod Branches
 pub mod Texts
+pub mod Nodes
+pub mod Shapes
+pub mod Cursors
 pub mod Canonical
 pub mod Fits
 pub mod Causes
@@ -11,6 +14,5 @@ pub mod Built
 pub mod Routes
 pub mod Items
 pub mod Encoding
-pub mod Reading
-pub mod Descending
+pub mod reader
 pub mod Laws
