@@ -10,7 +10,7 @@ use Rattle.zerotrie_core.specs.Texts.{Lists, ListEach}
 use Rattle.zerotrie_core.specs.Texts.Lists.{nothing, value, literal, branch}
 use Rattle.zerotrie_core.specs.Texts.ListEach.{no_edge, edge}
 use Rattle.zerotrie_core.specs.Fits.{OverflowsAt}
-use Rattle.zerotrie_core.specs.Encoding.{AsciiKeys, weight, IsBranching, IsRefusal, TooWide, Writes, Leads, BranchBytes}
+use Rattle.zerotrie_core.specs.Encoding.{AsciiKeys, weight, IsBranching, CannotWrite, TooWide, Writes, Leads, BranchBytes}
 use Rattle.zerotrie_base.specs.declared.error.ZeroTrieBuildError.{ZeroTrieBuildError}
 use Rattle.zerotrie_base.specs.declared.error.ZeroTrieBuildError.TheVariants.{OutOfMemory, CapacityExceeded}
 use Rattle.zerotrie_core.proofs.EdgeLemmas.{Rise, residual-append, residual-front}
@@ -336,7 +336,7 @@ grown_start all edge_bytes starts target_bytes a b c none up ascii =
     subst (λ x. Grown all x starts target_bytes all) (sym a) (subst (λ x. Grown all [] x target_bytes all) (sym b) (subst (λ x. Grown all [] [] x all) (sym c) (grown_none all none up ascii)))
 
 -- a refusal of a group is one of all the pairs
-pub refused_up : (all p : Pairs) (e : ZeroTrieBuildError) → (TooWide p → TooWide all) → IsRefusal p e → IsRefusal all e
+pub refused_up : (all p : Pairs) (e : ZeroTrieBuildError) → (TooWide p → TooWide all) → CannotWrite p e → CannotWrite all e
 refused_up all p e up r = elim r [ inl memory ↦ inl memory | inr wide ↦ inr (wide.0, up wide.1) ]
 
 -- where no pairs are left, the text is whole
@@ -348,5 +348,5 @@ branch_same es es' os os' ts ts' bytes a b c h =
     subst (λ x. BranchBytes es' os' x bytes) c (subst (λ x. BranchBytes es' x ts bytes) b (subst (λ x. BranchBytes x os ts bytes) a h))
 
 -- a branch that is not written
-pub refused_branch : (all : Pairs) (e : ZeroTrieBuildError) (total : ℕ) → (2 ^ 32 ≤ total → TooWide all) → (e ≡ OutOfMemory) ⊎ ((e ≡ CapacityExceeded) × (2 ^ 32 ≤ total)) → IsRefusal all e
+pub refused_branch : (all : Pairs) (e : ZeroTrieBuildError) (total : ℕ) → (2 ^ 32 ≤ total → TooWide all) → (e ≡ OutOfMemory) ⊎ ((e ≡ CapacityExceeded) × (2 ^ 32 ≤ total)) → CannotWrite all e
 refused_branch all e total up r = elim r [ inl memory ↦ inl memory | inr wide ↦ inr (wide.0, up wide.1) ]

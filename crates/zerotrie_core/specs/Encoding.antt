@@ -52,9 +52,9 @@ IsBranching pairs = (b : ℕ) (behind : Pairs) → pairs ≢ with_front b behind
 abbrev pub TooWide : Pairs → Type 0
 TooWide pairs = (front : List ℕ) × OverflowsAt simple_ascii front pairs
 
--- why the pairs are refused
-abbrev pub IsRefusal : Pairs → ZeroTrieBuildError → Type 0
-IsRefusal pairs e = (e ≡ OutOfMemory) ⊎ ((e ≡ CapacityExceeded) × TooWide pairs)
+-- why no text of the pairs is written
+abbrev pub CannotWrite : Pairs → ZeroTrieBuildError → Type 0
+CannotWrite pairs e = (e ≡ OutOfMemory) ⊎ ((e ≡ CapacityExceeded) × TooWide pairs)
 
 -- a text of the pairs was appended
 pub record Writes (before after : List ℕ) (pairs : Pairs) : Type 0 where

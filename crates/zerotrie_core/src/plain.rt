@@ -7,14 +7,11 @@ ghost use Rattle.std.specs.Cmp.Lexicographic.{slice_cmp};
 ghost use Rattle.std.specs.declared.cmp.Ordering.TheVariants.{Less};
 ghost use Rattle.zerotrie_core.specs.Kind.{simple_ascii};
 ghost use Rattle.zerotrie_core.specs.Numbers.{Spells};
-ghost use Rattle.zerotrie_core.specs.Maps.{Ascends, map_of};
+ghost use Rattle.zerotrie_core.specs.Maps.{Ascends};
 ghost use Rattle.zerotrie_core.specs.Branches.{IsWidth, blocks};
 ghost use Rattle.zerotrie_core.specs.Items.{pairs_of};
-ghost use Rattle.zerotrie_core.specs.Texts.{Means};
-ghost use Rattle.zerotrie_core.specs.Canonical.{enc};
-ghost use Rattle.zerotrie_core.specs.Fits.{Fits};
-ghost use Rattle.zerotrie_core.specs.Causes.{Cause};
-ghost use Rattle.zerotrie_core.specs.Encoding.{pairs_from, AsciiKeys, Deep, BeginsAll, BeginsNone, IsBranching, IsRefusal, Writes, Leads, with_bits, BranchBytes};
+ghost use Rattle.zerotrie_core.specs.Routes.{ascending, IsBuild};
+ghost use Rattle.zerotrie_core.specs.Encoding.{pairs_from, AsciiKeys, Deep, BeginsAll, BeginsNone, IsBranching, CannotWrite, Writes, Leads, with_bits, BranchBytes};
 
 use crate::varint::{write_varint_meta2, write_varint_meta3};
 use std::alloc::Global;
@@ -209,7 +206,7 @@ fn encode(
     requires ascends { Ascends (pairs_from depth items.now) }
     requires ascii { AsciiKeys (pairs_from depth items.now) }
     ensures ok { OnOk result (Writes out.old.items out.new.items (pairs_from depth items.now)) }
-    ensures err { IfErr result (IsRefusal (pairs_from depth items.now)) }
+    ensures err { IfErr result (CannotWrite (pairs_from depth items.now)) }
 {
     let (ended, depth) = push_run(out, items, depth)?;
     let (_, items) = items.split_at(ended);
@@ -259,11 +256,7 @@ fn encode(
 ///   offset of four bytes reaches.
 /// - `OutOfMemory`: the text or a part of it could not grow.
 pub fn plain_encode(alloc: Global, items: &[(&[u8], usize)]) -> Result<Vec<u8>, ZeroTrieBuildError>
-    ensures ascends { OnOk result (Ascends (pairs_of items.now)) }
-    ensures fits { OnOk result (Fits simple_ascii (map_of (pairs_of items.now))) }
-    ensures text { IfOk result (λ text. text.items ≡ enc simple_ascii (map_of (pairs_of items.now))) }
-    ensures means { IfOk result (λ text. Means simple_ascii text.items (map_of (pairs_of items.now))) }
-    ensures cause { IfErr result (λ e. e ≢ ZeroTrieBuildError.OutOfMemory → Cause simple_ascii (pairs_of items.now) e) }
+    ensures { IsBuild ascending simple_ascii (λ text. text.items) (pairs_of items.now) result }
 {
     if !is_ascending(items) {
         return Err(ZeroTrieBuildError::Unsorted);
