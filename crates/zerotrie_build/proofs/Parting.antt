@@ -7,7 +7,8 @@ use Rattle.zerotrie_core.specs.Maps.{Pairs, residual, behind_all, common_front}
 use Rattle.zerotrie_core.proofs.EdgeLemmas.{residual-append}
 use Rattle.zerotrie_build.specs.Order.{Before, Ordered}
 use Rattle.zerotrie_build.specs.Growing.{AtMost}
-use Rattle.zerotrie_build.proofs.Runs.{behind_all-nil, behind_all-append}
+use Rattle.zerotrie_core.proofs.ListedLemmas.{behind_all-nil}
+use Rattle.zerotrie_build.proofs.Runs.{behind_all-append}
 
 abbrev pub common : List ℕ → List ℕ → ℕ
 common before key = common_front (λ a b. a == b) before key

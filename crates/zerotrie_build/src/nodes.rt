@@ -2,9 +2,7 @@
 
 ghost use Rattle.std.specs.Prelude.{◌≡◌, ℕ, ◌+◌, ◌/◌, ◌%◌, ◌^◌, ◌<◌, ◌≤◌, List, ◌++◌, length, map, IfOk, OnOk};
 ghost use Rattle.zerotrie_core.specs.Numbers.{Spells};
-ghost use Rattle.zerotrie_core.specs.Branches.{IsWidth, blocks};
-ghost use Rattle.zerotrie_build.specs.Ranges.{total as total_of};
-ghost use Rattle.zerotrie_build.specs.Branches.{ends, branch_front};
+ghost use Rattle.zerotrie_core.specs.Branches.{IsWidth, total as total_of, ends, blocks, branch_front};
 
 use crate::siblings::Branch;
 use crate::store::TrieBuilderStore;
@@ -101,7 +99,7 @@ pub(crate) fn prepend_branch<S: TrieBuilderStore>(
     let offsets = offsets_of(alloc, branch.lengths.as_slice())?;
     prepend_offsets(alloc, store, offsets.as_slice(), width)?;
     store.atbs_extend_front(branch.edges.as_slice())?;
-    let head = write_varint_meta2(256 * width + branch.edges.len() % 256);
+    let head = write_varint_meta2(256 * width + branch.lengths.len() % 256);
     store.atbs_extend_front(head.as_slice())?;
     store.atbs_bitor_assign(0, BRANCH);
     Ok(())

@@ -12,6 +12,7 @@ pub mod Vectors
 pub mod EdgeLemmas
 pub mod OrderedLemmas
 pub mod SameLemmas
+pub mod FrontLemmas
 pub mod CanonLaws
 pub mod EncodeLaws
 pub mod SizeLaws

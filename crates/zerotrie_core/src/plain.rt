@@ -10,8 +10,9 @@ ghost use Rattle.zerotrie_core.specs.Numbers.{Spells};
 ghost use Rattle.zerotrie_core.specs.Maps.{Ascends};
 ghost use Rattle.zerotrie_core.specs.Branches.{IsWidth, blocks};
 ghost use Rattle.zerotrie_core.specs.Items.{pairs_of};
+ghost use Rattle.zerotrie_core.specs.Canonical.{branch_node};
 ghost use Rattle.zerotrie_core.specs.Routes.{ascending, IsBuild};
-ghost use Rattle.zerotrie_core.specs.Encoding.{pairs_from, AsciiKeys, Deep, BeginsAll, BeginsNone, IsBranching, CannotWrite, Writes, Leads, with_bits, BranchBytes};
+ghost use Rattle.zerotrie_core.specs.Encoding.{pairs_from, AsciiKeys, Deep, BeginsAll, BeginsNone, IsBranching, CannotWrite, Writes, Leads, with_bits, AreTargets};
 
 use crate::varint::{write_varint_meta2, write_varint_meta3};
 use std::alloc::Global;
@@ -143,7 +144,9 @@ fn push_branch(
     offsets: &[usize],
     targets: &[u8],
 ) -> Result<(), ZeroTrieBuildError>
-    ensures ok { OnOk result ((bytes : List ℕ) × BranchBytes edges.now offsets.now targets.now bytes × (out.new.items ≡ out.old.items ++ bytes)) }
+    ensures ok { OnOk result ((texts : List (List ℕ)) → AreTargets texts edges.now offsets.now targets.now
+        → out.new.items ≡ out.old.items ++ branch_node edges.now texts) }
+    ensures narrow { OnOk result (length targets.now < 2 ^ 32) }
     ensures err { IfErr result (λ e. (e ≡ ZeroTrieBuildError.OutOfMemory) ⊎ ((e ≡ ZeroTrieBuildError.CapacityExceeded) × (2 ^ 32 ≤ length targets.now))) }
 {
     let width = width_of(targets.len()).ok_or(ZeroTrieBuildError::CapacityExceeded)?;
