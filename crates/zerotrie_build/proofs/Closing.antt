@@ -5,7 +5,7 @@ use Rattle.std.proofs.lemmas.List.{append-nil}
 use Rattle.std.proofs.Math.Seq.{take-length}
 use Rattle.std.proofs.Math.Nat.{eq-or-lt_of_le}
 use Rattle.zerotrie_core.specs.Kind.{Kind, IsAscii, fold_byte}
-use Rattle.zerotrie_core.specs.Numbers.{Spells}
+use Rattle.zerotrie_core.specs.Numbers.{value_form, SpellsAs}
 use Rattle.zerotrie_core.specs.Maps.{Pairs, with_front, with_run}
 use Rattle.zerotrie_core.specs.Texts.{Lists, ListEach}
 use Rattle.zerotrie_core.specs.Texts.Lists.{nothing, value, literal}
@@ -25,7 +25,7 @@ use Rattle.zerotrie_build.proofs.Asides.{next_below, below_here, moved, nothing_
 use Rattle.zerotrie_build.proofs.Overflow.{overflows}
 
 -- a value node in front
-pub with_value : (kind : Kind) (key : List ℕ) (v : ℕ) (spelling : List ℕ) (siblings : List Sibling) (behind : ℕ) (bytes : List ℕ) (listed : Pairs) → Spells 16 4 v spelling → Waits kind key siblings behind bytes listed
+pub with_value : (kind : Kind) (key : List ℕ) (v : ℕ) (spelling : List ℕ) (siblings : List Sibling) (behind : ℕ) (bytes : List ℕ) (listed : Pairs) → SpellsAs value_form v spelling → Waits kind key siblings behind bytes listed
     → Stands kind key (length key) siblings behind (spelling ++ bytes) ((key, v) ∷ listed)
 with_value kind key v spelling siblings behind bytes listed s h = record {
   text = spelling ++ h.text;

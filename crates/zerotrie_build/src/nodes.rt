@@ -1,7 +1,7 @@
 //! Nodes that are put in front of a store.
 
 ghost use Rattle.std.specs.Prelude.{◌≡◌, ℕ, ◌+◌, ◌/◌, ◌%◌, ◌^◌, ◌<◌, ◌≤◌, List, ◌++◌, length, map, IfOk, OnOk};
-ghost use Rattle.zerotrie_core.specs.Numbers.{Spells};
+ghost use Rattle.zerotrie_core.specs.Numbers.{value_form, SpellsAs};
 ghost use Rattle.zerotrie_core.specs.Branches.{IsWidth, total as total_of, ends, blocks, branch_front};
 
 use crate::siblings::Branch;
@@ -20,7 +20,7 @@ pub(crate) fn prepend_value<S: TrieBuilderStore>(
     store: &mut S,
     value: usize,
 ) -> Result<(), AllocError>
-    ensures { OnOk result ((spelling : List ℕ) × Spells 16 4 value spelling × (S.list store.new ≡ spelling ++ S.list store.old)) }
+    ensures { OnOk result ((spelling : List ℕ) × SpellsAs value_form value spelling × (S.list store.new ≡ spelling ++ S.list store.old)) }
 {
     let spelling = write_varint_meta3(value);
     store.atbs_extend_front(spelling.as_slice())?;

@@ -5,7 +5,7 @@ use Rattle.std.specs.List.{concat}
 use Rattle.std.proofs.lemmas.Bool.{cases_lt}
 use Rattle.std.proofs.lemmas.Bool.Decides.{eqb_tells}
 use Rattle.zerotrie_core.specs.Kind.{Kind, simple_ascii, ignore_case, IsAscii, fold_byte, edge_limit, ordered}
-use Rattle.zerotrie_core.specs.Numbers.{spelled}
+use Rattle.zerotrie_core.specs.Numbers.{value_form, spelled_as}
 use Rattle.zerotrie_core.specs.Maps.{Pairs, with_front, begins_some, edges, residual, value_at}
 use Rattle.zerotrie_core.specs.Branches.{IsBranch, branch_front}
 use Rattle.zerotrie_core.specs.Texts.{Lists, ListEach, NoValueFirst}
@@ -16,7 +16,7 @@ use Rattle.zerotrie_core.proofs.EdgeLemmas.{Rise, member, member_head, member_la
 use Rattle.zerotrie_core.proofs.OrderedLemmas.{ordered_is, edges_rise, member-edges, member-edges_past, not_member}
 use Rattle.zerotrie_core.proofs.ReaderLemmas.{Rises, AllAbove, table_rises, value_at-no_key, behind_none, extender_one}
 use Rattle.zerotrie_core.proofs.SameLemmas.{some_pair, begins_behind}
-use Rattle.zerotrie_core.proofs.NumberLaws.{one_spelling, spells_spelled}
+use Rattle.zerotrie_core.proofs.NumberLaws.{spelling_is}
 use Rattle.zerotrie_core.proofs.FrontLemmas.{branch_is_front, node_many}
 use Rattle.zerotrie_core.proofs.TableLemmas.{table_is_edges}
 
@@ -198,8 +198,8 @@ mutual
       let es = ordered kind (edges p) in
       let rest : r ≡ enc_to (suc d) kind p = lists_enc ascii text (suc d) short.1 in
       let behind : enc_to (suc d) kind p ≡ node es (map (λ b. enc_to d kind (residual b p)) es) = ap (λ o. value_node o ++ node es (map (λ b. enc_to d kind (residual b p)) es)) (no_value text n) in
-      ap (λ x. x ++ r) (one_spelling 16 4 v sp (spelled 16 4 v) s (spells_spelled 16 4 v s.below (inl refl)))
-      ∙ ap (λ x. spelled 16 4 v ++ x) (rest ∙ behind)
+      ap (λ x. x ++ r) (spelling_is value_form v sp (inl refl) s)
+      ∙ ap (λ x. spelled_as value_form v ++ x) (rest ∙ behind)
       ∙ sym (enc_step d kind (([], v) ∷ p) es (ap (ordered kind) (edges_value v p)))
   lists_enc ascii (literal {b = b} {pairs = p} low n text) zero short = absurd (lists_some text n (front_none b p (shorter_none (with_front b p) short)))
   lists_enc {kind = kind} ascii (literal {b = b} {rest = r} {pairs = p} low n text) (suc d) short =

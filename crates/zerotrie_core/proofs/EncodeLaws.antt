@@ -8,7 +8,7 @@ use Rattle.std.specs.Cmp.{ranked}
 use Rattle.std.specs.Prelude.{◌==◌}
 use Rattle.std.proofs.lemmas.Bool.{eq-eqb, ne_eqb, cases_eq, cases_lt, false_from_ne_true}
 use Rattle.zerotrie_core.specs.Kind.{Kind, simple_ascii, ignore_case, IsAscii, fold_byte, same_byte, ordered, is_hashed}
-use Rattle.zerotrie_core.specs.Numbers.{spelled}
+use Rattle.zerotrie_core.specs.Numbers.{branch_form, spelled_as}
 use Rattle.zerotrie_core.specs.Maps.{Pairs, with_front, begins_some, edges, residual, value_at, FirstAbove, common_front}
 use Rattle.zerotrie_core.specs.Branches.{IsBranch, blocks, offsets, width}
 use Rattle.zerotrie_core.specs.Branches.IsTable.{sorted}
@@ -94,7 +94,7 @@ branch_made kind is_ascii es targets up ascii two count fits =
     let limit = edge_limit_is kind is_ascii in
     let widest = greatest_width_is kind is_ascii in
     record {
-      head = spelled 32 3 (256 * width (length (concat targets)) + length es % 256);
+      head = spelled_as branch_form (256 * width (length (concat targets)) + length es % 256);
       table = es;
       width = width (length (concat targets));
       two = two;

@@ -7,11 +7,11 @@ use Rattle.std.proofs.lemmas.List.{length-map, take-map}
 use Rattle.std.proofs.lemmas.List.FromFn.{length-map-range_with_len}
 use Rattle.std.proofs.lemmas.List.Sums.{sum_by-cons}
 use Rattle.zerotrie_core.specs.Kind.{Kind}
-use Rattle.zerotrie_core.specs.Numbers.{Spells, spelled}
+use Rattle.zerotrie_core.specs.Numbers.{branch_form, SpellsAs, spelled_as}
 use Rattle.zerotrie_core.specs.Branches.{IsBranch, IsWidth, width, width_to, total, ends, offsets, blocks, branch_front}
 use Rattle.zerotrie_core.specs.Canonical.{node, branch_node}
 use Rattle.zerotrie_core.proofs.BranchLemmas.{length-blocks}
-use Rattle.zerotrie_core.proofs.NumberLaws.{one_spelling, spells_spelled}
+use Rattle.zerotrie_core.proofs.NumberLaws.{spelling_is}
 use Rattle.zerotrie_core.proofs.SameLemmas.{map_agree}
 
 pub small_width : (n : ℕ) → n < 256 → IsWidth n 0
@@ -73,11 +73,11 @@ ends-lengths targets =
 -- the front and the targets, by the targets alone
 pub front_targets : (table : List ℕ) (targets : List (List ℕ)) (n : ℕ) → length targets ≡ n
     → branch_front table (map length targets) ++ concat targets
-    ≡ spelled 32 3 (256 * width (length (concat targets)) + n % 256) ++ (table ++ (blocks (width (length (concat targets)) + 1) (offsets targets) ++ concat targets))
+    ≡ spelled_as branch_form (256 * width (length (concat targets)) + n % 256) ++ (table ++ (blocks (width (length (concat targets)) + 1) (offsets targets) ++ concat targets))
 front_targets table targets n is =
     let w = width (length (concat targets)) in
-    let head = spelled 32 3 (256 * w + n % 256) in
-    let front : ℕ → ℕ → List ℕ → List ℕ = λ t k os. (spelled 32 3 (256 * width t + k % 256) ++ (table ++ blocks (width t + 1) os)) ++ concat targets in
+    let head = spelled_as branch_form (256 * w + n % 256) in
+    let front : ℕ → ℕ → List ℕ → List ℕ = λ t k os. (spelled_as branch_form (256 * width t + k % 256) ++ (table ++ blocks (width t + 1) os)) ++ concat targets in
     ap (λ t. front t (length (map length targets)) (ends (map length targets))) (total-lengths targets)
     ∙ ap (λ k. front (length (concat targets)) k (ends (map length targets))) (length-map targets length ∙ is)
     ∙ ap (front (length (concat targets)) n) (ends-lengths targets)
@@ -85,13 +85,12 @@ front_targets table targets n is =
     ∙ ap (λ x. head ++ x) (append_assoc table (blocks (w + 1) (offsets targets)) (concat targets))
 
 -- the bytes of a branch are a front and its targets
-pub front_written : (table head : List ℕ) (w n : ℕ) (targets : List (List ℕ)) → length targets ≡ n → IsWidth (length (concat targets)) w → Spells 32 3 (256 * w + n % 256) head
+pub front_written : (table head : List ℕ) (w n : ℕ) (targets : List (List ℕ)) → length targets ≡ n → IsWidth (length (concat targets)) w → SpellsAs branch_form (256 * w + n % 256) head
     → head ++ (table ++ (blocks (w + 1) (offsets targets) ++ concat targets)) ≡ branch_front table (map length targets) ++ concat targets
 front_written table head w n targets count is spells =
-    let one = one_spelling 32 3 (256 * w + n % 256) head _ spells (spells_spelled 32 3 (256 * w + n % 256) spells.below (inr refl)) in
     let behind : ℕ → List ℕ = λ x. table ++ (blocks (x + 1) (offsets targets) ++ concat targets) in
-    ap (λ h. h ++ behind w) one
-    ∙ ap (λ x. spelled 32 3 (256 * x + n % 256) ++ behind x) (width_is (length (concat targets)) w is)
+    ap (λ h. h ++ behind w) (spelling_is branch_form (256 * w + n % 256) head (inr refl) spells)
+    ∙ ap (λ x. spelled_as branch_form (256 * x + n % 256) ++ behind x) (width_is (length (concat targets)) w is)
     ∙ sym (front_targets table targets n count)
 
 pub branch_is_front : {kind : Kind} {edges : List ℕ} {targets : List (List ℕ)} {bytes : List ℕ} (b : IsBranch kind edges targets bytes) → bytes ≡ branch_front b.table (map length targets) ++ concat targets
@@ -99,12 +98,12 @@ branch_is_front {edges = edges} {targets = targets} b = b.bytes_are ∙ front_wr
 
 -- how long a front without its table is, by how many targets there are and how many bytes they have
 abbrev pub front_len : ℕ → ℕ → ℕ
-front_len t n = length (spelled 32 3 (256 * width t + n % 256)) + (width t + 1) * (n - 1)
+front_len t n = length (spelled_as branch_form (256 * width t + n % 256)) + (width t + 1) * (n - 1)
 
 pub length-branch_front : (table lengths : List ℕ) → length (branch_front table lengths) ≡ length table + front_len (total lengths) (length lengths)
 length-branch_front table lengths =
     let w = width (total lengths) in
-    let head = spelled 32 3 (256 * w + length lengths % 256) in
+    let head = spelled_as branch_form (256 * w + length lengths % 256) in
     let a = length-append head (table ++ blocks (w + 1) (ends lengths)) in
     let b = length-append table (blocks (w + 1) (ends lengths)) in
     let c = length-blocks (w + 1) (ends lengths) ∙ ap (λ n. (w + 1) * n) (length-map-range_with_len (λ i. total (take i lengths)) 1 (length lengths - 1)) in

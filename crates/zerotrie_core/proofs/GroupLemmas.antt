@@ -2,7 +2,7 @@
 use Rattle.std.proofs.Common.{◌≡◌, ℕ, zero, suc, ◌+◌, ◌*◌, ◌%◌, ◌^◌, ◌<◌, ◌≤◌, List, [], ◌∷◌, ◌++◌, length, refl, sym, ◌∙◌, ap, subst, arith, get_or, take, drop, inl, inr, ◌⊎◌, append_assoc, length-append}
 use Rattle.std.specs.List.{concat}
 use Rattle.zerotrie_core.specs.Kind.{simple_ascii}
-use Rattle.zerotrie_core.specs.Numbers.{Spells}
+use Rattle.zerotrie_core.specs.Numbers.{value_form, branch_form, SpellsAs}
 use Rattle.zerotrie_core.specs.Maps.{Pairs, with_front, residual, Ascends, FirstAbove}
 use Rattle.zerotrie_core.specs.Branches.{IsWidth, offsets, blocks}
 use Rattle.zerotrie_core.specs.Canonical.{branch_node}
@@ -77,7 +77,7 @@ pub leads_start : (before : List ℕ) (all : Pairs) → Ascends all → AsciiKey
 leads_start before all up ascii = record { finish = λ after w. w; wide = λ w. w; ascends = up; ascii = ascii; lighter = omega arith }
 
 -- a value node more
-pub leads_value : (before out out' spelling : List ℕ) (v : ℕ) (all left : Pairs) → Leads before all out (([], v) ∷ left) → Spells 16 4 v spelling → out' ≡ out ++ spelling → Leads before all out' left
+pub leads_value : (before out out' spelling : List ℕ) (v : ℕ) (all left : Pairs) → Leads before all out (([], v) ∷ left) → SpellsAs value_form v spelling → out' ≡ out ++ spelling → Leads before all out' left
 leads_value before out out' spelling v all left l s e = record {
   finish = λ after w. l.finish after (record {
     text = spelling ++ w.text;
@@ -340,7 +340,7 @@ pub same_targets : (texts : List (List ℕ)) (es es' os os' ts ts' : List ℕ) �
 same_targets texts es es' os os' ts ts' a b c h = record { count = h.count ∙ ap length (sym a); offsets_are = b ∙ h.offsets_are; bytes_are = c ∙ h.bytes_are }
 
 -- a head, a table, offsets and targets are the branch
-pub branch_written : (texts : List (List ℕ)) (es os ts head : List ℕ) (w : ℕ) → AreTargets texts es os ts → IsWidth (length ts) w → Spells 32 3 (256 * w + length es % 256) head
+pub branch_written : (texts : List (List ℕ)) (es os ts head : List ℕ) (w : ℕ) → AreTargets texts es os ts → IsWidth (length ts) w → SpellsAs branch_form (256 * w + length es % 256) head
     → head ++ (es ++ (blocks (w + 1) os ++ ts)) ≡ branch_node es texts
 branch_written texts es os ts head w t is spells =
     ap (λ x. head ++ (es ++ (blocks (w + 1) os ++ x))) t.bytes_are

@@ -4,7 +4,7 @@ use Rattle.std.specs.List.{concat}
 use Rattle.std.proofs.lemmas.List.{take_at, drop_at}
 use Rattle.std.proofs.lemmas.Bool.{cases_lt}
 use Rattle.zerotrie_core.specs.Kind.{Kind}
-use Rattle.zerotrie_core.specs.Numbers.{Spells, extender}
+use Rattle.zerotrie_core.specs.Numbers.{extender, value_form, SpellsAs}
 use Rattle.zerotrie_core.specs.Maps.{Pairs, Map, with_front, map_of}
 use Rattle.zerotrie_core.specs.Branches.{IsBranch, blocks, offsets}
 use Rattle.zerotrie_core.specs.Texts.{Lists, ListEach, Means}
@@ -88,16 +88,16 @@ same_branch edges edges' targets targets' bytes a b =
       targets_same = same_targets (length edges) (a.width + 1) (drop (length edges) behind_a) targets targets' (targets_behind a) other;
     }
 
-empty_value : (v : ℕ) (spelling rest : List ℕ) → Spells 16 4 v spelling → [] ≡ spelling ++ rest → ⊥
+empty_value : (v : ℕ) (spelling rest : List ℕ) → SpellsAs value_form v spelling → [] ≡ spelling ++ rest → ⊥
 empty_value v spelling rest s e = let f = e ∙ ap (λ x. x ++ rest) s.bytes_are in absurd (cc)
 
 empty_branch : {kind : Kind} {edges : List ℕ} {targets : List (List ℕ)} (bytes : List ℕ) → IsBranch kind edges targets bytes → [] ≡ bytes → ⊥
 empty_branch {targets = targets} bytes b e = let f = e ∙ b.bytes_are ∙ ap (λ x. x ++ (b.table ++ (blocks (b.width + 1) (offsets targets) ++ concat targets))) b.is_head.bytes_are in absurd (cc)
 
-value_literal : (v b : ℕ) (spelling rest after : List ℕ) → Spells 16 4 v spelling → b < 128 → spelling ++ rest ≡ b ∷ after → ⊥
+value_literal : (v b : ℕ) (spelling rest after : List ℕ) → SpellsAs value_form v spelling → b < 128 → spelling ++ rest ≡ b ∷ after → ⊥
 value_literal v b spelling rest after s low e = let range = value_lead v b spelling after rest s e in omega arith
 
-value_branch : {kind : Kind} {edges : List ℕ} {targets : List (List ℕ)} (v : ℕ) (spelling rest bytes : List ℕ) → Spells 16 4 v spelling → IsBranch kind edges targets bytes → spelling ++ rest ≡ bytes → ⊥
+value_branch : {kind : Kind} {edges : List ℕ} {targets : List (List ℕ)} (v : ℕ) (spelling rest bytes : List ℕ) → SpellsAs value_form v spelling → IsBranch kind edges targets bytes → spelling ++ rest ≡ bytes → ⊥
 value_branch {kind = kind} {edges = edges} {targets = targets} v spelling rest bytes s b e =
     let front = ap (λ x. x ++ rest) s.bytes_are in
     let high = branch_lead kind edges targets bytes (s.trail ++ rest) (4 * (2 * 16) + extender s.trail * 16 + s.digit) b (sym e ∙ front) in

@@ -4,7 +4,7 @@ use Rattle.std.proofs.Common.{suc, zero}
 use Rattle.std.specs.List.{concat, range_with_len, sum_by}
 use Rattle.std.specs.List.Sorted.{IsStrictlyIncreasing}
 use Rattle.zerotrie_core.specs.Kind.{Kind, fold_byte, edge_limit, greatest_width, is_hashed}
-use Rattle.zerotrie_core.specs.Numbers.{Spells, spelled}
+use Rattle.zerotrie_core.specs.Numbers.{branch_form, SpellsAs, spelled_as}
 
 -- lengths added up
 abbrev pub total : List ℕ → ℕ
@@ -47,7 +47,7 @@ width n = width_to n n
 -- what stands in front of targets of these lengths: the head, the search table and the offsets
 abbrev pub branch_front : List ℕ → List ℕ → List ℕ
 branch_front table lengths = let w = width (total lengths) in
-    spelled 32 3 (256 * w + length lengths % 256) ++ (table ++ blocks (w + 1) (ends lengths))
+    spelled_as branch_form (256 * w + length lengths % 256) ++ (table ++ blocks (w + 1) (ends lengths))
 
 -- The bytes are a branch with these edges and, one after another, their targets.
 pub record IsBranch (kind : Kind) (edges : List ℕ) (targets : List (List ℕ)) (bytes : List ℕ) : Type 0 where
@@ -60,6 +60,6 @@ pub record IsBranch (kind : Kind) (edges : List ℕ) (targets : List (List ℕ))
   pub edge_bytes : All (λ b. b < edge_limit kind) edges
   pub is_width : IsWidth (length (concat targets)) width
   pub fits : width ≤ greatest_width kind
-  pub is_head : Spells 32 3 (256 * width + length edges % 256) head
+  pub is_head : SpellsAs branch_form (256 * width + length edges % 256) head
   pub is_table : IsTable kind edges table
   pub bytes_are : bytes ≡ head ++ (table ++ (blocks (width + 1) (offsets targets) ++ concat targets))

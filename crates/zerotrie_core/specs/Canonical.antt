@@ -4,14 +4,14 @@ use Rattle.std.specs.Prelude.{ℕ, ◌+◌, List, [], ◌∷◌, ◌++◌, lengt
 use Rattle.std.specs.List.{concat}
 use Rattle.std.specs.FinMap.{entries}
 use Rattle.zerotrie_core.specs.Kind.{Kind, ordered}
-use Rattle.zerotrie_core.specs.Numbers.{spelled}
+use Rattle.zerotrie_core.specs.Numbers.{value_form, spelled_as}
 use Rattle.zerotrie_core.specs.Maps.{Pairs, Map, value_at, edges, residual, longest}
 use Rattle.zerotrie_core.specs.Branches.{total, branch_front, table_size}
 
 -- the value node of the empty key
 abbrev pub value_node : Option ℕ → List ℕ
 value_node None = []
-value_node (Some v) = spelled 16 4 v
+value_node (Some v) = spelled_as value_form v
 
 -- a branch with these edges and targets, its table sorted
 abbrev pub branch_node : List ℕ → List (List ℕ) → List ℕ

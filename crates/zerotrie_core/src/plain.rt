@@ -6,7 +6,7 @@ ghost use Rattle.std.specs.Ordering.{nat_cmp};
 ghost use Rattle.std.specs.Cmp.Lexicographic.{slice_cmp};
 ghost use Rattle.std.specs.declared.cmp.Ordering.TheVariants.{Less};
 ghost use Rattle.zerotrie_core.specs.Kind.{simple_ascii};
-ghost use Rattle.zerotrie_core.specs.Numbers.{Spells};
+ghost use Rattle.zerotrie_core.specs.Numbers.{value_form, SpellsAs};
 ghost use Rattle.zerotrie_core.specs.Maps.{Ascends};
 ghost use Rattle.zerotrie_core.specs.Branches.{IsWidth, blocks};
 ghost use Rattle.zerotrie_core.specs.Items.{pairs_of};
@@ -89,7 +89,7 @@ fn push_number(out: &mut Vec<u8>, bits: u8, number: &[u8]) -> Result<(), ZeroTri
 
 /// Writes a value node.
 fn push_value(out: &mut Vec<u8>, value: usize) -> Result<(), ZeroTrieBuildError>
-    ensures ok { OnOk result ((spelling : List ℕ) × Spells 16 4 value spelling × (out.new.items ≡ out.old.items ++ spelling)) }
+    ensures ok { OnOk result ((spelling : List ℕ) × SpellsAs value_form value spelling × (out.new.items ≡ out.old.items ++ spelling)) }
     ensures err { IfErr result (λ e. e ≡ ZeroTrieBuildError.OutOfMemory) }
 {
     push_number(out, 0x80, &write_varint_meta3(value))
