@@ -13,10 +13,7 @@ use Rattle.zerotrie_core.specs.Texts.ListEach.{no_edge, edge}
 use Rattle.zerotrie_core.specs.Branches.{total, branch_front}
 use Rattle.zerotrie_core.specs.Canonical.{node}
 use Rattle.zerotrie_core.specs.Fits.{OverflowsAt}
-use Rattle.zerotrie_core.proofs.ReaderLemmas.{Rises}
-use Rattle.zerotrie_core.proofs.CanonLaws.{lists_some}
-use Rattle.zerotrie_core.proofs.FrontLemmas.{total-lengths, node_many}
-use Rattle.zerotrie_core.proofs.EncodeLaws.{node_lists, not_empty_text}
+use Rattle.zerotrie_core.proofs.CallerLemmas.{Rises, lists_some, total-lengths, node_many, node_lists, not_empty_text}
 use Rattle.zerotrie_build.specs.declared.siblings.Sibling.{Sibling}
 use Rattle.zerotrie_build.specs.Growing.{DepthsBelow, NoneAt, ComesBefore, Aside, Holds, Waits, Stands, AllAt, TakesOff}
 use Rattle.zerotrie_build.proofs.Runs.{with_run-nil, with_run-append, take_one_more, run_step}
