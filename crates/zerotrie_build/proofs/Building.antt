@@ -11,13 +11,9 @@ use Rattle.zerotrie_core.specs.Maps.{Pairs, Map, map_of, Ascends, RepeatsKey}
 use Rattle.zerotrie_core.specs.Texts.{Lists, Means}
 use Rattle.zerotrie_core.specs.Fits.{ExceedsCapacity}
 use Rattle.zerotrie_core.specs.Laws.{MeansFits, MeansCanonical}
-use Rattle.zerotrie_core.proofs.OrderLaws.{entries-map_of}
-use Rattle.zerotrie_core.proofs.RefusalLemmas.{ascends_apart}
-use Rattle.zerotrie_core.proofs.FitsLaws.{consistent_entries}
-use Rattle.zerotrie_core.specs.Causes.{Cause}
+use Rattle.zerotrie_core.proofs.CallerLemmas.{entries-map_of, ascends_apart, consistent_entries}
+use Rattle.zerotrie_core.specs.Causes.{Cause, ZeroTrieBuildError, NonAsciiError, CapacityExceeded, MixedCase, DuplicateKey, Unsorted, OutOfMemory}
 use Rattle.zerotrie_core.specs.Built.{IsBuilt}
-use Rattle.zerotrie_core.specs.declared.error.ZeroTrieBuildError.{ZeroTrieBuildError}
-use Rattle.zerotrie_core.specs.declared.error.ZeroTrieBuildError.TheVariants.{NonAsciiError, CapacityExceeded, MixedCase, DuplicateKey, Unsorted, OutOfMemory}
 use Rattle.zerotrie_build.proofs.Items.{below_or_from}
 use Rattle.zerotrie_build.proofs.Sorting.{entries_ascend, map_of-entries}
 

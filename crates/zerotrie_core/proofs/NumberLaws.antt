@@ -3,7 +3,7 @@ use Rattle.std.proofs.Common.{◌≡◌, ℕ, zero, suc, ◌+◌, ◌-◌, ◌*�
 use Rattle.std.proofs.lemmas.Bool.{cases_lt, lt-ltb, le-ltb}
 use Rattle.std.proofs.Common.{lit≤, lit<}
 use Rattle.std.proofs.Math.Nat.{pow-suc, mul-le-mul_right, div-one, div-div-eq-div-mul, div-lt_iff_lt-mul, one-le-pow}
-use Rattle.zerotrie_core.specs.Numbers.{IsTrail, base_128, latent, extender, Spells, trails_from, trail_bytes, spelled}
+use Rattle.zerotrie_core.specs.Numbers.{IsTrail, base_128, latent, extender, Spells, trails_from, trail_bytes, spelled, Form, SpellsAs, spelled_as}
 use Rattle.zerotrie_core.proofs.NumberLemmas.{base_128-shift, extender_one, one_reading}
 
 split_first_digit : (a : ℕ) (ts : List ℕ) → base_128 a ts ≡ base_128 0 ts + a * 128 ^ length ts
@@ -154,6 +154,10 @@ spells_spelled L m v below form =
       bytes_are = refl;
       value = rw (whole, count) (omega arith);
     }
+
+-- bytes that spell a number in a form are its spelling
+pub spelling_is : (form : Form) (v : ℕ) (bytes : List ℕ) → (form.latent_value ≡ 16) ⊎ (form.latent_value ≡ 32) → SpellsAs form v bytes → bytes ≡ spelled_as form v
+spelling_is form v bytes known s = one_spelling form.latent_value form.metadata v bytes _ s (spells_spelled form.latent_value form.metadata v s.below known)
 
 lead_below : (L e d : ℕ) → e ≤ 1 → d < L → e * L + d < 2 * L
 lead_below L zero d h l = omega arith

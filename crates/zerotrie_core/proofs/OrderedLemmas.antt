@@ -1,11 +1,12 @@
 -- The edges in the order of a kind's tables.
-use Rattle.std.proofs.Common.{◌≡◌, ℕ, zero, suc, ◌+◌, ◌<◌, ◌≤◌, List, [], ◌∷◌, length, refl, sym, ◌∙◌, ap, subst, arith, inl, inr, map, Bool, true, false, cond, eqb, ltb, sum}
+use Rattle.std.proofs.Common.{◌≡◌, ℕ, zero, suc, ◌+◌, ◌<◌, ◌≤◌, List, [], ◌∷◌, length, refl, sym, ◌∙◌, ap, subst, arith, inl, inr, map, Bool, true, false, cond, eqb, ltb}
 use Rattle.std.specs.Prelude.{◌||◌, filter}
 use Rattle.std.specs.List.{range_with_len}
 use Rattle.std.proofs.lemmas.Bool.{eq-eqb, eqb-true, ne_eqb, lt-ltb, le-ltb, cases_lt, cases_eq, or_cases}
 use Rattle.std.proofs.lemmas.List.Sums.{sum_by-cons}
 use Rattle.zerotrie_core.specs.Kind.{Kind, simple_ascii, ignore_case, IsAscii, fold_byte, ordered, sorted_by, put_by}
 use Rattle.zerotrie_core.specs.Maps.{Pairs, begins_some, edges}
+use Rattle.zerotrie_core.specs.Branches.{total}
 use Rattle.zerotrie_core.proofs.EdgeLemmas.{Rise, Rise-lower, member, member-below, member_head, member_later}
 use Rattle.zerotrie_core.proofs.TableLemmas.{Each, NoneLike, Distinct, Rises, AllAbove, AllAbove-lower}
 
@@ -45,24 +46,24 @@ pub length-ordered : (kind : Kind) (es : List ℕ) → length (ordered kind es) 
 length-ordered simple_ascii es = refl
 length-ordered ignore_case es = length-sorted_by (fold_byte ignore_case) es
 
-sum-cons : (x : ℕ) (xs : List ℕ) → sum (x ∷ xs) ≡ x + sum xs
-sum-cons x xs = sum_by-cons (λ y. y) x xs
+total-cons : (x : ℕ) (xs : List ℕ) → total (x ∷ xs) ≡ x + total xs
+total-cons x xs = sum_by-cons (λ y. y) x xs
 
-sum-put_by : (fold f : ℕ → ℕ) (a : ℕ) (es : List ℕ) → sum (map f (put_by fold a es)) ≡ f a + sum (map f es)
-sum-put_by fold f a [] = sum-cons (f a) []
-sum-put_by fold f a (c ∷ es) = both (λ x. sum (map f x) ≡ f a + sum (map f (c ∷ es))) (ltb (fold c) (fold a)) (c ∷ put_by fold a es) (a ∷ c ∷ es)
-    (let first = sum-cons (f c) (map f (put_by fold a es)) in let rest = sum-put_by fold f a es in let last = sum-cons (f c) (map f es) in omega arith)
-    (sum-cons (f a) (map f (c ∷ es)))
+total-put_by : (fold f : ℕ → ℕ) (a : ℕ) (es : List ℕ) → total (map f (put_by fold a es)) ≡ f a + total (map f es)
+total-put_by fold f a [] = total-cons (f a) []
+total-put_by fold f a (c ∷ es) = both (λ x. total (map f x) ≡ f a + total (map f (c ∷ es))) (ltb (fold c) (fold a)) (c ∷ put_by fold a es) (a ∷ c ∷ es)
+    (let first = total-cons (f c) (map f (put_by fold a es)) in let rest = total-put_by fold f a es in let last = total-cons (f c) (map f es) in omega arith)
+    (total-cons (f a) (map f (c ∷ es)))
 
-sum-sorted_by : (fold f : ℕ → ℕ) (es : List ℕ) → sum (map f (sorted_by fold es)) ≡ sum (map f es)
-sum-sorted_by fold f [] = refl
-sum-sorted_by fold f (e ∷ es) =
-    sum-put_by fold f e (sorted_by fold es) ∙ ap (λ n. f e + n) (sum-sorted_by fold f es) ∙ sym (sum-cons (f e) (map f es))
+total-sorted_by : (fold f : ℕ → ℕ) (es : List ℕ) → total (map f (sorted_by fold es)) ≡ total (map f es)
+total-sorted_by fold f [] = refl
+total-sorted_by fold f (e ∷ es) =
+    total-put_by fold f e (sorted_by fold es) ∙ ap (λ n. f e + n) (total-sorted_by fold f es) ∙ sym (total-cons (f e) (map f es))
 
 -- sums over the edges stay
-pub sum-ordered : (kind : Kind) (f : ℕ → ℕ) (es : List ℕ) → sum (map f (ordered kind es)) ≡ sum (map f es)
-sum-ordered simple_ascii f es = refl
-sum-ordered ignore_case f es = sum-sorted_by (fold_byte ignore_case) f es
+pub total-ordered : (kind : Kind) (f : ℕ → ℕ) (es : List ℕ) → total (map f (ordered kind es)) ≡ total (map f es)
+total-ordered simple_ascii f es = refl
+total-ordered ignore_case f es = total-sorted_by (fold_byte ignore_case) f es
 
 -- what is so of each edge stays
 pub Each-put_by : (P : ℕ → Type 0) (fold : ℕ → ℕ) (a : ℕ) (es : List ℕ) → P a → Each P es → Each P (put_by fold a es)

@@ -2,7 +2,8 @@ use Rattle.std.proofs.Common.{◌≡◌, [], ◌∷◌, refl}
 use Rattle.zerotrie_core.specs.Kind.{simple_ascii}
 use Rattle.zerotrie_core.specs.Maps.{Pairs, edges}
 use Rattle.zerotrie_core.specs.Numbers.{spelled}
-use Rattle.zerotrie_core.specs.Canonical.{enc_to, size_to, width}
+use Rattle.zerotrie_core.specs.Branches.{width}
+use Rattle.zerotrie_core.specs.Canonical.{enc_to, size_to}
 
 row2 : Pairs
 row2 = ([], 11) ∷ (97 ∷ 100 ∷ [], 22) ∷ (97 ∷ 100 ∷ 101 ∷ 102 ∷ [], 33) ∷ (97 ∷ 100 ∷ 103 ∷ 104 ∷ 107 ∷ [], 44) ∷ []

@@ -3,8 +3,8 @@ use Rattle.std.specs.Prelude.{◌≤◌, Any}
 use Rattle.zerotrie_core.specs.Kind.{Kind, edge_limit}
 use Rattle.zerotrie_core.specs.Maps.{Pairs, map_of, Ascends, RepeatsKey, IsCaseConsistent}
 use Rattle.zerotrie_core.specs.Fits.{ExceedsCapacity}
-use Rattle.zerotrie_base.specs.declared.error.ZeroTrieBuildError.{ZeroTrieBuildError}
-use Rattle.zerotrie_base.specs.declared.error.ZeroTrieBuildError.TheVariants.{NonAsciiError, CapacityExceeded, CouldNotSolvePerfectHash, MixedCase, IllegalDelimiter, DuplicateKey, Unsorted, BufferTooSmall, BufferTooLarge, StackExceeded, OutOfMemory}
+pub use Rattle.zerotrie_base.specs.declared.error.ZeroTrieBuildError.{ZeroTrieBuildError}
+pub use Rattle.zerotrie_base.specs.declared.error.ZeroTrieBuildError.TheVariants.{NonAsciiError, CapacityExceeded, CouldNotSolvePerfectHash, MixedCase, IllegalDelimiter, DuplicateKey, Unsorted, BufferTooSmall, BufferTooLarge, StackExceeded, OutOfMemory}
 
 -- The cause of a refusal of a build of the pairs into a text of the kind, however long. Want of memory has
 -- none, and the errors of arrays, delimiters and hashes have none here.

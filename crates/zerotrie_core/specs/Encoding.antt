@@ -1,9 +1,9 @@
 -- What the parts of the plain encoder do.
-use Rattle.std.specs.Prelude.{◌≡◌, ◌≢◌, ℕ, ◌+◌, ◌*◌, ◌%◌, ◌<◌, ◌≤◌, ◌⊎◌, List, [], ◌∷◌, ◌++◌, length, map, drop, slice_index}
+use Rattle.std.specs.Prelude.{◌≡◌, ◌≢◌, ℕ, ◌+◌, ◌<◌, ◌≤◌, ◌⊎◌, List, [], ◌∷◌, ◌++◌, length, map, drop, slice_index}
+use Rattle.std.specs.List.{concat}
 use Rattle.zerotrie_core.specs.Kind.{simple_ascii}
-use Rattle.zerotrie_core.specs.Numbers.{Spells}
 use Rattle.zerotrie_core.specs.Maps.{Pairs, with_front, Ascends}
-use Rattle.zerotrie_core.specs.Branches.{IsWidth, blocks}
+use Rattle.zerotrie_core.specs.Branches.{offsets}
 use Rattle.zerotrie_core.specs.Texts.{Lists}
 use Rattle.zerotrie_core.specs.Fits.{OverflowsAt}
 use Rattle.zerotrie_core.specs.Items.{Items}
@@ -52,9 +52,9 @@ IsBranching pairs = (b : ℕ) (behind : Pairs) → pairs ≢ with_front b behind
 abbrev pub TooWide : Pairs → Type 0
 TooWide pairs = (front : List ℕ) × OverflowsAt simple_ascii front pairs
 
--- why the pairs are refused
-abbrev pub IsRefusal : Pairs → ZeroTrieBuildError → Type 0
-IsRefusal pairs e = (e ≡ OutOfMemory) ⊎ ((e ≡ CapacityExceeded) × TooWide pairs)
+-- why no text of the pairs is written
+abbrev pub CannotWrite : Pairs → ZeroTrieBuildError → Type 0
+CannotWrite pairs e = (e ≡ OutOfMemory) ⊎ ((e ≡ CapacityExceeded) × TooWide pairs)
 
 -- a text of the pairs was appended
 pub record Writes (before after : List ℕ) (pairs : Pairs) : Type 0 where
@@ -75,11 +75,8 @@ abbrev pub with_bits : ℕ → List ℕ → List ℕ
 with_bits bits [] = []
 with_bits bits (lead ∷ trail) = (bits + lead) ∷ trail
 
--- The bytes are a branch with these edges, offsets and target bytes.
-pub record BranchBytes (edge_bytes offsets targets bytes : List ℕ) : Type 0 where
-  pub head : List ℕ
-  pub width : ℕ
-  pub is_width : IsWidth (length targets) width
-  pub fits : width ≤ 3
-  pub is_head : Spells 32 3 (256 * width + length edge_bytes % 256) head
-  pub bytes_are : bytes ≡ head ++ (edge_bytes ++ (blocks (width + 1) offsets ++ targets))
+-- A text for each of these edges: where they end but for the last, and their bytes, one after another.
+pub record AreTargets (texts : List (List ℕ)) (edges ends target_bytes : List ℕ) : Type 0 where
+  pub count : length texts ≡ length edges
+  pub offsets_are : ends ≡ offsets texts
+  pub bytes_are : target_bytes ≡ concat texts

@@ -1,7 +1,7 @@
 -- The grammar: which bytes are a text of a kind, and which pairs they list.
 use Rattle.std.specs.Prelude.{◌≡◌, ◌≢◌, ℕ, ◌+◌, ◌/◌, ◌^◌, ◌<◌, List, [], ◌∷◌, ◌++◌, length, if◌then◌else◌}
 use Rattle.zerotrie_core.specs.Kind.{Kind, same_byte}
-use Rattle.zerotrie_core.specs.Numbers.{Spells}
+use Rattle.zerotrie_core.specs.Numbers.{value_form, SpellsAs}
 use Rattle.zerotrie_core.specs.Maps.{Pairs, Map, map_of, with_front}
 use Rattle.zerotrie_core.specs.Branches.{IsBranch}
 
@@ -14,7 +14,7 @@ mutual
   -- The bytes are a text of the kind, and list these pairs in this order.
   pub data Lists (kind : Kind) : List ℕ → Pairs → Type 0 where
     nothing : Lists kind [] []
-    value : {v : ℕ} {spelling rest : List ℕ} {pairs : Pairs} → Spells 16 4 v spelling → NoValueFirst rest → Lists kind rest pairs → Lists kind (spelling ++ rest) (([], v) ∷ pairs)
+    value : {v : ℕ} {spelling rest : List ℕ} {pairs : Pairs} → SpellsAs value_form v spelling → NoValueFirst rest → Lists kind rest pairs → Lists kind (spelling ++ rest) (([], v) ∷ pairs)
     literal : {b : ℕ} {rest : List ℕ} {pairs : Pairs} → b < 128 → rest ≢ [] → Lists kind rest pairs → Lists kind (b ∷ rest) (with_front b pairs)
     branch : {edges : List ℕ} {targets : List (List ℕ)} {bytes : List ℕ} {pairs : Pairs} → IsBranch kind edges targets bytes → ListEach kind edges targets pairs → Lists kind bytes pairs
 

@@ -6,15 +6,13 @@ ghost use Rattle.std.specs.Ordering.{nat_cmp};
 ghost use Rattle.std.specs.Cmp.Lexicographic.{slice_cmp};
 ghost use Rattle.std.specs.declared.cmp.Ordering.TheVariants.{Less};
 ghost use Rattle.zerotrie_core.specs.Kind.{simple_ascii};
-ghost use Rattle.zerotrie_core.specs.Numbers.{Spells};
-ghost use Rattle.zerotrie_core.specs.Maps.{Ascends, map_of};
+ghost use Rattle.zerotrie_core.specs.Numbers.{value_form, SpellsAs};
+ghost use Rattle.zerotrie_core.specs.Maps.{Ascends};
 ghost use Rattle.zerotrie_core.specs.Branches.{IsWidth, blocks};
 ghost use Rattle.zerotrie_core.specs.Items.{pairs_of};
-ghost use Rattle.zerotrie_core.specs.Texts.{Means};
-ghost use Rattle.zerotrie_core.specs.Canonical.{enc};
-ghost use Rattle.zerotrie_core.specs.Fits.{Fits};
-ghost use Rattle.zerotrie_core.specs.Causes.{Cause};
-ghost use Rattle.zerotrie_core.specs.Encoding.{pairs_from, AsciiKeys, Deep, BeginsAll, BeginsNone, IsBranching, IsRefusal, Writes, Leads, with_bits, BranchBytes};
+ghost use Rattle.zerotrie_core.specs.Canonical.{branch_node};
+ghost use Rattle.zerotrie_core.specs.Routes.{ascending, IsBuild};
+ghost use Rattle.zerotrie_core.specs.Encoding.{pairs_from, AsciiKeys, Deep, BeginsAll, BeginsNone, IsBranching, CannotWrite, Writes, Leads, with_bits, AreTargets};
 
 use crate::varint::{write_varint_meta2, write_varint_meta3};
 use std::alloc::Global;
@@ -91,7 +89,7 @@ fn push_number(out: &mut Vec<u8>, bits: u8, number: &[u8]) -> Result<(), ZeroTri
 
 /// Writes a value node.
 fn push_value(out: &mut Vec<u8>, value: usize) -> Result<(), ZeroTrieBuildError>
-    ensures ok { OnOk result ((spelling : List ℕ) × Spells 16 4 value spelling × (out.new.items ≡ out.old.items ++ spelling)) }
+    ensures ok { OnOk result ((spelling : List ℕ) × SpellsAs value_form value spelling × (out.new.items ≡ out.old.items ++ spelling)) }
     ensures err { IfErr result (λ e. e ≡ ZeroTrieBuildError.OutOfMemory) }
 {
     push_number(out, 0x80, &write_varint_meta3(value))
@@ -146,7 +144,9 @@ fn push_branch(
     offsets: &[usize],
     targets: &[u8],
 ) -> Result<(), ZeroTrieBuildError>
-    ensures ok { OnOk result ((bytes : List ℕ) × BranchBytes edges.now offsets.now targets.now bytes × (out.new.items ≡ out.old.items ++ bytes)) }
+    ensures ok { OnOk result ((texts : List (List ℕ)) → AreTargets texts edges.now offsets.now targets.now
+        → out.new.items ≡ out.old.items ++ branch_node edges.now texts) }
+    ensures narrow { OnOk result (length targets.now < 2 ^ 32) }
     ensures err { IfErr result (λ e. (e ≡ ZeroTrieBuildError.OutOfMemory) ⊎ ((e ≡ ZeroTrieBuildError.CapacityExceeded) × (2 ^ 32 ≤ length targets.now))) }
 {
     let width = width_of(targets.len()).ok_or(ZeroTrieBuildError::CapacityExceeded)?;
@@ -209,7 +209,7 @@ fn encode(
     requires ascends { Ascends (pairs_from depth items.now) }
     requires ascii { AsciiKeys (pairs_from depth items.now) }
     ensures ok { OnOk result (Writes out.old.items out.new.items (pairs_from depth items.now)) }
-    ensures err { IfErr result (IsRefusal (pairs_from depth items.now)) }
+    ensures err { IfErr result (CannotWrite (pairs_from depth items.now)) }
 {
     let (ended, depth) = push_run(out, items, depth)?;
     let (_, items) = items.split_at(ended);
@@ -259,11 +259,7 @@ fn encode(
 ///   offset of four bytes reaches.
 /// - `OutOfMemory`: the text or a part of it could not grow.
 pub fn plain_encode(alloc: Global, items: &[(&[u8], usize)]) -> Result<Vec<u8>, ZeroTrieBuildError>
-    ensures ascends { OnOk result (Ascends (pairs_of items.now)) }
-    ensures fits { OnOk result (Fits simple_ascii (map_of (pairs_of items.now))) }
-    ensures text { IfOk result (λ text. text.items ≡ enc simple_ascii (map_of (pairs_of items.now))) }
-    ensures means { IfOk result (λ text. Means simple_ascii text.items (map_of (pairs_of items.now))) }
-    ensures cause { IfErr result (λ e. e ≢ ZeroTrieBuildError.OutOfMemory → Cause simple_ascii (pairs_of items.now) e) }
+    ensures { IsBuild ascending simple_ascii (λ text. text.items) (pairs_of items.now) result }
 {
     if !is_ascending(items) {
         return Err(ZeroTrieBuildError::Unsorted);

@@ -6,10 +6,9 @@ use Rattle.zerotrie_core.specs.Kind.{simple_ascii, ignore_case}
 use Rattle.zerotrie_core.specs.Items.{pairs_of}
 use Rattle.zerotrie_core.specs.Maps.{IsCaseConsistent, map_of}
 use Rattle.zerotrie_core.specs.Causes.{Cause}
-use Rattle.zerotrie_core.proofs.KindLemmas.{edge_limit_is}
+use Rattle.zerotrie_core.proofs.CallerLemmas.{edge_limit_is, ascends_apart}
 use Rattle.zerotrie_build.specs.Items.{pairs}
 use Rattle.zerotrie_build.specs.Order.{Ordered}
-use Rattle.zerotrie_core.proofs.RefusalLemmas.{ascends_apart}
 use Rattle.zerotrie_build.proofs.Building.{some_not_ascii, grown_means, grown_refused}
 use Rattle.zerotrie_build.proofs.Casing.{ascends_ordered, map_permuted, ascii_by, simple_by, ignore_by}
 use Rattle.zerotrie_build.proofs.builder.grow_ascii.Goals as goal

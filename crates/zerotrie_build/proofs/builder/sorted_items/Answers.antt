@@ -2,7 +2,7 @@ use Rattle.std.proofs.Common.{◌≡◌, ◌+◌, suc, sym, ap, subst, ◌∙◌
 use Rattle.std.specs.FinMap.{entries}
 use Rattle.zerotrie_core.specs.Maps.{RepeatsKey, Ascends, map_of}
 use Rattle.zerotrie_core.specs.Items.{pairs_of}
-use Rattle.zerotrie_core.proofs.OrderLaws.{entries-map_of}
+use Rattle.zerotrie_core.proofs.CallerLemmas.{entries-map_of}
 use Rattle.zerotrie_core.specs.Items.{keyed}
 use Rattle.zerotrie_build.proofs.Sorting.{added, repeated, entries_ascend, take_all}
 use Rattle.zerotrie_build.proofs.builder.sorted_items.Goals as goal
