@@ -9,7 +9,8 @@ use Rattle.std.specs.BTreeMap.{insert_entry, is_at}
 use Rattle.std.proofs.lemmas.Cmp.{tied_itself, nat_list_cmp_total}
 use Rattle.zerotrie_base.specs.declared.byte_phf.PerfectByteHashMap.{PerfectByteHashMap}
 use Rattle.zerotrie_base.specs.Hashes.{IsPerfectTable}
-use Rattle.zerotrie_base.specs.Caches.{Tables, tables_of, find, put, AllPerfect}
+use Rattle.zerotrie_base.specs.Caches.{Tables, find, put, AllPerfect}
+use Rattle.zerotrie_base.specs.byte_phf.Held.{tables_of}
 
 -- a vector of keys with its table
 abbrev pub Entry : Type 0

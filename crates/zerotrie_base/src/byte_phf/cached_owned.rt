@@ -5,7 +5,8 @@ ghost use Rattle.std.specs.Borrow.{sem};
 ghost use Rattle.std.specs.List.{IsDistinct};
 ghost use Rattle.zerotrie_base.specs.Hashes.{IsPerfectTable};
 ghost use Rattle.zerotrie_base.specs.Refusals.{IsTableRefusal};
-ghost use Rattle.zerotrie_base.specs.Caches.{Tables, held, AllPerfect, find, put};
+ghost use Rattle.zerotrie_base.specs.Caches.{Tables, AllPerfect, find, put};
+ghost use Rattle.zerotrie_base.specs.byte_phf.Held.{held};
 
 use super::PerfectByteHashMap;
 use crate::error::ZeroTrieBuildError;
@@ -16,9 +17,10 @@ use std::marker::Model;
 /// Tables by the keys that they were made for.
 ///
 /// ```
-/// let mut cache = PerfectByteHashMapCacheOwned::new_empty(alloc);
-/// let keys = Vec::from_slice(alloc, b"aceg")?;
-/// assert_eq!(cache.try_get_or_insert(keys)?.get(b'e'), Some(0));
+/// let mut cache = PerfectByteHashMapCacheOwned::new_empty(rt.alloc());
+/// let keys = Vec::from_slice(rt.alloc(), b"aceg")?;
+/// assert!(rt; are_distinct(keys.as_slice()));
+/// assert_eq!(rt; cache.try_get_or_insert(keys)?.get(b'e'), Some(0));
 /// ```
 ///
 /// Keys in another order are other keys.

@@ -1,5 +1,6 @@
 use Rattle.std.proofs.Common.{◌≡◌, ap, ◌∙◌, subst, sym}
-use Rattle.zerotrie_base.specs.Caches.{tables_of, held, put, AllPerfect}
+use Rattle.zerotrie_base.specs.Caches.{put, AllPerfect}
+use Rattle.zerotrie_base.specs.byte_phf.Held.{tables_of, held}
 use Rattle.zerotrie_base.proofs.CacheLemmas.{tables_of-insert_entry, perfect-put}
 use Rattle.zerotrie_base.proofs.byte_phf.cached_owned.PerfectByteHashMapCacheOwned.add.Goals as goal
 

@@ -1,5 +1,6 @@
 use Rattle.std.proofs.Common.{ap, sym, ◌∙◌, ◌≡◌, is_some, option_map, Some, None, true, false}
-use Rattle.zerotrie_base.specs.Caches.{find, held}
+use Rattle.zerotrie_base.specs.Caches.{find}
+use Rattle.zerotrie_base.specs.byte_phf.Held.{held}
 use Rattle.zerotrie_base.proofs.CacheLemmas.{find_lookup, perfect_found}
 use Rattle.zerotrie_base.proofs.byte_phf.cached_owned.PerfectByteHashMapCacheOwned.held_table.Goals as goal
 
