@@ -91,6 +91,7 @@ impl PerfectByteHashMapCacheOwned {
     }
 
     /// Makes and holds the table where it is not held.
+    #[tactic(auto, using(crate::proofs::CacheLemmas::there_after))]
     fn hold(&mut self, keys: &[u8]) -> Result<(), ZeroTrieBuildError>
         requires { IsDistinct nat_eq keys.now }
         ensures held { IsSome (find keys.now self.old) → IsOk result × (self.new ≡ self.old) }

@@ -54,6 +54,7 @@ pub fn f1(byte: u8, p: u8, n: u8) -> u8
 /// The remainder by `n` of the byte and `q` in exclusive or. That number is first turned `q - 95` times
 /// where `q` is above 95: one turn is its exclusive or with itself shifted left and right by one, in
 /// eight bits. An `n` of 0 stands for 256: every byte is its own place.
+#[tactic(auto, using(crate::proofs::HashLemmas::turned_more))]
 pub fn f2(byte: u8, q: u8, n: u8) -> u8
     ensures { result ≡ f2 byte q n }
 {
