@@ -10,7 +10,7 @@ pub mod Causes
 pub mod Built
 pub mod Routes
 pub mod Items
-pub mod Encoding
+pub mod plain
 pub mod Reading
 pub mod Descending
 pub mod Laws
