@@ -12,7 +12,7 @@ use Rattle.zerotrie_core.specs.Numbers.{branch_form, spelled_as}
 use Rattle.zerotrie_core.specs.Maps.{Pairs, with_front, begins_some, edges, residual, value_at, FirstAbove, common_front}
 use Rattle.zerotrie_core.specs.Branches.{IsBranch, blocks, offsets, width}
 use Rattle.zerotrie_core.specs.Branches.IsTable.{sorted}
-use Rattle.zerotrie_core.specs.Encoding.{AsciiKey}
+use Rattle.zerotrie_core.specs.plain.Encoding.{AsciiKey}
 use Rattle.zerotrie_core.specs.Texts.{Lists, ListEach, NoValueFirst}
 use Rattle.zerotrie_core.specs.Texts.Lists.{nothing, value, literal, branch}
 use Rattle.zerotrie_core.specs.Texts.ListEach.{no_edge, edge}

@@ -14,7 +14,7 @@ use Rattle.zerotrie_core.specs.Texts.{Lists, ListEach, Means}
 use Rattle.zerotrie_core.specs.Texts.Lists.{nothing, value, literal, branch}
 use Rattle.zerotrie_core.specs.Texts.ListEach.{no_edge, edge}
 use Rattle.zerotrie_core.specs.Fits.{targets_size, Fits}
-use Rattle.zerotrie_core.specs.Encoding.{AsciiKey, AsciiKeys}
+use Rattle.zerotrie_core.specs.plain.Encoding.{AsciiKey, AsciiKeys}
 use Rattle.zerotrie_core.proofs.EdgeLemmas.{residual-front, residual-other}
 use Rattle.zerotrie_core.proofs.TableLemmas.{Distinct, none_member, table_distinct}
 use Rattle.zerotrie_core.proofs.SameLemmas.{Same, same-edges, same-behind, same-targets}

@@ -10,7 +10,7 @@ use Rattle.zerotrie_core.specs.Texts.{Lists, ListEach}
 use Rattle.zerotrie_core.specs.Texts.Lists.{nothing, value, literal}
 use Rattle.zerotrie_core.specs.Texts.ListEach.{no_edge, edge}
 use Rattle.zerotrie_core.specs.Fits.{OverflowsAt}
-use Rattle.zerotrie_core.specs.Encoding.{AsciiKeys, weight, IsBranching, CannotWrite, TooWide, Writes, Leads, AreTargets}
+use Rattle.zerotrie_core.specs.plain.Encoding.{AsciiKeys, weight, IsBranching, CannotWrite, TooWide, Writes, Leads, AreTargets}
 use Rattle.zerotrie_base.specs.declared.error.ZeroTrieBuildError.{ZeroTrieBuildError}
 use Rattle.zerotrie_base.specs.declared.error.ZeroTrieBuildError.TheVariants.{OutOfMemory, CapacityExceeded}
 use Rattle.zerotrie_core.proofs.EdgeLemmas.{Rise, residual-append, residual-front}

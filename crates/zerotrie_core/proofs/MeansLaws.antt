@@ -10,7 +10,7 @@ use Rattle.zerotrie_core.specs.Texts.{Means}
 use Rattle.zerotrie_core.specs.Branches.{total}
 use Rattle.zerotrie_core.specs.Canonical.{enc, enc_of, enc_to, size, size_of, size_to, rest_size, value_node}
 use Rattle.zerotrie_core.specs.Fits.{targets_size, Fits}
-use Rattle.zerotrie_core.specs.Encoding.{AsciiKey}
+use Rattle.zerotrie_core.specs.plain.Encoding.{AsciiKey}
 use Rattle.zerotrie_core.proofs.CanonLaws.{Shorter, shorter_none, edges_none}
 use Rattle.zerotrie_core.proofs.OrderedLemmas.{total-ordered}
 use Rattle.zerotrie_core.proofs.SameLemmas.{Same, value_at-find, exact_same, longest_least, map_agree, rest_agree}

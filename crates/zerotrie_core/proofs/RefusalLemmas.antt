@@ -15,7 +15,7 @@ use Rattle.zerotrie_core.specs.Fits.{OverflowsAt, ExceedsCapacity}
 use Rattle.zerotrie_core.specs.Causes.{Cause}
 use Rattle.zerotrie_core.specs.Built.{IsBuilt}
 use Rattle.zerotrie_core.specs.Routes.{ascending, IsRefusal}
-use Rattle.zerotrie_core.specs.Encoding.{pairs_from, AsciiKey, AsciiKeys, Deep, TooWide, CannotWrite, Writes}
+use Rattle.zerotrie_core.specs.plain.Encoding.{pairs_from, AsciiKey, AsciiKeys, Deep, TooWide, CannotWrite, Writes}
 use Rattle.zerotrie_base.specs.declared.error.ZeroTrieBuildError.{ZeroTrieBuildError}
 use Rattle.zerotrie_core.proofs.OrderLaws.{entries-map_of, means_enc}
 use Rattle.zerotrie_core.proofs.FitsLaws.{fits_meant}

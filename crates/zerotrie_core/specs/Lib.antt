@@ -13,6 +13,6 @@ pub mod Causes
 pub mod Built
 pub mod Routes
 pub mod Items
-pub mod Encoding
+pub mod plain
 pub mod reader
 pub mod Laws

@@ -1,12 +1,12 @@
 use Rattle.std.proofs.Common.{◌≤◌, length, ◌++◌, refl, ap, ◌∙◌, subst}
 use Rattle.std.specs.Prelude.{IfSome}
 use Rattle.zerotrie_core.specs.Branches.{IsWidth}
-use Rattle.zerotrie_core.specs.Encoding.{with_bits}
+use Rattle.zerotrie_core.specs.plain.Encoding.{with_bits}
 use Rattle.zerotrie_core.proofs.FrontLemmas.{within_width}
 use Rattle.zerotrie_core.proofs.CutLemmas.{marked, joined}
 use Rattle.zerotrie_core.proofs.GroupLemmas.{branch_written}
-use Rattle.zerotrie_core.proofs.plain.push_branch.Goals as goal
-use Rattle.zerotrie_core.proofs.plain.push_branch.Goals.{In_ok-extend_from_slice-2}
+use Rattle.zerotrie_core.proofs.plain.nodes.push_branch.Goals as goal
+use Rattle.zerotrie_core.proofs.plain.nodes.push_branch.Goals.{In_ok-extend_from_slice-2}
 
 width_here : (c : In_ok-extend_from_slice-2) → (c.in_ok-width.width ≤ 3) × IsWidth (length c.args.targets.now) c.in_ok-width.width
 width_here c = subst (λ r. IfSome r (λ w. (w ≤ 3) × IsWidth (length c.args.targets.now) w)) c.in_ok-width.ensures.ok_part c.width_of.ensures.width
