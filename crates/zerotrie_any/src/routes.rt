@@ -1,14 +1,10 @@
 //! The routes by which the bytes of a trie of any kind are built.
 
-ghost use Rattle.std.specs.Prelude.{◌≡◌, ◌≢◌, IfOk, OnOk, IfErr};
-ghost use Rattle.std.specs.Iterator.{IsFinite};
-ghost use Rattle.std.specs.Iterator.Runs.{WholeRun};
+ghost use Rattle.std.specs.Prelude.{◌≡◌, IfOk, OnOk};
 ghost use Rattle.zerotrie_core.specs.Kind.{IsAscii};
-ghost use Rattle.zerotrie_core.specs.Maps.{Ascends, RepeatsKey};
-ghost use Rattle.zerotrie_core.specs.Items.{pairs_of};
-ghost use Rattle.zerotrie_core.specs.Causes.{Cause};
-ghost use Rattle.zerotrie_core.specs.Items.{keyed};
-ghost use Rattle.zerotrie_core.specs.Built.{IsBuilt};
+ghost use Rattle.zerotrie_core.specs.Maps.{Ascends};
+ghost use Rattle.zerotrie_core.specs.Items.{pairs_of, keyed};
+ghost use Rattle.zerotrie_core.specs.Routes.{ascending, in_order, IsBuild, CanRun, OfAllGiven, IsBuildOfAll};
 ghost use Rattle.zerotrie_any.specs.Order.{IsByBytes};
 
 use std::alloc::{AllocError, Global};
@@ -37,10 +33,7 @@ pub fn bytes_from_slice<K: ZeroTrieWithOptions>(
     items: &[(&[u8], usize)],
 ) -> Result<Vec<u8>, ZeroTrieBuildError>
     requires { IsAscii K.kind }
-    ensures ascends { OnOk result (Ascends (pairs_of items.now)) }
-    ensures built { IfOk result (λ bytes. IsBuilt K.kind (pairs_of items.now) bytes.items) }
-    ensures cause { IfErr result (λ e. e ≢ ZeroTrieBuildError.OutOfMemory → Cause K.kind (pairs_of items.now) e) }
-    ensures never { IfErr result (λ e. e ≢ ZeroTrieBuildError.DuplicateKey) }
+    ensures { IsBuild ascending K.kind (λ bytes. bytes.items) (pairs_of items.now) result }
 {
     let builder: ZeroTrieBuilder<VecDeque<u8>> = ZeroTrieBuilder::from_sorted_tuple_slice(
         alloc,
@@ -74,11 +67,9 @@ pub fn bytes_from_map<K: ZeroTrieWithOptions, Key: TrieKey + Ord>(
     entries: &BTreeMap<Key, usize>,
 ) -> Result<Vec<u8>, ZeroTrieBuildError>
     requires { IsAscii K.kind }
-    ensures ascends { OnOk result (Ascends (keyed Key.key entries.now.entries)) }
-    ensures built { IfOk result (λ bytes. IsBuilt K.kind (keyed Key.key entries.now.entries) bytes.items) }
-    ensures cause { IfErr result (λ e. e ≢ ZeroTrieBuildError.OutOfMemory → Cause K.kind (keyed Key.key entries.now.entries) e) }
-    ensures never { IfErr result (λ e. e ≢ ZeroTrieBuildError.DuplicateKey) }
-    ensures by_bytes { IsByBytes Key.cmp Key.key → IfErr result (λ e. e ≢ ZeroTrieBuildError.Unsorted) }
+    ensures build { IsBuild ascending K.kind (λ bytes. bytes.items) (keyed Key.key entries.now.entries) result }
+    ensures by_bytes { IsByBytes Key.cmp Key.key
+        → IsBuild in_order K.kind (λ bytes. bytes.items) (keyed Key.key entries.now.entries) result }
 {
     let items = items_of(alloc, entries)?;
     bytes_from_slice::<K>(alloc, items.as_slice())
@@ -101,14 +92,9 @@ pub fn bytes_from_iter<
 where
     U::IntoIter: Drop,
     requires ascii { IsAscii K.kind }
-    requires steps { (it : U.IntoIter) → U.into_iter_gives iter it → U.IntoIter.can_next it × IsFinite (U.IntoIter.remaining it) }
-    ensures distinct { OnOk result ((it : U.IntoIter) × U.into_iter_gives iter it
-        × WholeRun U.IntoIter.next_gives it (λ p. RepeatsKey (keyed Key.key p.items) → ⊥)) }
-    ensures built { IfOk result (λ bytes. (it : U.IntoIter) × U.into_iter_gives iter it
-        × WholeRun U.IntoIter.next_gives it (λ p. IsBuilt K.kind (keyed Key.key p.items) bytes.items)) }
-    ensures cause { IfErr result (λ e. e ≢ ZeroTrieBuildError.OutOfMemory → (it : U.IntoIter) × U.into_iter_gives iter it
-        × WholeRun U.IntoIter.next_gives it (λ p. Cause K.kind (keyed Key.key p.items) e)) }
-    ensures never { IfErr result (λ e. e ≢ ZeroTrieBuildError.Unsorted) }
+    requires steps { CanRun U.into_iter_gives U.IntoIter.can_next U.IntoIter.remaining iter }
+    ensures { IsBuildOfAll (OfAllGiven U.into_iter_gives U.IntoIter.next_gives Key.key iter)
+        K.kind (λ bytes. bytes.items) result }
 {
     let builder: ZeroTrieBuilder<VecDeque<u8>> = ZeroTrieBuilder::from_bytes_iter(
         alloc,

@@ -1,5 +1,5 @@
 use Rattle.zerotrie_any.proofs.MapOrder.{keyed_ascends}
-use Rattle.zerotrie_any.proofs.bytes.items_of.Goals as goal
+use Rattle.zerotrie_any.proofs.routes.items_of.Goals as goal
 
 pub returns-clause-by_bytes : goal.returns-clause-by_bytes
 returns-clause-by_bytes g c by =

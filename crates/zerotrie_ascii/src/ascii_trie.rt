@@ -1,27 +1,22 @@
 //! The tries over ASCII keys: one type, of which each kind is an alias.
 
-ghost use Rattle.std.specs.Prelude.{◌≡◌, ◌≢◌, ◌==◌, ◌↔◌, IsTrue, IfOk, OnOk, IfErr, length, []};
+ghost use Rattle.std.specs.Prelude.{◌≡◌, ◌==◌, ◌↔◌, IsTrue, IfOk, length, []};
 ghost use Rattle.std.specs.Cmp.{on_equiv, on_per};
 ghost use Rattle.std.specs.Cmp as cmp;
 ghost use Rattle.std.specs.Cmp.Lexicographic.{pointwise, nat_list_eq_equiv};
-ghost use Rattle.std.specs.Iterator.{IsFinite};
-ghost use Rattle.std.specs.Iterator.Runs.{WholeRun};
-ghost use Rattle.zerotrie_core.specs.Maps.{Map, look, Ascends, RepeatsKey};
+ghost use Rattle.zerotrie_core.specs.Maps.{Map, look};
 ghost use Rattle.zerotrie_core.specs.Texts.{Means};
-ghost use Rattle.zerotrie_core.specs.Items.{pairs_of};
-ghost use Rattle.zerotrie_core.specs.Causes.{Cause};
-ghost use Rattle.zerotrie_core.specs.Items.{keyed};
-ghost use Rattle.zerotrie_core.specs.Built.{IsBuilt};
+ghost use Rattle.zerotrie_core.specs.Items.{pairs_of, keyed};
+ghost use Rattle.zerotrie_core.specs.Routes.{ascending, in_order, IsBuild, CanRun, OfAllGiven, IsBuildOfAll};
 ghost use Rattle.zerotrie_any.specs.Order.{IsByBytes};
 
-use crate::laws;
 use crate::options::AsciiKind;
 use std::alloc::{AllocError, Global};
 use std::collections::BTreeMap;
 use std::marker::PhantomData;
 use zerotrie_any::{TextKey, bytes_from_iter, bytes_from_map, bytes_from_slice};
 use zerotrie_core::{
-    ConvertStore, Ignore, Simple, TrieKey, TrieStore, ZeroTrieBuildError, get_counted,
+    ConvertStore, Ignore, Simple, TrieKey, TrieStore, ZeroTrieBuildError, get_counted, laws,
 };
 
 /// A map from ASCII keys to numbers, as a flat list of bytes that is read where it lies. `K` is its kind.
@@ -193,11 +188,7 @@ impl<K: AsciiKind> AsciiTrie<K, Vec<u8>> {
         alloc: Global,
         entries: &BTreeMap<Key, usize>,
     ) -> Result<Self, ZeroTrieBuildError>
-        ensures ascends { OnOk result (Ascends (keyed Key.key entries.now.entries)) }
-        ensures built { IfOk result (λ trie. IsBuilt K.kind (keyed Key.key entries.now.entries) trie.store.items) }
-        ensures cause { IfErr result (λ e. e ≢ ZeroTrieBuildError.OutOfMemory → Cause K.kind (keyed Key.key entries.now.entries) e) }
-        ensures never { IfErr result (λ e. e ≢ ZeroTrieBuildError.DuplicateKey) }
-        ensures never_unsorted { IfErr result (λ e. e ≢ ZeroTrieBuildError.Unsorted) }
+        ensures { IsBuild in_order K.kind (λ trie. trie.store.items) (keyed Key.key entries.now.entries) result }
     {
         Self::try_from_btree_map(alloc, entries)
     }
@@ -216,11 +207,9 @@ impl<K: AsciiKind> AsciiTrie<K, Vec<u8>> {
         alloc: Global,
         entries: &BTreeMap<Key, usize>,
     ) -> Result<Self, ZeroTrieBuildError>
-        ensures ascends { OnOk result (Ascends (keyed Key.key entries.now.entries)) }
-        ensures built { IfOk result (λ trie. IsBuilt K.kind (keyed Key.key entries.now.entries) trie.store.items) }
-        ensures cause { IfErr result (λ e. e ≢ ZeroTrieBuildError.OutOfMemory → Cause K.kind (keyed Key.key entries.now.entries) e) }
-        ensures never { IfErr result (λ e. e ≢ ZeroTrieBuildError.DuplicateKey) }
-        ensures by_bytes { IsByBytes Key.cmp Key.key → IfErr result (λ e. e ≢ ZeroTrieBuildError.Unsorted) }
+        ensures build { IsBuild ascending K.kind (λ trie. trie.store.items) (keyed Key.key entries.now.entries) result }
+        ensures by_bytes { IsByBytes Key.cmp Key.key
+            → IsBuild in_order K.kind (λ trie. trie.store.items) (keyed Key.key entries.now.entries) result }
     {
         let store = bytes_from_map::<K, Key>(alloc, entries)?;
         Ok(AsciiTrie::from_store(store))
@@ -239,10 +228,7 @@ impl<K: AsciiKind> AsciiTrie<K, Vec<u8>> {
         alloc: Global,
         items: &[(&[u8], usize)],
     ) -> Result<Self, ZeroTrieBuildError>
-        ensures ascends { OnOk result (Ascends (pairs_of items.now)) }
-        ensures built { IfOk result (λ trie. IsBuilt K.kind (pairs_of items.now) trie.store.items) }
-        ensures cause { IfErr result (λ e. e ≢ ZeroTrieBuildError.OutOfMemory → Cause K.kind (pairs_of items.now) e) }
-        ensures never { IfErr result (λ e. e ≢ ZeroTrieBuildError.DuplicateKey) }
+        ensures { IsBuild ascending K.kind (λ trie. trie.store.items) (pairs_of items.now) result }
     {
         let store = bytes_from_slice::<K>(alloc, items)?;
         Ok(AsciiTrie::from_store(store))
@@ -263,14 +249,9 @@ impl<K: AsciiKind> AsciiTrie<K, Vec<u8>> {
     ) -> Result<Self, ZeroTrieBuildError>
     where
         U::IntoIter: Drop,
-        requires { (it : U.IntoIter) → U.into_iter_gives iter it → U.IntoIter.can_next it × IsFinite (U.IntoIter.remaining it) }
-        ensures distinct { OnOk result ((it : U.IntoIter) × U.into_iter_gives iter it
-            × WholeRun U.IntoIter.next_gives it (λ p. RepeatsKey (keyed Key.key p.items) → ⊥)) }
-        ensures built { IfOk result (λ trie. (it : U.IntoIter) × U.into_iter_gives iter it
-            × WholeRun U.IntoIter.next_gives it (λ p. IsBuilt K.kind (keyed Key.key p.items) trie.store.items)) }
-        ensures cause { IfErr result (λ e. e ≢ ZeroTrieBuildError.OutOfMemory → (it : U.IntoIter) × U.into_iter_gives iter it
-            × WholeRun U.IntoIter.next_gives it (λ p. Cause K.kind (keyed Key.key p.items) e)) }
-        ensures never { IfErr result (λ e. e ≢ ZeroTrieBuildError.Unsorted) }
+        requires { CanRun U.into_iter_gives U.IntoIter.can_next U.IntoIter.remaining iter }
+        ensures { IsBuildOfAll (OfAllGiven U.into_iter_gives U.IntoIter.next_gives Key.key iter)
+            K.kind (λ trie. trie.store.items) result }
     {
         let store = bytes_from_iter::<K, Key, U>(alloc, iter)?;
         Ok(AsciiTrie::from_store(store))

@@ -1,5 +1,5 @@
 use Rattle.std.proofs.Common.{◌≡◌, ◌↔◌, rules}
-use Rattle.zerotrie_ascii.proofs.zerotrie.AsciiTriePartialEq.eq.Goals as goal
+use Rattle.zerotrie_ascii.proofs.ascii_trie.AsciiTriePartialEq.eq.Goals as goal
 
 pub returns-clause-maps : goal.returns-clause-maps
 returns-clause-maps g c m n of_self of_other =

@@ -1,7 +1,7 @@
 use Rattle.std.proofs.Common.{sym, ap, ◌∙◌, subst}
 use Rattle.zerotrie_core.specs.Texts.{Means}
 use Rattle.zerotrie_core.specs.Canonical.{enc}
-use Rattle.zerotrie_ascii.proofs.laws.equal_exactly_if_maps_are.Goals as goal
+use Rattle.zerotrie_core.proofs.laws.equal_exactly_if_maps_are.Goals as goal
 
 pub returns : goal.returns
 returns c kind ascii a b m n of_a of_b = (
