@@ -5,7 +5,7 @@ use Rattle.zerotrie_core.specs.Kind.{Kind, fold_byte}
 use Rattle.zerotrie_core.specs.Maps.{Pairs, with_front, behind_all}
 use Rattle.zerotrie_core.specs.Texts.{ListEach}
 use Rattle.zerotrie_core.specs.Texts.ListEach.{no_edge, edge}
-use Rattle.zerotrie_core.proofs.ReaderLemmas.{Rises, AllAbove}
+use Rattle.zerotrie_core.proofs.CallerLemmas.{Rises, AllAbove}
 use Rattle.zerotrie_build.specs.declared.siblings.Sibling.{Sibling}
 use Rattle.zerotrie_build.specs.Growing.{with_run, DepthsBelow, NoneAt, ComesBefore, Aside, AllAt}
 use Rattle.zerotrie_build.proofs.Parting.{apart}

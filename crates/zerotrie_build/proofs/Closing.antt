@@ -12,7 +12,7 @@ use Rattle.zerotrie_core.specs.Texts.Lists.{nothing, value, literal}
 use Rattle.zerotrie_core.specs.Texts.ListEach.{no_edge, edge}
 use Rattle.zerotrie_core.specs.Canonical.{node}
 use Rattle.zerotrie_core.specs.Fits.{OverflowsAt}
-use Rattle.zerotrie_core.proofs.ReaderLemmas.{Rises}
+use Rattle.zerotrie_core.proofs.CallerLemmas.{Rises}
 use Rattle.zerotrie_core.proofs.CanonLaws.{lists_some}
 use Rattle.zerotrie_core.proofs.EncodeLaws.{node_lists, not_empty_text}
 use Rattle.zerotrie_build.specs.declared.siblings.Sibling.{Sibling}

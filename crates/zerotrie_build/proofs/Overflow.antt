@@ -10,7 +10,7 @@ use Rattle.zerotrie_core.specs.Texts.{ListEach}
 use Rattle.zerotrie_core.specs.Canonical.{size_to}
 use Rattle.zerotrie_core.specs.Fits.{targets_size, OverflowsAt, ExceedsCapacity}
 use Rattle.zerotrie_core.proofs.EdgeLemmas.{residual-append}
-use Rattle.zerotrie_core.proofs.ReaderLemmas.{Rises}
+use Rattle.zerotrie_core.proofs.CallerLemmas.{Rises}
 use Rattle.zerotrie_core.proofs.CanonLaws.{nil_end, bytes_all}
 use Rattle.zerotrie_core.proofs.ListedLemmas.{targets_each, edges_count}
 use Rattle.zerotrie_core.proofs.KindLemmas.{greatest_width_is}

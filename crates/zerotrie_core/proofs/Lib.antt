@@ -1,3 +1,4 @@
+pub mod CallerLemmas
 pub mod NumberLemmas
 pub mod WriteLemmas
 pub mod KindLemmas
