@@ -1,7 +1,7 @@
 -- What a text lists, by its first node.
-use Rattle.std.proofs.Common.{◌≡◌, ℕ, zero, suc, ◌+◌, ◌-◌, ◌*◌, ◌/◌, ◌%◌, ◌^◌, ◌<◌, ◌≤◌, List, [], ◌∷◌, ◌++◌, length, refl, sym, ◌∙◌, ap, subst, arith, take, drop, length-append}
+use Rattle.std.proofs.Common.{◌≡◌, ℕ, ◌+◌, ◌-◌, ◌*◌, ◌%◌, ◌^◌, ◌<◌, ◌≤◌, List, [], ◌∷◌, ◌++◌, length, refl, sym, ◌∙◌, ap, subst, arith, get_or, take, drop, length-append}
 use Rattle.std.specs.List.{concat}
-use Rattle.std.proofs.lemmas.List.{take_at, drop_at}
+use Rattle.std.proofs.lemmas.List.{take_at, drop_at, get_or-take}
 use Rattle.zerotrie_core.specs.Kind.{Kind}
 use Rattle.zerotrie_core.specs.Maps.{Pairs, with_front}
 use Rattle.zerotrie_core.specs.Numbers.{BeginsWith}
@@ -15,7 +15,7 @@ use Rattle.zerotrie_core.proofs.NumberLemmas.{some_bytes, one_reading, cons_part
 use Rattle.zerotrie_core.proofs.CanonLaws.{nil_end}
 use Rattle.zerotrie_core.proofs.TableLemmas.{Distinct, Rises, table_is_edges, table_rises, table_distinct}
 use Rattle.zerotrie_core.proofs.BranchLemmas.{HasTargets, length-blocks, length-offsets}
-use Rattle.zerotrie_core.proofs.NodeLemmas.{value_begins, branch_begins, value_no_branch, none_empty}
+use Rattle.zerotrie_core.proofs.NodeLemmas.{value_begins, branch_begins, value_no_branch}
 
 -- The text begins with a value.
 pub record HasValue {kind : Kind} {bytes : List ℕ} {pairs : Pairs} (text : Lists kind bytes pairs) (v : ℕ) (rest : List ℕ) : Type 0 where
@@ -46,6 +46,9 @@ pub record Holds (kind : Kind) (edges : List ℕ) (targets : List (List ℕ)) (n
   pub count : length edges ≡ n
   pub rises : Rises kind edges
   pub has_targets : HasTargets targets n w behind
+
+pub held_edge : {kind : Kind} {edges : List ℕ} {targets : List (List ℕ)} {n w : ℕ} {behind : List ℕ} → Holds kind edges targets n w behind → (place : ℕ) → place < n → get_or edges place 0 ≡ get_or behind place 0
+held_edge {n = n} {behind = behind} h place inside = ap (λ t. get_or t place 0) (sym h.table_is) ∙ get_or-take n behind place 0 inside
 
 -- The text begins with a branch.
 pub record OpensBranch {kind : Kind} {bytes : List ℕ} {pairs : Pairs} (text : Lists kind bytes pairs) (n w : ℕ) (behind : List ℕ) : Type 0 where
