@@ -3,6 +3,4 @@ pub mod Numbers
 pub mod Commands
 pub mod Replies
 pub mod Answers
-pub mod Parsing
-pub mod Tries
-pub mod Sessions
+pub mod answer
