@@ -66,9 +66,7 @@ impl<R: Read> Read for Noted<R> {
         ensures flag { self.new.failed ≡ (self.old.failed || is_err result) }
     {
         let outcome = self.inner.read(buf);
-        if outcome.is_err() {
-            self.failed = true;
-        }
+        self.failed |= outcome.is_err();
         outcome
     }
 }
@@ -82,9 +80,7 @@ impl<W: Write> Write for Noted<W> {
         ensures flag { self.new.failed ≡ (self.old.failed || is_err result) }
     {
         let outcome = self.inner.write(buf);
-        if outcome.is_err() {
-            self.failed = true;
-        }
+        self.failed |= outcome.is_err();
         outcome
     }
 
@@ -93,9 +89,7 @@ impl<W: Write> Write for Noted<W> {
         ensures flag { self.new.failed ≡ (self.old.failed || is_err result) }
     {
         let outcome = self.inner.flush();
-        if outcome.is_err() {
-            self.failed = true;
-        }
+        self.failed |= outcome.is_err();
         outcome
     }
 
@@ -104,9 +98,7 @@ impl<W: Write> Write for Noted<W> {
         ensures flag { self.new.failed ≡ (self.old.failed || is_err result) }
     {
         let outcome = self.inner.write_all(buf);
-        if outcome.is_err() {
-            self.failed = true;
-        }
+        self.failed |= outcome.is_err();
         outcome
     }
 }
