@@ -1,5 +1,5 @@
 use Rattle.std.proofs.Common.{◌≡◌, ◌≢◌, ℕ, List, Option, Result, Ok, Err, Iter, ap, subst, ◌∙◌, refl, inl, inr}
-use Rattle.std.specs.Prelude.{IfErr}
+use Rattle.std.specs.Prelude.{OnOk, IfOk, IfErr}
 use Rattle.std.specs.Borrow.{Bor}
 use Rattle.std.specs.Iterator.Runs.{SomeRun, WholeRun, EachRunFrom, EveryRun, IsCopiedRun, ItemsMapTo}
 use Rattle.std.proofs.lemmas.Result.{IfOk-weaker, IfErr-weaker, on_ok_weaker}
@@ -8,9 +8,9 @@ use Rattle.zerotrie.specs.Kind.{Kind}
 use Rattle.zerotrie.specs.Maps.{Pairs, RepeatsKey}
 use Rattle.zerotrie.specs.Causes.{Cause}
 use Rattle.zerotrie.specs.Built.{IsBuilt}
+use Rattle.zerotrie.specs.Routes.{any_order, IsRefusal, IsBuild}
 use Rattle.zerotrie.specs.declared.ZeroTrieBuildError.{ZeroTrieBuildError}
 use Rattle.zerotrie.specs.declared.ZeroTrieBuildError.TheVariants.{NonAsciiError, CapacityExceeded, CouldNotSolvePerfectHash, MixedCase, IllegalDelimiter, DuplicateKey, Unsorted, BufferTooSmall, BufferTooLarge, StackExceeded, OutOfMemory}
-use Rattle.zerotrie_tool.specs.Answers.{MayRefuse}
 use Rattle.zerotrie_tool.proofs.trie.build_ascii.Goals as goal
 
 -- What holds of the items of a whole run over copies holds of the list that is copied.
@@ -26,37 +26,32 @@ abbrev left : Iter (Bor (List ℕ) × ℕ) → Items
 left iter = iter.rest.now
 
 -- an error is want of memory, or has a cause
-may_refuse : (kind : Kind) (pairs : Pairs) (e : ZeroTrieBuildError) → (e ≢ OutOfMemory → Cause kind pairs e) → e ≢ Unsorted → MayRefuse kind pairs e
-may_refuse kind pairs OutOfMemory cause sorted = inl refl
-may_refuse kind pairs NonAsciiError cause sorted = inr (sorted, cause (λ e. cc))
-may_refuse kind pairs CapacityExceeded cause sorted = inr (sorted, cause (λ e. cc))
-may_refuse kind pairs CouldNotSolvePerfectHash cause sorted = inr (sorted, cause (λ e. cc))
-may_refuse kind pairs MixedCase cause sorted = inr (sorted, cause (λ e. cc))
-may_refuse kind pairs IllegalDelimiter cause sorted = inr (sorted, cause (λ e. cc))
-may_refuse kind pairs DuplicateKey cause sorted = inr (sorted, cause (λ e. cc))
-may_refuse kind pairs Unsorted cause sorted = inr (sorted, cause (λ e. cc))
-may_refuse kind pairs BufferTooSmall cause sorted = inr (sorted, cause (λ e. cc))
-may_refuse kind pairs (BufferTooLarge needed) cause sorted = inr (sorted, cause (λ e. cc))
-may_refuse kind pairs StackExceeded cause sorted = inr (sorted, cause (λ e. cc))
+refusal : (kind : Kind) (pairs : Pairs) (e : ZeroTrieBuildError) → (e ≢ OutOfMemory → Cause kind pairs e) → e ≢ Unsorted → IsRefusal any_order kind pairs e
+refusal kind pairs OutOfMemory cause sorted = inl refl
+refusal kind pairs NonAsciiError cause sorted = inr (sorted, cause (λ e. cc))
+refusal kind pairs CapacityExceeded cause sorted = inr (sorted, cause (λ e. cc))
+refusal kind pairs CouldNotSolvePerfectHash cause sorted = inr (sorted, cause (λ e. cc))
+refusal kind pairs MixedCase cause sorted = inr (sorted, cause (λ e. cc))
+refusal kind pairs IllegalDelimiter cause sorted = inr (sorted, cause (λ e. cc))
+refusal kind pairs DuplicateKey cause sorted = inr (sorted, cause (λ e. cc))
+refusal kind pairs Unsorted cause sorted = inr (sorted, cause (λ e. cc))
+refusal kind pairs BufferTooSmall cause sorted = inr (sorted, cause (λ e. cc))
+refusal kind pairs (BufferTooLarge needed) cause sorted = inr (sorted, cause (λ e. cc))
+refusal kind pairs StackExceeded cause sorted = inr (sorted, cause (λ e. cc))
 
-may_refuse_all : {T : Type 0} (kind : Kind) (pairs : Pairs) (r : Result T ZeroTrieBuildError) → IfErr r (λ e. e ≢ OutOfMemory → Cause kind pairs e) → IfErr r (λ e. e ≢ Unsorted) → IfErr r (MayRefuse kind pairs)
-may_refuse_all kind pairs (Ok v) cause sorted = tt
-may_refuse_all kind pairs (Err e) cause sorted = may_refuse kind pairs e cause sorted
+build : {T : Type 0} (kind : Kind) (bytes : T → List ℕ) (pairs : Pairs) (r : Result T ZeroTrieBuildError) → OnOk r (RepeatsKey pairs → ⊥) → IfOk r (λ t. IsBuilt kind pairs (bytes t))
+    → IfErr r (λ e. e ≢ OutOfMemory → Cause kind pairs e) → IfErr r (λ e. e ≢ Unsorted) → IsBuild any_order kind bytes pairs r
+build kind bytes pairs (Ok t) distinct built cause sorted = (distinct, built)
+build kind bytes pairs (Err e) distinct built cause sorted = refusal kind pairs e cause sorted
 
-pub returns-clause-distinct : goal.returns-clause-distinct
-returns-clause-distinct g c =
-    on_ok_weaker c.try_from_iter.result (λ h. rw c.iter.ensures.rest at
-    (of_copies left (λ items. RepeatsKey (pairs_of items) → ⊥) h.0 c.copied.result c.iter.result c.copied.ensures.runs c.iter.ensures.runs h.1 h.2)) c.try_from_iter.ensures.distinct
-
-pub returns-clause-built : goal.returns-clause-built
-returns-clause-built g c =
-    IfOk-weaker c.try_from_iter.result _ _ (λ trie h. rw c.iter.ensures.rest at
-    (of_copies left (λ items. IsBuilt g.K.ZeroTrieWithOptions.kind (pairs_of items) trie.store.items) h.0 c.copied.result c.iter.result c.copied.ensures.runs c.iter.ensures.runs h.1 h.2)) c.try_from_iter.ensures.built
-
-pub returns-clause-refused : goal.returns-clause-refused
-returns-clause-refused g c =
+pub returns : goal.returns
+returns g c =
     let kind = g.K.ZeroTrieWithOptions.kind in
-    may_refuse_all kind (pairs_of c.args.pairs.now) c.try_from_iter.result
+    build kind _ (pairs_of c.args.pairs.now) c.try_from_iter.result
+    (on_ok_weaker c.try_from_iter.result (λ h. rw c.iter.ensures.rest at
+    (of_copies left (λ items. RepeatsKey (pairs_of items) → ⊥) h.0 c.copied.result c.iter.result c.copied.ensures.runs c.iter.ensures.runs h.1 h.2)) c.try_from_iter.ensures.distinct)
+    (IfOk-weaker c.try_from_iter.result _ _ (λ trie h. rw c.iter.ensures.rest at
+    (of_copies left (λ items. IsBuilt kind (pairs_of items) trie.store.items) h.0 c.copied.result c.iter.result c.copied.ensures.runs c.iter.ensures.runs h.1 h.2)) c.try_from_iter.ensures.built)
     (IfErr-weaker c.try_from_iter.result _ _ (λ e caused other. let h = caused other in rw c.iter.ensures.rest at
     (of_copies left (λ items. Cause kind (pairs_of items) e) h.0 c.copied.result c.iter.result c.copied.ensures.runs c.iter.ensures.runs h.1 h.2)) c.try_from_iter.ensures.cause)
     c.try_from_iter.ensures.never
