@@ -10,10 +10,10 @@ use Rattle.zerotrie_core.specs.Kind.{Kind, simple_ascii, ignore_case}
 use Rattle.zerotrie_core.specs.Maps.{Pairs, map_of, look, value_at, same_key, RepeatsKey}
 use Rattle.zerotrie_core.specs.Built.{IsBuilt}
 use Rattle.zerotrie_core.specs.Routes.{Route, ascending, in_order, any_order, Takes}
-use Rattle.zerotrie_core.proofs.CaseLemmas.{same_equiv, lists_apart, lists_found, same_answers}
-use Rattle.zerotrie_core.proofs.MapLemmas.{look-map_of}
-use Rattle.zerotrie_core.proofs.RefusalLemmas.{ascends_apart}
-use Rattle.zerotrie_core.proofs.SameLemmas.{same-entries, exact_same, first_found}
+use Rattle.zerotrie_core.proofs.CallerLemmas.{same_equiv, lists_apart, lists_found, same_answers}
+use Rattle.zerotrie_core.proofs.CallerLemmas.{look-map_of}
+use Rattle.zerotrie_core.proofs.CallerLemmas.{ascends_apart}
+use Rattle.zerotrie_core.proofs.CallerLemmas.{same-entries, exact_same, first_found}
 
 -- pairs that a route takes have distinct keys
 pub takes_distinct : (route : Route) (pairs : Pairs) → Takes route pairs → RepeatsKey pairs → ⊥

@@ -206,6 +206,18 @@ apart_distinct kind [] h r = r
 apart_distinct kind (e ∷ pairs) h (inl here) = no_key_in kind e.0 pairs h.0 here
 apart_distinct kind (e ∷ pairs) h (inr later) = apart_distinct kind pairs h.1 later
 
+-- each pair is found by its key
+apart_found : (kind : Kind) (pairs : Pairs) → Apart kind pairs → AllByRecursion (λ f. value_at kind pairs f.0 ≡ Some f.1) pairs
+apart_found kind [] h = tt
+apart_found kind (e ∷ pairs) h = (
+  rw ((same_equiv kind).refl e.0) refl,
+  every_more (λ f. OtherKey kind e.0 f × (value_at kind pairs f.0 ≡ Some f.1)) (λ f. value_at kind (e ∷ pairs) f.0 ≡ Some f.1) pairs
+      (λ f a. rw a.0 a.1) (every_both (OtherKey kind e.0) (λ f. value_at kind pairs f.0 ≡ Some f.1) pairs h.0 (apart_found kind pairs h.1)),
+)
+
+pub lists_found : {kind : Kind} {bytes : List ℕ} {pairs : Pairs} → Lists kind bytes pairs → AllByRecursion (λ f. value_at kind pairs f.0 ≡ Some f.1) pairs
+lists_found {kind = kind} {pairs = pairs} text = apart_found kind pairs (lists_apart text)
+
 -- a test that does not pass fails
 none_if : (b : Bool) → (b ≡ true → ⊥) → b ≡ false
 none_if true h = absurd (h refl)
