@@ -1,10 +1,11 @@
 -- The bytes of a branch.
-use Rattle.std.specs.Prelude.{◌≡◌, ℕ, ◌+◌, ◌-◌, ◌*◌, ◌/◌, ◌%◌, ◌^◌, ◌<◌, ◌≤◌, List, [], ◌++◌, length, map, false, All, take}
+use Rattle.std.specs.Prelude.{◌≡◌, ℕ, ◌+◌, ◌-◌, ◌*◌, ◌/◌, ◌%◌, ◌^◌, ◌<◌, ◌≤◌, List, [], ◌∷◌, ◌++◌, length, map, false, true, All, take}
 use Rattle.std.proofs.Common.{suc, zero}
 use Rattle.std.specs.List.{concat, range_with_len}
 use Rattle.std.specs.List.Sorted.{IsStrictlyIncreasing}
 use Rattle.zerotrie_core.specs.Kind.{Kind, fold_byte, edge_limit, greatest_width, is_hashed}
 use Rattle.zerotrie_core.specs.Numbers.{Spells}
+use Rattle.zerotrie_base.specs.Hashes.{IsPerfect}
 
 -- for each target but the last, where it ends: the length of the first one, two, .. targets together
 abbrev pub offsets : List (List ℕ) → List ℕ
@@ -18,6 +19,7 @@ blocks (suc w) numbers = map (λ o. o / 256 ^ w % 256) numbers ++ blocks w numbe
 -- the search table of a branch with these edges, in the order of its targets
 pub data IsTable (kind : Kind) : List ℕ → List ℕ → Type 0 where
   sorted : {edges : List ℕ} → is_hashed kind (length edges) ≡ false → IsStrictlyIncreasing (map (fold_byte kind) edges) → IsTable kind edges edges
+  hashed : {p : ℕ} {qs edges : List ℕ} → is_hashed kind (length edges) ≡ true → IsPerfect p qs edges → IsTable kind edges (p ∷ (qs ++ edges))
 
 -- w is the least with total below 256 ^ (w + 1)
 pub record IsWidth (total w : ℕ) : Type 0 where

@@ -1,11 +1,11 @@
 -- The canonical text of a map, and the length of a map's texts.
 use Rattle.std.proofs.Common.{zero, suc}
-use Rattle.std.specs.Prelude.{ℕ, ◌+◌, ◌-◌, ◌*◌, ◌/◌, ◌%◌, List, [], ◌∷◌, ◌++◌, length, map, if◌then◌else◌, nat_lt, Option, Some, None, sum}
+use Rattle.std.specs.Prelude.{ℕ, nat_le, is_some, ◌+◌, ◌-◌, ◌*◌, ◌/◌, ◌%◌, List, [], ◌∷◌, ◌++◌, length, map, if◌then◌else◌, nat_lt, Option, Some, None, sum}
 use Rattle.std.specs.List.{concat}
 use Rattle.std.specs.FinMap.{entries}
-use Rattle.zerotrie_core.specs.Kind.{Kind, simple_ascii, ignore_case, ordered}
+use Rattle.zerotrie_core.specs.Kind.{Kind, simple_ascii, ignore_case, perfect_hash, extended_capacity, is_hashed, ordered}
 use Rattle.zerotrie_core.specs.Numbers.{spelled}
-use Rattle.zerotrie_core.specs.Maps.{Pairs, Map, value_at, edges, residual, longest}
+use Rattle.zerotrie_core.specs.Maps.{Pairs, Map, value_at, edges, residual, behind_all, longest}
 use Rattle.zerotrie_core.specs.Branches.{blocks, offsets}
 
 -- the least w with total below 256 ^ (w + 1), for a total of at most so much
@@ -42,12 +42,40 @@ enc_to (suc d) kind pairs = let es = ordered kind (edges pairs) in
 unfoldable pub enc : Kind → Map → List ℕ
 enc kind m = enc_to (suc (longest (entries m))) kind (entries m)
 
+-- the bytes of the search table of a branch of n edges
+abbrev pub table_size : Kind → ℕ → ℕ
+table_size kind n = if is_hashed kind n then 2 * n + 1 else n
+
+abbrev pub hashed_branch_size : Kind → List ℕ → ℕ
+hashed_branch_size kind sizes = let w = width (sum sizes) in
+    length (spelled 32 3 (256 * w + length sizes % 256)) + table_size kind (length sizes) + (w + 1) * (length sizes - 1)
+
+-- the one edge, if it is from 128 on, with the bytes behind it in front of which no key ends
+abbrev pub span_by : List ℕ → (ℕ → List ℕ) → List ℕ
+span_by [] behind = []
+span_by (b ∷ []) behind = if nat_le 128 b then b ∷ behind b else []
+span_by (b ∷ c ∷ more) behind = []
+
+-- the longest run of bytes from 128 on with which each of the keys begins, of at most d bytes
+abbrev pub span_to : ℕ → Pairs → List ℕ
+span_to zero pairs = []
+span_to (suc d) pairs =
+    if is_some (value_at simple_ascii pairs []) then [] else span_by (edges pairs) (λ b. span_to d (residual b pairs))
+
+-- the bytes of a span with this run and of what follows it, or of the nodes where there is none
+abbrev pub span_or : List ℕ → ℕ → ℕ → ℕ
+span_or [] nodes behind = nodes
+span_or (b ∷ run) nodes behind = length (spelled 16 5 (length (b ∷ run))) + length (b ∷ run) + behind
+
 -- the bytes of a branch of a kind before its targets, whose lengths are these
 abbrev pub branch_size : Kind → List ℕ → ℕ
 branch_size simple_ascii sizes = let w = width (sum sizes) in
     length (spelled 32 3 (256 * w + length sizes % 256)) + length sizes + (w + 1) * (length sizes - 1)
 branch_size ignore_case sizes = let w = width (sum sizes) in
     length (spelled 32 3 (256 * w + length sizes % 256)) + length sizes + (w + 1) * (length sizes - 1)
+
+branch_size perfect_hash sizes = hashed_branch_size perfect_hash sizes
+branch_size extended_capacity sizes = hashed_branch_size extended_capacity sizes
 
 -- the bytes before the targets, whose lengths are these, where each stands behind one byte
 abbrev pub node_size : Kind → List ℕ → ℕ
@@ -62,6 +90,16 @@ size_to (suc d) simple_ascii pairs = let sizes = map (λ b. size_to d simple_asc
     length (value_node (value_at simple_ascii pairs [])) + node_size simple_ascii sizes + sum sizes
 size_to (suc d) ignore_case pairs = let sizes = map (λ b. size_to d ignore_case (residual b pairs)) (edges pairs) in
     length (value_node (value_at ignore_case pairs [])) + node_size ignore_case sizes + sum sizes
+size_to (suc d) perfect_hash pairs =
+    let sizes = map (λ b. size_to d perfect_hash (residual b pairs)) (edges pairs) in
+    let run = span_by (edges pairs) (λ b. span_to d (residual b pairs)) in
+    length (value_node (value_at perfect_hash pairs []))
+    + span_or run (node_size perfect_hash sizes + sum sizes) (size_to d perfect_hash (behind_all run pairs))
+size_to (suc d) extended_capacity pairs =
+    let sizes = map (λ b. size_to d extended_capacity (residual b pairs)) (edges pairs) in
+    let run = span_by (edges pairs) (λ b. span_to d (residual b pairs)) in
+    length (value_node (value_at extended_capacity pairs []))
+    + span_or run (node_size extended_capacity sizes + sum sizes) (size_to d extended_capacity (behind_all run pairs))
 
 -- the length of the texts of a map
 unfoldable pub size : Kind → Map → ℕ

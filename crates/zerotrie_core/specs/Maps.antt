@@ -1,6 +1,6 @@
 -- Maps from byte lists to numbers, and lists of pairs.
 use Rattle.std.specs.List.{range_with_len}
-use Rattle.std.specs.Prelude.{◌==◌, ◌||◌, ◌+◌, filter, max, length, ◌≡◌, ℕ, List, [], ◌∷◌, map, Option, Some, None, if◌then◌else◌, Bool, false, ◌⊎◌, All, Contains}
+use Rattle.std.specs.Prelude.{◌==◌, ◌||◌, ◌+◌, filter, max, length, ◌≡◌, ℕ, List, [], ◌∷◌, ◌++◌, map, Option, Some, None, if◌then◌else◌, Bool, false, ◌⊎◌, All, Contains}
 use Rattle.std.specs.FinMap.{FinMap, from_entries, entries}
 use Rattle.std.specs.Cmp.Lexicographic.{slice_cmp, pointwise}
 use Rattle.std.specs.Ordering.{nat_cmp}
@@ -37,6 +37,16 @@ RepeatsKey (e ∷ pairs) = Contains (map {B = List ℕ} (λ f. f.0) pairs) e.0 �
 -- each key with the byte b in front
 abbrev pub with_front : ℕ → Pairs → Pairs
 with_front b pairs = map (λ e. (b ∷ e.0, e.1)) pairs
+
+-- each key with the run in front
+abbrev pub with_run : List ℕ → Pairs → Pairs
+with_run run pairs = map {B = List ℕ × ℕ} (λ e. (run ++ e.0, e.1)) pairs
+
+-- what a key has behind the run, if it begins with all of it
+abbrev pub after_run : List ℕ → List ℕ → Option (List ℕ)
+after_run [] key = Some key
+after_run (b ∷ run) [] = None
+after_run (b ∷ run) (c ∷ key) = if b == c then after_run run key else None
 
 -- two keys are one key to the kind
 abbrev pub same_key : Kind → List ℕ → List ℕ → Bool
