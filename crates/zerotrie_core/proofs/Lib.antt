@@ -11,6 +11,8 @@ pub mod TextLaws
 pub mod Vectors
 pub mod EdgeLemmas
 pub mod OrderedLemmas
+pub mod HashedLemmas
+pub mod SpanLemmas
 pub mod SameLemmas
 pub mod CanonLaws
 pub mod EncodeLaws

@@ -1,0 +1,1 @@
+-- Pairs with a run of bytes in front of each key.
