@@ -6,13 +6,16 @@ use Rattle.std.specs.Cmp.{IsEquivalence, on_equiv, nat_eq_equiv}
 use Rattle.std.specs.Cmp.Lexicographic.{lists_equiv, same_text}
 use Rattle.std.proofs.lemmas.Bool.{eq-eqb, ne_eqb}
 use Rattle.zerotrie_core.specs.Kind.{Kind, simple_ascii, same_byte, fold_byte}
-use Rattle.zerotrie_core.specs.Maps.{Pairs, with_front, same_key, value_at, common_front, IsCaseConsistent, RepeatsKey}
+use Rattle.zerotrie_core.specs.Maps.{Pairs, with_front, with_run, same_key, value_at, common_front, IsCaseConsistent, RepeatsKey}
 use Rattle.zerotrie_core.specs.Texts.{Lists, ListEach, NoValueFirst}
-use Rattle.zerotrie_core.specs.Texts.Lists.{nothing, value, literal, branch}
+use Rattle.zerotrie_core.specs.Texts.Lists.{nothing, value, literal, span, branch}
 use Rattle.zerotrie_core.specs.Texts.ListEach.{no_edge, edge}
 use Rattle.zerotrie_core.proofs.NumberLemmas.{pair_of}
 use Rattle.zerotrie_core.proofs.KindLemmas.{one_fold, two_folds}
-use Rattle.zerotrie_core.proofs.ReaderLemmas.{AllAbove, Rises, table_rises, extender_one, chosen_none}
+use Rattle.zerotrie_core.proofs.OrderedLemmas.{Each, Apart as EdgesApart}
+use Rattle.zerotrie_core.proofs.HashedLemmas.{table_apart}
+use Rattle.zerotrie_core.proofs.ReaderLemmas.{extender_one, chosen_none}
+use Rattle.zerotrie_core.proofs.SpanLemmas.{with_run-front, by_fronts}
 
 -- what holds of each pair
 pub every_append : (P : List ℕ × ℕ → Type 0) (xs ys : Pairs) → AllByRecursion P xs → AllByRecursion P ys → AllByRecursion P (xs ++ ys)
@@ -76,23 +79,23 @@ agrees_none kind (b ∷ p) = refl
 pub two_bytes : (kind : Kind) (a b : ℕ) → (fold_byte kind a ≡ fold_byte kind b → ⊥) → (same_byte kind a b ≡ false) × ((a == b) ≡ false)
 two_bytes kind a b h = (two_folds kind a b h, ne_eqb a b (λ e. h (ap (fold_byte kind) e)))
 
--- the key begins with a byte whose fold is above x
-abbrev BeginsAbove : Kind → ℕ → List ℕ → Type 0
-BeginsAbove kind x [] = ⊥
-BeginsAbove kind x (c ∷ key) = x < fold_byte kind c
+-- the key begins with a byte of another fold
+abbrev BeginsOther : Kind → ℕ → List ℕ → Type 0
+BeginsOther kind e [] = ⊥
+BeginsOther kind e (c ∷ key) = fold_byte kind e ≡ fold_byte kind c → ⊥
 
-each_above : {kind : Kind} {es : List ℕ} {targets : List (List ℕ)} {pairs : Pairs} → ListEach kind es targets pairs → (x : ℕ) → AllAbove kind x es → AllByRecursion (λ f. BeginsAbove kind x f.0) pairs
-each_above no_edge x a = tt
-each_above {kind = kind} (edge {e = e} {pairs = p} {more = m} n text each) x a =
-    every_append (λ f. BeginsAbove kind x f.0) (with_front e p) m
-    (every_front (λ f. ⊤) (λ f. BeginsAbove kind x f.0) e p (λ f h. a.0) (every_any (λ f. ⊤) p (λ f. tt)))
-    (each_above each x a.1)
+each_other : {kind : Kind} {es : List ℕ} {targets : List (List ℕ)} {pairs : Pairs} → ListEach kind es targets pairs → (x : ℕ) → Each (λ f. fold_byte kind x ≡ fold_byte kind f → ⊥) es → AllByRecursion (λ f. BeginsOther kind x f.0) pairs
+each_other no_edge x a = tt
+each_other {kind = kind} (edge {e = e} {pairs = p} {more = m} n text each) x a =
+    every_append (λ f. BeginsOther kind x f.0) (with_front e p) m
+    (every_front (λ f. ⊤) (λ f. BeginsOther kind x f.0) e p (λ f h. a.0) (every_any (λ f. ⊤) p (λ f. tt)))
+    (each_other each x a.1)
 
-above_apart : (kind : Kind) (e : ℕ) (p q : List ℕ) → BeginsAbove kind (fold_byte kind e) q → (Agrees kind (e ∷ p) q × Agrees kind q (e ∷ p)) × (same_key kind (e ∷ p) q ≡ false)
-above_apart kind e p [] h = absurd h
-above_apart kind e p (c ∷ q) h =
-    let a = two_bytes kind e c (λ s. omega arith) in
-    let b = two_bytes kind c e (λ s. omega arith) in
+other_apart : (kind : Kind) (e : ℕ) (p q : List ℕ) → BeginsOther kind e q → (Agrees kind (e ∷ p) q × Agrees kind q (e ∷ p)) × (same_key kind (e ∷ p) q ≡ false)
+other_apart kind e p [] h = absurd h
+other_apart kind e p (c ∷ q) h =
+    let a = two_bytes kind e c h in
+    let b = two_bytes kind c e (λ s. h (sym s)) in
     ((rw (a.0, a.1) refl, rw (b.0, b.1) refl), rw a.0 refl)
 
 -- pairs with one byte in front agree as they did
@@ -109,14 +112,14 @@ joined_agree kind xs ys xx xy yx yy =
     (λ e h. every_append (λ f. Agrees kind e.0 f.0) xs ys h.0 h.1) (every_both (λ e. AgreesAll kind e.0 xs) (λ e. AgreesAll kind e.0 ys) ps a b) in
     every_append (λ e. AgreesAll kind e.0 (xs ++ ys)) xs ys (both xs xx xy) (both ys yx yy)
 
-edge_agree : (kind : Kind) (e : ℕ) (p m : Pairs) → AllByRecursion (λ f. BeginsAbove kind (fold_byte kind e) f.0) m → AllAgree kind p p → AllAgree kind m m → AllAgree kind (with_front e p ++ m) (with_front e p ++ m)
-edge_agree kind e p m above pp mm =
+edge_agree : (kind : Kind) (e : ℕ) (p m : Pairs) → AllByRecursion (λ f. BeginsOther kind e f.0) m → AllAgree kind p p → AllAgree kind m m → AllAgree kind (with_front e p ++ m) (with_front e p ++ m)
+edge_agree kind e p m others pp mm =
     joined_agree kind (with_front e p) m (front_agree kind e p p pp)
     (every_front (λ x. ⊤) (λ x. AgreesAll kind x.0 m) e p
-    (λ x h. every_more (λ f. BeginsAbove kind (fold_byte kind e) f.0) (λ f. Agrees kind (e ∷ x.0) f.0) m (λ f a. (above_apart kind e x.0 f.0 a).0.0) above)
+    (λ x h. every_more (λ f. BeginsOther kind e f.0) (λ f. Agrees kind (e ∷ x.0) f.0) m (λ f a. (other_apart kind e x.0 f.0 a).0.0) others)
     (every_any (λ x. ⊤) p (λ x. tt)))
-    (every_more (λ f. BeginsAbove kind (fold_byte kind e) f.0) (λ f. AgreesAll kind f.0 (with_front e p)) m
-    (λ f a. every_front (λ x. ⊤) (λ x. Agrees kind f.0 x.0) e p (λ x h. (above_apart kind e x.0 f.0 a).0.1) (every_any (λ x. ⊤) p (λ x. tt))) above)
+    (every_more (λ f. BeginsOther kind e f.0) (λ f. AgreesAll kind f.0 (with_front e p)) m
+    (λ f a. every_front (λ x. ⊤) (λ x. Agrees kind f.0 x.0) e p (λ x h. (other_apart kind e x.0 f.0 a).0.1) (every_any (λ x. ⊤) p (λ x. tt))) others)
     mm
 
 mutual
@@ -127,12 +130,13 @@ mutual
     every_more (λ e. AgreesAll kind e.0 p) (λ e. AgreesAll kind e.0 (([], v) ∷ p)) p (λ e a. (agrees_none kind e.0, a)) (lists_agree text),
   )
   lists_agree {kind = kind} (literal {b = b} {pairs = p} low n text) = front_agree kind b p p (lists_agree text)
-  lists_agree (branch b each) = each_agree each (table_rises b.is_table)
+  lists_agree {kind = kind} (span {pairs = p} run s some high n r f text) = by_fronts (λ ps. AllAgree kind ps ps) run p high (λ b ps low h. front_agree kind b ps ps h) (lists_agree text)
+  lists_agree (branch b each) = each_agree each (table_apart b.is_table)
 
-  each_agree : {kind : Kind} {es : List ℕ} {targets : List (List ℕ)} {pairs : Pairs} → ListEach kind es targets pairs → Rises kind es → AllAgree kind pairs pairs
-  each_agree no_edge up = tt
-  each_agree {kind = kind} (edge {e = e} {pairs = p} {more = m} n text each) up =
-      edge_agree kind e p m (each_above each (fold_byte kind e) up.0) (lists_agree text) (each_agree each up.1)
+  each_agree : {kind : Kind} {es : List ℕ} {targets : List (List ℕ)} {pairs : Pairs} → ListEach kind es targets pairs → EdgesApart kind es → AllAgree kind pairs pairs
+  each_agree no_edge apart = tt
+  each_agree {kind = kind} (edge {e = e} {pairs = p} {more = m} n text each) apart =
+      edge_agree kind e p m (each_other each e apart.0) (lists_agree text) (each_agree each apart.1)
 
 -- a text's pairs are case-consistent
 pub lists_consistent : {kind : Kind} {bytes : List ℕ} {pairs : Pairs} → Lists kind bytes pairs → IsCaseConsistent kind pairs
@@ -151,16 +155,20 @@ joined_apart : (kind : Kind) (xs ys : Pairs) → Apart kind xs → Apart kind ys
 joined_apart kind [] ys a b h = b
 joined_apart kind (e ∷ xs) ys a b h = (every_append (OtherKey kind e.0) xs ys a.0 h.0, joined_apart kind xs ys a.1 b h.1)
 
-edge_apart : (kind : Kind) (e : ℕ) (p m : Pairs) → AllByRecursion (λ f. BeginsAbove kind (fold_byte kind e) f.0) m → Apart kind p → Apart kind m → Apart kind (with_front e p ++ m)
-edge_apart kind e p m above pp mm =
+edge_apart : (kind : Kind) (e : ℕ) (p m : Pairs) → AllByRecursion (λ f. BeginsOther kind e f.0) m → Apart kind p → Apart kind m → Apart kind (with_front e p ++ m)
+edge_apart kind e p m others pp mm =
     joined_apart kind (with_front e p) m (front_apart kind e p pp) mm
     (every_front (λ x. ⊤) (λ x. AllByRecursion (OtherKey kind x.0) m) e p
-    (λ x h. every_more (λ f. BeginsAbove kind (fold_byte kind e) f.0) (OtherKey kind (e ∷ x.0)) m (λ f a. (above_apart kind e x.0 f.0 a).1) above)
+    (λ x h. every_more (λ f. BeginsOther kind e f.0) (OtherKey kind (e ∷ x.0)) m (λ f a. (other_apart kind e x.0 f.0 a).1) others)
     (every_any (λ x. ⊤) p (λ x. tt)))
 
 -- no key behind a byte is empty
 front_some : (kind : Kind) (b : ℕ) (pairs : Pairs) → AllByRecursion (OtherKey kind []) (with_front b pairs)
 front_some kind b pairs = every_front (λ x. ⊤) (OtherKey kind []) b pairs (λ x h. refl) (every_any (λ x. ⊤) pairs (λ x. tt))
+
+run_some : (kind : Kind) (run : List ℕ) (pairs : Pairs) → (run ≡ [] → ⊥) → AllByRecursion (OtherKey kind []) (with_run run pairs)
+run_some kind [] pairs some = absurd (some refl)
+run_some kind (b ∷ run) pairs some = subst (AllByRecursion (OtherKey kind [])) (sym (with_run-front b run pairs)) (front_some kind b (with_run run pairs))
 
 each_keys_some : {kind : Kind} {es : List ℕ} {targets : List (List ℕ)} {pairs : Pairs} → ListEach kind es targets pairs → AllByRecursion (OtherKey kind []) pairs
 each_keys_some no_edge = tt
@@ -174,6 +182,7 @@ keys_some (value {v = v} {spelling = sp} {rest = r} s n text) none =
     let not_four = subst NoValueFirst (ap (λ x. x ++ r) s.bytes_are) none in
     absurd (not_four (omega arith))
 keys_some {kind = kind} (literal {b = b} {pairs = p} low n text) none = front_some kind b p
+keys_some {kind = kind} (span {pairs = p} run s some high n r f text) none = run_some kind run p some
 keys_some (branch b each) none = each_keys_some each
 
 -- a text lists no key twice, by its kind
@@ -182,12 +191,13 @@ mutual
   lists_apart nothing = tt
   lists_apart (value s n text) = (keys_some text n, lists_apart text)
   lists_apart {kind = kind} (literal {b = b} {pairs = p} low n text) = front_apart kind b p (lists_apart text)
-  lists_apart (branch b each) = each_apart each (table_rises b.is_table)
+  lists_apart {kind = kind} (span {pairs = p} run s some high n r f text) = by_fronts (Apart kind) run p high (λ b ps low h. front_apart kind b ps h) (lists_apart text)
+  lists_apart (branch b each) = each_apart each (table_apart b.is_table)
 
-  each_apart : {kind : Kind} {es : List ℕ} {targets : List (List ℕ)} {pairs : Pairs} → ListEach kind es targets pairs → Rises kind es → Apart kind pairs
-  each_apart no_edge up = tt
-  each_apart {kind = kind} (edge {e = e} {pairs = p} {more = m} n text each) up =
-      edge_apart kind e p m (each_above each (fold_byte kind e) up.0) (lists_apart text) (each_apart each up.1)
+  each_apart : {kind : Kind} {es : List ℕ} {targets : List (List ℕ)} {pairs : Pairs} → ListEach kind es targets pairs → EdgesApart kind es → Apart kind pairs
+  each_apart no_edge apart = tt
+  each_apart {kind = kind} (edge {e = e} {pairs = p} {more = m} n text each) apart =
+      edge_apart kind e p m (each_other each e apart.0) (lists_apart text) (each_apart each apart.1)
 
 -- keys that are two to the kind are two
 other_key : (kind : Kind) (p q : List ℕ) → same_key kind p q ≡ false → p ≡ q → ⊥

@@ -1,1 +1,94 @@
--- Pairs with a run of bytes in front of each key.
+-- Pairs with a run of bytes in front of each key, and what a span begins with.
+use Rattle.std.proofs.Common.{◌≡◌, ℕ, suc, ◌+◌, ◌*◌, ◌<◌, ◌≤◌, List, [], ◌∷◌, ◌++◌, length, refl, sym, ◌∙◌, ap, subst, arith, inl, inr, Bool, true, false, cond, eqb, Option, Some, None}
+use Rattle.std.specs.Prelude.{◌||◌}
+use Rattle.std.specs.Option.{option_map_or}
+use Rattle.std.specs.List.{AllByRecursion}
+use Rattle.std.proofs.lemmas.Bool.{eq-eqb, ne_eqb, cases_eq}
+use Rattle.zerotrie_core.specs.Kind.{Kind, fold_byte, same_byte}
+use Rattle.zerotrie_core.specs.Numbers.{Spells, extender}
+use Rattle.zerotrie_core.specs.Maps.{Pairs, with_front, with_run, after_run, value_at, begins_some, edges, residual, behind_all}
+use Rattle.zerotrie_core.specs.Texts.{AreHigh, NoValueFirst, NoSpanFirst}
+use Rattle.zerotrie_core.proofs.EdgeLemmas.{filter-range, begins_some-front, residual-front, residual-other}
+use Rattle.zerotrie_core.proofs.KindLemmas.{one_fold, two_folds}
+use Rattle.zerotrie_core.proofs.ReaderLemmas.{value_at-front, value_at-other, value_at-no_key, extender_one}
+
+pub with_run-none : (pairs : Pairs) → with_run [] pairs ≡ pairs
+with_run-none [] = refl
+with_run-none (e ∷ pairs) = ap (λ ps. e ∷ ps) (with_run-none pairs)
+
+-- the first byte of the run stands in front of the others
+pub with_run-front : (b : ℕ) (run : List ℕ) (pairs : Pairs) → with_run (b ∷ run) pairs ≡ with_front b (with_run run pairs)
+with_run-front b run [] = refl
+with_run-front b run (e ∷ pairs) = ap (λ ps. (b ∷ (run ++ e.0), e.1) ∷ ps) (with_run-front b run pairs)
+
+-- what a byte in front keeps, a run in front keeps
+pub by_fronts : (P : Pairs → Type 0) (run : List ℕ) (pairs : Pairs) → AreHigh run → ((b : ℕ) (ps : Pairs) → b < 256 → P ps → P (with_front b ps)) → P pairs → P (with_run run pairs)
+by_fronts P [] pairs high keeps p = subst P (sym (with_run-none pairs)) p
+by_fronts P (b ∷ run) pairs high keeps p = subst P (sym (with_run-front b run pairs)) (keeps b (with_run run pairs) high.1 (by_fronts P run pairs high.2 keeps p))
+
+-- some pair stays
+pub run_none : (run : List ℕ) (pairs : Pairs) → with_run run pairs ≡ [] → pairs ≡ []
+run_none run [] e = refl
+run_none run (x ∷ pairs) e = absurd (cc)
+
+-- a look-up goes on behind the run
+pub value_at-run : (kind : Kind) → ((b : ℕ) → fold_byte kind b ≡ b) → (run : List ℕ) (pairs : Pairs) (key : List ℕ) → value_at kind (with_run run pairs) key ≡ option_map_or (λ after. value_at kind pairs after) (after_run run key) None
+value_at-run kind keeps [] pairs key = ap (λ ps. value_at kind ps key) (with_run-none pairs)
+value_at-run kind keeps (b ∷ run) pairs [] = ap (λ ps. value_at kind ps []) (with_run-front b run pairs) ∙ value_at-no_key kind b (with_run run pairs)
+value_at-run kind keeps (b ∷ run) pairs (c ∷ key) = ap (λ ps. value_at kind ps (c ∷ key)) (with_run-front b run pairs) ∙ elim (cases_eq b c) [
+  | inl same ↦
+      value_at-front kind b c key (with_run run pairs) (one_fold kind b c (ap (fold_byte kind) same))
+      ∙ value_at-run kind keeps run pairs key
+      ∙ rw (eq-eqb b c same) refl
+  | inr other ↦
+      value_at-other kind b c key (with_run run pairs) (two_folds kind b c (λ f. other (sym (keeps b) ∙ f ∙ keeps c)))
+      ∙ rw (ne_eqb b c other) refl
+]
+
+pub value_at-no_run : (kind : Kind) (run : List ℕ) (pairs : Pairs) → (run ≡ [] → ⊥) → value_at kind (with_run run pairs) [] ≡ None
+value_at-no_run kind [] pairs some = absurd (some refl)
+value_at-no_run kind (b ∷ run) pairs some = ap (λ ps. value_at kind ps []) (with_run-front b run pairs) ∙ value_at-no_key kind b (with_run run pairs)
+
+-- the pairs behind the first byte, and behind any other
+pub residual-run : (b : ℕ) (run : List ℕ) (pairs : Pairs) → residual b (with_run (b ∷ run) pairs) ≡ with_run run pairs
+residual-run b run pairs = ap (residual b) (with_run-front b run pairs) ∙ residual-front b (with_run run pairs)
+
+pub residual-run_other : (b c : ℕ) (run : List ℕ) (pairs : Pairs) → (c ≡ b → ⊥) → residual b (with_run (c ∷ run) pairs) ≡ []
+residual-run_other b c run pairs other = ap (residual b) (with_run-front c run pairs) ∙ residual-other b c (with_run run pairs) other
+
+pub behind_run : (run : List ℕ) (pairs : Pairs) → behind_all run (with_run run pairs) ≡ pairs
+behind_run [] pairs = with_run-none pairs
+behind_run (b ∷ run) pairs = ap (behind_all run) (residual-run b run pairs) ∙ behind_run run pairs
+
+or_nothing : (x : Bool) → x ≡ (x || false)
+or_nothing true = refl
+or_nothing false = refl
+
+-- one edge leads to pairs that all begin with one byte
+pub edges_one : (b : ℕ) (pairs : Pairs) → b < 256 → (pairs ≡ [] → ⊥) → edges (with_front b pairs) ≡ b ∷ []
+unfolding edges
+edges_one b pairs low some = filter-range (begins_some (with_front b pairs)) 0 256 256 (b ∷ []) refl (omega arith, low, tt) (λ x h. begins_some-front b x pairs some ∙ or_nothing (eqb b x))
+
+pub edges_run : (b : ℕ) (run : List ℕ) (pairs : Pairs) → b < 256 → (pairs ≡ [] → ⊥) → edges (with_run (b ∷ run) pairs) ≡ b ∷ []
+edges_run b run pairs low some = ap edges (with_run-front b run pairs) ∙ edges_one b (with_run run pairs) low (λ none. some (run_none run pairs none))
+
+nothing_some : (o : Option (List ℕ)) (x : List ℕ) → o ≡ None → o ≡ Some x → ⊥
+nothing_some o x none some = cc
+
+-- a key is the run and what it has behind it
+pub after_is : (run key after : List ℕ) → after_run run key ≡ Some after → key ≡ run ++ after
+after_is [] key after e = cc
+after_is (b ∷ run) [] after e = absurd (cc)
+after_is (b ∷ run) (c ∷ key) after e = elim (cases_eq b c) [
+  | inl same ↦ ap (λ x. x ∷ key) (sym same) ∙ ap (λ k. b ∷ k) (after_is run key after (rw (eq-eqb b c same) at e))
+  | inr other ↦ absurd (nothing_some (after_run (b ∷ run) (c ∷ key)) after (rw (ne_eqb b c other) refl) e)
+]
+
+-- the lead of a span has the bits 101
+pub span_lead : (n lead : ℕ) (spelling rest after : List ℕ) → Spells 16 5 n spelling → spelling ++ after ≡ lead ∷ rest → (160 ≤ lead) × (lead < 192)
+span_lead n lead spelling rest after s e =
+    let one = extender_one s.trail in
+    let digit = s.digit_below in
+    let whole : (5 * (2 * 16) + extender s.trail * 16 + s.digit) ∷ (s.trail ++ after) ≡ lead ∷ rest = sym (ap (λ x. x ++ after) s.bytes_are) ∙ e in
+    let is : 5 * (2 * 16) + extender s.trail * 16 + s.digit ≡ lead = cc in
+    (omega arith, omega arith)
