@@ -15,7 +15,13 @@ edge_limit_is ignore_case ascii = refl
 edge_limit_is perfect_hash ascii = absurd ascii
 edge_limit_is extended_capacity ascii = absurd ascii
 
--- an edge is a byte
+-- any ASCII byte may be an edge, and nothing but a byte
+pub edge_limit_from : (kind : Kind) → 128 ≤ edge_limit kind
+edge_limit_from simple_ascii = omega arith
+edge_limit_from ignore_case = omega arith
+edge_limit_from perfect_hash = omega arith
+edge_limit_from extended_capacity = omega arith
+
 pub edge_limit_byte : (kind : Kind) → edge_limit kind ≤ 256
 edge_limit_byte simple_ascii = omega arith
 edge_limit_byte ignore_case = omega arith

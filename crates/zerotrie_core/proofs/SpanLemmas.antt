@@ -1,12 +1,12 @@
 -- Pairs with a run of bytes in front of each key, and what a span begins with.
-use Rattle.std.proofs.Common.{◌≡◌, ℕ, suc, ◌+◌, ◌*◌, ◌<◌, ◌≤◌, List, [], ◌∷◌, ◌++◌, length, refl, sym, ◌∙◌, ap, subst, arith, inl, inr, Bool, true, false, cond, eqb, Option, Some, None}
+use Rattle.std.proofs.Common.{◌≡◌, ℕ, zero, suc, ◌+◌, ◌*◌, ◌<◌, ◌≤◌, List, [], ◌∷◌, ◌++◌, length, refl, sym, ◌∙◌, ap, subst, arith, inl, inr, Bool, true, false, cond, eqb, Option, Some, None, leb}
 use Rattle.std.specs.Prelude.{◌||◌}
 use Rattle.std.specs.Option.{option_map_or}
 use Rattle.std.specs.List.{AllByRecursion}
-use Rattle.std.proofs.lemmas.Bool.{eq-eqb, ne_eqb, cases_eq}
-use Rattle.zerotrie_core.specs.Kind.{Kind, fold_byte, same_byte}
+use Rattle.std.proofs.lemmas.Bool.{eq-eqb, ne_eqb, cases_eq, le-leb, lt-leb}
+use Rattle.zerotrie_core.specs.Kind.{Kind, simple_ascii, fold_byte, same_byte}
 use Rattle.zerotrie_core.specs.Numbers.{Spells, extender}
-use Rattle.zerotrie_core.specs.Maps.{Pairs, with_front, with_run, after_run, value_at, begins_some, edges, residual, behind_all}
+use Rattle.zerotrie_core.specs.Maps.{Pairs, with_front, with_run, after_run, value_at, begins_some, edges, residual, behind_all, longest, high_edge, unless_ends, span_to, span_of}
 use Rattle.zerotrie_core.specs.Texts.{AreHigh, NoValueFirst, NoSpanFirst}
 use Rattle.zerotrie_core.proofs.EdgeLemmas.{filter-range, begins_some-front, residual-front, residual-other}
 use Rattle.zerotrie_core.proofs.KindLemmas.{one_fold, two_folds}
@@ -92,3 +92,77 @@ span_lead n lead spelling rest after s e =
     let whole : (5 * (2 * 16) + extender s.trail * 16 + s.digit) ∷ (s.trail ++ after) ≡ lead ∷ rest = sym (ap (λ x. x ++ after) s.bytes_are) ∙ e in
     let is : 5 * (2 * 16) + extender s.trail * 16 + s.digit ≡ lead = cc in
     (omega arith, omega arith)
+
+longest-front : (b : ℕ) (pairs : Pairs) → (pairs ≡ [] → ⊥) → longest (with_front b pairs) ≡ suc (longest pairs)
+longest-front b [] some = absurd (some refl)
+longest-front b (e ∷ []) some = omega arith
+longest-front b (e ∷ f ∷ pairs) some = let rest = longest-front b (f ∷ pairs) (λ none. absurd (cc)) in omega arith
+
+-- pairs that one edge leads to
+span_front : (d b : ℕ) (pairs : Pairs) → b < 256 → (pairs ≡ [] → ⊥)
+    → span_to (suc d) (with_front b pairs) ≡ cond (leb 128 b) (b ∷ unless_ends (value_at simple_ascii pairs []) (span_to d pairs)) []
+span_front d b pairs low some =
+    ap (λ es. high_edge es (λ c. unless_ends (value_at simple_ascii (residual c (with_front b pairs)) []) (span_to d (residual c (with_front b pairs))))) (edges_one b pairs low some)
+    ∙ ap (λ ps. cond (leb 128 b) (b ∷ unless_ends (value_at simple_ascii ps []) (span_to d ps)) []) (residual-front b pairs)
+
+-- no span begins with an ASCII byte
+pub span_of-literal : (b : ℕ) (pairs : Pairs) → b < 128 → (pairs ≡ [] → ⊥) → span_of (with_front b pairs) ≡ []
+unfolding span_of
+span_of-literal b pairs low some =
+    ap (λ d. span_to d (with_front b pairs)) (longest-front b pairs some)
+    ∙ span_front (longest pairs) b pairs (omega arith) some
+    ∙ rw (lt-leb 128 b low) refl
+
+-- a byte from 128 on stands in front of what all keys behind it have in common
+pub span_of-front : (b : ℕ) (pairs : Pairs) → 128 ≤ b → b < 256 → (pairs ≡ [] → ⊥) → span_of (with_front b pairs) ≡ b ∷ unless_ends (value_at simple_ascii pairs []) (span_of pairs)
+unfolding span_of
+span_of-front b pairs high low some =
+    ap (λ d. span_to d (with_front b pairs)) (longest-front b pairs some)
+    ∙ span_front (longest pairs) b pairs low some
+    ∙ rw (le-leb 128 b high) refl
+
+-- No span stands in front of the pairs: a key ends here, or there is no byte from 128 on with which all begin.
+abbrev pub EndsSpan : Pairs → Type 0
+EndsSpan pairs = unless_ends (value_at simple_ascii pairs []) (span_of pairs) ≡ []
+
+ends_run : (run : List ℕ) (pairs : Pairs) → AreHigh run → (pairs ≡ [] → ⊥) → EndsSpan pairs → unless_ends (value_at simple_ascii (with_run run pairs) []) (span_of (with_run run pairs)) ≡ run
+ends_run [] pairs high some ends = ap (λ ps. unless_ends (value_at simple_ascii ps []) (span_of ps)) (with_run-none pairs) ∙ ends
+ends_run (b ∷ run) pairs high some ends =
+    let rest = with_run run pairs in
+    ap (λ ps. unless_ends (value_at simple_ascii ps []) (span_of ps)) (with_run-front b run pairs)
+    ∙ ap (λ o. unless_ends o (span_of (with_front b rest))) (value_at-no_key simple_ascii b rest)
+    ∙ span_of-front b rest high.0 high.1 (λ none. some (run_none run pairs none))
+    ∙ ap (λ r. b ∷ r) (ends_run run pairs high.2 some ends)
+
+-- a run in front of pairs without a span is their span
+pub span_of-run : (run : List ℕ) (pairs : Pairs) → (run ≡ [] → ⊥) → AreHigh run → (pairs ≡ [] → ⊥) → EndsSpan pairs → span_of (with_run run pairs) ≡ run
+span_of-run run pairs there high some ends =
+    ap (λ o. unless_ends o (span_of (with_run run pairs))) (sym (value_at-no_run simple_ascii run pairs there))
+    ∙ ends_run run pairs high some ends
+
+-- the empty key is in no span
+pub span_of-value : (v : ℕ) (pairs : Pairs) → span_of (([], v) ∷ pairs) ≡ span_of pairs
+unfolding span_of edges
+span_of-value v pairs = by_length (longest (([], v) ∷ pairs)) ∙ ap (λ d. span_to d pairs) (let same : longest (([], v) ∷ pairs) ≡ longest pairs = omega arith in same)
+  where
+    by_length : (d : ℕ) → span_to d (([], v) ∷ pairs) ≡ span_to d pairs
+    by_length zero = refl
+    by_length (suc d) = refl
+
+high_edge-many : (es : List ℕ) (behind : ℕ → List ℕ) → 2 ≤ length es → high_edge es behind ≡ []
+high_edge-many [] behind two = refl
+high_edge-many (b ∷ []) behind two = absurd (omega arith)
+high_edge-many (b ∷ c ∷ more) behind two = refl
+
+-- keys with several first bytes have none
+pub span_of-many : (pairs : Pairs) → 2 ≤ length (edges pairs) → span_of pairs ≡ []
+unfolding span_of
+span_of-many pairs two = by_length (longest pairs)
+  where
+    by_length : (d : ℕ) → span_to d pairs ≡ []
+    by_length zero = refl
+    by_length (suc d) = high_edge-many (edges pairs) _ two
+
+pub ends_none : (o : Option ℕ) (run : List ℕ) → run ≡ [] → unless_ends o run ≡ []
+ends_none None run none = none
+ends_none (Some v) run none = refl

@@ -1,11 +1,11 @@
 -- The canonical text of a map, and the length of a map's texts.
 use Rattle.std.proofs.Common.{zero, suc}
-use Rattle.std.specs.Prelude.{ℕ, nat_le, is_some, ◌+◌, ◌-◌, ◌*◌, ◌/◌, ◌%◌, List, [], ◌∷◌, ◌++◌, length, map, if◌then◌else◌, nat_lt, Option, Some, None, sum}
+use Rattle.std.specs.Prelude.{ℕ, ◌+◌, ◌-◌, ◌*◌, ◌/◌, ◌%◌, List, [], ◌∷◌, ◌++◌, length, map, if◌then◌else◌, nat_lt, Option, Some, None, sum}
 use Rattle.std.specs.List.{concat}
 use Rattle.std.specs.FinMap.{entries}
 use Rattle.zerotrie_core.specs.Kind.{Kind, simple_ascii, ignore_case, perfect_hash, extended_capacity, is_hashed, ordered}
 use Rattle.zerotrie_core.specs.Numbers.{spelled}
-use Rattle.zerotrie_core.specs.Maps.{Pairs, Map, value_at, edges, residual, behind_all, longest}
+use Rattle.zerotrie_core.specs.Maps.{Pairs, Map, value_at, edges, residual, behind_all, longest, span_of}
 use Rattle.zerotrie_core.specs.Branches.{blocks, offsets}
 
 -- the least w with total below 256 ^ (w + 1), for a total of at most so much
@@ -50,18 +50,6 @@ abbrev pub hashed_branch_size : Kind → List ℕ → ℕ
 hashed_branch_size kind sizes = let w = width (sum sizes) in
     length (spelled 32 3 (256 * w + length sizes % 256)) + table_size kind (length sizes) + (w + 1) * (length sizes - 1)
 
--- the one edge, if it is from 128 on, with the bytes behind it in front of which no key ends
-abbrev pub span_by : List ℕ → (ℕ → List ℕ) → List ℕ
-span_by [] behind = []
-span_by (b ∷ []) behind = if nat_le 128 b then b ∷ behind b else []
-span_by (b ∷ c ∷ more) behind = []
-
--- the longest run of bytes from 128 on with which each of the keys begins, of at most d bytes
-abbrev pub span_to : ℕ → Pairs → List ℕ
-span_to zero pairs = []
-span_to (suc d) pairs =
-    if is_some (value_at simple_ascii pairs []) then [] else span_by (edges pairs) (λ b. span_to d (residual b pairs))
-
 -- the bytes of a span with this run and of what follows it, or of the nodes where there is none
 abbrev pub span_or : List ℕ → ℕ → ℕ → ℕ
 span_or [] nodes behind = nodes
@@ -83,6 +71,12 @@ node_size kind [] = 0
 node_size kind (s ∷ []) = 1
 node_size kind (s ∷ t ∷ more) = branch_size kind (s ∷ t ∷ more)
 
+-- the length of the texts of pairs in a hashed kind, by that of pairs with shorter keys: a span goes as far as it can
+abbrev pub hashed_size : Kind → (Pairs → ℕ) → Pairs → ℕ
+hashed_size kind size pairs = let sizes = map (λ b. size (residual b pairs)) (edges pairs) in
+    length (value_node (value_at kind pairs []))
+    + span_or (span_of pairs) (node_size kind sizes + sum sizes) (size (behind_all (span_of pairs) pairs))
+
 -- the length of the texts of pairs whose keys are shorter than d
 abbrev pub size_to : ℕ → Kind → Pairs → ℕ
 size_to zero kind pairs = 0
@@ -90,16 +84,8 @@ size_to (suc d) simple_ascii pairs = let sizes = map (λ b. size_to d simple_asc
     length (value_node (value_at simple_ascii pairs [])) + node_size simple_ascii sizes + sum sizes
 size_to (suc d) ignore_case pairs = let sizes = map (λ b. size_to d ignore_case (residual b pairs)) (edges pairs) in
     length (value_node (value_at ignore_case pairs [])) + node_size ignore_case sizes + sum sizes
-size_to (suc d) perfect_hash pairs =
-    let sizes = map (λ b. size_to d perfect_hash (residual b pairs)) (edges pairs) in
-    let run = span_by (edges pairs) (λ b. span_to d (residual b pairs)) in
-    length (value_node (value_at perfect_hash pairs []))
-    + span_or run (node_size perfect_hash sizes + sum sizes) (size_to d perfect_hash (behind_all run pairs))
-size_to (suc d) extended_capacity pairs =
-    let sizes = map (λ b. size_to d extended_capacity (residual b pairs)) (edges pairs) in
-    let run = span_by (edges pairs) (λ b. span_to d (residual b pairs)) in
-    length (value_node (value_at extended_capacity pairs []))
-    + span_or run (node_size extended_capacity sizes + sum sizes) (size_to d extended_capacity (behind_all run pairs))
+size_to (suc d) perfect_hash pairs = hashed_size perfect_hash (size_to d perfect_hash) pairs
+size_to (suc d) extended_capacity pairs = hashed_size extended_capacity (size_to d extended_capacity) pairs
 
 -- the length of the texts of a map
 unfoldable pub size : Kind → Map → ℕ
