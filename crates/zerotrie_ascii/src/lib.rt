@@ -1,9 +1,8 @@
 //! Tries over ASCII keys, with the case of letters and without.
 #![tactic(auto)]
 
-pub mod laws;
+mod ascii_trie;
 mod options;
-mod zerotrie;
 
+pub use ascii_trie::{AsciiTrie, ZeroAsciiIgnoreCaseTrie, ZeroTrieSimpleAscii};
 pub use options::AsciiKind;
-pub use zerotrie::{AsciiTrie, ZeroAsciiIgnoreCaseTrie, ZeroTrieSimpleAscii};

@@ -2,7 +2,7 @@
 
 ghost use Rattle.zerotrie_core.specs.Kind.{IsAscii};
 
-use crate::zerotrie::AsciiTrie;
+use crate::ascii_trie::AsciiTrie;
 use zerotrie_core::{Ignore, Simple, ZeroTrieWithOptions};
 
 /// A kind of trie over ASCII keys, `Simple` or `Ignore`. Each branch has a sorted table, so a map has one

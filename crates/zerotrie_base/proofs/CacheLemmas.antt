@@ -9,7 +9,8 @@ use Rattle.std.specs.BTreeMap.{insert_entry, is_at}
 use Rattle.std.proofs.lemmas.Cmp.{tied_itself, nat_list_cmp_total}
 use Rattle.zerotrie_base.specs.declared.byte_phf.PerfectByteHashMap.{PerfectByteHashMap}
 use Rattle.zerotrie_base.specs.Hashes.{IsPerfectTable}
-use Rattle.zerotrie_base.specs.Caches.{Tables, tables_of, find, put, AllPerfect}
+use Rattle.zerotrie_base.specs.Caches.{Tables, find, put, AllPerfect}
+use Rattle.zerotrie_base.specs.byte_phf.Held.{tables_of}
 
 -- a vector of keys with its table
 abbrev pub Entry : Type 0
@@ -46,11 +47,11 @@ pub find-put : (k v : List ℕ) (ps : Tables) → find k (put k v ps) ≡ Some v
 find-put k v [] = rw (same k) refl
 find-put k v (p ∷ ps) = find-put_step k v (slice_cmp nat_cmp k p.0) p ps (put k v ps) refl (find-put k v ps)
 
-pub there_after : {A E : Type 0} (k : List ℕ) (before after : Tables) (r : Result A E) → OnOk r ((table : List ℕ) × (after ≡ put k table before) × IsPerfectTable k table) → OnOk r (IsSome (find k after))
+pub there_after : {A E : Type 0} (k : List ℕ) (before after : Tables) (r : Result A E) → OnOk r ((table : List ℕ) × (after ≡ put k table before)) → OnOk r (IsSome (find k after))
 there_after k before after (Ok v) h = ap (λ ts. is_some (find k ts)) h.1 ∙ ap is_some (find-put k h.0 before)
 there_after k before after (Err e) h = tt
 
--- whether a table is there does not hang on how it is seen
+-- whether a table is there does not depend on how it is seen
 pub is_some_seen : (r : Option (PerfectByteHashMap (Vec ℕ Global))) → is_some r ≡ is_some (option_map (λ x. x.store.items) r)
 is_some_seen None = refl
 is_some_seen (Some t) = refl
@@ -82,27 +83,13 @@ perfect-put k v [] a h = (h, tt)
 perfect-put k v (p ∷ ps) a h = perfect-put_step k v (slice_cmp nat_cmp k p.0) p ps (put k v ps) refl a h (perfect-put k v ps a.1 h)
 
 -- what a call that answered the table t leaves
-pub record Left (before : Tables) (keys t : List ℕ) (after : Tables) : Type 0 where
-  pub tables : MatchOption (find keys before) (after ≡ put keys t before) (λ table. (after ≡ before) × (t ≡ table))
-  pub perfect : AllPerfect before → AllPerfect after
-  pub table : AllPerfect before → IsPerfectTable keys t
-
-left_by : (before after : Tables) (keys t : List ℕ) (o : Option (List ℕ)) → find keys before ≡ o → (IsSome o → after ≡ before) → IfNone o ((table : List ℕ) × (after ≡ put keys table before) × IsPerfectTable keys table) → find keys after ≡ Some t → Left before keys t after
+left_by : (before after : Tables) (keys t : List ℕ) (o : Option (List ℕ)) → find keys before ≡ o → (IsSome o → after ≡ before) → IfNone o ((table : List ℕ) × (after ≡ put keys table before)) → find keys after ≡ Some t → MatchOption o (after ≡ put keys t before) (λ table. (after ≡ before) × (t ≡ table))
 left_by before after keys t None e held new h =
     let is : new.0 ≡ t = (let k : Some new.0 ≡ Some t = sym (find-put keys new.0 before) ∙ ap (find keys) (sym new.1) ∙ h in cc) in
-    record {
-      tables = subst (λ o. MatchOption o (after ≡ put keys t before) (λ table. (after ≡ before) × (t ≡ table))) (sym e) (new.1 ∙ ap (λ v. put keys v before) is);
-      perfect = λ a. subst AllPerfect (sym new.1) (perfect-put keys new.0 before a new.2);
-      table = λ a. subst (IsPerfectTable keys) is new.2;
-    }
+    new.1 ∙ ap (λ v. put keys v before) is
 left_by before after keys t (Some table) e held new h =
     let kept : after ≡ before = held refl in
-    let is : t ≡ table = (let k : Some t ≡ Some table = sym h ∙ ap (find keys) kept ∙ e in cc) in
-    record {
-      tables = subst (λ o. MatchOption o (after ≡ put keys t before) (λ table. (after ≡ before) × (t ≡ table))) (sym e) (kept, is);
-      perfect = λ a. subst AllPerfect (sym kept) a;
-      table = λ a. perfect_found keys t before a (e ∙ ap Some (sym is));
-    }
+    (kept, let k : Some t ≡ Some table = sym h ∙ ap (find keys) kept ∙ e in cc)
 
-pub left : (before after : Tables) (keys t : List ℕ) → (IsSome (find keys before) → after ≡ before) → IfNone (find keys before) ((table : List ℕ) × (after ≡ put keys table before) × IsPerfectTable keys table) → find keys after ≡ Some t → Left before keys t after
+pub left : (before after : Tables) (keys t : List ℕ) → (IsSome (find keys before) → after ≡ before) → IfNone (find keys before) ((table : List ℕ) × (after ≡ put keys table before)) → find keys after ≡ Some t → MatchOption (find keys before) (after ≡ put keys t before) (λ table. (after ≡ before) × (t ≡ table))
 left before after keys t held new h = left_by before after keys t (find keys before) refl held new h

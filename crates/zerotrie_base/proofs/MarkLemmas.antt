@@ -6,7 +6,7 @@ use Rattle.std.proofs.lemmas.Bool.{ne_eqb}
 use Rattle.std.proofs.lemmas.Bool.Decides.{eqb_tells}
 use Rattle.std.proofs.lemmas.List.{get_or-replicate, length-replicate, map_more, drop_more, take-append-drop, map-append}
 use Rattle.std.proofs.lemmas.List.Folds.{list_any-append}
-use Rattle.zerotrie_base.specs.Search.{IsMarked}
+use Rattle.zerotrie_base.specs.byte_phf.Search.{IsMarked}
 use Rattle.zerotrie_base.proofs.ApartLemmas.{Has, has_any, any_has, any_has_not, has_not_any, apart_distinct, distinct_apart, apart_joined, apart_across, has_right}
 
 pub marked_none : IsMarked [] (replicate 256 false)

@@ -1,5 +1,5 @@
 pub mod Hashes
 pub mod Refusals
-pub mod Search
 pub mod Caches
 pub mod CacheCalls
+pub mod byte_phf

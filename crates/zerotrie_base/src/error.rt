@@ -8,8 +8,9 @@ use thiserror::Error;
 
 /// Why a trie was not built.
 ///
-/// ```text
-/// plain_encode(alloc, &[(b"b", 1), (b"a", 2)])    // Err(ZeroTrieBuildError::Unsorted)
+/// ```
+/// let text = format!(in rt.alloc(); "{}", ZeroTrieBuildError::BufferTooLarge(17))?;
+/// assert_eq!(rt; text.as_str(), "Buffer too large. Size needed: 17");
 /// ```
 ///
 /// A build that answers one of the first ten cases was given pairs of which the condition beside it is true.
@@ -26,7 +27,11 @@ pub enum ZeroTrieBuildError {
     /// No parameters of a perfect hash were found for the edges of a branch.
     #[error("Failed to solve the perfect hash function. This is rare! Please report your case to the ICU4X team.")]
     CouldNotSolvePerfectHash,
-    /// Two keys agree in front up to case and not exactly, and the kind of trie ignores case.
+    /// Two keys begin alike up to case but not byte by byte, and the kind of trie ignores case.
+    ///
+    /// So `Accept` and `accept` are refused together. So are `Accept-CH` and `Accept-Charset`, which begin with
+    /// `Accept-CH` and `Accept-Ch`, and `DAV` and `Date`, which begin with `DA` and `Da`. The way out is to
+    /// lower-case the keys first, which loses nothing for look-ups.
     #[error("Mixed-case data added to case-insensitive trie")]
     MixedCase,
     /// A text of a dense table holds the delimiter.
@@ -65,5 +70,58 @@ impl<T: Drop> From<AllocFailed<T>> for ZeroTrieBuildError {
 
     fn from(_: AllocFailed<T>) -> Self {
         ZeroTrieBuildError::OutOfMemory
+    }
+}
+
+#[cfg(test)]
+mod tests {
+    use super::*;
+    use std::test::Fail;
+
+    #[test]
+    fn text_of_each_error(rt: HostRuntime) -> Result<(), Fail> {
+        let text = format!(in rt.alloc(); "{}", ZeroTrieBuildError::BufferTooLarge(17))?;
+        assert_eq!(rt; text.as_str(), "Buffer too large. Size needed: 17");
+        let rows = [
+            (
+                ZeroTrieBuildError::NonAsciiError,
+                "Non-ASCII cannot be added to an ASCII-only trie",
+            ),
+            (
+                ZeroTrieBuildError::CapacityExceeded,
+                "Reached maximum capacity of trie",
+            ),
+            (
+                ZeroTrieBuildError::CouldNotSolvePerfectHash,
+                "Failed to solve the perfect hash function. This is rare! Please report your case to the ICU4X team.",
+            ),
+            (
+                ZeroTrieBuildError::MixedCase,
+                "Mixed-case data added to case-insensitive trie",
+            ),
+            (
+                ZeroTrieBuildError::IllegalDelimiter,
+                "Delimiter is contained in one or more strings",
+            ),
+            (
+                ZeroTrieBuildError::DuplicateKey,
+                "The same key was given twice",
+            ),
+            (
+                ZeroTrieBuildError::Unsorted,
+                "Keys are not in strictly ascending order",
+            ),
+            (ZeroTrieBuildError::BufferTooSmall, "Buffer too small"),
+            (
+                ZeroTrieBuildError::BufferTooLarge(usize::MAX),
+                "Buffer too large. Size needed: 18446744073709551615",
+            ),
+            (ZeroTrieBuildError::StackExceeded, "Need more stack"),
+            (ZeroTrieBuildError::OutOfMemory, "Out of memory"),
+        ];
+        for (error, text) in rows {
+            assert_eq!(rt; format!(in rt.alloc(); "{error}")?.as_str(), text);
+        }
+        Ok(())
     }
 }

@@ -12,7 +12,7 @@ use std::boxed::BoxedSlice;
 ///
 /// ```
 /// let store = [0x61, 0x81];
-/// assert_eq!(store.bytes().len(), 2);
+/// assert_eq!(rt; store.bytes().len(), 2);
 /// ```
 ///
 /// Its bytes do not change from look to look. Tries and tables read any store: borrowed bytes, a
@@ -68,7 +68,8 @@ impl<const N: usize> TrieStore for [u8; N] {
 /// A store that another store turns into, with the same bytes.
 ///
 /// ```
-/// let store: CowSlice<u8> = ConvertStore::convert(bytes);
+/// let store: CowSlice<u8> = ConvertStore::convert(Vec::from_slice(rt.alloc(), b"a\x81")?);
+/// assert_eq!(rt; store.bytes(), b"a\x81".as_slice());
 /// ```
 ///
 /// Each store turns into itself, and a vector or borrowed bytes turn into a `CowSlice`. It takes no memory.
@@ -123,7 +124,8 @@ impl<'a> ConvertStore<&'a [u8]> for CowSlice<'a, u8> {
 /// What lends the bytes of a key, the same at every look: text or bytes, borrowed or owned.
 ///
 /// ```
-/// assert_eq!("ad".key_bytes(), b"ad");
+/// assert_eq!(rt; "ad".key_bytes(), b"ad".as_slice());
+/// assert_eq!(rt; b"ad".key_bytes(), b"ad".as_slice());
 /// ```
 pub trait TrieKey {
     ghost key: { Self → List ℕ };
@@ -157,10 +159,68 @@ impl TrieKey for &[u8] {
     }
 }
 
+impl<const N: usize> TrieKey for &[u8; N] {
+    ghost key = { λ k. k.now };
+
+    fn key_bytes(&self) -> &[u8] {
+        self.as_slice()
+    }
+}
+
 impl TrieKey for Vec<u8> {
     ghost key = { λ k. k.items };
 
     fn key_bytes(&self) -> &[u8] {
         self.as_slice()
+    }
+}
+
+#[cfg(test)]
+mod tests {
+    use super::*;
+    use std::test::Fail;
+
+    fn bytes_of<S: TrieStore>(store: &S) -> &[u8] {
+        store.bytes()
+    }
+
+    fn key_of<K: TrieKey>(pair: &(K, usize)) -> &[u8] {
+        pair.0.key_bytes()
+    }
+
+    #[test]
+    fn bytes_of_each_store(rt: HostRuntime) -> Result<(), Fail> {
+        let store = [0x61, 0x81];
+        assert_eq!(rt; store.bytes().len(), 2);
+        let bytes = b"a\x81".as_slice();
+        let owned = Vec::from_slice(rt.alloc(), bytes)?;
+        assert_eq!(rt; bytes_of(&store), bytes);
+        assert_eq!(rt; bytes_of(&bytes), bytes);
+        assert_eq!(rt; bytes_of(&owned), bytes);
+        assert_eq!(rt; bytes_of(&owned.into_boxed_slice()), bytes);
+        Ok(())
+    }
+
+    #[test]
+    fn convert_keeps_the_bytes(rt: HostRuntime) -> Result<(), Fail> {
+        let store: CowSlice<u8> = ConvertStore::convert(Vec::from_slice(rt.alloc(), b"a\x81")?);
+        assert_eq!(rt; store.bytes(), b"a\x81".as_slice());
+        let lent: CowSlice<u8> = ConvertStore::convert(b"a\x81".as_slice());
+        assert_eq!(rt; bytes_of(&lent), b"a\x81".as_slice());
+        Ok(())
+    }
+
+    #[test]
+    fn key_bytes_of_each_key(rt: HostRuntime) -> Result<(), Fail> {
+        assert_eq!(rt; "ad".key_bytes(), b"ad".as_slice());
+        assert_eq!(rt; b"ad".key_bytes(), b"ad".as_slice());
+        assert_eq!(rt; key_of(&("ab", 1)), b"ab".as_slice());
+        assert_eq!(rt; key_of(&(b"ab", 1)), b"ab".as_slice());
+        assert_eq!(rt; key_of(&(b"ab".as_slice(), 1)), b"ab".as_slice());
+        assert_eq!(rt;
+            key_of(&(Vec::from_slice(rt.alloc(), b"ab")?, 1)),
+            b"ab".as_slice()
+        );
+        Ok(())
     }
 }

@@ -3,7 +3,7 @@ use Rattle.std.proofs.Common.{◌≡◌, ℕ, zero, suc, ◌<◌, List, [], ◌�
 use Rattle.std.proofs.lemmas.List.{take-append-drop}
 use Rattle.std.proofs.lemmas.Option.{slice_get_within}
 use Rattle.zerotrie_core.specs.Kind.{Kind}
-use Rattle.zerotrie_core.specs.Numbers.{Spells}
+use Rattle.zerotrie_core.specs.Numbers.{value_form, SpellsAs}
 use Rattle.zerotrie_core.specs.Maps.{Pairs, map_of, residual, behind_all}
 use Rattle.zerotrie_core.specs.Texts.{Lists}
 use Rattle.zerotrie_core.specs.Texts.Lists.{nothing}
@@ -23,7 +23,7 @@ drop_at (e ∷ all) (suc i) a h = drop_at all i a h
 
 -- the value is in front
 pub stands_at : (kind : Kind) (all : Pairs) (i : ℕ) (key : List ℕ) (v : ℕ) (spelling : List ℕ) (siblings : List Sibling) (behind : ℕ) (bytes new : List ℕ) → slice_get all i ≡ Some (key, v)
-    → Spells 16 4 v spelling → new ≡ spelling ++ bytes → BuiltFrom kind (suc i) all siblings behind bytes → Stands kind key (length key) siblings behind new (drop i all)
+    → SpellsAs value_form v spelling → new ≡ spelling ++ bytes → BuiltFrom kind (suc i) all siblings behind bytes → Stands kind key (length key) siblings behind new (drop i all)
 stands_at kind all i key v spelling siblings behind bytes new at s is built =
     let waits : Waits kind key siblings behind bytes (drop (suc i) all) = subst (λ e. Waits kind e.0 siblings behind bytes (drop (suc i) all)) (got all i ([], 0) (key, v) at) built in
     let stands = with_value kind key v spelling siblings behind bytes (drop (suc i) all) s waits in

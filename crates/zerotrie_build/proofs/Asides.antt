@@ -2,14 +2,14 @@
 use Rattle.std.proofs.Common.{◌≡◌, ℕ, zero, suc, ◌<◌, ◌≤◌, inl, inr, List, [], ◌∷◌, ◌++◌, length, refl, sym, ◌∙◌, ap, arith, map, take, get_or, append_assoc}
 use Rattle.std.specs.List.{concat}
 use Rattle.zerotrie_core.specs.Kind.{Kind, fold_byte}
-use Rattle.zerotrie_core.specs.Maps.{Pairs, with_front, behind_all}
+use Rattle.zerotrie_core.specs.Maps.{Pairs, with_front, with_run, behind_all}
 use Rattle.zerotrie_core.specs.Texts.{ListEach}
 use Rattle.zerotrie_core.specs.Texts.ListEach.{no_edge, edge}
-use Rattle.zerotrie_core.proofs.ReaderLemmas.{Rises, AllAbove}
+use Rattle.zerotrie_core.proofs.CallerLemmas.{Rises, AllAbove, behind_all-nil}
 use Rattle.zerotrie_build.specs.declared.siblings.Sibling.{Sibling}
-use Rattle.zerotrie_build.specs.Growing.{with_run, DepthsBelow, NoneAt, ComesBefore, Aside, AllAt}
+use Rattle.zerotrie_build.specs.Growing.{DepthsBelow, NoneAt, ComesBefore, Aside, AllAt}
 use Rattle.zerotrie_build.proofs.Parting.{apart}
-use Rattle.zerotrie_build.proofs.Runs.{with_run-append, with_run-push, behind_all-nil, behind_all-append, behind_all-other}
+use Rattle.zerotrie_build.proofs.Runs.{with_run-append, with_run-push, behind_all-append, behind_all-other}
 
 pub next_below : (kind : Kind) (d : ℕ) (s : Sibling) (siblings : List Sibling) → s.depth < d → ComesBefore kind s siblings → DepthsBelow d siblings
 next_below kind d s [] h b = tt

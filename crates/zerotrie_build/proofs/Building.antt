@@ -1,25 +1,18 @@
--- What a build owes for its pairs.
-use Rattle.std.proofs.Common.{◌≡◌, ◌≢◌, ℕ, zero, suc, ◌^◌, ◌<◌, ◌≤◌, ◌⊎◌, inl, inr, List, [], ◌∷◌, length, refl, sym, subst, arith, get_or, All, Less, Equal, Greater}
+-- What a build answers for its pairs.
+use Rattle.std.proofs.Common.{◌≡◌, ◌≢◌, ℕ, zero, suc, ◌^◌, ◌<◌, ◌≤◌, ◌⊎◌, inl, inr, List, [], ◌∷◌, length, refl, sym, subst, arith, get_or, All, Result, Ok, Err}
 use Rattle.std.specs.Prelude.{Any, IfOk, IfErr}
-use Rattle.std.proofs.Common.{Result, Ok, Err}
-use Rattle.std.proofs.lemmas.Result.{IfErr-weaker}
-use Rattle.std.specs.Cmp.Lexicographic.{slice_cmp, nat_list_cmp_total}
-use Rattle.std.specs.Ordering.{nat_cmp, match_ordering}
-use Rattle.std.specs.FinMap.{entries, entries-insert, put}
-use Rattle.zerotrie_core.specs.Kind.{Kind, IsAscii, edge_limit}
-use Rattle.zerotrie_core.specs.Maps.{Pairs, Map, map_of, Ascends, RepeatsKey}
+use Rattle.zerotrie_core.specs.Kind.{Kind, IsAscii}
+use Rattle.zerotrie_core.specs.Maps.{Pairs, map_of, Ascends, RepeatsKey}
 use Rattle.zerotrie_core.specs.Texts.{Lists, Means}
 use Rattle.zerotrie_core.specs.Fits.{ExceedsCapacity}
 use Rattle.zerotrie_core.specs.Laws.{MeansFits, MeansCanonical}
-use Rattle.zerotrie_core.proofs.OrderLaws.{entries-map_of}
-use Rattle.zerotrie_core.proofs.RefusalLemmas.{ascends_apart}
-use Rattle.zerotrie_core.proofs.FitsLaws.{consistent_entries}
 use Rattle.zerotrie_core.specs.Causes.{Cause}
-use Rattle.zerotrie_core.specs.Built.{IsBuilt}
-use Rattle.zerotrie_core.specs.declared.error.ZeroTrieBuildError.{ZeroTrieBuildError}
-use Rattle.zerotrie_core.specs.declared.error.ZeroTrieBuildError.TheVariants.{NonAsciiError, CapacityExceeded, MixedCase, DuplicateKey, Unsorted, OutOfMemory}
+use Rattle.zerotrie_core.specs.Routes.{any_order, ascending, IsBuild, IsRefusal}
+use Rattle.zerotrie_core.specs.declared.ZeroTrieBuildError.{ZeroTrieBuildError}
+use Rattle.zerotrie_core.specs.declared.ZeroTrieBuildError.TheVariants.{NonAsciiError, CapacityExceeded, CouldNotSolvePerfectHash, MixedCase, IllegalDelimiter, DuplicateKey, Unsorted, BufferTooSmall, BufferTooLarge, StackExceeded, OutOfMemory}
+use Rattle.zerotrie_core.proofs.CallerLemmas.{edge_limit_is}
+use Rattle.zerotrie_core.proofs.CallerLemmas.{ascends_apart}
 use Rattle.zerotrie_build.proofs.Items.{below_or_from}
-use Rattle.zerotrie_build.proofs.Sorting.{entries_ascend, map_of-entries}
 
 module _ {X : Type 0} (P Q : X → Type 0) (decide : (x : X) → P x ⊎ Q x) where
   none_there : (k : ℕ) (d : X) → k < length (let none : List X = [] in none) → P d
@@ -41,78 +34,45 @@ module _ {X : Type 0} (P Q : X → Type 0) (decide : (x : X) → P x ⊎ Q x) wh
   ]
 
 -- not all ASCII, so some byte is not
-pub some_not_ascii : (pairs : Pairs) → (All (λ e. All (λ b. b < 128) e.0) pairs → ⊥) → Any (λ e. Any (λ b. 128 ≤ b) e.0) pairs
-some_not_ascii pairs none =
-    elim (all_or_any (λ e. All (λ b. b < 128) e.0) (λ e. Any (λ b. 128 ≤ b) e.0) (λ e. all_or_any (λ b. b < 128) (λ b. 128 ≤ b) (λ b. below_or_from b 128) e.0) pairs) [
+pub some_not_ascii : (kind : Kind) → IsAscii kind → (pairs : Pairs) → (All (λ e. All (λ b. b < 128) e.0) pairs → ⊥) → Cause kind pairs NonAsciiError
+some_not_ascii kind is_ascii pairs none =
+    subst (λ n. Any (λ e. Any (λ b. n ≤ b) e.0) pairs) (sym (edge_limit_is kind is_ascii))
+    (elim (all_or_any (λ e. All (λ b. b < 128) e.0) (λ e. Any (λ b. 128 ≤ b) e.0) (λ e. all_or_any (λ b. b < 128) (λ b. 128 ≤ b) (λ b. below_or_from b 128) e.0) pairs) [
       | inl all ↦ absurd (none all)
       | inr any ↦ any
-    ]
+    ])
 
--- what is grown means the map of the pairs, if that is the map of what it lists
-pub grown_means : {S E : Type 0} (list : S → List ℕ) (r : Result S E) (kind grown : Kind) (m : Map) (pairs : Pairs) → kind ≡ grown → m ≡ map_of pairs
-    → IfOk r (λ s. Lists grown (list s) pairs) → IfOk r (λ s. length (list s) < 2 ^ 64) → IfOk r (λ s. Means kind (list s) m)
-grown_means list (Ok s) kind grown m pairs same is lists short = subst (λ k. Means k (list s) m) (sym same) (record { short = short; pairs = pairs; lists = lists; is = is })
-grown_means list (Err e) kind grown m pairs same is lists short = tt
+memory_or : (kind : Kind) (pairs : Pairs) (e : ZeroTrieBuildError) → (RepeatsKey pairs → ⊥) → (e ≢ OutOfMemory → (e ≡ CapacityExceeded) × ExceedsCapacity kind (map_of pairs)) → IsRefusal any_order kind pairs e
+memory_or kind pairs OutOfMemory distinct refused = inl refl
+memory_or kind pairs CapacityExceeded distinct refused = inr ((λ e. cc), (distinct, (refused (λ e. cc)).1))
+memory_or kind pairs NonAsciiError distinct refused = let other = (refused (λ e. cc)).0 in absurd (cc)
+memory_or kind pairs CouldNotSolvePerfectHash distinct refused = let other = (refused (λ e. cc)).0 in absurd (cc)
+memory_or kind pairs MixedCase distinct refused = let other = (refused (λ e. cc)).0 in absurd (cc)
+memory_or kind pairs IllegalDelimiter distinct refused = let other = (refused (λ e. cc)).0 in absurd (cc)
+memory_or kind pairs DuplicateKey distinct refused = let other = (refused (λ e. cc)).0 in absurd (cc)
+memory_or kind pairs Unsorted distinct refused = let other = (refused (λ e. cc)).0 in absurd (cc)
+memory_or kind pairs BufferTooSmall distinct refused = let other = (refused (λ e. cc)).0 in absurd (cc)
+memory_or kind pairs (BufferTooLarge needed) distinct refused = let other = (refused (λ e. cc)).0 in absurd (cc)
+memory_or kind pairs StackExceeded distinct refused = let other = (refused (λ e. cc)).0 in absurd (cc)
 
-pub grown_refused : {S : Type 0} (r : Result S ZeroTrieBuildError) (kind grown : Kind) (pairs listed : Pairs) → kind ≡ grown → map_of listed ≡ map_of pairs → Ascends pairs
-    → IfErr r (λ e. e ≢ OutOfMemory → (e ≡ CapacityExceeded) × ExceedsCapacity grown (map_of listed)) → IfErr r (λ e. e ≢ OutOfMemory → Cause kind pairs e)
-grown_refused r kind grown pairs listed same is up refused = IfErr-weaker r _ _ (λ e h other.
-    let x = h other in
-    subst (Cause kind pairs) (sym x.0) (ascends_apart pairs up, subst (λ k. ExceedsCapacity k (map_of pairs)) (sym same) (subst (ExceedsCapacity grown) is x.1))) refused
+-- what is grown from pairs with distinct keys is a build of them
+pub grown_build : {S : Type 0} (kind : Kind) (list : S → List ℕ) (pairs : Pairs) (r : Result S ZeroTrieBuildError) → IsAscii kind → ((k : Kind) → IsAscii k → MeansFits k) → ((k : Kind) → IsAscii k → MeansCanonical k)
+    → (RepeatsKey pairs → ⊥) → IfOk r (λ s. Lists kind (list s) pairs) → IfOk r (λ s. length (list s) < 2 ^ 64)
+    → IfErr r (λ e. e ≢ OutOfMemory → (e ≡ CapacityExceeded) × ExceedsCapacity kind (map_of pairs)) → IsBuild any_order kind list pairs r
+grown_build kind list pairs (Ok s) is_ascii fits canonical distinct lists short refused =
+    let means : Means kind (list s) (map_of pairs) = record { short = short; pairs = pairs; lists = lists; is = refl } in (
+      distinct,
+      record {
+        fits = fits kind is_ascii (list s) (map_of pairs) means;
+        text = λ ascii. canonical kind ascii (list s) (map_of pairs) means;
+        means = means;
+      },
+    )
+grown_build kind list pairs (Err e) is_ascii fits canonical distinct lists short refused = memory_or kind pairs e distinct refused
 
--- what the laws give for bytes that mean the map
-pub built_for : (kind : Kind) (pairs : Pairs) (bytes : List ℕ) → IsAscii kind → ((k : Kind) → IsAscii k → MeansFits k) → ((k : Kind) → IsAscii k → MeansCanonical k) → Means kind bytes (map_of pairs)
-    → IsBuilt kind pairs bytes
-built_for kind pairs bytes is_ascii fits canonical means = record {
-  fits = fits kind is_ascii bytes (map_of pairs) means;
-  text = λ a. canonical kind a bytes (map_of pairs) means;
-  means = means;
-}
-
--- some key has Q
-abbrev SomeKey : (List ℕ → Type 0) → Pairs → Type 0
-SomeKey Q [] = ⊥
-SomeKey Q (e ∷ pairs) = Q e.0 ⊎ SomeKey Q pairs
-
-some_key : (Q : List ℕ → Type 0) (pairs : Pairs) → Any (λ f. Q f.0) pairs → SomeKey Q pairs
-some_key Q pairs a = go pairs a.0 a.1 a.2 a.3 a.4
-  where
-    go : (es : Pairs) (k : ℕ) (x : List ℕ × ℕ) → k < length es → get_or es k x ≡ x → Q x.0 → SomeKey Q es
-    go [] k x below is q = let g : k < 0 = below in omega arith
-    go (e ∷ es) zero x below is q = inl (subst (λ y. Q y.0) (sym is) q)
-    go (e ∷ es) (suc k) x below is q = inr (go es k x (let g : suc k < suc (length es) = below in omega arith) is q)
-
-any_key : (Q : List ℕ → Type 0) (pairs : Pairs) → SomeKey Q pairs → Any (λ f. Q f.0) pairs
-any_key Q [] s = absurd s
-any_key Q (e ∷ pairs) s = elim s [
-  | inl q ↦ (0, e, (let g : 0 < suc (length pairs) = omega arith in g), refl, q)
-  | inr rest ↦ let a = any_key Q pairs rest in (suc a.0, a.1, (let h = a.2 in let g : suc a.0 < suc (length pairs) = omega arith in g), a.3, a.4)
+-- pairs that ascend are never refused as repeated
+pub ascending_refusal : (kind : Kind) (pairs : Pairs) (e : ZeroTrieBuildError) → Ascends pairs → IsRefusal any_order kind pairs e → IsRefusal ascending kind pairs e
+ascending_refusal kind pairs e up refusal = elim refusal [
+  | inl memory ↦ inl memory
+  | inr cause ↦ inr ((λ same. ascends_apart pairs up (subst (Cause kind pairs) same cause.1)), cause.1)
 ]
-
-some_put : (Q : List ℕ → Type 0) (k : List ℕ) (v : ℕ) (es : Pairs) → SomeKey Q (put (slice_cmp nat_cmp) k v es) → Q k ⊎ SomeKey Q es
-some_put Q k v [] s = s
-some_put Q k v (e ∷ es) s =
-    elim (slice_cmp nat_cmp k e.0) as (λ o. SomeKey Q (match_ordering o ((k, v) ∷ e ∷ es) ((e.0, v) ∷ es) (e ∷ put (slice_cmp nat_cmp) k v es)) → Q k ⊎ SomeKey Q (e ∷ es)) [
-      | Less ↦ λ t. t
-      | Equal ↦ λ t. inr t
-      | Greater ↦ λ t. elim t [ inl q ↦ inr (inl q) | inr rest ↦ elim (some_put Q k v es rest) [ inl here ↦ inl here | inr there ↦ inr (inr there) ] ]
-    ] s
-
-some_entries : (Q : List ℕ → Type 0) (pairs : Pairs) → SomeKey Q (entries (map_of pairs)) → SomeKey Q pairs
-some_entries Q [] s = subst (SomeKey Q) (entries-map_of [] tt) s
-some_entries Q (e ∷ pairs) s =
-    elim (some_put Q e.0 e.1 (entries (map_of pairs)) (subst (SomeKey Q) (entries-insert nat_list_cmp_total (map_of pairs) e.0 e.1) s)) [
-      | inl here ↦ inl here
-      | inr there ↦ inr (some_entries Q pairs there)
-    ]
-
--- a cause in the entries of a map is one in its pairs
-pub cause_entries : (kind : Kind) (pairs : Pairs) (e : ZeroTrieBuildError) → (RepeatsKey pairs → ⊥) → Cause kind (entries (map_of pairs)) e → Cause kind pairs e
-cause_entries kind pairs NonAsciiError distinct high =
-    let Q : List ℕ → Type 0 = λ key. Any (λ b. edge_limit kind ≤ b) key in
-    any_key Q pairs (some_entries Q pairs (some_key Q (entries (map_of pairs)) high))
-cause_entries kind pairs MixedCase distinct mixed = λ consistent. mixed (consistent_entries kind pairs consistent)
-cause_entries kind pairs CapacityExceeded distinct large = (distinct, subst (ExceedsCapacity kind) (map_of-entries pairs) large.1)
-cause_entries kind pairs DuplicateKey distinct twice = absurd (ascends_apart (entries (map_of pairs)) (entries_ascend pairs) twice)
-cause_entries kind pairs Unsorted distinct unsorted = absurd (unsorted (entries_ascend pairs))
-cause_entries kind pairs e distinct none = none

@@ -5,28 +5,24 @@ use Rattle.std.proofs.lemmas.List.{append-nil}
 use Rattle.std.proofs.Math.Seq.{take-length}
 use Rattle.std.proofs.Math.Nat.{eq-or-lt_of_le}
 use Rattle.zerotrie_core.specs.Kind.{Kind, IsAscii, fold_byte}
-use Rattle.zerotrie_core.specs.Numbers.{Spells}
-use Rattle.zerotrie_core.specs.Maps.{Pairs, with_front}
+use Rattle.zerotrie_core.specs.Numbers.{value_form, SpellsAs}
+use Rattle.zerotrie_core.specs.Maps.{Pairs, with_front, with_run}
 use Rattle.zerotrie_core.specs.Texts.{Lists, ListEach}
 use Rattle.zerotrie_core.specs.Texts.Lists.{nothing, value, literal}
 use Rattle.zerotrie_core.specs.Texts.ListEach.{no_edge, edge}
+use Rattle.zerotrie_core.specs.Branches.{total, branch_front}
 use Rattle.zerotrie_core.specs.Canonical.{node}
 use Rattle.zerotrie_core.specs.Fits.{OverflowsAt}
-use Rattle.zerotrie_core.proofs.ReaderLemmas.{Rises}
-use Rattle.zerotrie_core.proofs.CanonLaws.{lists_some}
-use Rattle.zerotrie_core.proofs.EncodeLaws.{node_lists, not_empty_text}
+use Rattle.zerotrie_core.proofs.CallerLemmas.{Rises, lists_some, total-lengths, node_many, node_lists, not_empty_text}
 use Rattle.zerotrie_build.specs.declared.siblings.Sibling.{Sibling}
-use Rattle.zerotrie_build.specs.Ranges.{total}
-use Rattle.zerotrie_build.specs.Branches.{branch_front}
-use Rattle.zerotrie_build.specs.Growing.{with_run, DepthsBelow, NoneAt, ComesBefore, Aside, Holds, Waits, Stands, AllAt, TakesOff}
-use Rattle.zerotrie_build.proofs.NodeLemmas.{total-lengths, branch_front-node}
+use Rattle.zerotrie_build.specs.Growing.{DepthsBelow, NoneAt, ComesBefore, Aside, Holds, Waits, Stands, AllAt, TakesOff}
 use Rattle.zerotrie_build.proofs.Runs.{with_run-nil, with_run-append, take_one_more, run_step}
 use Rattle.zerotrie_build.proofs.Parting.{Parts}
 use Rattle.zerotrie_build.proofs.Asides.{next_below, below_here, moved, nothing_aside, bytes_of, FirstFrom, gather}
 use Rattle.zerotrie_build.proofs.Overflow.{overflows}
 
 -- a value node in front
-pub with_value : (kind : Kind) (key : List ℕ) (v : ℕ) (spelling : List ℕ) (siblings : List Sibling) (behind : ℕ) (bytes : List ℕ) (listed : Pairs) → Spells 16 4 v spelling → Waits kind key siblings behind bytes listed
+pub with_value : (kind : Kind) (key : List ℕ) (v : ℕ) (spelling : List ℕ) (siblings : List Sibling) (behind : ℕ) (bytes : List ℕ) (listed : Pairs) → SpellsAs value_form v spelling → Waits kind key siblings behind bytes listed
     → Stands kind key (length key) siblings behind (spelling ++ bytes) ((key, v) ∷ listed)
 with_value kind key v spelling siblings behind bytes listed s h = record {
   text = spelling ++ h.text;
@@ -174,7 +170,7 @@ closed is_ascii {key = key} {d = d} {edges = es} {lengths = ls} {bytes = bytes} 
           ap (λ x. branch_front es ls ++ x) o.bytes_are
           ∙ sym (append_assoc (branch_front es ls) (concat o.targets) o.rest)
           ∙ ap (λ n. (branch_front es n ++ concat o.targets) ++ o.rest) o.lengths_are
-          ∙ ap (λ x. x ++ o.rest) (branch_front-node es o.targets o.two);
+          ∙ ap (λ x. x ++ o.rest) (sym (node_many es o.targets o.two));
       pairs_are = o.pairs_are;
     }
 

@@ -10,4 +10,4 @@ mod Taking
 mod Adding
 mod Building
 mod Sorting
-mod Casing
+mod Permuted

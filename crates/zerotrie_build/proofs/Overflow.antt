@@ -1,21 +1,17 @@
 -- A branch whose targets no offset reaches.
-use Rattle.std.proofs.Common.{◌≡◌, ℕ, suc, ◌+◌, ◌^◌, ◌<◌, ◌≤◌, inr, List, [], ◌++◌, length, get_or, sym, ◌∙◌, ap, subst, arith, map, Bool, sum}
+use Rattle.std.proofs.Common.{◌≡◌, ℕ, ◌+◌, ◌^◌, ◌<◌, ◌≤◌, inr, List, [], ◌++◌, length, get_or, sym, ◌∙◌, ap, subst, arith, map, Bool}
 use Rattle.std.specs.Prelude.{filter}
 use Rattle.std.specs.List.{concat, range_with_len}
 use Rattle.std.specs.FinMap.{entries}
 use Rattle.std.proofs.Math.Path.{fun_ext}
+use Rattle.std.proofs.lemmas.List.{append-nil}
 use Rattle.zerotrie_core.specs.Kind.{Kind, IsAscii}
-use Rattle.zerotrie_core.specs.Maps.{Pairs, map_of, begins_some, edges, residual, behind_all, longest}
+use Rattle.zerotrie_core.specs.Maps.{Pairs, map_of, with_run, begins_some, edges, residual, behind_all}
 use Rattle.zerotrie_core.specs.Texts.{ListEach}
-use Rattle.zerotrie_core.specs.Canonical.{size_to}
+use Rattle.zerotrie_core.specs.Branches.{total}
+use Rattle.zerotrie_core.specs.Canonical.{size_of}
 use Rattle.zerotrie_core.specs.Fits.{targets_size, OverflowsAt, ExceedsCapacity}
-use Rattle.zerotrie_core.proofs.EdgeLemmas.{residual-append}
-use Rattle.zerotrie_core.proofs.ReaderLemmas.{Rises}
-use Rattle.zerotrie_core.proofs.CanonLaws.{nil_end, bytes_all}
-use Rattle.zerotrie_core.proofs.ListedLemmas.{targets_each, edges_count}
-use Rattle.zerotrie_core.proofs.KindLemmas.{greatest_width_is}
-use Rattle.zerotrie_core.proofs.SameLemmas.{same-entries, same-sym, same-behind, same-edges, same-targets, some_pair, begins_behind, map_agree}
-use Rattle.zerotrie_build.specs.Growing.{with_run}
+use Rattle.zerotrie_core.proofs.CallerLemmas.{residual-append, Rises, bytes_all, targets_each, edges_count, greatest_width_is, same-entries, same-sym, same-behind, same-edges, same-targets, some_pair, begins_behind, map_agree}
 use Rattle.zerotrie_build.proofs.Runs.{behind_all-append, behind_all-run}
 
 filter_agree : (p q : ℕ → Bool) (zs : List ℕ) → ((b : ℕ) → p b ≡ q b) → filter p zs ≡ filter q zs
@@ -29,9 +25,8 @@ same_edges xs ys h = filter_agree (begins_some xs) (begins_some ys) (range_with_
 same_targets_size : (kind : Kind) (xs ys : Pairs) → ((b : ℕ) → residual b xs ≡ residual b ys) → targets_size kind xs ≡ targets_size kind ys
 unfolding targets_size
 same_targets_size kind xs ys h =
-    ap sum (map_agree (λ b. size_to (suc (longest (residual b xs))) kind (residual b xs)) (λ b. size_to (suc (longest (residual b ys))) kind (residual b ys)) (edges xs)
-    (λ b. ap (λ p. size_to (suc (longest p)) kind p) (h b)))
-    ∙ ap (λ es. sum (map (λ b. size_to (suc (longest (residual b ys))) kind (residual b ys)) es)) (same_edges xs ys h)
+    ap total (map_agree (λ b. size_of kind (residual b xs)) (λ b. size_of kind (residual b ys)) (edges xs) (λ b. ap (size_of kind) (h b)))
+    ∙ ap (λ es. total (map (λ b. size_of kind (residual b ys)) es)) (same_edges xs ys h)
 
 -- targets of 2 ^ 32 bytes or more behind a front
 pub overflows : {kind : Kind} → IsAscii kind → (run : List ℕ) (listed node others : Pairs) {es : List ℕ} {targets : List (List ℕ)} → ListEach kind es targets node → Rises kind es
@@ -39,7 +34,7 @@ pub overflows : {kind : Kind} → IsAscii kind → (run : List ℕ) (listed node
 overflows {kind = kind} is_ascii run listed node others {es = es} each rises low two large is none =
     let behind : behind_all run listed ≡ node =
     ap (behind_all run) is ∙ behind_all-append run (with_run run node) others ∙ ap (λ x. x ++ behind_all run others) (behind_all-run run node)
-    ∙ ap (λ x. node ++ x) none ∙ nil_end node in
+    ∙ ap (λ x. node ++ x) none ∙ append-nil node in
     let bytes = bytes_all es (λ i d h. let l = low i d h in omega arith) in
     let total = targets_each is_ascii each rises bytes in
     let count = edges_count is_ascii each rises bytes in

@@ -4,10 +4,10 @@ use Rattle.std.specs.Prelude.{◌==◌}
 use Rattle.std.proofs.lemmas.Bool.{eq-eqb, ne_eqb, cases_eq}
 use Rattle.zerotrie_core.specs.Kind.{Kind, fold_byte}
 use Rattle.zerotrie_core.specs.Maps.{Pairs, residual, behind_all, common_front}
-use Rattle.zerotrie_core.proofs.EdgeLemmas.{residual-append}
+use Rattle.zerotrie_core.proofs.CallerLemmas.{residual-append, behind_all-nil}
 use Rattle.zerotrie_build.specs.Order.{Before, Ordered}
 use Rattle.zerotrie_build.specs.Growing.{AtMost}
-use Rattle.zerotrie_build.proofs.Runs.{behind_all-nil, behind_all-append}
+use Rattle.zerotrie_build.proofs.Runs.{behind_all-append}
 
 abbrev pub common : List ℕ → List ℕ → ℕ
 common before key = common_front (λ a b. a == b) before key

@@ -6,7 +6,8 @@ use Rattle.std.proofs.lemmas.List.FromFn.{length-range_with_len, get_or-range_wi
 use Rattle.std.proofs.Common.{length-append}
 use Rattle.std.specs.List.{concat, range_with_len, sum_by}
 use Rattle.std.specs.List.Sorted.{IsPermutation}
-use Rattle.zerotrie_build.specs.Ranges.{total, range_at}
+use Rattle.zerotrie_core.specs.Branches.{total}
+use Rattle.zerotrie_build.specs.Ranges.{range_at}
 
 -- the items before a place and the one there are no more than all
 pub total_take_at : (xs : List ℕ) (i d : ℕ) → i < length xs → total (take i xs) + get_or xs i d ≤ total xs

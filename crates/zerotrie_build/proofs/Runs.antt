@@ -1,8 +1,7 @@
 -- Runs of bytes in front of keys.
 use Rattle.std.proofs.Common.{◌≡◌, ℕ, zero, suc, ◌<◌, ◌≤◌, List, [], ◌∷◌, ◌++◌, length, refl, sym, ◌∙◌, ap, arith, take, get_or, append_assoc}
-use Rattle.zerotrie_core.specs.Maps.{Pairs, with_front, residual, behind_all}
-use Rattle.zerotrie_core.proofs.EdgeLemmas.{residual-append, residual-front, residual-other}
-use Rattle.zerotrie_build.specs.Growing.{with_run}
+use Rattle.zerotrie_core.specs.Maps.{Pairs, with_front, with_run, residual, behind_all}
+use Rattle.zerotrie_core.proofs.CallerLemmas.{residual-append, residual-front, residual-other, behind_all-nil}
 
 pub with_run-nil : (pairs : Pairs) → with_run [] pairs ≡ pairs
 with_run-nil [] = refl
@@ -31,10 +30,6 @@ take_one_more (x ∷ key) (suc d) h = ap (λ y. x ∷ y) (take_one_more key d (l
 -- what is under one byte more
 pub run_step : (key : List ℕ) (d : ℕ) (pairs : Pairs) → d < length key → with_run (take (suc d) key) pairs ≡ with_run (take d key) (with_front (get_or key d 0) pairs)
 run_step key d pairs h = ap (λ run. with_run run pairs) (take_one_more key d h) ∙ with_run-push (take d key) (get_or key d 0) pairs
-
-pub behind_all-nil : (front : List ℕ) → behind_all front [] ≡ []
-behind_all-nil [] = refl
-behind_all-nil (b ∷ front) = behind_all-nil front
 
 pub behind_all-append : (front : List ℕ) (xs ys : Pairs) → behind_all front (xs ++ ys) ≡ behind_all front xs ++ behind_all front ys
 behind_all-append [] xs ys = refl

@@ -2,13 +2,9 @@
 use Rattle.std.specs.Prelude.{◌≡◌, ◌≢◌, ℕ, ◌<◌, ◌⊎◌, List, [], ◌∷◌, ◌++◌, length, map, take, drop, slice_index, slice_index_or, reverse}
 use Rattle.std.proofs.Common.{suc, zero}
 use Rattle.zerotrie_core.specs.Kind.{Kind, fold_byte}
-use Rattle.zerotrie_core.specs.Maps.{Pairs}
+use Rattle.zerotrie_core.specs.Maps.{Pairs, with_run}
 use Rattle.zerotrie_core.specs.Texts.{Lists, NoValueFirst}
 use Rattle.zerotrie_build.specs.declared.siblings.Sibling.{Sibling}
-
--- each key with the run in front
-abbrev pub with_run : List ℕ → Pairs → Pairs
-with_run run pairs = map {B = List ℕ × ℕ} (λ e. (run ++ e.0, e.1)) pairs
 
 -- the siblings, the last that was set aside first
 abbrev pub tops : List Sibling → List Sibling

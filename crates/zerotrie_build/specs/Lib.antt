@@ -1,5 +1,4 @@
 pub mod Items
 pub mod Ranges
 pub mod Order
-pub mod Branches
 pub mod Growing

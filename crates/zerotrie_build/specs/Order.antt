@@ -1,5 +1,8 @@
 -- The order that the keys of a text have.
-use Rattle.std.specs.Prelude.{◌≡◌, ℕ, ◌<◌, ◌⊎◌, List, [], ◌∷◌}
+use Rattle.std.specs.Prelude.{◌≡◌, ℕ, ◌<◌, ◌⊎◌, List, [], ◌∷◌, map}
+use Rattle.std.specs.Cmp.Lexicographic.{slice_cmp}
+use Rattle.std.specs.Ordering.{nat_cmp, ordering_then}
+use Rattle.std.specs.declared.cmp.Ordering.{Ordering}
 use Rattle.zerotrie_core.specs.Kind.{Kind, fold_byte}
 use Rattle.zerotrie_core.specs.Maps.{Pairs}
 
@@ -18,3 +21,21 @@ BeforeFirst kind key (e ∷ pairs) = Before kind key e.0
 abbrev pub Ordered : Kind → Pairs → Type 0
 Ordered kind [] = Unit {0}
 Ordered kind (e ∷ pairs) = BeforeFirst kind e.0 pairs × Ordered kind pairs
+
+-- how keys compare by the folds of their bytes
+abbrev pub fold_cmp : Kind → List ℕ → List ℕ → Ordering
+fold_cmp kind a b = slice_cmp nat_cmp (map (fold_byte kind) a) (map (fold_byte kind) b)
+
+-- the order by folds, and of keys that have one fold by bytes
+abbrev pub sort_cmp : Kind → List ℕ → List ℕ → Ordering
+sort_cmp kind a b = ordering_then (fold_cmp kind a b) (slice_cmp nat_cmp a b)
+
+-- the key is that of the first pair
+abbrev pub IsFirst : List ℕ → Pairs → Type 0
+IsFirst key [] = ⊥
+IsFirst key (e ∷ pairs) = key ≡ e.0
+
+-- some key stands beside itself
+abbrev pub RepeatsNext : Pairs → Type 0
+RepeatsNext [] = ⊥
+RepeatsNext (e ∷ pairs) = IsFirst e.0 pairs ⊎ RepeatsNext pairs

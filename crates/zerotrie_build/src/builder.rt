@@ -1,101 +1,101 @@
 //! The builder.
 
-ghost use Rattle.std.specs.Prelude.{◌≡◌, ◌≢◌, IfOk, OnOk, IfErr};
-ghost use Rattle.std.specs.Iterator.{IsFinite};
-ghost use Rattle.std.specs.Iterator.Runs.{WholeRun};
-ghost use Rattle.std.specs.FinMap.{entries};
-ghost use Rattle.zerotrie_core.specs.Items.{pairs_of};
-ghost use Rattle.zerotrie_core.specs.Kind.{Kind, IsAscii, flags};
-ghost use Rattle.zerotrie_core.specs.Maps.{Ascends, RepeatsKey, map_of};
-ghost use Rattle.zerotrie_core.specs.Texts.{Means};
-ghost use Rattle.zerotrie_core.specs.Causes.{Cause};
-ghost use Rattle.zerotrie_core.specs.Built.{IsBuilt};
+ghost use Rattle.std.specs.Prelude.{◌≡◌, IfOk};
+ghost use Rattle.zerotrie_core.specs.Items.{pairs_of, keyed};
+ghost use Rattle.zerotrie_core.specs.Kind.{IsAscii, kind_with};
+ghost use Rattle.zerotrie_core.specs.Maps.{Ascends, RepeatsKey};
+ghost use Rattle.zerotrie_core.specs.Routes.{ascending, any_order, IsBuild, CanRun, OfAllGiven, IsBuildOfAll};
 ghost use Rattle.zerotrie_build.specs.Items.{pairs};
-ghost use Rattle.zerotrie_core.specs.Items.{keyed};
+ghost use Rattle.zerotrie_build.specs.Order.{Ordered};
 
 use crate::growing::grow;
-use crate::order::sorted_ignoring_case;
+use crate::order::{is_ordered, repeats_next, sort_by_fold};
 use crate::slice_indices::ByteSliceWithIndices;
 use crate::store::TrieBuilderStore;
 use std::alloc::{AllocError, Global};
-use std::collections::BTreeMap;
-use zerotrie_core::{Ignore, Simple, TrieKey, ZeroTrieBuildError, ZeroTrieBuilderOptions, laws};
+use zerotrie_core::{
+    Ignore, Simple, TrieKey, ZeroTrieBuildError, ZeroTrieBuilderOptions, ZeroTrieWithOptions, laws,
+};
 
-/// The bytes of the trie of items that ascend by the bytes of their keys, if the kind takes all of these.
-fn grow_ascii<S: TrieBuilderStore + Drop>(
+/// The bytes of the trie of items in the order of the kind.
+fn grow_ordered<K: ZeroTrieWithOptions, S: TrieBuilderStore + Drop>(
+    alloc: Global,
+    items: ByteSliceWithIndices<'_>,
+) -> Result<S, ZeroTrieBuildError>
+    requires kind { IsAscii K.kind }
+    requires ordered { Ordered K.kind (pairs items) }
+    ensures { IsBuild any_order K.kind S.list (pairs items.entry) result }
+{
+    laws::canonical_exactly();
+    if !items.is_all_ascii() {
+        return Err(ZeroTrieBuildError::NonAsciiError);
+    }
+    grow::<K, S>(alloc, items)
+}
+
+/// The bytes of the trie of items in any order, which are put in the order of the kind.
+fn grow_sorted<K: ZeroTrieWithOptions, S: TrieBuilderStore + Drop>(
+    alloc: Global,
+    items: &mut [(&[u8], usize)],
+) -> Result<S, ZeroTrieBuildError>
+    requires { IsAscii K.kind }
+    ensures { IsBuild any_order K.kind S.list (pairs_of items.old) result }
+{
+    sort_by_fold::<K>(items);
+    if repeats_next(items) {
+        return Err(ZeroTrieBuildError::DuplicateKey);
+    }
+    if !is_ordered::<K>(items) {
+        return Err(ZeroTrieBuildError::MixedCase);
+    }
+    grow_ordered::<K, S>(alloc, ByteSliceWithIndices::from_byte_slice(items))
+}
+
+/// The bytes of the trie of items that ascend by the bytes of their keys.
+fn grow_ascending<S: TrieBuilderStore + Drop>(
     alloc: Global,
     items: ByteSliceWithIndices<'_>,
     options: ZeroTrieBuilderOptions,
 ) -> Result<S, ZeroTrieBuildError>
-    requires kind { (kind : Kind) × IsAscii kind × (flags kind ≡ options) }
-    requires sorted { Ascends (pairs items) }
-    ensures means { (kind : Kind) → flags kind ≡ options → IfOk result (λ store. Means kind (S.list store) (map_of (pairs items.entry))) }
-    ensures refused { (kind : Kind) → flags kind ≡ options
-        → IfErr result (λ e. e ≢ ZeroTrieBuildError.OutOfMemory → Cause kind (pairs items.entry) e) }
-    ensures never { IfErr result (λ e. (e ≢ ZeroTrieBuildError.DuplicateKey) × (e ≢ ZeroTrieBuildError.Unsorted)) }
+    requires kind { IsAscii (kind_with options) }
+    requires ascends { Ascends (pairs items) }
+    ensures { IsBuild any_order (kind_with options) S.list (pairs items.entry) result }
 {
-    if !items.is_all_ascii() {
-        return Err(ZeroTrieBuildError::NonAsciiError);
-    }
     if !options.ignore_case() {
-        return grow::<Simple, S>(alloc, items);
+        return grow_ordered::<Simple, S>(alloc, items);
     }
-    let sorted = sorted_ignoring_case(alloc, items)?;
-    let items = ByteSliceWithIndices::from_byte_slice(sorted.as_slice());
-    grow::<Ignore, S>(alloc, items)
+    let mut items = items.to_vec_u8(alloc)?;
+    grow_sorted::<Ignore, S>(alloc, items.as_mut_slice())
 }
 
-/// All that the iterator gives.
-fn drained<K: TrieKey + Drop, U: IntoIterator<Item = (K, usize)>>(
+/// The bytes of the trie of items in any order.
+fn grow_any<S: TrieBuilderStore + Drop>(
     alloc: Global,
-    iter: U,
-) -> Result<Vec<(K, usize)>, ZeroTrieBuildError>
-where
-    U::IntoIter: Drop,
-    requires { (it : U.IntoIter) → U.into_iter_gives iter it → U.IntoIter.can_next it × IsFinite (U.IntoIter.remaining it) }
-    ensures ok { IfOk result (λ given. (it : U.IntoIter) × U.into_iter_gives iter it
-        × WholeRun U.IntoIter.next_gives it (λ p. given.items ≡ p.items)) }
-    ensures err { IfErr result (λ e. e ≡ ZeroTrieBuildError.OutOfMemory) }
+    items: &mut [(&[u8], usize)],
+    options: ZeroTrieBuilderOptions,
+) -> Result<S, ZeroTrieBuildError>
+    requires { IsAscii (kind_with options) }
+    ensures { IsBuild any_order (kind_with options) S.list (pairs_of items.old) result }
 {
-    let mut given = Vec::new(alloc);
-    for item in iter {
-        given.push(item)?;
+    if options.ignore_case() {
+        grow_sorted::<Ignore, S>(alloc, items)
+    } else {
+        grow_sorted::<Simple, S>(alloc, items)
     }
-    Ok(given)
 }
 
-/// The entries of a map, in the order of their keys.
-fn entries_of<'a>(
-    alloc: Global,
-    map: &BTreeMap<&'a [u8], usize>,
-) -> Result<Vec<(&'a [u8], usize)>, AllocError>
-    ensures { IfOk result (λ items. pairs_of items.items ≡ pairs_of map.now.entries) }
-{
-    let mut items = Vec::new(alloc);
-    for (key, value) in map {
-        items.push((*key, *value))?;
-    }
-    Ok(items)
-}
-
-/// The items in the order of their keys' bytes.
-fn sorted_items<K: TrieKey>(
+/// The items, each key by its bytes. The keys' bytes are not copied.
+fn items_of<K: TrieKey>(
     alloc: Global,
     given: &[(K, usize)],
-) -> Result<Vec<(&[u8], usize)>, ZeroTrieBuildError>
-    ensures distinct { OnOk result (RepeatsKey (keyed K.key given.now) → ⊥) }
-    ensures ascends { IfOk result (λ items. Ascends (pairs_of items.items)) }
-    ensures sorted { IfOk result (λ items. pairs_of items.items ≡ entries (map_of (keyed K.key given.now))) }
-    ensures refused { IfErr result (λ e. e ≢ ZeroTrieBuildError.OutOfMemory
-        → (e ≡ ZeroTrieBuildError.DuplicateKey) × RepeatsKey (keyed K.key given.now)) }
+) -> Result<Vec<(&[u8], usize)>, AllocError>
+    ensures { IfOk result (λ items. pairs_of items.items ≡ keyed K.key given.now) }
 {
-    let mut map = BTreeMap::new(alloc);
+    let mut items = Vec::new(alloc);
     for (key, value) in given {
-        if map.insert(key.key_bytes(), *value)?.is_some() {
-            return Err(ZeroTrieBuildError::DuplicateKey);
-        }
+        items.push((key.key_bytes(), *value))?;
     }
-    Ok(entries_of(alloc, &map)?)
+    Ok(items)
 }
 
 /// A builder of tries, which grows their bytes backwards in a store.
@@ -130,18 +130,13 @@ impl<S: TrieBuilderStore + Drop> ZeroTrieBuilder<S> {
         items: ByteSliceWithIndices<'_>,
         options: ZeroTrieBuilderOptions,
     ) -> Result<Self, ZeroTrieBuildError>
-        requires { (kind : Kind) × IsAscii kind × (flags kind ≡ options) }
-        ensures ascends { OnOk result (Ascends (pairs items.entry)) }
-        ensures built { (kind : Kind) → flags kind ≡ options → IfOk result (λ b. IsBuilt kind (pairs items.entry) (S.list b.data)) }
-        ensures cause { (kind : Kind) → flags kind ≡ options
-            → IfErr result (λ e. e ≢ ZeroTrieBuildError.OutOfMemory → Cause kind (pairs items.entry) e) }
-        ensures never { IfErr result (λ e. e ≢ ZeroTrieBuildError.DuplicateKey) }
+        requires { IsAscii (kind_with options) }
+        ensures { IsBuild ascending (kind_with options) (λ b. S.list b.data) (pairs items.entry) result }
     {
-        laws::canonical_exactly();
         if !items.is_sorted() {
             return Err(ZeroTrieBuildError::Unsorted);
         }
-        let data = grow_ascii(alloc, items, options)?;
+        let data = grow_ascending(alloc, items, options)?;
         Ok(ZeroTrieBuilder { data })
     }
 
@@ -156,22 +151,14 @@ impl<S: TrieBuilderStore + Drop> ZeroTrieBuilder<S> {
     ) -> Result<Self, ZeroTrieBuildError>
     where
         U::IntoIter: Drop,
-        requires kind { (kind : Kind) × IsAscii kind × (flags kind ≡ options) }
-        requires steps { (it : U.IntoIter) → U.into_iter_gives iter it → U.IntoIter.can_next it × IsFinite (U.IntoIter.remaining it) }
-        ensures distinct { OnOk result ((it : U.IntoIter) × U.into_iter_gives iter it
-            × WholeRun U.IntoIter.next_gives it (λ p. RepeatsKey (keyed K.key p.items) → ⊥)) }
-        ensures built { (kind : Kind) → flags kind ≡ options → IfOk result (λ b. (it : U.IntoIter) × U.into_iter_gives iter it
-            × WholeRun U.IntoIter.next_gives it (λ p. IsBuilt kind (keyed K.key p.items) (S.list b.data))) }
-        ensures cause { (kind : Kind) → flags kind ≡ options
-            → IfErr result (λ e. e ≢ ZeroTrieBuildError.OutOfMemory → (it : U.IntoIter) × U.into_iter_gives iter it
-            × WholeRun U.IntoIter.next_gives it (λ p. Cause kind (keyed K.key p.items) e)) }
-        ensures never { IfErr result (λ e. e ≢ ZeroTrieBuildError.Unsorted) }
+        requires kind { IsAscii (kind_with options) }
+        requires steps { CanRun U.into_iter_gives U.IntoIter.can_next U.IntoIter.remaining iter }
+        ensures { IsBuildOfAll (OfAllGiven U.into_iter_gives U.IntoIter.next_gives K.key iter)
+            (kind_with options) (λ b. S.list b.data) result }
     {
-        laws::canonical_exactly();
-        let given = drained(alloc, iter)?;
-        let items = sorted_items(alloc, given.as_slice())?;
-        let items = ByteSliceWithIndices::from_byte_slice(items.as_slice());
-        let data = grow_ascii(alloc, items, options)?;
+        let given: Vec<(K, usize)> = iter.into_iter().collect(alloc)?;
+        let mut items = items_of(alloc, given.as_slice())?;
+        let data = grow_any(alloc, items.as_mut_slice(), options)?;
         Ok(ZeroTrieBuilder { data })
     }
 

@@ -1,10 +1,8 @@
 //! Nodes that are put in front of a store.
 
 ghost use Rattle.std.specs.Prelude.{◌≡◌, ℕ, ◌+◌, ◌/◌, ◌%◌, ◌^◌, ◌<◌, ◌≤◌, List, ◌++◌, length, map, IfOk, OnOk};
-ghost use Rattle.zerotrie_core.specs.Numbers.{Spells};
-ghost use Rattle.zerotrie_core.specs.Branches.{IsWidth, blocks};
-ghost use Rattle.zerotrie_build.specs.Ranges.{total as total_of};
-ghost use Rattle.zerotrie_build.specs.Branches.{ends, branch_front};
+ghost use Rattle.zerotrie_core.specs.Numbers.{value_form, SpellsAs};
+ghost use Rattle.zerotrie_core.specs.Branches.{IsWidth, total as total_of, ends, blocks, branch_front};
 
 use crate::siblings::Branch;
 use crate::store::TrieBuilderStore;
@@ -22,7 +20,7 @@ pub(crate) fn prepend_value<S: TrieBuilderStore>(
     store: &mut S,
     value: usize,
 ) -> Result<(), AllocError>
-    ensures { OnOk result ((spelling : List ℕ) × Spells 16 4 value spelling × (S.list store.new ≡ spelling ++ S.list store.old)) }
+    ensures { OnOk result ((spelling : List ℕ) × SpellsAs value_form value spelling × (S.list store.new ≡ spelling ++ S.list store.old)) }
 {
     let spelling = write_varint_meta3(value);
     store.atbs_extend_front(spelling.as_slice())?;
@@ -101,7 +99,7 @@ pub(crate) fn prepend_branch<S: TrieBuilderStore>(
     let offsets = offsets_of(alloc, branch.lengths.as_slice())?;
     prepend_offsets(alloc, store, offsets.as_slice(), width)?;
     store.atbs_extend_front(branch.edges.as_slice())?;
-    let head = write_varint_meta2(256 * width + branch.edges.len() % 256);
+    let head = write_varint_meta2(256 * width + branch.lengths.len() % 256);
     store.atbs_extend_front(head.as_slice())?;
     store.atbs_bitor_assign(0, BRANCH);
     Ok(())

@@ -1,7 +1,7 @@
 //! The targets of branches that are not written yet.
 
 ghost use Rattle.std.specs.Prelude.{◌≡◌, ◌^◌, ◌<◌, ◌∷◌, IfOk, IfNone, IfSome};
-ghost use Rattle.zerotrie_build.specs.Ranges.{total};
+ghost use Rattle.zerotrie_core.specs.Branches.{total};
 ghost use Rattle.zerotrie_build.specs.Growing.{tops, NoneAt, TakesOff};
 
 use std::alloc::{AllocError, Global};

@@ -3,7 +3,8 @@
 ghost use Rattle.std.specs.Prelude.{◌≡◌, ℕ, ◌<◌, ◌≤◌, List, [], ◌∷◌, ◌++◌, length, map, replicate, All, IfOk, OnOk, OnErr, slice_set, slice_index, bit_or, take, drop, ◌^◌};
 ghost use Rattle.std.specs.List.{concat, range_with_len};
 ghost use Rattle.std.specs.List.Sorted.{IsPermutation};
-ghost use Rattle.zerotrie_build.specs.Ranges.{total, range_at, laid_out};
+ghost use Rattle.zerotrie_core.specs.Branches.{total};
+ghost use Rattle.zerotrie_build.specs.Ranges.{range_at, laid_out};
 
 use std::alloc::{AllocError, Global};
 use std::collections::VecDeque;

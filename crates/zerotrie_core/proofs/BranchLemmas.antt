@@ -1,17 +1,17 @@
 -- The offset table and the targets of a branch.
-use Rattle.std.proofs.Common.{◌≡◌, ℕ, zero, suc, ◌+◌, ◌-◌, ◌*◌, ◌/◌, ◌%◌, ◌^◌, ◌<◌, ◌≤◌, List, [], ◌∷◌, ◌++◌, length, refl, sym, ◌∙◌, ap, arith, map, get_or, take, drop, length-append, lit<, add-one}
+use Rattle.std.proofs.Common.{◌≡◌, ℕ, zero, suc, ◌+◌, ◌-◌, ◌*◌, ◌/◌, ◌%◌, ◌^◌, ◌<◌, ◌≤◌, List, [], ◌∷◌, ◌++◌, length, refl, sym, ◌∙◌, ap, subst, arith, map, get_or, take, drop, length-append, lit<, add-one, Option, Some, None, inl, inr}
 use Rattle.std.specs.List.{concat}
 use Rattle.std.proofs.lemmas.List.{take_at, drop_at, take_all, get_or_append_left, get_or-map}
 use Rattle.std.proofs.lemmas.List.FromFn.{length-map-range_with_len, get_or-map-range_with_len}
 use Rattle.std.proofs.Math.Arith.{mod-mul}
 use Rattle.std.proofs.Math.Seq.{drop-append-add}
 use Rattle.std.proofs.Math.Nat.{pow-suc, mul_comm, one-le-pow, pow-le-pow_right, mod-eq_of_lt}
-use Rattle.zerotrie_core.specs.Branches.{blocks, offsets}
-use Rattle.zerotrie_core.specs.Reading.{number_from, IsTargets}
+use Rattle.std.proofs.lemmas.Bool.{cases_lt, ne_eqb, eq-eqb}
 use Rattle.std.specs.Slice.{IsGetRangeResult}
 use Rattle.std.specs.Option.{IsSomeAnd}
-use Rattle.std.specs.Prelude.{Option, Some, None}
 use Rattle.std.specs.Borrow.{Bor}
+use Rattle.zerotrie_core.specs.Branches.{blocks, offsets}
+use Rattle.zerotrie_core.specs.Nodes.{number_from, offset_in, targets_behind, begin_of, end_of}
 
 add_zero_mod : (x p : ℕ) → x < p → 0 * p + x % p ≡ x
 add_zero_mod x p h = rw (mod-eq_of_lt h) (omega arith)
@@ -33,7 +33,7 @@ digit_more : (a o p : ℕ) → 0 < p → (256 * a + o / p % 256) * p + o % p ≡
 digit_more a o p h = rw (mul_comm p 256, mod-mul o {m = 256} {c = p} (lit< tt) h) (omega arith)
 
 -- reading the blocks at one place gives the number there
-pub number_from-blocks : (a w i : ℕ) (numbers : List ℕ) → i < length numbers → number_from a w (length numbers) i (blocks w numbers) ≡ a * 256 ^ w + get_or numbers i 0 % 256 ^ w
+number_from-blocks : (a w i : ℕ) (numbers : List ℕ) → i < length numbers → number_from a w (length numbers) i (blocks w numbers) ≡ a * 256 ^ w + get_or numbers i 0 % 256 ^ w
 number_from-blocks a zero i numbers h = omega arith
 number_from-blocks a (suc w) i numbers h =
     let block = map (λ o. o / 256 ^ w % 256) numbers in
@@ -47,13 +47,13 @@ length-offsets targets = length-map-range_with_len _ 1 (length targets - 1)
 pub get_or-offsets : (targets : List (List ℕ)) (i : ℕ) → i + 1 < length targets → get_or (offsets targets) i 0 ≡ length (concat (take (suc i) targets))
 get_or-offsets targets i h = get_or-map-range_with_len (λ j. length (concat (take j targets))) 1 (length targets - 1) i (suc i) 0 (omega arith) (omega arith)
 
-pub drop-concat : (targets : List (List ℕ)) (i : ℕ) → drop (length (concat (take i targets))) (concat targets) ≡ concat (drop i targets)
+drop-concat : (targets : List (List ℕ)) (i : ℕ) → drop (length (concat (take i targets))) (concat targets) ≡ concat (drop i targets)
 drop-concat targets zero = refl
 drop-concat [] (suc i) = refl
 drop-concat (t ∷ targets) (suc i) =
     rw (length-append t (concat (take i targets))) (drop-append-add t (concat targets) (length (concat (take i targets))) ∙ drop-concat targets i)
 
-pub next_end : (targets : List (List ℕ)) (i : ℕ) → i < length targets → length (concat (take (suc i) targets)) ≡ length (concat (take i targets)) + length (get_or targets i [])
+next_end : (targets : List (List ℕ)) (i : ℕ) → i < length targets → length (concat (take (suc i) targets)) ≡ length (concat (take i targets)) + length (get_or targets i [])
 next_end [] i h = absurd (omega arith)
 next_end (t ∷ targets) zero h = simp length-append (omega arith)
 next_end (t ∷ targets) (suc i) h = simp length-append (let more = next_end targets i (omega arith) in omega arith)
@@ -63,17 +63,13 @@ rest_of [] i h = absurd (omega arith)
 rest_of (t ∷ targets) zero h = refl
 rest_of (t ∷ targets) (suc i) h = rest_of targets i (omega arith)
 
--- target number i stands between its offset and the next
-pub target_between : (targets : List (List ℕ)) (i : ℕ) → i < length targets
+between : (targets : List (List ℕ)) (i : ℕ) → i < length targets
     → take (length (concat (take (suc i) targets)) - length (concat (take i targets))) (drop (length (concat (take i targets))) (concat targets)) ≡ get_or targets i []
-target_between targets i h =
+between targets i h =
     let end = next_end targets i h in
     rw (drop-concat targets i, rest_of targets i h) (take_at (get_or targets i []) (concat (drop (suc i) targets)) _ (omega arith))
 
-pub all_of : (targets : List (List ℕ)) (n : ℕ) → length targets ≤ n → take n targets ≡ targets
-all_of targets n h = take_all n targets h
-
-pub ends_within : (targets : List (List ℕ)) (i : ℕ) → length (concat (take i targets)) ≤ length (concat targets)
+ends_within : (targets : List (List ℕ)) (i : ℕ) → length (concat (take i targets)) ≤ length (concat targets)
 ends_within targets zero = omega arith
 ends_within [] (suc i) = omega arith
 ends_within (t ∷ targets) (suc i) = simp length-append (let more = ends_within targets i in omega arith)
@@ -108,57 +104,65 @@ pub none_left : (w b : ℕ) → w ≤ b → w - b ≡ 0
 none_left w b h = omega arith
 
 -- what a slice's `get` gives at a range that is within it
-pub got : (r : Option (Bor (List ℕ))) (xs : List ℕ) (from to : ℕ) (t : List ℕ) → IsGetRangeResult xs from to r → from ≤ to → to ≤ length xs → take (to - from) (drop from xs) ≡ t → IsSomeAnd r (λ x. x.now ≡ t)
-got None xs from to t g low high is = let h = g.1 (low, high) in absurd (cc)
-got (Some x) xs from to t g low high is = g.0.2 ∙ is
+got : (r : Option (Bor (List ℕ))) (xs : List ℕ) (from to : ℕ) → IsGetRangeResult xs from to r → from ≤ to → to ≤ length xs → IsSomeAnd r (λ x. x.now ≡ take (to - from) (drop from xs))
+got None xs from to g low high = let h = g.1 (low, high) in absurd (cc)
+got (Some x) xs from to g low high = g.0.2
 
-module _ {targets : List (List ℕ)} {n w : ℕ} {bytes : List ℕ} (is : IsTargets targets n w bytes) where
+-- Behind n edges stand the offsets of the targets, at w bytes each, and the targets.
+pub record HasTargets (targets : List (List ℕ)) (n w : ℕ) (behind : List ℕ) : Type 0 where
+  pub count : length targets ≡ n
+  pub enough : length (concat targets) < 256 ^ w
+  pub bytes_are : drop n behind ≡ blocks w (offsets targets) ++ concat targets
+
+module _ {targets : List (List ℕ)} {n w : ℕ} {behind : List ℕ} (has : HasTargets targets n w behind) where
   count_is : length (offsets targets) ≡ n - 1
-  count_is = length-offsets targets ∙ ap (λ k. k - 1) is.count
+  count_is = length-offsets targets ∙ ap (λ k. k - 1) has.count
 
   table_len : length (blocks w (offsets targets)) ≡ w * (n - 1)
   table_len = length-blocks w (offsets targets) ∙ ap (λ k. w * k) count_is
 
-  pub table_fits : w * (n - 1) ≤ length bytes
-  table_fits = omega (arith, table_len, simp length-append at (ap length is.bytes_are))
+  table_is : take (w * (n - 1)) (drop n behind) ≡ blocks w (offsets targets)
+  table_is = ap (take (w * (n - 1))) has.bytes_are ∙ take_at (blocks w (offsets targets)) (concat targets) (w * (n - 1)) table_len
 
-  pub table_is : take (w * (n - 1)) bytes ≡ blocks w (offsets targets)
-  table_is = ap (take (w * (n - 1))) is.bytes_are ∙ take_at (blocks w (offsets targets)) (concat targets) (w * (n - 1)) table_len
+  targets_are : targets_behind n w behind ≡ concat targets
+  targets_are = ap (drop (w * (n - 1))) has.bytes_are ∙ drop_at (blocks w (offsets targets)) (concat targets) (w * (n - 1)) table_len
 
-  pub targets_are : drop (w * (n - 1)) bytes ≡ concat targets
-  targets_are = ap (drop (w * (n - 1))) is.bytes_are ∙ drop_at (blocks w (offsets targets)) (concat targets) (w * (n - 1)) table_len
-
-  -- the offset at a place of the table is where the target of that place ends
-  pub offset_is : (place : ℕ) → place + 1 < n → number_from 0 w (n - 1) place (blocks w (offsets targets)) ≡ length (concat (take (suc place) targets))
+  -- each offset is where a target ends
+  offset_is : (place : ℕ) → place + 1 < n → offset_in n w behind place ≡ length (concat (take (suc place) targets))
   offset_is place h =
-      let inside : place + 1 < length targets = rw is.count h in
+      let inside : place + 1 < length targets = rw has.count h in
       let read = number_from-blocks 0 w place (offsets targets) (let c = count_is in omega arith) in
       let offset = get_or-offsets targets place inside in
       let below = ends_within targets (suc place) in
-      let enough = is.enough in
+      let enough = has.enough in
       let small : get_or (offsets targets) place 0 < 256 ^ w = omega arith in
-      ap (λ k. number_from 0 w k place (blocks w (offsets targets))) (sym count_is) ∙ read ∙ add_zero_mod (get_or (offsets targets) place 0) (256 ^ w) small ∙ offset
+      ap (number_from 0 w (n - 1) place) table_is
+      ∙ ap (λ k. number_from 0 w k place (blocks w (offsets targets))) (sym count_is) ∙ read ∙ add_zero_mod (get_or (offsets targets) place 0) (256 ^ w) small ∙ offset
 
-  -- where the target of an edge but the first begins
-  pub begins_at : (place from : ℕ) (table : List ℕ) → table ≡ take (w * (n - 1)) bytes → (place ≡ 0 → ⊥) → place < n → from ≡ number_from 0 w (n - 1) (place - 1) table → from ≡ length (concat (take place targets))
-  begins_at zero from table t none h e = absurd (none refl)
-  begins_at (suc p) from table t none h e =
+  begin_is : (place : ℕ) → place < n → begin_of n w behind place ≡ length (concat (take place targets))
+  begin_is zero h = refl
+  begin_is (suc p) h =
       let before : suc p - 1 ≡ p = omega arith in
-      e ∙ ap (λ b. number_from 0 w (n - 1) (suc p - 1) b) (t ∙ table_is) ∙ ap (λ q. number_from 0 w (n - 1) q (blocks w (offsets targets))) before ∙ offset_is p (omega arith)
+      rw (ne_eqb (suc p) 0 (λ e. omega arith)) (ap (offset_in n w behind) before ∙ offset_is p (omega arith))
 
-  -- where the target of an edge but the last ends
-  pub ends_at : (place to : ℕ) (table : List ℕ) → table ≡ take (w * (n - 1)) bytes → place + 1 < n → to ≡ number_from 0 w (n - 1) place table → to ≡ length (concat (take (suc place) targets))
-  ends_at place to table t h e = e ∙ ap (λ b. number_from 0 w (n - 1) place b) (t ∙ table_is) ∙ offset_is place h
+  end_is : (place : ℕ) → place < n → end_of n w behind place ≡ length (concat (take (suc place) targets))
+  end_is place h = elim (cases_lt (place + 1) n) [
+    | inl inside ↦ rw (ne_eqb place (n - 1) (λ e. omega arith)) (offset_is place inside)
+    | inr last ↦
+        let all : take (suc place) targets ≡ targets = take_all (suc place) targets (let c = has.count in omega arith) in
+        rw (eq-eqb place (n - 1) (omega arith)) (ap length targets_are ∙ ap (λ t. length (concat t)) (sym all))
+  ]
 
-  pub last_ends : (place : ℕ) (rest : List ℕ) → rest ≡ drop (w * (n - 1)) bytes → place + 1 ≡ n → length rest ≡ length (concat (take (suc place) targets))
-  last_ends place rest r last = ap length (r ∙ targets_are) ∙ ap (λ t. length (concat t)) (sym (all_of targets (suc place) (let c = is.count in omega arith)))
+  -- target number i stands between its offset and the next
+  pub target_between : (place : ℕ) → place < n → take (end_of n w behind place - begin_of n w behind place) (drop (begin_of n w behind place) (targets_behind n w behind)) ≡ get_or targets place []
+  target_between place h = rw (begin_is place h, end_is place h, targets_are) (between targets place (rw has.count h))
 
-  pub target_got : (place from to : ℕ) (rest : List ℕ) (r' : Option (Bor (List ℕ))) → rest ≡ drop (w * (n - 1)) bytes → place < n → from ≡ length (concat (take place targets)) → to ≡ length (concat (take (suc place) targets))
-      → IsGetRangeResult rest from to r' → IsSomeAnd r' (λ x. x.now ≡ get_or targets place [])
-  target_got place from to rest r' r h f t g =
-      let inside : place < length targets = rw is.count h in
+  pub target_is : (place : ℕ) (r : Option (Bor (List ℕ))) → place < n → IsGetRangeResult (targets_behind n w behind) (begin_of n w behind place) (end_of n w behind place) r → IsSomeAnd r (λ x. x.now ≡ get_or targets place [])
+  target_is place r h g =
+      let inside : place < length targets = rw has.count h in
       let next = next_end targets place inside in
       let within = ends_within targets (suc place) in
-      let all : length rest ≡ length (concat targets) = ap length (r ∙ targets_are) in
-      got r' rest from to (get_or targets place []) g (omega arith) (omega arith)
-      (rw (r, targets_are, f, t) (target_between targets place inside))
+      let all = ap length targets_are in
+      let from = begin_is place h in
+      let to = end_is place h in
+      subst (λ t. IsSomeAnd r (λ x. x.now ≡ t)) (target_between place h) (got r (targets_behind n w behind) (begin_of n w behind place) (end_of n w behind place) g (omega arith) (omega arith))

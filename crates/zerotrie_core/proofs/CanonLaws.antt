@@ -1,24 +1,25 @@
 -- The text of an ASCII kind is the canonical one.
-use Rattle.std.proofs.Common.{◌≡◌, ℕ, zero, suc, ◌+◌, ◌*◌, ◌/◌, ◌%◌, ◌^◌, ◌<◌, ◌≤◌, List, [], ◌∷◌, ◌++◌, length, refl, sym, ◌∙◌, ap, subst, arith, inl, inr, map, Bool, true, false, eqb, get_or, lit<, None}
+use Rattle.std.proofs.Common.{◌≡◌, ℕ, zero, suc, ◌<◌, ◌≤◌, List, [], ◌∷◌, ◌++◌, length, refl, sym, ◌∙◌, ap, subst, arith, inl, inr, map, Bool, true, false, eqb, get_or, None}
 use Rattle.std.specs.Prelude.{◌||◌}
 use Rattle.std.specs.List.{concat}
-use Rattle.std.proofs.lemmas.Bool.{cases_lt, lt-ltb, le-ltb}
+use Rattle.std.proofs.lemmas.Bool.{cases_lt}
 use Rattle.std.proofs.lemmas.Bool.Decides.{eqb_tells}
 use Rattle.zerotrie_core.specs.Kind.{Kind, simple_ascii, ignore_case, IsAscii, fold_byte, edge_limit, ordered}
-use Rattle.zerotrie_core.specs.Numbers.{spelled}
+use Rattle.zerotrie_core.specs.Numbers.{value_form, spelled_as}
 use Rattle.zerotrie_core.specs.Maps.{Pairs, with_front, begins_some, edges, residual, value_at}
-use Rattle.zerotrie_core.specs.Branches.{IsBranch, IsWidth, blocks, offsets}
+use Rattle.zerotrie_core.specs.Branches.{IsBranch, branch_front}
 use Rattle.zerotrie_core.specs.Texts.{Lists, ListEach, NoValueFirst}
 use Rattle.zerotrie_core.specs.Texts.Lists.{nothing, value, literal, branch}
 use Rattle.zerotrie_core.specs.Texts.ListEach.{no_edge, edge}
-use Rattle.zerotrie_core.specs.Canonical.{enc_to, node, branch_node, value_node, width, width_to}
+use Rattle.zerotrie_core.specs.Canonical.{enc_to, node, branch_node, value_node}
 use Rattle.zerotrie_core.proofs.EdgeLemmas.{Rise, member, member_head, member_later, member_other, filter-range, begins_some-append, begins_some-front, residual-append, residual-front, residual-other}
 use Rattle.zerotrie_core.proofs.OrderedLemmas.{ordered_is, edges_rise, member-edges, member-edges_past, not_member}
-use Rattle.zerotrie_core.proofs.ReaderLemmas.{Rises, AllAbove, table_rises, value_at-no_key, behind_none, extender_one}
+use Rattle.zerotrie_core.proofs.NumberLemmas.{extender_one}
+use Rattle.zerotrie_core.proofs.TableLemmas.{Rises, AllAbove, table_rises, table_is_edges}
+use Rattle.zerotrie_core.proofs.ValueLemmas.{value_at-no_key, behind_none}
 use Rattle.zerotrie_core.proofs.SameLemmas.{some_pair, begins_behind}
-use Rattle.zerotrie_core.proofs.NumberLaws.{one_spelling, spells_spelled}
-use Rattle.std.proofs.Math.Nat.{pow-suc, div-lt_iff_lt-mul}
-use Rattle.zerotrie_core.proofs.TableLemmas.{table_is_edges}
+use Rattle.zerotrie_core.proofs.NumberLaws.{spelling_is}
+use Rattle.zerotrie_core.proofs.FrontLemmas.{branch_is_front, node_many}
 
 or_false' : (x : Bool) → (x || false) ≡ x
 or_false' true = refl
@@ -133,40 +134,6 @@ ordered_front kind b pairs low some = ap (ordered kind) (edges_front b pairs low
 pub no_edge_ordered : (kind : Kind) → ordered kind (edges []) ≡ []
 no_edge_ordered kind = ap (ordered kind) edges_none ∙ ordered_none kind
 
-small_width : (t : ℕ) → t < 256 → (x : ℕ) → 0 ≤ x
-small_width t h x = omega arith
-
--- the least width
-pub width_right : (more t : ℕ) → t ≤ more → IsWidth t (width_to more t)
-width_right zero t h = record { enough = (let one : 256 ^ (0 + 1) ≡ 256 = refl in omega arith); least = λ x g. omega arith }
-width_right (suc more) t h =
-    elim (cases_lt t 256) [
-      | inl small ↦ rw (lt-ltb t 256 small) (record { enough = omega arith; least = λ x g. omega arith })
-      | inr large ↦
-          let r = width_right more (t / 256) (omega arith) in
-          let w = width_to more (t / 256) in
-          let up : 256 ^ ((1 + w) + 1) ≡ 256 ^ (w + 1) * 256 = (let e : (1 + w) + 1 ≡ suc (w + 1) = omega arith in rw e (pow-suc 256 (w + 1))) in
-          rw (le-ltb t 256 large) (record {
-            enough = rw up ((div-lt_iff_lt-mul (lit< tt)).0 r.enough);
-            least = λ x g. wider t w x large r.least g;
-          })
-    ]
-  where
-    wider : (t w x : ℕ) → 256 ≤ t → ((y : ℕ) → t / 256 < 256 ^ (y + 1) → w ≤ y) → t < 256 ^ (x + 1) → 1 + w ≤ x
-    wider t w zero large least g = absurd (let one : 256 ^ (0 + 1) ≡ 256 = refl in omega arith)
-    wider t w (suc y) large least g =
-        let up : 256 ^ (suc y + 1) ≡ 256 ^ (y + 1) * 256 = (let e : suc y + 1 ≡ suc (y + 1) = omega arith in rw e (pow-suc 256 (y + 1))) in
-        let h = least y ((div-lt_iff_lt-mul (lit< tt)).1 (subst (λ p. t < p) up g)) in
-        omega arith
-
-width_is : (total w : ℕ) → IsWidth total w → w ≡ width total
-unfolding width
-width_is total w is =
-    let r = width_right total total (omega arith) in
-    let a = is.least (width_to total total) r.enough in
-    let b = r.least w is.enough in
-    omega arith
-
 pub nil_end : (pairs : Pairs) → pairs ++ [] ≡ pairs
 nil_end [] = refl
 nil_end (e ∷ pairs) = ap (λ x. e ∷ x) (nil_end pairs)
@@ -215,19 +182,8 @@ pub edges_value : (v : ℕ) (pairs : Pairs) → edges (([], v) ∷ pairs) ≡ ed
 unfolding edges
 edges_value v pairs = refl
 
-node_many : (es : List ℕ) (targets : List (List ℕ)) → 2 ≤ length es → node es targets ≡ branch_node es targets
-node_many [] targets h = absurd (omega arith)
-node_many (b ∷ []) targets h = absurd (omega arith)
-node_many (b ∷ c ∷ more) targets h = refl
-
 branch_is_node : {kind : Kind} {es : List ℕ} {targets : List (List ℕ)} {bytes : List ℕ} → IsBranch kind es targets bytes → bytes ≡ branch_node es targets
-branch_is_node {es = es} {targets = targets} b =
-    let w = width_is (length (concat targets)) b.width b.is_width in
-    let head = one_spelling 32 3 (256 * b.width + length es % 256) b.head _ b.is_head (spells_spelled 32 3 (256 * b.width + length es % 256) b.is_head.below (inr refl)) in
-    b.bytes_are
-    ∙ ap (λ h. h ++ (b.table ++ (blocks (b.width + 1) (offsets targets) ++ concat targets))) head
-    ∙ ap (λ t. spelled 32 3 (256 * b.width + length es % 256) ++ (t ++ (blocks (b.width + 1) (offsets targets) ++ concat targets))) (table_is_edges b.is_table)
-    ∙ ap (λ x. spelled 32 3 (256 * x + length es % 256) ++ (es ++ (blocks (x + 1) (offsets targets) ++ concat targets))) w
+branch_is_node {targets = targets} b = branch_is_front b ∙ ap (λ t. branch_front t (map length targets) ++ concat targets) (table_is_edges b.is_table)
 
 pub shorter_none : (pairs : Pairs) → Shorter 0 pairs → pairs ≡ []
 shorter_none [] h = refl
@@ -243,8 +199,8 @@ mutual
       let es = ordered kind (edges p) in
       let rest : r ≡ enc_to (suc d) kind p = lists_enc ascii text (suc d) short.1 in
       let behind : enc_to (suc d) kind p ≡ node es (map (λ b. enc_to d kind (residual b p)) es) = ap (λ o. value_node o ++ node es (map (λ b. enc_to d kind (residual b p)) es)) (no_value text n) in
-      ap (λ x. x ++ r) (one_spelling 16 4 v sp (spelled 16 4 v) s (spells_spelled 16 4 v s.below (inl refl)))
-      ∙ ap (λ x. spelled 16 4 v ++ x) (rest ∙ behind)
+      ap (λ x. x ++ r) (spelling_is value_form v sp (inl refl) s)
+      ∙ ap (λ x. spelled_as value_form v ++ x) (rest ∙ behind)
       ∙ sym (enc_step d kind (([], v) ∷ p) es (ap (ordered kind) (edges_value v p)))
   lists_enc ascii (literal {b = b} {pairs = p} low n text) zero short = absurd (lists_some text n (front_none b p (shorter_none (with_front b p) short)))
   lists_enc {kind = kind} ascii (literal {b = b} {rest = r} {pairs = p} low n text) (suc d) short =

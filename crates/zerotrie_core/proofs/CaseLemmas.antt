@@ -10,11 +10,10 @@ use Rattle.zerotrie_core.specs.Maps.{Pairs, with_front, with_run, same_key, valu
 use Rattle.zerotrie_core.specs.Texts.{Lists, ListEach, NoValueFirst}
 use Rattle.zerotrie_core.specs.Texts.Lists.{nothing, value, literal, span, branch}
 use Rattle.zerotrie_core.specs.Texts.ListEach.{no_edge, edge}
-use Rattle.zerotrie_core.proofs.NumberLemmas.{pair_of}
+use Rattle.zerotrie_core.proofs.NumberLemmas.{pair_of, extender_one}
 use Rattle.zerotrie_core.proofs.KindLemmas.{one_fold, two_folds}
-use Rattle.zerotrie_core.proofs.OrderedLemmas.{Each, Apart as EdgesApart}
-use Rattle.zerotrie_core.proofs.HashedLemmas.{table_apart}
-use Rattle.zerotrie_core.proofs.ReaderLemmas.{extender_one, chosen_none}
+use Rattle.zerotrie_core.proofs.TableLemmas.{NoneLike, Distinct, table_distinct}
+use Rattle.zerotrie_core.proofs.ValueLemmas.{chosen_none}
 use Rattle.zerotrie_core.proofs.SpanLemmas.{with_run-front, by_fronts}
 
 -- what holds of each pair
@@ -79,17 +78,17 @@ agrees_none kind (b ∷ p) = refl
 pub two_bytes : (kind : Kind) (a b : ℕ) → (fold_byte kind a ≡ fold_byte kind b → ⊥) → (same_byte kind a b ≡ false) × ((a == b) ≡ false)
 two_bytes kind a b h = (two_folds kind a b h, ne_eqb a b (λ e. h (ap (fold_byte kind) e)))
 
--- the key begins with a byte of another fold
+-- the key begins with a byte of another fold than e
 abbrev BeginsOther : Kind → ℕ → List ℕ → Type 0
 BeginsOther kind e [] = ⊥
 BeginsOther kind e (c ∷ key) = fold_byte kind e ≡ fold_byte kind c → ⊥
 
-each_other : {kind : Kind} {es : List ℕ} {targets : List (List ℕ)} {pairs : Pairs} → ListEach kind es targets pairs → (x : ℕ) → Each (λ f. fold_byte kind x ≡ fold_byte kind f → ⊥) es → AllByRecursion (λ f. BeginsOther kind x f.0) pairs
-each_other no_edge x a = tt
-each_other {kind = kind} (edge {e = e} {pairs = p} {more = m} n text each) x a =
+each_other : {kind : Kind} {es : List ℕ} {targets : List (List ℕ)} {pairs : Pairs} → ListEach kind es targets pairs → (x : ℕ) → NoneLike kind x es → AllByRecursion (λ f. BeginsOther kind x f.0) pairs
+each_other no_edge x none = tt
+each_other {kind = kind} (edge {e = e} {pairs = p} {more = m} n text each) x none =
     every_append (λ f. BeginsOther kind x f.0) (with_front e p) m
-    (every_front (λ f. ⊤) (λ f. BeginsOther kind x f.0) e p (λ f h. a.0) (every_any (λ f. ⊤) p (λ f. tt)))
-    (each_other each x a.1)
+    (every_front (λ f. ⊤) (λ f. BeginsOther kind x f.0) e p (λ f h. none.0) (every_any (λ f. ⊤) p (λ f. tt)))
+    (each_other each x none.1)
 
 other_apart : (kind : Kind) (e : ℕ) (p q : List ℕ) → BeginsOther kind e q → (Agrees kind (e ∷ p) q × Agrees kind q (e ∷ p)) × (same_key kind (e ∷ p) q ≡ false)
 other_apart kind e p [] h = absurd h
@@ -113,13 +112,13 @@ joined_agree kind xs ys xx xy yx yy =
     every_append (λ e. AgreesAll kind e.0 (xs ++ ys)) xs ys (both xs xx xy) (both ys yx yy)
 
 edge_agree : (kind : Kind) (e : ℕ) (p m : Pairs) → AllByRecursion (λ f. BeginsOther kind e f.0) m → AllAgree kind p p → AllAgree kind m m → AllAgree kind (with_front e p ++ m) (with_front e p ++ m)
-edge_agree kind e p m others pp mm =
+edge_agree kind e p m other pp mm =
     joined_agree kind (with_front e p) m (front_agree kind e p p pp)
     (every_front (λ x. ⊤) (λ x. AgreesAll kind x.0 m) e p
-    (λ x h. every_more (λ f. BeginsOther kind e f.0) (λ f. Agrees kind (e ∷ x.0) f.0) m (λ f a. (other_apart kind e x.0 f.0 a).0.0) others)
+    (λ x h. every_more (λ f. BeginsOther kind e f.0) (λ f. Agrees kind (e ∷ x.0) f.0) m (λ f a. (other_apart kind e x.0 f.0 a).0.0) other)
     (every_any (λ x. ⊤) p (λ x. tt)))
     (every_more (λ f. BeginsOther kind e f.0) (λ f. AgreesAll kind f.0 (with_front e p)) m
-    (λ f a. every_front (λ x. ⊤) (λ x. Agrees kind f.0 x.0) e p (λ x h. (other_apart kind e x.0 f.0 a).0.1) (every_any (λ x. ⊤) p (λ x. tt))) others)
+    (λ f a. every_front (λ x. ⊤) (λ x. Agrees kind f.0 x.0) e p (λ x h. (other_apart kind e x.0 f.0 a).0.1) (every_any (λ x. ⊤) p (λ x. tt))) other)
     mm
 
 mutual
@@ -131,9 +130,9 @@ mutual
   )
   lists_agree {kind = kind} (literal {b = b} {pairs = p} low n text) = front_agree kind b p p (lists_agree text)
   lists_agree {kind = kind} (span {pairs = p} run s some high n r f text) = by_fronts (λ ps. AllAgree kind ps ps) run p high (λ b ps low h. front_agree kind b ps ps h) (lists_agree text)
-  lists_agree (branch b each) = each_agree each (table_apart b.is_table)
+  lists_agree (branch b each) = each_agree each (table_distinct b.is_table)
 
-  each_agree : {kind : Kind} {es : List ℕ} {targets : List (List ℕ)} {pairs : Pairs} → ListEach kind es targets pairs → EdgesApart kind es → AllAgree kind pairs pairs
+  each_agree : {kind : Kind} {es : List ℕ} {targets : List (List ℕ)} {pairs : Pairs} → ListEach kind es targets pairs → Distinct kind es → AllAgree kind pairs pairs
   each_agree no_edge apart = tt
   each_agree {kind = kind} (edge {e = e} {pairs = p} {more = m} n text each) apart =
       edge_agree kind e p m (each_other each e apart.0) (lists_agree text) (each_agree each apart.1)
@@ -156,10 +155,10 @@ joined_apart kind [] ys a b h = b
 joined_apart kind (e ∷ xs) ys a b h = (every_append (OtherKey kind e.0) xs ys a.0 h.0, joined_apart kind xs ys a.1 b h.1)
 
 edge_apart : (kind : Kind) (e : ℕ) (p m : Pairs) → AllByRecursion (λ f. BeginsOther kind e f.0) m → Apart kind p → Apart kind m → Apart kind (with_front e p ++ m)
-edge_apart kind e p m others pp mm =
+edge_apart kind e p m other pp mm =
     joined_apart kind (with_front e p) m (front_apart kind e p pp) mm
     (every_front (λ x. ⊤) (λ x. AllByRecursion (OtherKey kind x.0) m) e p
-    (λ x h. every_more (λ f. BeginsOther kind e f.0) (OtherKey kind (e ∷ x.0)) m (λ f a. (other_apart kind e x.0 f.0 a).1) others)
+    (λ x h. every_more (λ f. BeginsOther kind e f.0) (OtherKey kind (e ∷ x.0)) m (λ f a. (other_apart kind e x.0 f.0 a).1) other)
     (every_any (λ x. ⊤) p (λ x. tt)))
 
 -- no key behind a byte is empty
@@ -192,9 +191,9 @@ mutual
   lists_apart (value s n text) = (keys_some text n, lists_apart text)
   lists_apart {kind = kind} (literal {b = b} {pairs = p} low n text) = front_apart kind b p (lists_apart text)
   lists_apart {kind = kind} (span {pairs = p} run s some high n r f text) = by_fronts (Apart kind) run p high (λ b ps low h. front_apart kind b ps h) (lists_apart text)
-  lists_apart (branch b each) = each_apart each (table_apart b.is_table)
+  lists_apart (branch b each) = each_apart each (table_distinct b.is_table)
 
-  each_apart : {kind : Kind} {es : List ℕ} {targets : List (List ℕ)} {pairs : Pairs} → ListEach kind es targets pairs → EdgesApart kind es → Apart kind pairs
+  each_apart : {kind : Kind} {es : List ℕ} {targets : List (List ℕ)} {pairs : Pairs} → ListEach kind es targets pairs → Distinct kind es → Apart kind pairs
   each_apart no_edge apart = tt
   each_apart {kind = kind} (edge {e = e} {pairs = p} {more = m} n text each) apart =
       edge_apart kind e p m (each_other each e apart.0) (lists_apart text) (each_apart each apart.1)

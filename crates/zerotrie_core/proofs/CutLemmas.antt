@@ -8,7 +8,7 @@ use Rattle.std.proofs.Math.Seq.{drop-cons}
 use Rattle.zerotrie_core.specs.Numbers.{Spells, extender}
 use Rattle.zerotrie_core.specs.Maps.{Pairs, with_front, Ascends, FirstAbove}
 use Rattle.zerotrie_core.specs.Items.{Items}
-use Rattle.zerotrie_core.specs.Encoding.{pairs_from, Deep, BeginsAll, BeginsNone, IsBranching, Leads, with_bits, weight}
+use Rattle.zerotrie_core.specs.plain.Encoding.{pairs_from, Deep, BeginsAll, BeginsNone, IsBranching, Leads, with_bits, weight}
 use Rattle.zerotrie_core.proofs.EncodeLaws.{above_nil}
 use Rattle.zerotrie_core.proofs.ItemLemmas.{no_item, key_at}
 use Rattle.zerotrie_core.proofs.GroupLemmas.{Group, Grown, FirstOther, NoneEnds, weight-front, some_long}

@@ -8,21 +8,24 @@ use Rattle.std.specs.Cmp.{ranked}
 use Rattle.std.specs.Prelude.{◌==◌}
 use Rattle.std.proofs.lemmas.Bool.{eq-eqb, ne_eqb, cases_eq, cases_lt, false_from_ne_true}
 use Rattle.zerotrie_core.specs.Kind.{Kind, simple_ascii, ignore_case, IsAscii, fold_byte, same_byte, ordered, is_hashed}
-use Rattle.zerotrie_core.specs.Numbers.{spelled}
+use Rattle.zerotrie_core.specs.Numbers.{branch_form, spelled_as}
 use Rattle.zerotrie_core.specs.Maps.{Pairs, with_front, begins_some, edges, residual, value_at, FirstAbove, common_front}
-use Rattle.zerotrie_core.specs.Branches.{IsBranch, blocks, offsets}
+use Rattle.zerotrie_core.specs.Branches.{IsBranch, blocks, offsets, width}
 use Rattle.zerotrie_core.specs.Branches.IsTable.{sorted}
-use Rattle.zerotrie_core.specs.Encoding.{AsciiKey}
+use Rattle.zerotrie_core.specs.plain.Encoding.{AsciiKey}
 use Rattle.zerotrie_core.specs.Texts.{Lists, ListEach, NoValueFirst}
 use Rattle.zerotrie_core.specs.Texts.Lists.{nothing, value, literal, branch}
 use Rattle.zerotrie_core.specs.Texts.ListEach.{no_edge, edge}
-use Rattle.zerotrie_core.specs.Canonical.{enc_to, node, branch_node, value_node, width}
+use Rattle.zerotrie_core.specs.Canonical.{enc_to, node, branch_node, value_node}
 use Rattle.zerotrie_core.proofs.KindLemmas.{edge_limit_is, greatest_width_is}
 use Rattle.zerotrie_core.proofs.EdgeLemmas.{member}
-use Rattle.zerotrie_core.proofs.OrderedLemmas.{Each, Each-member, member-ordered, length-ordered, rises_ordered, rise_apart, not_member, edges_rise, member-edges, member-edges_past}
+use Rattle.zerotrie_core.proofs.OrderedLemmas.{Each-member, member-ordered, length-ordered, rises_ordered, rise_apart, not_member, edges_rise, member-edges, member-edges_past}
 use Rattle.zerotrie_core.proofs.SameLemmas.{Same, same-none, value_exact, value_at-residual, some_pair, begins_behind, first_found}
-use Rattle.zerotrie_core.proofs.CanonLaws.{nil_end, bytes_end, width_right}
-use Rattle.zerotrie_core.proofs.ReaderLemmas.{Rises, AllAbove, extender_one, behind_none, value_at-some, value_at-front, value_at-append, value_at-other}
+use Rattle.zerotrie_core.proofs.CanonLaws.{nil_end, bytes_end}
+use Rattle.zerotrie_core.proofs.FrontLemmas.{IsWidth-width, front_targets}
+use Rattle.zerotrie_core.proofs.NumberLemmas.{extender_one}
+use Rattle.zerotrie_core.proofs.TableLemmas.{Each, Rises, AllAbove}
+use Rattle.zerotrie_core.proofs.ValueLemmas.{behind_none, value_at-some, value_at-front, value_at-append, value_at-other}
 use Rattle.zerotrie_core.proofs.TextLaws.{lists_once}
 use Rattle.zerotrie_core.proofs.NumberLaws.{spells_spelled}
 
@@ -86,15 +89,14 @@ rises_increasing kind es up k h =
     subst (λ j. get_or (map (fold_byte kind) es) k 0 < get_or (map (fold_byte kind) es) j 0) (sym e) (rises_next kind es up k (omega arith))
 
 branch_made : (kind : Kind) → IsAscii kind → (es : List ℕ) (targets : List (List ℕ)) → Rises kind es → ((i d : ℕ) → i < length es → get_or es i d < 128) → 2 ≤ length es → length targets ≡ length es → length (concat targets) < 2 ^ 32 → IsBranch kind es targets (branch_node es targets)
-unfolding width
 branch_made kind is_ascii es targets up ascii two count fits =
-    let right = width_right (length (concat targets)) (length (concat targets)) (omega arith) in
+    let right = IsWidth-width (length (concat targets)) in
     let narrow = right.least 3 fits in
     let most = rises_count kind es up ascii in
     let limit = edge_limit_is kind is_ascii in
     let widest = greatest_width_is kind is_ascii in
     record {
-      head = spelled 32 3 (256 * width (length (concat targets)) + length es % 256);
+      head = spelled_as branch_form (256 * width (length (concat targets)) + length es % 256);
       table = es;
       width = width (length (concat targets));
       two = two;
@@ -105,7 +107,7 @@ branch_made kind is_ascii es targets up ascii two count fits =
       fits = omega arith;
       is_head = spells_spelled 32 3 _ (omega arith) (inr refl);
       is_table = sorted (none_hashed kind is_ascii (length es)) (rises_increasing kind es up);
-      bytes_are = refl;
+      bytes_are = front_targets es targets (length es) count;
     }
 
 pub branch_no_value : {kind : Kind} {es : List ℕ} {targets : List (List ℕ)} {bytes : List ℕ} → IsBranch kind es targets bytes → NoValueFirst bytes

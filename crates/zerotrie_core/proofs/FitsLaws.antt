@@ -1,5 +1,5 @@
 -- Bytes mean only maps that fit.
-use Rattle.std.proofs.Common.{◌≡◌, ℕ, zero, suc, ◌+◌, ◌^◌, ◌<◌, ◌≤◌, List, [], ◌∷◌, ◌++◌, length, refl, sym, ◌∙◌, ap, subst, arith, get_or, inl, inr, lit<, Ordering, Less, Equal, Greater}
+use Rattle.std.proofs.Common.{◌≡◌, ℕ, zero, suc, ◌+◌, ◌^◌, ◌<◌, ◌≤◌, List, [], ◌∷◌, ◌++◌, length, refl, sym, ◌∙◌, ap, subst, arith, get_or, inl, inr, Ordering, Less, Equal, Greater}
 use Rattle.std.specs.Prelude.{All}
 use Rattle.std.specs.List.{concat, AllByRecursion}
 use Rattle.std.specs.FinMap.{entries, entries-insert, put, slice_cmp-IsAntisymmetric, nat_cmp-IsAntisymmetric}
@@ -7,7 +7,6 @@ use Rattle.std.specs.FinMap.Entries.{by_order}
 use Rattle.std.specs.Ordering.{nat_cmp}
 use Rattle.std.specs.Cmp.Lexicographic.{slice_cmp, nat_list_cmp_total}
 use Rattle.std.proofs.lemmas.Bool.Decides.{eqb_tells}
-use Rattle.std.proofs.Math.Nat.{pow-le-pow_right}
 use Rattle.zerotrie_core.specs.Kind.{Kind, IsAscii, edge_limit, greatest_width}
 use Rattle.zerotrie_core.specs.Maps.{Pairs, Map, map_of, with_front, edges, residual, behind_all, IsCaseConsistent}
 use Rattle.zerotrie_core.specs.Branches.{IsBranch}
@@ -16,22 +15,23 @@ use Rattle.zerotrie_core.specs.Texts.Lists.{nothing, value, literal, span, branc
 use Rattle.zerotrie_core.specs.Texts.ListEach.{no_edge, edge}
 use Rattle.zerotrie_core.specs.Fits.{targets_size, Fits}
 use Rattle.zerotrie_core.proofs.EdgeLemmas.{residual-front, residual-other}
-use Rattle.zerotrie_core.proofs.ReaderLemmas.{Rises}
+use Rattle.zerotrie_core.proofs.TableLemmas.{Distinct, none_member, table_distinct}
 use Rattle.zerotrie_core.proofs.SameLemmas.{Same, same-edges, same-behind, same-targets}
 use Rattle.zerotrie_core.proofs.CaseLemmas.{Agrees, every_all, every_more, every_front, every_append, lists_consistent}
 use Rattle.zerotrie_core.proofs.KindLemmas.{edge_limit_from, spans_limit}
 use Rattle.zerotrie_core.proofs.SpanLemmas.{by_fronts}
-use Rattle.zerotrie_core.proofs.CanonLaws.{edges_none, edges_front, edges_value, branch_rises, branch_bytes, edge_once, residual_first, residual_later, lists_some}
+use Rattle.zerotrie_core.proofs.FrontLemmas.{within_width}
+use Rattle.zerotrie_core.proofs.CanonLaws.{edges_none, edges_front, edges_value, branch_rises, branch_bytes, residual_first, residual_later, lists_some}
 use Rattle.zerotrie_core.proofs.OrderLaws.{entries-map_of, means_same, means_size}
 use Rattle.zerotrie_core.proofs.EncodeLaws.{SmallValues}
-use Rattle.zerotrie_core.proofs.ListedLemmas.{targets_each, targets_value, behind_none}
+use Rattle.zerotrie_core.proofs.ListedLemmas.{targets_each, targets_value, behind_all-nil}
 
 -- the targets of each branch that the pairs need can be reached by an offset
 abbrev pub NarrowBehind : Kind → List ℕ → Pairs → Type 0
 NarrowBehind kind front pairs = 2 ≤ length (edges (behind_all front pairs)) → targets_size kind (behind_all front pairs) < 256 ^ (greatest_width kind + 1)
 
 narrow_none : (kind : Kind) (front : List ℕ) → NarrowBehind kind front []
-narrow_none kind front two = absurd (let none = ap length (ap edges (behind_none front) ∙ edges_none) in omega arith)
+narrow_none kind front two = absurd (let none = ap length (ap edges (behind_all-nil front) ∙ edges_none) in omega arith)
 
 narrow_value : (kind : Kind) (v : ℕ) (pairs : Pairs) → NarrowBehind kind [] pairs → NarrowBehind kind [] (([], v) ∷ pairs)
 narrow_value kind v pairs narrow two =
@@ -47,13 +47,10 @@ narrow-same kind front p q s narrow two =
     subst (λ n. n < 256 ^ (greatest_width kind + 1)) (sym (same-targets kind (behind_all front p) (behind_all front q) behind))
     (narrow (subst (λ es. 2 ≤ length es) (same-edges (behind_all front p) (behind_all front q) behind) two))
 
-narrow_width : (g w n : ℕ) → w ≤ g → n < 256 ^ (w + 1) → n < 256 ^ (g + 1)
-narrow_width g w n h below = let up : 256 ^ (w + 1) ≤ 256 ^ (g + 1) = pow-le-pow_right (lit< tt) (let k : w + 1 ≤ g + 1 = omega arith in k) in omega arith
-
 narrow_branch : {kind : Kind} {es : List ℕ} {targets : List (List ℕ)} {bytes : List ℕ} {pairs : Pairs} → IsAscii kind → IsBranch kind es targets bytes → ListEach kind es targets pairs → NarrowBehind kind [] pairs
 narrow_branch {kind = kind} {targets = targets} ascii b each two =
     subst (λ n. n < 256 ^ (greatest_width kind + 1)) (sym (targets_each ascii each (branch_rises b) (branch_bytes ascii b)))
-    (narrow_width (greatest_width kind) b.width (length (concat targets)) b.fits b.is_width.enough)
+    (within_width (greatest_width kind) b.width (length (concat targets)) b.fits b.is_width)
 
 mutual
   narrow_lists : {kind : Kind} {bytes : List ℕ} {pairs : Pairs} → IsAscii kind → Lists kind bytes pairs → (front : List ℕ) → NarrowBehind kind front pairs
@@ -67,14 +64,14 @@ mutual
         | inr other ↦ narrow_at kind c front (with_front b p) [] (residual-other c b p other.1) (narrow_none kind front)
       ]
   narrow_lists ascii (branch b each) [] = narrow_branch ascii b each
-  narrow_lists ascii (branch b each) (c ∷ front) = narrow_each ascii each (branch_rises b) c front
+  narrow_lists ascii (branch b each) (c ∷ front) = narrow_each ascii each (table_distinct b.is_table) c front
 
-  narrow_each : {kind : Kind} {es : List ℕ} {targets : List (List ℕ)} {pairs : Pairs} → IsAscii kind → ListEach kind es targets pairs → Rises kind es → (c : ℕ) (front : List ℕ) → NarrowBehind kind (c ∷ front) pairs
-  narrow_each {kind = kind} ascii no_edge rises c front = narrow_none kind front
-  narrow_each {kind = kind} ascii (edge {e = e} {edges = es} {pairs = p} {more = m} n text each) rises c front =
+  narrow_each : {kind : Kind} {es : List ℕ} {targets : List (List ℕ)} {pairs : Pairs} → IsAscii kind → ListEach kind es targets pairs → Distinct kind es → (c : ℕ) (front : List ℕ) → NarrowBehind kind (c ∷ front) pairs
+  narrow_each {kind = kind} ascii no_edge apart c front = narrow_none kind front
+  narrow_each {kind = kind} ascii (edge {e = e} {edges = es} {pairs = p} {more = m} n text each) apart c front =
       elim (eqb_tells e c) [
-        | inl same ↦ narrow_at kind c front (with_front e p ++ m) p (ap (λ x. residual x (with_front e p ++ m)) (sym same.1) ∙ residual_first e p each (edge_once kind e es rises.0)) (narrow_lists ascii text front)
-        | inr other ↦ narrow_at kind c front (with_front e p ++ m) (residual c m) (residual_later c e p m other.1) (narrow_each ascii each rises.1 c front)
+        | inl same ↦ narrow_at kind c front (with_front e p ++ m) p (ap (λ x. residual x (with_front e p ++ m)) (sym same.1) ∙ residual_first e p each (none_member kind e es apart.0)) (narrow_lists ascii text front)
+        | inr other ↦ narrow_at kind c front (with_front e p ++ m) (residual c m) (residual_later c e p m other.1) (narrow_each ascii each apart.1 c front)
       ]
 
 -- each byte of the key is below the bound

@@ -1,23 +1,24 @@
 -- A text of pairs as it grows: the nodes in front of a branch, and the groups of a branch.
-use Rattle.std.proofs.Common.{◌≡◌, ℕ, zero, suc, ◌+◌, ◌^◌, ◌<◌, ◌≤◌, List, [], ◌∷◌, ◌++◌, length, refl, sym, ◌∙◌, ap, subst, arith, get_or, take, drop, inl, inr, ◌⊎◌, append_assoc, length-append}
+use Rattle.std.proofs.Common.{◌≡◌, ℕ, zero, suc, ◌+◌, ◌*◌, ◌%◌, ◌^◌, ◌<◌, ◌≤◌, List, [], ◌∷◌, ◌++◌, length, refl, sym, ◌∙◌, ap, subst, arith, get_or, take, drop, inl, inr, ◌⊎◌, append_assoc, length-append}
 use Rattle.std.specs.List.{concat}
 use Rattle.zerotrie_core.specs.Kind.{simple_ascii}
-use Rattle.zerotrie_core.specs.Numbers.{Spells}
+use Rattle.zerotrie_core.specs.Numbers.{value_form, branch_form, SpellsAs}
 use Rattle.zerotrie_core.specs.Maps.{Pairs, with_front, residual, Ascends, FirstAbove}
 use Rattle.zerotrie_core.specs.Branches.{IsWidth, offsets, blocks}
-use Rattle.zerotrie_core.specs.Branches.IsTable.{sorted}
+use Rattle.zerotrie_core.specs.Canonical.{branch_node}
 use Rattle.zerotrie_core.specs.Texts.{Lists, ListEach}
-use Rattle.zerotrie_core.specs.Texts.Lists.{nothing, value, literal, branch}
+use Rattle.zerotrie_core.specs.Texts.Lists.{nothing, value, literal}
 use Rattle.zerotrie_core.specs.Texts.ListEach.{no_edge, edge}
 use Rattle.zerotrie_core.specs.Fits.{OverflowsAt}
-use Rattle.zerotrie_core.specs.Encoding.{AsciiKeys, weight, IsBranching, IsRefusal, TooWide, Writes, Leads, BranchBytes}
+use Rattle.zerotrie_core.specs.plain.Encoding.{AsciiKeys, weight, IsBranching, CannotWrite, TooWide, Writes, Leads, AreTargets}
 use Rattle.zerotrie_base.specs.declared.error.ZeroTrieBuildError.{ZeroTrieBuildError}
 use Rattle.zerotrie_base.specs.declared.error.ZeroTrieBuildError.TheVariants.{OutOfMemory, CapacityExceeded}
 use Rattle.zerotrie_core.proofs.EdgeLemmas.{Rise, residual-append, residual-front}
 use Rattle.zerotrie_core.proofs.CanonLaws.{edges_value, edges_listed, rise_bytes, residual_none, nil_end, bytes_end}
 use Rattle.zerotrie_core.proofs.BranchLemmas.{length-offsets, get_or-offsets}
 use Rattle.zerotrie_core.proofs.OrderedLemmas.{rise_rises, member-past}
-use Rattle.zerotrie_core.proofs.EncodeLaws.{compare_first, not_empty_text, rises_count, rises_increasing}
+use Rattle.zerotrie_core.proofs.EncodeLaws.{compare_first, not_empty_text, node_lists}
+use Rattle.zerotrie_core.proofs.FrontLemmas.{front_written, node_many}
 use Rattle.zerotrie_core.proofs.ListedLemmas.{targets_each, targets_value, no_value_first, each_push, each_count, residual_above, Rise-push, Rise-below, Rise-higher, FirstFrom, first_from}
 
 pub weight-append : (xs ys : Pairs) → weight (xs ++ ys) ≡ weight xs + weight ys
@@ -76,7 +77,7 @@ pub leads_start : (before : List ℕ) (all : Pairs) → Ascends all → AsciiKey
 leads_start before all up ascii = record { finish = λ after w. w; wide = λ w. w; ascends = up; ascii = ascii; lighter = omega arith }
 
 -- a value node more
-pub leads_value : (before out out' spelling : List ℕ) (v : ℕ) (all left : Pairs) → Leads before all out (([], v) ∷ left) → Spells 16 4 v spelling → out' ≡ out ++ spelling → Leads before all out' left
+pub leads_value : (before out out' spelling : List ℕ) (v : ℕ) (all left : Pairs) → Leads before all out (([], v) ∷ left) → SpellsAs value_form v spelling → out' ≡ out ++ spelling → Leads before all out' left
 leads_value before out out' spelling v all left l s e = record {
   finish = λ after w. l.finish after (record {
     text = spelling ++ w.text;
@@ -294,26 +295,17 @@ module _ {all : Pairs} {edge_bytes starts target_bytes : List ℕ} (g : Grown al
   two = two_edges all_lists branching
 
   -- the branch of all the groups
-  pub grown_lists : (bytes : List ℕ) → BranchBytes edge_bytes (drop 1 starts) target_bytes bytes → Lists simple_ascii bytes all
-  grown_lists bytes b =
+  pub grown_lists : length target_bytes < 2 ^ 32 → Lists simple_ascii (branch_node edge_bytes g.texts) all
+  grown_lists narrow =
+      let low : (i d : ℕ) → i < length edge_bytes → get_or edge_bytes i d < 128 = λ i d h. Rise-below 0 128 edge_bytes rise_128 i d h in
+      let made = node_lists tt all_lists (rise_rises 0 256 edge_bytes rise_256) low (each_count all_lists) (λ many. subst (λ x. length x < 2 ^ 32) g.bytes narrow) in
+      subst (λ x. Lists simple_ascii x all) (node_many edge_bytes g.texts two) made.lists
+
+  pub grown_targets : AreTargets g.texts edge_bytes (drop 1 starts) target_bytes
+  grown_targets =
       let count = each_count all_lists in
-      let most = rises_count simple_ascii edge_bytes (rise_rises 0 256 edge_bytes rise_256) (λ i d h. Rise-below 0 128 edge_bytes rise_128 i d h) in
       let some = two in
-      let offsets_are = ap (drop 1) g.starts_are ∙ starts_offsets g.texts (omega arith) in
-      branch (record {
-        head = b.head;
-        table = edge_bytes;
-        width = b.width;
-        two = two;
-        at_most = omega arith;
-        a_target_each = count;
-        edge_bytes = λ i d h. Rise-below 0 128 edge_bytes rise_128 i d h;
-        is_width = subst (λ x. IsWidth (length x) b.width) g.bytes b.is_width;
-        fits = b.fits;
-        is_head = b.is_head;
-        is_table = sorted refl (rises_increasing simple_ascii edge_bytes (rise_rises 0 256 edge_bytes rise_256));
-        bytes_are = b.bytes_are ∙ ap (λ x. b.head ++ (edge_bytes ++ (blocks (b.width + 1) x ++ target_bytes))) offsets_are ∙ ap (λ x. b.head ++ (edge_bytes ++ (blocks (b.width + 1) (offsets g.texts) ++ x))) g.bytes;
-      }) all_lists
+      record { count = count; offsets_are = ap (drop 1) g.starts_are ∙ starts_offsets g.texts (omega arith); bytes_are = g.bytes }
 
   -- the targets together are too wide
   pub grown_wide : 2 ^ 32 ≤ length target_bytes → TooWide all
@@ -336,17 +328,25 @@ grown_start all edge_bytes starts target_bytes a b c none up ascii =
     subst (λ x. Grown all x starts target_bytes all) (sym a) (subst (λ x. Grown all [] x target_bytes all) (sym b) (subst (λ x. Grown all [] [] x all) (sym c) (grown_none all none up ascii)))
 
 -- a refusal of a group is one of all the pairs
-pub refused_up : (all p : Pairs) (e : ZeroTrieBuildError) → (TooWide p → TooWide all) → IsRefusal p e → IsRefusal all e
+pub refused_up : (all p : Pairs) (e : ZeroTrieBuildError) → (TooWide p → TooWide all) → CannotWrite p e → CannotWrite all e
 refused_up all p e up r = elim r [ inl memory ↦ inl memory | inr wide ↦ inr (wide.0, up wide.1) ]
 
 -- where no pairs are left, the text is whole
 pub leads_end : (before out : List ℕ) (all left : Pairs) → left ≡ [] → Leads before all out left → Writes before out all
 leads_end before out all left none l = l.finish out (subst (Writes out out) (sym none) (writes_nothing out))
 
-pub branch_same : (es es' os os' ts ts' bytes : List ℕ) → es ≡ es' → os ≡ os' → ts ≡ ts' → BranchBytes es os ts bytes → BranchBytes es' os' ts' bytes
-branch_same es es' os os' ts ts' bytes a b c h =
-    subst (λ x. BranchBytes es' os' x bytes) c (subst (λ x. BranchBytes es' x ts bytes) b (subst (λ x. BranchBytes x os ts bytes) a h))
+-- the offsets and the targets as they are passed on
+pub same_targets : (texts : List (List ℕ)) (es es' os os' ts ts' : List ℕ) → es ≡ es' → os ≡ os' → ts ≡ ts' → AreTargets texts es' os' ts' → AreTargets texts es os ts
+same_targets texts es es' os os' ts ts' a b c h = record { count = h.count ∙ ap length (sym a); offsets_are = b ∙ h.offsets_are; bytes_are = c ∙ h.bytes_are }
+
+-- a head, a table, offsets and targets are the branch
+pub branch_written : (texts : List (List ℕ)) (es os ts head : List ℕ) (w : ℕ) → AreTargets texts es os ts → IsWidth (length ts) w → SpellsAs branch_form (256 * w + length es % 256) head
+    → head ++ (es ++ (blocks (w + 1) os ++ ts)) ≡ branch_node es texts
+branch_written texts es os ts head w t is spells =
+    ap (λ x. head ++ (es ++ (blocks (w + 1) os ++ x))) t.bytes_are
+    ∙ ap (λ x. head ++ (es ++ (blocks (w + 1) x ++ concat texts))) t.offsets_are
+    ∙ front_written es head w (length es) texts t.count (subst (λ x. IsWidth (length x) w) t.bytes_are is) spells
 
 -- a branch that is not written
-pub refused_branch : (all : Pairs) (e : ZeroTrieBuildError) (total : ℕ) → (2 ^ 32 ≤ total → TooWide all) → (e ≡ OutOfMemory) ⊎ ((e ≡ CapacityExceeded) × (2 ^ 32 ≤ total)) → IsRefusal all e
+pub refused_branch : (all : Pairs) (e : ZeroTrieBuildError) (total : ℕ) → (2 ^ 32 ≤ total → TooWide all) → (e ≡ OutOfMemory) ⊎ ((e ≡ CapacityExceeded) × (2 ^ 32 ≤ total)) → CannotWrite all e
 refused_branch all e total up r = elim r [ inl memory ↦ inl memory | inr wide ↦ inr (wide.0, up wide.1) ]

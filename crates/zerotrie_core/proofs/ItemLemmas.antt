@@ -10,7 +10,7 @@ use Rattle.std.proofs.Common.{lit<}
 use Rattle.zerotrie_core.specs.Branches.{blocks, IsWidth}
 use Rattle.zerotrie_core.specs.Maps.{Ascends}
 use Rattle.zerotrie_core.specs.Items.{Items, pairs_of}
-use Rattle.zerotrie_core.specs.Encoding.{BeginsAll}
+use Rattle.zerotrie_core.specs.plain.Encoding.{BeginsAll}
 
 pub BeginsAll-push : (depth byte : ℕ) (xs : Items) (e : Bor (List ℕ) × ℕ) → BeginsAll depth byte xs → depth < length e.0.now → get_or e.0.now depth 0 ≡ byte → BeginsAll depth byte (xs ++ e ∷ [])
 BeginsAll-push depth byte [] e h a b = (a, b, tt)

@@ -1,28 +1,37 @@
-pub mod NumberLemmas
-pub mod WriteLemmas
-pub mod ReaderLemmas
-pub mod MapLemmas
-pub mod KindLemmas
-pub mod CaseLemmas
-pub mod BranchLemmas
-pub mod TableLemmas
-pub mod NumberLaws
-pub mod TextLaws
-pub mod Vectors
-pub mod EdgeLemmas
-pub mod OrderedLemmas
-pub mod HashedLemmas
-pub mod SpanLemmas
-pub mod SameLemmas
-pub mod CanonLaws
-pub mod EncodeLaws
-pub mod SizeLaws
-pub mod OrderLaws
-pub mod NodeLaws
-pub mod ItemLemmas
-pub mod ListedLemmas
-pub mod FitsLaws
-pub mod GroupLemmas
-pub mod CutLemmas
-pub mod RefusalLemmas
-pub mod MeansLaws
+pub mod CallerLemmas
+
+mod NumberLemmas
+mod WriteLemmas
+mod KindLemmas
+mod ValueLemmas
+mod SpanLemmas
+mod TableLemmas
+mod BranchLemmas
+mod NodeLemmas
+mod HeadLemmas
+mod OpenLemmas
+mod EachLemmas
+mod GoingLemmas
+mod PlaceLemmas
+mod ReaderLemmas
+mod CaseLemmas
+mod MapLemmas
+mod NumberLaws
+mod TextLaws
+mod Vectors
+mod EdgeLemmas
+mod OrderedLemmas
+mod SameLemmas
+mod FrontLemmas
+mod CanonLaws
+mod EncodeLaws
+mod SizeLaws
+mod OrderLaws
+mod NodeLaws
+mod ItemLemmas
+mod ListedLemmas
+mod FitsLaws
+mod GroupLemmas
+mod CutLemmas
+mod RefusalLemmas
+mod MeansLaws

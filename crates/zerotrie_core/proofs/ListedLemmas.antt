@@ -1,52 +1,46 @@
 -- What the pairs of a text are like: the edges of a branch and the sizes of its targets.
-use Rattle.std.proofs.Common.{◌≡◌, ℕ, zero, suc, ◌<◌, ◌≤◌, List, [], ◌∷◌, ◌++◌, length, refl, sym, ◌∙◌, ap, subst, arith, get_or, map, inl, inr, append_assoc, sum, true}
+use Rattle.std.proofs.Common.{◌≡◌, ℕ, zero, suc, ◌<◌, ◌≤◌, List, [], ◌∷◌, ◌++◌, length, refl, sym, ◌∙◌, ap, subst, arith, get_or, map, inl, inr, append_assoc, true}
 use Rattle.std.specs.List.{concat}
 use Rattle.std.proofs.lemmas.Bool.{ne_eqb}
 use Rattle.zerotrie_core.specs.Kind.{Kind, IsAscii}
-use Rattle.zerotrie_core.specs.Maps.{Pairs, with_front, edges, residual, behind_all, longest, Ascends, FirstAbove}
+use Rattle.zerotrie_core.specs.Maps.{Pairs, with_front, edges, residual, behind_all, Ascends, FirstAbove}
 use Rattle.zerotrie_core.specs.Texts.{Lists, ListEach, NoValueFirst}
 use Rattle.zerotrie_core.specs.Texts.Lists.{nothing, value, literal, branch}
 use Rattle.zerotrie_core.specs.Texts.ListEach.{no_edge, edge}
-use Rattle.zerotrie_core.specs.Canonical.{size_to}
+use Rattle.zerotrie_core.specs.Branches.{total}
+use Rattle.zerotrie_core.specs.Canonical.{size_of}
 use Rattle.zerotrie_core.specs.Fits.{targets_size}
 use Rattle.zerotrie_core.proofs.EdgeLemmas.{Rise, member, member_head, member_later}
-use Rattle.zerotrie_core.proofs.OrderedLemmas.{sum-ordered, length-ordered}
-use Rattle.zerotrie_core.proofs.ReaderLemmas.{Rises}
-use Rattle.zerotrie_core.proofs.CanonLaws.{Bytes, edges_listed, edge_once, residual_first, residual_later, not_first, lists_enc, nil_end}
-use Rattle.zerotrie_core.proofs.SizeLaws.{length-concat, length-enc_to}
-use Rattle.zerotrie_core.proofs.OrderLaws.{longest_shorter}
+use Rattle.zerotrie_core.proofs.OrderedLemmas.{total-ordered, length-ordered}
+use Rattle.zerotrie_core.proofs.TableLemmas.{Distinct, Rises, rises_distinct, none_member}
+use Rattle.zerotrie_core.proofs.CanonLaws.{Bytes, edges_listed, residual_first, residual_later, not_first, nil_end}
+use Rattle.zerotrie_core.proofs.FrontLemmas.{total-lengths}
+use Rattle.zerotrie_core.proofs.OrderLaws.{lists_enc_of, length-enc_of}
 use Rattle.zerotrie_core.proofs.EncodeLaws.{compare_first, branch_no_value}
 
--- the bytes of a text, by its pairs
-size_of : Kind → Pairs → ℕ
-size_of kind pairs = size_to (suc (longest pairs)) kind pairs
-
 listed_size : {kind : Kind} {bytes : List ℕ} {pairs : Pairs} → IsAscii kind → Lists kind bytes pairs → size_of kind pairs ≡ length bytes
-unfolding size_of
-listed_size {kind = kind} {pairs = pairs} ascii text =
-    let d = suc (longest pairs) in
-    sym (length-enc_to kind ascii d pairs) ∙ ap length (sym (lists_enc ascii text d (longest_shorter pairs d (omega arith))))
+listed_size {kind = kind} {pairs = pairs} ascii text = sym (length-enc_of kind ascii pairs) ∙ ap length (sym (lists_enc_of ascii text))
 
 cons_sizes : (a b : ℕ) (xs ys : List ℕ) → a ≡ b → xs ≡ ys → a ∷ xs ≡ b ∷ ys
 cons_sizes a b xs ys e f = cc
 
-each_sizes : {kind : Kind} {es : List ℕ} {targets : List (List ℕ)} {pairs : Pairs} → IsAscii kind → ListEach kind es targets pairs → (all : Pairs) → Rises kind es → ((b : ℕ) → member b es ≡ true → residual b all ≡ residual b pairs)
+each_sizes : {kind : Kind} {es : List ℕ} {targets : List (List ℕ)} {pairs : Pairs} → IsAscii kind → ListEach kind es targets pairs → (all : Pairs) → Distinct kind es → ((b : ℕ) → member b es ≡ true → residual b all ≡ residual b pairs)
     → map (λ b. size_of kind (residual b all)) es ≡ map length targets
-each_sizes ascii no_edge all rises same = refl
-each_sizes {kind = kind} ascii (edge {e = e} {edges = es} {target = t} {targets = ts} {pairs = p} {more = m} n text each) all rises same =
-    let out = edge_once kind e es rises.0 in
+each_sizes ascii no_edge all apart same = refl
+each_sizes {kind = kind} ascii (edge {e = e} {edges = es} {target = t} {targets = ts} {pairs = p} {more = m} n text each) all apart same =
+    let out = none_member kind e es apart.0 in
     cons_sizes (size_of kind (residual e all)) (length t) _ _
     (ap (size_of kind) (same e (member_head e es) ∙ residual_first e p each out) ∙ listed_size ascii text)
-    (each_sizes ascii each all rises.1 (λ b h. same b (member_later b e es h) ∙ residual_later b e p m (not_first e b es out h)))
+    (each_sizes ascii each all apart.1 (λ b h. same b (member_later b e es h) ∙ residual_later b e p m (not_first e b es out h)))
 
 -- the bytes of the targets of a branch
 pub targets_each : {kind : Kind} {es : List ℕ} {targets : List (List ℕ)} {pairs : Pairs} → IsAscii kind → ListEach kind es targets pairs → Rises kind es → Bytes es → targets_size kind pairs ≡ length (concat targets)
-unfolding targets_size size_of
-targets_each {kind = kind} {targets = targets} {pairs = pairs} ascii each rises bytes =
-    sym (sum-ordered kind (λ b. size_of kind (residual b pairs)) (edges pairs))
-    ∙ ap (λ es. sum (map (λ b. size_of kind (residual b pairs)) es)) (edges_listed ascii each rises bytes)
-    ∙ ap sum (each_sizes ascii each pairs rises (λ b h. refl))
-    ∙ sym (length-concat targets)
+unfolding targets_size
+targets_each {kind = kind} {es = es} {targets = targets} {pairs = pairs} ascii each rises bytes =
+    sym (total-ordered kind (λ b. size_of kind (residual b pairs)) (edges pairs))
+    ∙ ap (λ es. total (map (λ b. size_of kind (residual b pairs)) es)) (edges_listed ascii each rises bytes)
+    ∙ ap total (each_sizes ascii each pairs (rises_distinct kind es rises) (λ b h. refl))
+    ∙ total-lengths targets
 
 -- how many edges the pairs have
 pub edges_count : {kind : Kind} {es : List ℕ} {targets : List (List ℕ)} {pairs : Pairs} → IsAscii kind → ListEach kind es targets pairs → Rises kind es → Bytes es → length (edges pairs) ≡ length es
@@ -57,9 +51,9 @@ pub targets_value : (kind : Kind) (v : ℕ) (pairs : Pairs) → targets_size kin
 unfolding targets_size edges
 targets_value kind v pairs = refl
 
-pub behind_none : (front : List ℕ) → behind_all front [] ≡ []
-behind_none [] = refl
-behind_none (b ∷ front) = behind_none front
+pub behind_all-nil : (front : List ℕ) → behind_all front [] ≡ []
+behind_all-nil [] = refl
+behind_all-nil (b ∷ front) = behind_all-nil front
 
 -- bytes that list pairs without the empty key do not begin with a value node
 pub no_value_first : {kind : Kind} {bytes : List ℕ} {pairs : Pairs} → Lists kind bytes pairs → FirstAbove [] pairs → NoValueFirst bytes

@@ -4,7 +4,7 @@ use Rattle.std.specs.FinMap.{entries}
 use Rattle.zerotrie_core.specs.Kind.{Kind}
 use Rattle.zerotrie_core.specs.Maps.{Pairs, Map, map_of, value_at, look}
 use Rattle.zerotrie_core.specs.Texts.{Lists, Means, nodes}
-use Rattle.zerotrie_core.proofs.ReaderLemmas.{AlwaysFinds}
+use Rattle.zerotrie_core.specs.reader.Reading.{AlwaysFinds}
 use Rattle.zerotrie_core.proofs.CaseLemmas.{lists_apart, same_answers}
 use Rattle.zerotrie_core.proofs.SameLemmas.{same-entries}
 
@@ -13,7 +13,7 @@ look-map_of {kind = kind} {pairs = pairs} text key = same_answers kind pairs (en
 
 pub value_found : (kind : Kind) (bytes key : List ℕ) (answer : Option ℕ) (count : ℕ) → AlwaysFinds kind bytes key answer count → (m : Map) → Means kind bytes m → answer ≡ look kind m key
 value_found kind bytes key answer count finds m means =
-    sym (finds means.pairs means.lists).0 ∙ sym (look-map_of means.lists key) ∙ ap (λ n. look kind n key) (sym means.is)
+    sym (finds means.pairs means.lists).answers ∙ sym (look-map_of means.lists key) ∙ ap (λ n. look kind n key) (sym means.is)
 
 pub count_found : (kind : Kind) (bytes key : List ℕ) (answer : Option ℕ) (count : ℕ) → AlwaysFinds kind bytes key answer count → (m : Map) (means : Means kind bytes m) → count ≡ nodes means.lists key
-count_found kind bytes key answer count finds m means = sym (finds means.pairs means.lists).1
+count_found kind bytes key answer count finds m means = sym (finds means.pairs means.lists).counts

@@ -1,5 +1,5 @@
 -- The canonical text of a map that fits means it.
-use Rattle.std.proofs.Common.{◌≡◌, ℕ, zero, suc, ◌+◌, ◌^◌, ◌<◌, List, [], ◌∷◌, length, refl, sym, ◌∙◌, ap, subst, arith, map, Bool, true, false, eqb, cond, sum, get_or, Option, Some, inl, inr, ◌⊎◌}
+use Rattle.std.proofs.Common.{◌≡◌, ℕ, zero, suc, ◌+◌, ◌^◌, ◌<◌, List, [], ◌∷◌, length, refl, sym, ◌∙◌, ap, subst, arith, map, Bool, true, false, eqb, cond, get_or, Option, Some, inl, inr, ◌⊎◌}
 use Rattle.std.specs.Prelude.{All, ◌==◌}
 use Rattle.std.specs.List.{concat}
 use Rattle.std.specs.FinMap.{entries, same_map, get-entries, get-from_entries, slice_cmp-IsAntisymmetric, nat_cmp-IsAntisymmetric}
@@ -7,15 +7,18 @@ use Rattle.std.specs.Cmp.Lexicographic.{nat_list_cmp_total}
 use Rattle.zerotrie_core.specs.Kind.{Kind, simple_ascii, IsAscii, edge_limit, same_byte, ordered}
 use Rattle.zerotrie_core.specs.Maps.{Pairs, Map, map_of, value_at, same_key, edges, residual, longest, common_front}
 use Rattle.zerotrie_core.specs.Texts.{Means}
-use Rattle.zerotrie_core.specs.Canonical.{enc, enc_to, size, size_to}
+use Rattle.zerotrie_core.specs.Branches.{total}
+use Rattle.zerotrie_core.specs.Canonical.{enc, enc_of, enc_to, size, size_of, size_to, rest_size, value_node}
 use Rattle.zerotrie_core.specs.Fits.{targets_size, Fits}
-use Rattle.zerotrie_core.specs.Encoding.{AsciiKey}
+use Rattle.zerotrie_core.specs.plain.Encoding.{AsciiKey}
 use Rattle.zerotrie_core.proofs.CanonLaws.{Shorter, shorter_none, edges_none}
-use Rattle.zerotrie_core.proofs.OrderedLemmas.{sum-ordered}
-use Rattle.zerotrie_core.proofs.SameLemmas.{Same, value_at-find, exact_same, longest_least, map_agree}
+use Rattle.zerotrie_core.proofs.OrderedLemmas.{total-ordered}
+use Rattle.zerotrie_core.proofs.SameLemmas.{Same, value_at-find, exact_same, longest_least, map_agree, rest_agree}
 use Rattle.zerotrie_core.proofs.EncodeLaws.{Sound, FitsTo, listed_enc}
 use Rattle.zerotrie_core.proofs.KindLemmas.{edge_limit_is, greatest_width_is}
-use Rattle.zerotrie_core.proofs.SizeLaws.{length-enc_to, length-concat, map_map, size_step}
+use Rattle.zerotrie_core.proofs.SizeLaws.{length-enc_to}
+use Rattle.zerotrie_core.proofs.FrontLemmas.{total-lengths}
+use Rattle.std.proofs.lemmas.Simd.{map-map}
 use Rattle.zerotrie_core.proofs.OrderLaws.{longest_shorter}
 use Rattle.zerotrie_core.proofs.FitsLaws.{NarrowBehind}
 
@@ -30,17 +33,19 @@ Shorter-residual d b ((c ∷ key, v) ∷ pairs) s = residual_here d key v (resid
 
 size_none : (kind : Kind) (d : ℕ) → size_to d kind [] ≡ 0
 size_none kind zero = refl
-size_none kind (suc d) = size_step d kind [] [] (ap (map (λ b. size_to d kind (residual b []))) edges_none)
+size_none kind (suc d) = ap (λ es. 0 + rest_size kind (size_to d kind) [] es) edges_none
 
 -- the size does not depend on how much longer than the keys the bound is
 pub size_any : (kind : Kind) (d e : ℕ) (pairs : Pairs) → Shorter d pairs → Shorter e pairs → size_to d kind pairs ≡ size_to e kind pairs
 size_any kind zero e pairs s t = ap (size_to zero kind) (shorter_none pairs s) ∙ sym (size_none kind e) ∙ ap (size_to e kind) (sym (shorter_none pairs s))
 size_any kind (suc d) zero pairs s t = ap (size_to (suc d) kind) (shorter_none pairs t) ∙ size_none kind (suc d) ∙ ap (size_to zero kind) (sym (shorter_none pairs t))
 size_any kind (suc d) (suc e) pairs s t =
-    size_step d kind pairs (map (λ b. size_to e kind (residual b pairs)) (edges pairs))
-    (map_agree (λ b. size_to d kind (residual b pairs)) (λ b. size_to e kind (residual b pairs)) (edges pairs)
-    (λ b. size_any kind d e (residual b pairs) (Shorter-residual d b pairs s) (Shorter-residual e b pairs t)))
-    ∙ sym (size_step e kind pairs (map (λ b. size_to e kind (residual b pairs)) (edges pairs)) refl)
+    ap (λ n. length (value_node (value_at kind pairs [])) + n)
+    (rest_agree kind (size_to d kind) (size_to e kind) pairs pairs (λ b. size_any kind d e (residual b pairs) (Shorter-residual d b pairs s) (Shorter-residual e b pairs t)) (edges pairs))
+
+pub size_of_to : (kind : Kind) (d : ℕ) (pairs : Pairs) → Shorter d pairs → size_of kind pairs ≡ size_to d kind pairs
+unfolding size_of
+size_of_to kind d pairs s = size_any kind (suc (longest pairs)) d pairs (longest_shorter pairs (suc (longest pairs)) (omega arith)) s
 
 -- the bytes of the canonical targets
 targets_enc : (d : ℕ) (kind : Kind) → IsAscii kind → (pairs : Pairs) → Shorter (suc d) pairs
@@ -48,12 +53,11 @@ targets_enc : (d : ℕ) (kind : Kind) → IsAscii kind → (pairs : Pairs) → S
 unfolding targets_size
 targets_enc d kind is_ascii pairs s =
     let text : ℕ → List ℕ = λ b. enc_to d kind (residual b pairs) in
-    ap sum (map_agree (λ b. size_to (suc (longest (residual b pairs))) kind (residual b pairs)) (λ b. length (text b)) (edges pairs)
-    (λ b. size_any kind (suc (longest (residual b pairs))) d (residual b pairs) (longest_shorter (residual b pairs) (suc (longest (residual b pairs))) (omega arith)) (Shorter-residual d b pairs s)
-    ∙ sym (length-enc_to kind is_ascii d (residual b pairs))))
-    ∙ sym (sum-ordered kind (λ b. length (text b)) (edges pairs))
-    ∙ ap sum (sym (map_map text (ordered kind (edges pairs))))
-    ∙ sym (length-concat (map text (ordered kind (edges pairs))))
+    ap total (map_agree (λ b. size_of kind (residual b pairs)) (λ b. length (text b)) (edges pairs)
+    (λ b. size_of_to kind d (residual b pairs) (Shorter-residual d b pairs s) ∙ sym (length-enc_to kind is_ascii d (residual b pairs))))
+    ∙ sym (total-ordered kind (λ b. length (text b)) (edges pairs))
+    ∙ ap total (sym (map-map length text (ordered kind (edges pairs))))
+    ∙ total-lengths (map text (ordered kind (edges pairs)))
 
 fits_to : (d : ℕ) (kind : Kind) → IsAscii kind → (pairs : Pairs) → Shorter d pairs → ((front : List ℕ) → NarrowBehind kind front pairs) → FitsTo kind d pairs
 fits_to zero kind is_ascii pairs s narrow = tt
@@ -107,7 +111,7 @@ map_same m listed same =
     get-entries m key ∙ sym (value_at-find (entries m) key) ∙ sym (same key) ∙ value_at-find listed key ∙ sym (get-from_entries nat_list_cmp_total listed key))
 
 pub enc_means : (kind : Kind) → IsAscii kind → (m : Map) → Fits kind m → Means kind (enc kind m) m
-unfolding enc size
+unfolding enc enc_of size size_of
 enc_means kind is_ascii m fits =
     let pairs = entries m in
     let d = suc (longest pairs) in

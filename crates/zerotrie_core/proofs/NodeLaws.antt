@@ -6,15 +6,15 @@ use Rattle.zerotrie_core.specs.Maps.{Pairs, after_run}
 use Rattle.zerotrie_core.specs.Texts.{Lists, ListEach, nodes, nodes_behind, NoValueFirst}
 use Rattle.zerotrie_core.specs.Texts.Lists.{nothing, value, literal, span, branch}
 use Rattle.zerotrie_core.specs.Texts.ListEach.{no_edge, edge}
-use Rattle.zerotrie_core.specs.Numbers.{Spells}
-use Rattle.zerotrie_core.proofs.ReaderLemmas.{extender_one}
+use Rattle.zerotrie_core.specs.Numbers.{value_form, SpellsAs}
+use Rattle.zerotrie_core.proofs.NumberLemmas.{extender_one}
 use Rattle.zerotrie_core.proofs.SpanLemmas.{after_is}
 
 chosen_small : (b : Bool) (x y n : ℕ) → x ≤ n → y ≤ n → cond b x y ≤ n
 chosen_small true x y n h k = h
 chosen_small false x y n h k = k
 
-value_twice : {v : ℕ} {spelling : List ℕ} (rest : List ℕ) (s : Spells 16 4 v spelling) → NoValueFirst (spelling ++ rest) → ⊥
+value_twice : {v : ℕ} {spelling : List ℕ} (rest : List ℕ) (s : SpellsAs value_form v spelling) → NoValueFirst (spelling ++ rest) → ⊥
 value_twice rest s none =
     let digit = s.digit_below in
     let one = extender_one s.trail in

@@ -3,9 +3,8 @@ use Rattle.std.proofs.Common.{◌≡◌, ℕ, zero, suc, ◌+◌, ◌-◌, ◌*�
 use Rattle.std.proofs.lemmas.Bool.{cases_lt, lt-ltb, le-ltb}
 use Rattle.std.proofs.Common.{lit≤, lit<}
 use Rattle.std.proofs.Math.Nat.{pow-suc, mul-le-mul_right, div-one, div-div-eq-div-mul, div-lt_iff_lt-mul, one-le-pow}
-use Rattle.zerotrie_core.specs.Numbers.{IsTrail, base_128, latent, extender, Spells, trails_from, trail_bytes, spelled}
-use Rattle.zerotrie_core.proofs.NumberLemmas.{base_128-shift}
-use Rattle.zerotrie_core.proofs.ReaderLemmas.{one_reading}
+use Rattle.zerotrie_core.specs.Numbers.{IsTrail, base_128, latent, extender, Spells, trails_from, trail_bytes, spelled, Form, SpellsAs, spelled_as}
+use Rattle.zerotrie_core.proofs.NumberLemmas.{base_128-shift, extender_one, one_reading}
 
 split_first_digit : (a : ℕ) (ts : List ℕ) → base_128 a ts ≡ base_128 0 ts + a * 128 ^ length ts
 split_first_digit a ts = ap (λ x. base_128 x ts) (sym (zero-add a)) ∙ base_128-shift a 0 ts
@@ -80,9 +79,7 @@ one_spelling L m v a b s t =
 -- No spelling begins another.
 pub no_front : (L m n v w : ℕ) (a b x y : List ℕ) → Spells L m v a → Spells L n w b → a ++ x ≡ b ++ y → (v ≡ w) × (x ≡ y)
 no_front L m n v w a b x y s t e =
-    one_reading L m n v w (m * (2 * L) + extender s.trail * L + s.digit) (s.trail ++ x) x y
-    (record { spelling = a; spells = s; bytes_are = ap (λ z. z ++ x) (sym s.bytes_are) })
-    (record { spelling = b; spells = t; bytes_are = ap (λ z. z ++ x) (sym s.bytes_are) ∙ e })
+    one_reading L m n v w (a ++ x) x y (record { spelling = a; spells = s; bytes_are = refl }) (record { spelling = b; spells = t; bytes_are = e })
 
 -- The metadata bits alone differ.
 pub with_metadata : (L m n v : ℕ) (a : List ℕ) → (s : Spells L m v a) → Spells L n v ((n * (2 * L) + extender s.trail * L + s.digit) ∷ s.trail)
@@ -158,9 +155,9 @@ spells_spelled L m v below form =
       value = rw (whole, count) (omega arith);
     }
 
-extender_small : (trail : List ℕ) → extender trail ≤ 1
-extender_small [] = omega arith
-extender_small (t ∷ ts) = omega arith
+-- bytes that spell a number in a form are its spelling
+pub spelling_is : (form : Form) (v : ℕ) (bytes : List ℕ) → (form.latent_value ≡ 16) ⊎ (form.latent_value ≡ 32) → SpellsAs form v bytes → bytes ≡ spelled_as form v
+spelling_is form v bytes known s = one_spelling form.latent_value form.metadata v bytes _ s (spells_spelled form.latent_value form.metadata v s.below known)
 
 lead_below : (L e d : ℕ) → e ≤ 1 → d < L → e * L + d < 2 * L
 lead_below L zero d h l = omega arith
@@ -176,7 +173,7 @@ pub below_metadata : (L m v : ℕ) (bytes : List ℕ) → Spells L m v bytes
 below_metadata L m v bytes s = (
   extender s.trail * L + s.digit,
   s.trail,
-  lead_below L (extender s.trail) s.digit (extender_small s.trail) s.digit_below,
+  lead_below L (extender s.trail) s.digit (extender_one s.trail) s.digit_below,
   s.bytes_are ∙ ap (λ x. x ∷ s.trail) (lead_again m (extender s.trail) s.digit L),
   λ n. subst (λ x. Spells L n v (x ∷ s.trail)) (lead_again n (extender s.trail) s.digit L) (with_metadata L m n v bytes s),
 )

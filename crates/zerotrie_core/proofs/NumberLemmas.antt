@@ -1,5 +1,5 @@
 -- Lemmas on numbers of variable length.
-use Rattle.std.proofs.Common.{◌≡◌, ℕ, suc, ◌+◌, ◌*◌, ◌/◌, ◌%◌, ◌^◌, ◌<◌, ◌≤◌, List, [], ◌∷◌, ◌++◌, length, refl, sym, ◌∙◌, ap, arith, Option, Some, None, cond, ltb, eqb, Bool, true, false, get_or, drop, ◌⊎◌, inl, inr}
+use Rattle.std.proofs.Common.{◌≡◌, ℕ, suc, ◌+◌, ◌*◌, ◌/◌, ◌%◌, ◌^◌, ◌<◌, ◌≤◌, List, [], ◌∷◌, ◌++◌, length, refl, sym, ◌∙◌, ap, arith, Option, Some, None, cond, ltb, eqb, Bool, true, false, get_or, drop, ◌⊎◌, inl, inr, length-append}
 use Rattle.std.proofs.Math.Nat.{pow-suc, mod-lt}
 use Rattle.std.proofs.lemmas.Nat.{div-add-mod'}
 use Rattle.std.proofs.Math.Seq.{drop-cons}
@@ -100,10 +100,6 @@ digit_of L m e d h = let same : m * (2 * L) + e * L + d ≡ (m * 2 + e) * L + d 
 pub extender_of : (L m e d : ℕ) → d < L → e < 2 → (m * (2 * L) + e * L + d) / L % 2 ≡ e
 extender_of L m e d h two = let same : m * (2 * L) + e * L + d ≡ (m * 2 + e) * L + d = omega arith in rw (same, digits_div (m * 2 + e) h) (digits_mod m two)
 
-extender_below : (ts : List ℕ) → extender ts < 2
-extender_below [] = omega arith
-extender_below (t ∷ ts) = omega arith
-
 -- the number at the front, read
 pub read : ℕ → ℕ → List ℕ → Option (ℕ × List ℕ)
 read L start rest = cond (eqb (start / L % 2) 0) (Some (start % L, rest)) (read_from L (start % L) rest)
@@ -113,7 +109,7 @@ unfolding read
 read_of L m d [] after h is = rw (extender_of L m 0 d h (omega arith), digit_of L m 0 d h) (ap (λ x. Some (x, after)) (omega arith))
 read_of L m d (t ∷ ts) after h is = rw (extender_of L m 1 d h (omega arith), digit_of L m 1 d h) (read_trail L d t ts after is)
 
-cons_parts : (a b : ℕ) (xs ys : List ℕ) → a ∷ xs ≡ b ∷ ys → (a ≡ b) × (xs ≡ ys)
+pub cons_parts : (a b : ℕ) (xs ys : List ℕ) → a ∷ xs ≡ b ∷ ys → (a ≡ b) × (xs ≡ ys)
 cons_parts a b xs ys e = (cc, cc)
 
 pub read_is : (L metadata v start : ℕ) (rest after : List ℕ) → BeginsWith L metadata v (start ∷ rest) after → read L start rest ≡ Some (v, after)
@@ -121,9 +117,6 @@ read_is L metadata v start rest after b =
     let s = b.spells in
     let parts = cons_parts start (metadata * (2 * L) + extender s.trail * L + s.digit) rest (s.trail ++ after) (b.bytes_are ∙ ap (λ x. x ++ after) s.bytes_are) in
     rw (parts.0, parts.1, s.value) (read_of L metadata s.digit s.trail after s.digit_below s.is_trail)
-
-rem_below : (n : ℕ) → n % 2 < 2
-rem_below n = omega arith
 
 not_zero : (n : ℕ) → eqb (n % 2) 0 ≡ false → n % 2 ≡ 1
 not_zero n e = let apart = eqb-false (n % 2) 0 e in omega arith
@@ -198,3 +191,24 @@ ended L start a i rest inside last on same =
     let at_i : drop i rest ≡ get_or rest i 0 ∷ drop (suc i) rest = drop-cons rest i 0 inside in
     let step : read_from L a (get_or rest i 0 ∷ drop (suc i) rest) ≡ Some (128 * a + get_or rest i 0 % 128 + L, drop (suc i) rest) = rw (lt-ltb (get_or rest i 0) 128 last) refl in
     read_on L start rest on ∙ sym same ∙ ap (read_from L a) at_i ∙ step
+
+pub extender_one : (ts : List ℕ) → extender ts ≤ 1
+extender_one [] = omega arith
+extender_one (t ∷ ts) = omega arith
+
+-- no bytes begin with no spelling
+pub some_bytes : (L m v : ℕ) (after : List ℕ) → BeginsWith L m v [] after → ⊥
+some_bytes L m v after b = let is = b.bytes_are ∙ ap (λ x. x ++ after) b.spells.bytes_are in cc
+
+-- a number is read in one way
+pub one_reading : (L m n v w : ℕ) (bytes a b : List ℕ) → BeginsWith L m v bytes a → BeginsWith L n w bytes b → (v ≡ w) × (a ≡ b)
+one_reading L m n v w [] a b x y = absurd (some_bytes L m v a x)
+one_reading L m n v w (start ∷ rest) a b x y =
+    let same = pair_of (v, a) (w, b) (sym (read_is L m v start rest a x) ∙ read_is L n w start rest b y) in
+    (ap (λ p. p.0) same, ap (λ p. p.1) same)
+
+-- what follows a spelling is shorter than the bytes
+pub after_shorter : (L m v : ℕ) (bytes after : List ℕ) → BeginsWith L m v bytes after → length after < length bytes
+after_shorter L m v bytes after b =
+    let is = b.bytes_are ∙ ap (λ x. x ++ after) b.spells.bytes_are in
+    omega (arith, simp length-append at (ap length is))

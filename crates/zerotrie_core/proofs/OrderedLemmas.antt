@@ -1,23 +1,14 @@
 -- The edges in the order of a kind's tables.
-use Rattle.std.proofs.Common.{◌≡◌, ℕ, zero, suc, ◌+◌, ◌<◌, ◌≤◌, List, [], ◌∷◌, length, refl, sym, ◌∙◌, ap, subst, arith, inl, inr, map, Bool, true, false, cond, eqb, ltb, sum}
+use Rattle.std.proofs.Common.{◌≡◌, ℕ, zero, suc, ◌+◌, ◌<◌, ◌≤◌, List, [], ◌∷◌, length, refl, sym, ◌∙◌, ap, subst, arith, inl, inr, map, Bool, true, false, cond, eqb, ltb}
 use Rattle.std.specs.Prelude.{◌||◌, filter}
 use Rattle.std.specs.List.{range_with_len}
 use Rattle.std.proofs.lemmas.Bool.{eq-eqb, eqb-true, ne_eqb, lt-ltb, le-ltb, cases_lt, cases_eq, or_cases}
 use Rattle.std.proofs.lemmas.List.Sums.{sum_by-cons}
 use Rattle.zerotrie_core.specs.Kind.{Kind, simple_ascii, ignore_case, perfect_hash, extended_capacity, fold_byte, ordered, sorted_by, put_by}
 use Rattle.zerotrie_core.specs.Maps.{Pairs, begins_some, edges}
+use Rattle.zerotrie_core.specs.Branches.{total}
 use Rattle.zerotrie_core.proofs.EdgeLemmas.{Rise, Rise-lower, member, member-below, member_head, member_later}
-use Rattle.zerotrie_core.proofs.ReaderLemmas.{Rises, AllAbove, AllAbove-lower}
-
--- each has the property
-abbrev pub Each : (ℕ → Type 0) → List ℕ → Type 0
-Each P [] = Unit {0}
-Each P (e ∷ es) = P e × Each P es
-
--- no two have one fold
-abbrev pub Apart : Kind → List ℕ → Type 0
-Apart kind [] = Unit {0}
-Apart kind (e ∷ es) = Each (λ f. fold_byte kind e ≡ fold_byte kind f → ⊥) es × Apart kind es
+use Rattle.zerotrie_core.proofs.TableLemmas.{Each, NoneLike, Distinct, Rises, AllAbove, AllAbove-lower}
 
 swap_or : (x y z : Bool) → (x || (y || z)) ≡ (y || (x || z))
 swap_or true true z = refl
@@ -59,26 +50,26 @@ length-ordered ignore_case es = length-sorted_by (fold_byte ignore_case) es
 length-ordered perfect_hash es = refl
 length-ordered extended_capacity es = refl
 
-sum-cons : (x : ℕ) (xs : List ℕ) → sum (x ∷ xs) ≡ x + sum xs
-sum-cons x xs = sum_by-cons (λ y. y) x xs
+total-cons : (x : ℕ) (xs : List ℕ) → total (x ∷ xs) ≡ x + total xs
+total-cons x xs = sum_by-cons (λ y. y) x xs
 
-sum-put_by : (fold f : ℕ → ℕ) (a : ℕ) (es : List ℕ) → sum (map f (put_by fold a es)) ≡ f a + sum (map f es)
-sum-put_by fold f a [] = sum-cons (f a) []
-sum-put_by fold f a (c ∷ es) = both (λ x. sum (map f x) ≡ f a + sum (map f (c ∷ es))) (ltb (fold c) (fold a)) (c ∷ put_by fold a es) (a ∷ c ∷ es)
-    (let first = sum-cons (f c) (map f (put_by fold a es)) in let rest = sum-put_by fold f a es in let last = sum-cons (f c) (map f es) in omega arith)
-    (sum-cons (f a) (map f (c ∷ es)))
+total-put_by : (fold f : ℕ → ℕ) (a : ℕ) (es : List ℕ) → total (map f (put_by fold a es)) ≡ f a + total (map f es)
+total-put_by fold f a [] = total-cons (f a) []
+total-put_by fold f a (c ∷ es) = both (λ x. total (map f x) ≡ f a + total (map f (c ∷ es))) (ltb (fold c) (fold a)) (c ∷ put_by fold a es) (a ∷ c ∷ es)
+    (let first = total-cons (f c) (map f (put_by fold a es)) in let rest = total-put_by fold f a es in let last = total-cons (f c) (map f es) in omega arith)
+    (total-cons (f a) (map f (c ∷ es)))
 
-sum-sorted_by : (fold f : ℕ → ℕ) (es : List ℕ) → sum (map f (sorted_by fold es)) ≡ sum (map f es)
-sum-sorted_by fold f [] = refl
-sum-sorted_by fold f (e ∷ es) =
-    sum-put_by fold f e (sorted_by fold es) ∙ ap (λ n. f e + n) (sum-sorted_by fold f es) ∙ sym (sum-cons (f e) (map f es))
+total-sorted_by : (fold f : ℕ → ℕ) (es : List ℕ) → total (map f (sorted_by fold es)) ≡ total (map f es)
+total-sorted_by fold f [] = refl
+total-sorted_by fold f (e ∷ es) =
+    total-put_by fold f e (sorted_by fold es) ∙ ap (λ n. f e + n) (total-sorted_by fold f es) ∙ sym (total-cons (f e) (map f es))
 
 -- sums over the edges stay
-pub sum-ordered : (kind : Kind) (f : ℕ → ℕ) (es : List ℕ) → sum (map f (ordered kind es)) ≡ sum (map f es)
-sum-ordered simple_ascii f es = refl
-sum-ordered ignore_case f es = sum-sorted_by (fold_byte ignore_case) f es
-sum-ordered perfect_hash f es = refl
-sum-ordered extended_capacity f es = refl
+pub total-ordered : (kind : Kind) (f : ℕ → ℕ) (es : List ℕ) → total (map f (ordered kind es)) ≡ total (map f es)
+total-ordered simple_ascii f es = refl
+total-ordered ignore_case f es = total-sorted_by (fold_byte ignore_case) f es
+total-ordered perfect_hash f es = refl
+total-ordered extended_capacity f es = refl
 
 -- what is so of each edge stays
 pub Each-put_by : (P : ℕ → Type 0) (fold : ℕ → ℕ) (a : ℕ) (es : List ℕ) → P a → Each P es → Each P (put_by fold a es)
@@ -111,7 +102,7 @@ above_put : (kind : Kind) (x a : ℕ) (es : List ℕ) → x < fold_byte kind a �
 above_put kind x a [] h up = (h, tt)
 above_put kind x a (c ∷ es) h up = both (AllAbove kind x) (ltb (fold_byte kind c) (fold_byte kind a)) (c ∷ put_by (fold_byte kind) a es) (a ∷ c ∷ es) (up.0, above_put kind x a es h up.1) (h, up)
 
-rises_put : (kind : Kind) (a : ℕ) (es : List ℕ) → Each (λ f. fold_byte kind a ≡ fold_byte kind f → ⊥) es → Rises kind es → Rises kind (put_by (fold_byte kind) a es)
+rises_put : (kind : Kind) (a : ℕ) (es : List ℕ) → NoneLike kind a es → Rises kind es → Rises kind (put_by (fold_byte kind) a es)
 rises_put kind a [] apart up = (tt, tt)
 rises_put kind a (c ∷ es) apart up = elim (cases_lt (fold_byte kind c) (fold_byte kind a)) [
   | inl less ↦ rw (lt-ltb (fold_byte kind c) (fold_byte kind a) less) (above_put kind (fold_byte kind c) a es less up.0, rises_put kind a es apart.1 up.1)
@@ -124,7 +115,7 @@ rises_put kind a (c ∷ es) apart up = elim (cases_lt (fold_byte kind c) (fold_b
     above_or : (a b : ℕ) → a ≤ b → (a ≡ b → ⊥) → a < b
     above_or a b le ne = omega arith
 
-rises_sorted : (kind : Kind) (es : List ℕ) → Apart kind es → Rises kind (sorted_by (fold_byte kind) es)
+rises_sorted : (kind : Kind) (es : List ℕ) → Distinct kind es → Rises kind (sorted_by (fold_byte kind) es)
 rises_sorted kind [] apart = tt
 rises_sorted kind (e ∷ es) apart = rises_put kind e (sorted_by (fold_byte kind) es) (Each-sorted_by _ (fold_byte kind) es apart.0) (rises_sorted kind es apart.1)
 
@@ -138,7 +129,7 @@ rise_rises kind keeps low high [] r = tt
 rise_rises kind keeps low high (e ∷ es) r = (let k = keeps e in rise_above kind keeps (fold_byte kind e) (suc e) high es (omega arith) r.2, rise_rises kind keeps (suc e) high es r.2)
 
 -- they rise in the order of the kind
-pub rises_ordered : (kind : Kind) (low high : ℕ) (es : List ℕ) → Rise low high es → Apart kind es → Rises kind (ordered kind es)
+pub rises_ordered : (kind : Kind) (low high : ℕ) (es : List ℕ) → Rise low high es → Distinct kind es → Rises kind (ordered kind es)
 rises_ordered simple_ascii low high es rise apart = rise_rises simple_ascii (λ b. refl) low high es rise
 rises_ordered ignore_case low high es rise apart = rises_sorted ignore_case es apart
 rises_ordered perfect_hash low high es rise apart = rise_rises perfect_hash (λ b. refl) low high es rise
@@ -212,7 +203,7 @@ member_from low high b (e ∷ es) r m = elim (or_cases (eqb e b) (member b es) m
 ]
 
 -- edges that rise by byte are apart, if two of one fold are one
-pub rise_apart : (kind : Kind) (low high : ℕ) (es : List ℕ) → Rise low high es → ((b c : ℕ) → member b es ≡ true → member c es ≡ true → fold_byte kind b ≡ fold_byte kind c → b ≡ c) → Apart kind es
+pub rise_apart : (kind : Kind) (low high : ℕ) (es : List ℕ) → Rise low high es → ((b c : ℕ) → member b es ≡ true → member c es ≡ true → fold_byte kind b ≡ fold_byte kind c → b ≡ c) → Distinct kind es
 rise_apart kind low high [] r one = tt
 rise_apart kind low high (e ∷ es) r one = (
   Each-member _ es (λ f m same. let h = member_from (suc e) high f es r.2 m in let is = one e f (member_head e es) (member_later f e es m) same in omega arith),

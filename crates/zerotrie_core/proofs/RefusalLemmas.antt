@@ -1,5 +1,5 @@
 -- Why the plain encoder refuses items, and what its texts mean.
-use Rattle.std.proofs.Common.{◌≡◌, ◌≢◌, ℕ, zero, suc, ◌^◌, ◌<◌, ◌≤◌, List, [], ◌∷◌, length, refl, sym, subst, arith, map, Bool, true, false, inl, inr, ◌⊎◌, Less}
+use Rattle.std.proofs.Common.{◌≡◌, ℕ, zero, suc, ◌^◌, ◌<◌, ◌≤◌, List, [], ◌∷◌, length, refl, sym, subst, arith, map, Bool, true, false, inl, inr, ◌⊎◌, Less}
 use Rattle.std.specs.Prelude.{All, Any, nat_lt, ◌&&◌}
 use Rattle.std.specs.List.{list_all}
 use Rattle.std.specs.Ordering.{nat_cmp}
@@ -13,10 +13,12 @@ use Rattle.zerotrie_core.specs.Items.{Items, pairs_of}
 use Rattle.zerotrie_core.specs.Texts.{Lists, Means}
 use Rattle.zerotrie_core.specs.Fits.{OverflowsAt, ExceedsCapacity}
 use Rattle.zerotrie_core.specs.Causes.{Cause}
-use Rattle.zerotrie_core.specs.Encoding.{pairs_from, AsciiKey, AsciiKeys, Deep, TooWide, IsRefusal, Writes}
+use Rattle.zerotrie_core.specs.Built.{IsBuilt}
+use Rattle.zerotrie_core.specs.Routes.{ascending, IsRefusal}
+use Rattle.zerotrie_core.specs.plain.Encoding.{pairs_from, AsciiKey, AsciiKeys, Deep, TooWide, CannotWrite, Writes}
 use Rattle.zerotrie_base.specs.declared.error.ZeroTrieBuildError.{ZeroTrieBuildError}
-use Rattle.zerotrie_base.specs.declared.error.ZeroTrieBuildError.TheVariants.{OutOfMemory}
-use Rattle.zerotrie_core.proofs.OrderLaws.{entries-map_of}
+use Rattle.zerotrie_core.proofs.OrderLaws.{entries-map_of, means_enc}
+use Rattle.zerotrie_core.proofs.FitsLaws.{fits_meant}
 
 pub deep_none : (items : Items) → Deep 0 items
 deep_none [] = tt
@@ -88,14 +90,20 @@ ascends_apart (e ∷ pairs) up again =
 too_wide_exceeds : (pairs : Pairs) → Ascends pairs → TooWide pairs → ExceedsCapacity simple_ascii (map_of pairs)
 too_wide_exceeds pairs up w = inr (w.0, subst (OverflowsAt simple_ascii w.0) (sym (entries-map_of pairs up)) w.1)
 
--- a refusal of pairs that ascend has its cause
-pub refusal_cause : (pairs : Pairs) (e : ZeroTrieBuildError) → Ascends pairs → IsRefusal pairs e → e ≢ OutOfMemory → Cause simple_ascii pairs e
-refusal_cause pairs e up r not_memory =
+-- what the encoder can't write is refused
+pub refusal_cause : (pairs : Pairs) (e : ZeroTrieBuildError) → Ascends pairs → CannotWrite pairs e → IsRefusal ascending simple_ascii pairs e
+refusal_cause pairs e up r =
     elim r [
-      | inl memory ↦ absurd (not_memory memory)
-      | inr wide ↦ subst (Cause simple_ascii pairs) (sym wide.0) (ascends_apart pairs up, too_wide_exceeds pairs up wide.1)
+      | inl memory ↦ inl memory
+      | inr wide ↦ inr (λ twice. absurd (cc), subst (Cause simple_ascii pairs) (sym wide.0) (ascends_apart pairs up, too_wide_exceeds pairs up wide.1))
     ]
 
--- what was written to no bytes means the map of the pairs
-pub written_means : (text : List ℕ) (pairs : Pairs) → length text < 2 ^ 64 → Writes [] text pairs → Means simple_ascii text (map_of pairs)
-written_means text pairs short w = record { short = short; pairs = pairs; lists = subst (λ x. Lists simple_ascii x pairs) (sym w.is) w.lists; is = refl }
+-- what was written to no bytes is built of the pairs
+pub written_built : (text : List ℕ) (pairs : Pairs) → length text < 2 ^ 64 → Writes [] text pairs → IsBuilt simple_ascii pairs text
+written_built text pairs short w =
+    let means : Means simple_ascii text (map_of pairs) = record { short = short; pairs = pairs; lists = subst (λ x. Lists simple_ascii x pairs) (sym w.is) w.lists; is = refl } in
+    record {
+      fits = fits_meant simple_ascii tt text (map_of pairs) means;
+      text = λ ascii. means_enc simple_ascii ascii text (map_of pairs) means;
+      means = means;
+    }

@@ -1,5 +1,5 @@
 -- Lists of pairs that answer alike for each exact key.
-use Rattle.std.proofs.Common.{◌≡◌, ℕ, zero, suc, ◌+◌, ◌≤◌, List, [], ◌∷◌, ◌++◌, length, refl, sym, ◌∙◌, ap, arith, map, Bool, true, false, cond, eqb, Option, Some, None, sum, inl, inr, ◌⊎◌}
+use Rattle.std.proofs.Common.{◌≡◌, ℕ, zero, suc, ◌+◌, ◌≤◌, List, [], ◌∷◌, ◌++◌, length, refl, sym, ◌∙◌, ap, arith, map, Bool, true, false, cond, eqb, Option, Some, None, inl, inr, ◌⊎◌}
 use Rattle.std.specs.Prelude.{◌||◌, ◌&&◌, filter}
 use Rattle.std.specs.List.{range_with_len}
 use Rattle.std.specs.FinMap.{entries, find, get-from_entries, get-entries, same_map, slice_cmp-IsAntisymmetric, nat_cmp-IsAntisymmetric}
@@ -8,9 +8,10 @@ use Rattle.std.specs.Cmp.Lexicographic.{slice_cmp, nat_list_cmp_total, lists_tie
 use Rattle.std.specs.Ordering.{nat_cmp, eq_by_cmp}
 use Rattle.std.proofs.Math.Path.{fun_ext}
 use Rattle.std.proofs.lemmas.Bool.{eqb-true, eq-eqb}
-use Rattle.zerotrie_core.specs.Kind.{Kind, simple_ascii, ignore_case, ordered}
+use Rattle.zerotrie_core.specs.Kind.{Kind, simple_ascii, ordered}
 use Rattle.zerotrie_core.specs.Maps.{Pairs, map_of, value_at, same_key, begins_some, edges, residual, behind_all, longest}
-use Rattle.zerotrie_core.specs.Canonical.{enc_to, size_to, node, node_size, value_node}
+use Rattle.zerotrie_core.specs.Branches.{total}
+use Rattle.zerotrie_core.specs.Canonical.{enc_to, enc_of, size_to, size_of, rest_size, branch_size, node, value_node}
 use Rattle.zerotrie_core.specs.Fits.{targets_size}
 
 abbrev pub Same : Pairs → Pairs → Type 0
@@ -176,26 +177,30 @@ same-enc (suc d) kind p q s =
     ∙ ap (λ ts. value_node (value_at kind q []) ++ node es ts) (map_agree (λ b. enc_to d kind (residual b p)) (λ b. enc_to d kind (residual b q)) es (λ b. same-enc d kind (residual b p) (residual b q) (same-residual b p q s)))
     ∙ ap (λ fs. value_node (value_at kind q []) ++ node (ordered kind fs) (map (λ b. enc_to d kind (residual b q)) (ordered kind fs))) (same-edges p q s)
 
--- the size by the sizes of the targets
-pub size_step : (d : ℕ) (kind : Kind) (pairs : Pairs) (sizes : List ℕ) → map (λ b. size_to d kind (residual b pairs)) (edges pairs) ≡ sizes
-    → size_to (suc d) kind pairs ≡ length (value_node (value_at kind pairs [])) + node_size kind sizes + sum sizes
-size_step d simple_ascii pairs sizes e = ap (λ s. length (value_node (value_at simple_ascii pairs [])) + node_size simple_ascii s + sum s) e
-size_step d ignore_case pairs sizes e = ap (λ s. length (value_node (value_at ignore_case pairs [])) + node_size ignore_case s + sum s) e
+pub same-enc_of : (kind : Kind) (p q : Pairs) → Same p q → enc_of kind p ≡ enc_of kind q
+unfolding enc_of
+same-enc_of kind p q s = ap (λ n. enc_to (suc n) kind p) (same-longest p q s) ∙ same-enc (suc (longest q)) kind p q s
+
+-- sizes go by those of the residuals
+pub rest_agree : (kind : Kind) (f g : Pairs → ℕ) (p q : Pairs) → ((b : ℕ) → f (residual b p) ≡ g (residual b q)) → (es : List ℕ) → rest_size kind f p es ≡ rest_size kind g q es
+rest_agree kind f g p q same [] = refl
+rest_agree kind f g p q same (b ∷ []) = ap (λ n. 1 + n) (same b)
+rest_agree kind f g p q same (b ∷ c ∷ more) = ap (λ lengths. branch_size kind lengths + total lengths) (map_agree (λ e. f (residual e p)) (λ e. g (residual e q)) (b ∷ c ∷ more) same)
 
 pub same-size : (d : ℕ) (kind : Kind) (p q : Pairs) → Same p q → size_to d kind p ≡ size_to d kind q
 same-size zero kind p q s = refl
 same-size (suc d) kind p q s =
-    let f = λ (b : ℕ). size_to d kind (residual b p) in
-    let g = λ (b : ℕ). size_to d kind (residual b q) in
-    let sizes = map g (edges q) in
-    size_step d kind p sizes (map_agree f g (edges p) (λ b. same-size d kind (residual b p) (residual b q) (same-residual b p q s)) ∙ ap (map g) (same-edges p q s))
-    ∙ ap (λ v. length (value_node v) + node_size kind sizes + sum sizes) (same-value kind p q s)
-    ∙ sym (size_step d kind q sizes refl)
+    ap (λ v. length (value_node v) + rest_size kind (size_to d kind) p (edges p)) (same-value kind p q s)
+    ∙ ap (λ n. length (value_node (value_at kind q [])) + n)
+    (rest_agree kind (size_to d kind) (size_to d kind) p q (λ b. same-size d kind (residual b p) (residual b q) (same-residual b p q s)) (edges p)
+    ∙ ap (rest_size kind (size_to d kind) q) (same-edges p q s))
+
+pub same-size_of : (kind : Kind) (p q : Pairs) → Same p q → size_of kind p ≡ size_of kind q
+unfolding size_of
+same-size_of kind p q s = ap (λ n. size_to (suc n) kind p) (same-longest p q s) ∙ same-size (suc (longest q)) kind p q s
 
 pub same-targets : (kind : Kind) (p q : Pairs) → Same p q → targets_size kind p ≡ targets_size kind q
 unfolding targets_size
 same-targets kind p q s =
-    ap sum (map_agree (λ b. size_to (suc (longest (residual b p))) kind (residual b p)) (λ b. size_to (suc (longest (residual b q))) kind (residual b q)) (edges p)
-    (λ b. let t = same-residual b p q s in
-    ap (λ n. size_to (suc n) kind (residual b p)) (same-longest (residual b p) (residual b q) t) ∙ same-size (suc (longest (residual b q))) kind (residual b p) (residual b q) t))
-    ∙ ap (λ es. sum (map (λ b. size_to (suc (longest (residual b q))) kind (residual b q)) es)) (same-edges p q s)
+    ap total (map_agree (λ b. size_of kind (residual b p)) (λ b. size_of kind (residual b q)) (edges p) (λ b. same-size_of kind (residual b p) (residual b q) (same-residual b p q s)))
+    ∙ ap (λ es. total (map (λ b. size_of kind (residual b q)) es)) (same-edges p q s)

@@ -5,12 +5,11 @@ use Rattle.std.specs.Option.{option_map_or}
 use Rattle.std.specs.List.{AllByRecursion}
 use Rattle.std.proofs.lemmas.Bool.{eq-eqb, ne_eqb, cases_eq, le-leb, lt-leb}
 use Rattle.zerotrie_core.specs.Kind.{Kind, simple_ascii, fold_byte, same_byte}
-use Rattle.zerotrie_core.specs.Numbers.{Spells, extender}
 use Rattle.zerotrie_core.specs.Maps.{Pairs, with_front, with_run, after_run, value_at, begins_some, edges, residual, behind_all, longest, high_edge, unless_ends, span_to, span_of}
 use Rattle.zerotrie_core.specs.Texts.{AreHigh, NoValueFirst, NoSpanFirst}
 use Rattle.zerotrie_core.proofs.EdgeLemmas.{filter-range, begins_some-front, residual-front, residual-other}
 use Rattle.zerotrie_core.proofs.KindLemmas.{one_fold, two_folds}
-use Rattle.zerotrie_core.proofs.ReaderLemmas.{value_at-front, value_at-other, value_at-no_key, extender_one}
+use Rattle.zerotrie_core.proofs.ValueLemmas.{value_at-front, value_at-other, value_at-no_key}
 
 pub with_run-none : (pairs : Pairs) → with_run [] pairs ≡ pairs
 with_run-none [] = refl
@@ -83,15 +82,6 @@ after_is (b ∷ run) (c ∷ key) after e = elim (cases_eq b c) [
   | inl same ↦ ap (λ x. x ∷ key) (sym same) ∙ ap (λ k. b ∷ k) (after_is run key after (rw (eq-eqb b c same) at e))
   | inr other ↦ absurd (nothing_some (after_run (b ∷ run) (c ∷ key)) after (rw (ne_eqb b c other) refl) e)
 ]
-
--- the lead of a span has the bits 101
-pub span_lead : (n lead : ℕ) (spelling rest after : List ℕ) → Spells 16 5 n spelling → spelling ++ after ≡ lead ∷ rest → (160 ≤ lead) × (lead < 192)
-span_lead n lead spelling rest after s e =
-    let one = extender_one s.trail in
-    let digit = s.digit_below in
-    let whole : (5 * (2 * 16) + extender s.trail * 16 + s.digit) ∷ (s.trail ++ after) ≡ lead ∷ rest = sym (ap (λ x. x ++ after) s.bytes_are) ∙ e in
-    let is : 5 * (2 * 16) + extender s.trail * 16 + s.digit ≡ lead = cc in
-    (omega arith, omega arith)
 
 longest-front : (b : ℕ) (pairs : Pairs) → (pairs ≡ [] → ⊥) → longest (with_front b pairs) ≡ suc (longest pairs)
 longest-front b [] some = absurd (some refl)

@@ -1,138 +1,141 @@
--- The head and the search table of a branch.
-use Rattle.std.proofs.Common.{◌≡◌, ℕ, zero, suc, ◌+◌, ◌-◌, ◌*◌, ◌/◌, ◌%◌, ◌<◌, ◌≤◌, List, [], ◌∷◌, ◌++◌, length, refl, sym, ◌∙◌, ap, subst, arith, get_or, take, drop, length-append, Option, Some, None}
-use Rattle.std.specs.List.{concat}
-use Rattle.std.specs.Borrow.{Bor}
-use Rattle.std.specs.Option.{option_map, IsSomeAnd}
-use Rattle.std.proofs.lemmas.Bool.{cases_lt}
-use Rattle.std.proofs.Common.{inl, inr}
-use Rattle.std.proofs.lemmas.List.{take_at, drop_at}
-use Rattle.zerotrie_core.specs.Kind.{Kind, IsAscii, fold_byte}
-use Rattle.zerotrie_core.specs.Numbers.{BeginsWith}
-use Rattle.zerotrie_core.specs.Branches.{IsBranch, IsTable, blocks, offsets}
-use Rattle.zerotrie_core.specs.Branches.IsTable.{sorted}
-use Rattle.zerotrie_core.specs.Reading.{target_of, IsTargets, AlwaysRises}
-use Rattle.zerotrie_core.proofs.ReaderLemmas.{one_reading, Rises, AllAbove, table_rises}
-use Rattle.zerotrie_core.proofs.KindLemmas.{one_fold, two_folds, greatest_width_is}
+-- The table of a branch: its edges have distinct folds, and where it is sorted they rise.
+use Rattle.std.proofs.Common.{◌≡◌, ℕ, zero, suc, ◌+◌, ◌%◌, ◌<◌, ◌≤◌, List, [], ◌∷◌, ◌++◌, length, refl, sym, ◌∙◌, ap, subst, arith, get_or, map, Bool, true, false, cond, drop, length-append}
+use Rattle.std.specs.List.{slice_index}
+use Rattle.std.proofs.lemmas.List.{drop_at}
+use Rattle.std.specs.List.Sorted.{IsStrictlyIncreasing}
+use Rattle.std.proofs.lemmas.Bool.{ne_eqb}
+use Rattle.zerotrie_core.specs.Kind.{Kind, IsAscii, fold_byte, is_hashed}
+use Rattle.zerotrie_core.specs.Branches.{IsTable, table_size}
+use Rattle.zerotrie_core.specs.Branches.IsTable.{sorted, hashed}
+use Rattle.zerotrie_base.specs.Hashes.{place_of}
+use Rattle.zerotrie_core.specs.reader.Reading.{AlwaysRises}
+use Rattle.zerotrie_core.proofs.KindLemmas.{ascii_sorted, hashed_spans, spans_fold}
+use Rattle.zerotrie_core.proofs.EdgeLemmas.{member}
 
-pub above_at : (kind : Kind) (x i : ℕ) (edges : List ℕ) → AllAbove kind x edges → i < length edges → x < fold_byte kind (get_or edges i 0)
-above_at kind x i [] a h = absurd (omega arith)
-above_at kind x zero (e ∷ edges) a h = a.0
-above_at kind x (suc i) (e ∷ edges) a h = above_at kind x i edges a.1 (omega arith)
+-- each has the property
+abbrev pub Each : (ℕ → Type 0) → List ℕ → Type 0
+Each P [] = Unit {0}
+Each P (e ∷ es) = P e × Each P es
 
-rises_at : (kind : Kind) (edges : List ℕ) → Rises kind edges → AlwaysRises kind edges
-rises_at kind [] r i j le h = absurd (omega arith)
-rises_at kind (e ∷ edges) r i zero le h = absurd (omega arith)
-rises_at kind (e ∷ edges) r zero (suc j) le h = above_at kind (fold_byte kind e) j edges r.0 (omega arith)
-rises_at kind (e ∷ edges) r (suc i) (suc j) le h = rises_at kind edges r.1 i j (omega arith) (omega arith)
+pub Each-at : (P : ℕ → Type 0) (es : List ℕ) → ((i : ℕ) → i < length es → P (get_or es i 0)) → Each P es
+Each-at P [] h = tt
+Each-at P (e ∷ es) h = (h 0 (omega arith), Each-at P es (λ i l. h (suc i) (omega arith)))
 
--- folds that rise, rise by one at least
-pub rises_by : (kind : Kind) (xs : List ℕ) → AlwaysRises kind xs → (i d : ℕ) → i + d < length xs → fold_byte kind (get_or xs i 0) + d ≤ fold_byte kind (get_or xs (i + d) 0)
-rises_by kind xs up i zero h = let e : i + 0 ≡ i = omega arith in rw e (omega arith)
-rises_by kind xs up i (suc d) h =
-    let e : i + suc d ≡ suc (i + d) = omega arith in
-    let below = rises_by kind xs up i d (omega arith) in
-    let next = up (i + d) (suc (i + d)) (omega arith) (omega arith) in
-    rw e (omega arith)
+pub at-Each : (P : ℕ → Type 0) (es : List ℕ) → Each P es → (i : ℕ) → i < length es → P (get_or es i 0)
+at-Each P [] each i h = absurd (omega arith)
+at-Each P (e ∷ es) each zero h = each.0
+at-Each P (e ∷ es) each (suc i) h = at-Each P es each.1 i (omega arith)
 
--- where a fold can stand between the first and the last
-pub bounded_place : (kind : Kind) (xs : List ℕ) (b k end : ℕ) → AlwaysRises kind xs → end + 1 ≡ length xs → k < length xs → fold_byte kind (get_or xs k 0) ≡ b
-    → (k + fold_byte kind (get_or xs 0 0) ≤ b) × (b + (end - k) ≤ fold_byte kind (get_or xs end 0))
-bounded_place kind xs b k end up n h is =
-    let low = rises_by kind xs up 0 k (omega arith) in
-    let high = rises_by kind xs up k (end - k) (omega arith) in
-    let z : 0 + k ≡ k = omega arith in
-    let e : k + (end - k) ≡ end = omega arith in
-    let low' = subst (λ i. fold_byte kind (get_or xs 0 0) + k ≤ fold_byte kind (get_or xs i 0)) z low in
-    let high' = subst (λ i. fold_byte kind (get_or xs k 0) + (end - k) ≤ fold_byte kind (get_or xs i 0)) e high in
-    (omega arith, omega arith)
+Each-more : (P Q : ℕ → Type 0) (es : List ℕ) → ((e : ℕ) → P e → Q e) → Each P es → Each Q es
+Each-more P Q [] f each = tt
+Each-more P Q (e ∷ es) f each = (f e each.0, Each-more P Q es f each.1)
 
--- the middle of a table bounds the place of a fold
-pub below_middle : (kind : Kind) (xs : List ℕ) (b mid k : ℕ) → AlwaysRises kind xs → k < length xs → fold_byte kind (get_or xs k 0) ≡ b → b < fold_byte kind (get_or xs mid 0) → k < mid
-below_middle kind xs b mid k up h is above = elim (cases_lt k mid) [
-  | inl less ↦ less
-  | inr more ↦ elim (cases_lt mid k) [
-    | inl later ↦ let f = up mid k later h in absurd (omega arith)
-    | inr same ↦ let e : k ≡ mid = omega arith in let f = ap (λ i. fold_byte kind (get_or xs i 0)) e in absurd (omega arith)
-  ]
-]
+-- no edge has the fold of c
+abbrev pub NoneLike : Kind → ℕ → List ℕ → Type 0
+NoneLike kind c es = Each (λ e. fold_byte kind c ≡ fold_byte kind e → ⊥) es
 
-pub above_middle : (kind : Kind) (xs : List ℕ) (b mid k : ℕ) → AlwaysRises kind xs → mid < length xs → fold_byte kind (get_or xs k 0) ≡ b → fold_byte kind (get_or xs mid 0) ≤ b → mid ≤ k
-above_middle kind xs b mid k up h is low = elim (cases_lt k mid) [
-  | inl less ↦ let f = up k mid less h in absurd (omega arith)
-  | inr more ↦ more
-]
+-- no two edges have one fold
+abbrev pub Distinct : Kind → List ℕ → Type 0
+Distinct kind [] = Unit {0}
+Distinct kind (e ∷ es) = NoneLike kind e es × Distinct kind es
 
-found_target : (kind : Kind) (c i : ℕ) (edges : List ℕ) (targets : List (List ℕ)) → Rises kind edges → length targets ≡ length edges → i < length edges → fold_byte kind (get_or edges i 0) ≡ fold_byte kind c
-    → target_of kind c edges targets ≡ Some (get_or targets i [])
-found_target kind c i [] targets r n h is = absurd (omega arith)
-found_target kind c i (e ∷ edges) [] r n h is = absurd (omega arith)
-found_target kind c zero (e ∷ edges) (f ∷ targets) r n h is = rw (one_fold kind e c is) refl
-found_target kind c (suc i) (e ∷ edges) (f ∷ targets) r n h is =
-    let up = above_at kind (fold_byte kind e) i edges r.0 (omega arith) in
-    rw (two_folds kind e c (λ same. omega arith)) (found_target kind c i edges targets r.1 (omega arith) (omega arith) is)
+-- an edge that none is like is none of them
+pub none_member : (kind : Kind) (c : ℕ) (es : List ℕ) → NoneLike kind c es → member c es ≡ false
+none_member kind c [] none = refl
+none_member kind c (e ∷ es) none = rw (ne_eqb e c (λ s. none.0 (ap (fold_byte kind) (sym s)))) (none_member kind c es none.1)
 
-missed_target : (kind : Kind) (c : ℕ) (edges : List ℕ) (targets : List (List ℕ)) → ((i : ℕ) → i < length edges → fold_byte kind (get_or edges i 0) ≡ fold_byte kind c → ⊥) → target_of kind c edges targets ≡ None
-missed_target kind c [] targets none = refl
-missed_target kind c (e ∷ edges) [] none = refl
-missed_target kind c (e ∷ edges) (f ∷ targets) none =
-    rw (two_folds kind e c (none 0 (omega arith))) (missed_target kind c edges targets (λ i h. none (suc i) (omega arith)))
+-- each edge has a greater fold than x
+abbrev pub AllAbove : Kind → ℕ → List ℕ → Type 0
+AllAbove kind x es = Each (λ e. x < fold_byte kind e) es
 
-pub table_is_edges : {kind : Kind} {edges table : List ℕ} → IsTable kind edges table → table ≡ edges
-table_is_edges (sorted h up) = refl
+-- the folds of the edges rise
+abbrev pub Rises : Kind → List ℕ → Type 0
+Rises kind [] = Unit {0}
+Rises kind (e ∷ es) = AllAbove kind (fold_byte kind e) es × Rises kind es
 
--- what the reader has read of a branch
-pub record Read {kind : Kind} {edges : List ℕ} {targets : List (List ℕ)} {bytes : List ℕ} (b : IsBranch kind edges targets bytes) (head : ℕ) (body : List ℕ) : Type 0 where
-  pub width : head / 256 ≡ b.width
-  pub count : head % 256 ≡ length edges % 256
-  pub body_is : body ≡ edges ++ (blocks (b.width + 1) (offsets targets) ++ concat targets)
+pub AllAbove-lower : (kind : Kind) (x y : ℕ) (es : List ℕ) → x < y → AllAbove kind y es → AllAbove kind x es
+AllAbove-lower kind x y es h above = Each-more _ _ es (λ e a. omega arith) above
 
-parts_of : (w n : ℕ) → ((256 * w + n % 256) / 256 ≡ w) × ((256 * w + n % 256) % 256 ≡ n % 256)
-parts_of w n = (omega arith, omega arith)
+-- folds that rise are distinct
+pub rises_distinct : (kind : Kind) (es : List ℕ) → Rises kind es → Distinct kind es
+rises_distinct kind [] up = tt
+rises_distinct kind (e ∷ es) up = (Each-more _ _ es (λ f a same. omega arith) up.0, rises_distinct kind es up.1)
 
-pub branch_begins : {kind : Kind} {edges : List ℕ} {targets : List (List ℕ)} {bytes : List ℕ} (b : IsBranch kind edges targets bytes) → BeginsWith 32 3 (256 * b.width + length edges % 256) bytes (b.table ++ (blocks (b.width + 1) (offsets targets) ++ concat targets))
-branch_begins b = record { spelling = b.head; spells = b.is_head; bytes_are = b.bytes_are }
+pub rises_at : (kind : Kind) (es : List ℕ) → Rises kind es → AlwaysRises kind es
+rises_at kind [] up i j le h = absurd (omega arith)
+rises_at kind (e ∷ es) up i zero le h = absurd (omega arith)
+rises_at kind (e ∷ es) up zero (suc j) le h = at-Each (λ f. fold_byte kind e < fold_byte kind f) es up.0 j (omega arith)
+rises_at kind (e ∷ es) up (suc i) (suc j) le h = rises_at kind es up.1 i j (omega arith) (omega arith)
 
-pub read_branch : {kind : Kind} {edges : List ℕ} {targets : List (List ℕ)} (lead m head : ℕ) (rest body : List ℕ) (b : IsBranch kind edges targets (lead ∷ rest)) → BeginsWith 32 m head (lead ∷ rest) body → Read b head body
-read_branch {edges = edges} {targets = targets} lead m head rest body b begins =
-    let one = one_reading 32 m 3 head (256 * b.width + length edges % 256) lead rest body (b.table ++ (blocks (b.width + 1) (offsets targets) ++ concat targets)) begins (branch_begins b) in
-    let parts = parts_of b.width (length edges) in
-    record {
-      width = ap (λ v. v / 256) one.0 ∙ parts.0;
-      count = ap (λ v. v % 256) one.0 ∙ parts.1;
-      body_is = one.1 ∙ ap (λ t. t ++ (blocks (b.width + 1) (offsets targets) ++ concat targets)) (table_is_edges b.is_table);
-    }
+first_above : (kind : Kind) (e : ℕ) (es : List ℕ) → IsStrictlyIncreasing (map (fold_byte kind) (e ∷ es)) → Rises kind es → AllAbove kind (fold_byte kind e) es
+first_above kind e [] up r = tt
+first_above kind e (f ∷ es) up r =
+    let next : fold_byte kind e < fold_byte kind f = up 0 (omega arith) in
+    (next, AllAbove-lower kind (fold_byte kind e) (fold_byte kind f) es next r.0)
 
-pub no_branch : {kind : Kind} {edges : List ℕ} {targets : List (List ℕ)} {bytes : List ℕ} → IsBranch kind edges targets bytes → ((m v : ℕ) (after : List ℕ) → BeginsWith 32 m v bytes after → ⊥) → ⊥
-no_branch b none = none 3 _ _ (branch_begins b)
+tail_rises : (x : ℕ) (xs : List ℕ) → IsStrictlyIncreasing (x ∷ xs) → IsStrictlyIncreasing xs
+tail_rises x xs up k h =
+    let s : suc k + 1 ≡ suc (k + 1) = omega arith in
+    subst (λ j. get_or (x ∷ xs) (suc k) 0 < get_or (x ∷ xs) j 0) s (up (suc k) (omega arith))
 
-pub narrow : {kind : Kind} {edges : List ℕ} {targets : List (List ℕ)} {bytes : List ℕ} → IsAscii kind → (head : ℕ) (body : List ℕ) (b : IsBranch kind edges targets bytes) → Read b head body → head / 256 ≤ 3
-narrow {kind = kind} ascii head body b r = let w = r.width in let f = b.fits in let g = greatest_width_is kind ascii in omega arith
+increasing_rises : (kind : Kind) (es : List ℕ) → IsStrictlyIncreasing (map (fold_byte kind) es) → Rises kind es
+increasing_rises kind [] up = tt
+increasing_rises kind (e ∷ es) up =
+    let r = increasing_rises kind es (tail_rises (fold_byte kind e) (map (fold_byte kind) es) up) in
+    (first_above kind e es up r, r)
 
-pub edges_fit : {kind : Kind} {edges : List ℕ} {targets : List (List ℕ)} {bytes : List ℕ} (head n : ℕ) (body : List ℕ) (b : IsBranch kind edges targets bytes) → Read b head body → n ≡ length edges → n ≤ length body
-edges_fit head n body b r is = omega (arith, simp length-append at (ap length r.body_is))
+-- a sorted table is the edges, which rise
+pub table_is_edges : {kind : Kind} {edges table : List ℕ} → is_hashed kind (length edges) ≡ false → IsTable kind edges table → table ≡ edges
+table_is_edges plain (sorted h up) = refl
+table_is_edges plain (hashed h perfect) = absurd (cc)
 
-pub table_read : {kind : Kind} {edges : List ℕ} {targets : List (List ℕ)} {bytes : List ℕ} (head n : ℕ) (body table : List ℕ) (b : IsBranch kind edges targets bytes) → Read b head body → n ≡ length edges → table ≡ take n body → table ≡ edges
-table_read {edges = edges} head n body table b r is t = t ∙ ap (take n) r.body_is ∙ take_at edges _ n (sym is)
+pub table_rises : {kind : Kind} {edges table : List ℕ} → is_hashed kind (length edges) ≡ false → IsTable kind edges table → Rises kind edges
+table_rises plain (sorted h up) = increasing_rises _ _ up
+table_rises plain (hashed h perfect) = absurd (cc)
 
-pub targets_read : {kind : Kind} {edges : List ℕ} {targets : List (List ℕ)} {bytes : List ℕ} (head n : ℕ) (body rest : List ℕ) (b : IsBranch kind edges targets bytes) → Read b head body → n ≡ length edges → rest ≡ drop n body → IsTargets targets n (head / 256 + 1) rest
-targets_read {edges = edges} {targets = targets} head n body rest b r is t = record {
-  count = b.a_target_each ∙ sym is;
-  enough = rw r.width b.is_width.enough;
-  bytes_are = rw r.width (t ∙ ap (drop n) r.body_is ∙ drop_at edges (blocks (b.width + 1) (offsets targets) ++ concat targets) n (sym is));
-}
+-- what has a place before all of these is none of them
+not_placed : (kind : Kind) (place : ℕ → ℕ) (x from : ℕ) (es : List ℕ) → ((b : ℕ) → fold_byte kind b ≡ b) → place x < from → ((i : ℕ) → i < length es → place (slice_index es i) ≡ from + i) → NoneLike kind x es
+not_placed kind place x from [] keeps before at = tt
+not_placed kind place x from (e ∷ es) keeps before at = (
+  (let here = at 0 (omega arith) in (λ same. let moved = ap place (sym (keeps x) ∙ same ∙ keeps e) in omega arith)),
+  not_placed kind place x (suc from) es keeps (omega arith) (λ i h. let later = at (suc i) (omega arith) in omega arith),
+)
 
-pub mapped : (r : Option (Bor (List ℕ))) (t : List ℕ) → IsSomeAnd r (λ x. x.now ≡ t) → option_map (λ x. x.now) r ≡ Some t
-mapped None t h = absurd h
-mapped (Some x) t h = ap (λ y. Some y) h
+-- keys with places of their own are distinct, where case is kept
+placed_distinct : (kind : Kind) (place : ℕ → ℕ) (from : ℕ) (es : List ℕ) → ((b : ℕ) → fold_byte kind b ≡ b) → ((i : ℕ) → i < length es → place (slice_index es i) ≡ from + i) → Distinct kind es
+placed_distinct kind place from [] keeps at = tt
+placed_distinct kind place from (e ∷ es) keeps at = (
+  (let here = at 0 (omega arith) in not_placed kind place e (suc from) es keeps (omega arith) (λ i h. let later = at (suc i) (omega arith) in omega arith)),
+  placed_distinct kind place (suc from) es keeps (λ i h. let later = at (suc i) (omega arith) in omega arith),
+)
 
--- what the search of the table tells of the target
-pub hit_target : {kind : Kind} {edges : List ℕ} {targets : List (List ℕ)} {bytes : List ℕ} (c place : ℕ) (table : List ℕ) → IsBranch kind edges targets bytes → table ≡ edges → place < length table → fold_byte kind (get_or table place 0) ≡ fold_byte kind c
-    → target_of kind c edges targets ≡ Some (get_or targets place [])
-hit_target {kind = kind} {edges = edges} {targets = targets} c place table b is inside here =
-    found_target kind c place edges targets (table_rises b.is_table) b.a_target_each (omega (arith, ap length is)) (ap (λ x. fold_byte kind (get_or x place 0)) (sym is) ∙ here)
+-- any table has edges with distinct folds
+pub table_distinct : {kind : Kind} {edges table : List ℕ} → IsTable kind edges table → Distinct kind edges
+table_distinct (sorted h up) = rises_distinct _ _ (increasing_rises _ _ up)
+table_distinct {kind = kind} {edges = es} (hashed {p = p} {qs = qs} h perfect) =
+    placed_distinct kind (place_of p qs (length es % 256)) 0 es (spans_fold kind (hashed_spans kind (length es) h)) (λ i l. let at = perfect.places i l in omega arith)
 
-pub miss_target : {kind : Kind} {edges : List ℕ} {targets : List (List ℕ)} {bytes : List ℕ} (c : ℕ) (table : List ℕ) → IsBranch kind edges targets bytes → table ≡ edges
-    → (AlwaysRises kind table → (k : ℕ) → k < length table → fold_byte kind (get_or table k 0) ≡ fold_byte kind c → ⊥) → target_of kind c edges targets ≡ None
-miss_target {kind = kind} {edges = edges} {targets = targets} c table b is missed =
-    let up = rises_at kind edges (table_rises b.is_table) in
-    missed_target kind c edges targets (subst (λ x. AlwaysRises kind x → (k : ℕ) → k < length x → fold_byte kind (get_or x k 0) ≡ fold_byte kind c → ⊥) is missed up)
+pub length-table : {kind : Kind} {edges table : List ℕ} → IsTable kind edges table → length table ≡ table_size kind (length edges)
+length-table (sorted plain up) = rw plain refl
+length-table {edges = es} (hashed {qs = qs} wide perfect) = let n = perfect.a_q_each in let all = length-append qs es in rw wide (omega arith)
+
+-- how many bytes of the table of n edges stand before them
+pub before_edges : Kind → ℕ → ℕ
+before_edges kind n = cond (is_hashed kind n) (n + 1) 0
+
+pub before_ascii : (kind : Kind) → IsAscii kind → (n : ℕ) → before_edges kind n ≡ 0
+unfolding before_edges
+before_ascii kind ascii n = rw (ascii_sorted kind ascii n) refl
+
+-- the edges are the last bytes of the table
+pub edges_of_table : {kind : Kind} {edges table : List ℕ} → IsTable kind edges table → drop (before_edges kind (length edges)) table ≡ edges
+unfolding before_edges
+edges_of_table (sorted plain up) = rw plain refl
+edges_of_table {edges = es} (hashed {p = p} {qs = qs} wide perfect) =
+    let n = perfect.a_q_each in
+    rw wide (ap (λ k. drop k (p ∷ (qs ++ es))) (let one : length es + 1 ≡ suc (length qs) = omega arith in one) ∙ drop_at qs es (length qs) refl)
+
+pub before_within : {kind : Kind} {edges table : List ℕ} → IsTable kind edges table → before_edges kind (length edges) ≤ length table
+unfolding before_edges
+before_within (sorted plain up) = rw plain (omega arith)
+before_within {edges = es} (hashed {qs = qs} wide perfect) = let n = perfect.a_q_each in let all = length-append qs es in rw wide (omega arith)

@@ -6,12 +6,12 @@ use Rattle.zerotrie_base.specs.Hashes.{place_of}
 use Rattle.zerotrie_core.specs.Kind.{Kind, simple_ascii, perfect_hash}
 use Rattle.zerotrie_core.specs.Numbers.{Spells, spelled}
 use Rattle.zerotrie_core.specs.Maps.{Pairs, edges, residual, span_of}
-use Rattle.zerotrie_core.specs.Branches.{IsBranch, IsTable}
+use Rattle.zerotrie_core.specs.Branches.{IsBranch, IsTable, width}
 use Rattle.zerotrie_core.specs.Branches.IsTable.{sorted, hashed}
 use Rattle.zerotrie_core.specs.Texts.{Lists}
 use Rattle.zerotrie_core.specs.Texts.Lists.{nothing, value, span, branch}
 use Rattle.zerotrie_core.specs.Texts.ListEach.{no_edge, edge}
-use Rattle.zerotrie_core.specs.Canonical.{enc_to, size_to, width}
+use Rattle.zerotrie_core.specs.Canonical.{enc_to, size_to}
 
 row2 : Pairs
 row2 = ([], 11) ∷ (97 ∷ 100 ∷ [], 22) ∷ (97 ∷ 100 ∷ 101 ∷ 102 ∷ [], 33) ∷ (97 ∷ 100 ∷ 103 ∷ 104 ∷ 107 ∷ [], 44) ∷ []

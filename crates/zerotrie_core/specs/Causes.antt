@@ -5,8 +5,8 @@ use Rattle.zerotrie_core.specs.Kind.{Kind, edge_limit, is_hashed}
 use Rattle.zerotrie_core.specs.Maps.{Pairs, map_of, edges, behind_all, Ascends, RepeatsKey, IsCaseConsistent}
 use Rattle.zerotrie_core.specs.Fits.{ExceedsCapacity}
 use Rattle.zerotrie_base.specs.Hashes.{IsStraight}
-use Rattle.zerotrie_base.specs.declared.error.ZeroTrieBuildError.{ZeroTrieBuildError}
-use Rattle.zerotrie_base.specs.declared.error.ZeroTrieBuildError.TheVariants.{NonAsciiError, CapacityExceeded, CouldNotSolvePerfectHash, MixedCase, IllegalDelimiter, DuplicateKey, Unsorted, BufferTooSmall, BufferTooLarge, StackExceeded, OutOfMemory}
+pub use Rattle.zerotrie_base.specs.declared.error.ZeroTrieBuildError.{ZeroTrieBuildError}
+pub use Rattle.zerotrie_base.specs.declared.error.ZeroTrieBuildError.TheVariants.{NonAsciiError, CapacityExceeded, CouldNotSolvePerfectHash, MixedCase, IllegalDelimiter, DuplicateKey, Unsorted, BufferTooSmall, BufferTooLarge, StackExceeded, OutOfMemory}
 
 -- these edges need a hashed table whose parameters have to be searched, and no straight way leads to them
 abbrev pub AreCrooked : Kind → List ℕ → Type 0

@@ -1,14 +1,14 @@
 -- Which maps have a text of a kind.
-use Rattle.std.proofs.Common.{suc}
-use Rattle.std.specs.Prelude.{ℕ, ◌+◌, ◌^◌, ◌<◌, ◌≤◌, ◌⊎◌, List, length, map, sum, All}
+use Rattle.std.specs.Prelude.{ℕ, ◌+◌, ◌^◌, ◌<◌, ◌≤◌, ◌⊎◌, List, length, map, All}
 use Rattle.std.specs.FinMap.{entries}
 use Rattle.zerotrie_core.specs.Kind.{Kind, edge_limit, greatest_width}
-use Rattle.zerotrie_core.specs.Maps.{Pairs, Map, edges, residual, behind_all, longest, IsCaseConsistent}
-use Rattle.zerotrie_core.specs.Canonical.{size, size_to}
+use Rattle.zerotrie_core.specs.Maps.{Pairs, Map, edges, residual, behind_all, IsCaseConsistent}
+use Rattle.zerotrie_core.specs.Branches.{total}
+use Rattle.zerotrie_core.specs.Canonical.{size, size_of}
 
 -- the bytes of the targets of the branch that the pairs need, together
 unfoldable pub targets_size : Kind → Pairs → ℕ
-targets_size kind pairs = sum (map (λ b. size_to (suc (longest (residual b pairs))) kind (residual b pairs)) (edges pairs))
+targets_size kind pairs = total (map (λ b. size_of kind (residual b pairs)) (edges pairs))
 
 -- The map has a text of the kind: its values and bytes are in range, its keys agree in case, the targets of
 -- each branch can be reached by an offset, and the text has fewer than 2 ^ 64 bytes.

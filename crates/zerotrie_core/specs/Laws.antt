@@ -1,5 +1,5 @@
 -- The laws over the definitions alone.
-use Rattle.std.specs.Prelude.{◌≡◌, ℕ, ◌+◌, ◌*◌, ◌^◌, ◌<◌, ◌≤◌, ◌⊎◌, List, [], ◌∷◌, ◌++◌, length}
+use Rattle.std.specs.Prelude.{◌≡◌, ◌↔◌, ℕ, ◌+◌, ◌*◌, ◌^◌, ◌<◌, ◌≤◌, ◌⊎◌, List, [], ◌∷◌, ◌++◌, length}
 use Rattle.zerotrie_core.specs.Kind.{Kind}
 use Rattle.zerotrie_core.specs.Numbers.{Spells, spelled}
 use Rattle.zerotrie_core.specs.Maps.{Map}
@@ -40,6 +40,10 @@ CanonicalMeans kind = (m : Map) → Fits kind m → Means kind (enc kind m) m
 -- bytes that mean a map are its canonical text
 abbrev pub MeansCanonical : Kind → Type 0
 MeansCanonical kind = (bytes : List ℕ) (m : Map) → Means kind bytes m → bytes ≡ enc kind m
+
+-- bytes that mean maps of the kind are equal exactly if the maps are
+abbrev pub EqualExactlyIfMapsAre : Kind → Type 0
+EqualExactlyIfMapsAre kind = (a b : List ℕ) (m n : Map) → Means kind a m → Means kind b n → (a ≡ b) ↔ (m ≡ n)
 
 -- a map that some bytes mean fits
 abbrev pub MeansFits : Kind → Type 0

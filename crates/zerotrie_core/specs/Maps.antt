@@ -39,7 +39,7 @@ RepeatsKey (e ∷ pairs) = Contains (map {B = List ℕ} (λ f. f.0) pairs) e.0 �
 abbrev pub with_front : ℕ → Pairs → Pairs
 with_front b pairs = map (λ e. (b ∷ e.0, e.1)) pairs
 
--- each key with the run in front
+-- each key with the run of bytes in front
 abbrev pub with_run : List ℕ → Pairs → Pairs
 with_run run pairs = map {B = List ℕ × ℕ} (λ e. (run ++ e.0, e.1)) pairs
 

@@ -1,5 +1,6 @@
 -- The routes of a build, and what each answers.
-use Rattle.std.specs.Prelude.{◌≡◌, ◌≢◌, ℕ, ◌⊎◌, List, Option, Result, Ok, Err}
+use Rattle.std.specs.Prelude.{◌≡◌, ℕ, ◌⊎◌, List, Option, Result, Ok, Err}
+use Rattle.std.specs.Iterator.{Count, IsFinite}
 use Rattle.std.specs.Iterator.Runs.{WholeRun}
 use Rattle.zerotrie_core.specs.Kind.{Kind}
 use Rattle.zerotrie_core.specs.Maps.{Pairs, Ascends, RepeatsKey}
@@ -29,15 +30,23 @@ IsForeign ascending e = e ≡ DuplicateKey
 IsForeign in_order e = (e ≡ DuplicateKey) ⊎ (e ≡ Unsorted)
 IsForeign any_order e = e ≡ Unsorted
 
+-- an error of the route whose cause holds of the pairs
+abbrev pub HasCause : Route → Kind → Pairs → ZeroTrieBuildError → Type 0
+HasCause route kind pairs e = (IsForeign route e → ⊥) × Cause kind pairs e
+
 -- why a build of the pairs by the route is refused: want of memory, or a cause that holds of them
 abbrev pub IsRefusal : Route → Kind → Pairs → ZeroTrieBuildError → Type 0
-IsRefusal route kind pairs e = (e ≡ OutOfMemory) ⊎ ((IsForeign route e → ⊥) × Cause kind pairs e)
+IsRefusal route kind pairs e = (e ≡ OutOfMemory) ⊎ HasCause route kind pairs e
 
 -- What a build of the pairs by the route answers, where the bytes of an answer are these: bytes that mean the
 -- pairs, or a refusal.
 abbrev pub IsBuild : {B : Type 0} → Route → Kind → (B → List ℕ) → Pairs → Result B ZeroTrieBuildError → Type 0
 IsBuild route kind bytes pairs (Ok b) = Takes route pairs × IsBuilt kind pairs (bytes b)
 IsBuild route kind bytes pairs (Err e) = IsRefusal route kind pairs e
+
+-- an iterator that is made of this may be stepped, and ends
+abbrev pub CanRun : {U I : Type 0} → (U → I → Type 0) → (I → Type 0) → (I → Count) → U → Type 0
+CanRun {I = I} into_iter_gives can_next remaining given = (it : I) → into_iter_gives given it → can_next it × IsFinite (remaining it)
 
 -- the fact holds of the pairs that an iterator gives, one after another and no more
 abbrev pub OfAllGiven : {U I K : Type 0} → (U → I → Type 0) → (I → Option (K × ℕ) → I → Type 0) → (K → List ℕ) → U → (Pairs → Type 0) → Type 0
@@ -47,4 +56,4 @@ OfAllGiven {I = I} into_iter_gives next_gives key given Fact =
 -- What a build of all pairs that an iterator gives answers. Where memory was wanting, it may not have given them all.
 abbrev pub IsBuildOfAll : {B : Type 0} → ((Pairs → Type 0) → Type 0) → Kind → (B → List ℕ) → Result B ZeroTrieBuildError → Type 0
 IsBuildOfAll OfAll kind bytes (Ok b) = OfAll (λ pairs. IsBuild any_order kind bytes pairs (Ok b))
-IsBuildOfAll OfAll kind bytes (Err e) = (e ≡ OutOfMemory) ⊎ OfAll (λ pairs. (e ≢ Unsorted) × Cause kind pairs e)
+IsBuildOfAll OfAll kind bytes (Err e) = (e ≡ OutOfMemory) ⊎ OfAll (λ pairs. HasCause any_order kind pairs e)

@@ -2,7 +2,7 @@
 use Rattle.std.specs.Prelude.{◌≡◌, ◌≢◌, ℕ, ◌+◌, ◌/◌, ◌^◌, ◌<◌, ◌≤◌, List, [], ◌∷◌, ◌++◌, length, true, if◌then◌else◌}
 use Rattle.std.specs.Option.{option_map_or}
 use Rattle.zerotrie_core.specs.Kind.{Kind, same_byte, has_spans}
-use Rattle.zerotrie_core.specs.Numbers.{Spells}
+use Rattle.zerotrie_core.specs.Numbers.{value_form, span_form, SpellsAs}
 use Rattle.zerotrie_core.specs.Maps.{Pairs, Map, map_of, with_front, with_run, after_run}
 use Rattle.zerotrie_core.specs.Branches.{IsBranch}
 
@@ -25,9 +25,9 @@ mutual
   -- The bytes are a text of the kind, and list these pairs in this order.
   pub data Lists (kind : Kind) : List ℕ → Pairs → Type 0 where
     nothing : Lists kind [] []
-    value : {v : ℕ} {spelling rest : List ℕ} {pairs : Pairs} → Spells 16 4 v spelling → NoValueFirst rest → Lists kind rest pairs → Lists kind (spelling ++ rest) (([], v) ∷ pairs)
+    value : {v : ℕ} {spelling rest : List ℕ} {pairs : Pairs} → SpellsAs value_form v spelling → NoValueFirst rest → Lists kind rest pairs → Lists kind (spelling ++ rest) (([], v) ∷ pairs)
     literal : {b : ℕ} {rest : List ℕ} {pairs : Pairs} → b < 128 → rest ≢ [] → Lists kind rest pairs → Lists kind (b ∷ rest) (with_front b pairs)
-    span : {spelling rest : List ℕ} {pairs : Pairs} (run : List ℕ) → has_spans kind ≡ true → run ≢ [] → AreHigh run → Spells 16 5 (length run) spelling → rest ≢ [] → NoSpanFirst rest → Lists kind rest pairs → Lists kind (spelling ++ (run ++ rest)) (with_run run pairs)
+    span : {spelling rest : List ℕ} {pairs : Pairs} (run : List ℕ) → has_spans kind ≡ true → run ≢ [] → AreHigh run → SpellsAs span_form (length run) spelling → rest ≢ [] → NoSpanFirst rest → Lists kind rest pairs → Lists kind (spelling ++ (run ++ rest)) (with_run run pairs)
     branch : {edges : List ℕ} {targets : List (List ℕ)} {bytes : List ℕ} {pairs : Pairs} → IsBranch kind edges targets bytes → ListEach kind edges targets pairs → Lists kind bytes pairs
 
   -- Each edge has one target, a text that is not empty. The pairs are those of the targets, each with its edge byte in front.

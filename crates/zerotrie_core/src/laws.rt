@@ -3,7 +3,7 @@
 //! Each function does nothing: calling one brings its law into a proof.
 
 ghost use Rattle.zerotrie_core.specs.Kind.{Kind, IsAscii};
-ghost use Rattle.zerotrie_core.specs.Laws.{EachIsSpelled, OneSpelling, MetadataAlone, NoneLonger, OneMeaning, CanonicalMeans, MeansCanonical, MeansFits, LengthIsSize, FewNodes};
+ghost use Rattle.zerotrie_core.specs.Laws.{EachIsSpelled, OneSpelling, MetadataAlone, NoneLonger, OneMeaning, CanonicalMeans, MeansCanonical, MeansFits, EqualExactlyIfMapsAre, LengthIsSize, FewNodes};
 
 /// Numbers below 2^64 have exactly one spelling in each form. Other metadata changes these bits alone, and
 /// no spelling is the front of a longer one.
@@ -25,6 +25,14 @@ pub fn canonical_exactly()
     ensures text { (kind : Kind) → IsAscii kind → MeansCanonical kind }
     ensures fits { (kind : Kind) → IsAscii kind → MeansFits kind }
 {}
+
+/// Bytes that mean maps of an ASCII kind are equal exactly if the maps are.
+pub fn equal_exactly_if_maps_are()
+    ensures { (kind : Kind) → IsAscii kind → EqualExactlyIfMapsAre kind }
+{
+    one_meaning();
+    canonical_exactly();
+}
 
 /// Bytes that mean a map of a kind have its size.
 pub fn length_is_size()

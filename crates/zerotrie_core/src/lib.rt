@@ -1,7 +1,9 @@
 //! Tries as flat lists of bytes: numbers, the grammar, look-up and the plain encoder.
 #![tactic(auto)]
 
+mod branch;
 pub mod laws;
+mod node;
 mod options;
 mod plain;
 mod reader;

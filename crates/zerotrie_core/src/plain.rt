@@ -1,22 +1,19 @@
 //! The plain encoder of SimpleAscii tries.
 
-ghost use Rattle.std.specs.Prelude.{◌≡◌, ◌≢◌, ℕ, List, ◌+◌, ◌*◌, ◌/◌, ◌%◌, ◌^◌, ◌<◌, ◌≤◌, ◌⊎◌, ◌↔◌, ◌++◌, length, map, take, drop, slice_index, nat_lt, IsTrue, IfOk, OnOk, IfErr, IfSome, IfNone};
+ghost use Rattle.std.specs.Prelude.{◌≡◌, ◌+◌, ◌^◌, ◌<◌, ◌≤◌, ◌↔◌, length, take, drop, nat_lt, IsTrue, IfOk, OnOk, IfErr};
 ghost use Rattle.std.specs.List.{list_all};
 ghost use Rattle.std.specs.Ordering.{nat_cmp};
 ghost use Rattle.std.specs.Cmp.Lexicographic.{slice_cmp};
 ghost use Rattle.std.specs.declared.cmp.Ordering.TheVariants.{Less};
 ghost use Rattle.zerotrie_core.specs.Kind.{simple_ascii};
-ghost use Rattle.zerotrie_core.specs.Numbers.{Spells};
-ghost use Rattle.zerotrie_core.specs.Maps.{Ascends, map_of};
-ghost use Rattle.zerotrie_core.specs.Branches.{IsWidth, blocks};
+ghost use Rattle.zerotrie_core.specs.Maps.{Ascends};
 ghost use Rattle.zerotrie_core.specs.Items.{pairs_of};
-ghost use Rattle.zerotrie_core.specs.Texts.{Means};
-ghost use Rattle.zerotrie_core.specs.Canonical.{enc};
-ghost use Rattle.zerotrie_core.specs.Fits.{Fits};
-ghost use Rattle.zerotrie_core.specs.Causes.{Cause};
-ghost use Rattle.zerotrie_core.specs.Encoding.{pairs_from, AsciiKeys, Deep, BeginsAll, BeginsNone, IsBranching, IsRefusal, Writes, Leads, with_bits, BranchBytes};
+ghost use Rattle.zerotrie_core.specs.Routes.{ascending, IsBuild};
+ghost use Rattle.zerotrie_core.specs.plain.Encoding.{pairs_from, AsciiKeys, Deep, BeginsAll, BeginsNone, IsBranching, CannotWrite, Writes, Leads};
 
-use crate::varint::{write_varint_meta2, write_varint_meta3};
+mod nodes;
+
+use nodes::{push_branch, push_value};
 use std::alloc::Global;
 use zerotrie_base::ZeroTrieBuildError;
 
@@ -76,91 +73,6 @@ fn group_len(items: &[(&[u8], usize)], depth: usize, byte: u8) -> usize
     items.len()
 }
 
-/// Writes a number with these bits added to its lead byte.
-fn push_number(out: &mut Vec<u8>, bits: u8, number: &[u8]) -> Result<(), ZeroTrieBuildError>
-    requires { bits + slice_index number.now 0 < 256 }
-    ensures ok { OnOk result (out.new.items ≡ out.old.items ++ with_bits bits number.now) }
-    ensures err { IfErr result (λ e. e ≡ ZeroTrieBuildError.OutOfMemory) }
-{
-    if let Some((lead, trail)) = number.split_first() {
-        out.push(bits + *lead)?;
-        out.extend_from_slice(trail)?;
-    }
-    Ok(())
-}
-
-/// Writes a value node.
-fn push_value(out: &mut Vec<u8>, value: usize) -> Result<(), ZeroTrieBuildError>
-    ensures ok { OnOk result ((spelling : List ℕ) × Spells 16 4 value spelling × (out.new.items ≡ out.old.items ++ spelling)) }
-    ensures err { IfErr result (λ e. e ≡ ZeroTrieBuildError.OutOfMemory) }
-{
-    push_number(out, 0x80, &write_varint_meta3(value))
-}
-
-/// Writes the byte of this weight of each offset.
-fn push_block(out: &mut Vec<u8>, offsets: &[usize], place: usize) -> Result<(), ZeroTrieBuildError>
-    requires { place < 8 }
-    ensures ok { OnOk result (out.new.items ≡ out.old.items ++ map (λ o. o / 256 ^ place % 256) offsets.now) }
-    ensures err { IfErr result (λ e. e ≡ ZeroTrieBuildError.OutOfMemory) }
-{
-    for offset in offsets {
-        out.push(((offset >> (8 * place)) % 256) as u8)?;
-    }
-    Ok(())
-}
-
-/// Writes the lowest bytes of the offsets, the highest of them first.
-fn push_offsets(
-    out: &mut Vec<u8>,
-    offsets: &[usize],
-    bytes: usize,
-) -> Result<(), ZeroTrieBuildError>
-    requires { bytes ≤ 8 }
-    ensures ok { OnOk result (out.new.items ≡ out.old.items ++ blocks bytes offsets.now) }
-    ensures err { IfErr result (λ e. e ≡ ZeroTrieBuildError.OutOfMemory) }
-{
-    for place in (0..bytes).rev() {
-        push_block(out, offsets, place)?;
-    }
-    Ok(())
-}
-
-/// The width field of a branch whose targets together have so many bytes.
-fn width_of(total: usize) -> Option<usize>
-    ensures width { IfSome result (λ w. (w ≤ 3) × IsWidth total w) }
-    ensures none { IfNone result (2 ^ 32 ≤ total) }
-{
-    match total {
-        0..=0xFF => Some(0),
-        0x100..=0xFFFF => Some(1),
-        0x1_0000..=0xFF_FFFF => Some(2),
-        0x100_0000..=0xFFFF_FFFF => Some(3),
-        _ => None,
-    }
-}
-
-/// Writes a branch.
-fn push_branch(
-    out: &mut Vec<u8>,
-    edges: &[u8],
-    offsets: &[usize],
-    targets: &[u8],
-) -> Result<(), ZeroTrieBuildError>
-    ensures ok { OnOk result ((bytes : List ℕ) × BranchBytes edges.now offsets.now targets.now bytes × (out.new.items ≡ out.old.items ++ bytes)) }
-    ensures err { IfErr result (λ e. (e ≡ ZeroTrieBuildError.OutOfMemory) ⊎ ((e ≡ ZeroTrieBuildError.CapacityExceeded) × (2 ^ 32 ≤ length targets.now))) }
-{
-    let width = width_of(targets.len()).ok_or(ZeroTrieBuildError::CapacityExceeded)?;
-    push_number(
-        out,
-        0xC0,
-        &write_varint_meta2(256 * width + edges.len() % 256),
-    )?;
-    out.extend_from_slice(edges)?;
-    push_offsets(out, offsets, width + 1)?;
-    out.extend_from_slice(targets)?;
-    Ok(())
-}
-
 /// Writes the value nodes and literals in front of the first branch. Answers how many items end
 /// there, and where the keys of the others go on.
 fn push_run(
@@ -209,7 +121,7 @@ fn encode(
     requires ascends { Ascends (pairs_from depth items.now) }
     requires ascii { AsciiKeys (pairs_from depth items.now) }
     ensures ok { OnOk result (Writes out.old.items out.new.items (pairs_from depth items.now)) }
-    ensures err { IfErr result (IsRefusal (pairs_from depth items.now)) }
+    ensures err { IfErr result (CannotWrite (pairs_from depth items.now)) }
 {
     let (ended, depth) = push_run(out, items, depth)?;
     let (_, items) = items.split_at(ended);
@@ -259,11 +171,7 @@ fn encode(
 ///   offset of four bytes reaches.
 /// - `OutOfMemory`: the text or a part of it could not grow.
 pub fn plain_encode(alloc: Global, items: &[(&[u8], usize)]) -> Result<Vec<u8>, ZeroTrieBuildError>
-    ensures ascends { OnOk result (Ascends (pairs_of items.now)) }
-    ensures fits { OnOk result (Fits simple_ascii (map_of (pairs_of items.now))) }
-    ensures text { IfOk result (λ text. text.items ≡ enc simple_ascii (map_of (pairs_of items.now))) }
-    ensures means { IfOk result (λ text. Means simple_ascii text.items (map_of (pairs_of items.now))) }
-    ensures cause { IfErr result (λ e. e ≢ ZeroTrieBuildError.OutOfMemory → Cause simple_ascii (pairs_of items.now) e) }
+    ensures { IsBuild ascending simple_ascii (λ text. text.items) (pairs_of items.now) result }
 {
     if !is_ascending(items) {
         return Err(ZeroTrieBuildError::Unsorted);
@@ -277,99 +185,4 @@ pub fn plain_encode(alloc: Global, items: &[(&[u8], usize)]) -> Result<Vec<u8>, 
 }
 
 #[cfg(test)]
-mod tests {
-    use super::*;
-    use std::test::Fail;
-
-    #[test]
-    fn offsets_or_nodes_in_another_order(rt: HostRuntime) -> Result<(), Fail> {
-        let alloc = rt.alloc();
-        let none: [(&[u8], usize); 0] = [];
-        assert_eq!(rt; plain_encode(alloc, &none)?.as_slice(), b"".as_slice());
-        let items: [(&[u8], usize); 4] = [(b"", 11), (b"ad", 22), (b"adef", 33), (b"adghk", 44)];
-        let bytes = [
-            0x8B, 0x61, 0x64, 0x90, 0x06, 0xC2, 0x65, 0x67, 0x03, 0x66, 0x90, 0x11, 0x68, 0x6B,
-            0x90, 0x1C,
-        ];
-        assert_eq!(rt; plain_encode(alloc, &items)?.as_slice(), bytes.as_slice());
-        let items: [(&[u8], usize); 3] = [(b"a", 1), (b"abc", 2), (b"abd", 3)];
-        let bytes = [b'a', 0x81, b'b', 0xC2, b'c', b'd', 0x01, 0x82, 0x83];
-        assert_eq!(rt; plain_encode(alloc, &items)?.as_slice(), bytes.as_slice());
-        let items: [(&[u8], usize); 9] = [
-            (b"", 0),
-            (b"axb", 100),
-            (b"ayc", 2),
-            (b"azd", 3),
-            (b"bxe", 4),
-            (b"bxefg", 500),
-            (b"bxefh", 6),
-            (b"bxei", 7),
-            (b"bxeikl", 8),
-        ];
-        let bytes = [
-            0x80, 0xC2, 0x61, 0x62, 0x0D, 0xC3, 0x78, 0x79, 0x7A, 0x03, 0x05, 0x62, 0x90, 0x54,
-            0x63, 0x82, 0x64, 0x83, 0x78, 0x65, 0x84, 0xC2, 0x66, 0x69, 0x07, 0xC2, 0x67, 0x68,
-            0x02, 0x93, 0x64, 0x86, 0x87, 0x6B, 0x6C, 0x88,
-        ];
-        assert_eq!(rt; plain_encode(alloc, &items)?.as_slice(), bytes.as_slice());
-        Ok(())
-    }
-
-    #[test]
-    fn latent_value_or_extender_left_out(rt: HostRuntime) -> Result<(), Fail> {
-        let table: [(usize, &[u8]); 5] = [
-            (15, &[0x8F]),
-            (16, &[0x90, 0x00]),
-            (2063, &[0x9F, 0x7F]),
-            (2064, &[0x90, 0x80, 0x00]),
-            (
-                usize::MAX,
-                &[0x91, 0xEF, 0xEF, 0xEF, 0xEF, 0xEF, 0xEF, 0xEF, 0xEF, 0x6F],
-            ),
-        ];
-        for (value, bytes) in table {
-            let items: [(&[u8], usize); 1] = [(b"", value)];
-            assert_eq!(rt; plain_encode(rt.alloc(), &items)?.as_slice(), bytes);
-        }
-        Ok(())
-    }
-
-    #[test]
-    fn width_of_the_last_offset_and_not_of_all_targets(rt: HostRuntime) -> Result<(), Fail> {
-        let alloc = rt.alloc();
-        let table: [(usize, &[u8]); 2] = [
-            (253, &[0xC2, 0x61, 0x62, 0xFE]),
-            (254, &[0xE1, 0x62, 0x61, 0x62, 0x00, 0xFF]),
-        ];
-        for (count, head) in table {
-            let mut key = Vec::new(alloc);
-            let mut bytes = Vec::new(alloc);
-            key.push(b'a')?;
-            bytes.extend_from_slice(head)?;
-            for _ in 0..count {
-                key.push(b'x')?;
-                bytes.push(b'x')?;
-            }
-            bytes.extend_from_slice(&[0x80, 0x80])?;
-            let items: [(&[u8], usize); 2] = [(&key, 0), (b"b", 0)];
-            assert_eq!(rt; plain_encode(alloc, &items)?.as_slice(), bytes.as_slice());
-        }
-        Ok(())
-    }
-
-    #[test]
-    fn refusal_for_another_cause(rt: HostRuntime) -> Result<(), Fail> {
-        let table: [([(&[u8], usize); 2], ZeroTrieBuildError); 3] = [
-            (
-                [(&[0x61], 1), (&[0xE5], 2)],
-                ZeroTrieBuildError::NonAsciiError,
-            ),
-            ([(b"b", 1), (b"a", 2)], ZeroTrieBuildError::Unsorted),
-            ([(b"a", 1), (b"a", 2)], ZeroTrieBuildError::Unsorted),
-        ];
-        for (items, error) in &table {
-            assert!(rt; plain_encode(rt.alloc(), items).err().as_ref() == Some(error));
-        }
-        Ok(())
-    }
-}
+mod tests;

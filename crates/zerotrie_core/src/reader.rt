@@ -5,138 +5,16 @@
 //! on by that byte; where the kind ignores case, an ASCII letter is the same byte in either case. Bytes that
 //! are no trie get some answer, and nothing outside them is read.
 
-ghost use Rattle.std.specs.Prelude.{◌≡◌, ◌≢◌, ℕ, ◌+◌, ◌-◌, ◌*◌, ◌/◌, ◌%◌, ◌^◌, ◌<◌, ◌≤◌, List, ◌∷◌, ◌++◌, length, IfSome, IfNone, IsSomeAnd, slice_index, slice_index_or, []};
-ghost use Rattle.std.specs.Option.{option_copied, option_map};
-ghost use Rattle.std.specs.List.{concat};
-ghost use Rattle.zerotrie_core.specs.Kind.{IsAscii, fold_byte};
-ghost use Rattle.zerotrie_core.specs.Texts.{Means, nodes};
-ghost use Rattle.zerotrie_core.specs.Reading.{BranchLeads, IsTargets, AlwaysRises, number_from};
-ghost use Rattle.zerotrie_core.specs.Descending.{Descends};
+ghost use Rattle.std.specs.Prelude.{◌≡◌, ℕ, ◌+◌, ◌<◌, ◌≤◌, length};
+ghost use Rattle.zerotrie_core.specs.Kind.{IsAscii};
 ghost use Rattle.zerotrie_core.specs.Maps.{Map, look};
-ghost use Rattle.zerotrie_core.specs.Branches.{IsBranch, blocks, offsets};
+ghost use Rattle.zerotrie_core.specs.Texts.{Means, nodes};
+ghost use Rattle.zerotrie_core.specs.Shapes.{shape};
+ghost use Rattle.zerotrie_core.specs.reader.Descending.{Descends};
 
+use crate::branch::folded;
+use crate::node::{Node, first_node};
 use crate::options::ZeroTrieWithOptions;
-use crate::varint::{read_varint_meta2, read_varint_meta3};
-
-/// The byte as the kind compares it: an ASCII letter in lower case where case is ignored, and else itself.
-#[inline(always)]
-fn folded<K: ZeroTrieWithOptions>(byte: u8) -> u8
-    ensures { result ≡ fold_byte K.kind byte }
-{
-    if K::IGNORE_CASE {
-        byte.to_ascii_lowercase()
-    } else {
-        byte
-    }
-}
-
-/// The number whose bytes stand at one place of each block, the highest first.
-#[inline(always)]
-fn offset_at(table: &[u8], place: usize, count: usize, width: usize) -> usize
-    requires place { place < count }
-    requires width { width ≤ 8 }
-    requires len { length table.now ≡ width * count }
-    ensures { result ≡ number_from 0 width count place table.now }
-{
-    if width == 1 {
-        return table[place] as usize;
-    }
-    let mut value = 0;
-    let mut rest = table;
-    for _block in 0..width {
-        value = value * 256 + rest[place] as usize;
-        let (_, below) = rest.split_at(count);
-        rest = below;
-    }
-    value
-}
-
-/// All of the half of a table where the byte in its middle is not above the byte sought, else nothing.
-#[inline(always)]
-fn half_passed(half: usize, middle: u8, byte: u8) -> usize
-    ensures passed { middle ≤ byte → result ≡ half }
-    ensures stayed { byte < middle → result ≡ 0 }
-{
-    half * ((256 + byte as usize - middle as usize) / 256)
-}
-
-/// The place of a byte in a table whose bytes rise when they are folded.
-///
-/// Since each byte is above the one before it, the first and the last bound the place, closely where the
-/// edges lie close together. What is left is halved, with no branch on what it holds: which edge a key
-/// takes can't be foretold. Only the bytes that are looked at are folded.
-#[inline(always)]
-fn place_of<K: ZeroTrieWithOptions>(table: &[u8], byte: u8) -> Option<usize>
-    ensures some { IfSome result (λ place. (place < length table.now) × (fold_byte K.kind (slice_index table.now place) ≡ fold_byte K.kind byte)) }
-    ensures none { IfNone result (AlwaysRises K.kind table.now → (k : ℕ) → k < length table.now → fold_byte K.kind (slice_index table.now k) ≢ fold_byte K.kind byte) }
-{
-    let end = table.len().checked_sub(1)?;
-    let sought = folded::<K>(byte);
-    let first = folded::<K>(table[0]);
-    let last = folded::<K>(table[end]);
-    if sought < first || last < sought {
-        return None;
-    }
-    let mut base = end.saturating_sub((last - sought) as usize);
-    let mut left = (end.min((sought - first) as usize) + 1).saturating_sub(base);
-    if left == 0 {
-        return None;
-    }
-    while left > 1 {
-        let half = left / 2;
-        let middle = folded::<K>(table[base + half]);
-        base += half_passed(half, middle, sought);
-        left -= half;
-    }
-    if folded::<K>(table[base]) == sought {
-        Some(base)
-    } else {
-        None
-    }
-}
-
-/// The target of an edge, behind the table of a branch.
-///
-/// Two offsets are read whichever edge it is, so that nothing waits for a test of its place.
-#[inline(always)]
-fn target_at(body: &[u8], place: usize, edges: usize, width: usize) -> Option<&[u8]>
-    requires two { 2 ≤ edges }
-    requires edges { edges ≤ 256 }
-    requires place { place < edges }
-    requires width { width ≤ 8 }
-    ensures shorter { IfSome result (λ r. length r.now ≤ length body.now) }
-    ensures target { (targets : List (List ℕ)) → IsTargets targets edges width body.now → IsSomeAnd result (λ r. r.now ≡ slice_index_or targets place []) }
-{
-    let count = edges - 1;
-    let (table, targets) = body.split_at_checked(width * count)?;
-    let before = offset_at(table, place.saturating_sub(1), count, width);
-    let behind = offset_at(table, place.min(count - 1), count, width);
-    let from = if place == 0 { 0 } else { before };
-    let to = if place == count {
-        targets.len()
-    } else {
-        behind
-    };
-    targets.get(from..to)
-}
-
-/// The target of the edge that is the byte to the kind.
-#[inline(always)]
-fn branch_target<K: ZeroTrieWithOptions>(lead: u8, rest: &[u8], byte: u8) -> Option<&[u8]>
-    requires { IsAscii K.kind }
-    ensures shorter { IfSome result (λ r. length r.now ≤ length rest.now) }
-    ensures target { BranchLeads K.kind (lead ∷ rest.now) byte (option_map (λ r. r.now) result) }
-{
-    let (head, body) = read_varint_meta2(lead, rest)?;
-    let width = head / 256;
-    let edges = if head % 256 == 0 { 256 } else { head % 256 };
-    if width > 3 || edges < 2 {
-        return None;
-    }
-    let (table, body) = body.split_at_checked(edges)?;
-    let place = place_of::<K>(table, byte)?;
-    target_at(body, place, edges, width + 1)
-}
 
 /// What reading one node comes to.
 enum Descent<'a> {
@@ -146,44 +24,36 @@ enum Descent<'a> {
     Down(&'a [u8], &'a [u8]),
 }
 
-/// Reads one node.
+/// Goes behind one node.
 #[inline(always)]
-fn descend<'a, K: ZeroTrieWithOptions>(lead: u8, rest: &'a [u8], key: &'a [u8]) -> Descent<'a>
-    requires { IsAscii K.kind }
-    ensures { Descends K.kind (lead ∷ rest.now) key.now result }
+fn descend<'a, K: ZeroTrieWithOptions>(node: Node<'a>, key: &'a [u8]) -> Descent<'a>
+    ensures { Descends K.kind (shape node.entry) key.now result }
 {
-    if lead < 128 {
-        match key.split_first() {
+    match node {
+        Node::Value(value, rest) => {
+            if key.is_empty() {
+                Descent::Answer(Some(value))
+            } else {
+                Descent::Down(rest, key)
+            }
+        }
+        Node::Literal(edge, rest) => match key.split_first() {
             None => Descent::Answer(None),
             Some((byte, after)) => {
-                if folded::<K>(*byte) == folded::<K>(lead) {
+                if folded::<K>(*byte) == folded::<K>(edge) {
                     Descent::Down(rest, after)
                 } else {
                     Descent::Answer(None)
                 }
             }
-        }
-    } else if lead < 160 {
-        match read_varint_meta3(lead, rest) {
+        },
+        Node::Branch(branch) => match key.split_first() {
             None => Descent::Answer(None),
-            Some((value, behind)) => {
-                if key.is_empty() {
-                    Descent::Answer(Some(value))
-                } else {
-                    Descent::Down(behind, key)
-                }
-            }
-        }
-    } else if lead < 192 {
-        Descent::Answer(None)
-    } else {
-        match key.split_first() {
-            None => Descent::Answer(None),
-            Some((byte, after)) => match branch_target::<K>(lead, rest, *byte) {
+            Some((byte, after)) => match branch.follow::<K>(*byte) {
                 None => Descent::Answer(None),
-                Some(target) => Descent::Down(target, after),
+                Some((_edge, target)) => Descent::Down(target, after),
             },
-        }
+        },
     }
 }
 
@@ -210,9 +80,9 @@ pub fn get_counted<K: ZeroTrieWithOptions>(bytes: &[u8], key: &[u8]) -> (Option<
     let mut trie = bytes;
     let mut key = key;
     let mut count = 0;
-    while let Some((lead, rest)) = trie.split_first() {
+    while let Some(node) = first_node::<K>(trie) {
         count += 1;
-        match descend::<K>(*lead, rest, key) {
+        match descend::<K>(node, key) {
             Descent::Answer(answer) => return (answer, count),
             Descent::Down(below, after) => {
                 trie = below;

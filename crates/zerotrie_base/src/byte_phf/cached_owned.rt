@@ -5,19 +5,22 @@ ghost use Rattle.std.specs.Borrow.{sem};
 ghost use Rattle.std.specs.List.{IsDistinct};
 ghost use Rattle.zerotrie_base.specs.Hashes.{IsPerfectTable};
 ghost use Rattle.zerotrie_base.specs.Refusals.{IsTableRefusal};
-ghost use Rattle.zerotrie_base.specs.Caches.{AllPerfect, find, put};
+ghost use Rattle.zerotrie_base.specs.Caches.{Tables, AllPerfect, find, put};
+ghost use Rattle.zerotrie_base.specs.byte_phf.Held.{held};
 
 use super::PerfectByteHashMap;
 use crate::error::ZeroTrieBuildError;
 use std::alloc::Global;
 use std::collections::BTreeMap;
+use std::marker::Model;
 
 /// Tables by the keys that they were made for.
 ///
 /// ```
-/// let mut cache = PerfectByteHashMapCacheOwned::new_empty(alloc);
-/// let keys = Vec::from_slice(alloc, b"aceg")?;
-/// assert_eq!(cache.try_get_or_insert(keys)?.get(b'e'), Some(0));
+/// let mut cache = PerfectByteHashMapCacheOwned::new_empty(rt.alloc());
+/// let keys = Vec::from_slice(rt.alloc(), b"aceg")?;
+/// assert!(rt; are_distinct(keys.as_slice()));
+/// assert_eq!(rt; cache.try_get_or_insert(keys)?.get(b'e'), Some(0));
 /// ```
 ///
 /// Keys in another order are other keys.
@@ -27,12 +30,20 @@ pub struct PerfectByteHashMapCacheOwned {
     tables: BTreeMap<Vec<u8>, PerfectByteHashMap<Vec<u8>>>,
 }
 
+impl Model for PerfectByteHashMapCacheOwned {
+    ghost Value = { Tables };
+
+    ghost view = { λ cache. held cache.tables };
+
+    ghost invariant = { λ cache. AllPerfect (held cache.tables) };
+}
+
 impl PerfectByteHashMapCacheOwned {
-    ghost use Rattle.zerotrie_base.specs.CacheCalls.{tables_in, ends_with};
+    ghost use Rattle.zerotrie_base.specs.CacheCalls.{ends_with};
 
     /// A cache that holds no table. It takes no memory.
     pub fn new_empty(alloc: Global) -> Self
-        ensures { tables_in result ≡ [] }
+        ensures { result ≡ [] }
     {
         PerfectByteHashMapCacheOwned {
             alloc,
@@ -51,8 +62,8 @@ impl PerfectByteHashMapCacheOwned {
     ) -> Result<PerfectByteHashMap<&[u8]>, ZeroTrieBuildError>
         requires { IsDistinct nat_eq keys.items }
         ensures* after { sem 𝓛 (ends_with self.entry keys.items result) }
-        ensures table { AllPerfect (tables_in self.old) → IfOk result (λ table. IsPerfectTable keys.items table.store.now) }
-        ensures succeeds { IsSome (find keys.items (tables_in self.old)) → IsOk result }
+        ensures table { IfOk result (λ table. IsPerfectTable keys.items table.store.now) }
+        ensures succeeds { IsSome (find keys.items self.old) → IsOk result }
         ensures refused { IfErr result (IsTableRefusal keys.items) }
     {
         self.hold(keys.as_slice())?;
@@ -61,7 +72,7 @@ impl PerfectByteHashMapCacheOwned {
 
     /// Whether there is a table for these keys.
     fn has(&self, keys: &[u8]) -> bool
-        ensures { result ≡ is_some (find keys.now (tables_in self.now)) }
+        ensures { result ≡ is_some (find keys.now self.now) }
     {
         self.tables.contains_key(keys)
     }
@@ -69,8 +80,8 @@ impl PerfectByteHashMapCacheOwned {
     /// Makes and holds the table of new keys.
     fn add(&mut self, keys: &[u8]) -> Result<(), ZeroTrieBuildError>
         requires { IsDistinct nat_eq keys.now }
-        ensures ok { OnOk result ((table : List ℕ) × (tables_in self.new ≡ put keys.now table (tables_in self.old)) × IsPerfectTable keys.now table) }
-        ensures err { OnErr result (tables_in self.new ≡ tables_in self.old) }
+        ensures ok { OnOk result ((table : List ℕ) × (self.new ≡ put keys.now table self.old)) }
+        ensures err { OnErr result (self.new ≡ self.old) }
         ensures refused { IfErr result (IsTableRefusal keys.now) }
     {
         let table = PerfectByteHashMap::try_new(self.alloc, keys)?;
@@ -80,13 +91,14 @@ impl PerfectByteHashMapCacheOwned {
     }
 
     /// Makes and holds the table where it is not held.
+    #[tactic(auto, using(crate::proofs::CacheLemmas::there_after))]
     fn hold(&mut self, keys: &[u8]) -> Result<(), ZeroTrieBuildError>
         requires { IsDistinct nat_eq keys.now }
-        ensures held { IsSome (find keys.now (tables_in self.old)) → IsOk result × (tables_in self.new ≡ tables_in self.old) }
-        ensures new { IfNone (find keys.now (tables_in self.old)) (OnOk result ((table : List ℕ) × (tables_in self.new ≡ put keys.now table (tables_in self.old)) × IsPerfectTable keys.now table)) }
-        ensures err { OnErr result (tables_in self.new ≡ tables_in self.old) }
+        ensures held { IsSome (find keys.now self.old) → IsOk result × (self.new ≡ self.old) }
+        ensures new { IfNone (find keys.now self.old) (OnOk result ((table : List ℕ) × (self.new ≡ put keys.now table self.old))) }
+        ensures err { OnErr result (self.new ≡ self.old) }
         ensures refused { IfErr result (IsTableRefusal keys.now) }
-        ensures there { OnOk result (IsSome (find keys.now (tables_in self.new))) }
+        ensures there { OnOk result (IsSome (find keys.now self.new)) }
     {
         if self.has(keys) {
             return Ok(());
@@ -96,8 +108,9 @@ impl PerfectByteHashMapCacheOwned {
 
     /// The table of keys that are held.
     fn held_table(&self, keys: &[u8]) -> PerfectByteHashMap<&[u8]>
-        requires { IsSome (find keys.now (tables_in self.now)) }
-        ensures { find keys.now (tables_in self.now) ≡ Some result.store.now }
+        requires { IsSome (find keys.now self.now) }
+        ensures found { find keys.now self.now ≡ Some result.store.now }
+        ensures perfect { IsPerfectTable keys.now result.store.now }
     {
         match self.tables.get(keys) {
             Some(table) => table.as_borrowed(),

@@ -26,8 +26,8 @@ const Q_FAST_MAX: u8 = 95;
 /// The bucket of the byte among `n`, by the parameter `p`.
 ///
 /// ```
-/// assert_eq!(f1(10, 0, 10), 0);
-/// assert_eq!(f1(10, 1, 10), 4);
+/// assert_eq!(rt; f1(10, 0, 10), 0);
+/// assert_eq!(rt; f1(10, 1, 10), 4);
 /// ```
 ///
 /// The remainder by `n` of the byte where `p` is 0, and else of the byte, `p` and the byte shifted right
@@ -47,13 +47,14 @@ pub fn f1(byte: u8, p: u8, n: u8) -> u8
 /// The place of the byte among `n`, by the parameter `q` of its bucket.
 ///
 /// ```
-/// assert_eq!(f2(2, 0, 10), 2);
-/// assert_eq!(f2(2, 1, 10), 3);
+/// assert_eq!(rt; f2(2, 0, 10), 2);
+/// assert_eq!(rt; f2(2, 1, 10), 3);
 /// ```
 ///
 /// The remainder by `n` of the byte and `q` in exclusive or. That number is first turned `q - 95` times
 /// where `q` is above 95: one turn is its exclusive or with itself shifted left and right by one, in
 /// eight bits. An `n` of 0 stands for 256: every byte is its own place.
+#[tactic(auto, using(crate::proofs::HashLemmas::turned_more))]
 pub fn f2(byte: u8, q: u8, n: u8) -> u8
     ensures { result ≡ f2 byte q n }
 {
@@ -70,8 +71,8 @@ pub fn f2(byte: u8, q: u8, n: u8) -> u8
 /// Whether no byte comes twice.
 ///
 /// ```
-/// assert!(are_distinct(b"aceg"));
-/// assert!(!are_distinct(b"abca"));
+/// assert!(rt; are_distinct(b"aceg"));
+/// assert!(rt; !are_distinct(b"abca"));
 /// ```
 ///
 /// It takes no memory. No bytes at all are distinct.
@@ -111,10 +112,11 @@ fn number_of(bytes: &[u8], key: u8) -> Option<usize>
 /// A map from bytes to their places, over the bytes of any store.
 ///
 /// ```
-/// let table = PerfectByteHashMap::try_new(alloc, b"aceg")?;
-/// assert_eq!(table.as_bytes(), [1, 0, 0, 1, 1, b'e', b'a', b'c', b'g']);
-/// assert_eq!(table.get(b'c'), Some(2));
-/// assert_eq!(table.get(b'd'), None);
+/// assert!(rt; are_distinct(b"aceg"));
+/// let table = PerfectByteHashMap::try_new(rt.alloc(), b"aceg")?;
+/// assert_eq!(rt; table.as_bytes(), b"\x01\x00\x00\x01\x01eacg".as_slice());
+/// assert_eq!(rt; table.get(b'c'), Some(2));
+/// assert_eq!(rt; table.get(b'd'), None);
 /// ```
 ///
 /// A table of n keys has `1 + 2 * n` bytes: `p`, a `q` for each bucket, and the keys. It is perfect if

@@ -86,39 +86,74 @@ fn no_tables(rt: HostRuntime) -> Result<(), Fail> {
 }
 
 #[test]
-fn buckets_and_places(rt: HostRuntime) {
+fn f1_gives_the_bucket(rt: HostRuntime) {
+    assert_eq!(rt; f1(10, 0, 10), 0);
+    assert_eq!(rt; f1(10, 1, 10), 4);
     let rows = [
-        (0, 0, 1, 0, 1),
-        (1, 1, 0, 1, 0),
-        (2, 2, 2, 2, 3),
-        (9, 9, 2, 9, 8),
-        (10, 0, 4, 0, 1),
-        (11, 1, 5, 1, 0),
-        (12, 2, 1, 2, 3),
-        (19, 9, 7, 9, 8),
+        (0, 0, 1),
+        (1, 1, 0),
+        (2, 2, 2),
+        (9, 9, 2),
+        (11, 1, 5),
+        (12, 2, 1),
+        (19, 9, 7),
     ];
-    for (byte, bucket_0, bucket_1, place_0, place_1) in rows {
-        assert_eq!(rt; f1(byte, 0, 10), bucket_0);
-        assert_eq!(rt; f1(byte, 1, 10), bucket_1);
-        assert_eq!(rt; f2(byte, 0, 10), place_0);
-        assert_eq!(rt; f2(byte, 1, 10), place_1);
+    for (byte, by_0, by_1) in rows {
+        assert_eq!(rt; f1(byte, 0, 10), by_0);
+        assert_eq!(rt; f1(byte, 1, 10), by_1);
         assert_eq!(rt; f1(byte, 9, 0), byte);
+    }
+}
+
+#[test]
+fn f2_gives_the_place(rt: HostRuntime) {
+    assert_eq!(rt; f2(2, 0, 10), 2);
+    assert_eq!(rt; f2(2, 1, 10), 3);
+    let rows = [
+        (0, 0, 1),
+        (1, 1, 0),
+        (9, 9, 8),
+        (10, 0, 1),
+        (11, 1, 0),
+        (12, 2, 3),
+        (19, 9, 8),
+    ];
+    for (byte, by_0, by_1) in rows {
+        assert_eq!(rt; f2(byte, 0, 10), by_0);
+        assert_eq!(rt; f2(byte, 1, 10), by_1);
         assert_eq!(rt; f2(byte, 97, 0), byte);
     }
     assert_eq!(rt; f2(2, 96, 255), 98 ^ 196 ^ 49);
+}
+
+#[test]
+fn are_distinct_tells_whether_a_byte_comes_twice(rt: HostRuntime) {
+    assert!(rt; are_distinct(b"aceg"));
     assert!(rt; !are_distinct(b"abca"));
 }
 
 #[test]
-fn cache(rt: HostRuntime) -> Result<(), Fail> {
-    let aceg: [u8; 9] = [1, 0, 0, 1, 1, 0x65, 0x61, 0x63, 0x67];
-    let xyz: [u8; 7] = [0, 0, 0, 0, 0x78, 0x79, 0x7A];
+fn try_new_makes_a_table(rt: HostRuntime) -> Result<(), Fail> {
+    assert!(rt; are_distinct(b"aceg"));
+    let table = PerfectByteHashMap::try_new(rt.alloc(), b"aceg")?;
+    assert_eq!(rt; table.as_bytes(), b"\x01\x00\x00\x01\x01eacg".as_slice());
+    assert_eq!(rt; table.get(b'c'), Some(2));
+    assert_eq!(rt; table.get(b'd'), None);
+    Ok(())
+}
+
+#[test]
+fn try_get_or_insert_answers_the_table(rt: HostRuntime) -> Result<(), Fail> {
     let mut cache = PerfectByteHashMapCacheOwned::new_empty(rt.alloc());
-    for (keys, bytes) in [
-        (b"aceg".as_slice(), aceg.as_slice()),
-        (b"xyz", &xyz),
-        (b"aceg", &aceg),
-    ] {
+    let keys = Vec::from_slice(rt.alloc(), b"aceg")?;
+    assert!(rt; are_distinct(keys.as_slice()));
+    assert_eq!(rt; cache.try_get_or_insert(keys)?.get(b'e'), Some(0));
+    let rows = [
+        (b"aceg".as_slice(), b"\x01\x00\x00\x01\x01eacg".as_slice()),
+        (b"xyz", b"\x00\x00\x00\x00xyz"),
+        (b"aceg", b"\x01\x00\x00\x01\x01eacg"),
+    ];
+    for (keys, bytes) in rows {
         assert!(rt; are_distinct(keys));
         let table = cache.try_get_or_insert(Vec::from_slice(rt.alloc(), keys)?)?;
         assert_eq!(rt; table.as_bytes(), bytes);

@@ -1,7 +1,7 @@
 use Rattle.std.proofs.Common.{◌≡◌, ◌∷◌, ◌++◌, ap, subst, get_or, set, true, take, drop, arith, sym, ◌∙◌, eqb, ◌<◌, ◌+◌}
 use Rattle.std.specs.List.{IsDistinct}
 use Rattle.std.proofs.lemmas.List.{take_more, take-append-drop, drop_more}
-use Rattle.zerotrie_base.specs.Search.{IsMarked}
+use Rattle.zerotrie_base.specs.byte_phf.Search.{IsMarked}
 use Rattle.zerotrie_base.proofs.ApartLemmas.{distinct_none}
 use Rattle.zerotrie_base.proofs.MarkLemmas.{marked_none, marked_more, free_more, taken_not}
 use Rattle.zerotrie_base.proofs.byte_phf.are_distinct.Goals as goal

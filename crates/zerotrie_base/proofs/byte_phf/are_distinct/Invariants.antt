@@ -1,6 +1,6 @@
 use Rattle.std.proofs.Common.{take, nat_eq}
 use Rattle.std.specs.List.{IsDistinct}
-use Rattle.zerotrie_base.specs.Search.{IsMarked}
+use Rattle.zerotrie_base.specs.byte_phf.Search.{IsMarked}
 use Rattle.zerotrie_base.proofs.byte_phf.are_distinct.Given as goal
 
 abbrev pub invariant-loop-key : goal.invariant-loop-key

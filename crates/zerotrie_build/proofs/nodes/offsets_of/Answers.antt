@@ -1,6 +1,6 @@
 use Rattle.std.proofs.Common.{◌≡◌, ◌+◌, ◌-◌, ◌∙◌, ap, arith, map, take}
 use Rattle.std.specs.List.{range_with_len}
-use Rattle.zerotrie_build.specs.Ranges.{total}
+use Rattle.zerotrie_core.specs.Branches.{total}
 use Rattle.zerotrie_build.proofs.NodeLemmas.{offsets_more}
 use Rattle.zerotrie_build.proofs.nodes.offsets_of.Goals as goal
 

@@ -1,7 +1,6 @@
 use Rattle.std.proofs.Common.{◌≡◌, ◌+◌, ◌*◌, ◌%◌, ◌≤◌, ◌++◌, ◌∙◌, ap, arith, subst, length}
 use Rattle.zerotrie_core.specs.Numbers.{Spells}
-use Rattle.zerotrie_core.specs.Branches.{IsWidth, blocks}
-use Rattle.zerotrie_build.specs.Branches.{ends}
+use Rattle.zerotrie_core.specs.Branches.{IsWidth, ends, blocks}
 use Rattle.zerotrie_build.proofs.NodeLemmas.{branch_written}
 use Rattle.zerotrie_build.proofs.nodes.prepend_branch.Goals as goal
 
@@ -18,7 +17,7 @@ pub returns : goal.returns
 returns g c =
     let list = g.S.TrieBuilderStore.list in
     let w = c.width_of-width.result in
-    let count : c.len.result ≡ length c.args.branch.now.edges.items =
+    let count : c.len.result ≡ length c.args.branch.now.lengths.items =
     let a = c.as_slice-3.ensures.len in let b = ap length c.as_slice-3.ensures.value in let d = c.len.ensures in omega arith in
     branch_written c.args.branch.now.edges.items c.args.branch.now.lengths.items c.in_ok-offsets.offsets.items c.write_varint_meta2-head.result.items
     (list c.prepend_offsets.new.store) (list c.atbs_extend_front.new.self) (list c.atbs_extend_front-2.new.self) (list c.atbs_bitor_assign.new.self) (list c.args.store.now) w

@@ -1,6 +1,6 @@
 use Rattle.std.proofs.Common.{◌≡◌, ◌+◌, arith, subst}
 use Rattle.zerotrie_core.specs.Branches.{IsWidth}
-use Rattle.zerotrie_build.proofs.NodeLemmas.{small_width, wider}
+use Rattle.zerotrie_core.proofs.CallerLemmas.{small_width, wider}
 use Rattle.zerotrie_build.proofs.nodes.width_of.Goals as goal
 
 pub loop-rest-preserved : goal.loop-rest-preserved

@@ -1,8 +1,12 @@
 use Rattle.std.proofs.Common.{◌+◌, ◌<◌, ◌≤◌, ◌∷◌, ◌++◌, [], ℕ, length, arith, drop, get_or, ◌∙◌, ap, subst, sym, refl}
+use Rattle.std.specs.Prelude.{Result, Ok, Err, OnOk}
 use Rattle.std.proofs.lemmas.Result.{on_ok_weaker, IfErr-weaker, err_from_is_err_and}
-use Rattle.zerotrie_core.specs.Encoding.{pairs_from, IsBranching, weight}
+use Rattle.zerotrie_core.specs.Kind.{simple_ascii}
+use Rattle.zerotrie_core.specs.Texts.{Lists}
+use Rattle.zerotrie_core.specs.Canonical.{branch_node}
+use Rattle.zerotrie_core.specs.plain.Encoding.{pairs_from, IsBranching, weight}
 use Rattle.zerotrie_core.proofs.ItemLemmas.{key_at}
-use Rattle.zerotrie_core.proofs.GroupLemmas.{Grown, grown_start, grown_more, grown_lists, grown_wide, grown_starts, group_up, group_ascii, group_lighter, group_wide, refused_up, refused_branch, branch_same, leads_end}
+use Rattle.zerotrie_core.proofs.GroupLemmas.{Grown, grown_start, grown_more, grown_lists, grown_targets, grown_wide, grown_starts, group_up, group_ascii, group_lighter, group_wide, refused_up, refused_branch, same_targets, leads_end}
 use Rattle.zerotrie_core.proofs.CutLemmas.{cut_at, none_ends, no_pairs, is_none, begun, deep_rest, leads_rest, branching_rest, grown_end}
 use Rattle.zerotrie_core.proofs.plain.+encode.Goals as goal
 
@@ -77,17 +81,25 @@ branching_here t c =
 grown_here : (t : ℕ) (c : goal.After-drop-edges-2 t) → Grown (pairs_from c.in_ok-ended.depth c.split_at.result.1.now) c.loop-at.edges.items c.loop-at.starts.items c.loop-at.targets.items []
 grown_here t c = grown_end (pairs_from c.in_ok-ended.depth c.split_at.result.1.now) c.loop-at.edges.items c.loop-at.starts.items c.loop-at.targets.items c.in_ok-ended.depth c.loop-at.at c.split_at.result.1.now c.loop-at-test.false c.loop-at.invariant.grown
 
+both_ok : {T E : Type 0} (P Q : Type 0) (r : Result T E) → OnOk r P → OnOk r Q → OnOk r (P × Q)
+both_ok P Q (Ok x) p q = (p, q)
+both_ok P Q (Err e) p q = tt
+
 pub returns-clause-ok : goal.returns-clause-ok
 returns-clause-ok t c =
     let leads = leads_rest c.args.out.now.items c.push_run.new.out.items (pairs_from c.args.depth c.args.items.now) c.in_ok-ended.depth c.in_ok-ended.ended c.args.items.now c.split_at.result.1.now c.split_at.ensures.back c.in_ok-ended.ensures.leads in
     let offsets_are = c.split_at-2.ensures.back ∙ ap (drop 1) c.deref.ensures.value in
+    let g = grown_here t c in
+    let targets = same_targets g.texts _ _ _ _ _ _ c.deref-2.ensures.value offsets_are c.deref-3.ensures.value (grown_targets g (branching_here t c)) in
+    let targets_are = ap length c.deref-3.ensures.value in
     on_ok_weaker c.push_branch.result
-    (λ b. leads.finish _ (record {
-      text = b.0;
-      lists = grown_lists (grown_here t c) (branching_here t c) b.0 (branch_same _ _ _ _ _ _ b.0 c.deref-2.ensures.value offsets_are c.deref-3.ensures.value b.1);
-      is = b.2;
+    (λ done. leads.finish _ (record {
+      text = branch_node c.deref-2.result.now g.texts;
+      lists = subst (λ es. Lists simple_ascii (branch_node es g.texts) (pairs_from c.in_ok-ended.depth c.split_at.result.1.now)) (sym c.deref-2.ensures.value)
+          (grown_lists g (branching_here t c) (let narrow = done.1 in omega arith));
+      is = done.0 g.texts targets;
     }))
-    c.push_branch.ensures.ok
+    (both_ok _ _ c.push_branch.result c.push_branch.ensures.ok c.push_branch.ensures.narrow)
 
 pub returns-clause-err : goal.returns-clause-err
 returns-clause-err t c =

@@ -1,5 +1,5 @@
 use Rattle.std.proofs.Common.{◌≤◌, ◌-◌, length, drop}
-use Rattle.zerotrie_core.specs.Encoding.{pairs_from, weight}
+use Rattle.zerotrie_core.specs.plain.Encoding.{pairs_from, weight}
 use Rattle.zerotrie_core.proofs.GroupLemmas.{Grown}
 use Rattle.zerotrie_core.proofs.plain.+encode.Given as goal
 

@@ -1,5 +1,5 @@
 use Rattle.std.proofs.Common.{◌≤◌, length, drop}
-use Rattle.zerotrie_core.specs.Encoding.{pairs_from, Deep, Leads, weight}
+use Rattle.zerotrie_core.specs.plain.Encoding.{pairs_from, Deep, Leads, weight}
 use Rattle.zerotrie_core.proofs.plain.push_run.Given as goal
 
 abbrev pub invariant-loop-at : goal.invariant-loop-at

@@ -1,5 +1,5 @@
 use Rattle.std.proofs.Common.{◌-◌, ◌≤◌, ◌<◌, sym, refl, subst, arith}
-use Rattle.zerotrie_build.specs.Ranges.{total}
+use Rattle.zerotrie_core.specs.Branches.{total}
 use Rattle.zerotrie_build.specs.Growing.{tops}
 use Rattle.zerotrie_build.proofs.Closing.{opens_at, closed, too_wide, total_within}
 use Rattle.zerotrie_build.proofs.growing.Growing.close_branch.Goals as goal

@@ -1,0 +1,288 @@
+//! The tries over ASCII keys: one type, of which each kind is an alias.
+
+ghost use Rattle.std.specs.Prelude.{◌≡◌, ◌==◌, ◌↔◌, IsTrue, IfOk, length, []};
+ghost use Rattle.std.specs.Cmp.{on_equiv, on_per};
+ghost use Rattle.std.specs.Cmp as cmp;
+ghost use Rattle.std.specs.Cmp.Lexicographic.{pointwise, nat_list_eq_equiv};
+ghost use Rattle.zerotrie_core.specs.Maps.{Map, look};
+ghost use Rattle.zerotrie_core.specs.Texts.{Means};
+ghost use Rattle.zerotrie_core.specs.Items.{pairs_of, keyed};
+ghost use Rattle.zerotrie_core.specs.Routes.{ascending, in_order, IsBuild, CanRun, OfAllGiven, IsBuildOfAll};
+ghost use Rattle.zerotrie_any.specs.Order.{IsByBytes};
+
+use crate::options::AsciiKind;
+use std::alloc::{AllocError, Global};
+use std::collections::BTreeMap;
+use std::marker::PhantomData;
+use zerotrie_any::{TextKey, bytes_from_iter, bytes_from_map, bytes_from_slice};
+use zerotrie_core::{
+    ConvertStore, Ignore, Simple, TrieKey, TrieStore, ZeroTrieBuildError, get_counted, laws,
+};
+
+/// A map from ASCII keys to numbers, as a flat list of bytes that is read where it lies. `K` is its kind.
+///
+/// Use it by the name of a kind, `ZeroTrieSimpleAscii` or `ZeroAsciiIgnoreCaseTrie`.
+///
+/// Any store of bytes is a trie: nothing is tested and no call panics. On bytes that mean a map, as those
+/// of every build do, each call answers as that map. A map has one text of a kind, so tries of it have
+/// equal bytes.
+#[derive(Debug, Drop)]
+pub struct AsciiTrie<K, S> {
+    /// The bytes of the trie.
+    pub store: S,
+    kind: PhantomData<K>,
+}
+
+/// A map from ASCII keys to numbers.
+///
+/// ```
+/// let trie = ZeroTrieSimpleAscii::from_bytes(b"abc\x85");
+/// assert_eq!(trie.get(b"abc"), Some(5));
+/// assert_eq!(trie.get(b"ab"), None);
+/// ```
+///
+/// Its edges ascend by their bytes.
+pub type ZeroTrieSimpleAscii<S> = AsciiTrie<Simple, S>;
+
+/// A map from ASCII keys to numbers that is looked up without the case of letters.
+///
+/// ```
+/// let trie = ZeroAsciiIgnoreCaseTrie::from_bytes(b"aBc\x85");
+/// assert_eq!(trie.get(b"abc"), Some(5));
+/// assert_eq!(trie.get(b"ABC"), Some(5));
+/// assert_eq!(trie.get(b"ab"), None);
+/// ```
+///
+/// Its bytes keep the case of each key, and its edges ascend by their bytes in lower case. A key has one
+/// spelling, and what two keys have in front up to case they have byte by byte: a build of other keys is
+/// refused `MixedCase`.
+///
+/// ```
+/// let refused = ZeroAsciiIgnoreCaseTrie::try_from_iter(alloc, [("ab", 1), ("Ac", 2)]).err();
+/// assert_eq!(refused, Some(ZeroTrieBuildError::MixedCase));
+/// ```
+pub type ZeroAsciiIgnoreCaseTrie<S> = AsciiTrie<Ignore, S>;
+
+impl<K, S> AsciiTrie<K, S> {
+    /// The trie whose bytes the store holds.
+    pub fn from_store(store: S) -> Self
+        ensures { result.store ≡ store }
+    {
+        AsciiTrie {
+            store,
+            kind: PhantomData,
+        }
+    }
+
+    /// The store of the trie.
+    pub fn into_store(self) -> S
+        ensures { result ≡ self.store }
+    {
+        let AsciiTrie { store, kind: _ } = self;
+        store
+    }
+}
+
+impl<K, S: TrieStore> AsciiTrie<K, S> {
+    /// The trie of the same bytes over another store. It takes no memory.
+    ///
+    /// ```
+    /// let shared: ZeroTrieSimpleAscii<CowSlice<u8>> = owned.convert_store();
+    /// ```
+    pub fn convert_store<X: ConvertStore<S>>(self) -> AsciiTrie<K, X>
+        ensures { X.stored result.store ≡ S.stored self.store }
+    {
+        AsciiTrie::from_store(X::convert(self.into_store()))
+    }
+
+    /// Whether there are no bytes, as of a trie with no keys.
+    pub fn is_empty(&self) -> bool
+        ensures { IsTrue result ↔ (S.stored self.now.store ≡ []) }
+    {
+        self.as_bytes().is_empty()
+    }
+
+    /// How many bytes there are.
+    pub fn byte_len(&self) -> usize
+        ensures { result ≡ length (S.stored self.now.store) }
+    {
+        self.as_bytes().len()
+    }
+
+    /// The bytes of the trie.
+    pub fn as_bytes(&self) -> &[u8]
+        ensures { result.now ≡ S.stored self.now.store }
+    {
+        self.store.bytes()
+    }
+
+    /// The same trie over these bytes where they lie.
+    pub fn as_borrowed(&self) -> AsciiTrie<K, &[u8]>
+        ensures { result.store.now ≡ S.stored self.now.store }
+    {
+        AsciiTrie::from_bytes(self.as_bytes())
+    }
+
+    /// The same trie over these bytes where they lie, as `as_borrowed`.
+    pub fn as_borrowed_slice(&self) -> AsciiTrie<K, &[u8]>
+        ensures { result.store.now ≡ S.stored self.now.store }
+    {
+        self.as_borrowed()
+    }
+
+    /// The same trie over a copy of its bytes.
+    ///
+    /// ```
+    /// let trie = ZeroTrieSimpleAscii::from_bytes(b"abc\x85");
+    /// assert_eq!(trie.to_owned(alloc)?.get(b"abc"), Some(5));
+    /// ```
+    ///
+    /// Refused for want of memory alone.
+    pub fn to_owned(&self, alloc: Global) -> Result<AsciiTrie<K, Vec<u8>>, AllocError>
+        ensures { IfOk result (λ trie. trie.store.items ≡ S.stored self.now.store) }
+    {
+        let store = Vec::from_slice(alloc, self.as_bytes())?;
+        Ok(AsciiTrie::from_store(store))
+    }
+}
+
+impl<K: AsciiKind, S: TrieStore> AsciiTrie<K, S> {
+    /// The value of the key, or `None` where the trie has no such key.
+    ///
+    /// In the kind without case, keys that differ in the case of ASCII letters alone are one. The call takes
+    /// no memory. On bytes that mean no map it gives some answer.
+    pub fn get(&self, key: &[u8]) -> Option<usize>
+        ensures { (m : Map) → Means K.kind (S.stored self.now.store) m → result ≡ look K.kind m key.now }
+    {
+        let (value, _nodes) = get_counted::<K>(self.as_bytes(), key);
+        value
+    }
+}
+
+impl<'a, K> AsciiTrie<K, &'a [u8]> {
+    /// The trie of these bytes.
+    ///
+    /// ```
+    /// let trie = ZeroTrieSimpleAscii::from_bytes(b"in\x83to\x84");
+    /// assert_eq!(trie.get(b"into"), Some(4));
+    /// ```
+    pub fn from_bytes(bytes: &'a [u8]) -> Self
+        ensures { result.store.now ≡ bytes.now }
+    {
+        AsciiTrie::from_store(bytes)
+    }
+}
+
+impl<K: AsciiKind> AsciiTrie<K, Vec<u8>> {
+    /// Builds the trie of a map with text keys, `&str` or `String`, for no entries no bytes.
+    ///
+    /// ```
+    /// let mut map: BTreeMap<&str, usize> = BTreeMap::new(alloc);
+    /// map.insert("ad", 22)?;
+    /// let trie = ZeroTrieSimpleAscii::try_from_btree_map_str(alloc, &map)?;
+    /// assert_eq!(trie.get(b"ad"), Some(22));
+    /// ```
+    ///
+    /// Refused as `try_from_btree_map` is, but for `Unsorted`: text is in the order of its bytes.
+    pub fn try_from_btree_map_str<Key: TextKey>(
+        alloc: Global,
+        entries: &BTreeMap<Key, usize>,
+    ) -> Result<Self, ZeroTrieBuildError>
+        ensures { IsBuild in_order K.kind (λ trie. trie.store.items) (keyed Key.key entries.now.entries) result }
+    {
+        Self::try_from_btree_map(alloc, entries)
+    }
+
+    /// Builds the trie of a map, for no entries no bytes.
+    ///
+    /// Refused:
+    ///
+    /// - `NonAsciiError` where a key holds a byte of 128 or more,
+    /// - `MixedCase` where two keys agree in front up to case and not exactly, in the kind without case,
+    /// - `CapacityExceeded` where a branch needs 2^32 target bytes or more, or the text has 2^64 bytes or
+    ///   more,
+    /// - `Unsorted` where the order of the map is not that of the keys' bytes (that of bytes and of text is),
+    /// - `OutOfMemory` where a growth was refused.
+    pub fn try_from_btree_map<Key: TrieKey + Ord>(
+        alloc: Global,
+        entries: &BTreeMap<Key, usize>,
+    ) -> Result<Self, ZeroTrieBuildError>
+        ensures build { IsBuild ascending K.kind (λ trie. trie.store.items) (keyed Key.key entries.now.entries) result }
+        ensures by_bytes { IsByBytes Key.cmp Key.key
+            → IsBuild in_order K.kind (λ trie. trie.store.items) (keyed Key.key entries.now.entries) result }
+    {
+        let store = bytes_from_map::<K, Key>(alloc, entries)?;
+        Ok(AsciiTrie::from_store(store))
+    }
+
+    /// Builds the trie of a slice whose keys are strictly ascending, for no items no bytes.
+    ///
+    /// ```
+    /// let trie = ZeroTrieSimpleAscii::try_from_sorted_slice(alloc, &[(b"ad", 22), (b"adef", 33)])?;
+    /// assert_eq!(trie.get(b"adef"), Some(33));
+    /// ```
+    ///
+    /// Refused as `try_from_btree_map` is, `Unsorted` where the keys are not strictly ascending by their
+    /// bytes.
+    pub fn try_from_sorted_slice(
+        alloc: Global,
+        items: &[(&[u8], usize)],
+    ) -> Result<Self, ZeroTrieBuildError>
+        ensures { IsBuild ascending K.kind (λ trie. trie.store.items) (pairs_of items.now) result }
+    {
+        let store = bytes_from_slice::<K>(alloc, items)?;
+        Ok(AsciiTrie::from_store(store))
+    }
+
+    /// Builds the trie of what an iterator gives, in any order, for nothing no bytes.
+    ///
+    /// ```
+    /// let trie = ZeroTrieSimpleAscii::try_from_iter(alloc, [("xyz", 22), ("abc", 11)])?;
+    /// assert_eq!(trie.get(b"abc"), Some(11));
+    /// ```
+    ///
+    /// Refused as `try_from_btree_map` is, but for `Unsorted`, and besides `DuplicateKey` where one key
+    /// came twice.
+    pub fn try_from_iter<Key: TrieKey + Drop, U: IntoIterator<Item = (Key, usize)>>(
+        alloc: Global,
+        iter: U,
+    ) -> Result<Self, ZeroTrieBuildError>
+    where
+        U::IntoIter: Drop,
+        requires { CanRun U.into_iter_gives U.IntoIter.can_next U.IntoIter.remaining iter }
+        ensures { IsBuildOfAll (OfAllGiven U.into_iter_gives U.IntoIter.next_gives Key.key iter)
+            K.kind (λ trie. trie.store.items) result }
+    {
+        let store = bytes_from_iter::<K, Key, U>(alloc, iter)?;
+        Ok(AsciiTrie::from_store(store))
+    }
+}
+
+impl<K, S: Copy> Clone for AsciiTrie<K, S> {
+    fn clone(&self) -> Result<Self, AllocError>
+        ensures { result ≡ Ok self.now }
+    {
+        Ok(AsciiTrie::from_store(self.store))
+    }
+}
+
+impl<K, S: Copy> Copy for AsciiTrie<K, S> {}
+
+impl<K: AsciiKind, S: TrieStore> PartialEq for AsciiTrie<K, S> {
+    ghost eq = { λ x y. pointwise ◌==◌ (S.stored x.store) (S.stored y.store) };
+
+    ghost laws = { on_per (λ x. S.stored x.store) (cmp.partial_equiv_from_equiv nat_list_eq_equiv) };
+
+    fn eq(&self, other: &Self) -> bool
+        ensures bytes { IsTrue result ↔ (S.stored self.now.store ≡ S.stored other.now.store) }
+        ensures maps { (m n : Map) → Means K.kind (S.stored self.now.store) m
+            → Means K.kind (S.stored other.now.store) n → IsTrue result ↔ (m ≡ n) }
+    {
+        laws::equal_exactly_if_maps_are();
+        self.as_bytes() == other.as_bytes()
+    }
+}
+
+impl<K: AsciiKind, S: TrieStore> Eq for AsciiTrie<K, S> {
+    ghost laws = { on_equiv (λ x. S.stored x.store) nat_list_eq_equiv };
+}

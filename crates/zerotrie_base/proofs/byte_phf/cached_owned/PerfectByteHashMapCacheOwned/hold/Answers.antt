@@ -1,6 +1,0 @@
-use Rattle.zerotrie_base.specs.Caches.{held}
-use Rattle.zerotrie_base.proofs.CacheLemmas.{there_after}
-use Rattle.zerotrie_base.proofs.byte_phf.cached_owned.PerfectByteHashMapCacheOwned.hold.Goals as goal
-
-pub returns-clause-there : goal.returns-clause-there
-returns-clause-there c = there_after c.args.keys.now (held c.args.self.now.tables) (held c.add.new.self.tables) c.add.result c.add.ensures.ok

@@ -1,0 +1,3 @@
+-- Words of the private functions of `byte_phf`.
+pub mod Search
+pub mod Held

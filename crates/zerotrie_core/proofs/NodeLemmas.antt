@@ -1,0 +1,107 @@
+-- Which node bytes begin with.
+use Rattle.std.proofs.Common.{◌≡◌, ℕ, ◌+◌, ◌-◌, ◌*◌, ◌/◌, ◌%◌, ◌<◌, ◌≤◌, List, [], ◌∷◌, ◌++◌, length, sym, ◌∙◌, ap, subst, arith}
+use Rattle.zerotrie_core.specs.Kind.{Kind, IsAscii}
+use Rattle.zerotrie_core.specs.Numbers.{BeginsWith, extender}
+use Rattle.zerotrie_core.specs.Nodes.{Shape, Begins, BeginsBranch}
+use Rattle.zerotrie_core.specs.Nodes.Shape.{value, literal, branch}
+use Rattle.zerotrie_core.proofs.KindLemmas.{greatest_width_is}
+use Rattle.zerotrie_core.proofs.NumberLemmas.{cons_parts, extender_one, some_bytes, one_reading, after_shorter}
+
+-- the lead of a spelling
+lead_is : (L m v lead : ℕ) (rest after : List ℕ) (b : BeginsWith L m v (lead ∷ rest) after) → lead ≡ m * (2 * L) + extender b.spells.trail * L + b.spells.digit
+lead_is L m v lead rest after b = (cons_parts lead _ rest (b.spells.trail ++ after) (b.bytes_are ∙ ap (λ x. x ++ after) b.spells.bytes_are)).0
+
+pub value_begins : (v lead : ℕ) (rest after : List ℕ) → BeginsWith 16 4 v (lead ∷ rest) after → (128 ≤ lead) × (lead < 160)
+value_begins v lead rest after b =
+    let is = lead_is 16 4 v lead rest after b in
+    let one = extender_one b.spells.trail in
+    let digit = b.spells.digit_below in
+    (omega arith, omega arith)
+
+pub span_begins : (n lead : ℕ) (rest after : List ℕ) → BeginsWith 16 5 n (lead ∷ rest) after → (160 ≤ lead) × (lead < 192)
+span_begins n lead rest after b =
+    let is = lead_is 16 5 n lead rest after b in
+    let one = extender_one b.spells.trail in
+    let digit = b.spells.digit_below in
+    (omega arith, omega arith)
+
+pub branch_begins : (v lead : ℕ) (rest after : List ℕ) → BeginsWith 32 3 v (lead ∷ rest) after → 192 ≤ lead
+branch_begins v lead rest after b = let is = lead_is 32 3 v lead rest after b in omega arith
+
+-- no bytes begin with two nodes
+pub value_no_branch : (v w : ℕ) (bytes after behind : List ℕ) → BeginsWith 16 4 v bytes after → BeginsWith 32 3 w bytes behind → ⊥
+value_no_branch v w [] after behind a b = some_bytes 16 4 v after a
+value_no_branch v w (lead ∷ rest) after behind a b = let low = value_begins v lead rest after a in let high = branch_begins w lead rest behind b in omega arith
+
+pub value_no_span : (v n : ℕ) (bytes after behind : List ℕ) → BeginsWith 16 4 v bytes after → BeginsWith 16 5 n bytes behind → ⊥
+value_no_span v n [] after behind a b = some_bytes 16 4 v after a
+value_no_span v n (lead ∷ rest) after behind a b = let low = value_begins v lead rest after a in let high = span_begins n lead rest behind b in omega arith
+
+pub span_no_branch : (n w : ℕ) (bytes after behind : List ℕ) → BeginsWith 16 5 n bytes after → BeginsWith 32 3 w bytes behind → ⊥
+span_no_branch n w [] after behind a b = some_bytes 16 5 n after a
+span_no_branch n w (lead ∷ rest) after behind a b = let low = span_begins n lead rest after a in let high = branch_begins w lead rest behind b in omega arith
+
+-- where no byte is left there is no node
+pub none_empty : (kind : Kind) (bytes : List ℕ) → bytes ≡ [] → (s : Shape) → Begins kind bytes s → ⊥
+none_empty kind bytes e (value v rest) b = some_bytes 16 4 v rest (subst (λ x. BeginsWith 16 4 v x rest) e b)
+none_empty kind bytes e (literal c rest) b = let is = sym e ∙ b.1 in cc
+none_empty kind bytes e (branch edges width behind) b = some_bytes 32 3 _ behind (subst (λ x. BeginsWith 32 3 (256 * (width - 1) + edges % 256) x behind) e b.begins)
+
+-- the leads of a node
+abbrev Leads : ℕ → Shape → Type 0
+Leads lead (value v rest) = (128 ≤ lead) × (lead < 160)
+Leads lead (literal b rest) = lead < 128
+Leads lead (branch edges width behind) = 192 ≤ lead
+
+node_leads : (kind : Kind) (lead : ℕ) (rest : List ℕ) (s : Shape) → Begins kind (lead ∷ rest) s → Leads lead s
+node_leads kind lead rest (value v after) b = value_begins v lead rest after b
+node_leads kind lead rest (literal c after) b = let is = (cons_parts lead c rest after b.1).0 in let low = b.0 in omega arith
+node_leads kind lead rest (branch edges width behind) b = branch_begins _ lead rest behind b.begins
+
+-- by its lead a node can only be one of a kind
+pub only_value : (kind : Kind) (lead : ℕ) (rest bytes : List ℕ) → bytes ≡ lead ∷ rest → 128 ≤ lead → lead < 160 → ((m v : ℕ) (after : List ℕ) → BeginsWith 16 m v (lead ∷ rest) after → ⊥)
+    → (s : Shape) → Begins kind bytes s → ⊥
+only_value kind lead rest bytes e high low none s b = only s (subst (λ x. Begins kind x s) e b)
+  where
+    only : (s : Shape) → Begins kind (lead ∷ rest) s → ⊥
+    only (value v after) b = none 4 v after b
+    only (literal c after) b = let is = node_leads kind lead rest (literal c after) b in omega arith
+    only (branch edges width behind) b = let is = node_leads kind lead rest (branch edges width behind) b in omega arith
+
+pub no_span : (kind : Kind) (lead : ℕ) (rest bytes : List ℕ) → bytes ≡ lead ∷ rest → 160 ≤ lead → lead < 192 → (s : Shape) → Begins kind bytes s → ⊥
+no_span kind lead rest bytes e high low s b = none s (node_leads kind lead rest s (subst (λ x. Begins kind x s) e b))
+  where
+    none : (s : Shape) → Leads lead s → ⊥
+    none (value v after) is = omega arith
+    none (literal c after) is = omega arith
+    none (branch edges width behind) is = omega arith
+
+pub only_branch : (kind : Kind) (lead : ℕ) (rest bytes : List ℕ) → bytes ≡ lead ∷ rest → 192 ≤ lead
+    → ((edges width : ℕ) (behind : List ℕ) → BeginsBranch kind (lead ∷ rest) edges width behind → ⊥) → (s : Shape) → Begins kind bytes s → ⊥
+only_branch kind lead rest bytes e high none s b = only s (subst (λ x. Begins kind x s) e b)
+  where
+    only : (s : Shape) → Begins kind (lead ∷ rest) s → ⊥
+    only (value v after) b = let is = node_leads kind lead rest (value v after) b in omega arith
+    only (literal c after) b = let is = node_leads kind lead rest (literal c after) b in omega arith
+    only (branch edges width behind) b = none edges width behind b
+
+-- what the number of a head says
+pub head_parts : (head w e : ℕ) → 1 ≤ w → 2 ≤ e → e ≤ 256 → head ≡ 256 * (w - 1) + e % 256 → (head / 256 + 1 ≡ w) × (head % 256 ≡ e % 256)
+head_parts head w e some two most is = (omega arith, omega arith)
+
+pub head_read : {kind : Kind} (lead m head edges width : ℕ) (rest body behind : List ℕ) → BeginsWith 32 m head (lead ∷ rest) body → BeginsBranch kind (lead ∷ rest) edges width behind
+    → (head / 256 + 1 ≡ width) × (head % 256 ≡ edges % 256) × (body ≡ behind)
+head_read lead m head edges width rest body behind r b =
+    let one = one_reading 32 m 3 head _ (lead ∷ rest) body behind r b.begins in
+    let parts = head_parts head width edges b.some b.two b.at_most one.0 in
+    (parts.0, parts.1, one.1)
+
+pub narrow : {kind : Kind} {bytes : List ℕ} (edges width : ℕ) (behind : List ℕ) → IsAscii kind → BeginsBranch kind bytes edges width behind → width ≤ 4
+narrow {kind = kind} edges width behind ascii b = let g = greatest_width_is kind ascii in let f = b.fits in omega arith
+
+-- what lies behind a node is shorter than the bytes
+pub literal_shorter : (kind : Kind) (c : ℕ) (rest bytes : List ℕ) → Begins kind bytes (literal c rest) → length rest < length bytes
+literal_shorter kind c rest bytes b = omega (arith, ap length b.1)
+
+pub branch_shorter : (kind : Kind) (edges width : ℕ) (behind bytes : List ℕ) → Begins kind bytes (branch edges width behind) → length behind < length bytes
+branch_shorter kind edges width behind bytes b = after_shorter 32 3 _ bytes behind b.begins

@@ -1,0 +1,2 @@
+-- Words for the private functions of the plain encoder.
+pub mod Encoding

@@ -1,0 +1,4 @@
+-- Words of the look-up's private functions.
+pub mod Going
+pub mod Reading
+pub mod Descending

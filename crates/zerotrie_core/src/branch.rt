@@ -1,0 +1,184 @@
+//! A branch, where it lies.
+//!
+//! Behind its head a branch has its edges, a table of offsets, and its targets, one after another. The table
+//! has an offset for each edge but the first, where its target begins: the highest bytes of all of them
+//! first, then the next, and so on.
+
+ghost use Rattle.std.specs.Prelude.{◌≡◌, ◌≢◌, ℕ, ◌+◌, ◌-◌, ◌*◌, ◌<◌, ◌≤◌, List, length, take, IfSome, IfNone, slice_index};
+ghost use Rattle.std.specs.Slice.{IsGetRangeResult};
+ghost use Rattle.zerotrie_core.specs.Kind.{fold_byte};
+ghost use Rattle.zerotrie_core.specs.Nodes.{Shape, number_from, targets_behind, begin_of, end_of};
+ghost use Rattle.zerotrie_core.specs.Nodes.Shape.{branch};
+ghost use Rattle.zerotrie_core.specs.reader.Reading.{AlwaysRises};
+ghost use Rattle.zerotrie_core.specs.reader.Going.{AlwaysGoes, AlwaysStops};
+
+use crate::options::ZeroTrieWithOptions;
+
+/// The byte as the kind compares it: an ASCII letter in lower case where case is ignored, and else itself.
+#[inline(always)]
+pub fn folded<K: ZeroTrieWithOptions>(byte: u8) -> u8
+    ensures { result ≡ fold_byte K.kind byte }
+{
+    if K::IGNORE_CASE {
+        byte.to_ascii_lowercase()
+    } else {
+        byte
+    }
+}
+
+/// All of the half of a table where the byte in its middle is not above the byte sought, else nothing.
+#[inline(always)]
+fn half_passed(half: usize, middle: u8, byte: u8) -> usize
+    ensures passed { middle ≤ byte → result ≡ half }
+    ensures stayed { byte < middle → result ≡ 0 }
+{
+    half * ((256 + byte as usize - middle as usize) / 256)
+}
+
+/// The place of a byte in a table whose bytes rise when they are folded.
+///
+/// Since each byte is above the one before it, the first and the last bound the place, closely where the
+/// edges lie close together. What is left is halved, with no branch on what it holds: which edge a key
+/// takes can't be predicted. Only the bytes that are looked at are folded.
+#[inline(always)]
+fn place_in<K: ZeroTrieWithOptions>(table: &[u8], byte: u8) -> Option<usize>
+    ensures some {
+        IfSome result (λ place. (place < length table.now)
+            × (fold_byte K.kind (slice_index table.now place) ≡ fold_byte K.kind byte))
+    }
+    ensures none {
+        IfNone result (AlwaysRises K.kind table.now → (k : ℕ) → k < length table.now
+            → fold_byte K.kind (slice_index table.now k) ≢ fold_byte K.kind byte)
+    }
+{
+    let end = table.len().checked_sub(1)?;
+    let sought = folded::<K>(byte);
+    let first = folded::<K>(table[0]);
+    let last = folded::<K>(table[end]);
+    if sought < first || last < sought {
+        return None;
+    }
+    let mut base = end.saturating_sub((last - sought) as usize);
+    let mut left = (end.min((sought - first) as usize) + 1).saturating_sub(base);
+    if left == 0 {
+        return None;
+    }
+    while left > 1 {
+        let half = left / 2;
+        let middle = folded::<K>(table[base + half]);
+        base += half_passed(half, middle, sought);
+        left -= half;
+    }
+    if folded::<K>(table[base]) == sought {
+        Some(base)
+    } else {
+        None
+    }
+}
+
+/// The number whose bytes stand at one place of each block, the highest first.
+#[inline(always)]
+fn offset_at(table: &[u8], place: usize, count: usize, width: usize) -> usize
+    requires place { place < count }
+    requires width { width ≤ 8 }
+    requires len { length table.now ≡ width * count }
+    ensures { result ≡ number_from 0 width count place table.now }
+{
+    if width == 1 {
+        return table[place] as usize;
+    }
+    if width == 2 {
+        return table[place] as usize * 256 + table[count + place] as usize;
+    }
+    let mut value = 0;
+    let mut rest = table;
+    for _block in 0..width {
+        value = value * 256 + rest[place] as usize;
+        let (_, below) = rest.split_at(count);
+        rest = below;
+    }
+    value
+}
+
+/// A branch: how many edges it has, how many bytes an offset has, and all bytes from the edges on.
+#[derive(Clone, Copy)]
+pub struct Branch<'a> {
+    pub edges: usize,
+    pub width: usize,
+    pub behind: &'a [u8],
+    ghost some: { (2 ≤ edges) × (edges ≤ 256) },
+    ghost narrow: { (1 ≤ width) × (width ≤ 8) },
+    ghost whole: { edges + width * (edges - 1) ≤ length behind.now },
+}
+
+impl<'a> Branch<'a> {
+    /// The byte of an edge.
+    #[inline(always)]
+    pub fn edge_at(&self, index: usize) -> u8
+        requires { index < self.now.edges }
+        ensures { result ≡ slice_index self.now.behind.now index }
+    {
+        self.behind[index]
+    }
+
+    /// The place of the edge that is the byte to the kind.
+    #[inline(always)]
+    pub fn place_of<K: ZeroTrieWithOptions>(&self, byte: u8) -> Option<usize>
+        ensures some {
+            IfSome result (λ place. (place < self.now.edges)
+                × (fold_byte K.kind (slice_index self.now.behind.now place) ≡ fold_byte K.kind byte))
+        }
+        ensures none {
+            IfNone result (AlwaysRises K.kind (take self.now.edges self.now.behind.now)
+                → (k : ℕ) → k < self.now.edges
+                → fold_byte K.kind (slice_index self.now.behind.now k) ≢ fold_byte K.kind byte)
+        }
+    {
+        let (table, _) = self.behind.split_at(self.edges);
+        place_in::<K>(table, byte)
+    }
+
+    /// The target of an edge, which lies between two offsets, if it does.
+    ///
+    /// Two offsets are read whichever edge it is, so that nothing waits for a test of its place.
+    #[inline(always)]
+    pub fn target_at(&self, index: usize) -> Option<&'a [u8]>
+        requires { index < self.now.edges }
+        ensures {
+            IsGetRangeResult (targets_behind self.now.edges self.now.width self.now.behind.now)
+                (begin_of self.now.edges self.now.width self.now.behind.now index)
+                (end_of self.now.edges self.now.width self.now.behind.now index) result
+        }
+    {
+        let count = self.edges - 1;
+        let (_, body) = self.behind.split_at(self.edges);
+        let (table, targets) = body.split_at(self.width * count);
+        let before = offset_at(table, index.saturating_sub(1), count, self.width);
+        let next = offset_at(table, index.min(count - 1), count, self.width);
+        let from = if index == 0 { 0 } else { before };
+        let to = if index == count {
+            targets.len()
+        } else {
+            next
+        };
+        targets.get(from..to)
+    }
+
+    /// The edge that is the byte to the kind, and its target.
+    #[inline(always)]
+    pub fn follow<K: ZeroTrieWithOptions>(&self, byte: u8) -> Option<(u8, &'a [u8])>
+        ensures shorter { IfSome result (λ r. length r.1.now ≤ length self.now.behind.now) }
+        ensures some {
+            IfSome result (λ r. AlwaysGoes K.kind
+                (branch self.now.edges self.now.width self.now.behind.now) byte r.0 r.1.now)
+        }
+        ensures none {
+            IfNone result (AlwaysStops K.kind
+                (branch self.now.edges self.now.width self.now.behind.now) byte)
+        }
+    {
+        let place = self.place_of::<K>(byte)?;
+        let target = self.target_at(place)?;
+        Some((self.edge_at(place), target))
+    }
+}

@@ -1,0 +1,97 @@
+//! Nodes that are appended.
+
+ghost use Rattle.std.specs.Prelude.{◌≡◌, ℕ, List, ◌+◌, ◌*◌, ◌/◌, ◌%◌, ◌^◌, ◌<◌, ◌≤◌, ◌⊎◌, ◌++◌, length, map, slice_index, OnOk, IfErr, IfSome, IfNone};
+ghost use Rattle.zerotrie_core.specs.Numbers.{value_form, SpellsAs};
+ghost use Rattle.zerotrie_core.specs.Branches.{IsWidth, blocks};
+ghost use Rattle.zerotrie_core.specs.Canonical.{branch_node};
+ghost use Rattle.zerotrie_core.specs.plain.Encoding.{with_bits, AreTargets};
+
+use crate::varint::{write_varint_meta2, write_varint_meta3};
+use zerotrie_base::ZeroTrieBuildError;
+
+/// Writes a number with these bits added to its lead byte.
+fn push_number(out: &mut Vec<u8>, bits: u8, number: &[u8]) -> Result<(), ZeroTrieBuildError>
+    requires { bits + slice_index number.now 0 < 256 }
+    ensures ok { OnOk result (out.new.items ≡ out.old.items ++ with_bits bits number.now) }
+    ensures err { IfErr result (λ e. e ≡ ZeroTrieBuildError.OutOfMemory) }
+{
+    if let Some((lead, trail)) = number.split_first() {
+        out.push(bits + *lead)?;
+        out.extend_from_slice(trail)?;
+    }
+    Ok(())
+}
+
+/// Writes a value node.
+pub(super) fn push_value(out: &mut Vec<u8>, value: usize) -> Result<(), ZeroTrieBuildError>
+    ensures ok { OnOk result ((spelling : List ℕ) × SpellsAs value_form value spelling × (out.new.items ≡ out.old.items ++ spelling)) }
+    ensures err { IfErr result (λ e. e ≡ ZeroTrieBuildError.OutOfMemory) }
+{
+    push_number(out, 0x80, &write_varint_meta3(value))
+}
+
+/// Writes the byte of this weight of each offset.
+fn push_block(out: &mut Vec<u8>, offsets: &[usize], place: usize) -> Result<(), ZeroTrieBuildError>
+    requires { place < 8 }
+    ensures ok { OnOk result (out.new.items ≡ out.old.items ++ map (λ o. o / 256 ^ place % 256) offsets.now) }
+    ensures err { IfErr result (λ e. e ≡ ZeroTrieBuildError.OutOfMemory) }
+{
+    for offset in offsets {
+        out.push(((offset >> (8 * place)) % 256) as u8)?;
+    }
+    Ok(())
+}
+
+/// Writes the lowest bytes of the offsets, the highest of them first.
+fn push_offsets(
+    out: &mut Vec<u8>,
+    offsets: &[usize],
+    bytes: usize,
+) -> Result<(), ZeroTrieBuildError>
+    requires { bytes ≤ 8 }
+    ensures ok { OnOk result (out.new.items ≡ out.old.items ++ blocks bytes offsets.now) }
+    ensures err { IfErr result (λ e. e ≡ ZeroTrieBuildError.OutOfMemory) }
+{
+    for place in (0..bytes).rev() {
+        push_block(out, offsets, place)?;
+    }
+    Ok(())
+}
+
+/// The width field of a branch whose targets together have so many bytes.
+fn width_of(total: usize) -> Option<usize>
+    ensures width { IfSome result (λ w. (w ≤ 3) × IsWidth total w) }
+    ensures none { IfNone result (2 ^ 32 ≤ total) }
+{
+    match total {
+        0..=0xFF => Some(0),
+        0x100..=0xFFFF => Some(1),
+        0x1_0000..=0xFF_FFFF => Some(2),
+        0x100_0000..=0xFFFF_FFFF => Some(3),
+        _ => None,
+    }
+}
+
+/// Writes a branch.
+pub(super) fn push_branch(
+    out: &mut Vec<u8>,
+    edges: &[u8],
+    offsets: &[usize],
+    targets: &[u8],
+) -> Result<(), ZeroTrieBuildError>
+    ensures ok { OnOk result ((texts : List (List ℕ)) → AreTargets texts edges.now offsets.now targets.now
+        → out.new.items ≡ out.old.items ++ branch_node edges.now texts) }
+    ensures narrow { OnOk result (length targets.now < 2 ^ 32) }
+    ensures err { IfErr result (λ e. (e ≡ ZeroTrieBuildError.OutOfMemory) ⊎ ((e ≡ ZeroTrieBuildError.CapacityExceeded) × (2 ^ 32 ≤ length targets.now))) }
+{
+    let width = width_of(targets.len()).ok_or(ZeroTrieBuildError::CapacityExceeded)?;
+    push_number(
+        out,
+        0xC0,
+        &write_varint_meta2(256 * width + edges.len() % 256),
+    )?;
+    out.extend_from_slice(edges)?;
+    push_offsets(out, offsets, width + 1)?;
+    out.extend_from_slice(targets)?;
+    Ok(())
+}
