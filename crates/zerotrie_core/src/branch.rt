@@ -6,7 +6,7 @@
 
 ghost use Rattle.std.specs.Prelude.{◌≡◌, ◌≢◌, ℕ, ◌+◌, ◌-◌, ◌*◌, ◌<◌, ◌≤◌, List, length, take, IfSome, IfNone, slice_index};
 ghost use Rattle.std.specs.Slice.{IsGetRangeResult};
-ghost use Rattle.zerotrie_core.specs.Kind.{fold_byte};
+ghost use Rattle.zerotrie_core.specs.Kind.{IsAscii, fold_byte};
 ghost use Rattle.zerotrie_core.specs.Nodes.{Shape, number_from, targets_behind, begin_of, end_of};
 ghost use Rattle.zerotrie_core.specs.Nodes.Shape.{branch};
 ghost use Rattle.zerotrie_core.specs.reader.Reading.{AlwaysRises};
@@ -167,6 +167,7 @@ impl<'a> Branch<'a> {
     /// The edge that is the byte to the kind, and its target.
     #[inline(always)]
     pub fn follow<K: ZeroTrieWithOptions>(&self, byte: u8) -> Option<(u8, &'a [u8])>
+        requires { IsAscii K.kind }
         ensures shorter { IfSome result (λ r. length r.1.now ≤ length self.now.behind.now) }
         ensures some {
             IfSome result (λ r. AlwaysGoes K.kind
