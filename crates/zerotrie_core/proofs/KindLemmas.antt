@@ -28,6 +28,12 @@ edge_limit_byte ignore_case = omega arith
 edge_limit_byte perfect_hash = omega arith
 edge_limit_byte extended_capacity = omega arith
 
+pub edge_limit_to : (kind : Kind) → edge_limit kind ≤ 256
+edge_limit_to simple_ascii = omega arith
+edge_limit_to ignore_case = omega arith
+edge_limit_to perfect_hash = omega arith
+edge_limit_to extended_capacity = omega arith
+
 pub greatest_width_is : (kind : Kind) → IsAscii kind → greatest_width kind ≡ 3
 greatest_width_is simple_ascii ascii = refl
 greatest_width_is ignore_case ascii = refl

@@ -216,6 +216,20 @@ ordered_is kind low high es es' rise up same =
     let apart = rise_apart kind low high es rise (λ b c m n f. member_fold kind es' up b c (sym (same b) ∙ m) (sym (same c) ∙ n) f) in
     rises_once kind (ordered kind es) es' (rises_ordered kind low high es rise apart) up (λ b. member-ordered kind b es ∙ same b)
 
+byte_distinct : (kind : Kind) (es : List ℕ) → Distinct kind es → Distinct simple_ascii es
+byte_distinct kind [] apart = tt
+byte_distinct kind (e ∷ es) apart = (others es apart.0, byte_distinct kind es apart.1)
+  where
+    others : (fs : List ℕ) → NoneLike kind e fs → NoneLike simple_ascii e fs
+    others [] none = tt
+    others (f ∷ fs) none = ((λ same. none.0 (ap (fold_byte kind) same)), others fs none.1)
+
+-- Edges that rise by byte are any distinct ones with the same members, sorted.
+pub sorted_is : (kind : Kind) (low high : ℕ) (es es' : List ℕ) → Rise low high es → Distinct kind es' → ((b : ℕ) → member b es ≡ member b es') → es ≡ sorted_by (λ b. b) es'
+sorted_is kind low high es es' rise apart same =
+    rises_once simple_ascii es (sorted_by (λ b. b) es') (rise_rises simple_ascii (λ b. refl) low high es rise) (rises_sorted simple_ascii es' (byte_distinct kind es' apart))
+    (λ b. same b ∙ sym (member-sorted_by (λ b. b) b es'))
+
 -- the edges of pairs rise by byte
 rise-filter : (p : ℕ → Bool) (a n high : ℕ) → a + n ≡ high → Rise a high (filter p (range_with_len a n))
 rise-filter p a zero high h = tt

@@ -1,13 +1,13 @@
 -- Pairs with a run of bytes in front of each key, and what a span begins with.
 use Rattle.std.proofs.Common.{◌≡◌, ℕ, zero, suc, ◌+◌, ◌*◌, ◌<◌, ◌≤◌, List, [], ◌∷◌, ◌++◌, length, refl, sym, ◌∙◌, ap, subst, arith, inl, inr, Bool, true, false, cond, eqb, Option, Some, None, leb}
-use Rattle.std.specs.Prelude.{◌||◌}
+use Rattle.std.specs.Prelude.{◌||◌, is_some}
 use Rattle.std.specs.Option.{option_map_or}
 use Rattle.std.specs.List.{AllByRecursion}
 use Rattle.std.proofs.lemmas.Bool.{eq-eqb, ne_eqb, cases_eq, le-leb, lt-leb}
 use Rattle.zerotrie_core.specs.Kind.{Kind, simple_ascii, fold_byte, same_byte}
-use Rattle.zerotrie_core.specs.Maps.{Pairs, with_front, with_run, after_run, value_at, begins_some, edges, residual, behind_all, longest, high_edge, unless_ends, span_to, span_of}
+use Rattle.zerotrie_core.specs.Maps.{Pairs, with_front, with_run, after_run, value_at, begins_some, edges, residual, behind_all, longest, high_edge, run_to, run_of}
 use Rattle.zerotrie_core.specs.Texts.{AreHigh, NoValueFirst, NoSpanFirst}
-use Rattle.zerotrie_core.proofs.EdgeLemmas.{filter-range, begins_some-front, residual-front, residual-other}
+use Rattle.zerotrie_core.proofs.EdgeLemmas.{edges_front, residual-front, residual-other}
 use Rattle.zerotrie_core.proofs.KindLemmas.{one_fold, two_folds}
 use Rattle.zerotrie_core.proofs.ValueLemmas.{value_at-front, value_at-other, value_at-no_key}
 
@@ -59,17 +59,8 @@ pub behind_run : (run : List ℕ) (pairs : Pairs) → behind_all run (with_run r
 behind_run [] pairs = with_run-none pairs
 behind_run (b ∷ run) pairs = ap (behind_all run) (residual-run b run pairs) ∙ behind_run run pairs
 
-or_nothing : (x : Bool) → x ≡ (x || false)
-or_nothing true = refl
-or_nothing false = refl
-
--- one edge leads to pairs that all begin with one byte
-pub edges_one : (b : ℕ) (pairs : Pairs) → b < 256 → (pairs ≡ [] → ⊥) → edges (with_front b pairs) ≡ b ∷ []
-unfolding edges
-edges_one b pairs low some = filter-range (begins_some (with_front b pairs)) 0 256 256 (b ∷ []) refl (omega arith, low, tt) (λ x h. begins_some-front b x pairs some ∙ or_nothing (eqb b x))
-
 pub edges_run : (b : ℕ) (run : List ℕ) (pairs : Pairs) → b < 256 → (pairs ≡ [] → ⊥) → edges (with_run (b ∷ run) pairs) ≡ b ∷ []
-edges_run b run pairs low some = ap edges (with_run-front b run pairs) ∙ edges_one b (with_run run pairs) low (λ none. some (run_none run pairs none))
+edges_run b run pairs low some = ap edges (with_run-front b run pairs) ∙ edges_front b (with_run run pairs) low (λ none. some (run_none run pairs none))
 
 nothing_some : (o : Option (List ℕ)) (x : List ℕ) → o ≡ None → o ≡ Some x → ⊥
 nothing_some o x none some = cc
@@ -88,54 +79,41 @@ longest-front b [] some = absurd (some refl)
 longest-front b (e ∷ []) some = omega arith
 longest-front b (e ∷ f ∷ pairs) some = let rest = longest-front b (f ∷ pairs) (λ none. absurd (cc)) in omega arith
 
--- pairs that one edge leads to
-span_front : (d b : ℕ) (pairs : Pairs) → b < 256 → (pairs ≡ [] → ⊥)
-    → span_to (suc d) (with_front b pairs) ≡ cond (leb 128 b) (b ∷ unless_ends (value_at simple_ascii pairs []) (span_to d pairs)) []
-span_front d b pairs low some =
-    ap (λ es. high_edge es (λ c. unless_ends (value_at simple_ascii (residual c (with_front b pairs)) []) (span_to d (residual c (with_front b pairs))))) (edges_one b pairs low some)
-    ∙ ap (λ ps. cond (leb 128 b) (b ∷ unless_ends (value_at simple_ascii ps []) (span_to d ps)) []) (residual-front b pairs)
+-- a byte in front of a run that each key begins with
+run_front : (d b : ℕ) (pairs : Pairs) → b < 256 → (pairs ≡ [] → ⊥) → run_to (suc d) (with_front b pairs) ≡ cond (leb 128 b) (b ∷ run_to d pairs) []
+run_front d b pairs low some =
+    ap (λ o. cond (is_some o) [] (high_edge (edges (with_front b pairs)) (λ c. run_to d (residual c (with_front b pairs))))) (value_at-no_key simple_ascii b pairs)
+    ∙ ap (λ es. high_edge es (λ c. run_to d (residual c (with_front b pairs)))) (edges_front b pairs low some)
+    ∙ ap (λ ps. cond (leb 128 b) (b ∷ run_to d ps) []) (residual-front b pairs)
 
--- no span begins with an ASCII byte
-pub span_of-literal : (b : ℕ) (pairs : Pairs) → b < 128 → (pairs ≡ [] → ⊥) → span_of (with_front b pairs) ≡ []
-unfolding span_of
-span_of-literal b pairs low some =
-    ap (λ d. span_to d (with_front b pairs)) (longest-front b pairs some)
-    ∙ span_front (longest pairs) b pairs (omega arith) some
+pub run_of-literal : (b : ℕ) (pairs : Pairs) → b < 128 → (pairs ≡ [] → ⊥) → run_of (with_front b pairs) ≡ []
+unfolding run_of
+run_of-literal b pairs low some =
+    ap (λ d. run_to d (with_front b pairs)) (longest-front b pairs some)
+    ∙ run_front (longest pairs) b pairs (omega arith) some
     ∙ rw (lt-leb 128 b low) refl
 
--- a byte from 128 on stands in front of what all keys behind it have in common
-pub span_of-front : (b : ℕ) (pairs : Pairs) → 128 ≤ b → b < 256 → (pairs ≡ [] → ⊥) → span_of (with_front b pairs) ≡ b ∷ unless_ends (value_at simple_ascii pairs []) (span_of pairs)
-unfolding span_of
-span_of-front b pairs high low some =
-    ap (λ d. span_to d (with_front b pairs)) (longest-front b pairs some)
-    ∙ span_front (longest pairs) b pairs low some
+run_of-front : (b : ℕ) (pairs : Pairs) → 128 ≤ b → b < 256 → (pairs ≡ [] → ⊥) → run_of (with_front b pairs) ≡ b ∷ run_of pairs
+unfolding run_of
+run_of-front b pairs high low some =
+    ap (λ d. run_to d (with_front b pairs)) (longest-front b pairs some)
+    ∙ run_front (longest pairs) b pairs low some
     ∙ rw (le-leb 128 b high) refl
 
--- No span stands in front of the pairs: a key ends here, or there is no byte from 128 on with which all begin.
-abbrev pub EndsSpan : Pairs → Type 0
-EndsSpan pairs = unless_ends (value_at simple_ascii pairs []) (span_of pairs) ≡ []
+-- a run in front goes on as what stands behind it begins
+pub run_of-run : (run : List ℕ) (pairs : Pairs) → AreHigh run → (pairs ≡ [] → ⊥) → run_of (with_run run pairs) ≡ run ++ run_of pairs
+run_of-run [] pairs high some = ap run_of (with_run-none pairs)
+run_of-run (b ∷ run) pairs high some =
+    ap run_of (with_run-front b run pairs)
+    ∙ run_of-front b (with_run run pairs) high.0 high.1 (λ none. some (run_none run pairs none))
+    ∙ ap (λ r. b ∷ r) (run_of-run run pairs high.2 some)
 
-ends_run : (run : List ℕ) (pairs : Pairs) → AreHigh run → (pairs ≡ [] → ⊥) → EndsSpan pairs → unless_ends (value_at simple_ascii (with_run run pairs) []) (span_of (with_run run pairs)) ≡ run
-ends_run [] pairs high some ends = ap (λ ps. unless_ends (value_at simple_ascii ps []) (span_of ps)) (with_run-none pairs) ∙ ends
-ends_run (b ∷ run) pairs high some ends =
-    let rest = with_run run pairs in
-    ap (λ ps. unless_ends (value_at simple_ascii ps []) (span_of ps)) (with_run-front b run pairs)
-    ∙ ap (λ o. unless_ends o (span_of (with_front b rest))) (value_at-no_key simple_ascii b rest)
-    ∙ span_of-front b rest high.0 high.1 (λ none. some (run_none run pairs none))
-    ∙ ap (λ r. b ∷ r) (ends_run run pairs high.2 some ends)
-
--- a run in front of pairs without a span is their span
-pub span_of-run : (run : List ℕ) (pairs : Pairs) → (run ≡ [] → ⊥) → AreHigh run → (pairs ≡ [] → ⊥) → EndsSpan pairs → span_of (with_run run pairs) ≡ run
-span_of-run run pairs there high some ends =
-    ap (λ o. unless_ends o (span_of (with_run run pairs))) (sym (value_at-no_run simple_ascii run pairs there))
-    ∙ ends_run run pairs high some ends
-
--- the empty key is in no span
-pub span_of-value : (v : ℕ) (pairs : Pairs) → span_of (([], v) ∷ pairs) ≡ span_of pairs
-unfolding span_of edges
-span_of-value v pairs = by_length (longest (([], v) ∷ pairs)) ∙ ap (λ d. span_to d pairs) (let same : longest (([], v) ∷ pairs) ≡ longest pairs = omega arith in same)
+-- no run goes beyond the end of a key
+pub run_of-value : (v : ℕ) (pairs : Pairs) → run_of (([], v) ∷ pairs) ≡ []
+unfolding run_of
+run_of-value v pairs = by_length (longest (([], v) ∷ pairs))
   where
-    by_length : (d : ℕ) → span_to d (([], v) ∷ pairs) ≡ span_to d pairs
+    by_length : (d : ℕ) → run_to d (([], v) ∷ pairs) ≡ []
     by_length zero = refl
     by_length (suc d) = refl
 
@@ -144,15 +122,15 @@ high_edge-many [] behind two = refl
 high_edge-many (b ∷ []) behind two = absurd (omega arith)
 high_edge-many (b ∷ c ∷ more) behind two = refl
 
--- keys with several first bytes have none
-pub span_of-many : (pairs : Pairs) → 2 ≤ length (edges pairs) → span_of pairs ≡ []
-unfolding span_of
-span_of-many pairs two = by_length (longest pairs)
-  where
-    by_length : (d : ℕ) → span_to d pairs ≡ []
-    by_length zero = refl
-    by_length (suc d) = high_edge-many (edges pairs) _ two
+either_none : (b : Bool) (run : List ℕ) → run ≡ [] → cond b [] run ≡ []
+either_none true run none = refl
+either_none false run none = none
 
-pub ends_none : (o : Option ℕ) (run : List ℕ) → run ≡ [] → unless_ends o run ≡ []
-ends_none None run none = none
-ends_none (Some v) run none = refl
+-- and none begins where the keys part
+pub run_of-many : (pairs : Pairs) → 2 ≤ length (edges pairs) → run_of pairs ≡ []
+unfolding run_of
+run_of-many pairs two = by_length (longest pairs)
+  where
+    by_length : (d : ℕ) → run_to d pairs ≡ []
+    by_length zero = refl
+    by_length (suc d) = either_none (is_some (value_at simple_ascii pairs [])) _ (high_edge-many (edges pairs) _ two)

@@ -1,7 +1,7 @@
 -- Maps from byte lists to numbers, and lists of pairs.
 use Rattle.std.specs.List.{range_with_len}
 use Rattle.std.proofs.Common.{zero, suc}
-use Rattle.std.specs.Prelude.{nat_le, ◌==◌, ◌||◌, ◌+◌, filter, max, length, ◌≡◌, ℕ, List, [], ◌∷◌, ◌++◌, map, Option, Some, None, if◌then◌else◌, Bool, false, ◌⊎◌, All, Contains}
+use Rattle.std.specs.Prelude.{nat_le, is_some, ◌==◌, ◌||◌, ◌+◌, filter, max, length, ◌≡◌, ℕ, List, [], ◌∷◌, ◌++◌, map, Option, Some, None, if◌then◌else◌, Bool, false, ◌⊎◌, All, Contains}
 use Rattle.std.specs.FinMap.{FinMap, from_entries, entries}
 use Rattle.std.specs.Cmp.Lexicographic.{slice_cmp, pointwise}
 use Rattle.std.specs.Ordering.{nat_cmp}
@@ -94,20 +94,15 @@ high_edge [] behind = []
 high_edge (b ∷ []) behind = if nat_le 128 b then b ∷ behind b else []
 high_edge (b ∷ c ∷ more) behind = []
 
--- nothing where a key ends
-abbrev pub unless_ends : Option ℕ → List ℕ → List ℕ
-unless_ends (Some v) run = []
-unless_ends None run = run
-
--- the longest run of bytes from 128 on with which each key but the empty one begins, of at most d bytes
-abbrev pub span_to : ℕ → Pairs → List ℕ
-span_to zero pairs = []
-span_to (suc d) pairs =
-    high_edge (edges pairs) (λ b. unless_ends (value_at simple_ascii (residual b pairs) []) (span_to d (residual b pairs)))
+-- the longest run of bytes from 128 on with which each key begins, of at most d bytes
+abbrev pub run_to : ℕ → Pairs → List ℕ
+run_to zero pairs = []
+run_to (suc d) pairs =
+    if is_some (value_at simple_ascii pairs []) then [] else high_edge (edges pairs) (λ b. run_to d (residual b pairs))
 
 -- the longest of all
-unfoldable pub span_of : Pairs → List ℕ
-span_of pairs = span_to (longest pairs) pairs
+unfoldable pub run_of : Pairs → List ℕ
+run_of pairs = run_to (longest pairs) pairs
 
 -- how long the common front of two keys is, by a test of two bytes
 abbrev pub common_front : (ℕ → ℕ → Bool) → List ℕ → List ℕ → ℕ
