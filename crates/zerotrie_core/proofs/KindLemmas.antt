@@ -22,12 +22,6 @@ edge_limit_from ignore_case = omega arith
 edge_limit_from perfect_hash = omega arith
 edge_limit_from extended_capacity = omega arith
 
-pub edge_limit_byte : (kind : Kind) → edge_limit kind ≤ 256
-edge_limit_byte simple_ascii = omega arith
-edge_limit_byte ignore_case = omega arith
-edge_limit_byte perfect_hash = omega arith
-edge_limit_byte extended_capacity = omega arith
-
 pub edge_limit_to : (kind : Kind) → edge_limit kind ≤ 256
 edge_limit_to simple_ascii = omega arith
 edge_limit_to ignore_case = omega arith

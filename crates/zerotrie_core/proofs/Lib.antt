@@ -24,6 +24,7 @@ mod OrderedLemmas
 mod SameLemmas
 mod FrontLemmas
 mod CanonLaws
+mod SizeLemmas
 mod EncodeLaws
 mod SizeLaws
 mod OrderLaws

@@ -40,7 +40,7 @@ length-put_by : (fold : ℕ → ℕ) (a : ℕ) (es : List ℕ) → length (put_b
 length-put_by fold a [] = refl
 length-put_by fold a (c ∷ es) = both (λ x. length x ≡ suc (suc (length es))) (ltb (fold c) (fold a)) (c ∷ put_by fold a es) (a ∷ c ∷ es) (ap suc (length-put_by fold a es)) refl
 
-length-sorted_by : (fold : ℕ → ℕ) (es : List ℕ) → length (sorted_by fold es) ≡ length es
+pub length-sorted_by : (fold : ℕ → ℕ) (es : List ℕ) → length (sorted_by fold es) ≡ length es
 length-sorted_by fold [] = refl
 length-sorted_by fold (e ∷ es) = length-put_by fold e (sorted_by fold es) ∙ ap suc (length-sorted_by fold es)
 
@@ -59,7 +59,7 @@ total-put_by fold f a (c ∷ es) = both (λ x. total (map f x) ≡ f a + total (
     (let first = total-cons (f c) (map f (put_by fold a es)) in let rest = total-put_by fold f a es in let last = total-cons (f c) (map f es) in omega arith)
     (total-cons (f a) (map f (c ∷ es)))
 
-total-sorted_by : (fold f : ℕ → ℕ) (es : List ℕ) → total (map f (sorted_by fold es)) ≡ total (map f es)
+pub total-sorted_by : (fold f : ℕ → ℕ) (es : List ℕ) → total (map f (sorted_by fold es)) ≡ total (map f es)
 total-sorted_by fold f [] = refl
 total-sorted_by fold f (e ∷ es) =
     total-put_by fold f e (sorted_by fold es) ∙ ap (λ n. f e + n) (total-sorted_by fold f es) ∙ sym (total-cons (f e) (map f es))
