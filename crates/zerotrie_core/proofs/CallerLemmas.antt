@@ -25,4 +25,4 @@ pub use Rattle.zerotrie_core.proofs.CanonLaws.{lists_some, bytes_all}
 pub use Rattle.zerotrie_core.proofs.EncodeLaws.{node_lists, not_empty_text}
 
 -- how many edges and target bytes the pairs of a branch have
-pub use Rattle.zerotrie_core.proofs.ListedLemmas.{targets_each, edges_count}
+pub use Rattle.zerotrie_core.proofs.SizeLaws.{targets_each, edges_count}

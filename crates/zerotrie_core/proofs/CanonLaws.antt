@@ -35,7 +35,7 @@ pub Shorter-parts : (d : ℕ) (xs ys : Pairs) → Shorter d (xs ++ ys) → Short
 Shorter-parts d [] ys h = (tt, h)
 Shorter-parts d (e ∷ xs) ys h = let r = Shorter-parts d xs ys h.1 in ((h.0, r.0), r.1)
 
-front_none : (b : ℕ) (pairs : Pairs) → with_front b pairs ≡ [] → pairs ≡ []
+pub front_none : (b : ℕ) (pairs : Pairs) → with_front b pairs ≡ [] → pairs ≡ []
 front_none b [] e = refl
 front_none b (x ∷ pairs) e = absurd (cc)
 

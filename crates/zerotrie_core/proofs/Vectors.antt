@@ -5,7 +5,7 @@ use Rattle.std.specs.List.Sorted.{IsStrictlyIncreasing}
 use Rattle.zerotrie_base.specs.Hashes.{place_of}
 use Rattle.zerotrie_core.specs.Kind.{Kind, simple_ascii, perfect_hash}
 use Rattle.zerotrie_core.specs.Numbers.{Spells, spelled}
-use Rattle.zerotrie_core.specs.Maps.{Pairs, edges, residual, span_of}
+use Rattle.zerotrie_core.specs.Maps.{Pairs, edges, residual, run_of}
 use Rattle.zerotrie_core.specs.Branches.{IsBranch, IsTable, width}
 use Rattle.zerotrie_core.specs.Branches.IsTable.{sorted, hashed}
 use Rattle.zerotrie_core.specs.Texts.{Lists}
@@ -32,12 +32,12 @@ top = refl
 nordic : Pairs
 nordic = (0x62 ∷ 0xC3 ∷ 0xA5 ∷ 0x72 ∷ [], 2) ∷ (0x62 ∷ 0xC3 ∷ 0xA5 ∷ 0x7A ∷ 0x7A ∷ 0xC3 ∷ 0xB8 ∷ 0xC3 ∷ 0xB8 ∷ [], 3) ∷ (0x66 ∷ 0x6F ∷ 0x6F ∷ [], 1) ∷ []
 
-nordic_span : span_of (residual 0x62 nordic) ≡ 0xC3 ∷ 0xA5 ∷ []
-unfolding nordic span_of edges
-nordic_span = refl
+nordic_run : run_of (residual 0x62 nordic) ≡ 0xC3 ∷ 0xA5 ∷ []
+unfolding nordic run_of edges
+nordic_run = refl
 
 nordic_size : size_to 9 perfect_hash nordic ≡ 22
-unfolding nordic spelled width edges span_of
+unfolding nordic spelled width edges run_of
 nordic_size = refl
 
 -- the keys "a" to "p": sixteen edges, so a hashed table
@@ -45,7 +45,7 @@ letters : Pairs
 letters = (0x61 ∷ [], 0) ∷ (0x62 ∷ [], 1) ∷ (0x63 ∷ [], 2) ∷ (0x64 ∷ [], 3) ∷ (0x65 ∷ [], 4) ∷ (0x66 ∷ [], 5) ∷ (0x67 ∷ [], 6) ∷ (0x68 ∷ [], 7) ∷ (0x69 ∷ [], 8) ∷ (0x6A ∷ [], 9) ∷ (0x6B ∷ [], 10) ∷ (0x6C ∷ [], 11) ∷ (0x6D ∷ [], 12) ∷ (0x6E ∷ [], 13) ∷ (0x6F ∷ [], 14) ∷ (0x70 ∷ [], 15) ∷ []
 
 letters_hashed : size_to 2 perfect_hash letters ≡ 65
-unfolding letters spelled width edges span_of
+unfolding letters spelled width edges run_of
 letters_hashed = refl
 
 letters_sorted : size_to 2 simple_ascii letters ≡ 48
