@@ -1,5 +1,10 @@
+pub use Rattle.zerotrie_base.specs.Hashes
+pub use Rattle.zerotrie_base.specs.Refusals
 pub use Rattle.zerotrie_core.specs.Kind
+pub use Rattle.zerotrie_core.specs.Options
+pub use Rattle.zerotrie_core.specs.Numbers
 pub use Rattle.zerotrie_core.specs.Maps
+pub use Rattle.zerotrie_core.specs.Branches
 pub use Rattle.zerotrie_core.specs.Texts
 pub use Rattle.zerotrie_core.specs.Canonical
 pub use Rattle.zerotrie_core.specs.Fits
@@ -7,4 +12,5 @@ pub use Rattle.zerotrie_core.specs.Causes
 pub use Rattle.zerotrie_core.specs.Built
 pub use Rattle.zerotrie_core.specs.Items
 pub use Rattle.zerotrie_core.specs.Routes
+pub use Rattle.zerotrie_core.specs.Laws
 pub use Rattle.zerotrie_any.specs.Order

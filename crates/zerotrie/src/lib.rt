@@ -30,5 +30,11 @@ mod tests;
 pub use zerotrie_any::TextKey;
 pub use zerotrie_ascii::{AsciiKind, AsciiTrie, ZeroAsciiIgnoreCaseTrie, ZeroTrieSimpleAscii};
 pub use zerotrie_core::{
-    ConvertStore, Ignore, Simple, TrieKey, TrieStore, ZeroTrieBuildError, ZeroTrieWithOptions,
+    ConvertStore, Ignore, Simple, TrieKey, TrieStore, ZeroTrieBuildError, ZeroTrieBuilderOptions,
+    ZeroTrieWithOptions, laws,
 };
+
+/// The perfect hash of bytes, on which hashed branches rest.
+pub mod _internal {
+    pub use zerotrie_core::{PerfectByteHashMap, f1, f2};
+}

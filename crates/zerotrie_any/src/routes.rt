@@ -1,10 +1,11 @@
 //! The routes by which the bytes of a trie of any kind are built.
 
 ghost use Rattle.std.specs.Prelude.{◌≡◌, IfOk, OnOk};
+ghost use Rattle.std.specs.Iterator.{IsFiniteIterable};
 ghost use Rattle.zerotrie_core.specs.Kind.{IsAscii};
 ghost use Rattle.zerotrie_core.specs.Maps.{Ascends};
 ghost use Rattle.zerotrie_core.specs.Items.{pairs_of, keyed};
-ghost use Rattle.zerotrie_core.specs.Routes.{ascending, in_order, IsBuild, CanRun, OfAllGiven, IsBuildOfAll};
+ghost use Rattle.zerotrie_core.specs.Routes.{ascending, in_order, IsBuild, OfAllGiven, IsBuildOfAll};
 ghost use Rattle.zerotrie_any.specs.Order.{IsByBytes};
 
 use std::alloc::{AllocError, Global};
@@ -92,7 +93,7 @@ pub fn bytes_from_iter<
 where
     U::IntoIter: Drop,
     requires ascii { IsAscii K.kind }
-    requires steps { CanRun U.into_iter_gives U.IntoIter.can_next U.IntoIter.remaining iter }
+    requires steps { IsFiniteIterable U.into_iter_gives U.IntoIter.can_next U.IntoIter.remaining iter }
     ensures { IsBuildOfAll (OfAllGiven U.into_iter_gives U.IntoIter.next_gives Key.key iter)
         K.kind (λ bytes. bytes.items) result }
 {

@@ -4,10 +4,11 @@ ghost use Rattle.std.specs.Prelude.{◌≡◌, ◌==◌, ◌↔◌, IsTrue, IfOk
 ghost use Rattle.std.specs.Cmp.{on_equiv, on_per};
 ghost use Rattle.std.specs.Cmp as cmp;
 ghost use Rattle.std.specs.Cmp.Lexicographic.{pointwise, nat_list_eq_equiv};
+ghost use Rattle.std.specs.Iterator.{IsFiniteIterable};
 ghost use Rattle.zerotrie_core.specs.Maps.{Map, look};
 ghost use Rattle.zerotrie_core.specs.Texts.{Means};
 ghost use Rattle.zerotrie_core.specs.Items.{pairs_of, keyed};
-ghost use Rattle.zerotrie_core.specs.Routes.{ascending, in_order, IsBuild, CanRun, OfAllGiven, IsBuildOfAll};
+ghost use Rattle.zerotrie_core.specs.Routes.{ascending, in_order, IsBuild, OfAllGiven, IsBuildOfAll};
 ghost use Rattle.zerotrie_any.specs.Order.{IsByBytes};
 
 use crate::options::AsciiKind;
@@ -249,7 +250,7 @@ impl<K: AsciiKind> AsciiTrie<K, Vec<u8>> {
     ) -> Result<Self, ZeroTrieBuildError>
     where
         U::IntoIter: Drop,
-        requires { CanRun U.into_iter_gives U.IntoIter.can_next U.IntoIter.remaining iter }
+        requires { IsFiniteIterable U.into_iter_gives U.IntoIter.can_next U.IntoIter.remaining iter }
         ensures { IsBuildOfAll (OfAllGiven U.into_iter_gives U.IntoIter.next_gives Key.key iter)
             K.kind (λ trie. trie.store.items) result }
     {

@@ -1,10 +1,11 @@
 //! The builder.
 
 ghost use Rattle.std.specs.Prelude.{◌≡◌, IfOk};
+ghost use Rattle.std.specs.Iterator.{IsFiniteIterable};
 ghost use Rattle.zerotrie_core.specs.Items.{pairs_of, keyed};
 ghost use Rattle.zerotrie_core.specs.Kind.{IsAscii, kind_with};
 ghost use Rattle.zerotrie_core.specs.Maps.{Ascends, RepeatsKey};
-ghost use Rattle.zerotrie_core.specs.Routes.{ascending, any_order, IsBuild, CanRun, OfAllGiven, IsBuildOfAll};
+ghost use Rattle.zerotrie_core.specs.Routes.{ascending, any_order, IsBuild, OfAllGiven, IsBuildOfAll};
 ghost use Rattle.zerotrie_build.specs.Items.{pairs};
 ghost use Rattle.zerotrie_build.specs.Order.{Ordered};
 
@@ -152,7 +153,7 @@ impl<S: TrieBuilderStore + Drop> ZeroTrieBuilder<S> {
     where
         U::IntoIter: Drop,
         requires kind { IsAscii (kind_with options) }
-        requires steps { CanRun U.into_iter_gives U.IntoIter.can_next U.IntoIter.remaining iter }
+        requires steps { IsFiniteIterable U.into_iter_gives U.IntoIter.can_next U.IntoIter.remaining iter }
         ensures { IsBuildOfAll (OfAllGiven U.into_iter_gives U.IntoIter.next_gives K.key iter)
             (kind_with options) (λ b. S.list b.data) result }
     {

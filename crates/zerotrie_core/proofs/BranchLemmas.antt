@@ -11,7 +11,7 @@ use Rattle.std.specs.Slice.{IsGetRangeResult}
 use Rattle.std.specs.Option.{IsSomeAnd}
 use Rattle.std.specs.Borrow.{Bor}
 use Rattle.zerotrie_core.specs.Branches.{blocks, offsets}
-use Rattle.zerotrie_core.specs.Nodes.{number_from, offset_in, targets_behind, begin_of, end_of}
+use Rattle.zerotrie_core.specs.Nodes.{number_from, offset_in, targets_behind, begin_of, end_of, IsTargetResult}
 
 add_zero_mod : (x p : ℕ) → x < p → 0 * p + x % p ≡ x
 add_zero_mod x p h = rw (mod-eq_of_lt h) (omega arith)
@@ -157,7 +157,7 @@ module _ {targets : List (List ℕ)} {n w : ℕ} {behind : List ℕ} (has : HasT
   pub target_between : (place : ℕ) → place < n → take (end_of n w behind place - begin_of n w behind place) (drop (begin_of n w behind place) (targets_behind n w behind)) ≡ get_or targets place []
   target_between place h = rw (begin_is place h, end_is place h, targets_are) (between targets place (rw has.count h))
 
-  pub target_is : (place : ℕ) (r : Option (Bor (List ℕ))) → place < n → IsGetRangeResult (targets_behind n w behind) (begin_of n w behind place) (end_of n w behind place) r → IsSomeAnd r (λ x. x.now ≡ get_or targets place [])
+  pub target_is : (place : ℕ) (r : Option (Bor (List ℕ))) → place < n → IsTargetResult n w behind place r → IsSomeAnd r (λ x. x.now ≡ get_or targets place [])
   target_is place r h g =
       let inside : place < length targets = rw has.count h in
       let next = next_end targets place inside in

@@ -26,3 +26,7 @@ pub use Rattle.zerotrie_core.proofs.EncodeLaws.{node_lists, not_empty_text}
 
 -- how many edges and target bytes the pairs of a branch have
 pub use Rattle.zerotrie_core.proofs.SizeLaws.{targets_each, edges_count}
+
+-- no two keys of a text are one to the kind, and what a look-up in its map answers
+pub use Rattle.zerotrie_core.proofs.CaseLemmas.{same_equiv, lists_apart, lists_found, same_answers}
+pub use Rattle.zerotrie_core.proofs.MapLemmas.{look-map_of}

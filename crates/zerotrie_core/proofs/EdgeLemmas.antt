@@ -51,9 +51,6 @@ cond_append : (b : Bool) (e : List ℕ × ℕ) (xs ys : Pairs) → cond b (e ∷
 cond_append true e xs ys = refl
 cond_append false e xs ys = refl
 
-keep_going : (p : ℕ → Bool) (a low : ℕ) (n high : ℕ) → a + suc n ≡ high → (a + 1) + n ≡ high
-keep_going p a low n high h = omega arith
-
 -- the numbers of a range that pass a test that only these pass
 pub filter-range : (p : ℕ → Bool) (a n high : ℕ) (es : List ℕ) → a + n ≡ high → Rise a high es → ((b : ℕ) → a ≤ b → p b ≡ member b es) → filter p (range_with_len a n) ≡ es
 filter-range p a zero high [] h r is = refl

@@ -1,21 +1,19 @@
 -- What lies behind a byte of a node.
 use Rattle.std.proofs.Common.{◌≡◌, ℕ, zero, suc, ◌+◌, ◌-◌, ◌*◌, ◌<◌, ◌≤◌, List, [], ◌∷◌, length, sym, ◌∙◌, ap, subst, arith, Some, None, get_or, take, drop}
 use Rattle.std.specs.Borrow.{Bor}
-use Rattle.std.specs.Slice.{IsGetRangeResult}
-use Rattle.std.proofs.lemmas.List.{get_or-take}
 use Rattle.zerotrie_core.specs.Kind.{Kind, IsAscii, fold_byte}
 use Rattle.zerotrie_core.specs.Maps.{Pairs, value_at, residual}
 use Rattle.zerotrie_core.specs.Texts.{Lists}
-use Rattle.zerotrie_core.specs.Nodes.{targets_behind, begin_of, end_of}
+use Rattle.zerotrie_core.specs.Nodes.{IsTargetResult}
 use Rattle.zerotrie_core.specs.Nodes.Shape.{literal, branch}
 use Rattle.zerotrie_core.specs.Cursors.{met, edge_like}
-use Rattle.zerotrie_core.specs.reader.Reading.{AlwaysRises}
+use Rattle.zerotrie_core.specs.reader.Reading.{AlwaysRises, IsPlace, HasNoPlace}
 use Rattle.zerotrie_core.specs.reader.Going.{Goes, Stops, AlwaysGoes, AlwaysStops}
 use Rattle.zerotrie_core.proofs.KindLemmas.{ascii_sorted}
 use Rattle.zerotrie_core.proofs.TableLemmas.{NoneLike, Each-at, rises_at, table_rises}
 use Rattle.zerotrie_core.proofs.EachLemmas.{like_none, like_some, each_none, each_behind, met_each}
 use Rattle.zerotrie_core.proofs.BranchLemmas.{target_is}
-use Rattle.zerotrie_core.proofs.OpenLemmas.{Opens, literal_opens, branch_opens, ascii_held}
+use Rattle.zerotrie_core.proofs.OpenLemmas.{Opens, held_edge, literal_opens, branch_opens, ascii_held}
 
 -- behind an edge stands its target, and a byte that is no edge leads nowhere
 pub opens_goes : {kind : Kind} {bytes : List ℕ} {pairs : Pairs} {edges : List ℕ} {targets : List (List ℕ)} (text : Lists kind bytes pairs) → (o : Opens text edges targets)
@@ -47,33 +45,30 @@ literal_along kind b c rest same bytes pairs text begins = opens_goes text (lite
 pub literal_past : (kind : Kind) (b c : ℕ) (rest : List ℕ) → (fold_byte kind b ≡ fold_byte kind c → ⊥) → AlwaysStops kind (literal b rest) c
 literal_past kind b c rest other bytes pairs text begins = opens_stops text (literal_opens text b rest begins.0 begins.1) c (λ same. other (sym same), tt)
 
--- a branch with a sorted table: the place of an edge, and what its target was read as
+-- a branch with a sorted table: the place of an edge, and what its target is read as
 module _ (kind : Kind) (ascii : IsAscii kind) (n w : ℕ) (behind : List ℕ) (c : ℕ) where
-  pub follow_goes : (place : ℕ) (target : Bor (List ℕ)) → place < n → fold_byte kind (get_or behind place 0) ≡ fold_byte kind c
-      → IsGetRangeResult (targets_behind n w behind) (begin_of n w behind place) (end_of n w behind place) (Some target)
-      → AlwaysGoes kind (branch n w behind) c (get_or behind place 0) target.now
-  follow_goes place target h same got bytes pairs text begins =
+  pub follow_goes : (place : ℕ) (target : Bor (List ℕ)) → IsPlace kind n behind c place → IsTargetResult n w behind place (Some target) → AlwaysGoes kind (branch n w behind) c (get_or behind place 0) target.now
+  follow_goes place target is got bytes pairs text begins =
       let o = branch_opens text n w behind begins in
       let held = ascii_held n w behind ascii o.holds in
-      let here : get_or o.edges place 0 ≡ get_or behind place 0 = ap (λ t. get_or t place 0) (sym held.edges_are) ∙ get_or-take n behind place 0 h in
+      let here = held_edge held place is.0 in
       let count = held.count in
-      let g = opens_goes text o.opens c place (omega arith) (ap (fold_byte kind) here ∙ same) in
+      let g = opens_goes text o.opens c place (omega arith) (ap (fold_byte kind) here ∙ is.1) in
       subst (λ b. Goes text c b target.now) here
-      (subst (λ t. Goes text c (get_or o.edges place 0) t) (sym (target_is held.has_targets place (Some target) h got)) g)
+      (subst (λ t. Goes text c (get_or o.edges place 0) t) (sym (target_is held.has_targets place (Some target) is.0 got)) g)
 
-  pub follow_some : (place : ℕ) → place < n → IsGetRangeResult (targets_behind n w behind) (begin_of n w behind place) (end_of n w behind place) None → AlwaysStops kind (branch n w behind) c
+  pub follow_some : (place : ℕ) → place < n → IsTargetResult n w behind place None → AlwaysStops kind (branch n w behind) c
   follow_some place h got bytes pairs text begins = absurd (target_is (ascii_held n w behind ascii (branch_opens text n w behind begins).holds).has_targets place None h got)
 
-  pub follow_stops : (AlwaysRises kind (take n behind) → (k : ℕ) → k < n → fold_byte kind (get_or behind k 0) ≡ fold_byte kind c → ⊥) → AlwaysStops kind (branch n w behind) c
+  pub follow_stops : (AlwaysRises kind (take n behind) → HasNoPlace kind n behind c) → AlwaysStops kind (branch n w behind) c
   follow_stops none bytes pairs text begins =
       let o = branch_opens text n w behind begins in
       let held = ascii_held n w behind ascii o.holds in
       let count = held.count in
       let up = subst (AlwaysRises kind) (sym held.edges_are) (rises_at kind o.edges (table_rises (ascii_sorted kind ascii (length o.edges)) held.is_table)) in
       opens_stops text o.opens c (Each-at (λ e. fold_byte kind c ≡ fold_byte kind e → ⊥) o.edges (λ k h e. (
-        let inside : k < n = omega arith in
-        let here = ap (λ t. get_or t k 0) (sym held.edges_are) ∙ get_or-take n behind k 0 inside in
-        none up k inside (ap (fold_byte kind) (sym here) ∙ sym e)
+      let inside : k < n = omega arith in
+      none up k inside (ap (fold_byte kind) (sym (held_edge held k inside)) ∙ sym e)
       )))
 
 dropped : (n : ℕ) (xs : List ℕ) → length (drop n xs) ≤ length xs
@@ -82,8 +77,8 @@ dropped (suc n) [] = omega arith
 dropped (suc n) (x ∷ xs) = let h = dropped n xs in omega arith
 
 -- a target is no longer than what stands behind the head
-pub target_shorter : (n w : ℕ) (behind : List ℕ) (from to : ℕ) (r : Bor (List ℕ)) → IsGetRangeResult (targets_behind n w behind) from to (Some r) → length r.now ≤ length behind
-target_shorter n w behind from to r g =
+pub target_shorter : (n w : ℕ) (behind : List ℕ) (place : ℕ) (r : Bor (List ℕ)) → IsTargetResult n w behind place (Some r) → length r.now ≤ length behind
+target_shorter n w behind place r g =
     let whole = dropped n behind in
     let targets = dropped (w * (n - 1)) (drop n behind) in
     omega (arith, ap length g.0.2)

@@ -1,6 +1,6 @@
 -- Heads of one byte and of two, and longer ones.
-use Rattle.std.proofs.Common.{◌≡◌, ℕ, zero, suc, ◌+◌, ◌-◌, ◌*◌, ◌/◌, ◌%◌, ◌^◌, ◌<◌, ◌≤◌, List, [], ◌∷◌, ◌++◌, length, refl, sym, ◌∙◌, ap, subst, arith, get_or, drop}
-use Rattle.zerotrie_core.specs.Numbers.{Spells, BeginsWith, extender, latent, base_128, IsTrail}
+use Rattle.std.proofs.Common.{◌≡◌, ℕ, zero, suc, ◌+◌, ◌*◌, ◌%◌, ◌<◌, ◌≤◌, List, [], ◌∷◌, ◌++◌, length, refl, sym, ◌∙◌, ap, subst, arith}
+use Rattle.zerotrie_core.specs.Numbers.{BeginsWith, extender, latent, base_128, IsTrail}
 use Rattle.zerotrie_core.proofs.NumberLemmas.{cons_parts}
 
 pub head_of_one : (lead : ℕ) (rest : List ℕ) → 192 ≤ lead → lead < 224 → BeginsWith 32 3 (lead % 32) (lead ∷ rest) rest
@@ -42,22 +42,7 @@ long_trail digit v [] e h = absurd (omega arith)
 long_trail digit v (t ∷ []) e h = absurd (omega arith)
 long_trail digit v (t ∷ u ∷ ts) e h = let l = latent_two (length ts) in omega arith
 
--- a lead that is extended, with no byte behind it
-pub head_cut : (lead v : ℕ) (rest after : List ℕ) → 224 ≤ lead → length rest ≡ 0 → BeginsWith 32 3 v (lead ∷ rest) after → ⊥
-head_cut lead v (x ∷ rest) after high none b = absurd (omega arith)
-head_cut lead v [] after high none b = cut b.spells.trail refl
-  where
-    cut : (trail : List ℕ) → b.spells.trail ≡ trail → ⊥
-    cut [] e =
-        let is = (cons_parts lead _ [] _ (b.bytes_are ∙ ap (λ x. x ++ after) b.spells.bytes_are)).0 in
-        let one : extender b.spells.trail ≡ 0 = ap extender e in
-        let small = b.spells.digit_below in
-        omega arith
-    cut (t ∷ ts) e =
-        let is = (cons_parts lead _ [] _ (b.bytes_are ∙ ap (λ x. x ++ after) b.spells.bytes_are)).1 in
-        let full : [] ≡ t ∷ (ts ++ after) = is ∙ ap (λ x. x ++ after) e in
-        cc
-
+-- a longer head is too large
 pub head_long : (lead next v : ℕ) (rest all after : List ℕ) → 224 ≤ lead → 128 ≤ next → all ≡ next ∷ rest → BeginsWith 32 3 v (lead ∷ all) after → 4128 ≤ v
 head_long lead next v rest all after high large e b = long b.spells.trail refl
   where

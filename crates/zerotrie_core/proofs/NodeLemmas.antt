@@ -47,43 +47,12 @@ none_empty kind bytes e (value v rest) b = some_bytes 16 4 v rest (subst (λ x. 
 none_empty kind bytes e (literal c rest) b = let is = sym e ∙ b.1 in cc
 none_empty kind bytes e (branch edges width behind) b = some_bytes 32 3 _ behind (subst (λ x. BeginsWith 32 3 (256 * (width - 1) + edges % 256) x behind) e b.begins)
 
--- the leads of a node
-abbrev Leads : ℕ → Shape → Type 0
-Leads lead (value v rest) = (128 ≤ lead) × (lead < 160)
-Leads lead (literal b rest) = lead < 128
-Leads lead (branch edges width behind) = 192 ≤ lead
-
-node_leads : (kind : Kind) (lead : ℕ) (rest : List ℕ) (s : Shape) → Begins kind (lead ∷ rest) s → Leads lead s
-node_leads kind lead rest (value v after) b = value_begins v lead rest after b
-node_leads kind lead rest (literal c after) b = let is = (cons_parts lead c rest after b.1).0 in let low = b.0 in omega arith
-node_leads kind lead rest (branch edges width behind) b = branch_begins _ lead rest behind b.begins
-
--- by its lead a node can only be one of a kind
-pub only_value : (kind : Kind) (lead : ℕ) (rest bytes : List ℕ) → bytes ≡ lead ∷ rest → 128 ≤ lead → lead < 160 → ((m v : ℕ) (after : List ℕ) → BeginsWith 16 m v (lead ∷ rest) after → ⊥)
-    → (s : Shape) → Begins kind bytes s → ⊥
-only_value kind lead rest bytes e high low none s b = only s (subst (λ x. Begins kind x s) e b)
-  where
-    only : (s : Shape) → Begins kind (lead ∷ rest) s → ⊥
-    only (value v after) b = none 4 v after b
-    only (literal c after) b = let is = node_leads kind lead rest (literal c after) b in omega arith
-    only (branch edges width behind) b = let is = node_leads kind lead rest (branch edges width behind) b in omega arith
-
-pub no_span : (kind : Kind) (lead : ℕ) (rest bytes : List ℕ) → bytes ≡ lead ∷ rest → 160 ≤ lead → lead < 192 → (s : Shape) → Begins kind bytes s → ⊥
-no_span kind lead rest bytes e high low s b = none s (node_leads kind lead rest s (subst (λ x. Begins kind x s) e b))
-  where
-    none : (s : Shape) → Leads lead s → ⊥
-    none (value v after) is = omega arith
-    none (literal c after) is = omega arith
-    none (branch edges width behind) is = omega arith
-
+-- by its lead it can only be a branch
 pub only_branch : (kind : Kind) (lead : ℕ) (rest bytes : List ℕ) → bytes ≡ lead ∷ rest → 192 ≤ lead
     → ((edges width : ℕ) (behind : List ℕ) → BeginsBranch kind (lead ∷ rest) edges width behind → ⊥) → (s : Shape) → Begins kind bytes s → ⊥
-only_branch kind lead rest bytes e high none s b = only s (subst (λ x. Begins kind x s) e b)
-  where
-    only : (s : Shape) → Begins kind (lead ∷ rest) s → ⊥
-    only (value v after) b = let is = node_leads kind lead rest (value v after) b in omega arith
-    only (literal c after) b = let is = node_leads kind lead rest (literal c after) b in omega arith
-    only (branch edges width behind) b = none edges width behind b
+only_branch kind lead rest bytes e high none (value v after) b = let is = value_begins v lead rest after (subst (λ x. BeginsWith 16 4 v x after) e b) in omega arith
+only_branch kind lead rest bytes e high none (literal c after) b = let is = (cons_parts lead c rest after (sym e ∙ b.1)).0 in let low = b.0 in omega arith
+only_branch kind lead rest bytes e high none (branch edges width behind) b = none edges width behind (subst (λ x. BeginsBranch kind x edges width behind) e b)
 
 -- what the number of a head says
 pub head_parts : (head w e : ℕ) → 1 ≤ w → 2 ≤ e → e ≤ 256 → head ≡ 256 * (w - 1) + e % 256 → (head / 256 + 1 ≡ w) × (head % 256 ≡ e % 256)

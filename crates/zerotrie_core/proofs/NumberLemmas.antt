@@ -42,12 +42,6 @@ pub record Found (L a v : ℕ) (bytes after : List ℕ) : Type 0 where
 abbrev pub IsBytes : List ℕ → Type 0
 IsBytes bs = (i : ℕ) → get_or bs i 0 < 256
 
-IsBytes-head : (b : ℕ) (bs : List ℕ) → IsBytes (b ∷ bs) → b < 256
-IsBytes-head b bs h = h 0
-
-IsBytes-tail : (b : ℕ) (bs : List ℕ) → IsBytes (b ∷ bs) → IsBytes bs
-IsBytes-tail b bs h i = h (suc i)
-
 pub chosen : {X : Type 0} (b : Bool) (x y z : X) → cond b x y ≡ z → ((b ≡ true) × (x ≡ z)) ⊎ ((b ≡ false) × (y ≡ z))
 chosen true x y z e = inl (refl, e)
 chosen false x y z e = inr (refl, e)

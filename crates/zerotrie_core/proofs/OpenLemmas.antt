@@ -1,8 +1,8 @@
 -- What a text lists, by its first node.
-use Rattle.std.proofs.Common.{◌≡◌, ℕ, zero, suc, ◌+◌, ◌-◌, ◌*◌, ◌/◌, ◌%◌, ◌^◌, ◌<◌, ◌≤◌, List, [], ◌∷◌, ◌++◌, length, refl, sym, ◌∙◌, ap, subst, arith, take, drop, length-append, Bool, true, false, cond}
+use Rattle.std.proofs.Common.{◌≡◌, ℕ, zero, suc, ◌+◌, ◌-◌, ◌*◌, ◌/◌, ◌%◌, ◌^◌, ◌<◌, ◌≤◌, List, [], ◌∷◌, ◌++◌, length, refl, sym, ◌∙◌, ap, subst, arith, get_or, take, drop, length-append, Bool, true, false, cond}
 use Rattle.std.specs.Option.{option_map_or}
 use Rattle.std.specs.List.{concat}
-use Rattle.std.proofs.lemmas.List.{take_at, drop_at, drop-append-le}
+use Rattle.std.proofs.lemmas.List.{take_at, drop_at, drop-append-le, get_or-take}
 use Rattle.zerotrie_core.specs.Kind.{Kind, IsAscii, has_spans, is_hashed}
 use Rattle.zerotrie_core.specs.Maps.{Pairs, with_front, with_run, after_run}
 use Rattle.zerotrie_core.specs.Numbers.{BeginsWith}
@@ -64,6 +64,9 @@ pub record Holds (kind : Kind) (edges : List ℕ) (targets : List (List ℕ)) (n
   pub table : List ℕ
   pub is_table : IsTable kind edges table
   pub has_targets : HasTargets targets n w behind
+
+pub held_edge : {kind : Kind} {edges : List ℕ} {targets : List (List ℕ)} {n w : ℕ} {behind : List ℕ} → Holds kind edges targets n w behind → (place : ℕ) → place < n → get_or edges place 0 ≡ get_or behind place 0
+held_edge {n = n} {behind = behind} h place inside = ap (λ t. get_or t place 0) (sym h.edges_are) ∙ get_or-take n behind place 0 inside
 
 -- The text begins with a branch.
 pub record OpensBranch {kind : Kind} {bytes : List ℕ} {pairs : Pairs} (text : Lists kind bytes pairs) (n w : ℕ) (behind : List ℕ) : Type 0 where

@@ -80,23 +80,10 @@ Each-sorted_by : (P : ℕ → Type 0) (fold : ℕ → ℕ) (es : List ℕ) → E
 Each-sorted_by P fold [] each = tt
 Each-sorted_by P fold (e ∷ es) each = Each-put_by P fold e (sorted_by fold es) each.0 (Each-sorted_by P fold es each.1)
 
-pub Each-ordered : (P : ℕ → Type 0) (kind : Kind) (es : List ℕ) → Each P es → Each P (ordered kind es)
-Each-ordered P simple_ascii es each = each
-Each-ordered P ignore_case es each = Each-sorted_by P (fold_byte ignore_case) es each
-Each-ordered P perfect_hash es each = each
-Each-ordered P extended_capacity es each = each
-
 -- by the test of members
 pub Each-member : (P : ℕ → Type 0) (es : List ℕ) → ((b : ℕ) → member b es ≡ true → P b) → Each P es
 Each-member P [] h = tt
 Each-member P (e ∷ es) h = (h e (member_head e es), Each-member P es (λ b m. h b (member_later b e es m)))
-
-pub member-Each : (P : ℕ → Type 0) (es : List ℕ) → Each P es → (b : ℕ) → member b es ≡ true → P b
-member-Each P [] each b m = absurd (cc)
-member-Each P (e ∷ es) each b m = elim (or_cases (eqb e b) (member b es) m) [
-  | inl here ↦ subst P (eqb-true e b here) each.0
-  | inr later ↦ member-Each P es each.1 b later
-]
 
 above_put : (kind : Kind) (x a : ℕ) (es : List ℕ) → x < fold_byte kind a → AllAbove kind x es → AllAbove kind x (put_by (fold_byte kind) a es)
 above_put kind x a [] h up = (h, tt)

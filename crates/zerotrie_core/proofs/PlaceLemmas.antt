@@ -4,7 +4,7 @@ use Rattle.std.specs.Option.{IfNone}
 use Rattle.std.proofs.lemmas.Bool.{cases_lt}
 use Rattle.std.proofs.lemmas.List.{get_or-take}
 use Rattle.zerotrie_core.specs.Kind.{Kind, fold_byte}
-use Rattle.zerotrie_core.specs.reader.Reading.{AlwaysRises}
+use Rattle.zerotrie_core.specs.reader.Reading.{AlwaysRises, HasNoPlace}
 
 -- folds that rise, rise by one at least
 rises_by : (kind : Kind) (xs : List ℕ) → AlwaysRises kind xs → (i d : ℕ) → i + d < length xs → fold_byte kind (get_or xs i 0) + d ≤ fold_byte kind (get_or xs (i + d) 0)
@@ -45,8 +45,7 @@ above_middle kind xs b mid k up h is low = elim (cases_lt k mid) [
 
 -- the front of some bytes is a table
 pub none_in_front : (kind : Kind) (n b : ℕ) (xs table : List ℕ) (r : Option ℕ) → table ≡ take n xs → length table ≡ n
-    → IfNone r (AlwaysRises kind table → (k : ℕ) → k < length table → fold_byte kind (get_or table k 0) ≡ fold_byte kind b → ⊥)
-    → IfNone r (AlwaysRises kind (take n xs) → (k : ℕ) → k < n → fold_byte kind (get_or xs k 0) ≡ fold_byte kind b → ⊥)
+    → IfNone r (AlwaysRises kind table → HasNoPlace kind (length table) table b) → IfNone r (AlwaysRises kind (take n xs) → HasNoPlace kind n xs b)
 none_in_front kind n b xs table (Some p) t len none = tt
 none_in_front kind n b xs table None t len none = λ up k h e.
     none (subst (AlwaysRises kind) (sym t) up) k (omega arith) (ap (λ x. fold_byte kind (get_or x k 0)) t ∙ ap (fold_byte kind) (get_or-take n xs k 0 h) ∙ e)

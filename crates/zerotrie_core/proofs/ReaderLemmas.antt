@@ -1,8 +1,8 @@
 -- A look-up against the grammar, node by node.
-use Rattle.std.proofs.Common.{◌≡◌, ℕ, ◌+◌, ◌<◌, ◌≤◌, List, [], ◌∷◌, ◌++◌, length, refl, sym, ◌∙◌, ap, subst, arith, Option, Some, None}
+use Rattle.std.proofs.Common.{◌≡◌, ℕ, ◌+◌, ◌<◌, List, [], ◌∷◌, length, refl, sym, ◌∙◌, ap, subst, arith, Option, Some, None}
 use Rattle.zerotrie_core.specs.Kind.{Kind, IsAscii}
 use Rattle.zerotrie_core.specs.Maps.{Pairs, value_at}
-use Rattle.zerotrie_core.specs.Texts.{Lists, nodes}
+use Rattle.zerotrie_core.specs.Texts.{Lists}
 use Rattle.zerotrie_core.specs.Nodes.{Shape, Begins}
 use Rattle.zerotrie_core.specs.Nodes.Shape.{value, literal, branch}
 use Rattle.zerotrie_core.specs.reader.Reading.{Finds, Comes, AlwaysFinds, AlwaysComes}

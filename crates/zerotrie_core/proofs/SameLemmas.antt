@@ -18,14 +18,8 @@ use Rattle.zerotrie_core.specs.Fits.{targets_size}
 abbrev pub Same : Pairs → Pairs → Type 0
 Same p q = (key : List ℕ) → value_at simple_ascii p key ≡ value_at simple_ascii q key
 
-pub same-refl : (p : Pairs) → Same p p
-same-refl p key = refl
-
 pub same-sym : (p q : Pairs) → Same p q → Same q p
 same-sym p q s key = sym (s key)
-
-pub same-trans : (p q r : Pairs) → Same p q → Same q r → Same p r
-same-trans p q r s t key = s key ∙ t key
 
 -- keys are equal as the order of the map says
 same_as_order : (p q : List ℕ) → same_key simple_ascii p q ≡ eq_by_cmp (slice_cmp nat_cmp) q p

@@ -1,5 +1,5 @@
 -- The same bytes list the same pairs, and mean one map.
-use Rattle.std.proofs.Common.{◌≡◌, ℕ, zero, suc, ◌+◌, ◌-◌, ◌<◌, List, [], ◌∷◌, ◌++◌, length, refl, sym, ◌∙◌, ap, subst, arith, get_or, take, drop}
+use Rattle.std.proofs.Common.{◌≡◌, ℕ, suc, ◌+◌, ◌<◌, List, [], ◌∷◌, ◌++◌, length, refl, sym, ◌∙◌, ap, subst, arith, get_or}
 use Rattle.zerotrie_core.specs.Kind.{Kind}
 use Rattle.zerotrie_core.specs.Maps.{Pairs, Map, with_front, with_run, map_of}
 use Rattle.zerotrie_core.specs.Texts.{Lists, ListEach, Means}
@@ -8,7 +8,7 @@ use Rattle.zerotrie_core.specs.Texts.ListEach.{no_edge, edge}
 use Rattle.zerotrie_core.proofs.BranchLemmas.{HasTargets, target_between}
 use Rattle.zerotrie_core.proofs.CanonLaws.{nil_end}
 use Rattle.zerotrie_core.proofs.NumberLemmas.{cons_parts}
-use Rattle.zerotrie_core.proofs.OpenLemmas.{Holds, is_begun, is_held, value_opens, literal_opens, span_opens, branch_opens, nothing_listed}
+use Rattle.zerotrie_core.proofs.OpenLemmas.{is_begun, is_held, value_opens, literal_opens, span_opens, branch_opens, nothing_listed}
 
 from_places : (ts us : List (List ℕ)) → length ts ≡ length us → ((i : ℕ) → i < length ts → get_or ts i [] ≡ get_or us i []) → ts ≡ us
 from_places [] [] n h = refl

@@ -2,7 +2,7 @@
 use Rattle.std.proofs.Common.{◌≡◌, ℕ, ◌+◌, ◌-◌, ◌*◌, ◌/◌, ◌%◌, ◌^◌, ◌<◌, ◌≤◌, List, [], ◌∷◌, length, ◌∙◌, ap, arith, inl, inr, lit<}
 use Rattle.std.proofs.lemmas.Bool.{cases_lt}
 use Rattle.std.proofs.Math.Nat.{pow-suc, mul-le-mul_right, pow-le-pow_right}
-use Rattle.zerotrie_core.specs.Numbers.{IsTrail, base_128, latent, extender, Spells}
+use Rattle.zerotrie_core.specs.Numbers.{IsTrail, base_128, latent, extender}
 use Rattle.zerotrie_core.proofs.NumberLemmas.{base_128-shift}
 
 -- what is left of the number v, and the trail bytes so far
@@ -43,14 +43,3 @@ completes_more L v a ts big more c =
       room = rw (pow-suc 128 (length ts)) (still_room ((a - L) / 128) a (128 ^ length ts) (omega arith) c.room);
       value = c.value ∙ rw (split, again) (omega arith);
     }
-
-pub completed : (L v d : ℕ) (ts : List ℕ) → v < 2 ^ 64 → d < L → Completes L v d ts → Spells L 0 v ((d + extender ts * L) ∷ ts)
-completed L v d ts below digit c = record {
-  digit = d;
-  trail = ts;
-  below = below;
-  digit_below = digit;
-  is_trail = c.is_trail;
-  bytes_are = ap (λ x. x ∷ ts) (let e : d + extender ts * L ≡ 0 * (2 * L) + extender ts * L + d = omega arith in e);
-  value = c.value;
-}

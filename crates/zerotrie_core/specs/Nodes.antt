@@ -1,6 +1,8 @@
 -- The nodes of a text, and what lies behind them.
 use Rattle.std.proofs.Common.{zero, suc}
-use Rattle.std.specs.Prelude.{◌≡◌, ℕ, ◌+◌, ◌-◌, ◌*◌, ◌%◌, ◌<◌, ◌≤◌, ◌==◌, List, ◌∷◌, length, slice_index, take, drop, if◌then◌else◌}
+use Rattle.std.specs.Prelude.{◌≡◌, ℕ, ◌+◌, ◌-◌, ◌*◌, ◌%◌, ◌<◌, ◌≤◌, ◌==◌, List, ◌∷◌, length, slice_index, take, drop, if◌then◌else◌, Option}
+use Rattle.std.specs.Borrow.{Bor}
+use Rattle.std.specs.Slice.{IsGetRangeResult}
 use Rattle.zerotrie_core.specs.Kind.{Kind, greatest_width}
 use Rattle.zerotrie_core.specs.Numbers.{BeginsWith}
 
@@ -46,3 +48,8 @@ begin_of edges width behind i = if i == 0 then 0 else offset_in edges width behi
 
 abbrev pub end_of : ℕ → ℕ → List ℕ → ℕ → ℕ
 end_of edges width behind i = if i == edges - 1 then length (targets_behind edges width behind) else offset_in edges width behind i
+
+-- what target number i is read as: the bytes from its begin to its end, where these are in order and within the targets
+abbrev pub IsTargetResult : ℕ → ℕ → List ℕ → ℕ → Option (Bor (List ℕ)) → Type 0
+IsTargetResult edges width behind i r =
+    IsGetRangeResult (targets_behind edges width behind) (begin_of edges width behind i) (end_of edges width behind i) r

@@ -1,6 +1,5 @@
 -- The routes of a build, and what each answers.
 use Rattle.std.specs.Prelude.{◌≡◌, ℕ, ◌⊎◌, List, Option, Result, Ok, Err}
-use Rattle.std.specs.Iterator.{Count, IsFinite}
 use Rattle.std.specs.Iterator.Runs.{WholeRun}
 use Rattle.zerotrie_core.specs.Kind.{Kind}
 use Rattle.zerotrie_core.specs.Maps.{Pairs, Ascends, RepeatsKey}
@@ -43,10 +42,6 @@ IsRefusal route kind pairs e = (e ≡ OutOfMemory) ⊎ HasCause route kind pairs
 abbrev pub IsBuild : {B : Type 0} → Route → Kind → (B → List ℕ) → Pairs → Result B ZeroTrieBuildError → Type 0
 IsBuild route kind bytes pairs (Ok b) = Takes route pairs × IsBuilt kind pairs (bytes b)
 IsBuild route kind bytes pairs (Err e) = IsRefusal route kind pairs e
-
--- an iterator that is made of this may be stepped, and ends
-abbrev pub CanRun : {U I : Type 0} → (U → I → Type 0) → (I → Type 0) → (I → Count) → U → Type 0
-CanRun {I = I} into_iter_gives can_next remaining given = (it : I) → into_iter_gives given it → can_next it × IsFinite (remaining it)
 
 -- the fact holds of the pairs that an iterator gives, one after another and no more
 abbrev pub OfAllGiven : {U I K : Type 0} → (U → I → Type 0) → (I → Option (K × ℕ) → I → Type 0) → (K → List ℕ) → U → (Pairs → Type 0) → Type 0

@@ -4,12 +4,10 @@
 //! has an offset for each edge but the first, where its target begins: the highest bytes of all of them
 //! first, then the next, and so on.
 
-ghost use Rattle.std.specs.Prelude.{◌≡◌, ◌≢◌, ℕ, ◌+◌, ◌-◌, ◌*◌, ◌<◌, ◌≤◌, List, length, take, IfSome, IfNone, slice_index};
-ghost use Rattle.std.specs.Slice.{IsGetRangeResult};
+ghost use Rattle.std.specs.Prelude.{◌≡◌, ℕ, ◌+◌, ◌-◌, ◌*◌, ◌<◌, ◌≤◌, length, take, IfSome, IfNone, slice_index};
 ghost use Rattle.zerotrie_core.specs.Kind.{IsAscii, fold_byte};
-ghost use Rattle.zerotrie_core.specs.Nodes.{Shape, number_from, targets_behind, begin_of, end_of};
-ghost use Rattle.zerotrie_core.specs.Nodes.Shape.{branch};
-ghost use Rattle.zerotrie_core.specs.reader.Reading.{AlwaysRises};
+ghost use Rattle.zerotrie_core.specs.Nodes.{number_from, IsTargetResult};
+ghost use Rattle.zerotrie_core.specs.reader.Reading.{AlwaysRises, IsPlace, HasNoPlace};
 ghost use Rattle.zerotrie_core.specs.reader.Going.{AlwaysGoes, AlwaysStops};
 
 use crate::options::ZeroTrieWithOptions;
@@ -42,14 +40,9 @@ fn half_passed(half: usize, middle: u8, byte: u8) -> usize
 /// takes can't be predicted. Only the bytes that are looked at are folded.
 #[inline(always)]
 fn place_in<K: ZeroTrieWithOptions>(table: &[u8], byte: u8) -> Option<usize>
-    ensures some {
-        IfSome result (λ place. (place < length table.now)
-            × (fold_byte K.kind (slice_index table.now place) ≡ fold_byte K.kind byte))
-    }
-    ensures none {
-        IfNone result (AlwaysRises K.kind table.now → (k : ℕ) → k < length table.now
-            → fold_byte K.kind (slice_index table.now k) ≢ fold_byte K.kind byte)
-    }
+    ensures some { IfSome result (IsPlace K.kind (length table.now) table.now byte) }
+    ensures none { IfNone result (AlwaysRises K.kind table.now
+        → HasNoPlace K.kind (length table.now) table.now byte) }
 {
     let end = table.len().checked_sub(1)?;
     let sought = folded::<K>(byte);
@@ -112,6 +105,8 @@ pub struct Branch<'a> {
 }
 
 impl<'a> Branch<'a> {
+    ghost use Rattle.zerotrie_core.specs.Shapes.{branch_shape};
+
     /// The byte of an edge.
     #[inline(always)]
     pub fn edge_at(&self, index: usize) -> u8
@@ -124,15 +119,9 @@ impl<'a> Branch<'a> {
     /// The place of the edge that is the byte to the kind.
     #[inline(always)]
     pub fn place_of<K: ZeroTrieWithOptions>(&self, byte: u8) -> Option<usize>
-        ensures some {
-            IfSome result (λ place. (place < self.now.edges)
-                × (fold_byte K.kind (slice_index self.now.behind.now place) ≡ fold_byte K.kind byte))
-        }
-        ensures none {
-            IfNone result (AlwaysRises K.kind (take self.now.edges self.now.behind.now)
-                → (k : ℕ) → k < self.now.edges
-                → fold_byte K.kind (slice_index self.now.behind.now k) ≢ fold_byte K.kind byte)
-        }
+        ensures some { IfSome result (IsPlace K.kind self.now.edges self.now.behind.now byte) }
+        ensures none { IfNone result (AlwaysRises K.kind (take self.now.edges self.now.behind.now)
+            → HasNoPlace K.kind self.now.edges self.now.behind.now byte) }
     {
         let (table, _) = self.behind.split_at(self.edges);
         place_in::<K>(table, byte)
@@ -144,11 +133,7 @@ impl<'a> Branch<'a> {
     #[inline(always)]
     pub fn target_at(&self, index: usize) -> Option<&'a [u8]>
         requires { index < self.now.edges }
-        ensures {
-            IsGetRangeResult (targets_behind self.now.edges self.now.width self.now.behind.now)
-                (begin_of self.now.edges self.now.width self.now.behind.now index)
-                (end_of self.now.edges self.now.width self.now.behind.now index) result
-        }
+        ensures { IsTargetResult self.now.edges self.now.width self.now.behind.now index result }
     {
         let count = self.edges - 1;
         let (_, body) = self.behind.split_at(self.edges);
@@ -156,11 +141,7 @@ impl<'a> Branch<'a> {
         let before = offset_at(table, index.saturating_sub(1), count, self.width);
         let next = offset_at(table, index.min(count - 1), count, self.width);
         let from = if index == 0 { 0 } else { before };
-        let to = if index == count {
-            targets.len()
-        } else {
-            next
-        };
+        let to = if index == count { targets.len() } else { next };
         targets.get(from..to)
     }
 
@@ -169,14 +150,9 @@ impl<'a> Branch<'a> {
     pub fn follow<K: ZeroTrieWithOptions>(&self, byte: u8) -> Option<(u8, &'a [u8])>
         requires { IsAscii K.kind }
         ensures shorter { IfSome result (λ r. length r.1.now ≤ length self.now.behind.now) }
-        ensures some {
-            IfSome result (λ r. AlwaysGoes K.kind
-                (branch self.now.edges self.now.width self.now.behind.now) byte r.0 r.1.now)
-        }
-        ensures none {
-            IfNone result (AlwaysStops K.kind
-                (branch self.now.edges self.now.width self.now.behind.now) byte)
-        }
+        ensures some { IfSome result (λ r.
+            AlwaysGoes K.kind (branch_shape self.now) byte r.0 r.1.now) }
+        ensures none { IfNone result (AlwaysStops K.kind (branch_shape self.now) byte) }
     {
         let place = self.place_of::<K>(byte)?;
         let target = self.target_at(place)?;

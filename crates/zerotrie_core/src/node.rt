@@ -4,7 +4,7 @@ ghost use Rattle.std.specs.Prelude.{◌≡◌, ℕ, ◌+◌, ◌-◌, ◌*◌, �
 ghost use Rattle.zerotrie_core.specs.Kind.{IsAscii};
 ghost use Rattle.zerotrie_core.specs.Numbers.{BeginsWith};
 ghost use Rattle.zerotrie_core.specs.Nodes.{Shape, Begins, BeginsBranch};
-ghost use Rattle.zerotrie_core.specs.Shapes.{shape};
+ghost use Rattle.zerotrie_core.specs.Shapes.{shape, branch_shape};
 
 use crate::branch::Branch;
 use crate::options::ZeroTrieWithOptions;
@@ -27,9 +27,8 @@ pub enum Node<'a> {
 fn read_head(lead: u8, rest: &[u8]) -> Option<(usize, &[u8])>
     requires { 192 ≤ lead }
     ensures found { IfSome result (λ r. BeginsWith 32 3 r.0 (lead ∷ rest.now) r.1.now) }
-    ensures none {
-        IfNone result ((v : ℕ) (after : List ℕ) → BeginsWith 32 3 v (lead ∷ rest.now) after → 4128 ≤ v)
-    }
+    ensures none { IfNone result ((v : ℕ) (after : List ℕ)
+        → BeginsWith 32 3 v (lead ∷ rest.now) after → 4128 ≤ v) }
 {
     let digit = (lead % 32) as usize;
     if lead < 224 {
@@ -48,13 +47,9 @@ fn read_head(lead: u8, rest: &[u8]) -> Option<(usize, &[u8])>
 fn branch_at<K: ZeroTrieWithOptions>(lead: u8, rest: &[u8]) -> Option<Branch<'_>>
     requires ascii { IsAscii K.kind }
     requires lead { 192 ≤ lead }
-    ensures some {
-        IfSome result (λ b. BeginsBranch K.kind (lead ∷ rest.now) b.edges b.width b.behind.now)
-    }
-    ensures none {
-        IfNone result ((edges width : ℕ) (behind : List ℕ)
-            → BeginsBranch K.kind (lead ∷ rest.now) edges width behind → ⊥)
-    }
+    ensures some { IfSome result (λ b. Begins K.kind (lead ∷ rest.now) (branch_shape b)) }
+    ensures none { IfNone result ((edges width : ℕ) (behind : List ℕ)
+        → BeginsBranch K.kind (lead ∷ rest.now) edges width behind → ⊥) }
 {
     let (head, behind) = read_head(lead, rest)?;
     let width = head / 256;

@@ -14,25 +14,8 @@ pub number_behind-ge : (n : ℕ) (digits : List ℕ) → n ≤ number_behind n d
 number_behind-ge n [] = omega arith
 number_behind-ge n (d ∷ digits) = omega (arith, number_behind-ge (10 * n + (d - 48)) digits)
 
-pub read_none : (digits : List ℕ) → ReadTo digits 0 0
-read_none digits = record { join = λ h. h; split = λ h. h; is = refl; below = omega arith }
-
 at_digit : (digits : List ℕ) (i : ℕ) → i < length digits → drop i digits ≡ get_or digits i 0 ∷ drop (i + 1) digits
 at_digit digits i h = rw (add-one, drop-cons digits i 0) refl
-
-pub read_more : (digits : List ℕ) (i value next : ℕ) → ReadTo digits i value → i < length digits → 48 ≤ get_or digits i 0 → get_or digits i 0 ≤ 57 → next ≡ value * 10 + (get_or digits i 0 - 48) → next < 2 ^ 64 → ReadTo digits (i + 1) next
-read_more digits i value next r h low high e below = let at = at_digit digits i h in record {
-  join = λ more. r.join (subst AreDigits (sym at) (low, high, more));
-  split = λ all. (subst AreDigits at (r.split all)).2;
-  is = ap (λ n. number_behind n (drop (i + 1) digits)) (let same : next ≡ 10 * value + (get_or digits i 0 - 48) = omega arith in same)
-      ∙ sym (ap (number_behind value) at) ∙ r.is;
-  below = below;
-}
-
--- a byte that is no digit
-pub no_digit : (digits : List ℕ) (i value : ℕ) → ReadTo digits i value → i < length digits → (48 ≤ get_or digits i 0 → get_or digits i 0 ≤ 57 → ⊥) → (v : ℕ) → IsNumber digits v → ⊥
-no_digit digits i value r h other v number =
-    let here : AreDigits (get_or digits i 0 ∷ drop (i + 1) digits) = subst AreDigits (at_digit digits i h) (r.split number.all) in other here.0 here.1
 
 -- a number that is too large already
 pub too_large : (digits : List ℕ) (i value : ℕ) → ReadTo digits i value → i < length digits → 2 ^ 64 ≤ value * 10 + (get_or digits i 0 - 48) → (v : ℕ) → IsNumber digits v → ⊥

@@ -11,7 +11,7 @@ use Rattle.zerotrie_tool.specs.Commands.{Command, IsCommand}
 use Rattle.zerotrie_tool.specs.Answers.{State, CanDo, Run, Answers}
 use Rattle.zerotrie_tool.specs.Answers.Run.{end, empty, does, bad}
 use Rattle.zerotrie_tool.specs.Replies.{bad_line}
-use Rattle.zerotrie_tool.specs.Sessions.{HoldsSome, AfterCommand}
+use Rattle.zerotrie_tool.specs.answer.Sessions.{HoldsSome, AfterCommand}
 
 -- lines that are borrowed
 abbrev pub texts : List (Bor (List ℕ)) → List (List ℕ)

@@ -1,11 +1,11 @@
 -- Which output and status answer an input.
-use Rattle.std.specs.Prelude.{◌≡◌, ◌≢◌, ℕ, ◌+◌, ◌⊎◌, List, [], ◌∷◌, ◌++◌, max, Option, Some, None}
+use Rattle.std.specs.Prelude.{◌≢◌, ℕ, ◌+◌, List, [], ◌∷◌, ◌++◌, max, Option, Some, None}
 use Rattle.zerotrie.specs.Kind.{Kind}
-use Rattle.zerotrie.specs.Maps.{Pairs, map_of, look, RepeatsKey}
+use Rattle.zerotrie.specs.Maps.{Pairs, map_of, look}
 use Rattle.zerotrie.specs.Texts.{Means}
-use Rattle.zerotrie.specs.Causes.{Cause}
+use Rattle.zerotrie.specs.Built.{IsBuilt}
+use Rattle.zerotrie.specs.Routes.{any_order, Takes, IsRefusal}
 use Rattle.zerotrie.specs.declared.ZeroTrieBuildError.{ZeroTrieBuildError}
-use Rattle.zerotrie.specs.declared.ZeroTrieBuildError.TheVariants.{Unsorted, OutOfMemory}
 use Rattle.zerotrie_tool.specs.declared.command.Choice.{Choice}
 use Rattle.zerotrie_tool.specs.Lines.{lines_of}
 use Rattle.zerotrie_tool.specs.Commands.{Command, choose, add, build, query, IsCommand, kind_of}
@@ -16,12 +16,18 @@ pub record State : Type 0 where
   pub choice : Choice
   -- those that were added since the choice, in that order
   pub pairs : Pairs
-  -- those that the trie was built from
+  -- the trie: its kind, its bytes as they were printed, and the pairs that it was built from
+  pub kind : Kind
+  pub text : List ℕ
   pub built : Pairs
 
--- why a build of the pairs may be refused
-abbrev pub MayRefuse : Kind → Pairs → ZeroTrieBuildError → Type 0
-MayRefuse kind pairs error = (error ≡ OutOfMemory) ⊎ ((error ≢ Unsorted) × Cause kind pairs error)
+-- the pairs with the empty trie, as after the choice and after a build that was refused
+abbrev pub without_trie : Choice → Pairs → State
+without_trie choice pairs = record { choice = choice; pairs = pairs; kind = kind_of choice []; text = []; built = [] }
+
+-- the pairs with the trie that was built from them, of these bytes
+abbrev pub with_trie : Choice → Pairs → List ℕ → State
+with_trie choice pairs text = record { choice = choice; pairs = pairs; kind = kind_of choice pairs; text = text; built = pairs }
 
 -- Before the first choice only a choice can be made.
 abbrev pub CanDo : Option State → Command → Type 0
@@ -33,11 +39,15 @@ CanDo (Some s) command = Unit {0}
 
 -- What a command does to what is held: what it prints, a status that the run's is not below, and what is held then.
 pub data Does : Option State → Command → List ℕ → ℕ → Option State → Type 0 where
-  chosen : {held : Option State} {choice : Choice} → Does held (choose choice) [] 0 (Some (record { choice = choice; pairs = []; built = [] }))
+  -- a choice begins anew, without pairs
+  chosen : {held : Option State} {choice : Choice} → Does held (choose choice) [] 0 (Some (without_trie choice []))
   added : {s : State} {value : ℕ} {key : List ℕ} → Does (Some s) (add value key) [] 0 (Some (record s { pairs = s.pairs ++ (key, value) ∷ [] }))
-  ok : {s : State} {text : List ℕ} → (RepeatsKey s.pairs → ⊥) → Means (kind_of s.choice) text (map_of s.pairs) → Does (Some s) build (ok_line text) 0 (Some (record s { built = s.pairs }))
-  refused : {s : State} {error : ZeroTrieBuildError} → MayRefuse (kind_of s.choice) s.pairs error → Does (Some s) build (refused_line error) 1 (Some (record s { built = [] }))
-  asked : {s : State} {key : List ℕ} → Does (Some s) (query key) (number_line (look (kind_of s.choice) (map_of s.built) key)) 0 (Some s)
+  -- a build takes all pairs, and its trie the place of the one before
+  ok : {s : State} {text : List ℕ} → Takes any_order s.pairs → IsBuilt (kind_of s.choice s.pairs) s.pairs text → Does (Some s) build (ok_line text) 0 (Some (with_trie s.choice s.pairs text))
+  -- after a build that was refused the trie is empty
+  refused : {s : State} {error : ZeroTrieBuildError} → IsRefusal any_order (kind_of s.choice s.pairs) s.pairs error → Does (Some s) build (refused_line error) 1 (Some (without_trie s.choice s.pairs))
+  -- an answer is that of the map that the trie's text means, which is the map of the pairs it was built from
+  asked : {s : State} {key : List ℕ} → Means s.kind s.text (map_of s.built) → Does (Some s) (query key) (number_line (look s.kind (map_of s.built) key)) 0 (Some s)
 
 -- Lines, the first of them with number n, are answered by an output and a status. An empty line does nothing, and a
 -- line that is no command, or none that can be done, ends the run.

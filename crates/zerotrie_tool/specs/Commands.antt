@@ -1,6 +1,7 @@
 -- Which lines are commands.
 use Rattle.std.specs.Prelude.{◌≡◌, ℕ, ◌⊎◌, List, [], ◌∷◌, ◌++◌, codes}
 use Rattle.zerotrie.specs.Kind.{Kind, simple_ascii, ignore_case}
+use Rattle.zerotrie.specs.Maps.{Pairs}
 use Rattle.zerotrie_tool.specs.Numbers.{IsNumber}
 use Rattle.zerotrie_tool.specs.declared.command.Choice.{Choice}
 use Rattle.zerotrie_tool.specs.declared.command.Choice.TheVariants.{Simple, Ignore}
@@ -10,10 +11,10 @@ abbrev pub name_of : Choice → List ℕ
 name_of Simple = codes "simple"
 name_of Ignore = codes "ignore"
 
--- the kind of the trie that a choice takes
-abbrev pub kind_of : Choice → Kind
-kind_of Simple = simple_ascii
-kind_of Ignore = ignore_case
+-- the kind of the trie that a choice takes for the pairs
+abbrev pub kind_of : Choice → Pairs → Kind
+kind_of Simple pairs = simple_ascii
+kind_of Ignore pairs = ignore_case
 
 pub data Command : Type 0 where
   choose : Choice → Command

@@ -3,6 +3,6 @@ pub mod Numbers
 pub mod Commands
 pub mod Replies
 pub mod Answers
-pub mod Parsing
-pub mod Tries
-pub mod Sessions
+pub mod Noted
+pub mod Faults
+pub mod answer

@@ -1,12 +1,13 @@
 //! The answers to an input.
 
-ghost use Rattle.std.specs.Prelude.{◌≡◌, ◌++◌, ◌∷◌, [], map, OnOk, IfOk, IfErr, string_bytes};
-ghost use Rattle.zerotrie.specs.Maps.{RepeatsKey};
+ghost use Rattle.std.specs.Prelude.{◌≡◌, ◌++◌, ◌∷◌, [], map, OnOk, OnErr, IfOk, string_bytes};
+ghost use Rattle.zerotrie.specs.Routes.{any_order, IsBuild};
 ghost use Rattle.zerotrie_tool.specs.Lines.{lines_of};
 ghost use Rattle.zerotrie_tool.specs.Commands.{kind_of, build};
-ghost use Rattle.zerotrie_tool.specs.Parsing.{meaning};
-ghost use Rattle.zerotrie_tool.specs.Answers.{Answers, State, MayRefuse};
-ghost use Rattle.zerotrie_tool.specs.Sessions.{Holds, AfterLine, AfterRequest};
+ghost use Rattle.zerotrie_tool.specs.Answers.{Answers, State, without_trie, with_trie};
+ghost use Rattle.zerotrie_tool.specs.answer.Parsing.{meaning};
+ghost use Rattle.zerotrie_tool.specs.answer.Tries.{trie_bytes};
+ghost use Rattle.zerotrie_tool.specs.answer.Sessions.{Holds, AfterLine, AfterRequest};
 
 use crate::command::{Choice, Request, parse};
 use crate::reply::{write_bad, write_number, write_ok, write_refused};
@@ -28,19 +29,20 @@ enum Outcome {
     Bad,
 }
 
-/// What is held from the first `kind` line on. The pairs are those since the last, in order, and the trie is
-/// of its choice.
+/// What is held from the first `kind` line on. The pairs are those since the last, in order.
 #[derive(Drop)]
 struct Session<'a> {
+    choice: Choice,
     pairs: Vec<(&'a [u8], usize)>,
     trie: Trie,
 }
 
 impl<'a> Session<'a> {
     fn new(alloc: Global, choice: Choice) -> Self
-        ensures { Holds result (record { choice = choice; pairs = []; built = [] }) }
+        ensures { Holds result (without_trie choice []) }
     {
         Session {
+            choice,
             pairs: Vec::new(alloc),
             trie: Trie::empty(alloc, choice),
         }
@@ -55,14 +57,14 @@ impl<'a> Session<'a> {
 
     /// Builds the trie. After an error it is empty.
     fn build(&mut self, alloc: Global) -> Result<(), ZeroTrieBuildError>
-        ensures distinct { OnOk result ((s : State) → Holds self.old s → RepeatsKey s.pairs → ⊥) }
-        ensures built { OnOk result ((s : State) → Holds self.old s → Holds self.new (record s { built = s.pairs })) }
-        ensures cause { IfErr result (λ error. (s : State) → Holds self.old s → MayRefuse (kind_of s.choice) s.pairs error) }
-        ensures empty { IfErr result (λ error. (s : State) → Holds self.old s → Holds self.new (record s { built = [] })) }
+        ensures answer { (s : State) → Holds self.old s →
+            IsBuild any_order (kind_of s.choice s.pairs) (λ _. trie_bytes self.new.trie) s.pairs result }
+        ensures built { OnOk result ((s : State) → Holds self.old s →
+            Holds self.new (with_trie s.choice s.pairs (trie_bytes self.new.trie))) }
+        ensures emptied { OnErr result ((s : State) → Holds self.old s → Holds self.new (without_trie s.choice s.pairs)) }
     {
-        let choice = self.trie.choice();
-        self.trie = Trie::empty(alloc, choice);
-        self.trie = Trie::build(alloc, choice, self.pairs.as_slice())?;
+        self.trie = Trie::empty(alloc, self.choice);
+        self.trie = Trie::build(alloc, self.choice, self.pairs.as_slice())?;
         Ok(())
     }
 

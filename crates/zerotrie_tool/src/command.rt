@@ -4,7 +4,7 @@ ghost use Rattle.std.specs.Prelude.{◌≡◌, ◌==◌, ℕ, List, IfSome, IfNo
 ghost use Rattle.std.specs.List.{before_first, position};
 ghost use Rattle.zerotrie_tool.specs.Numbers.{IsNumber};
 ghost use Rattle.zerotrie_tool.specs.Commands.{Command, choose, add, HasKey, IsCommand};
-ghost use Rattle.zerotrie_tool.specs.Parsing.{meaning};
+ghost use Rattle.zerotrie_tool.specs.answer.Parsing.{meaning};
 
 /// A kind of trie, as a `kind` line names it.
 #[derive(Clone, Copy, PartialEq, Eq, Debug)]

@@ -11,7 +11,7 @@ mod tests;
 mod trie;
 
 use noted::Noted;
-use run::{RunError, run};
+use run::run;
 use std::process::ExitCode;
 
 fn main(rt: HostRuntime) -> ExitCode {
@@ -20,11 +20,7 @@ fn main(rt: HostRuntime) -> ExitCode {
     match run(rt.alloc(), &mut reader, &mut writer) {
         Ok(status) => ExitCode::from(status),
         Err(error) => {
-            let message = match error {
-                RunError::Read => "read failed",
-                RunError::Write => "write failed",
-                RunError::OutOfMemory => "out of memory",
-            };
+            let message = error.message();
             let _ = eprintln!(rt; "{message}");
             ExitCode::from(3)
         }

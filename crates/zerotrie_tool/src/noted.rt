@@ -6,6 +6,7 @@ ghost use Rattle.std.specs.Io.{ReadsAtMost, WritesAtMost};
 
 use std::io;
 use std::io::{Read, Write};
+use std::marker::Model;
 
 /// A reader or writer with a flag that is set from its first fault on.
 ///
@@ -16,8 +17,16 @@ use std::io::{Read, Write};
 /// ```
 #[derive(Debug, Drop)]
 pub struct Noted<T> {
-    pub inner: T,
-    pub failed: bool,
+    inner: T,
+    failed: bool,
+}
+
+impl<T> Model for Noted<T> {
+    ghost use Rattle.zerotrie_tool.specs.Noted.{Watched};
+
+    ghost Value = { Watched T };
+
+    ghost view = { λ n. record { inner = n.inner; failed = n.failed } };
 }
 
 impl<T> Noted<T> {
@@ -36,8 +45,7 @@ impl<T> Noted<T> {
     pub fn failed(&self) -> bool
         ensures { result ≡ self.now.failed }
     {
-        let Noted { inner: _, failed } = self;
-        *failed
+        self.failed
     }
 
     /// The reader or writer itself.
@@ -58,9 +66,7 @@ impl<R: Read> Read for Noted<R> {
         ensures flag { self.new.failed ≡ (self.old.failed || is_err result) }
     {
         let outcome = self.inner.read(buf);
-        if outcome.is_err() {
-            self.failed = true;
-        }
+        self.failed |= outcome.is_err();
         outcome
     }
 }
@@ -74,9 +80,7 @@ impl<W: Write> Write for Noted<W> {
         ensures flag { self.new.failed ≡ (self.old.failed || is_err result) }
     {
         let outcome = self.inner.write(buf);
-        if outcome.is_err() {
-            self.failed = true;
-        }
+        self.failed |= outcome.is_err();
         outcome
     }
 
@@ -85,9 +89,7 @@ impl<W: Write> Write for Noted<W> {
         ensures flag { self.new.failed ≡ (self.old.failed || is_err result) }
     {
         let outcome = self.inner.flush();
-        if outcome.is_err() {
-            self.failed = true;
-        }
+        self.failed |= outcome.is_err();
         outcome
     }
 
@@ -96,9 +98,7 @@ impl<W: Write> Write for Noted<W> {
         ensures flag { self.new.failed ≡ (self.old.failed || is_err result) }
     {
         let outcome = self.inner.write_all(buf);
-        if outcome.is_err() {
-            self.failed = true;
-        }
+        self.failed |= outcome.is_err();
         outcome
     }
 }

@@ -25,6 +25,21 @@ pub enum RunError {
     OutOfMemory,
 }
 
+impl RunError {
+    ghost use Rattle.zerotrie_tool.specs.Faults.{fault_text};
+
+    /// What the program prints to standard error.
+    pub fn message(&self) -> &'static str
+        ensures { result.now ≡ fault_text self.now }
+    {
+        match self {
+            RunError::Read => "read failed",
+            RunError::Write => "write failed",
+            RunError::OutOfMemory => "out of memory",
+        }
+    }
+}
+
 impl From<AllocError> for RunError {
     ghost from_gives = { λ _ e. e ≡ OutOfMemory };
 
@@ -56,14 +71,20 @@ fn read_all<R: Read>(alloc: Global, reader: &mut Noted<R>) -> Result<Vec<u8>, Ru
 /// Reads all input, forms all answers, and then writes them. It answers the status to end with.
 ///
 /// ```text
-/// kind simple     chooses a kind of trie, simple or ignore, without pairs
+/// kind simple     chooses a kind of trie, simple or ignore
 /// + 22 ad         adds a pair
-/// build           prints ok 4 61649006, the number of bytes and the bytes
-/// ? ad            prints 22
+/// build           builds the trie of the pairs, and prints ok 4 61649006, the number of bytes and the bytes
+/// ? ad            prints 22, the number of the key, or none
 /// ```
 ///
-/// A line that is no command ends the run with `bad line N` and status 2. Else the status is 1 where a build
-/// was refused, and 0 where none was. An error but `Write` has written nothing.
+/// - An empty line is skipped and counted.
+/// - A second `kind` begins anew: without pairs, and with the empty trie.
+/// - A build takes all pairs since `kind`. One that is refused prints its reason, and leaves the empty trie.
+/// - Any other line is bad, and so is a line before the first `kind`. It ends the run with `bad line N`.
+/// - The status is 2 after a bad line, also where a build was refused before it. Else it is 1 where a build was
+///   refused, and 0 where none was.
+///
+/// An error but `Write` has written nothing.
 pub fn run<R: Read, W: Write>(
     alloc: Global,
     reader: &mut Noted<R>,

@@ -199,3 +199,18 @@ fn faults(rt: HostRuntime) -> Result<(), Fail> {
     }
     Ok(())
 }
+
+/// The text of each error, and what the program prints for it.
+#[test]
+fn error_texts(rt: HostRuntime) -> Result<(), Fail> {
+    let rows = [
+        (RunError::Read, "Read", "read failed"),
+        (RunError::Write, "Write", "write failed"),
+        (RunError::OutOfMemory, "OutOfMemory", "out of memory"),
+    ];
+    for (error, text, message) in rows {
+        assert_eq!(rt; format!(in rt.alloc(); "{error}")?.as_str(), text);
+        assert_eq!(rt; error.message(), message);
+    }
+    Ok(())
+}

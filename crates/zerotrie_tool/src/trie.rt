@@ -1,12 +1,12 @@
 //! Tries of the kinds that can be chosen.
 
-ghost use Rattle.std.specs.Prelude.{◌≡◌, [], IfOk, OnOk, IfErr};
+ghost use Rattle.std.specs.Prelude.{◌≡◌, [], IfOk};
 ghost use Rattle.zerotrie.specs.Items.{pairs_of};
-ghost use Rattle.zerotrie.specs.Maps.{Pairs, RepeatsKey, look, map_of};
-ghost use Rattle.zerotrie.specs.Built.{IsBuilt};
+ghost use Rattle.zerotrie.specs.Maps.{Map, look};
+ghost use Rattle.zerotrie.specs.Texts.{Means};
+ghost use Rattle.zerotrie.specs.Routes.{any_order, IsBuild};
 ghost use Rattle.zerotrie_tool.specs.Commands.{kind_of};
-ghost use Rattle.zerotrie_tool.specs.Answers.{MayRefuse};
-ghost use Rattle.zerotrie_tool.specs.Tries.{IsTrie, choice_of, bytes_of};
+ghost use Rattle.zerotrie_tool.specs.answer.Tries.{trie_kind, trie_bytes};
 
 use crate::command::Choice;
 use std::alloc::Global;
@@ -26,9 +26,7 @@ fn build_ascii<K: AsciiKind>(
     alloc: Global,
     pairs: &[(&[u8], usize)],
 ) -> Result<AsciiTrie<K, Vec<u8>>, ZeroTrieBuildError>
-    ensures distinct { OnOk result (RepeatsKey (pairs_of pairs.now) → ⊥) }
-    ensures built { IfOk result (λ trie. IsBuilt K.kind (pairs_of pairs.now) trie.store.items) }
-    ensures refused { IfErr result (MayRefuse K.kind (pairs_of pairs.now)) }
+    ensures { IsBuild any_order K.kind (λ trie. trie.store.items) (pairs_of pairs.now) result }
 {
     AsciiTrie::try_from_iter(alloc, pairs.iter().copied())
 }
@@ -36,7 +34,8 @@ fn build_ascii<K: AsciiKind>(
 impl Trie {
     /// The trie without pairs.
     pub fn empty(alloc: Global, choice: Choice) -> Self
-        ensures { IsTrie result choice [] }
+        ensures kind { trie_kind result ≡ kind_of choice [] }
+        ensures bytes { trie_bytes result ≡ [] }
     {
         let store = Vec::new(alloc);
         match choice {
@@ -51,9 +50,8 @@ impl Trie {
         choice: Choice,
         pairs: &[(&[u8], usize)],
     ) -> Result<Self, ZeroTrieBuildError>
-        ensures distinct { OnOk result (RepeatsKey (pairs_of pairs.now) → ⊥) }
-        ensures built { IfOk result (λ trie. IsTrie trie choice (pairs_of pairs.now)) }
-        ensures refused { IfErr result (MayRefuse (kind_of choice) (pairs_of pairs.now)) }
+        ensures kind { IfOk result (λ trie. trie_kind trie ≡ kind_of choice (pairs_of pairs.now)) }
+        ensures build { let pairs = pairs_of pairs.now in IsBuild any_order (kind_of choice pairs) trie_bytes pairs result }
     {
         match choice {
             Choice::Simple => build_ascii(alloc, pairs).map(Trie::Simple),
@@ -61,19 +59,9 @@ impl Trie {
         }
     }
 
-    /// The choice that the trie is of.
-    pub fn choice(&self) -> Choice
-        ensures { result ≡ choice_of self.now }
-    {
-        match self {
-            Trie::Simple(_) => Choice::Simple,
-            Trie::Ignore(_) => Choice::Ignore,
-        }
-    }
-
     /// The bytes of the trie.
     pub fn as_bytes(&self) -> &[u8]
-        ensures { result.now ≡ bytes_of self.now }
+        ensures { result.now ≡ trie_bytes self.now }
     {
         match self {
             Trie::Simple(trie) => trie.as_bytes(),
@@ -83,7 +71,7 @@ impl Trie {
 
     /// The number of the key.
     pub fn get(&self, key: &[u8]) -> Option<usize>
-        ensures { (choice : Choice) (built : Pairs) → IsTrie self.now choice built → result ≡ look (kind_of choice) (map_of built) key.now }
+        ensures { let kind = trie_kind self.now in (m : Map) → Means kind (trie_bytes self.now) m → result ≡ look kind m key.now }
     {
         match self {
             Trie::Simple(trie) => trie.get(key),

@@ -95,7 +95,8 @@ impl PerfectByteHashMapCacheOwned {
     fn hold(&mut self, keys: &[u8]) -> Result<(), ZeroTrieBuildError>
         requires { IsDistinct nat_eq keys.now }
         ensures held { IsSome (find keys.now self.old) → IsOk result × (self.new ≡ self.old) }
-        ensures new { IfNone (find keys.now self.old) (OnOk result ((table : List ℕ) × (self.new ≡ put keys.now table self.old))) }
+        ensures new { IfNone (find keys.now self.old)
+            (OnOk result ((table : List ℕ) × (self.new ≡ put keys.now table self.old))) }
         ensures err { OnErr result (self.new ≡ self.old) }
         ensures refused { IfErr result (IsTableRefusal keys.now) }
         ensures there { OnOk result (IsSome (find keys.now self.new)) }

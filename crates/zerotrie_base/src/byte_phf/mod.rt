@@ -142,7 +142,8 @@ impl PerfectByteHashMap<Vec<u8>> {
     ) -> Result<PerfectByteHashMap<Vec<u8>>, ZeroTrieBuildError>
         requires { IsDistinct nat_eq keys.now }
         ensures table { IfOk result (λ table. IsPerfectTable keys.now table.store.items) }
-        ensures plain { IfOk result (λ table. IsPlain keys.now → (placed : List ℕ) × (table.store.items ≡ replicate (1 + length keys.now) 0 ++ placed)) }
+        ensures plain { IfOk result (λ table. IsPlain keys.now
+            → (placed : List ℕ) × (table.store.items ≡ replicate (1 + length keys.now) 0 ++ placed)) }
         ensures refused { IfErr result (IsTableRefusal keys.now) }
     {
         let parameters = find(alloc, keys)?;
@@ -181,7 +182,8 @@ impl<S: TrieStore> PerfectByteHashMap<S> {
     /// answered if the byte n further on is the key.
     pub fn get(&self, key: u8) -> Option<usize>
         ensures any { result ≡ number_of (S.stored self.now.store) key }
-        ensures perfect { (p : ℕ) (qs keys : List ℕ) → S.stored self.now.store ≡ p ∷ (qs ++ keys) → IsPerfect p qs keys → (i : ℕ) → (result ≡ Some i) ↔ ((i < length keys) × (slice_index keys i ≡ key)) }
+        ensures perfect { (p : ℕ) (qs keys : List ℕ) → S.stored self.now.store ≡ p ∷ (qs ++ keys)
+            → IsPerfect p qs keys → (i : ℕ) → (result ≡ Some i) ↔ ((i < length keys) × (slice_index keys i ≡ key)) }
     {
         number_of(self.store.bytes(), key)
     }

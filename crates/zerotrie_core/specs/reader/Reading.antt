@@ -1,5 +1,5 @@
 -- What a look-up reads.
-use Rattle.std.specs.Prelude.{◌≡◌, ℕ, ◌+◌, ◌<◌, List, length, slice_index, Option}
+use Rattle.std.specs.Prelude.{◌≡◌, ◌≢◌, ℕ, ◌+◌, ◌<◌, List, length, slice_index, Option}
 use Rattle.zerotrie_core.specs.Kind.{Kind, fold_byte}
 use Rattle.zerotrie_core.specs.Maps.{Pairs, value_at}
 use Rattle.zerotrie_core.specs.Texts.{Lists, nodes}
@@ -26,3 +26,11 @@ AlwaysComes kind bytes key rest after count = (pairs : Pairs) (text : Lists kind
 -- each byte is by its fold below all later ones
 abbrev pub AlwaysRises : Kind → List ℕ → Type 0
 AlwaysRises kind xs = (i j : ℕ) → i < j → j < length xs → fold_byte kind (slice_index xs i) < fold_byte kind (slice_index xs j)
+
+-- the place of an edge that is the byte c to the kind
+abbrev pub IsPlace : Kind → ℕ → List ℕ → ℕ → ℕ → Type 0
+IsPlace kind edges behind c place = (place < edges) × (fold_byte kind (slice_index behind place) ≡ fold_byte kind c)
+
+-- no edge is
+abbrev pub HasNoPlace : Kind → ℕ → List ℕ → ℕ → Type 0
+HasNoPlace kind edges behind c = (k : ℕ) → k < edges → fold_byte kind (slice_index behind k) ≢ fold_byte kind c

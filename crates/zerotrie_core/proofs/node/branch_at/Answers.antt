@@ -1,4 +1,4 @@
-use Rattle.std.proofs.Common.{◌≡◌, ◌+◌, ◌-◌, ◌*◌, ◌/◌, ◌%◌, ◌<◌, ◌≤◌, length, arith, subst, sym, ◌∙◌, ap, ◌∷◌}
+use Rattle.std.proofs.Common.{◌≡◌, ◌+◌, ◌-◌, ◌*◌, ◌/◌, ◌≤◌, length, arith}
 use Rattle.zerotrie_core.proofs.NodeLemmas.{head_read, narrow}
 use Rattle.zerotrie_core.proofs.node.branch_at.Goals as goal
 use Rattle.zerotrie_core.proofs.node.branch_at.Goals.{then-head-eq0, else-head-eq0, then-width-gt3-via-then-width-gt3, then-width-gt3-via-else-width-gt3+then-edges-lt2, then-width-gt3-via-else-width-gt3+else-edges-lt2+then-behind-edges}
@@ -28,6 +28,6 @@ returns-then-width-gt3-clause-none g c edges width behind b =
       | then-width-gt3-via-else-width-gt3+else-edges-lt2+then-behind-edges w ↦
           let short = w.if-behind-edges.true in
           let holds : c.if-head-eq0.edges + (c.in_ok-head.head / 256 + 1) * (c.if-head-eq0.edges - 1) ≤ length c.in_ok-head.behind.now =
-              rw (n, few, r.2) b.holds in
+          rw (n, few, r.2) b.holds in
           omega arith
     ]

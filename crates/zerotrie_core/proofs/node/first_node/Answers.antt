@@ -1,6 +1,4 @@
-use Rattle.std.proofs.Common.{arith, subst, sym}
-use Rattle.std.proofs.lemmas.List.{nil_from_length}
-use Rattle.zerotrie_core.proofs.NodeLemmas.{none_empty, only_value, no_span, only_branch}
+use Rattle.zerotrie_core.proofs.NodeLemmas.{only_branch}
 use Rattle.zerotrie_core.proofs.node.first_node.Goals as goal
 
 pub returns-in_err-branch_at-clause-none : goal.returns-in_err-branch_at-clause-none

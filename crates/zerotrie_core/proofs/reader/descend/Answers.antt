@@ -24,15 +24,15 @@ returns-then-folded g c =
     let kind = g.K.ZeroTrieWithOptions.kind in
     rw c.in-Literal.is
     (node_goes kind (literal c.in-Literal.edge c.in-Literal.rest.now) c.in-Some.byte.now c.in-Literal.edge c.args.key.now c.in-Some.after.now c.in-Literal.rest.now c.in-Some.ensures.cases.0
-        (literal_along kind c.in-Literal.edge c.in-Some.byte.now c.in-Literal.rest.now (sym c.folded-in-Some.ensures ∙ sym c.if-folded.true ∙ c.folded.ensures))
-        (literal_shorter kind c.in-Literal.edge c.in-Literal.rest.now))
+    (literal_along kind c.in-Literal.edge c.in-Some.byte.now c.in-Literal.rest.now (sym c.folded-in-Some.ensures ∙ sym c.if-folded.true ∙ c.folded.ensures))
+    (literal_shorter kind c.in-Literal.edge c.in-Literal.rest.now))
 
 pub returns-else-folded : goal.returns-else-folded
 returns-else-folded g c =
     let kind = g.K.ZeroTrieWithOptions.kind in
     rw c.in-Literal.is
     (node_ends kind (literal c.in-Literal.edge c.in-Literal.rest.now) c.in-Some.byte.now c.args.key.now c.in-Some.after.now c.in-Some.ensures.cases.0
-        (literal_past kind c.in-Literal.edge c.in-Some.byte.now c.in-Literal.rest.now (λ e. c.if-folded.false (c.folded.ensures ∙ sym e ∙ sym c.folded-in-Some.ensures))))
+    (literal_past kind c.in-Literal.edge c.in-Some.byte.now c.in-Literal.rest.now (λ e. c.if-folded.false (c.folded.ensures ∙ sym e ∙ sym c.folded-in-Some.ensures))))
 
 pub returns-in-None-split_first : goal.returns-in-None-split_first
 returns-in-None-split_first g c =
@@ -52,5 +52,5 @@ returns-in-Some-follow g c =
     let short = c.in-Some-follow.ensures.shorter in
     rw c.in-Branch.is
     (node_goes kind (branch b.edges b.width b.behind.now) c.in-Some-split_first.byte.now c.in-Some-follow._edge c.args.key.now c.in-Some-split_first.after.now c.in-Some-follow.target.now c.in-Some-split_first.ensures.cases.0
-        c.in-Some-follow.ensures.some
-        (λ bytes begins. (let less = branch_shorter kind b.edges b.width b.behind.now bytes begins in omega (arith, less, short))))
+    c.in-Some-follow.ensures.some
+    (λ bytes begins. (let less = branch_shorter kind b.edges b.width b.behind.now bytes begins in omega (arith, less, short))))

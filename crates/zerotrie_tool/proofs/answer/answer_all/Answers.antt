@@ -11,7 +11,7 @@ loop-index-init c = record {
 
 pub loop-index-preserved-then-is_empty : goal.loop-index-preserved-then-is_empty
 loop-index-preserved-then-is_empty c = record {
-  low = c.loop-index.invariant.low;
+  low = omega arith;
   answering = answering_empty c.args.input.now c.deref-line-items.result.now c.loop-index.index c.loop-index.held (string_bytes c.loop-index.output) c.loop-index.status
       c.loop-index.invariant.answering c.loop-index-test.true (is_nil (line_at c.deref-line-items.result.now c.loop-index.index) c.if-is_empty.ensures);
 }

@@ -1,6 +1,6 @@
-use Rattle.std.proofs.Common.{arith, subst, sym}
+use Rattle.std.proofs.Common.{subst, sym}
 use Rattle.zerotrie_core.specs.reader.Going.{AlwaysGoes}
-use Rattle.zerotrie_core.specs.Nodes.Shape.{branch}
+use Rattle.zerotrie_core.specs.Shapes.{branch_shape}
 use Rattle.zerotrie_core.proofs.GoingLemmas.{follow_goes, follow_some, follow_stops, target_shorter}
 use Rattle.zerotrie_core.proofs.branch.Branch.follow.Goals as goal
 
@@ -14,9 +14,9 @@ returns-in_err-target-clause-none g c =
     (follow_some g.K.ZeroTrieWithOptions.kind c.requires c.args.self.now.edges c.args.self.now.width c.args.self.now.behind.now c.args.byte c.in_ok-place.place c.in_ok-place.ensures.some.0 c.in_err-target.ensures)
 
 pub returns-clause-shorter : goal.returns-clause-shorter
-returns-clause-shorter g c = target_shorter c.args.self.now.edges c.args.self.now.width c.args.self.now.behind.now _ _ c.in_ok-target.target c.in_ok-target.ensures
+returns-clause-shorter g c = target_shorter c.args.self.now.edges c.args.self.now.width c.args.self.now.behind.now c.in_ok-place.place c.in_ok-target.target c.in_ok-target.ensures
 
 pub returns-clause-some : goal.returns-clause-some
 returns-clause-some g c =
-    subst (λ b. AlwaysGoes g.K.ZeroTrieWithOptions.kind (branch c.args.self.now.edges c.args.self.now.width c.args.self.now.behind.now) c.args.byte b c.in_ok-target.target.now) (sym c.edge_at.ensures)
-    (follow_goes g.K.ZeroTrieWithOptions.kind c.requires c.args.self.now.edges c.args.self.now.width c.args.self.now.behind.now c.args.byte c.in_ok-place.place c.in_ok-target.target c.in_ok-place.ensures.some.0 c.in_ok-place.ensures.some.1 c.in_ok-target.ensures)
+    subst (λ b. AlwaysGoes g.K.ZeroTrieWithOptions.kind (branch_shape c.args.self.now) c.args.byte b c.in_ok-target.target.now) (sym c.edge_at.ensures)
+    (follow_goes g.K.ZeroTrieWithOptions.kind c.requires c.args.self.now.edges c.args.self.now.width c.args.self.now.behind.now c.args.byte c.in_ok-place.place c.in_ok-target.target c.in_ok-place.ensures.some c.in_ok-target.ensures)

@@ -1,4 +1,3 @@
-use Rattle.std.proofs.Common.{arith, subst, sym}
 use Rattle.zerotrie_core.proofs.PlaceLemmas.{none_in_front}
 use Rattle.zerotrie_core.proofs.branch.Branch.place_of.Goals as goal
 

@@ -3,6 +3,9 @@ use Rattle.zerotrie_tool.proofs.answer.Session.add.Goals as goal
 
 pub returns : goal.returns
 returns c = λ s h. record {
+  choice = h.choice;
   pairs = rw c.in_ok-push.ensures.items (one_more c.args.self.now.pairs.items s.pairs c.args.key c.args.value h.pairs);
-  trie = h.trie;
+  kind = h.kind;
+  text = h.text;
+  means = h.means;
 }

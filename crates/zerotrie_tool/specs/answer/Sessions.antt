@@ -1,17 +1,22 @@
 -- What a session holds, and what a line does to it.
 use Rattle.std.specs.Prelude.{◌≡◌, ℕ, List, ◌++◌, Option, Some, None}
 use Rattle.zerotrie.specs.Items.{pairs_of}
+use Rattle.zerotrie.specs.Maps.{map_of}
+use Rattle.zerotrie.specs.Texts.{Means}
 use Rattle.zerotrie_tool.specs.Commands.{Command, IsCommand}
 use Rattle.zerotrie_tool.specs.Answers.{State, Does, CanDo}
-use Rattle.zerotrie_tool.specs.Tries.{IsTrie}
+use Rattle.zerotrie_tool.specs.answer.Tries.{trie_kind, trie_bytes}
 use Rattle.zerotrie_tool.specs.declared.answer.Session.{Session}
 use Rattle.zerotrie_tool.specs.declared.answer.Outcome.{Outcome}
 use Rattle.zerotrie_tool.specs.declared.answer.Outcome.TheVariants.{Done, Refused, Bad}
 
--- The session holds the state: its pairs, and a trie of those that were built.
+-- The session holds the state: its choice, its pairs, and a trie whose text means the pairs that were built.
 pub record Holds (session : Session) (s : State) : Type 0 where
+  pub choice : session.choice ≡ s.choice
   pub pairs : pairs_of session.pairs.items ≡ s.pairs
-  pub trie : IsTrie session.trie s.choice s.built
+  pub kind : trie_kind session.trie ≡ s.kind
+  pub text : trie_bytes session.trie ≡ s.text
+  pub means : Means s.kind s.text (map_of s.built)
 
 -- the same, before the first choice too
 abbrev pub HoldsSome : Option Session → Option State → Type 0

@@ -1,0 +1,4 @@
+-- Words of the functions behind `answer_all`.
+pub mod Parsing
+pub mod Tries
+pub mod Sessions

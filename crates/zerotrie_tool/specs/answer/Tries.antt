@@ -1,0 +1,15 @@
+-- What a trie of one of the kinds is.
+use Rattle.std.specs.Prelude.{ℕ, List}
+use Rattle.zerotrie.specs.Kind.{Kind, simple_ascii, ignore_case}
+use Rattle.zerotrie_tool.specs.declared.trie.Trie.{Trie}
+use Rattle.zerotrie_tool.specs.declared.trie.Trie.TheVariants.{Simple, Ignore}
+
+-- the kind that a trie is of
+abbrev pub trie_kind : Trie → Kind
+trie_kind (Simple trie) = simple_ascii
+trie_kind (Ignore trie) = ignore_case
+
+-- the bytes of a trie
+abbrev pub trie_bytes : Trie → List ℕ
+trie_bytes (Simple trie) = trie.store.items
+trie_bytes (Ignore trie) = trie.store.items
