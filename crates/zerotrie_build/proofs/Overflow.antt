@@ -11,7 +11,7 @@ use Rattle.zerotrie_core.specs.Texts.{ListEach}
 use Rattle.zerotrie_core.specs.Branches.{total}
 use Rattle.zerotrie_core.specs.Canonical.{size_of}
 use Rattle.zerotrie_core.specs.Fits.{targets_size, OverflowsAt, ExceedsCapacity}
-use Rattle.zerotrie_core.proofs.CallerLemmas.{residual-append, Rises, bytes_all, targets_each, edges_count, greatest_width_is, same-entries, same-sym, same-behind, same-edges, same-targets, some_pair, begins_behind, map_agree}
+use Rattle.zerotrie_core.proofs.CallerLemmas.{residual-append, Rises, rises_distinct, bytes_all, targets_each, edges_count, greatest_width_is, same-entries, same-sym, same-behind, same-edges, same-targets, some_pair, begins_behind, map_agree}
 use Rattle.zerotrie_build.proofs.Runs.{behind_all-append, behind_all-run}
 
 filter_agree : (p q : ℕ → Bool) (zs : List ℕ) → ((b : ℕ) → p b ≡ q b) → filter p zs ≡ filter q zs
@@ -36,8 +36,9 @@ overflows {kind = kind} is_ascii run listed node others {es = es} each rises low
     ap (behind_all run) is ∙ behind_all-append run (with_run run node) others ∙ ap (λ x. x ++ behind_all run others) (behind_all-run run node)
     ∙ ap (λ x. node ++ x) none ∙ append-nil node in
     let bytes = bytes_all es (λ i d h. let l = low i d h in omega arith) in
-    let total = targets_each is_ascii each rises bytes in
-    let count = edges_count is_ascii each rises bytes in
+    let apart = rises_distinct kind es rises in
+    let total = targets_each each apart bytes in
+    let count = edges_count each apart bytes in
     let reach = ap (λ w. 256 ^ (w + 1)) (greatest_width_is kind is_ascii) in
     subst (OverflowsAt kind []) (sym behind) (omega arith, omega arith)
 

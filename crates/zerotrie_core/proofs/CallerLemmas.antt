@@ -20,12 +20,12 @@ pub use Rattle.zerotrie_core.proofs.NumberLaws.{below_metadata, spelling_is}
 pub use Rattle.zerotrie_core.proofs.FrontLemmas.{small_width, wider, width_is, total-lengths, node_many}
 
 -- edges that rise, and what a node in front of texts lists
-pub use Rattle.zerotrie_core.proofs.TableLemmas.{Rises, AllAbove}
+pub use Rattle.zerotrie_core.proofs.TableLemmas.{Rises, AllAbove, rises_distinct}
 pub use Rattle.zerotrie_core.proofs.CanonLaws.{lists_some, bytes_all}
 pub use Rattle.zerotrie_core.proofs.EncodeLaws.{node_lists, not_empty_text}
 
 -- how many edges and target bytes the pairs of a branch have
-pub use Rattle.zerotrie_core.proofs.ListedLemmas.{targets_each, edges_count}
+pub use Rattle.zerotrie_core.proofs.SizeLaws.{targets_each, edges_count}
 
 -- no two keys of a text are one to the kind, and what a look-up in its map answers
 pub use Rattle.zerotrie_core.proofs.CaseLemmas.{same_equiv, lists_apart, lists_found, same_answers}

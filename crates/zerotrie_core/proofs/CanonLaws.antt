@@ -1,29 +1,26 @@
 -- The text of an ASCII kind is the canonical one.
 use Rattle.std.proofs.Common.{◌≡◌, ℕ, zero, suc, ◌<◌, ◌≤◌, List, [], ◌∷◌, ◌++◌, length, refl, sym, ◌∙◌, ap, subst, arith, inl, inr, map, Bool, true, false, eqb, get_or, None}
-use Rattle.std.specs.Prelude.{◌||◌}
 use Rattle.std.specs.List.{concat}
 use Rattle.std.proofs.lemmas.Bool.{cases_lt}
 use Rattle.std.proofs.lemmas.Bool.Decides.{eqb_tells}
-use Rattle.zerotrie_core.specs.Kind.{Kind, simple_ascii, ignore_case, IsAscii, fold_byte, edge_limit, ordered}
+use Rattle.zerotrie_core.specs.Kind.{Kind, simple_ascii, ignore_case, perfect_hash, extended_capacity, IsAscii, fold_byte, ordered, sorted_by}
 use Rattle.zerotrie_core.specs.Numbers.{value_form, spelled_as}
 use Rattle.zerotrie_core.specs.Maps.{Pairs, with_front, begins_some, edges, residual, value_at}
 use Rattle.zerotrie_core.specs.Branches.{IsBranch, branch_front}
 use Rattle.zerotrie_core.specs.Texts.{Lists, ListEach, NoValueFirst}
-use Rattle.zerotrie_core.specs.Texts.Lists.{nothing, value, literal, branch}
+use Rattle.zerotrie_core.specs.Texts.Lists.{nothing, value, literal, span, branch}
 use Rattle.zerotrie_core.specs.Texts.ListEach.{no_edge, edge}
 use Rattle.zerotrie_core.specs.Canonical.{enc_to, node, branch_node, value_node}
-use Rattle.zerotrie_core.proofs.EdgeLemmas.{Rise, member, member_head, member_later, member_other, filter-range, begins_some-append, begins_some-front, residual-append, residual-front, residual-other}
-use Rattle.zerotrie_core.proofs.OrderedLemmas.{ordered_is, edges_rise, member-edges, member-edges_past, not_member}
+use Rattle.zerotrie_core.proofs.EdgeLemmas.{Rise, member, member_head, member_later, member_other, begins_some-append, begins_some-front, residual-append, residual-front, residual-other, edges_front, edges_none, edges_value}
+use Rattle.zerotrie_core.proofs.OrderedLemmas.{ordered_is, sorted_is, edges_rise, member-edges, member-edges_past, not_member}
 use Rattle.zerotrie_core.proofs.NumberLemmas.{extender_one}
-use Rattle.zerotrie_core.proofs.TableLemmas.{Rises, AllAbove, table_rises, table_is_edges}
+use Rattle.zerotrie_core.proofs.KindLemmas.{ascii_sorted, ascii_spanless, edge_limit_to}
+use Rattle.zerotrie_core.proofs.TableLemmas.{Distinct, Rises, AllAbove, table_rises, table_is_edges}
 use Rattle.zerotrie_core.proofs.ValueLemmas.{value_at-no_key, behind_none}
+use Rattle.zerotrie_core.proofs.SpanLemmas.{run_none, value_at-no_run}
 use Rattle.zerotrie_core.proofs.SameLemmas.{some_pair, begins_behind}
 use Rattle.zerotrie_core.proofs.NumberLaws.{spelling_is}
 use Rattle.zerotrie_core.proofs.FrontLemmas.{branch_is_front, node_many}
-
-or_false' : (x : Bool) → (x || false) ≡ x
-or_false' true = refl
-or_false' false = refl
 
 -- each key is shorter than d
 abbrev pub Shorter : ℕ → Pairs → Type 0
@@ -38,7 +35,7 @@ pub Shorter-parts : (d : ℕ) (xs ys : Pairs) → Shorter d (xs ++ ys) → Short
 Shorter-parts d [] ys h = (tt, h)
 Shorter-parts d (e ∷ xs) ys h = let r = Shorter-parts d xs ys h.1 in ((h.0, r.0), r.1)
 
-front_none : (b : ℕ) (pairs : Pairs) → with_front b pairs ≡ [] → pairs ≡ []
+pub front_none : (b : ℕ) (pairs : Pairs) → with_front b pairs ≡ [] → pairs ≡ []
 front_none b [] e = refl
 front_none b (x ∷ pairs) e = absurd (cc)
 
@@ -55,6 +52,7 @@ mutual
   lists_some nothing some none = some refl
   lists_some (value s n text) some none = absurd (cc)
   lists_some (literal {b = b} {pairs = p} low n text) some none = lists_some text n (front_none b p none)
+  lists_some (span {pairs = p} run h there high s n f text) some none = lists_some text n (run_none run p none)
   lists_some (branch b each) some none = each_some each (no_edges b) none
 
   each_some : {kind : Kind} {es : List ℕ} {targets : List (List ℕ)} {pairs : Pairs} → ListEach kind es targets pairs → (es ≡ [] → ⊥) → pairs ≡ [] → ⊥
@@ -66,16 +64,12 @@ begins_each no_edge b = refl
 begins_each (edge {e = e} {pairs = p} {more = m} n text each) b =
     begins_some-append (with_front e p) m b ∙ rw (begins_some-front e b p (lists_some text n), begins_each each b) refl
 
-pub branch_rises : {kind : Kind} {es : List ℕ} {targets : List (List ℕ)} {bytes : List ℕ} → IsBranch kind es targets bytes → Rises kind es
-branch_rises b = table_rises b.is_table
+pub branch_rises : {kind : Kind} {es : List ℕ} {targets : List (List ℕ)} {bytes : List ℕ} → IsAscii kind → IsBranch kind es targets bytes → Rises kind es
+branch_rises {kind = kind} {es = es} ascii b = table_rises (ascii_sorted kind ascii (length es)) b.is_table
 
 -- each of the edges is a byte
 abbrev pub Bytes : List ℕ → Type 0
 Bytes es = (b : ℕ) → member b es ≡ true → b < 256
-
-byte_edge : (kind : Kind) → IsAscii kind → (b : ℕ) → b < edge_limit kind → b < 256
-byte_edge simple_ascii ascii b h = omega arith
-byte_edge ignore_case ascii b h = omega arith
 
 pub bytes_all : (es : List ℕ) → ((i d : ℕ) → i < length es → get_or es i d < 256) → Bytes es
 bytes_all [] h b is = absurd (cc)
@@ -91,14 +85,14 @@ rise_bytes low (e ∷ es) rise b is = elim (eqb_tells e b) [
   | inr other ↦ rise_bytes (suc e) es rise.2 b (sym (member_other b e es other.1) ∙ is)
 ]
 
-pub branch_bytes : {kind : Kind} {es : List ℕ} {targets : List (List ℕ)} {bytes : List ℕ} → IsAscii kind → IsBranch kind es targets bytes → Bytes es
-branch_bytes {kind = kind} {es = es} ascii b = bytes_all es (λ i d h. byte_edge kind ascii (get_or es i d) (b.edge_bytes i d h))
+pub branch_bytes : {kind : Kind} {es : List ℕ} {targets : List (List ℕ)} {bytes : List ℕ} → IsBranch kind es targets bytes → Bytes es
+branch_bytes {kind = kind} {es = es} b = let most = edge_limit_to kind in bytes_all es (λ i d h. let low = b.edge_bytes i d h in omega arith)
 
 no_byte : (is : Bool) (b : ℕ) → 256 ≤ b → (is ≡ true → b < 256) → is ≡ false
 no_byte true b high h = absurd (let low = h refl in omega arith)
 no_byte false b high h = refl
 
--- the edges of a branch are the first bytes of its pairs, in the order of the kind
+-- the edges of a branch are the first bytes of its pairs
 members_each : {kind : Kind} {es : List ℕ} {targets : List (List ℕ)} {pairs : Pairs} → ListEach kind es targets pairs → Bytes es → (b : ℕ) → member b (edges pairs) ≡ member b es
 members_each {es = es} {pairs = pairs} each bytes b =
     elim (cases_lt b 256) [
@@ -106,29 +100,26 @@ members_each {es = es} {pairs = pairs} each bytes b =
       | inr high ↦ member-edges_past pairs b high ∙ sym (no_byte (member b es) b high (bytes b))
     ]
 
-pub edges_listed : {kind : Kind} {es : List ℕ} {targets : List (List ℕ)} {pairs : Pairs} → IsAscii kind → ListEach kind es targets pairs → Rises kind es → Bytes es → ordered kind (edges pairs) ≡ es
-edges_listed {kind = kind} {es = es} {pairs = pairs} ascii each rises bytes = ordered_is kind ascii 0 256 (edges pairs) es (edges_rise pairs) rises (members_each each bytes)
+-- ascending by byte, or, where they rise, in the order of the kind
+pub edges_sorted : {kind : Kind} {es : List ℕ} {targets : List (List ℕ)} {pairs : Pairs} → ListEach kind es targets pairs → Distinct kind es → Bytes es → edges pairs ≡ sorted_by (λ b. b) es
+edges_sorted {kind = kind} {es = es} {pairs = pairs} each apart bytes = sorted_is kind 0 256 (edges pairs) es (edges_rise pairs) apart (members_each each bytes)
 
-pub edges_each : {kind : Kind} {es : List ℕ} {targets : List (List ℕ)} {bytes : List ℕ} {pairs : Pairs} → IsAscii kind → IsBranch kind es targets bytes → ListEach kind es targets pairs → ordered kind (edges pairs) ≡ es
-edges_each ascii b each = edges_listed ascii each (branch_rises b) (branch_bytes ascii b)
-
-pub edges_front : (b : ℕ) (pairs : Pairs) → b < 128 → (pairs ≡ [] → ⊥) → edges (with_front b pairs) ≡ b ∷ []
-unfolding edges
-edges_front b pairs low some = filter-range (begins_some (with_front b pairs)) 0 256 256 (b ∷ []) refl (omega arith, omega arith, tt) (λ x h. begins_some-front b x pairs some ∙ sym (or_false' (eqb b x)))
-
-pub edges_none : edges [] ≡ []
-unfolding edges
-edges_none = filter-range (begins_some []) 0 256 256 [] refl tt (λ x h. refl)
+pub edges_listed : {kind : Kind} {es : List ℕ} {targets : List (List ℕ)} {pairs : Pairs} → ListEach kind es targets pairs → Rises kind es → Bytes es → ordered kind (edges pairs) ≡ es
+edges_listed {kind = kind} {es = es} {pairs = pairs} each rises bytes = ordered_is kind 0 256 (edges pairs) es (edges_rise pairs) rises (members_each each bytes)
 
 ordered_none : (kind : Kind) → ordered kind [] ≡ []
 ordered_none simple_ascii = refl
 ordered_none ignore_case = refl
+ordered_none perfect_hash = refl
+ordered_none extended_capacity = refl
 
 ordered_one : (kind : Kind) (b : ℕ) → ordered kind (b ∷ []) ≡ b ∷ []
 ordered_one simple_ascii b = refl
 ordered_one ignore_case b = refl
+ordered_one perfect_hash b = refl
+ordered_one extended_capacity b = refl
 
-pub ordered_front : (kind : Kind) (b : ℕ) (pairs : Pairs) → b < 128 → (pairs ≡ [] → ⊥) → ordered kind (edges (with_front b pairs)) ≡ b ∷ []
+pub ordered_front : (kind : Kind) (b : ℕ) (pairs : Pairs) → b < 256 → (pairs ≡ [] → ⊥) → ordered kind (edges (with_front b pairs)) ≡ b ∷ []
 ordered_front kind b pairs low some = ap (ordered kind) (edges_front b pairs low some) ∙ ordered_one kind b
 
 pub no_edge_ordered : (kind : Kind) → ordered kind (edges []) ≡ []
@@ -173,17 +164,15 @@ no_value (value {v = v} {spelling = sp} {rest = r} s n text) none =
     let not_four = subst NoValueFirst (ap (λ x. x ++ r) s.bytes_are) none in
     absurd (not_four (omega arith))
 no_value {kind = kind} (literal {b = b} {pairs = p} low n text) none = value_at-no_key kind b p
+no_value {kind = kind} (span {pairs = p} run h some high s n f text) none = value_at-no_run kind run p some
 no_value (branch b each) none = behind_none each
 
 pub enc_step : (d : ℕ) (kind : Kind) (pairs : Pairs) (es : List ℕ) → ordered kind (edges pairs) ≡ es → enc_to (suc d) kind pairs ≡ value_node (value_at kind pairs []) ++ node es (map (λ b. enc_to d kind (residual b pairs)) es)
 enc_step d kind pairs es e = ap (λ x. value_node (value_at kind pairs []) ++ node x (map (λ b. enc_to d kind (residual b pairs)) x)) e
 
-pub edges_value : (v : ℕ) (pairs : Pairs) → edges (([], v) ∷ pairs) ≡ edges pairs
-unfolding edges
-edges_value v pairs = refl
-
-branch_is_node : {kind : Kind} {es : List ℕ} {targets : List (List ℕ)} {bytes : List ℕ} → IsBranch kind es targets bytes → bytes ≡ branch_node es targets
-branch_is_node {targets = targets} b = branch_is_front b ∙ ap (λ t. branch_front t (map length targets) ++ concat targets) (table_is_edges b.is_table)
+branch_is_node : {kind : Kind} {es : List ℕ} {targets : List (List ℕ)} {bytes : List ℕ} → IsAscii kind → IsBranch kind es targets bytes → bytes ≡ branch_node es targets
+branch_is_node {kind = kind} {es = es} {targets = targets} ascii b =
+    branch_is_front b ∙ ap (λ t. branch_front t (map length targets) ++ concat targets) (table_is_edges (ascii_sorted kind ascii (length es)) b.is_table)
 
 pub shorter_none : (pairs : Pairs) → Shorter 0 pairs → pairs ≡ []
 shorter_none [] h = refl
@@ -207,15 +196,16 @@ mutual
       let rest : r ≡ enc_to d kind p = lists_enc ascii text d (Shorter-front d b p short) in
       ap (λ x. b ∷ x) (rest ∙ ap (enc_to d kind) (sym (residual-front b p)) ∙ sym (bytes_end (enc_to d kind (residual b (with_front b p)))))
       ∙ ap (λ o. value_node o ++ node (b ∷ []) (map (λ c. enc_to d kind (residual c (with_front b p))) (b ∷ []))) (sym (value_at-no_key kind b p))
-      ∙ sym (enc_step d kind (with_front b p) (b ∷ []) (ordered_front kind b p low (lists_some text n)))
+      ∙ sym (enc_step d kind (with_front b p) (b ∷ []) (ordered_front kind b p (omega arith) (lists_some text n)))
+  lists_enc {kind = kind} ascii (span run h some high s n f text) d short = absurd (let not = ascii_spanless kind ascii in cc)
   lists_enc ascii (branch {pairs = p} b each) zero short = absurd (each_some each (no_edges b) (shorter_none p short))
   lists_enc {kind = kind} ascii (branch {edges = es} {targets = ts} {pairs = p} b each) (suc d) short =
-      let targets_are = each_enc ascii each d p short (branch_rises b) (λ x h. refl) in
-      branch_is_node b
+      let targets_are = each_enc ascii each d p short (branch_rises ascii b) (λ x h. refl) in
+      branch_is_node ascii b
       ∙ sym (node_many es ts b.two)
       ∙ ap (node es) (sym targets_are)
       ∙ ap (λ o. value_node o ++ node es (map (λ c. enc_to d kind (residual c p)) es)) (sym (behind_none each))
-      ∙ sym (enc_step d kind p es (edges_each ascii b each))
+      ∙ sym (enc_step d kind p es (edges_listed each (branch_rises ascii b) (branch_bytes b)))
 
   pub each_enc : {kind : Kind} {es : List ℕ} {targets : List (List ℕ)} {pairs : Pairs} → IsAscii kind → ListEach kind es targets pairs → (d : ℕ) (all : Pairs) → Shorter (suc d) pairs → Rises kind es → ((b : ℕ) → member b es ≡ true → residual b all ≡ residual b pairs)
       → map (λ b. enc_to d kind (residual b all)) es ≡ targets

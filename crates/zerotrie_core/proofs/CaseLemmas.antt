@@ -6,14 +6,15 @@ use Rattle.std.specs.Cmp.{IsEquivalence, on_equiv, nat_eq_equiv}
 use Rattle.std.specs.Cmp.Lexicographic.{lists_equiv, same_text}
 use Rattle.std.proofs.lemmas.Bool.{eq-eqb, ne_eqb}
 use Rattle.zerotrie_core.specs.Kind.{Kind, simple_ascii, same_byte, fold_byte}
-use Rattle.zerotrie_core.specs.Maps.{Pairs, with_front, same_key, value_at, common_front, IsCaseConsistent, RepeatsKey}
+use Rattle.zerotrie_core.specs.Maps.{Pairs, with_front, with_run, same_key, value_at, common_front, IsCaseConsistent, RepeatsKey}
 use Rattle.zerotrie_core.specs.Texts.{Lists, ListEach, NoValueFirst}
-use Rattle.zerotrie_core.specs.Texts.Lists.{nothing, value, literal, branch}
+use Rattle.zerotrie_core.specs.Texts.Lists.{nothing, value, literal, span, branch}
 use Rattle.zerotrie_core.specs.Texts.ListEach.{no_edge, edge}
 use Rattle.zerotrie_core.proofs.NumberLemmas.{pair_of, extender_one}
 use Rattle.zerotrie_core.proofs.KindLemmas.{one_fold, two_folds}
 use Rattle.zerotrie_core.proofs.TableLemmas.{NoneLike, Distinct, table_distinct}
 use Rattle.zerotrie_core.proofs.ValueLemmas.{chosen_none}
+use Rattle.zerotrie_core.proofs.SpanLemmas.{with_run-front, by_fronts}
 
 -- what holds of each pair
 pub every_append : (P : List ℕ × ℕ → Type 0) (xs ys : Pairs) → AllByRecursion P xs → AllByRecursion P ys → AllByRecursion P (xs ++ ys)
@@ -128,6 +129,7 @@ mutual
     every_more (λ e. AgreesAll kind e.0 p) (λ e. AgreesAll kind e.0 (([], v) ∷ p)) p (λ e a. (agrees_none kind e.0, a)) (lists_agree text),
   )
   lists_agree {kind = kind} (literal {b = b} {pairs = p} low n text) = front_agree kind b p p (lists_agree text)
+  lists_agree {kind = kind} (span {pairs = p} run s some high n r f text) = by_fronts (λ ps. AllAgree kind ps ps) run p high (λ b ps low h. front_agree kind b ps ps h) (lists_agree text)
   lists_agree (branch b each) = each_agree each (table_distinct b.is_table)
 
   each_agree : {kind : Kind} {es : List ℕ} {targets : List (List ℕ)} {pairs : Pairs} → ListEach kind es targets pairs → Distinct kind es → AllAgree kind pairs pairs
@@ -163,6 +165,10 @@ edge_apart kind e p m other pp mm =
 front_some : (kind : Kind) (b : ℕ) (pairs : Pairs) → AllByRecursion (OtherKey kind []) (with_front b pairs)
 front_some kind b pairs = every_front (λ x. ⊤) (OtherKey kind []) b pairs (λ x h. refl) (every_any (λ x. ⊤) pairs (λ x. tt))
 
+run_some : (kind : Kind) (run : List ℕ) (pairs : Pairs) → (run ≡ [] → ⊥) → AllByRecursion (OtherKey kind []) (with_run run pairs)
+run_some kind [] pairs some = absurd (some refl)
+run_some kind (b ∷ run) pairs some = subst (AllByRecursion (OtherKey kind [])) (sym (with_run-front b run pairs)) (front_some kind b (with_run run pairs))
+
 each_keys_some : {kind : Kind} {es : List ℕ} {targets : List (List ℕ)} {pairs : Pairs} → ListEach kind es targets pairs → AllByRecursion (OtherKey kind []) pairs
 each_keys_some no_edge = tt
 each_keys_some {kind = kind} (edge {e = e} {pairs = p} {more = m} n text each) = every_append (OtherKey kind []) (with_front e p) m (front_some kind e p) (each_keys_some each)
@@ -175,6 +181,7 @@ keys_some (value {v = v} {spelling = sp} {rest = r} s n text) none =
     let not_four = subst NoValueFirst (ap (λ x. x ++ r) s.bytes_are) none in
     absurd (not_four (omega arith))
 keys_some {kind = kind} (literal {b = b} {pairs = p} low n text) none = front_some kind b p
+keys_some {kind = kind} (span {pairs = p} run s some high n r f text) none = run_some kind run p some
 keys_some (branch b each) none = each_keys_some each
 
 -- a text lists no key twice, by its kind
@@ -183,6 +190,7 @@ mutual
   lists_apart nothing = tt
   lists_apart (value s n text) = (keys_some text n, lists_apart text)
   lists_apart {kind = kind} (literal {b = b} {pairs = p} low n text) = front_apart kind b p (lists_apart text)
+  lists_apart {kind = kind} (span {pairs = p} run s some high n r f text) = by_fronts (Apart kind) run p high (λ b ps low h. front_apart kind b ps h) (lists_apart text)
   lists_apart (branch b each) = each_apart each (table_distinct b.is_table)
 
   each_apart : {kind : Kind} {es : List ℕ} {targets : List (List ℕ)} {pairs : Pairs} → ListEach kind es targets pairs → Distinct kind es → Apart kind pairs

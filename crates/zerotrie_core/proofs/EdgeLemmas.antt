@@ -3,7 +3,7 @@ use Rattle.std.proofs.Common.{◌≡◌, ℕ, zero, suc, ◌+◌, ◌<◌, ◌�
 use Rattle.std.specs.Prelude.{◌||◌, filter}
 use Rattle.std.specs.List.{range_with_len}
 use Rattle.std.proofs.lemmas.Bool.{eq-eqb, ne_eqb, cases_lt}
-use Rattle.zerotrie_core.specs.Maps.{Pairs, with_front, begins_some, residual}
+use Rattle.zerotrie_core.specs.Maps.{Pairs, with_front, begins_some, edges, residual}
 
 -- numbers that rise, from low on and below high
 abbrev pub Rise : ℕ → ℕ → List ℕ → Type 0
@@ -92,3 +92,16 @@ residual-front b (e ∷ pairs) = rw (eq-eqb b b refl) (ap (λ x. e ∷ x) (resid
 pub residual-other : (b c : ℕ) (pairs : Pairs) → (c ≡ b → ⊥) → residual b (with_front c pairs) ≡ []
 residual-other b c [] h = refl
 residual-other b c (e ∷ pairs) h = rw (ne_eqb c b h) (residual-other b c pairs h)
+
+-- one edge leads to pairs that all begin with one byte, and none to no pairs
+pub edges_front : (b : ℕ) (pairs : Pairs) → b < 256 → (pairs ≡ [] → ⊥) → edges (with_front b pairs) ≡ b ∷ []
+unfolding edges
+edges_front b pairs low some = filter-range (begins_some (with_front b pairs)) 0 256 256 (b ∷ []) refl (omega arith, low, tt) (λ x h. begins_some-front b x pairs some ∙ sym (or_false (eqb b x)))
+
+pub edges_none : edges [] ≡ []
+unfolding edges
+edges_none = filter-range (begins_some []) 0 256 256 [] refl tt (λ x h. refl)
+
+pub edges_value : (v : ℕ) (pairs : Pairs) → edges (([], v) ∷ pairs) ≡ edges pairs
+unfolding edges
+edges_value v pairs = refl

@@ -7,22 +7,25 @@ use Rattle.std.specs.Cmp.Lexicographic.{slice_cmp}
 use Rattle.std.specs.Cmp.{ranked}
 use Rattle.std.specs.Prelude.{◌==◌}
 use Rattle.std.proofs.lemmas.Bool.{eq-eqb, ne_eqb, cases_eq, cases_lt, false_from_ne_true}
-use Rattle.zerotrie_core.specs.Kind.{Kind, simple_ascii, ignore_case, IsAscii, fold_byte, same_byte, ordered, is_hashed}
+use Rattle.zerotrie_core.specs.Kind.{Kind, simple_ascii, ignore_case, perfect_hash, extended_capacity, IsAscii, fold_byte, same_byte, ordered, greatest_width}
 use Rattle.zerotrie_core.specs.Numbers.{branch_form, spelled_as}
-use Rattle.zerotrie_core.specs.Maps.{Pairs, with_front, begins_some, edges, residual, value_at, FirstAbove, common_front}
-use Rattle.zerotrie_core.specs.Branches.{IsBranch, blocks, offsets, width}
+use Rattle.zerotrie_core.specs.Maps.{Pairs, with_front, begins_some, edges, residual, behind_all, value_at, FirstAbove, common_front}
+use Rattle.zerotrie_core.specs.Branches.{IsBranch, blocks, offsets, width, total}
 use Rattle.zerotrie_core.specs.Branches.IsTable.{sorted}
 use Rattle.zerotrie_core.specs.plain.Encoding.{AsciiKey}
 use Rattle.zerotrie_core.specs.Texts.{Lists, ListEach, NoValueFirst}
 use Rattle.zerotrie_core.specs.Texts.Lists.{nothing, value, literal, branch}
 use Rattle.zerotrie_core.specs.Texts.ListEach.{no_edge, edge}
-use Rattle.zerotrie_core.specs.Canonical.{enc_to, node, branch_node, value_node}
-use Rattle.zerotrie_core.proofs.KindLemmas.{edge_limit_is, greatest_width_is}
+use Rattle.zerotrie_core.specs.Canonical.{enc_to, size_of, node, branch_node, value_node}
+use Rattle.zerotrie_core.specs.Fits.{targets_size}
+use Rattle.zerotrie_core.proofs.KindLemmas.{edge_limit_is, greatest_width_is, ascii_sorted}
 use Rattle.zerotrie_core.proofs.EdgeLemmas.{member}
-use Rattle.zerotrie_core.proofs.OrderedLemmas.{Each-member, member-ordered, length-ordered, rises_ordered, rise_apart, not_member, edges_rise, member-edges, member-edges_past}
-use Rattle.zerotrie_core.proofs.SameLemmas.{Same, same-none, value_exact, value_at-residual, some_pair, begins_behind, first_found}
+use Rattle.zerotrie_core.proofs.OrderedLemmas.{Each-member, member-ordered, length-ordered, total-ordered, rises_ordered, rise_apart, not_member, edges_rise, member-edges, member-edges_past}
+use Rattle.zerotrie_core.proofs.SameLemmas.{Same, same-none, same-size_of, map_agree, value_exact, value_at-residual, some_pair, begins_behind, first_found}
 use Rattle.zerotrie_core.proofs.CanonLaws.{nil_end, bytes_end}
-use Rattle.zerotrie_core.proofs.FrontLemmas.{IsWidth-width, front_targets}
+use Rattle.zerotrie_core.proofs.FrontLemmas.{IsWidth-width, front_targets, total-lengths}
+use Rattle.zerotrie_core.proofs.SizeLaws.{listed_size}
+use Rattle.std.proofs.lemmas.Simd.{map-map}
 use Rattle.zerotrie_core.proofs.NumberLemmas.{extender_one}
 use Rattle.zerotrie_core.proofs.TableLemmas.{Each, Rises, AllAbove}
 use Rattle.zerotrie_core.proofs.ValueLemmas.{behind_none, value_at-some, value_at-front, value_at-append, value_at-other}
@@ -51,11 +54,6 @@ SmallValues (e ∷ pairs) = (e.1 < 2 ^ 64) × SmallValues pairs
 pub not_empty_text : {kind : Kind} {bytes : List ℕ} {pairs : Pairs} → Lists kind bytes pairs → (pairs ≡ [] → ⊥) → bytes ≡ [] → ⊥
 not_empty_text text some none = some (sym (lists_once nothing (sym none) text))
 
--- the tables of the ASCII kinds are sorted
-none_hashed : (kind : Kind) → IsAscii kind → (n : ℕ) → is_hashed kind n ≡ false
-none_hashed simple_ascii ascii n = refl
-none_hashed ignore_case ascii n = refl
-
 lower : (b : ℕ) → b < 128 → fold_byte ignore_case b < 128
 lower b h = grind arith
 
@@ -63,6 +61,8 @@ lower b h = grind arith
 pub fold_ascii : (kind : Kind) (b : ℕ) → b < 128 → fold_byte kind b < 128
 fold_ascii simple_ascii b h = h
 fold_ascii ignore_case b h = lower b h
+fold_ascii perfect_hash b h = h
+fold_ascii extended_capacity b h = h
 
 -- as many edges as folds below the bound at most
 count_above : (kind : Kind) (x high : ℕ) (es : List ℕ) → x < high → AllAbove kind x es → Rises kind es → ((i d : ℕ) → i < length es → fold_byte kind (get_or es i d) < high) → length es + suc x ≤ high
@@ -106,7 +106,7 @@ branch_made kind is_ascii es targets up ascii two count fits =
       is_width = right;
       fits = omega arith;
       is_head = spells_spelled 32 3 _ (omega arith) (inr refl);
-      is_table = sorted (none_hashed kind is_ascii (length es)) (rises_increasing kind es up);
+      is_table = sorted (ascii_sorted kind is_ascii (length es)) (rises_increasing kind es up);
       bytes_are = front_targets es targets (length es) count;
     }
 
@@ -139,11 +139,9 @@ pub record Sound (kind : Kind) (d : ℕ) (pairs : Pairs) : Type 0 where
   pub agree : (k l : List ℕ) (v w : ℕ) → value_at simple_ascii pairs k ≡ Some v → value_at simple_ascii pairs l ≡ Some w
       → common_front (same_byte kind) k l ≡ common_front (λ a b. a == b) k l
 
--- the targets of each branch are shorter than 2 ^ 32 bytes
-abbrev pub FitsTo : Kind → ℕ → Pairs → Type 0
-FitsTo kind zero pairs = Unit {0}
-FitsTo kind (suc d) pairs = (2 ≤ length (edges pairs) → length (concat (map (λ b. enc_to d kind (residual b pairs)) (ordered kind (edges pairs)))) < 2 ^ 32)
-    × ((b : ℕ) → FitsTo kind d (residual b pairs))
+-- behind the front the targets can be reached by an offset of the kind, where there is a branch
+abbrev pub NarrowBehind : Kind → List ℕ → Pairs → Type 0
+NarrowBehind kind front pairs = 2 ≤ length (edges (behind_all front pairs)) → targets_size kind (behind_all front pairs) < 256 ^ (greatest_width kind + 1)
 
 one_more : (kind : Kind) (b : ℕ) (k l : List ℕ) → common_front (same_byte kind) (b ∷ k) (b ∷ l) ≡ common_front (λ a c. a == c) (b ∷ k) (b ∷ l) → common_front (same_byte kind) k l ≡ common_front (λ a c. a == c) k l
 one_more kind b k l h = let g = rw (eq-eqb (fold_byte kind b) (fold_byte kind b) refl, eq-eqb b b refl) at h in omega arith
@@ -288,18 +286,33 @@ all_answers : (c : ℕ) (key : List ℕ) (pairs : Pairs) (t : Bool) → begins_s
 all_answers c key pairs true h = refl
 all_answers c key pairs false h = sym (none_at key (residual c pairs) (sym (begins_behind pairs c) ∙ h)) ∙ value_at-residual c pairs key
 
+-- the bytes of the canonical targets
+targets_enc : (d : ℕ) (kind : Kind) (pairs : Pairs) → ((b : ℕ) → Listed kind (enc_to d kind (residual b pairs)) (residual b pairs))
+    → targets_size kind pairs ≡ length (concat (map (λ b. enc_to d kind (residual b pairs)) (ordered kind (edges pairs))))
+unfolding targets_size
+targets_enc d kind pairs below =
+    let text : ℕ → List ℕ = λ b. enc_to d kind (residual b pairs) in
+    ap total (map_agree (λ b. size_of kind (residual b pairs)) (λ b. length (text b)) (edges pairs)
+    (λ b. let behind = below b in sym (same-size_of kind behind.listed (residual b pairs) behind.same) ∙ listed_size behind.lists))
+    ∙ sym (total-ordered kind (λ b. length (text b)) (edges pairs))
+    ∙ ap total (sym (map-map length text (ordered kind (edges pairs))))
+    ∙ total-lengths (map text (ordered kind (edges pairs)))
+
 -- The canonical text lists what the pairs answer.
-pub listed_enc : (d : ℕ) (kind : Kind) (pairs : Pairs) → IsAscii kind → Sound kind d pairs → FitsTo kind d pairs → Listed kind (enc_to d kind pairs) pairs
-listed_enc zero kind pairs is_ascii s fits = record { listed = []; lists = nothing; same = no_pairs kind pairs s }
-listed_enc (suc d) kind pairs is_ascii s fits =
+pub listed_enc : (d : ℕ) (kind : Kind) (pairs : Pairs) → IsAscii kind → Sound kind d pairs → ((front : List ℕ) → NarrowBehind kind front pairs) → Listed kind (enc_to d kind pairs) pairs
+listed_enc zero kind pairs is_ascii s narrow = record { listed = []; lists = nothing; same = no_pairs kind pairs s }
+listed_enc (suc d) kind pairs is_ascii s narrow =
     let es = ordered kind (edges pairs) in
     let rise = edges_rise pairs in
     let begin : (b : ℕ) → member b es ≡ begins_some pairs b = λ b. member-ordered kind b (edges pairs) ∙ edge_begins kind (suc d) b pairs s in
-    let up = rises_ordered kind is_ascii 0 256 (edges pairs) rise (rise_apart kind 0 256 (edges pairs) rise (edge_once kind (suc d) pairs s)) in
-    let each = targets_listed d kind pairs (λ b. listed_enc d kind (residual b pairs) is_ascii (sound_behind kind d pairs s b) (fits.1 b)) es up
-    (Each-member (λ b. begins_some pairs b ≡ true) es (λ b m. sym (begin b) ∙ m)) in
+    let up = rises_ordered kind 0 256 (edges pairs) rise (rise_apart kind 0 256 (edges pairs) rise (edge_once kind (suc d) pairs s)) in
+    let below : (b : ℕ) → Listed kind (enc_to d kind (residual b pairs)) (residual b pairs) = λ b. listed_enc d kind (residual b pairs) is_ascii (sound_behind kind d pairs s b) (λ front. narrow (b ∷ front)) in
+    let each = targets_listed d kind pairs below es up (Each-member (λ b. begins_some pairs b ≡ true) es (λ b m. sym (begin b) ∙ m)) in
     let low = Each-at (λ b. b < 128) es (Each-member (λ b. b < 128) es (λ b m. edge_ascii kind (suc d) b pairs s (sym (begin b) ∙ m))) in
-    let node = node_lists is_ascii each.each up low (targets_count (λ b. enc_to d kind (residual b pairs)) es) (λ two. fits.0 (subst (λ n. 2 ≤ n) (length-ordered kind (edges pairs)) two)) in
+    let narrowed : 2 ≤ length es → length (concat (map (λ b. enc_to d kind (residual b pairs)) es)) < 2 ^ 32 = λ two.
+    subst (λ n. n < 2 ^ 32) (targets_enc d kind pairs below)
+    (subst (λ w. targets_size kind pairs < 256 ^ (w + 1)) (greatest_width_is kind is_ascii) (narrow [] (subst (λ n. 2 ≤ n) (length-ordered kind (edges pairs)) two))) in
+    let node = node_lists is_ascii each.each up low (targets_count (λ b. enc_to d kind (residual b pairs)) es) narrowed in
     with_value kind (value_at kind pairs []) _ each.listed pairs node (sym (value_exact kind pairs)) (λ v h. s.small [] v (sym (value_exact kind pairs) ∙ h))
     (sym (value_exact kind each.listed) ∙ behind_none each.each)
     (λ c key. each.same c key ∙ ap (λ t. cond t (value_at simple_ascii pairs (c ∷ key)) None) (begin c) ∙ all_answers c key pairs (begins_some pairs c) refl)

@@ -11,24 +11,21 @@ use Rattle.zerotrie_core.specs.Kind.{Kind, IsAscii, edge_limit, greatest_width}
 use Rattle.zerotrie_core.specs.Maps.{Pairs, Map, map_of, with_front, edges, residual, behind_all, IsCaseConsistent}
 use Rattle.zerotrie_core.specs.Branches.{IsBranch}
 use Rattle.zerotrie_core.specs.Texts.{Lists, ListEach, Means}
-use Rattle.zerotrie_core.specs.Texts.Lists.{nothing, value, literal, branch}
+use Rattle.zerotrie_core.specs.Texts.Lists.{nothing, value, literal, span, branch}
 use Rattle.zerotrie_core.specs.Texts.ListEach.{no_edge, edge}
 use Rattle.zerotrie_core.specs.Fits.{targets_size, Fits}
-use Rattle.zerotrie_core.specs.plain.Encoding.{AsciiKey, AsciiKeys}
-use Rattle.zerotrie_core.proofs.EdgeLemmas.{residual-front, residual-other}
+use Rattle.zerotrie_core.proofs.EdgeLemmas.{edges_front, edges_none, edges_value, residual-front, residual-other}
 use Rattle.zerotrie_core.proofs.TableLemmas.{Distinct, none_member, table_distinct}
 use Rattle.zerotrie_core.proofs.SameLemmas.{Same, same-edges, same-behind, same-targets}
-use Rattle.zerotrie_core.proofs.CaseLemmas.{Agrees, every_all, lists_consistent}
-use Rattle.zerotrie_core.proofs.KindLemmas.{edge_limit_is}
+use Rattle.zerotrie_core.proofs.CaseLemmas.{Agrees, every_all, every_more, every_front, every_append, lists_consistent}
+use Rattle.zerotrie_core.proofs.KindLemmas.{edge_limit_from, spans_limit}
+use Rattle.zerotrie_core.proofs.SpanLemmas.{by_fronts}
 use Rattle.zerotrie_core.proofs.FrontLemmas.{within_width}
-use Rattle.zerotrie_core.proofs.CanonLaws.{edges_none, edges_front, edges_value, branch_rises, branch_bytes, residual_first, residual_later, lists_some}
+use Rattle.zerotrie_core.proofs.CanonLaws.{front_none, branch_bytes, residual_first, residual_later, lists_some}
+use Rattle.zerotrie_core.proofs.SizeLaws.{targets_each}
 use Rattle.zerotrie_core.proofs.OrderLaws.{entries-map_of, means_same, means_size}
-use Rattle.zerotrie_core.proofs.EncodeLaws.{SmallValues}
-use Rattle.zerotrie_core.proofs.ListedLemmas.{targets_each, targets_value, behind_all-nil}
-
--- the targets of each branch that the pairs need can be reached by an offset
-abbrev pub NarrowBehind : Kind → List ℕ → Pairs → Type 0
-NarrowBehind kind front pairs = 2 ≤ length (edges (behind_all front pairs)) → targets_size kind (behind_all front pairs) < 256 ^ (greatest_width kind + 1)
+use Rattle.zerotrie_core.proofs.EncodeLaws.{SmallValues, NarrowBehind}
+use Rattle.zerotrie_core.proofs.ListedLemmas.{targets_value, behind_all-nil}
 
 narrow_none : (kind : Kind) (front : List ℕ) → NarrowBehind kind front []
 narrow_none kind front two = absurd (let none = ap length (ap edges (behind_all-nil front) ∙ edges_none) in omega arith)
@@ -47,56 +44,75 @@ narrow-same kind front p q s narrow two =
     subst (λ n. n < 256 ^ (greatest_width kind + 1)) (sym (same-targets kind (behind_all front p) (behind_all front q) behind))
     (narrow (subst (λ es. 2 ≤ length es) (same-edges (behind_all front p) (behind_all front q) behind) two))
 
-narrow_branch : {kind : Kind} {es : List ℕ} {targets : List (List ℕ)} {bytes : List ℕ} {pairs : Pairs} → IsAscii kind → IsBranch kind es targets bytes → ListEach kind es targets pairs → NarrowBehind kind [] pairs
-narrow_branch {kind = kind} {targets = targets} ascii b each two =
-    subst (λ n. n < 256 ^ (greatest_width kind + 1)) (sym (targets_each ascii each (branch_rises b) (branch_bytes ascii b)))
+narrow_branch : {kind : Kind} {es : List ℕ} {targets : List (List ℕ)} {bytes : List ℕ} {pairs : Pairs} → IsBranch kind es targets bytes → ListEach kind es targets pairs → NarrowBehind kind [] pairs
+narrow_branch {kind = kind} {targets = targets} b each two =
+    subst (λ n. n < 256 ^ (greatest_width kind + 1)) (sym (targets_each each (table_distinct b.is_table) (branch_bytes b)))
     (within_width (greatest_width kind) b.width (length (concat targets)) b.fits b.is_width)
 
+-- behind any front
+abbrev AllNarrow : Kind → Pairs → Type 0
+AllNarrow kind pairs = (pairs ≡ [] → ⊥) × ((front : List ℕ) → NarrowBehind kind front pairs)
+
+-- pairs that all begin with one byte need no branch there
+narrow_front : (kind : Kind) (b : ℕ) (pairs : Pairs) → b < 256 → AllNarrow kind pairs → AllNarrow kind (with_front b pairs)
+narrow_front kind b pairs low all = ((λ none. all.0 (front_none b pairs none)), behind)
+  where
+    behind : (front : List ℕ) → NarrowBehind kind front (with_front b pairs)
+    behind [] = λ two. absurd (let one = ap length (edges_front b pairs low all.0) in omega arith)
+    behind (c ∷ front) = elim (eqb_tells b c) [
+      | inl same ↦ narrow_at kind c front (with_front b pairs) pairs (ap (λ x. residual c (with_front x pairs)) same.1 ∙ residual-front c pairs) (all.1 front)
+      | inr other ↦ narrow_at kind c front (with_front b pairs) [] (residual-other c b pairs other.1) (narrow_none kind front)
+    ]
+
 mutual
-  narrow_lists : {kind : Kind} {bytes : List ℕ} {pairs : Pairs} → IsAscii kind → Lists kind bytes pairs → (front : List ℕ) → NarrowBehind kind front pairs
-  narrow_lists {kind = kind} ascii nothing front = narrow_none kind front
-  narrow_lists {kind = kind} ascii (value {v = v} {pairs = p} s n text) [] = narrow_value kind v p (narrow_lists ascii text [])
-  narrow_lists ascii (value {v = v} {pairs = p} s n text) (c ∷ front) = narrow_lists ascii text (c ∷ front)
-  narrow_lists ascii (literal {b = b} {pairs = p} low n text) [] = λ two. absurd (let one = ap length (edges_front b p low (lists_some text n)) in omega arith)
-  narrow_lists {kind = kind} ascii (literal {b = b} {pairs = p} low n text) (c ∷ front) =
-      elim (eqb_tells b c) [
-        | inl same ↦ narrow_at kind c front (with_front b p) p (ap (λ x. residual c (with_front x p)) same.1 ∙ residual-front c p) (narrow_lists ascii text front)
-        | inr other ↦ narrow_at kind c front (with_front b p) [] (residual-other c b p other.1) (narrow_none kind front)
-      ]
-  narrow_lists ascii (branch b each) [] = narrow_branch ascii b each
-  narrow_lists ascii (branch b each) (c ∷ front) = narrow_each ascii each (table_distinct b.is_table) c front
+  narrow_lists : {kind : Kind} {bytes : List ℕ} {pairs : Pairs} → Lists kind bytes pairs → (front : List ℕ) → NarrowBehind kind front pairs
+  narrow_lists {kind = kind} nothing front = narrow_none kind front
+  narrow_lists {kind = kind} (value {v = v} {pairs = p} s n text) [] = narrow_value kind v p (narrow_lists text [])
+  narrow_lists (value {v = v} {pairs = p} s n text) (c ∷ front) = narrow_lists text (c ∷ front)
+  narrow_lists {kind = kind} (literal {b = b} {pairs = p} low n text) front = (narrow_front kind b p (omega arith) (lists_some text n, narrow_lists text)).1 front
+  narrow_lists {kind = kind} (span {pairs = p} run h some high s n f text) front = (by_fronts (AllNarrow kind) run p high (narrow_front kind) (lists_some text n, narrow_lists text)).1 front
+  narrow_lists (branch b each) [] = narrow_branch b each
+  narrow_lists (branch b each) (c ∷ front) = narrow_each each (table_distinct b.is_table) c front
 
-  narrow_each : {kind : Kind} {es : List ℕ} {targets : List (List ℕ)} {pairs : Pairs} → IsAscii kind → ListEach kind es targets pairs → Distinct kind es → (c : ℕ) (front : List ℕ) → NarrowBehind kind (c ∷ front) pairs
-  narrow_each {kind = kind} ascii no_edge apart c front = narrow_none kind front
-  narrow_each {kind = kind} ascii (edge {e = e} {edges = es} {pairs = p} {more = m} n text each) apart c front =
+  narrow_each : {kind : Kind} {es : List ℕ} {targets : List (List ℕ)} {pairs : Pairs} → ListEach kind es targets pairs → Distinct kind es → (c : ℕ) (front : List ℕ) → NarrowBehind kind (c ∷ front) pairs
+  narrow_each {kind = kind} no_edge apart c front = narrow_none kind front
+  narrow_each {kind = kind} (edge {e = e} {edges = es} {pairs = p} {more = m} n text each) apart c front =
       elim (eqb_tells e c) [
-        | inl same ↦ narrow_at kind c front (with_front e p ++ m) p (ap (λ x. residual x (with_front e p ++ m)) (sym same.1) ∙ residual_first e p each (none_member kind e es apart.0)) (narrow_lists ascii text front)
-        | inr other ↦ narrow_at kind c front (with_front e p ++ m) (residual c m) (residual_later c e p m other.1) (narrow_each ascii each apart.1 c front)
+        | inl same ↦ narrow_at kind c front (with_front e p ++ m) p (ap (λ x. residual x (with_front e p ++ m)) (sym same.1) ∙ residual_first e p each (none_member kind e es apart.0)) (narrow_lists text front)
+        | inr other ↦ narrow_at kind c front (with_front e p ++ m) (residual c m) (residual_later c e p m other.1) (narrow_each each apart.1 c front)
       ]
 
-AsciiKeys-front : (b : ℕ) (pairs : Pairs) → b < 128 → AsciiKeys pairs → AsciiKeys (with_front b pairs)
-AsciiKeys-front b [] low h = tt
-AsciiKeys-front b (e ∷ pairs) low h = ((low, h.0), AsciiKeys-front b pairs low h.1)
+-- each byte of the key is below the bound
+abbrev KeyBelow : ℕ → List ℕ → Type 0
+KeyBelow bound [] = Unit {0}
+KeyBelow bound (b ∷ key) = (b < bound) × KeyBelow bound key
 
-AsciiKeys-append : (xs ys : Pairs) → AsciiKeys xs → AsciiKeys ys → AsciiKeys (xs ++ ys)
-AsciiKeys-append [] ys a b = b
-AsciiKeys-append (e ∷ xs) ys a b = (a.0, AsciiKeys-append xs ys a.1 b)
+abbrev KeysBelow : ℕ → Pairs → Type 0
+KeysBelow bound pairs = AllByRecursion (λ e. KeyBelow bound e.0) pairs
+
+keys_front : (bound b : ℕ) (pairs : Pairs) → b < bound → KeysBelow bound pairs → KeysBelow bound (with_front b pairs)
+keys_front bound b pairs low h = every_front (λ e. KeyBelow bound e.0) (λ e. KeyBelow bound e.0) b pairs (λ e key. (low, key)) h
 
 -- each of these bytes may be an edge
-abbrev Low : List ℕ → Type 0
-Low es = (i d : ℕ) → i < length es → get_or es i d < 128
+abbrev Low : ℕ → List ℕ → Type 0
+Low bound es = (i d : ℕ) → i < length es → get_or es i d < bound
+
+low_byte : (kind : Kind) (b : ℕ) → b < 128 → b < edge_limit kind
+low_byte kind b low = let most = edge_limit_from kind in omega arith
 
 mutual
-  ascii_lists : {kind : Kind} {bytes : List ℕ} {pairs : Pairs} → IsAscii kind → Lists kind bytes pairs → AsciiKeys pairs
-  ascii_lists ascii nothing = tt
-  ascii_lists ascii (value s n text) = (tt, ascii_lists ascii text)
-  ascii_lists ascii (literal {b = b} {pairs = p} low n text) = AsciiKeys-front b p low (ascii_lists ascii text)
-  ascii_lists {kind = kind} ascii (branch {edges = es} b each) = ascii_each ascii each (λ i d h. subst (λ n. get_or es i d < n) (edge_limit_is kind ascii) (b.edge_bytes i d h))
+  keys_lists : {kind : Kind} {bytes : List ℕ} {pairs : Pairs} → Lists kind bytes pairs → KeysBelow (edge_limit kind) pairs
+  keys_lists nothing = tt
+  keys_lists (value s n text) = (tt, keys_lists text)
+  keys_lists {kind = kind} (literal {b = b} {pairs = p} low n text) = keys_front (edge_limit kind) b p (low_byte kind b low) (keys_lists text)
+  keys_lists {kind = kind} (span {pairs = p} run h some high s n f text) =
+      by_fronts (KeysBelow (edge_limit kind)) run p high (λ b ps low. keys_front (edge_limit kind) b ps (subst (λ n. b < n) (sym (spans_limit kind h)) low)) (keys_lists text)
+  keys_lists (branch b each) = keys_each each b.edge_bytes
 
-  ascii_each : {kind : Kind} {es : List ℕ} {targets : List (List ℕ)} {pairs : Pairs} → IsAscii kind → ListEach kind es targets pairs → Low es → AsciiKeys pairs
-  ascii_each ascii no_edge low = tt
-  ascii_each ascii (edge {e = e} {pairs = p} {more = m} n text each) low =
-      AsciiKeys-append (with_front e p) m (AsciiKeys-front e p (low 0 0 (omega arith)) (ascii_lists ascii text)) (ascii_each ascii each (λ i d h. low (suc i) d (omega arith)))
+  keys_each : {kind : Kind} {es : List ℕ} {targets : List (List ℕ)} {pairs : Pairs} → ListEach kind es targets pairs → Low (edge_limit kind) es → KeysBelow (edge_limit kind) pairs
+  keys_each no_edge low = tt
+  keys_each {kind = kind} (edge {e = e} {pairs = p} {more = m} n text each) low =
+      every_append (λ x. KeyBelow (edge_limit kind) x.0) (with_front e p) m (keys_front (edge_limit kind) e p (low 0 0 (omega arith)) (keys_lists text)) (keys_each each (λ i d h. low (suc i) d (omega arith)))
 
 SmallValues-front : (b : ℕ) (pairs : Pairs) → SmallValues pairs → SmallValues (with_front b pairs)
 SmallValues-front b [] h = tt
@@ -111,21 +127,20 @@ mutual
   small_lists nothing = tt
   small_lists (value s n text) = (s.below, small_lists text)
   small_lists (literal {b = b} {pairs = p} low n text) = SmallValues-front b p (small_lists text)
+  small_lists (span {pairs = p} run h some high s n f text) = by_fronts SmallValues run p high (λ b ps low. SmallValues-front b ps) (small_lists text)
   small_lists (branch b each) = small_each each
 
   small_each : {kind : Kind} {es : List ℕ} {targets : List (List ℕ)} {pairs : Pairs} → ListEach kind es targets pairs → SmallValues pairs
   small_each no_edge = tt
   small_each (edge {e = e} {pairs = p} {more = m} n text each) = SmallValues-append (with_front e p) m (SmallValues-front e p (small_lists text)) (small_each each)
 
-all_ascii : (key : List ℕ) → AsciiKey key → All (λ b. b < 128) key
-all_ascii [] h i d l = absurd (omega arith)
-all_ascii (b ∷ key) h zero d l = h.0
-all_ascii (b ∷ key) h (suc i) d l = all_ascii key h.1 i d (omega arith)
+all_below : (bound : ℕ) (key : List ℕ) → KeyBelow bound key → All (λ b. b < bound) key
+all_below bound [] h i d l = absurd (omega arith)
+all_below bound (b ∷ key) h zero d l = h.0
+all_below bound (b ∷ key) h (suc i) d l = all_below bound key h.1 i d (omega arith)
 
-all_keys : (pairs : Pairs) → AsciiKeys pairs → All (λ e. All (λ b. b < 128) e.0) pairs
-all_keys [] h i d l = absurd (omega arith)
-all_keys (e ∷ pairs) h zero d l = all_ascii e.0 h.0
-all_keys (e ∷ pairs) h (suc i) d l = all_keys pairs h.1 i d (omega arith)
+all_keys : (bound : ℕ) (pairs : Pairs) → KeysBelow bound pairs → All (λ e. All (λ b. b < bound) e.0) pairs
+all_keys bound pairs h = every_all (λ e. All (λ b. b < bound) e.0) pairs (every_more (λ e. KeyBelow bound e.0) (λ e. All (λ b. b < bound) e.0) pairs (λ e key. all_below bound e.0 key) h)
 
 all_values : (pairs : Pairs) → SmallValues pairs → All (λ e. e.1 < 2 ^ 64) pairs
 all_values [] h i d l = absurd (omega arith)
@@ -160,15 +175,15 @@ consistent_entries kind pairs h =
     all_entries (λ e. All (λ f. Agrees kind e.0 f.0) (entries (map_of pairs))) pairs
     (λ i d l. all_entries (λ f. Agrees kind (get_or pairs i d).0 f.0) pairs (h i d l))
 
-pub fits_meant : (kind : Kind) → IsAscii kind → (bytes : List ℕ) (m : Map) → Means kind bytes m → Fits kind m
-fits_meant kind ascii bytes m means =
+pub fits_meant : (kind : Kind) (bytes : List ℕ) (m : Map) → Means kind bytes m → Fits kind m
+fits_meant kind bytes m means =
     let pairs = means.pairs in
     let e : entries (map_of pairs) ≡ entries m = ap entries (sym means.is) in
-    let low = subst (λ n. All (λ f. All (λ b. b < n) f.0) pairs) (sym (edge_limit_is kind ascii)) (all_keys pairs (ascii_lists ascii means.lists)) in
+    let low = all_keys (edge_limit kind) pairs (keys_lists means.lists) in
     record {
       values = subst (All (λ f. f.1 < 2 ^ 64)) e (all_entries (λ f. f.1 < 2 ^ 64) pairs (all_values pairs (small_lists means.lists)));
       key_bytes = subst (All (λ f. All (λ b. b < edge_limit kind) f.0)) e (all_entries (λ f. All (λ b. b < edge_limit kind) f.0) pairs low);
       case = subst (IsCaseConsistent kind) e (consistent_entries kind pairs (lists_consistent means.lists));
-      narrow = λ front. narrow-same kind front (entries m) pairs (means_same means) (narrow_lists ascii means.lists front);
+      narrow = λ front. narrow-same kind front (entries m) pairs (means_same means) (narrow_lists means.lists front);
       short = subst (λ n. n < 2 ^ 64) (means_size kind bytes m means) means.short;
     }

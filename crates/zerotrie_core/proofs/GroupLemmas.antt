@@ -13,13 +13,15 @@ use Rattle.zerotrie_core.specs.Fits.{OverflowsAt}
 use Rattle.zerotrie_core.specs.plain.Encoding.{AsciiKeys, weight, IsBranching, CannotWrite, TooWide, Writes, Leads, AreTargets}
 use Rattle.zerotrie_base.specs.declared.error.ZeroTrieBuildError.{ZeroTrieBuildError}
 use Rattle.zerotrie_base.specs.declared.error.ZeroTrieBuildError.TheVariants.{OutOfMemory, CapacityExceeded}
-use Rattle.zerotrie_core.proofs.EdgeLemmas.{Rise, residual-append, residual-front}
-use Rattle.zerotrie_core.proofs.CanonLaws.{edges_value, edges_listed, rise_bytes, residual_none, nil_end, bytes_end}
+use Rattle.zerotrie_core.proofs.EdgeLemmas.{Rise, residual-append, residual-front, edges_value}
+use Rattle.zerotrie_core.proofs.CanonLaws.{rise_bytes, residual_none, nil_end, bytes_end}
 use Rattle.zerotrie_core.proofs.BranchLemmas.{length-offsets, get_or-offsets}
 use Rattle.zerotrie_core.proofs.OrderedLemmas.{rise_rises, member-past}
 use Rattle.zerotrie_core.proofs.EncodeLaws.{compare_first, not_empty_text, node_lists}
 use Rattle.zerotrie_core.proofs.FrontLemmas.{front_written, node_many}
-use Rattle.zerotrie_core.proofs.ListedLemmas.{targets_each, targets_value, no_value_first, each_push, each_count, residual_above, Rise-push, Rise-below, Rise-higher, FirstFrom, first_from}
+use Rattle.zerotrie_core.proofs.TableLemmas.{Rises, rises_distinct}
+use Rattle.zerotrie_core.proofs.SizeLaws.{targets_each, edges_count}
+use Rattle.zerotrie_core.proofs.ListedLemmas.{targets_value, no_value_first, each_push, each_count, residual_above, Rise-push, Rise-below, Rise-higher, FirstFrom, first_from}
 
 pub weight-append : (xs ys : Pairs) → weight (xs ++ ys) ≡ weight xs + weight ys
 weight-append [] ys = omega arith
@@ -291,6 +293,9 @@ module _ {all : Pairs} {edge_bytes starts target_bytes : List ℕ} (g : Grown al
   rise_256 : Rise 0 256 edge_bytes
   rise_256 = Rise-higher 0 128 256 edge_bytes (omega arith) rise_128
 
+  edges_rise : Rises simple_ascii edge_bytes
+  edges_rise = rise_rises simple_ascii (λ b. refl) 0 256 edge_bytes rise_256
+
   two : 2 ≤ length edge_bytes
   two = two_edges all_lists branching
 
@@ -298,7 +303,7 @@ module _ {all : Pairs} {edge_bytes starts target_bytes : List ℕ} (g : Grown al
   pub grown_lists : length target_bytes < 2 ^ 32 → Lists simple_ascii (branch_node edge_bytes g.texts) all
   grown_lists narrow =
       let low : (i d : ℕ) → i < length edge_bytes → get_or edge_bytes i d < 128 = λ i d h. Rise-below 0 128 edge_bytes rise_128 i d h in
-      let made = node_lists tt all_lists (rise_rises 0 256 edge_bytes rise_256) low (each_count all_lists) (λ many. subst (λ x. length x < 2 ^ 32) g.bytes narrow) in
+      let made = node_lists tt all_lists edges_rise low (each_count all_lists) (λ many. subst (λ x. length x < 2 ^ 32) g.bytes narrow) in
       subst (λ x. Lists simple_ascii x all) (node_many edge_bytes g.texts two) made.lists
 
   pub grown_targets : AreTargets g.texts edge_bytes (drop 1 starts) target_bytes
@@ -310,10 +315,10 @@ module _ {all : Pairs} {edge_bytes starts target_bytes : List ℕ} (g : Grown al
   -- the targets together are too wide
   pub grown_wide : 2 ^ 32 ≤ length target_bytes → TooWide all
   grown_wide h =
-      let rises = rise_rises 0 256 edge_bytes rise_256 in
+      let apart = rises_distinct simple_ascii edge_bytes edges_rise in
       let bytes = rise_bytes 0 edge_bytes rise_256 in
-      let size = targets_each tt all_lists rises bytes ∙ ap length (sym g.bytes) in
-      ([], (subst (λ es. 2 ≤ length es) (sym (edges_listed tt all_lists rises bytes)) two, subst (λ n. 2 ^ 32 ≤ n) (sym size) h))
+      let size = targets_each all_lists apart bytes ∙ ap length (sym g.bytes) in
+      ([], (subst (λ n. 2 ≤ n) (sym (edges_count all_lists apart bytes)) two, subst (λ n. 2 ^ 32 ≤ n) (sym size) h))
 
   -- there is a first target
   pub grown_starts : 1 ≤ length starts

@@ -4,6 +4,7 @@ mod NumberLemmas
 mod WriteLemmas
 mod KindLemmas
 mod ValueLemmas
+mod SpanLemmas
 mod TableLemmas
 mod BranchLemmas
 mod NodeLemmas
@@ -23,6 +24,7 @@ mod OrderedLemmas
 mod SameLemmas
 mod FrontLemmas
 mod CanonLaws
+mod SizeLemmas
 mod EncodeLaws
 mod SizeLaws
 mod OrderLaws

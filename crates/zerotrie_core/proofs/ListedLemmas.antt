@@ -1,50 +1,16 @@
--- What the pairs of a text are like: the edges of a branch and the sizes of its targets.
+-- Texts and their pairs: what no text begins with, a target more, and edges that rise.
 use Rattle.std.proofs.Common.{◌≡◌, ℕ, zero, suc, ◌<◌, ◌≤◌, List, [], ◌∷◌, ◌++◌, length, refl, sym, ◌∙◌, ap, subst, arith, get_or, map, inl, inr, append_assoc, true}
-use Rattle.std.specs.List.{concat}
 use Rattle.std.proofs.lemmas.Bool.{ne_eqb}
-use Rattle.zerotrie_core.specs.Kind.{Kind, IsAscii}
+use Rattle.zerotrie_core.specs.Kind.{Kind}
 use Rattle.zerotrie_core.specs.Maps.{Pairs, with_front, edges, residual, behind_all, Ascends, FirstAbove}
 use Rattle.zerotrie_core.specs.Texts.{Lists, ListEach, NoValueFirst}
-use Rattle.zerotrie_core.specs.Texts.Lists.{nothing, value, literal, branch}
+use Rattle.zerotrie_core.specs.Texts.Lists.{nothing, value, literal, span, branch}
 use Rattle.zerotrie_core.specs.Texts.ListEach.{no_edge, edge}
-use Rattle.zerotrie_core.specs.Branches.{total}
-use Rattle.zerotrie_core.specs.Canonical.{size_of}
 use Rattle.zerotrie_core.specs.Fits.{targets_size}
-use Rattle.zerotrie_core.proofs.EdgeLemmas.{Rise, member, member_head, member_later}
-use Rattle.zerotrie_core.proofs.OrderedLemmas.{total-ordered, length-ordered}
-use Rattle.zerotrie_core.proofs.TableLemmas.{Distinct, Rises, rises_distinct, none_member}
-use Rattle.zerotrie_core.proofs.CanonLaws.{Bytes, edges_listed, residual_first, residual_later, not_first, nil_end}
-use Rattle.zerotrie_core.proofs.FrontLemmas.{total-lengths}
-use Rattle.zerotrie_core.proofs.OrderLaws.{lists_enc_of, length-enc_of}
+use Rattle.zerotrie_core.proofs.EdgeLemmas.{Rise}
+use Rattle.zerotrie_core.proofs.CanonLaws.{nil_end}
+use Rattle.zerotrie_core.proofs.NumberLemmas.{extender_one}
 use Rattle.zerotrie_core.proofs.EncodeLaws.{compare_first, branch_no_value}
-
-listed_size : {kind : Kind} {bytes : List ℕ} {pairs : Pairs} → IsAscii kind → Lists kind bytes pairs → size_of kind pairs ≡ length bytes
-listed_size {kind = kind} {pairs = pairs} ascii text = sym (length-enc_of kind ascii pairs) ∙ ap length (sym (lists_enc_of ascii text))
-
-cons_sizes : (a b : ℕ) (xs ys : List ℕ) → a ≡ b → xs ≡ ys → a ∷ xs ≡ b ∷ ys
-cons_sizes a b xs ys e f = cc
-
-each_sizes : {kind : Kind} {es : List ℕ} {targets : List (List ℕ)} {pairs : Pairs} → IsAscii kind → ListEach kind es targets pairs → (all : Pairs) → Distinct kind es → ((b : ℕ) → member b es ≡ true → residual b all ≡ residual b pairs)
-    → map (λ b. size_of kind (residual b all)) es ≡ map length targets
-each_sizes ascii no_edge all apart same = refl
-each_sizes {kind = kind} ascii (edge {e = e} {edges = es} {target = t} {targets = ts} {pairs = p} {more = m} n text each) all apart same =
-    let out = none_member kind e es apart.0 in
-    cons_sizes (size_of kind (residual e all)) (length t) _ _
-    (ap (size_of kind) (same e (member_head e es) ∙ residual_first e p each out) ∙ listed_size ascii text)
-    (each_sizes ascii each all apart.1 (λ b h. same b (member_later b e es h) ∙ residual_later b e p m (not_first e b es out h)))
-
--- the bytes of the targets of a branch
-pub targets_each : {kind : Kind} {es : List ℕ} {targets : List (List ℕ)} {pairs : Pairs} → IsAscii kind → ListEach kind es targets pairs → Rises kind es → Bytes es → targets_size kind pairs ≡ length (concat targets)
-unfolding targets_size
-targets_each {kind = kind} {es = es} {targets = targets} {pairs = pairs} ascii each rises bytes =
-    sym (total-ordered kind (λ b. size_of kind (residual b pairs)) (edges pairs))
-    ∙ ap (λ es. total (map (λ b. size_of kind (residual b pairs)) es)) (edges_listed ascii each rises bytes)
-    ∙ ap total (each_sizes ascii each pairs (rises_distinct kind es rises) (λ b h. refl))
-    ∙ total-lengths targets
-
--- how many edges the pairs have
-pub edges_count : {kind : Kind} {es : List ℕ} {targets : List (List ℕ)} {pairs : Pairs} → IsAscii kind → ListEach kind es targets pairs → Rises kind es → Bytes es → length (edges pairs) ≡ length es
-edges_count {kind = kind} {pairs = pairs} ascii each rises bytes = sym (length-ordered kind (edges pairs)) ∙ ap length (edges_listed ascii each rises bytes)
 
 -- the value of the empty key is in no branch
 pub targets_value : (kind : Kind) (v : ℕ) (pairs : Pairs) → targets_size kind (([], v) ∷ pairs) ≡ targets_size kind pairs
@@ -60,6 +26,8 @@ pub no_value_first : {kind : Kind} {bytes : List ℕ} {pairs : Pairs} → Lists 
 no_value_first nothing h = tt
 no_value_first (value s n text) h = absurd (cc)
 no_value_first (literal low n text) h = λ four. omega arith
+no_value_first (span {spelling = spelling} {rest = rest} run spans some high s n f text) h =
+    subst NoValueFirst (ap (λ x. x ++ (run ++ rest)) (sym s.bytes_are)) (λ four. let digit = s.digit_below in let one = extender_one s.trail in omega arith)
 no_value_first (branch b each) h = branch_no_value b
 
 -- a target more

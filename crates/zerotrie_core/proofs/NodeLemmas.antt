@@ -18,13 +18,28 @@ value_begins v lead rest after b =
     let digit = b.spells.digit_below in
     (omega arith, omega arith)
 
+pub span_begins : (n lead : ℕ) (rest after : List ℕ) → BeginsWith 16 5 n (lead ∷ rest) after → (160 ≤ lead) × (lead < 192)
+span_begins n lead rest after b =
+    let is = lead_is 16 5 n lead rest after b in
+    let one = extender_one b.spells.trail in
+    let digit = b.spells.digit_below in
+    (omega arith, omega arith)
+
 pub branch_begins : (v lead : ℕ) (rest after : List ℕ) → BeginsWith 32 3 v (lead ∷ rest) after → 192 ≤ lead
 branch_begins v lead rest after b = let is = lead_is 32 3 v lead rest after b in omega arith
 
--- no bytes begin with a value and with a branch
+-- no bytes begin with two nodes
 pub value_no_branch : (v w : ℕ) (bytes after behind : List ℕ) → BeginsWith 16 4 v bytes after → BeginsWith 32 3 w bytes behind → ⊥
 value_no_branch v w [] after behind a b = some_bytes 16 4 v after a
 value_no_branch v w (lead ∷ rest) after behind a b = let low = value_begins v lead rest after a in let high = branch_begins w lead rest behind b in omega arith
+
+pub value_no_span : (v n : ℕ) (bytes after behind : List ℕ) → BeginsWith 16 4 v bytes after → BeginsWith 16 5 n bytes behind → ⊥
+value_no_span v n [] after behind a b = some_bytes 16 4 v after a
+value_no_span v n (lead ∷ rest) after behind a b = let low = value_begins v lead rest after a in let high = span_begins n lead rest behind b in omega arith
+
+pub span_no_branch : (n w : ℕ) (bytes after behind : List ℕ) → BeginsWith 16 5 n bytes after → BeginsWith 32 3 w bytes behind → ⊥
+span_no_branch n w [] after behind a b = some_bytes 16 5 n after a
+span_no_branch n w (lead ∷ rest) after behind a b = let low = span_begins n lead rest after a in let high = branch_begins w lead rest behind b in omega arith
 
 -- where no byte is left there is no node
 pub none_empty : (kind : Kind) (bytes : List ℕ) → bytes ≡ [] → (s : Shape) → Begins kind bytes s → ⊥

@@ -4,7 +4,7 @@ use Rattle.std.specs.Prelude.{◌||◌, filter}
 use Rattle.std.specs.List.{range_with_len}
 use Rattle.std.proofs.lemmas.Bool.{eq-eqb, eqb-true, ne_eqb, lt-ltb, le-ltb, cases_lt, cases_eq, or_cases}
 use Rattle.std.proofs.lemmas.List.Sums.{sum_by-cons}
-use Rattle.zerotrie_core.specs.Kind.{Kind, simple_ascii, ignore_case, IsAscii, fold_byte, ordered, sorted_by, put_by}
+use Rattle.zerotrie_core.specs.Kind.{Kind, simple_ascii, ignore_case, perfect_hash, extended_capacity, fold_byte, ordered, sorted_by, put_by}
 use Rattle.zerotrie_core.specs.Maps.{Pairs, begins_some, edges}
 use Rattle.zerotrie_core.specs.Branches.{total}
 use Rattle.zerotrie_core.proofs.EdgeLemmas.{Rise, Rise-lower, member, member-below, member_head, member_later}
@@ -33,18 +33,22 @@ member-sorted_by fold b (e ∷ es) = member-put_by fold e b (sorted_by fold es) 
 pub member-ordered : (kind : Kind) (b : ℕ) (es : List ℕ) → member b (ordered kind es) ≡ member b es
 member-ordered simple_ascii b es = refl
 member-ordered ignore_case b es = member-sorted_by (fold_byte ignore_case) b es
+member-ordered perfect_hash b es = refl
+member-ordered extended_capacity b es = refl
 
 length-put_by : (fold : ℕ → ℕ) (a : ℕ) (es : List ℕ) → length (put_by fold a es) ≡ suc (length es)
 length-put_by fold a [] = refl
 length-put_by fold a (c ∷ es) = both (λ x. length x ≡ suc (suc (length es))) (ltb (fold c) (fold a)) (c ∷ put_by fold a es) (a ∷ c ∷ es) (ap suc (length-put_by fold a es)) refl
 
-length-sorted_by : (fold : ℕ → ℕ) (es : List ℕ) → length (sorted_by fold es) ≡ length es
+pub length-sorted_by : (fold : ℕ → ℕ) (es : List ℕ) → length (sorted_by fold es) ≡ length es
 length-sorted_by fold [] = refl
 length-sorted_by fold (e ∷ es) = length-put_by fold e (sorted_by fold es) ∙ ap suc (length-sorted_by fold es)
 
 pub length-ordered : (kind : Kind) (es : List ℕ) → length (ordered kind es) ≡ length es
 length-ordered simple_ascii es = refl
 length-ordered ignore_case es = length-sorted_by (fold_byte ignore_case) es
+length-ordered perfect_hash es = refl
+length-ordered extended_capacity es = refl
 
 total-cons : (x : ℕ) (xs : List ℕ) → total (x ∷ xs) ≡ x + total xs
 total-cons x xs = sum_by-cons (λ y. y) x xs
@@ -55,7 +59,7 @@ total-put_by fold f a (c ∷ es) = both (λ x. total (map f x) ≡ f a + total (
     (let first = total-cons (f c) (map f (put_by fold a es)) in let rest = total-put_by fold f a es in let last = total-cons (f c) (map f es) in omega arith)
     (total-cons (f a) (map f (c ∷ es)))
 
-total-sorted_by : (fold f : ℕ → ℕ) (es : List ℕ) → total (map f (sorted_by fold es)) ≡ total (map f es)
+pub total-sorted_by : (fold f : ℕ → ℕ) (es : List ℕ) → total (map f (sorted_by fold es)) ≡ total (map f es)
 total-sorted_by fold f [] = refl
 total-sorted_by fold f (e ∷ es) =
     total-put_by fold f e (sorted_by fold es) ∙ ap (λ n. f e + n) (total-sorted_by fold f es) ∙ sym (total-cons (f e) (map f es))
@@ -64,6 +68,8 @@ total-sorted_by fold f (e ∷ es) =
 pub total-ordered : (kind : Kind) (f : ℕ → ℕ) (es : List ℕ) → total (map f (ordered kind es)) ≡ total (map f es)
 total-ordered simple_ascii f es = refl
 total-ordered ignore_case f es = total-sorted_by (fold_byte ignore_case) f es
+total-ordered perfect_hash f es = refl
+total-ordered extended_capacity f es = refl
 
 -- what is so of each edge stays
 pub Each-put_by : (P : ℕ → Type 0) (fold : ℕ → ℕ) (a : ℕ) (es : List ℕ) → P a → Each P es → Each P (put_by fold a es)
@@ -100,19 +106,21 @@ rises_sorted : (kind : Kind) (es : List ℕ) → Distinct kind es → Rises kind
 rises_sorted kind [] apart = tt
 rises_sorted kind (e ∷ es) apart = rises_put kind e (sorted_by (fold_byte kind) es) (Each-sorted_by _ (fold_byte kind) es apart.0) (rises_sorted kind es apart.1)
 
-rise_above : (x low high : ℕ) (es : List ℕ) → x < low → Rise low high es → AllAbove simple_ascii x es
-rise_above x low high [] h r = tt
-rise_above x low high (e ∷ es) h r = (omega (arith, r.0), rise_above x (suc e) high es (omega (arith, r.0)) r.2)
+rise_above : (kind : Kind) → ((b : ℕ) → fold_byte kind b ≡ b) → (x low high : ℕ) (es : List ℕ) → x < low → Rise low high es → AllAbove kind x es
+rise_above kind keeps x low high [] h r = tt
+rise_above kind keeps x low high (e ∷ es) h r = (let k = keeps e in omega (arith, r.0), rise_above kind keeps x (suc e) high es (omega (arith, r.0)) r.2)
 
 -- edges that rise by byte rise by fold, where the fold is the byte
-pub rise_rises : (low high : ℕ) (es : List ℕ) → Rise low high es → Rises simple_ascii es
-rise_rises low high [] r = tt
-rise_rises low high (e ∷ es) r = (rise_above e (suc e) high es (omega arith) r.2, rise_rises (suc e) high es r.2)
+pub rise_rises : (kind : Kind) → ((b : ℕ) → fold_byte kind b ≡ b) → (low high : ℕ) (es : List ℕ) → Rise low high es → Rises kind es
+rise_rises kind keeps low high [] r = tt
+rise_rises kind keeps low high (e ∷ es) r = (let k = keeps e in rise_above kind keeps (fold_byte kind e) (suc e) high es (omega arith) r.2, rise_rises kind keeps (suc e) high es r.2)
 
 -- they rise in the order of the kind
-pub rises_ordered : (kind : Kind) → IsAscii kind → (low high : ℕ) (es : List ℕ) → Rise low high es → Distinct kind es → Rises kind (ordered kind es)
-rises_ordered simple_ascii ascii low high es rise apart = rise_rises low high es rise
-rises_ordered ignore_case ascii low high es rise apart = rises_sorted ignore_case es apart
+pub rises_ordered : (kind : Kind) (low high : ℕ) (es : List ℕ) → Rise low high es → Distinct kind es → Rises kind (ordered kind es)
+rises_ordered simple_ascii low high es rise apart = rise_rises simple_ascii (λ b. refl) low high es rise
+rises_ordered ignore_case low high es rise apart = rises_sorted ignore_case es apart
+rises_ordered perfect_hash low high es rise apart = rise_rises perfect_hash (λ b. refl) low high es rise
+rises_ordered extended_capacity low high es rise apart = rise_rises extended_capacity (λ b. refl) low high es rise
 
 -- a fold that is not above is no member
 pub not_member : (kind : Kind) (x b : ℕ) (es : List ℕ) → fold_byte kind b ≤ x → AllAbove kind x es → member b es ≡ false
@@ -190,10 +198,24 @@ rise_apart kind low high (e ∷ es) r one = (
 )
 
 -- The order of the kind is the one order by fold of the same members.
-pub ordered_is : (kind : Kind) → IsAscii kind → (low high : ℕ) (es es' : List ℕ) → Rise low high es → Rises kind es' → ((b : ℕ) → member b es ≡ member b es') → ordered kind es ≡ es'
-ordered_is kind ascii low high es es' rise up same =
+pub ordered_is : (kind : Kind) (low high : ℕ) (es es' : List ℕ) → Rise low high es → Rises kind es' → ((b : ℕ) → member b es ≡ member b es') → ordered kind es ≡ es'
+ordered_is kind low high es es' rise up same =
     let apart = rise_apart kind low high es rise (λ b c m n f. member_fold kind es' up b c (sym (same b) ∙ m) (sym (same c) ∙ n) f) in
-    rises_once kind (ordered kind es) es' (rises_ordered kind ascii low high es rise apart) up (λ b. member-ordered kind b es ∙ same b)
+    rises_once kind (ordered kind es) es' (rises_ordered kind low high es rise apart) up (λ b. member-ordered kind b es ∙ same b)
+
+byte_distinct : (kind : Kind) (es : List ℕ) → Distinct kind es → Distinct simple_ascii es
+byte_distinct kind [] apart = tt
+byte_distinct kind (e ∷ es) apart = (others es apart.0, byte_distinct kind es apart.1)
+  where
+    others : (fs : List ℕ) → NoneLike kind e fs → NoneLike simple_ascii e fs
+    others [] none = tt
+    others (f ∷ fs) none = ((λ same. none.0 (ap (fold_byte kind) same)), others fs none.1)
+
+-- Edges that rise by byte are any distinct ones with the same members, sorted.
+pub sorted_is : (kind : Kind) (low high : ℕ) (es es' : List ℕ) → Rise low high es → Distinct kind es' → ((b : ℕ) → member b es ≡ member b es') → es ≡ sorted_by (λ b. b) es'
+sorted_is kind low high es es' rise apart same =
+    rises_once simple_ascii es (sorted_by (λ b. b) es') (rise_rises simple_ascii (λ b. refl) low high es rise) (rises_sorted simple_ascii es' (byte_distinct kind es' apart))
+    (λ b. same b ∙ sym (member-sorted_by (λ b. b) b es'))
 
 -- the edges of pairs rise by byte
 rise-filter : (p : ℕ → Bool) (a n high : ℕ) → a + n ≡ high → Rise a high (filter p (range_with_len a n))

@@ -1,6 +1,6 @@
 -- A look-up against the grammar, node by node.
 use Rattle.std.proofs.Common.{◌≡◌, ℕ, ◌+◌, ◌<◌, List, [], ◌∷◌, length, refl, sym, ◌∙◌, ap, subst, arith, Option, Some, None}
-use Rattle.zerotrie_core.specs.Kind.{Kind}
+use Rattle.zerotrie_core.specs.Kind.{Kind, IsAscii}
 use Rattle.zerotrie_core.specs.Maps.{Pairs, value_at}
 use Rattle.zerotrie_core.specs.Texts.{Lists}
 use Rattle.zerotrie_core.specs.Nodes.{Shape, Begins}
@@ -74,10 +74,10 @@ finds_at_end kind bytes key trie rest answer count came ends pairs text =
     record { answers = c.answers ∙ e.answers; counts = omega arith }
 
 -- where no node begins, nothing is found
-pub finds_nothing : (kind : Kind) (bytes key trie rest : List ℕ) (count : ℕ) → AlwaysComes kind bytes key trie rest count → ((s : Shape) → Begins kind trie s → ⊥) → AlwaysFinds kind bytes key None count
-finds_nothing kind bytes key trie rest count came none pairs text =
+pub finds_nothing : (kind : Kind) → IsAscii kind → (bytes key trie rest : List ℕ) (count : ℕ) → AlwaysComes kind bytes key trie rest count → ((s : Shape) → Begins kind trie s → ⊥) → AlwaysFinds kind bytes key None count
+finds_nothing kind ascii bytes key trie rest count came none pairs text =
     let c = came pairs text in
-    let empty = no_node c.inner none in
+    let empty = no_node ascii c.inner none in
     let zero' = empty.counts rest in
     let all = c.counts in
     record { answers = c.answers ∙ ap (λ p. value_at kind p rest) empty.is; counts = omega arith }

@@ -103,7 +103,7 @@ pub written_built : (text : List ℕ) (pairs : Pairs) → length text < 2 ^ 64 �
 written_built text pairs short w =
     let means : Means simple_ascii text (map_of pairs) = record { short = short; pairs = pairs; lists = subst (λ x. Lists simple_ascii x pairs) (sym w.is) w.lists; is = refl } in
     record {
-      fits = fits_meant simple_ascii tt text (map_of pairs) means;
+      fits = fits_meant simple_ascii text (map_of pairs) means;
       text = λ ascii. means_enc simple_ascii ascii text (map_of pairs) means;
       means = means;
     }

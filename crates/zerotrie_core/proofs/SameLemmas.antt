@@ -1,6 +1,6 @@
 -- Lists of pairs that answer alike for each exact key.
-use Rattle.std.proofs.Common.{◌≡◌, ℕ, zero, suc, ◌+◌, ◌≤◌, List, [], ◌∷◌, ◌++◌, length, refl, sym, ◌∙◌, ap, arith, map, Bool, true, false, cond, eqb, Option, Some, None, inl, inr, ◌⊎◌}
-use Rattle.std.specs.Prelude.{◌||◌, ◌&&◌, filter}
+use Rattle.std.proofs.Common.{◌≡◌, ℕ, zero, suc, ◌+◌, ◌≤◌, List, [], ◌∷◌, ◌++◌, length, refl, sym, ◌∙◌, ap, arith, map, Bool, true, false, cond, eqb, Option, Some, None, inl, inr, ◌⊎◌, leb}
+use Rattle.std.specs.Prelude.{◌||◌, ◌&&◌, filter, is_some}
 use Rattle.std.specs.List.{range_with_len}
 use Rattle.std.specs.FinMap.{entries, find, get-from_entries, get-entries, same_map, slice_cmp-IsAntisymmetric, nat_cmp-IsAntisymmetric}
 use Rattle.std.specs.Cmp.{unsigned_ties, eq_by_cmp_equiv}
@@ -8,10 +8,11 @@ use Rattle.std.specs.Cmp.Lexicographic.{slice_cmp, nat_list_cmp_total, lists_tie
 use Rattle.std.specs.Ordering.{nat_cmp, eq_by_cmp}
 use Rattle.std.proofs.Math.Path.{fun_ext}
 use Rattle.std.proofs.lemmas.Bool.{eqb-true, eq-eqb}
-use Rattle.zerotrie_core.specs.Kind.{Kind, simple_ascii, ordered}
-use Rattle.zerotrie_core.specs.Maps.{Pairs, map_of, value_at, same_key, begins_some, edges, residual, behind_all, longest}
+use Rattle.zerotrie_core.specs.Kind.{Kind, simple_ascii, ordered, has_spans}
+use Rattle.zerotrie_core.specs.Numbers.{span_form, spelled_as}
+use Rattle.zerotrie_core.specs.Maps.{Pairs, map_of, value_at, same_key, begins_some, edges, residual, behind_all, longest, high_edge, run_to, run_of}
 use Rattle.zerotrie_core.specs.Branches.{total}
-use Rattle.zerotrie_core.specs.Canonical.{enc_to, enc_of, size_to, size_of, rest_size, branch_size, node, value_node}
+use Rattle.zerotrie_core.specs.Canonical.{enc_to, enc_of, size_to, size_of, rest_size, span_size, branch_size, node, value_node}
 use Rattle.zerotrie_core.specs.Fits.{targets_size}
 
 abbrev pub Same : Pairs → Pairs → Type 0
@@ -175,18 +176,36 @@ pub same-enc_of : (kind : Kind) (p q : Pairs) → Same p q → enc_of kind p ≡
 unfolding enc_of
 same-enc_of kind p q s = ap (λ n. enc_to (suc n) kind p) (same-longest p q s) ∙ same-enc (suc (longest q)) kind p q s
 
--- sizes go by those of the residuals
-pub rest_agree : (kind : Kind) (f g : Pairs → ℕ) (p q : Pairs) → ((b : ℕ) → f (residual b p) ≡ g (residual b q)) → (es : List ℕ) → rest_size kind f p es ≡ rest_size kind g q es
-rest_agree kind f g p q same [] = refl
-rest_agree kind f g p q same (b ∷ []) = ap (λ n. 1 + n) (same b)
-rest_agree kind f g p q same (b ∷ c ∷ more) = ap (λ lengths. branch_size kind lengths + total lengths) (map_agree (λ e. f (residual e p)) (λ e. g (residual e q)) (b ∷ c ∷ more) same)
+-- pairs that answer alike begin with one run
+same-run_to : (d : ℕ) (p q : Pairs) → Same p q → run_to d p ≡ run_to d q
+same-run_to zero p q s = refl
+same-run_to (suc d) p q s =
+    ap (λ o. cond (is_some o) [] (high_edge (edges p) (λ b. run_to d (residual b p)))) (s [])
+    ∙ ap (λ es. cond (is_some (value_at simple_ascii q [])) [] (high_edge es (λ b. run_to d (residual b p)))) (same-edges p q s)
+    ∙ ap (λ behind. cond (is_some (value_at simple_ascii q [])) [] (high_edge (edges q) behind)) (fun_ext (λ b. same-run_to d (residual b p) (residual b q) (same-residual b p q s)))
+
+pub same-run_of : (p q : Pairs) → Same p q → run_of p ≡ run_of q
+unfolding run_of
+same-run_of p q s = ap (λ d. run_to d p) (same-longest p q s) ∙ same-run_to (longest q) p q s
+
+-- sizes go by those of the pairs behind an edge and behind a span
+pub rest_agree : (kind : Kind) (f g : Pairs → ℕ) (p q : Pairs) → ((b : ℕ) → f (residual b p) ≡ g (residual b q)) → ((b : ℕ) → span_size f p b ≡ span_size g q b) → (es : List ℕ) → rest_size kind f p es ≡ rest_size kind g q es
+rest_agree kind f g p q same spans [] = refl
+rest_agree kind f g p q same spans (b ∷ []) =
+    ap (λ n. cond (leb 128 b && has_spans kind) n (1 + f (residual b p))) (spans b) ∙ ap (λ n. cond (leb 128 b && has_spans kind) (span_size g q b) (1 + n)) (same b)
+rest_agree kind f g p q same spans (b ∷ c ∷ more) = ap (λ lengths. branch_size kind lengths + total lengths) (map_agree (λ e. f (residual e p)) (λ e. g (residual e q)) (b ∷ c ∷ more) same)
 
 pub same-size : (d : ℕ) (kind : Kind) (p q : Pairs) → Same p q → size_to d kind p ≡ size_to d kind q
 same-size zero kind p q s = refl
 same-size (suc d) kind p q s =
+    let spans : (b : ℕ) → span_size (size_to d kind) p b ≡ span_size (size_to d kind) q b = λ b.
+    (let behind = same-residual b p q s in
+    ap (λ run. length (spelled_as span_form (length (b ∷ run))) + length (b ∷ run) + size_to d kind (behind_all run (residual b p))) (same-run_of (residual b p) (residual b q) behind)
+    ∙ ap (λ n. length (spelled_as span_form (length (b ∷ run_of (residual b q)))) + length (b ∷ run_of (residual b q)) + n)
+    (same-size d kind _ _ (same-behind (run_of (residual b q)) (residual b p) (residual b q) behind))) in
     ap (λ v. length (value_node v) + rest_size kind (size_to d kind) p (edges p)) (same-value kind p q s)
     ∙ ap (λ n. length (value_node (value_at kind q [])) + n)
-    (rest_agree kind (size_to d kind) (size_to d kind) p q (λ b. same-size d kind (residual b p) (residual b q) (same-residual b p q s)) (edges p)
+    (rest_agree kind (size_to d kind) (size_to d kind) p q (λ b. same-size d kind (residual b p) (residual b q) (same-residual b p q s)) spans (edges p)
     ∙ ap (rest_size kind (size_to d kind) q) (same-edges p q s))
 
 pub same-size_of : (kind : Kind) (p q : Pairs) → Same p q → size_of kind p ≡ size_of kind q

@@ -1,11 +1,15 @@
 -- The table of a branch: its edges have distinct folds, and where it is sorted they rise.
-use Rattle.std.proofs.Common.{◌≡◌, ℕ, zero, suc, ◌+◌, ◌<◌, List, [], ◌∷◌, length, refl, sym, ap, subst, arith, get_or, map, false}
+use Rattle.std.proofs.Common.{◌≡◌, ℕ, zero, suc, ◌+◌, ◌%◌, ◌<◌, ◌≤◌, List, [], ◌∷◌, ◌++◌, length, refl, sym, ◌∙◌, ap, subst, arith, get_or, map, Bool, true, false, cond, drop, length-append}
+use Rattle.std.specs.List.{slice_index}
+use Rattle.std.proofs.lemmas.List.{drop_at}
 use Rattle.std.specs.List.Sorted.{IsStrictlyIncreasing}
 use Rattle.std.proofs.lemmas.Bool.{ne_eqb}
-use Rattle.zerotrie_core.specs.Kind.{Kind, fold_byte}
-use Rattle.zerotrie_core.specs.Branches.{IsTable}
-use Rattle.zerotrie_core.specs.Branches.IsTable.{sorted}
+use Rattle.zerotrie_core.specs.Kind.{Kind, IsAscii, fold_byte, is_hashed}
+use Rattle.zerotrie_core.specs.Branches.{IsTable, table_size}
+use Rattle.zerotrie_core.specs.Branches.IsTable.{sorted, hashed}
+use Rattle.zerotrie_base.specs.Hashes.{place_of}
 use Rattle.zerotrie_core.specs.reader.Reading.{AlwaysRises}
+use Rattle.zerotrie_core.proofs.KindLemmas.{ascii_sorted, hashed_spans, spans_fold}
 use Rattle.zerotrie_core.proofs.EdgeLemmas.{member}
 
 -- each has the property
@@ -81,12 +85,57 @@ increasing_rises kind (e ∷ es) up =
     (first_above kind e es up r, r)
 
 -- a sorted table is the edges, which rise
-pub table_is_edges : {kind : Kind} {edges table : List ℕ} → IsTable kind edges table → table ≡ edges
-table_is_edges (sorted h up) = refl
+pub table_is_edges : {kind : Kind} {edges table : List ℕ} → is_hashed kind (length edges) ≡ false → IsTable kind edges table → table ≡ edges
+table_is_edges plain (sorted h up) = refl
+table_is_edges plain (hashed h perfect) = absurd (cc)
 
-pub table_rises : {kind : Kind} {edges table : List ℕ} → IsTable kind edges table → Rises kind edges
-table_rises (sorted h up) = increasing_rises _ _ up
+pub table_rises : {kind : Kind} {edges table : List ℕ} → is_hashed kind (length edges) ≡ false → IsTable kind edges table → Rises kind edges
+table_rises plain (sorted h up) = increasing_rises _ _ up
+table_rises plain (hashed h perfect) = absurd (cc)
+
+-- what has a place before all of these is none of them
+not_placed : (kind : Kind) (place : ℕ → ℕ) (x from : ℕ) (es : List ℕ) → ((b : ℕ) → fold_byte kind b ≡ b) → place x < from → ((i : ℕ) → i < length es → place (slice_index es i) ≡ from + i) → NoneLike kind x es
+not_placed kind place x from [] keeps before at = tt
+not_placed kind place x from (e ∷ es) keeps before at = (
+  (let here = at 0 (omega arith) in (λ same. let moved = ap place (sym (keeps x) ∙ same ∙ keeps e) in omega arith)),
+  not_placed kind place x (suc from) es keeps (omega arith) (λ i h. let later = at (suc i) (omega arith) in omega arith),
+)
+
+-- keys with places of their own are distinct, where case is kept
+placed_distinct : (kind : Kind) (place : ℕ → ℕ) (from : ℕ) (es : List ℕ) → ((b : ℕ) → fold_byte kind b ≡ b) → ((i : ℕ) → i < length es → place (slice_index es i) ≡ from + i) → Distinct kind es
+placed_distinct kind place from [] keeps at = tt
+placed_distinct kind place from (e ∷ es) keeps at = (
+  (let here = at 0 (omega arith) in not_placed kind place e (suc from) es keeps (omega arith) (λ i h. let later = at (suc i) (omega arith) in omega arith)),
+  placed_distinct kind place (suc from) es keeps (λ i h. let later = at (suc i) (omega arith) in omega arith),
+)
 
 -- any table has edges with distinct folds
 pub table_distinct : {kind : Kind} {edges table : List ℕ} → IsTable kind edges table → Distinct kind edges
 table_distinct (sorted h up) = rises_distinct _ _ (increasing_rises _ _ up)
+table_distinct {kind = kind} {edges = es} (hashed {p = p} {qs = qs} h perfect) =
+    placed_distinct kind (place_of p qs (length es % 256)) 0 es (spans_fold kind (hashed_spans kind (length es) h)) (λ i l. let at = perfect.places i l in omega arith)
+
+pub length-table : {kind : Kind} {edges table : List ℕ} → IsTable kind edges table → length table ≡ table_size kind (length edges)
+length-table (sorted plain up) = rw plain refl
+length-table {edges = es} (hashed {qs = qs} wide perfect) = let n = perfect.a_q_each in let all = length-append qs es in rw wide (omega arith)
+
+-- how many bytes of the table of n edges stand before them
+pub before_edges : Kind → ℕ → ℕ
+before_edges kind n = cond (is_hashed kind n) (n + 1) 0
+
+pub before_ascii : (kind : Kind) → IsAscii kind → (n : ℕ) → before_edges kind n ≡ 0
+unfolding before_edges
+before_ascii kind ascii n = rw (ascii_sorted kind ascii n) refl
+
+-- the edges are the last bytes of the table
+pub edges_of_table : {kind : Kind} {edges table : List ℕ} → IsTable kind edges table → drop (before_edges kind (length edges)) table ≡ edges
+unfolding before_edges
+edges_of_table (sorted plain up) = rw plain refl
+edges_of_table {edges = es} (hashed {p = p} {qs = qs} wide perfect) =
+    let n = perfect.a_q_each in
+    rw wide (ap (λ k. drop k (p ∷ (qs ++ es))) (let one : length es + 1 ≡ suc (length qs) = omega arith in one) ∙ drop_at qs es (length qs) refl)
+
+pub before_within : {kind : Kind} {edges table : List ℕ} → IsTable kind edges table → before_edges kind (length edges) ≤ length table
+unfolding before_edges
+before_within (sorted plain up) = rw plain (omega arith)
+before_within {edges = es} (hashed {qs = qs} wide perfect) = let n = perfect.a_q_each in let all = length-append qs es in rw wide (omega arith)

@@ -1,10 +1,11 @@
 -- The bytes of a branch.
-use Rattle.std.specs.Prelude.{◌≡◌, ℕ, ◌+◌, ◌-◌, ◌*◌, ◌/◌, ◌%◌, ◌^◌, ◌<◌, ◌≤◌, List, [], ◌++◌, length, map, false, All, take, nat_lt, if◌then◌else◌}
+use Rattle.std.specs.Prelude.{◌≡◌, ℕ, ◌+◌, ◌-◌, ◌*◌, ◌/◌, ◌%◌, ◌^◌, ◌<◌, ◌≤◌, List, [], ◌∷◌, ◌++◌, length, map, false, true, All, take, nat_lt, if◌then◌else◌}
 use Rattle.std.proofs.Common.{suc, zero}
 use Rattle.std.specs.List.{concat, range_with_len, sum_by}
 use Rattle.std.specs.List.Sorted.{IsStrictlyIncreasing}
 use Rattle.zerotrie_core.specs.Kind.{Kind, fold_byte, edge_limit, greatest_width, is_hashed}
 use Rattle.zerotrie_core.specs.Numbers.{branch_form, SpellsAs, spelled_as}
+use Rattle.zerotrie_base.specs.Hashes.{IsPerfect}
 
 -- lengths added up
 abbrev pub total : List ℕ → ℕ
@@ -26,6 +27,7 @@ blocks (suc w) numbers = map (λ o. o / 256 ^ w % 256) numbers ++ blocks w numbe
 -- the search table of a branch with these edges, in the order of its targets
 pub data IsTable (kind : Kind) : List ℕ → List ℕ → Type 0 where
   sorted : {edges : List ℕ} → is_hashed kind (length edges) ≡ false → IsStrictlyIncreasing (map (fold_byte kind) edges) → IsTable kind edges edges
+  hashed : {p : ℕ} {qs edges : List ℕ} → is_hashed kind (length edges) ≡ true → IsPerfect p qs edges → IsTable kind edges (p ∷ (qs ++ edges))
 
 -- how long the search table of a branch of so many edges is
 abbrev pub table_size : Kind → ℕ → ℕ

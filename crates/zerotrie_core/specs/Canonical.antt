@@ -1,11 +1,11 @@
 -- The canonical text of a map, and the length of a map's texts.
 use Rattle.std.proofs.Common.{zero, suc}
-use Rattle.std.specs.Prelude.{ℕ, ◌+◌, List, [], ◌∷◌, ◌++◌, length, map, Option, Some, None}
+use Rattle.std.specs.Prelude.{ℕ, ◌+◌, List, [], ◌∷◌, ◌++◌, length, map, Option, Some, None, nat_le, ◌&&◌, if◌then◌else◌}
 use Rattle.std.specs.List.{concat}
 use Rattle.std.specs.FinMap.{entries}
-use Rattle.zerotrie_core.specs.Kind.{Kind, ordered}
-use Rattle.zerotrie_core.specs.Numbers.{value_form, spelled_as}
-use Rattle.zerotrie_core.specs.Maps.{Pairs, Map, value_at, edges, residual, longest}
+use Rattle.zerotrie_core.specs.Kind.{Kind, ordered, has_spans}
+use Rattle.zerotrie_core.specs.Numbers.{value_form, span_form, spelled_as}
+use Rattle.zerotrie_core.specs.Maps.{Pairs, Map, value_at, edges, residual, behind_all, longest, run_of}
 use Rattle.zerotrie_core.specs.Branches.{total, branch_front, table_size}
 
 -- the value node of the empty key
@@ -41,11 +41,17 @@ enc kind m = enc_of kind (entries m)
 abbrev pub branch_size : Kind → List ℕ → ℕ
 branch_size kind lengths = length (branch_front [] lengths) + table_size kind (length lengths)
 
--- the bytes behind the value of the empty key, by the edges: none, a byte and its target, or a branch and its targets,
--- each as long as the function says of its pairs
+-- the bytes of a span, of b and the longest run with which each key behind it begins, and of what follows it
+abbrev pub span_size : (Pairs → ℕ) → Pairs → ℕ → ℕ
+span_size size_behind pairs b = let run = b ∷ run_of (residual b pairs) in
+    length (spelled_as span_form (length run)) + length run + size_behind (behind_all run pairs)
+
+-- the bytes behind the value of the empty key, by the edges: none, a byte and its target (a span, if the byte is from 128
+-- on and the kind has spans), or a branch and its targets, each as long as the function says of its pairs
 abbrev pub rest_size : Kind → (Pairs → ℕ) → Pairs → List ℕ → ℕ
 rest_size kind size_behind pairs [] = 0
-rest_size kind size_behind pairs (b ∷ []) = 1 + size_behind (residual b pairs)
+rest_size kind size_behind pairs (b ∷ []) =
+    if nat_le 128 b && has_spans kind then span_size size_behind pairs b else 1 + size_behind (residual b pairs)
 rest_size kind size_behind pairs (b ∷ c ∷ more) = let lengths = map (λ e. size_behind (residual e pairs)) (b ∷ c ∷ more) in
     branch_size kind lengths + total lengths
 

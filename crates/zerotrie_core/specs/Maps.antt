@@ -1,11 +1,12 @@
 -- Maps from byte lists to numbers, and lists of pairs.
 use Rattle.std.specs.List.{range_with_len}
-use Rattle.std.specs.Prelude.{◌==◌, ◌||◌, ◌+◌, filter, max, length, ◌≡◌, ℕ, List, [], ◌∷◌, ◌++◌, map, Option, Some, None, if◌then◌else◌, Bool, false, ◌⊎◌, All, Contains}
+use Rattle.std.proofs.Common.{zero, suc}
+use Rattle.std.specs.Prelude.{nat_le, is_some, ◌==◌, ◌||◌, ◌+◌, filter, max, length, ◌≡◌, ℕ, List, [], ◌∷◌, ◌++◌, map, Option, Some, None, if◌then◌else◌, Bool, false, ◌⊎◌, All, Contains}
 use Rattle.std.specs.FinMap.{FinMap, from_entries, entries}
 use Rattle.std.specs.Cmp.Lexicographic.{slice_cmp, pointwise}
 use Rattle.std.specs.Ordering.{nat_cmp}
 use Rattle.std.specs.declared.cmp.Ordering.TheVariants.{Less}
-use Rattle.zerotrie_core.specs.Kind.{Kind, same_byte}
+use Rattle.zerotrie_core.specs.Kind.{Kind, simple_ascii, same_byte}
 
 -- pairs of a key and its value
 abbrev pub Pairs : Type 0
@@ -41,6 +42,12 @@ with_front b pairs = map (λ e. (b ∷ e.0, e.1)) pairs
 -- each key with the run of bytes in front
 abbrev pub with_run : List ℕ → Pairs → Pairs
 with_run run pairs = map {B = List ℕ × ℕ} (λ e. (run ++ e.0, e.1)) pairs
+
+-- what a key has behind the run, if it begins with all of it
+abbrev pub after_run : List ℕ → List ℕ → Option (List ℕ)
+after_run [] key = Some key
+after_run (b ∷ run) [] = None
+after_run (b ∷ run) (c ∷ key) = if b == c then after_run run key else None
 
 -- two keys are one key to the kind
 abbrev pub same_key : Kind → List ℕ → List ℕ → Bool
@@ -80,6 +87,22 @@ behind_all (b ∷ front) pairs = behind_all front (residual b pairs)
 abbrev pub longest : Pairs → ℕ
 longest [] = 0
 longest (e ∷ pairs) = max (length e.0) (longest pairs)
+
+-- the only edge, if it is from 128 on, and what stands behind it
+abbrev pub high_edge : List ℕ → (ℕ → List ℕ) → List ℕ
+high_edge [] behind = []
+high_edge (b ∷ []) behind = if nat_le 128 b then b ∷ behind b else []
+high_edge (b ∷ c ∷ more) behind = []
+
+-- the longest run of bytes from 128 on with which each key begins, of at most d bytes
+abbrev pub run_to : ℕ → Pairs → List ℕ
+run_to zero pairs = []
+run_to (suc d) pairs =
+    if is_some (value_at simple_ascii pairs []) then [] else high_edge (edges pairs) (λ b. run_to d (residual b pairs))
+
+-- the longest of all
+unfoldable pub run_of : Pairs → List ℕ
+run_of pairs = run_to (longest pairs) pairs
 
 -- how long the common front of two keys is, by a test of two bytes
 abbrev pub common_front : (ℕ → ℕ → Bool) → List ℕ → List ℕ → ℕ

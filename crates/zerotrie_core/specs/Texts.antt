@@ -1,8 +1,9 @@
 -- The grammar: which bytes are a text of a kind, and which pairs they list.
-use Rattle.std.specs.Prelude.{◌≡◌, ◌≢◌, ℕ, ◌+◌, ◌/◌, ◌^◌, ◌<◌, List, [], ◌∷◌, ◌++◌, length, if◌then◌else◌}
-use Rattle.zerotrie_core.specs.Kind.{Kind, same_byte}
-use Rattle.zerotrie_core.specs.Numbers.{value_form, SpellsAs}
-use Rattle.zerotrie_core.specs.Maps.{Pairs, Map, map_of, with_front}
+use Rattle.std.specs.Prelude.{◌≡◌, ◌≢◌, ℕ, ◌+◌, ◌/◌, ◌^◌, ◌<◌, ◌≤◌, List, [], ◌∷◌, ◌++◌, length, true, if◌then◌else◌}
+use Rattle.std.specs.Option.{option_map_or}
+use Rattle.zerotrie_core.specs.Kind.{Kind, same_byte, has_spans}
+use Rattle.zerotrie_core.specs.Numbers.{value_form, span_form, SpellsAs}
+use Rattle.zerotrie_core.specs.Maps.{Pairs, Map, map_of, with_front, with_run, after_run}
 use Rattle.zerotrie_core.specs.Branches.{IsBranch}
 
 -- no bytes, or bytes that do not begin with a value node, whose lead has the bits 100
@@ -10,12 +11,23 @@ abbrev pub NoValueFirst : List ℕ → Type 0
 NoValueFirst [] = Unit {0}
 NoValueFirst (b ∷ bs) = b / 32 ≢ 4
 
+-- no bytes, or bytes that do not begin with a span, whose lead has the bits 101
+abbrev pub NoSpanFirst : List ℕ → Type 0
+NoSpanFirst [] = Unit {0}
+NoSpanFirst (b ∷ bs) = b / 32 ≢ 5
+
+-- bytes that may stand in a span
+abbrev pub AreHigh : List ℕ → Type 0
+AreHigh [] = Unit {0}
+AreHigh (b ∷ run) = (128 ≤ b) × (b < 256) × AreHigh run
+
 mutual
   -- The bytes are a text of the kind, and list these pairs in this order.
   pub data Lists (kind : Kind) : List ℕ → Pairs → Type 0 where
     nothing : Lists kind [] []
     value : {v : ℕ} {spelling rest : List ℕ} {pairs : Pairs} → SpellsAs value_form v spelling → NoValueFirst rest → Lists kind rest pairs → Lists kind (spelling ++ rest) (([], v) ∷ pairs)
     literal : {b : ℕ} {rest : List ℕ} {pairs : Pairs} → b < 128 → rest ≢ [] → Lists kind rest pairs → Lists kind (b ∷ rest) (with_front b pairs)
+    span : {spelling rest : List ℕ} {pairs : Pairs} (run : List ℕ) → has_spans kind ≡ true → run ≢ [] → AreHigh run → SpellsAs span_form (length run) spelling → rest ≢ [] → NoSpanFirst rest → Lists kind rest pairs → Lists kind (spelling ++ (run ++ rest)) (with_run run pairs)
     branch : {edges : List ℕ} {targets : List (List ℕ)} {bytes : List ℕ} {pairs : Pairs} → IsBranch kind edges targets bytes → ListEach kind edges targets pairs → Lists kind bytes pairs
 
   -- Each edge has one target, a text that is not empty. The pairs are those of the targets, each with its edge byte in front.
@@ -38,6 +50,7 @@ abbrev mutual
   nodes (value s n text) (c ∷ key) = 1 + nodes text (c ∷ key)
   nodes (literal {b = b} l n text) [] = 1
   nodes {kind = kind} (literal {b = b} l n text) (c ∷ key) = 1 + (if same_byte kind b c then nodes text key else 0)
+  nodes (span run s some high n r f text) key = 1 + option_map_or (λ after. nodes text after) (after_run run key) 0
   nodes (branch b each) [] = 1
   nodes (branch b each) (c ∷ key) = 1 + nodes_behind each c key
 

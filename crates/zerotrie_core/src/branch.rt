@@ -5,7 +5,7 @@
 //! first, then the next, and so on.
 
 ghost use Rattle.std.specs.Prelude.{◌≡◌, ℕ, ◌+◌, ◌-◌, ◌*◌, ◌<◌, ◌≤◌, length, take, IfSome, IfNone, slice_index};
-ghost use Rattle.zerotrie_core.specs.Kind.{fold_byte};
+ghost use Rattle.zerotrie_core.specs.Kind.{IsAscii, fold_byte};
 ghost use Rattle.zerotrie_core.specs.Nodes.{number_from, IsTargetResult};
 ghost use Rattle.zerotrie_core.specs.reader.Reading.{AlwaysRises, IsPlace, HasNoPlace};
 ghost use Rattle.zerotrie_core.specs.reader.Going.{AlwaysGoes, AlwaysStops};
@@ -148,6 +148,7 @@ impl<'a> Branch<'a> {
     /// The edge that is the byte to the kind, and its target.
     #[inline(always)]
     pub fn follow<K: ZeroTrieWithOptions>(&self, byte: u8) -> Option<(u8, &'a [u8])>
+        requires { IsAscii K.kind }
         ensures shorter { IfSome result (λ r. length r.1.now ≤ length self.now.behind.now) }
         ensures some { IfSome result (λ r.
             AlwaysGoes K.kind (branch_shape self.now) byte r.0 r.1.now) }

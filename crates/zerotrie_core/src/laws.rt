@@ -34,6 +34,11 @@ pub fn equal_exactly_if_maps_are()
     canonical_exactly();
 }
 
+/// What bytes of a kind mean fits the kind.
+pub fn meant_fits()
+    ensures { (kind : Kind) → MeansFits kind }
+{}
+
 /// Bytes that mean a map of a kind have its size.
 pub fn length_is_size()
     ensures { (kind : Kind) → LengthIsSize kind }

@@ -9,7 +9,7 @@ mod plain;
 mod reader;
 mod varint;
 
-pub use options::{Ignore, Simple, ZeroTrieBuilderOptions, ZeroTrieWithOptions};
+pub use options::{Ext, Hash, Ignore, Simple, ZeroTrieBuilderOptions, ZeroTrieWithOptions};
 pub use plain::plain_encode;
 pub use reader::get_counted;
 pub use varint::{read_varint_meta2, read_varint_meta3, write_varint_meta2, write_varint_meta3};

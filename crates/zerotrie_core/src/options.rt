@@ -2,7 +2,7 @@
 
 ghost use Rattle.std.specs.Prelude.{◌≡◌, ℕ, ◌+◌, ◌*◌, ◌⊎◌, Bool, true, false, refl, cond};
 ghost use Rattle.std.proofs.Common.{inl, inr};
-ghost use Rattle.zerotrie_core.specs.Kind.{Kind, Flags, simple_ascii, ignore_case, tag, flags, kind_with};
+ghost use Rattle.zerotrie_core.specs.Kind.{Kind, Flags, simple_ascii, ignore_case, perfect_hash, extended_capacity, tag, flags, kind_with};
 ghost use Rattle.zerotrie_core.specs.Options.{IsTag};
 
 use std::marker::Model;
@@ -108,6 +108,74 @@ impl ZeroTrieWithOptions for Ignore {
     ghost tag_is = { refl };
 
     ghost lawful = { (refl, inr (inr (inr refl))) };
+}
+
+/// The options of tries over any keys whose wide branches have perfect hashes.
+#[derive(Clone, Copy, Debug, PartialEq, Eq)]
+pub struct Hash;
+
+impl ZeroTrieWithOptions for Hash {
+    const USE_PHF: bool = true;
+
+    const SPANS: bool = true;
+
+    const EXTENDED: bool = false;
+
+    const IGNORE_CASE: bool = false;
+
+    const TAG: u8 = 3;
+
+    ghost USE_PHF = { true };
+
+    ghost SPANS = { true };
+
+    ghost EXTENDED = { false };
+
+    ghost IGNORE_CASE = { false };
+
+    ghost TAG = { 3 };
+
+    ghost kind = { perfect_hash };
+
+    ghost flags_are = { refl };
+
+    ghost tag_is = { refl };
+
+    ghost lawful = { (refl, inr (inl refl)) };
+}
+
+/// The options of tries over any keys whose branches may have targets of any length.
+#[derive(Clone, Copy, Debug, PartialEq, Eq)]
+pub struct Ext;
+
+impl ZeroTrieWithOptions for Ext {
+    const USE_PHF: bool = true;
+
+    const SPANS: bool = true;
+
+    const EXTENDED: bool = true;
+
+    const IGNORE_CASE: bool = false;
+
+    const TAG: u8 = 7;
+
+    ghost USE_PHF = { true };
+
+    ghost SPANS = { true };
+
+    ghost EXTENDED = { true };
+
+    ghost IGNORE_CASE = { false };
+
+    ghost TAG = { 7 };
+
+    ghost kind = { extended_capacity };
+
+    ghost flags_are = { refl };
+
+    ghost tag_is = { refl };
+
+    ghost lawful = { (refl, inr (inr (inl refl))) };
 }
 
 /// The constants of a kind of trie, as a value.

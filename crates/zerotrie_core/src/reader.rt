@@ -27,6 +27,7 @@ enum Descent<'a> {
 /// Goes behind one node.
 #[inline(always)]
 fn descend<'a, K: ZeroTrieWithOptions>(node: Node<'a>, key: &'a [u8]) -> Descent<'a>
+    requires { IsAscii K.kind }
     ensures { Descends K.kind (shape node.entry) key.now result }
 {
     match node {

@@ -10,4 +10,4 @@ pub returns-clause-text : goal.returns-clause-text
 returns-clause-text c = means_enc
 
 pub returns-clause-fits : goal.returns-clause-fits
-returns-clause-fits c = fits_meant
+returns-clause-fits c kind ascii = fits_meant kind
