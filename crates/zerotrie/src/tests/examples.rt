@@ -1,9 +1,9 @@
 //! The examples of the documentation.
 
 use super::*;
+use std::collections::VecDeque;
 use zerotrie_any::{bytes_from_iter, bytes_from_slice};
 use zerotrie_build::{ByteSliceWithIndices, ZeroTrieBuilder};
-use std::collections::VecDeque;
 
 #[test]
 fn bytes_are_looked_up_where_they_lie(rt: HostRuntime) -> Result<(), Fail> {
@@ -48,7 +48,12 @@ fn keys_that_part_in_case_alone_are_put_in_lower_case(rt: HostRuntime) -> Result
     let refused = ZeroAsciiIgnoreCaseTrie::try_from_iter(rt.alloc(), names).err();
     assert!(rt; refused == Some(ZeroTrieBuildError::MixedCase));
     let mut names = Vec::new(rt.alloc());
-    for (name, number) in [("Accept-CH", 1), ("Accept-Charset", 2), ("DAV", 3), ("Date", 4)] {
+    for (name, number) in [
+        ("Accept-CH", 1),
+        ("Accept-Charset", 2),
+        ("DAV", 3),
+        ("Date", 4),
+    ] {
         names.push((name.to_ascii_lowercase(rt.alloc())?, number))?;
     }
     let trie = ZeroAsciiIgnoreCaseTrie::try_from_iter(rt.alloc(), names)?;
