@@ -1,6 +1,6 @@
 //! The builder.
 
-ghost use Rattle.std.specs.Prelude.{◌≡◌, IfOk};
+ghost use Rattle.std.specs.Prelude.{◌≡◌, ◌<◌, ℕ, All, IfOk};
 ghost use Rattle.std.specs.Iterator.{IsFiniteIterable};
 ghost use Rattle.zerotrie_core.specs.Items.{pairs_of, keyed};
 ghost use Rattle.zerotrie_core.specs.Kind.{IsAscii, kind_with};
@@ -18,19 +18,17 @@ use zerotrie_core::{
     Ignore, Simple, TrieKey, ZeroTrieBuildError, ZeroTrieBuilderOptions, ZeroTrieWithOptions, laws,
 };
 
-/// The bytes of the trie of items in the order of the kind.
+/// The bytes of the trie of ASCII items in the order of the kind.
 fn grow_ordered<K: ZeroTrieWithOptions, S: TrieBuilderStore + Drop>(
     alloc: Global,
     items: ByteSliceWithIndices<'_>,
 ) -> Result<S, ZeroTrieBuildError>
     requires kind { IsAscii K.kind }
     requires ordered { Ordered K.kind (pairs items) }
+    requires ascii { All (λ e. All (λ b. b < 128) e.0) (pairs items) }
     ensures { IsBuild any_order K.kind S.list (pairs items.entry) result }
 {
     laws::canonical_exactly();
-    if !items.is_all_ascii() {
-        return Err(ZeroTrieBuildError::NonAsciiError);
-    }
     grow::<K, S>(alloc, items)
 }
 
@@ -45,6 +43,9 @@ fn grow_sorted<K: ZeroTrieWithOptions, S: TrieBuilderStore + Drop>(
     sort_by_fold::<K>(items);
     if repeats_next(items) {
         return Err(ZeroTrieBuildError::DuplicateKey);
+    }
+    if !ByteSliceWithIndices::from_byte_slice(items).is_all_ascii() {
+        return Err(ZeroTrieBuildError::NonAsciiError);
     }
     if !is_ordered::<K>(items) {
         return Err(ZeroTrieBuildError::MixedCase);
@@ -62,6 +63,9 @@ fn grow_ascending<S: TrieBuilderStore + Drop>(
     requires ascends { Ascends (pairs items) }
     ensures { IsBuild any_order (kind_with options) S.list (pairs items.entry) result }
 {
+    if !items.is_all_ascii() {
+        return Err(ZeroTrieBuildError::NonAsciiError);
+    }
     if !options.ignore_case() {
         return grow_ordered::<Simple, S>(alloc, items);
     }
