@@ -6,27 +6,26 @@ pub use Rattle.zerotrie_core.proofs.EncodeLaws.{compare_first}
 pub use Rattle.zerotrie_core.proofs.RefusalLemmas.{ascends_apart}
 pub use Rattle.zerotrie_core.proofs.OrderLaws.{entries-map_of}
 pub use Rattle.zerotrie_core.proofs.FitsLaws.{consistent_entries}
-
 -- pairs that answer alike
 pub use Rattle.zerotrie_core.proofs.SameLemmas.{Same, same-sym, same-map, same-entries, same-behind, same-edges, same-targets, exact_itself, exact_same, first_found, map_agree}
-
 -- the pairs behind a byte or a front
 pub use Rattle.zerotrie_core.proofs.EdgeLemmas.{residual-append, residual-front, residual-other}
 pub use Rattle.zerotrie_core.proofs.SameLemmas.{some_pair, begins_behind}
 pub use Rattle.zerotrie_core.proofs.ListedLemmas.{behind_all-nil}
-
 -- numbers, and the bytes of a branch in front of its targets
 pub use Rattle.zerotrie_core.proofs.NumberLaws.{below_metadata, spelling_is}
 pub use Rattle.zerotrie_core.proofs.FrontLemmas.{small_width, wider, width_is, total-lengths, node_many}
-
 -- edges that rise, and what a node in front of texts lists
 pub use Rattle.zerotrie_core.proofs.TableLemmas.{Rises, AllAbove, rises_distinct}
 pub use Rattle.zerotrie_core.proofs.CanonLaws.{lists_some, bytes_all}
 pub use Rattle.zerotrie_core.proofs.EncodeLaws.{node_lists, not_empty_text}
-
 -- how many edges and target bytes the pairs of a branch have
 pub use Rattle.zerotrie_core.proofs.SizeLaws.{targets_each, edges_count}
-
 -- no two keys of a text are one to the kind, and what a look-up in its map answers
 pub use Rattle.zerotrie_core.proofs.CaseLemmas.{same_equiv, lists_apart, lists_found, same_answers}
 pub use Rattle.zerotrie_core.proofs.MapLemmas.{look-map_of}
+-- pairs with a run in front of each key
+pub use Rattle.zerotrie_core.proofs.SpanLemmas.{value_at-run, residual-run, residual-run_other, behind_run, edges_run, run_of-literal, run_of-value, run_of-many, run_of-run}
+-- the length of texts, by what stands first in them
+pub use Rattle.zerotrie_core.proofs.SizeLemmas.{size_none, size_value, size_literal, size_span, size_branch}
+pub use Rattle.zerotrie_core.proofs.SizeLaws.{listed_size}

@@ -1,5 +1,4 @@
 pub mod CallerLemmas
-
 mod NumberLemmas
 mod WriteLemmas
 mod KindLemmas
