@@ -15,23 +15,24 @@ pub build_of : {B : Type 0} {OfAll : (Pairs → Type 0) → Type 0} (kind : Kind
 build_of kind bytes pairs (Ok b) gives build = gives (λ p. IsBuild any_order kind bytes p (Ok b)) build
 build_of kind bytes pairs (Err e) gives refusal = elim refusal [ inl memory ↦ inl memory | inr cause ↦ inr (gives (λ p. HasCause any_order kind p e) cause) ]
 
--- What holds of the items of a whole run over the elements of a list, as an array's or a Vec's iterator gives them, holds of the list.
+-- What holds of the items of a whole run over the elements of a list, as the iterator of an array or a Vec gives them, holds of the list.
 pub of_elements : {S A : Type 0} {steps : S → Option A → S → Type 0} (rest : S → List A) (Fact : List A → Type 0) (xs : List A) (s : S)
     → rest s ≡ xs → EveryRun steps (λ p. ItemsAre p (rest p.from)) → WholeRun steps s (λ p. Fact p.items) → Fact xs
 of_elements rest Fact xs s is all h = subst Fact ((all h.0 h.0.seen).4 h.2 ∙ ap rest h.1 ∙ is) h.3
 
-of_copies : {S T A : Type 0} {steps : S → Option A → S → Type 0} {source : T → Option (Bor A) → T → Type 0} (rest : T → List A) (Fact : List A → Type 0) (i s : S) (t : T)
+-- What holds of the items of a whole run over copies, as `iter().copied()` gives them, holds of the list that is copied.
+pub of_copies : {S T A : Type 0} {steps : S → Option A → S → Type 0} {source : T → Option (Bor A) → T → Type 0} (rest : T → List A) (Fact : List A → Type 0) (i s : S) (t : T)
     → EachRunFrom steps s (λ p. SomeRun source t (λ q. IsCopiedRun p q (λ y. y.now))) → EveryRun source (λ q. ItemsMapTo q (λ y. y.now) (rest q.from))
     → i ≡ s → WholeRun steps i (λ p. Fact p.items) → Fact (rest t)
 of_copies rest Fact i s t copied all is h =
     let run = copied h.0 h.0.seen (h.1 ∙ is) in
     subst Fact (run.2.2 ∙ (all run.0 run.0.seen).4 (run.2.0 ∙ h.2) ∙ ap rest run.1) h.3
 
--- A build of what `items.iter().copied()` gives is one of the items: `copied` and `all` are the clauses `runs` of the two calls, and `is` is `rest` of the first.
+-- A build of what `items.iter().copied()` gives is one of the items: `is` and `all` are the clauses `rest` and `runs` of the first call, `copied` is `runs` of the second.
 pub build_of_copies : {B S K : Type 0} {steps : S → Option (K × ℕ) → S → Type 0} (key : K → List ℕ) (kind : Kind) (bytes : B → List ℕ) (r : Result B ZeroTrieBuildError)
     (items : List (K × ℕ)) (iter : Iter (K × ℕ)) (copies : S) (is : iter_rest iter ≡ items) (all : EveryRun (iter_steps {A = K × ℕ}) (λ q. ItemsMapTo q (λ y. y.now) (iter_rest q.from)))
     (copied : EachRunFrom steps copies (λ p. SomeRun (iter_steps {A = K × ℕ}) iter (λ q. IsCopiedRun p q (λ y. y.now)))) → IsBuildOfAll (OfAllGiven (λ given it. it ≡ given) steps key copies) kind bytes r
     → IsBuild any_order kind bytes (keyed key items) r
 build_of_copies {S = S} {steps = steps} key kind bytes r items iter copies is all copied build =
     build_of {OfAll = OfAllGiven (λ (given it : S). it ≡ given) steps key copies} kind bytes (keyed key items) r
-    (λ Fact h. subst (λ given. Fact (keyed key given)) is (of_copies iter_rest (λ given. Fact (keyed key given)) h.0 copies iter copied all h.1 h.2)) build
+    (λ Fact h. subst (λ xs. Fact (keyed key xs)) is (of_copies iter_rest (λ xs. Fact (keyed key xs)) h.0 copies iter copied all h.1 h.2)) build

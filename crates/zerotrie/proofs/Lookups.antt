@@ -21,6 +21,10 @@ takes_distinct ascending pairs takes = ascends_apart pairs takes
 takes_distinct in_order pairs takes = ascends_apart pairs takes
 takes_distinct any_order pairs takes = takes
 
+-- a key is itself to each kind
+pub same_itself : (kind : Kind) (key : List ℕ) → same_key kind key key ≡ true
+same_itself kind key = (same_equiv kind).refl key
+
 -- a look-up in a build answers with the first pair whose key is this one to the kind
 pub look_is : (kind : Kind) (pairs : Pairs) (bytes key : List ℕ) → IsBuilt kind pairs bytes → look kind (map_of pairs) key ≡ value_at kind pairs key
 look_is kind pairs bytes key built =

@@ -1,3 +1,6 @@
+mod callers;
+mod examples;
+
 use super::*;
 use std::borrow::CowSlice;
 use std::collections::BTreeMap;

@@ -9,7 +9,7 @@ use zerotrie_core::TrieKey;
 /// A key that is text, `&str` or `String`: its bytes are those of the text, and so is its order.
 ///
 /// ```
-/// assert_eq!("ad".key_text(), "ad");
+/// assert_eq!(rt; "ad".key_text(), "ad");
 /// ```
 pub trait TextKey: TrieKey + Ord {
     ghost text: { Self → List ℕ };

@@ -13,22 +13,19 @@ use std::collections::{BTreeMap, VecDeque};
 use zerotrie_build::{ByteSliceWithIndices, ZeroTrieBuilder};
 use zerotrie_core::{TrieKey, ZeroTrieBuildError, ZeroTrieBuilderOptions, ZeroTrieWithOptions};
 
-/// The bytes of the trie of a slice whose keys are strictly ascending by their bytes, for no items no bytes.
+/// The bytes of the trie of a slice, whose keys ascend strictly by their bytes, in the kind without case
+/// too. An empty input gives an empty trie.
 ///
 /// ```
-/// let bytes = bytes_from_slice::<Simple>(alloc, &[(b"ad", 22), (b"adef", 33)])?;
-/// assert_eq!(bytes.as_slice(), b"ad\x90\x06ef\x90\x11");
+/// let bytes = bytes_from_slice::<Simple>(rt.alloc(), &[(b"ad", 22), (b"adef", 33)])?;
+/// assert_eq!(rt; bytes.as_slice(), b"ad\x90\x06ef\x90\x11".as_slice());
 /// ```
 ///
-/// The bytes mean the map of the items, and for a kind whose tables are sorted they are the map's one
-/// text. Refused:
+/// The bytes mean the map of the items, and for a kind whose tables are all sorted they are the map's one
+/// text.
 ///
-/// - `Unsorted` where the keys are not strictly ascending by their bytes,
-/// - `NonAsciiError` where a key holds a byte of 128 or more, in a kind for ASCII alone,
-/// - `MixedCase` where two keys agree in front up to case and not exactly, in the kind without case,
-/// - `CapacityExceeded` where a branch needs 2^32 target bytes or more, in a kind whose offsets have at
-///   most four bytes, or the text has 2^64 bytes or more,
-/// - `OutOfMemory` where a growth was refused.
+/// A build is refused with `Unsorted`, `NonAsciiError`, `MixedCase`, `CapacityExceeded` or `OutOfMemory`,
+/// each for the reason that `ZeroTrieBuildError` gives.
 pub fn bytes_from_slice<K: ZeroTrieWithOptions>(
     alloc: Global,
     items: &[(&[u8], usize)],
@@ -59,10 +56,11 @@ fn items_of<Key: TrieKey + Ord>(
     Ok(items)
 }
 
-/// The bytes of the trie of a map, for no entries no bytes.
+/// The bytes of the trie of a map. An empty map gives an empty trie.
 ///
-/// Refused as `bytes_from_slice` is, `Unsorted` where the order of the map is not that of the keys' bytes
-/// (that of bytes and of text is).
+/// A build is refused with `Unsorted`, `NonAsciiError`, `MixedCase`, `CapacityExceeded` or `OutOfMemory`,
+/// each for the reason that `ZeroTrieBuildError` gives. `Unsorted` never comes where the map's keys are in
+/// the order of their bytes, as keys of bytes and of text are.
 pub fn bytes_from_map<K: ZeroTrieWithOptions, Key: TrieKey + Ord>(
     alloc: Global,
     entries: &BTreeMap<Key, usize>,
@@ -76,15 +74,16 @@ pub fn bytes_from_map<K: ZeroTrieWithOptions, Key: TrieKey + Ord>(
     bytes_from_slice::<K>(alloc, items.as_slice())
 }
 
-/// The bytes of the trie of what an iterator gives, in any order, for nothing no bytes.
+/// The bytes of the trie of all pairs that an iterator gives, in any order. An empty input gives an empty
+/// trie.
 ///
 /// ```
-/// let bytes = bytes_from_iter::<Simple, _, _>(alloc, [("adef", 33), ("ad", 22)])?;
-/// assert_eq!(bytes.as_slice(), b"ad\x90\x06ef\x90\x11");
+/// let bytes = bytes_from_iter::<Simple, _, _>(rt.alloc(), [("adef", 33), ("ad", 22)])?;
+/// assert_eq!(rt; bytes.as_slice(), b"ad\x90\x06ef\x90\x11".as_slice());
 /// ```
 ///
-/// Refused as `bytes_from_slice` is, but for `Unsorted`, and besides `DuplicateKey` where one key came
-/// twice.
+/// A build is refused with `DuplicateKey`, `NonAsciiError`, `MixedCase`, `CapacityExceeded` or
+/// `OutOfMemory`, each for the reason that `ZeroTrieBuildError` gives.
 pub fn bytes_from_iter<
     K: ZeroTrieWithOptions,
     Key: TrieKey + Drop,

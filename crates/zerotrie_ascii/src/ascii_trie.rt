@@ -38,29 +38,46 @@ pub struct AsciiTrie<K, S> {
 ///
 /// ```
 /// let trie = ZeroTrieSimpleAscii::from_bytes(b"abc\x85");
-/// assert_eq!(trie.get(b"abc"), Some(5));
-/// assert_eq!(trie.get(b"ab"), None);
+/// assert_eq!(rt; trie.get(b"abc"), Some(5));
+/// assert_eq!(rt; trie.get(b"ab"), None);
 /// ```
 ///
-/// Its edges ascend by their bytes.
+/// The edges of its branches ascend by their bytes.
 pub type ZeroTrieSimpleAscii<S> = AsciiTrie<Simple, S>;
 
 /// A map from ASCII keys to numbers that is looked up without the case of letters.
 ///
 /// ```
 /// let trie = ZeroAsciiIgnoreCaseTrie::from_bytes(b"aBc\x85");
-/// assert_eq!(trie.get(b"abc"), Some(5));
-/// assert_eq!(trie.get(b"ABC"), Some(5));
-/// assert_eq!(trie.get(b"ab"), None);
+/// assert_eq!(rt; trie.get(b"abc"), Some(5));
+/// assert_eq!(rt; trie.get(b"ABC"), Some(5));
+/// assert_eq!(rt; trie.get(b"ab"), None);
 /// ```
 ///
-/// Its bytes keep the case of each key, and its edges ascend by their bytes in lower case. A key has one
-/// spelling, and what two keys have in front up to case they have byte by byte: a build of other keys is
-/// refused `MixedCase`.
+/// Its bytes keep the case of each key, and the edges of its branches ascend by their bytes in lower case.
+///
+/// # Keys that differ in case
+///
+/// Where two keys part, they part in more than the case of a letter. So one name can't be a key in two
+/// spellings, and neither can `Accept-CH` and `Accept-Charset` be keys of one trie, which part at `H` and
+/// `h`, nor `DAV` and `Date`. A build of such keys is refused with `MixedCase`.
 ///
 /// ```
-/// let refused = ZeroAsciiIgnoreCaseTrie::try_from_iter(alloc, [("ab", 1), ("Ac", 2)]).err();
-/// assert_eq!(refused, Some(ZeroTrieBuildError::MixedCase));
+/// let names = [("Accept-CH", 1), ("Accept-Charset", 2)];
+/// let refused = ZeroAsciiIgnoreCaseTrie::try_from_iter(rt.alloc(), names).err();
+/// assert!(rt; refused == Some(ZeroTrieBuildError::MixedCase));
+/// ```
+///
+/// Put such keys in lower case first. Nothing is lost for look-ups, which find a key in either case.
+///
+/// ```
+/// let mut names = Vec::new(rt.alloc());
+/// for (name, number) in [("Accept-CH", 1), ("Accept-Charset", 2), ("DAV", 3), ("Date", 4)] {
+///     names.push((name.to_ascii_lowercase(rt.alloc())?, number))?;
+/// }
+/// let trie = ZeroAsciiIgnoreCaseTrie::try_from_iter(rt.alloc(), names)?;
+/// assert_eq!(rt; trie.get(b"Accept-CH"), Some(1));
+/// assert_eq!(rt; trie.get(b"DATE"), Some(4));
 /// ```
 pub type ZeroAsciiIgnoreCaseTrie<S> = AsciiTrie<Ignore, S>;
 
@@ -88,7 +105,9 @@ impl<K, S: TrieStore> AsciiTrie<K, S> {
     /// The trie of the same bytes over another store. It takes no memory.
     ///
     /// ```
-    /// let shared: ZeroTrieSimpleAscii<CowSlice<u8>> = owned.convert_store();
+    /// let trie = ZeroTrieSimpleAscii::from_bytes(b"abc\x85");
+    /// let shared: ZeroTrieSimpleAscii<CowSlice<'_, u8>> = trie.convert_store();
+    /// assert_eq!(rt; shared.get(b"abc"), Some(5));
     /// ```
     pub fn convert_store<X: ConvertStore<S>>(self) -> AsciiTrie<K, X>
         ensures { X.stored result.store ≡ S.stored self.store }
@@ -135,10 +154,10 @@ impl<K, S: TrieStore> AsciiTrie<K, S> {
     ///
     /// ```
     /// let trie = ZeroTrieSimpleAscii::from_bytes(b"abc\x85");
-    /// assert_eq!(trie.to_owned(alloc)?.get(b"abc"), Some(5));
+    /// assert_eq!(rt; trie.to_owned(rt.alloc())?.get(b"abc"), Some(5));
     /// ```
     ///
-    /// Refused for want of memory alone.
+    /// The only error is want of memory.
     pub fn to_owned(&self, alloc: Global) -> Result<AsciiTrie<K, Vec<u8>>, AllocError>
         ensures { IfOk result (λ trie. trie.store.items ≡ S.stored self.now.store) }
     {
@@ -165,7 +184,7 @@ impl<'a, K> AsciiTrie<K, &'a [u8]> {
     ///
     /// ```
     /// let trie = ZeroTrieSimpleAscii::from_bytes(b"in\x83to\x84");
-    /// assert_eq!(trie.get(b"into"), Some(4));
+    /// assert_eq!(rt; trie.get(b"into"), Some(4));
     /// ```
     pub fn from_bytes(bytes: &'a [u8]) -> Self
         ensures { result.store.now ≡ bytes.now }
@@ -175,16 +194,17 @@ impl<'a, K> AsciiTrie<K, &'a [u8]> {
 }
 
 impl<K: AsciiKind> AsciiTrie<K, Vec<u8>> {
-    /// Builds the trie of a map with text keys, `&str` or `String`, for no entries no bytes.
+    /// Builds the trie of a map whose keys are text, `&str` or `String`. An empty map gives an empty trie.
     ///
     /// ```
-    /// let mut map: BTreeMap<&str, usize> = BTreeMap::new(alloc);
+    /// let mut map: BTreeMap<&str, usize> = BTreeMap::new(rt.alloc());
     /// map.insert("ad", 22)?;
-    /// let trie = ZeroTrieSimpleAscii::try_from_btree_map_str(alloc, &map)?;
-    /// assert_eq!(trie.get(b"ad"), Some(22));
+    /// let trie = ZeroTrieSimpleAscii::try_from_btree_map_str(rt.alloc(), &map)?;
+    /// assert_eq!(rt; trie.get(b"ad"), Some(22));
     /// ```
     ///
-    /// Refused as `try_from_btree_map` is, but for `Unsorted`: text is in the order of its bytes.
+    /// A build is refused with `NonAsciiError`, `MixedCase` (in the kind without case), `CapacityExceeded`
+    /// or `OutOfMemory`, each for the reason that `ZeroTrieBuildError` gives.
     pub fn try_from_btree_map_str<Key: TextKey>(
         alloc: Global,
         entries: &BTreeMap<Key, usize>,
@@ -194,16 +214,11 @@ impl<K: AsciiKind> AsciiTrie<K, Vec<u8>> {
         Self::try_from_btree_map(alloc, entries)
     }
 
-    /// Builds the trie of a map, for no entries no bytes.
+    /// Builds the trie of a map. An empty map gives an empty trie.
     ///
-    /// Refused:
-    ///
-    /// - `NonAsciiError` where a key holds a byte of 128 or more,
-    /// - `MixedCase` where two keys agree in front up to case and not exactly, in the kind without case,
-    /// - `CapacityExceeded` where a branch needs 2^32 target bytes or more, or the text has 2^64 bytes or
-    ///   more,
-    /// - `Unsorted` where the order of the map is not that of the keys' bytes (that of bytes and of text is),
-    /// - `OutOfMemory` where a growth was refused.
+    /// A build is refused with `NonAsciiError`, `MixedCase` (in the kind without case), `CapacityExceeded`
+    /// or `OutOfMemory`, each for the reason that `ZeroTrieBuildError` gives, or with `Unsorted` where the
+    /// map's keys are not in the order of their bytes, as keys of bytes and of text are.
     pub fn try_from_btree_map<Key: TrieKey + Ord>(
         alloc: Global,
         entries: &BTreeMap<Key, usize>,
@@ -216,15 +231,17 @@ impl<K: AsciiKind> AsciiTrie<K, Vec<u8>> {
         Ok(AsciiTrie::from_store(store))
     }
 
-    /// Builds the trie of a slice whose keys are strictly ascending, for no items no bytes.
+    /// Builds the trie of a slice, whose keys ascend strictly by their bytes, in the kind without case too.
+    /// An empty input gives an empty trie.
     ///
     /// ```
-    /// let trie = ZeroTrieSimpleAscii::try_from_sorted_slice(alloc, &[(b"ad", 22), (b"adef", 33)])?;
-    /// assert_eq!(trie.get(b"adef"), Some(33));
+    /// let items: [(&[u8], usize); 2] = [(b"ad", 22), (b"adef", 33)];
+    /// let trie = ZeroTrieSimpleAscii::try_from_sorted_slice(rt.alloc(), &items)?;
+    /// assert_eq!(rt; trie.get(b"adef"), Some(33));
     /// ```
     ///
-    /// Refused as `try_from_btree_map` is, `Unsorted` where the keys are not strictly ascending by their
-    /// bytes.
+    /// A build is refused with `Unsorted`, `NonAsciiError`, `MixedCase` (in the kind without case),
+    /// `CapacityExceeded` or `OutOfMemory`, each for the reason that `ZeroTrieBuildError` gives.
     pub fn try_from_sorted_slice(
         alloc: Global,
         items: &[(&[u8], usize)],
@@ -235,15 +252,16 @@ impl<K: AsciiKind> AsciiTrie<K, Vec<u8>> {
         Ok(AsciiTrie::from_store(store))
     }
 
-    /// Builds the trie of what an iterator gives, in any order, for nothing no bytes.
+    /// Builds the trie of all pairs that an iterator gives, in any order. An empty input gives an empty
+    /// trie.
     ///
     /// ```
-    /// let trie = ZeroTrieSimpleAscii::try_from_iter(alloc, [("xyz", 22), ("abc", 11)])?;
-    /// assert_eq!(trie.get(b"abc"), Some(11));
+    /// let trie = ZeroTrieSimpleAscii::try_from_iter(rt.alloc(), [("xyz", 22), ("abc", 11)])?;
+    /// assert_eq!(rt; trie.get(b"abc"), Some(11));
     /// ```
     ///
-    /// Refused as `try_from_btree_map` is, but for `Unsorted`, and besides `DuplicateKey` where one key
-    /// came twice.
+    /// A build is refused with `DuplicateKey`, `NonAsciiError`, `MixedCase` (in the kind without case),
+    /// `CapacityExceeded` or `OutOfMemory`, each for the reason that `ZeroTrieBuildError` gives.
     pub fn try_from_iter<Key: TrieKey + Drop, U: IntoIterator<Item = (Key, usize)>>(
         alloc: Global,
         iter: U,

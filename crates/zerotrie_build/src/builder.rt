@@ -102,11 +102,14 @@ fn items_of<K: TrieKey>(
 /// A builder of tries, which grows their bytes backwards in a store.
 ///
 /// ```
-/// let items = ByteSliceWithIndices::from_str_slice(&[("ad", 22), ("adef", 33)]);
-/// let options = ZeroTrieBuilderOptions::of::<Simple>();
-/// let builder: ZeroTrieBuilder<VecDeque<u8>> =
-///     ZeroTrieBuilder::from_sorted_tuple_slice(alloc, items, options)?;
-/// assert_eq!(builder.to_bytes(alloc)?.as_slice(), b"ad\x90\x06ef\x90\x11");
+/// let items = [("ad", 22), ("adef", 33)];
+/// let builder: ZeroTrieBuilder<VecDeque<u8>> = ZeroTrieBuilder::from_sorted_tuple_slice(
+///     rt.alloc(),
+///     ByteSliceWithIndices::from_str_slice(&items),
+///     ZeroTrieBuilderOptions::of::<Simple>(),
+/// )?;
+/// let bytes = builder.to_bytes(rt.alloc())?;
+/// assert_eq!(rt; bytes.as_slice(), b"ad\x90\x06ef\x90\x11".as_slice());
 /// ```
 #[derive(Debug, Drop)]
 pub struct ZeroTrieBuilder<S> {
@@ -115,17 +118,14 @@ pub struct ZeroTrieBuilder<S> {
 }
 
 impl<S: TrieBuilderStore + Drop> ZeroTrieBuilder<S> {
-    /// Builds the trie of the items, for no items no bytes.
+    /// Builds the trie of the items, whose keys ascend strictly by their bytes, in the kind without case too.
+    /// An empty input gives an empty trie.
     ///
-    /// The bytes mean the map of the items, and for a kind whose tables are sorted they are the map's one
-    /// text. Refused:
+    /// The bytes mean the map of the items, and for a kind whose tables are all sorted they are the map's
+    /// one text.
     ///
-    /// - `Unsorted` where the keys are not strictly ascending by their bytes, in a kind without case too,
-    /// - `NonAsciiError` where a key holds a byte of 128 or more, in a kind for ASCII alone,
-    /// - `MixedCase` where two keys agree in front up to case and not exactly, in the kind without case,
-    /// - `CapacityExceeded` where a branch needs 2^32 target bytes or more, in a kind whose offsets have
-    ///   at most four bytes, or the text has 2^64 bytes or more,
-    /// - `OutOfMemory` where a growth was refused.
+    /// A build is refused with `Unsorted`, `NonAsciiError`, `MixedCase`, `CapacityExceeded` or
+    /// `OutOfMemory`, each for the reason that `ZeroTrieBuildError` gives.
     pub fn from_sorted_tuple_slice(
         alloc: Global,
         items: ByteSliceWithIndices<'_>,
@@ -141,10 +141,11 @@ impl<S: TrieBuilderStore + Drop> ZeroTrieBuilder<S> {
         Ok(ZeroTrieBuilder { data })
     }
 
-    /// Builds the trie of what the iterator gives, in any order, for nothing no bytes.
+    /// Builds the trie of all pairs that the iterator gives, in any order. An empty input gives an empty
+    /// trie.
     ///
-    /// Refused as `from_sorted_tuple_slice` is, but for `Unsorted`, and besides `DuplicateKey` where one
-    /// key came twice.
+    /// A build is refused with `DuplicateKey`, `NonAsciiError`, `MixedCase`, `CapacityExceeded` or
+    /// `OutOfMemory`, each for the reason that `ZeroTrieBuildError` gives.
     pub fn from_bytes_iter<K: TrieKey + Drop, U: IntoIterator<Item = (K, usize)>>(
         alloc: Global,
         iter: U,
@@ -163,9 +164,7 @@ impl<S: TrieBuilderStore + Drop> ZeroTrieBuilder<S> {
         Ok(ZeroTrieBuilder { data })
     }
 
-    /// A copy of the bytes of the trie.
-    ///
-    /// Refused for want of memory alone.
+    /// A copy of the bytes of the trie. The only error is want of memory.
     pub fn to_bytes(&self, alloc: Global) -> Result<Vec<u8>, AllocError>
         ensures { IfOk result (λ bytes. bytes.items ≡ S.list self.now.data) }
     {

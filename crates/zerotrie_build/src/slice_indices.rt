@@ -10,8 +10,9 @@ use std::alloc::{AllocError, Global};
 /// A slice of items, each a key and its value, whose keys are bytes or text.
 ///
 /// ```
-/// let items = ByteSliceWithIndices::from_str_slice(&[("ad", 22), ("adef", 33)]);
-/// assert_eq!(items.get(1), (b"adef".as_slice(), 33));
+/// let items = [("ad", 22), ("adef", 33)];
+/// let items = ByteSliceWithIndices::from_str_slice(&items);
+/// assert_eq!(rt; items.get(1), (b"adef".as_slice(), 33));
 /// ```
 ///
 /// Every call answers as the list of pairs of key bytes and value, in the order of the slice. None but
@@ -73,7 +74,7 @@ impl<'a> ByteSliceWithIndices<'a> {
 
     /// The items with their keys as bytes, in memory of their own. The keys' bytes are not copied.
     ///
-    /// Refused for want of memory alone.
+    /// The only error is want of memory.
     pub fn to_vec_u8(self, alloc: Global) -> Result<Vec<(&'a [u8], usize)>, AllocError>
         ensures { IfOk result (λ items. pairs_of items.items ≡ pairs self.entry) }
     {

@@ -49,7 +49,7 @@ only_branch kind lead rest bytes e high none (literal c after) b = let is = (con
 only_branch kind lead rest bytes e high none (branch edges width behind) b = none edges width behind (subst (λ x. BeginsBranch kind x edges width behind) e b)
 
 -- what the number of a head says
-pub head_parts : (head w e : ℕ) → 1 ≤ w → 2 ≤ e → e ≤ 256 → head ≡ 256 * (w - 1) + e % 256 → (head / 256 + 1 ≡ w) × (head % 256 ≡ e % 256)
+head_parts : (head w e : ℕ) → 1 ≤ w → 2 ≤ e → e ≤ 256 → head ≡ 256 * (w - 1) + e % 256 → (head / 256 + 1 ≡ w) × (head % 256 ≡ e % 256)
 head_parts head w e some two most is = (omega arith, omega arith)
 
 pub head_read : {kind : Kind} (lead m head edges width : ℕ) (rest body behind : List ℕ) → BeginsWith 32 m head (lead ∷ rest) body → BeginsBranch kind (lead ∷ rest) edges width behind

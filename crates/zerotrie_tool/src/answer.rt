@@ -49,7 +49,8 @@ impl<'a> Session<'a> {
     }
 
     fn add(&mut self, value: usize, key: &'a [u8]) -> Result<(), AllocError>
-        ensures { OnOk result ((s : State) → Holds self.old s → Holds self.new (record s { pairs = s.pairs ++ (key.now, value) ∷ [] })) }
+        ensures { OnOk result ((s : State) → Holds self.old s →
+            Holds self.new (record s { pairs = s.pairs ++ (key.now, value) ∷ [] })) }
     {
         self.pairs.push((key, value))?;
         Ok(())
@@ -57,11 +58,12 @@ impl<'a> Session<'a> {
 
     /// Builds the trie. After an error it is empty.
     fn build(&mut self, alloc: Global) -> Result<(), ZeroTrieBuildError>
-        ensures answer { (s : State) → Holds self.old s →
-            IsBuild any_order (kind_of s.choice s.pairs) (λ _. trie_bytes self.new.trie) s.pairs result }
+        ensures answer { (s : State) → Holds self.old s → let kind = kind_of s.choice s.pairs in
+            IsBuild any_order kind (λ _. trie_bytes self.new.trie) s.pairs result }
         ensures built { OnOk result ((s : State) → Holds self.old s →
             Holds self.new (with_trie s.choice s.pairs (trie_bytes self.new.trie))) }
-        ensures emptied { OnErr result ((s : State) → Holds self.old s → Holds self.new (without_trie s.choice s.pairs)) }
+        ensures emptied { OnErr result ((s : State) → Holds self.old s →
+            Holds self.new (without_trie s.choice s.pairs)) }
     {
         self.trie = Trie::empty(alloc, self.choice);
         self.trie = Trie::build(alloc, self.choice, self.pairs.as_slice())?;
@@ -69,7 +71,8 @@ impl<'a> Session<'a> {
     }
 
     fn answer_build(&mut self, alloc: Global, output: &mut String) -> Result<Outcome, AllocError>
-        ensures { IfOk result (AfterRequest build self.old self.new (string_bytes output.old) (string_bytes output.new)) }
+        ensures { IfOk result (AfterRequest build self.old self.new
+            (string_bytes output.old) (string_bytes output.new)) }
     {
         match self.build(alloc) {
             Ok(()) => {
@@ -89,7 +92,8 @@ impl<'a> Session<'a> {
         request: Request<'a>,
         output: &mut String,
     ) -> Result<Outcome, AllocError>
-        ensures { IfOk result (AfterRequest (meaning request.entry) self.old self.new (string_bytes output.old) (string_bytes output.new)) }
+        ensures { IfOk result (AfterRequest (meaning request.entry) self.old self.new
+            (string_bytes output.old) (string_bytes output.new)) }
     {
         match request {
             Request::Kind(choice) => *self = Session::new(alloc, choice),
@@ -108,7 +112,8 @@ fn answer_line<'a>(
     line: &'a [u8],
     output: &mut String,
 ) -> Result<Outcome, AllocError>
-    ensures { IfOk result (AfterLine line.now held.old held.new (string_bytes output.old) (string_bytes output.new)) }
+    ensures { IfOk result (AfterLine line.now held.old held.new
+        (string_bytes output.old) (string_bytes output.new)) }
 {
     let Some(request) = parse(line) else {
         return Ok(Outcome::Bad);
@@ -133,7 +138,8 @@ fn split_lines(alloc: Global, input: &[u8]) -> Result<Vec<&[u8]>, AllocError>
 
 /// All answers to an input, up to the first bad line.
 pub fn answer_all(alloc: Global, input: &[u8]) -> Result<Answered, AllocError>
-    ensures { IfOk result (λ answered. Answers input.now (string_bytes answered.output) answered.status) }
+    ensures { IfOk result (λ answered.
+        Answers input.now (string_bytes answered.output) answered.status) }
 {
     let lines = split_lines(alloc, input)?;
     let mut held = None;

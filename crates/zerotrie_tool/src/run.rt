@@ -73,16 +73,17 @@ fn read_all<R: Read>(alloc: Global, reader: &mut Noted<R>) -> Result<Vec<u8>, Ru
 /// ```text
 /// kind simple     chooses a kind of trie, simple or ignore
 /// + 22 ad         adds a pair
-/// build           builds the trie of the pairs, and prints ok 4 61649006, the number of bytes and the bytes
+/// build           builds the trie of the pairs, and prints ok 4 61649006: its length and its bytes
 /// ? ad            prints 22, the number of the key, or none
 /// ```
 ///
 /// - An empty line is skipped and counted.
 /// - A second `kind` begins anew: without pairs, and with the empty trie.
-/// - A build takes all pairs since `kind`. One that is refused prints its reason, and leaves the empty trie.
-/// - Any other line is bad, and so is a line before the first `kind`. It ends the run with `bad line N`.
-/// - The status is 2 after a bad line, also where a build was refused before it. Else it is 1 where a build was
-///   refused, and 0 where none was.
+/// - A build takes all pairs since `kind`. A refused one prints its reason, and leaves the empty trie.
+/// - Any other line is bad, and before the first `kind` every line but an empty one is. `bad line N`
+///   ends the run.
+/// - The status is 2 after a bad line, even where a build was refused before. Else it is 1 where a
+///   build was refused, and 0 where none was.
 ///
 /// An error but `Write` has written nothing.
 pub fn run<R: Read, W: Write>(

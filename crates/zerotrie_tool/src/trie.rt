@@ -51,7 +51,8 @@ impl Trie {
         pairs: &[(&[u8], usize)],
     ) -> Result<Self, ZeroTrieBuildError>
         ensures kind { IfOk result (λ trie. trie_kind trie ≡ kind_of choice (pairs_of pairs.now)) }
-        ensures build { let pairs = pairs_of pairs.now in IsBuild any_order (kind_of choice pairs) trie_bytes pairs result }
+        ensures build { let added = pairs_of pairs.now in
+            IsBuild any_order (kind_of choice added) trie_bytes added result }
     {
         match choice {
             Choice::Simple => build_ascii(alloc, pairs).map(Trie::Simple),
@@ -71,7 +72,8 @@ impl Trie {
 
     /// The number of the key.
     pub fn get(&self, key: &[u8]) -> Option<usize>
-        ensures { let kind = trie_kind self.now in (m : Map) → Means kind (trie_bytes self.now) m → result ≡ look kind m key.now }
+        ensures { let kind = trie_kind self.now in
+            (m : Map) → Means kind (trie_bytes self.now) m → result ≡ look kind m key.now }
     {
         match self {
             Trie::Simple(trie) => trie.get(key),

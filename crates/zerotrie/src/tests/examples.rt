@@ -1,0 +1,88 @@
+//! The examples of the documentation.
+
+use super::*;
+use std::collections::VecDeque;
+use zerotrie_any::{bytes_from_iter, bytes_from_slice};
+use zerotrie_build::{ByteSliceWithIndices, ZeroTrieBuilder};
+
+#[test]
+fn bytes_are_looked_up_where_they_lie(rt: HostRuntime) -> Result<(), Fail> {
+    let trie = ZeroTrieSimpleAscii::from_bytes(b"abc\x85");
+    assert_eq!(rt; trie.get(b"abc"), Some(5));
+    assert_eq!(rt; trie.get(b"ab"), None);
+    let trie = ZeroTrieSimpleAscii::from_bytes(b"in\x83to\x84");
+    assert_eq!(rt; trie.get(b"into"), Some(4));
+    let trie = ZeroAsciiIgnoreCaseTrie::from_bytes(b"aBc\x85");
+    assert_eq!(rt; trie.get(b"abc"), Some(5));
+    assert_eq!(rt; trie.get(b"ABC"), Some(5));
+    assert_eq!(rt; trie.get(b"ab"), None);
+    Ok(())
+}
+
+#[test]
+fn stores_are_converted_and_copied(rt: HostRuntime) -> Result<(), Fail> {
+    let trie = ZeroTrieSimpleAscii::from_bytes(b"abc\x85");
+    assert_eq!(rt; trie.to_owned(rt.alloc())?.get(b"abc"), Some(5));
+    let shared: ZeroTrieSimpleAscii<CowSlice<'_, u8>> = trie.convert_store();
+    assert_eq!(rt; shared.get(b"abc"), Some(5));
+    Ok(())
+}
+
+#[test]
+fn tries_are_built_by_each_route(rt: HostRuntime) -> Result<(), Fail> {
+    let items: [(&[u8], usize); 2] = [(b"ad", 22), (b"adef", 33)];
+    let trie = ZeroTrieSimpleAscii::try_from_sorted_slice(rt.alloc(), &items)?;
+    assert_eq!(rt; trie.get(b"adef"), Some(33));
+    let trie = ZeroTrieSimpleAscii::try_from_iter(rt.alloc(), [("xyz", 22), ("abc", 11)])?;
+    assert_eq!(rt; trie.get(b"abc"), Some(11));
+    let mut map: BTreeMap<&str, usize> = BTreeMap::new(rt.alloc());
+    map.insert("ad", 22)?;
+    let trie = ZeroTrieSimpleAscii::try_from_btree_map_str(rt.alloc(), &map)?;
+    assert_eq!(rt; trie.get(b"ad"), Some(22));
+    Ok(())
+}
+
+#[test]
+fn keys_that_part_in_case_alone_are_put_in_lower_case(rt: HostRuntime) -> Result<(), Fail> {
+    let names = [("Accept-CH", 1), ("Accept-Charset", 2)];
+    let refused = ZeroAsciiIgnoreCaseTrie::try_from_iter(rt.alloc(), names).err();
+    assert!(rt; refused == Some(ZeroTrieBuildError::MixedCase));
+    let mut names = Vec::new(rt.alloc());
+    for (name, number) in [
+        ("Accept-CH", 1),
+        ("Accept-Charset", 2),
+        ("DAV", 3),
+        ("Date", 4),
+    ] {
+        names.push((name.to_ascii_lowercase(rt.alloc())?, number))?;
+    }
+    let trie = ZeroAsciiIgnoreCaseTrie::try_from_iter(rt.alloc(), names)?;
+    assert_eq!(rt; trie.get(b"Accept-CH"), Some(1));
+    assert_eq!(rt; trie.get(b"DATE"), Some(4));
+    Ok(())
+}
+
+#[test]
+fn bytes_are_built_by_each_route(rt: HostRuntime) -> Result<(), Fail> {
+    let bytes = bytes_from_slice::<Simple>(rt.alloc(), &[(b"ad", 22), (b"adef", 33)])?;
+    assert_eq!(rt; bytes.as_slice(), b"ad\x90\x06ef\x90\x11".as_slice());
+    let bytes = bytes_from_iter::<Simple, _, _>(rt.alloc(), [("adef", 33), ("ad", 22)])?;
+    assert_eq!(rt; bytes.as_slice(), b"ad\x90\x06ef\x90\x11".as_slice());
+    assert_eq!(rt; "ad".key_text(), "ad");
+    Ok(())
+}
+
+#[test]
+fn items_go_to_the_builder(rt: HostRuntime) -> Result<(), Fail> {
+    let items = [("ad", 22), ("adef", 33)];
+    let builder: ZeroTrieBuilder<VecDeque<u8>> = ZeroTrieBuilder::from_sorted_tuple_slice(
+        rt.alloc(),
+        ByteSliceWithIndices::from_str_slice(&items),
+        ZeroTrieBuilderOptions::of::<Simple>(),
+    )?;
+    let bytes = builder.to_bytes(rt.alloc())?;
+    assert_eq!(rt; bytes.as_slice(), b"ad\x90\x06ef\x90\x11".as_slice());
+    let items = ByteSliceWithIndices::from_str_slice(&items);
+    assert_eq!(rt; items.get(1), (b"adef".as_slice(), 33));
+    Ok(())
+}
