@@ -24,3 +24,8 @@ pub use Rattle.zerotrie_core.proofs.SizeLaws.{targets_each, edges_count}
 -- no two keys of a text are one to the kind, and what a look-up in its map answers
 pub use Rattle.zerotrie_core.proofs.CaseLemmas.{same_equiv, lists_apart, lists_found, same_answers}
 pub use Rattle.zerotrie_core.proofs.MapLemmas.{look-map_of}
+-- pairs with a run in front of each key
+pub use Rattle.zerotrie_core.proofs.SpanLemmas.{value_at-run, residual-run, residual-run_other, behind_run, edges_run, run_of-literal, run_of-value, run_of-many, run_of-run}
+-- the length of texts, by what stands first in them
+pub use Rattle.zerotrie_core.proofs.SizeLemmas.{size_none, size_value, size_literal, size_span, size_branch}
+pub use Rattle.zerotrie_core.proofs.SizeLaws.{listed_size}

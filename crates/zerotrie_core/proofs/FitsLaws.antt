@@ -7,13 +7,13 @@ use Rattle.std.specs.FinMap.Entries.{by_order}
 use Rattle.std.specs.Ordering.{nat_cmp}
 use Rattle.std.specs.Cmp.Lexicographic.{slice_cmp, nat_list_cmp_total}
 use Rattle.std.proofs.lemmas.Bool.Decides.{eqb_tells}
-use Rattle.zerotrie_core.specs.Kind.{Kind, IsAscii, edge_limit, greatest_width}
+use Rattle.zerotrie_core.specs.Kind.{Kind, edge_limit, greatest_width}
 use Rattle.zerotrie_core.specs.Maps.{Pairs, Map, map_of, with_front, edges, residual, behind_all, IsCaseConsistent}
 use Rattle.zerotrie_core.specs.Branches.{IsBranch}
 use Rattle.zerotrie_core.specs.Texts.{Lists, ListEach, Means}
 use Rattle.zerotrie_core.specs.Texts.Lists.{nothing, value, literal, span, branch}
 use Rattle.zerotrie_core.specs.Texts.ListEach.{no_edge, edge}
-use Rattle.zerotrie_core.specs.Fits.{targets_size, Fits}
+use Rattle.zerotrie_core.specs.Fits.{Fits}
 use Rattle.zerotrie_core.proofs.EdgeLemmas.{edges_front, edges_none, edges_value, residual-front, residual-other}
 use Rattle.zerotrie_core.proofs.TableLemmas.{Distinct, none_member, table_distinct}
 use Rattle.zerotrie_core.proofs.SameLemmas.{Same, same-edges, same-behind, same-targets}

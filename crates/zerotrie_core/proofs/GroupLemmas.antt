@@ -75,9 +75,6 @@ front_ascii b (e ∷ pairs) some h = h.0.0
 pub writes_nothing : (before : List ℕ) → Writes before before []
 writes_nothing before = record { text = []; lists = nothing; is = sym (bytes_end before) }
 
-pub leads_start : (before : List ℕ) (all : Pairs) → Ascends all → AsciiKeys all → Leads before all before all
-leads_start before all up ascii = record { finish = λ after w. w; wide = λ w. w; ascends = up; ascii = ascii; lighter = omega arith }
-
 -- a value node more
 pub leads_value : (before out out' spelling : List ℕ) (v : ℕ) (all left : Pairs) → Leads before all out (([], v) ∷ left) → SpellsAs value_form v spelling → out' ≡ out ++ spelling → Leads before all out' left
 leads_value before out out' spelling v all left l s e = record {

@@ -34,13 +34,6 @@ greatest_width_is ignore_case ascii = refl
 greatest_width_is perfect_hash ascii = absurd ascii
 greatest_width_is extended_capacity ascii = absurd ascii
 
--- an offset has at most eight bytes
-pub greatest_width_most : (kind : Kind) → greatest_width kind ≤ 7
-greatest_width_most simple_ascii = omega arith
-greatest_width_most ignore_case = omega arith
-greatest_width_most perfect_hash = omega arith
-greatest_width_most extended_capacity = omega arith
-
 -- the kinds over ASCII keys have neither spans nor hashed tables
 pub ascii_spanless : (kind : Kind) → IsAscii kind → has_spans kind ≡ false
 ascii_spanless simple_ascii ascii = refl

@@ -1,5 +1,5 @@
 -- The canonical text of a map that fits means it.
-use Rattle.std.proofs.Common.{◌≡◌, ℕ, zero, suc, ◌+◌, ◌^◌, ◌<◌, List, [], ◌∷◌, length, refl, sym, ◌∙◌, ap, subst, arith, map, Bool, true, false, eqb, cond, get_or, Option, Some, inl, inr, ◌⊎◌}
+use Rattle.std.proofs.Common.{◌≡◌, ℕ, suc, ◌^◌, ◌<◌, List, [], ◌∷◌, length, refl, sym, ◌∙◌, ap, subst, arith, Bool, true, false, cond, get_or, Option, Some, inl, inr, ◌⊎◌}
 use Rattle.std.specs.Prelude.{All, ◌==◌}
 use Rattle.std.specs.FinMap.{entries, same_map, get-entries, get-from_entries, slice_cmp-IsAntisymmetric, nat_cmp-IsAntisymmetric}
 use Rattle.std.specs.Cmp.Lexicographic.{nat_list_cmp_total}

@@ -41,12 +41,6 @@ pub span_no_branch : (n w : ℕ) (bytes after behind : List ℕ) → BeginsWith 
 span_no_branch n w [] after behind a b = some_bytes 16 5 n after a
 span_no_branch n w (lead ∷ rest) after behind a b = let low = span_begins n lead rest after a in let high = branch_begins w lead rest behind b in omega arith
 
--- where no byte is left there is no node
-pub none_empty : (kind : Kind) (bytes : List ℕ) → bytes ≡ [] → (s : Shape) → Begins kind bytes s → ⊥
-none_empty kind bytes e (value v rest) b = some_bytes 16 4 v rest (subst (λ x. BeginsWith 16 4 v x rest) e b)
-none_empty kind bytes e (literal c rest) b = let is = sym e ∙ b.1 in cc
-none_empty kind bytes e (branch edges width behind) b = some_bytes 32 3 _ behind (subst (λ x. BeginsWith 32 3 (256 * (width - 1) + edges % 256) x behind) e b.begins)
-
 -- by its lead it can only be a branch
 pub only_branch : (kind : Kind) (lead : ℕ) (rest bytes : List ℕ) → bytes ≡ lead ∷ rest → 192 ≤ lead
     → ((edges width : ℕ) (behind : List ℕ) → BeginsBranch kind (lead ∷ rest) edges width behind → ⊥) → (s : Shape) → Begins kind bytes s → ⊥

@@ -1,10 +1,10 @@
 -- A text is as long as the size of the pairs that it lists.
-use Rattle.std.proofs.Common.{◌≡◌, ℕ, ◌+◌, ◌*◌, ◌<◌, ◌≤◌, List, [], ◌∷◌, ◌++◌, length, refl, sym, ◌∙◌, ap, subst, arith, map, true, None, inl, length-append}
+use Rattle.std.proofs.Common.{◌≡◌, ℕ, ◌+◌, ◌≤◌, List, [], ◌∷◌, ◌++◌, length, refl, sym, ◌∙◌, ap, subst, arith, map, true, inl, length-append}
 use Rattle.std.specs.List.{concat}
 use Rattle.std.proofs.lemmas.List.{length-map}
 use Rattle.zerotrie_core.specs.Kind.{Kind, sorted_by}
-use Rattle.zerotrie_core.specs.Numbers.{value_form, span_form, spelled_as}
-use Rattle.zerotrie_core.specs.Maps.{Pairs, with_front, with_run, edges, residual, run_of}
+use Rattle.zerotrie_core.specs.Numbers.{value_form, span_form}
+use Rattle.zerotrie_core.specs.Maps.{Pairs, edges, residual, run_of}
 use Rattle.zerotrie_core.specs.Branches.{IsBranch, total, branch_front, table_size}
 use Rattle.zerotrie_core.specs.Texts.{Lists, ListEach, NoSpanFirst}
 use Rattle.zerotrie_core.specs.Texts.Lists.{nothing, value, literal, span, branch}

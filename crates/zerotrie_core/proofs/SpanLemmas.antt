@@ -1,12 +1,11 @@
 -- Pairs with a run of bytes in front of each key, and what a span begins with.
-use Rattle.std.proofs.Common.{◌≡◌, ℕ, zero, suc, ◌+◌, ◌*◌, ◌<◌, ◌≤◌, List, [], ◌∷◌, ◌++◌, length, refl, sym, ◌∙◌, ap, subst, arith, inl, inr, Bool, true, false, cond, eqb, Option, Some, None, leb}
-use Rattle.std.specs.Prelude.{◌||◌, is_some}
+use Rattle.std.proofs.Common.{◌≡◌, ℕ, zero, suc, ◌<◌, ◌≤◌, List, [], ◌∷◌, ◌++◌, length, refl, sym, ◌∙◌, ap, subst, arith, inl, inr, Bool, true, false, cond, Option, Some, None, leb}
+use Rattle.std.specs.Prelude.{is_some}
 use Rattle.std.specs.Option.{option_map_or}
-use Rattle.std.specs.List.{AllByRecursion}
 use Rattle.std.proofs.lemmas.Bool.{eq-eqb, ne_eqb, cases_eq, le-leb, lt-leb}
-use Rattle.zerotrie_core.specs.Kind.{Kind, simple_ascii, fold_byte, same_byte}
-use Rattle.zerotrie_core.specs.Maps.{Pairs, with_front, with_run, after_run, value_at, begins_some, edges, residual, behind_all, longest, high_edge, run_to, run_of}
-use Rattle.zerotrie_core.specs.Texts.{AreHigh, NoValueFirst, NoSpanFirst}
+use Rattle.zerotrie_core.specs.Kind.{Kind, simple_ascii, fold_byte}
+use Rattle.zerotrie_core.specs.Maps.{Pairs, with_front, with_run, after_run, value_at, edges, residual, behind_all, longest, high_edge, run_to, run_of}
+use Rattle.zerotrie_core.specs.Texts.{AreHigh}
 use Rattle.zerotrie_core.proofs.EdgeLemmas.{edges_front, residual-front, residual-other}
 use Rattle.zerotrie_core.proofs.KindLemmas.{one_fold, two_folds}
 use Rattle.zerotrie_core.proofs.ValueLemmas.{value_at-front, value_at-other, value_at-no_key}

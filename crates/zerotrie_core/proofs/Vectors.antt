@@ -4,7 +4,7 @@ use Rattle.std.specs.Prelude.{All}
 use Rattle.std.specs.List.Sorted.{IsStrictlyIncreasing}
 use Rattle.zerotrie_base.specs.Hashes.{place_of}
 use Rattle.zerotrie_core.specs.Kind.{Kind, simple_ascii, perfect_hash}
-use Rattle.zerotrie_core.specs.Numbers.{Spells, spelled}
+use Rattle.zerotrie_core.specs.Numbers.{spelled}
 use Rattle.zerotrie_core.specs.Maps.{Pairs, edges, residual, run_of}
 use Rattle.zerotrie_core.specs.Branches.{IsBranch, IsTable, width}
 use Rattle.zerotrie_core.specs.Branches.IsTable.{sorted, hashed}
@@ -13,16 +13,17 @@ use Rattle.zerotrie_core.specs.Texts.Lists.{nothing, value, span, branch}
 use Rattle.zerotrie_core.specs.Texts.ListEach.{no_edge, edge}
 use Rattle.zerotrie_core.specs.Canonical.{enc_to, size_to}
 
-row2 : Pairs
-row2 = ([], 11) ∷ (97 ∷ 100 ∷ [], 22) ∷ (97 ∷ 100 ∷ 101 ∷ 102 ∷ [], 33) ∷ (97 ∷ 100 ∷ 103 ∷ 104 ∷ 107 ∷ [], 44) ∷ []
+-- the empty key, and keys that go on from one another
+example : Pairs
+example = ([], 11) ∷ (97 ∷ 100 ∷ [], 22) ∷ (97 ∷ 100 ∷ 101 ∷ 102 ∷ [], 33) ∷ (97 ∷ 100 ∷ 103 ∷ 104 ∷ 107 ∷ [], 44) ∷ []
 
-row2_enc : enc_to 6 simple_ascii row2 ≡ 0x8B ∷ 0x61 ∷ 0x64 ∷ 0x90 ∷ 0x06 ∷ 0xC2 ∷ 0x65 ∷ 0x67 ∷ 0x03 ∷ 0x66 ∷ 0x90 ∷ 0x11 ∷ 0x68 ∷ 0x6B ∷ 0x90 ∷ 0x1C ∷ []
-unfolding row2 spelled width edges
-row2_enc = refl
+example_enc : enc_to 6 simple_ascii example ≡ 0x8B ∷ 0x61 ∷ 0x64 ∷ 0x90 ∷ 0x06 ∷ 0xC2 ∷ 0x65 ∷ 0x67 ∷ 0x03 ∷ 0x66 ∷ 0x90 ∷ 0x11 ∷ 0x68 ∷ 0x6B ∷ 0x90 ∷ 0x1C ∷ []
+unfolding example spelled width edges
+example_enc = refl
 
-row2_size : size_to 6 simple_ascii row2 ≡ 16
-unfolding row2 spelled width edges
-row2_size = refl
+example_size : size_to 6 simple_ascii example ≡ 16
+unfolding example spelled width edges
+example_size = refl
 
 top : spelled 16 0 18446744073709551615 ≡ 0x11 ∷ 0xEF ∷ 0xEF ∷ 0xEF ∷ 0xEF ∷ 0xEF ∷ 0xEF ∷ 0xEF ∷ 0xEF ∷ 0x6F ∷ []
 unfolding spelled

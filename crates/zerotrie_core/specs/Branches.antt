@@ -26,8 +26,10 @@ blocks (suc w) numbers = map (λ o. o / 256 ^ w % 256) numbers ++ blocks w numbe
 
 -- the search table of a branch with these edges, in the order of its targets
 pub data IsTable (kind : Kind) : List ℕ → List ℕ → Type 0 where
-  sorted : {edges : List ℕ} → is_hashed kind (length edges) ≡ false → IsStrictlyIncreasing (map (fold_byte kind) edges) → IsTable kind edges edges
-  hashed : {p : ℕ} {qs edges : List ℕ} → is_hashed kind (length edges) ≡ true → IsPerfect p qs edges → IsTable kind edges (p ∷ (qs ++ edges))
+  sorted : {edges : List ℕ} → is_hashed kind (length edges) ≡ false
+      → IsStrictlyIncreasing (map (fold_byte kind) edges) → IsTable kind edges edges
+  hashed : {p : ℕ} {qs edges : List ℕ} → is_hashed kind (length edges) ≡ true
+      → IsPerfect p qs edges → IsTable kind edges (p ∷ (qs ++ edges))
 
 -- how long the search table of a branch of so many edges is
 abbrev pub table_size : Kind → ℕ → ℕ

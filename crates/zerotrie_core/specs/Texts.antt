@@ -25,15 +25,22 @@ mutual
   -- The bytes are a text of the kind, and list these pairs in this order.
   pub data Lists (kind : Kind) : List ℕ → Pairs → Type 0 where
     nothing : Lists kind [] []
-    value : {v : ℕ} {spelling rest : List ℕ} {pairs : Pairs} → SpellsAs value_form v spelling → NoValueFirst rest → Lists kind rest pairs → Lists kind (spelling ++ rest) (([], v) ∷ pairs)
-    literal : {b : ℕ} {rest : List ℕ} {pairs : Pairs} → b < 128 → rest ≢ [] → Lists kind rest pairs → Lists kind (b ∷ rest) (with_front b pairs)
-    span : {spelling rest : List ℕ} {pairs : Pairs} (run : List ℕ) → has_spans kind ≡ true → run ≢ [] → AreHigh run → SpellsAs span_form (length run) spelling → rest ≢ [] → NoSpanFirst rest → Lists kind rest pairs → Lists kind (spelling ++ (run ++ rest)) (with_run run pairs)
-    branch : {edges : List ℕ} {targets : List (List ℕ)} {bytes : List ℕ} {pairs : Pairs} → IsBranch kind edges targets bytes → ListEach kind edges targets pairs → Lists kind bytes pairs
+    value : {v : ℕ} {spelling rest : List ℕ} {pairs : Pairs} → SpellsAs value_form v spelling
+        → NoValueFirst rest → Lists kind rest pairs → Lists kind (spelling ++ rest) (([], v) ∷ pairs)
+    literal : {b : ℕ} {rest : List ℕ} {pairs : Pairs} → b < 128
+        → rest ≢ [] → Lists kind rest pairs → Lists kind (b ∷ rest) (with_front b pairs)
+    span : {spelling rest : List ℕ} {pairs : Pairs} (run : List ℕ) → has_spans kind ≡ true
+        → run ≢ [] → AreHigh run → SpellsAs span_form (length run) spelling
+        → rest ≢ [] → NoSpanFirst rest → Lists kind rest pairs → Lists kind (spelling ++ (run ++ rest)) (with_run run pairs)
+    branch : {edges : List ℕ} {targets : List (List ℕ)} {bytes : List ℕ} {pairs : Pairs}
+        → IsBranch kind edges targets bytes → ListEach kind edges targets pairs → Lists kind bytes pairs
 
   -- Each edge has one target, a text that is not empty. The pairs are those of the targets, each with its edge byte in front.
   pub data ListEach (kind : Kind) : List ℕ → List (List ℕ) → Pairs → Type 0 where
     no_edge : ListEach kind [] [] []
-    edge : {e : ℕ} {edges target : List ℕ} {targets : List (List ℕ)} {pairs more : Pairs} → target ≢ [] → Lists kind target pairs → ListEach kind edges targets more → ListEach kind (e ∷ edges) (target ∷ targets) (with_front e pairs ++ more)
+    edge : {e : ℕ} {edges target : List ℕ} {targets : List (List ℕ)} {pairs more : Pairs}
+        → target ≢ [] → Lists kind target pairs → ListEach kind edges targets more
+        → ListEach kind (e ∷ edges) (target ∷ targets) (with_front e pairs ++ more)
 
 -- The bytes mean the map.
 pub record Means (kind : Kind) (bytes : List ℕ) (m : Map) : Type 0 where
