@@ -22,6 +22,11 @@
 //!
 //! A look-up takes no memory and copies nothing. A build answers the one text of the map, whichever way
 //! the pairs came, so tries of one map have equal bytes.
+//!
+//! A crate that stands on `zerotrie` alone can state and prove contracts over it. `Rattle.zerotrie.specs`
+//! has the definitions that the library's clauses cite. Of the lemmas, `Rattle.zerotrie.proofs.Builds` says
+//! what a build over an iterator is of the list behind it, and `Rattle.zerotrie.proofs.Lookups` what a
+//! look-up answers by the pairs alone. `laws` has the laws of texts and maps.
 #![tactic(auto)]
 
 #[cfg(test)]
