@@ -1,19 +1,20 @@
 -- What lies behind a byte of a node.
 use Rattle.std.proofs.Common.{◌≡◌, ℕ, zero, suc, ◌+◌, ◌-◌, ◌*◌, ◌<◌, ◌≤◌, List, [], ◌∷◌, length, sym, ◌∙◌, ap, subst, arith, Some, None, get_or, take, drop}
 use Rattle.std.specs.Borrow.{Bor}
-use Rattle.zerotrie_core.specs.Kind.{Kind, IsAscii, fold_byte}
+use Rattle.zerotrie_core.specs.Kind.{Kind, fold_byte}
+use Rattle.zerotrie_core.specs.Branches.{IsTable}
 use Rattle.zerotrie_core.specs.Maps.{Pairs, value_at, residual}
 use Rattle.zerotrie_core.specs.Texts.{Lists}
 use Rattle.zerotrie_core.specs.Nodes.{IsTargetResult}
 use Rattle.zerotrie_core.specs.Nodes.Shape.{literal, branch}
 use Rattle.zerotrie_core.specs.Cursors.{met, edge_like}
-use Rattle.zerotrie_core.specs.reader.Reading.{AlwaysRises, IsPlace, HasNoPlace}
+use Rattle.zerotrie_core.specs.reader.Reading.{IsPlace, HasNoPlace}
 use Rattle.zerotrie_core.specs.reader.Going.{Goes, Stops, AlwaysGoes, AlwaysStops}
-use Rattle.zerotrie_core.proofs.KindLemmas.{ascii_sorted}
-use Rattle.zerotrie_core.proofs.TableLemmas.{NoneLike, Each-at, rises_at, table_rises}
+use Rattle.zerotrie_core.proofs.TableLemmas.{NoneLike, Each-at}
 use Rattle.zerotrie_core.proofs.EachLemmas.{like_none, like_some, each_none, each_behind, met_each}
 use Rattle.zerotrie_core.proofs.BranchLemmas.{target_is}
-use Rattle.zerotrie_core.proofs.OpenLemmas.{Opens, held_edge, literal_opens, branch_opens, ascii_held}
+use Rattle.zerotrie_core.proofs.NodeLemmas.{dropped}
+use Rattle.zerotrie_core.proofs.OpenLemmas.{Opens, held_edge, literal_opens, branch_opens}
 
 -- behind an edge stands its target, and a byte that is no edge leads nowhere
 pub opens_goes : {kind : Kind} {bytes : List ℕ} {pairs : Pairs} {edges : List ℕ} {targets : List (List ℕ)} (text : Lists kind bytes pairs) → (o : Opens text edges targets)
@@ -45,36 +46,29 @@ literal_along kind b c rest same bytes pairs text begins = opens_goes text (lite
 pub literal_past : (kind : Kind) (b c : ℕ) (rest : List ℕ) → (fold_byte kind b ≡ fold_byte kind c → ⊥) → AlwaysStops kind (literal b rest) c
 literal_past kind b c rest other bytes pairs text begins = opens_stops text (literal_opens text b rest begins.0 begins.1) c (λ same. other (sym same), tt)
 
--- a branch with a sorted table: the place of an edge, and what its target is read as
-module _ (kind : Kind) (ascii : IsAscii kind) (n w : ℕ) (behind : List ℕ) (c : ℕ) where
-  pub follow_goes : (place : ℕ) (target : Bor (List ℕ)) → IsPlace kind n behind c place → IsTargetResult n w behind place (Some target) → AlwaysGoes kind (branch n w behind) c (get_or behind place 0) target.now
+-- a branch: the place of an edge, and what its target is read as
+module _ (kind : Kind) (n w : ℕ) (table behind : List ℕ) (c : ℕ) where
+  pub follow_goes : (place : ℕ) (target : Bor (List ℕ)) → IsPlace kind n behind c place → IsTargetResult n w behind place (Some target) → AlwaysGoes kind (branch n w table behind) c (get_or behind place 0) target.now
   follow_goes place target is got bytes pairs text begins =
-      let o = branch_opens text n w behind begins in
-      let held = ascii_held n w behind ascii o.holds in
-      let here = held_edge held place is.0 in
-      let count = held.count in
+      let o = branch_opens text n w table behind begins in
+      let here = held_edge o.holds place is.0 in
+      let count = o.holds.count in
       let g = opens_goes text o.opens c place (omega arith) (ap (fold_byte kind) here ∙ is.1) in
       subst (λ b. Goes text c b target.now) here
-      (subst (λ t. Goes text c (get_or o.edges place 0) t) (sym (target_is held.has_targets place (Some target) is.0 got)) g)
+      (subst (λ t. Goes text c (get_or o.edges place 0) t) (sym (target_is o.holds.has_targets place (Some target) is.0 got)) g)
 
-  pub follow_some : (place : ℕ) → place < n → IsTargetResult n w behind place None → AlwaysStops kind (branch n w behind) c
-  follow_some place h got bytes pairs text begins = absurd (target_is (ascii_held n w behind ascii (branch_opens text n w behind begins).holds).has_targets place None h got)
+  pub follow_some : (place : ℕ) → place < n → IsTargetResult n w behind place None → AlwaysStops kind (branch n w table behind) c
+  follow_some place h got bytes pairs text begins = absurd (target_is (branch_opens text n w table behind begins).holds.has_targets place None h got)
 
-  pub follow_stops : (AlwaysRises kind (take n behind) → HasNoPlace kind n behind c) → AlwaysStops kind (branch n w behind) c
+  pub follow_stops : (IsTable kind (take n behind) table → HasNoPlace kind n behind c) → AlwaysStops kind (branch n w table behind) c
   follow_stops none bytes pairs text begins =
-      let o = branch_opens text n w behind begins in
-      let held = ascii_held n w behind ascii o.holds in
-      let count = held.count in
-      let up = subst (AlwaysRises kind) (sym held.edges_are) (rises_at kind o.edges (table_rises (ascii_sorted kind ascii (length o.edges)) held.is_table)) in
+      let o = branch_opens text n w table behind begins in
+      let count = o.holds.count in
+      let is_table = subst (λ es. IsTable kind es table) (sym o.holds.edges_are) o.holds.is_table in
       opens_stops text o.opens c (Each-at (λ e. fold_byte kind c ≡ fold_byte kind e → ⊥) o.edges (λ k h e. (
       let inside : k < n = omega arith in
-      none up k inside (ap (fold_byte kind) (sym (held_edge held k inside)) ∙ sym e)
+      none is_table k inside (ap (fold_byte kind) (sym (held_edge o.holds k inside)) ∙ sym e)
       )))
-
-dropped : (n : ℕ) (xs : List ℕ) → length (drop n xs) ≤ length xs
-dropped zero xs = omega arith
-dropped (suc n) [] = omega arith
-dropped (suc n) (x ∷ xs) = let h = dropped n xs in omega arith
 
 -- a target is no longer than what stands behind the head
 pub target_shorter : (n w : ℕ) (behind : List ℕ) (place : ℕ) (r : Bor (List ℕ)) → IsTargetResult n w behind place (Some r) → length r.now ≤ length behind

@@ -1,7 +1,8 @@
 -- What a kind says of two bytes, and what the kinds over ASCII keys and those with spans have in common.
-use Rattle.std.proofs.Common.{◌≡◌, ℕ, ◌≤◌, true, false, refl, arith}
+use Rattle.std.proofs.Common.{◌≡◌, ℕ, ◌≤◌, true, false, cond, leb, refl, arith}
+use Rattle.std.specs.Prelude.{◌&&◌}
 use Rattle.std.proofs.lemmas.Bool.{eq-eqb, ne_eqb}
-use Rattle.zerotrie_core.specs.Kind.{Kind, simple_ascii, ignore_case, perfect_hash, extended_capacity, IsAscii, same_byte, fold_byte, edge_limit, greatest_width, is_hashed, has_spans}
+use Rattle.zerotrie_core.specs.Kind.{Kind, simple_ascii, ignore_case, perfect_hash, extended_capacity, flags, IsAscii, same_byte, fold_byte, edge_limit, greatest_width, is_hashed, has_spans}
 
 pub one_fold : (kind : Kind) (a b : ℕ) → fold_byte kind a ≡ fold_byte kind b → same_byte kind a b ≡ true
 one_fold kind a b e = eq-eqb (fold_byte kind a) (fold_byte kind b) e
@@ -67,3 +68,22 @@ spans_limit simple_ascii h = absurd (cc)
 spans_limit ignore_case h = absurd (cc)
 spans_limit perfect_hash h = refl
 spans_limit extended_capacity h = refl
+
+-- what the options say
+pub hashed_by : (kind : Kind) (n : ℕ) → is_hashed kind n ≡ ((flags kind).use_phf && leb 16 n)
+hashed_by simple_ascii n = refl
+hashed_by ignore_case n = refl
+hashed_by perfect_hash n = refl
+hashed_by extended_capacity n = refl
+
+pub spans_by : (kind : Kind) → has_spans kind ≡ (flags kind).spans
+spans_by simple_ascii = refl
+spans_by ignore_case = refl
+spans_by perfect_hash = refl
+spans_by extended_capacity = refl
+
+pub widest_by : (kind : Kind) → greatest_width kind ≡ cond (flags kind).extended 7 3
+widest_by simple_ascii = refl
+widest_by ignore_case = refl
+widest_by perfect_hash = refl
+widest_by extended_capacity = refl

@@ -1,10 +1,11 @@
 -- Which node bytes begin with.
-use Rattle.std.proofs.Common.{◌≡◌, ℕ, ◌+◌, ◌-◌, ◌*◌, ◌/◌, ◌%◌, ◌<◌, ◌≤◌, List, [], ◌∷◌, ◌++◌, length, sym, ◌∙◌, ap, subst, arith}
-use Rattle.zerotrie_core.specs.Kind.{Kind, IsAscii}
+use Rattle.std.proofs.Common.{◌≡◌, ℕ, zero, suc, ◌+◌, ◌-◌, ◌*◌, ◌/◌, ◌%◌, ◌<◌, ◌≤◌, List, [], ◌∷◌, ◌++◌, length, sym, ◌∙◌, ap, subst, arith, true, drop, length-append}
+use Rattle.zerotrie_core.specs.Kind.{Kind, has_spans}
+use Rattle.zerotrie_core.specs.Branches.{before_edges}
 use Rattle.zerotrie_core.specs.Numbers.{BeginsWith, extender}
-use Rattle.zerotrie_core.specs.Nodes.{Shape, Begins, BeginsBranch}
-use Rattle.zerotrie_core.specs.Nodes.Shape.{value, literal, branch}
-use Rattle.zerotrie_core.proofs.KindLemmas.{greatest_width_is}
+use Rattle.zerotrie_core.specs.Nodes.{Shape, Begins, BeginsSpan, BeginsBranch}
+use Rattle.zerotrie_core.specs.Nodes.Shape.{value, literal, span, branch}
+use Rattle.zerotrie_core.proofs.KindLemmas.{greatest_width_most}
 use Rattle.zerotrie_core.proofs.NumberLemmas.{cons_parts, extender_one, some_bytes, one_reading, after_shorter}
 
 -- the lead of a spelling
@@ -41,30 +42,61 @@ pub span_no_branch : (n w : ℕ) (bytes after behind : List ℕ) → BeginsWith 
 span_no_branch n w [] after behind a b = some_bytes 16 5 n after a
 span_no_branch n w (lead ∷ rest) after behind a b = let low = span_begins n lead rest after a in let high = branch_begins w lead rest behind b in omega arith
 
+-- where no byte is left there is no node
+pub none_empty : (kind : Kind) (bytes : List ℕ) → bytes ≡ [] → (s : Shape) → Begins kind bytes s → ⊥
+none_empty kind bytes e (value v rest) b = some_bytes 16 4 v rest (subst (λ x. BeginsWith 16 4 v x rest) e b)
+none_empty kind bytes e (literal c rest) b = let is = sym e ∙ b.1 in cc
+none_empty kind bytes e (span run rest) b = some_bytes 16 5 (length run) (run ++ rest) (subst (λ x. BeginsSpan x run rest) e b.1)
+none_empty kind bytes e (branch edges width table behind) b = some_bytes 32 3 _ b.body (subst (λ x. BeginsWith 32 3 (256 * (width - 1) + edges % 256) x b.body) e b.begins)
+
 -- by its lead it can only be a branch
 pub only_branch : (kind : Kind) (lead : ℕ) (rest bytes : List ℕ) → bytes ≡ lead ∷ rest → 192 ≤ lead
-    → ((edges width : ℕ) (behind : List ℕ) → BeginsBranch kind (lead ∷ rest) edges width behind → ⊥) → (s : Shape) → Begins kind bytes s → ⊥
+    → ((edges width : ℕ) (table behind : List ℕ) → BeginsBranch kind (lead ∷ rest) edges width table behind → ⊥) → (s : Shape) → Begins kind bytes s → ⊥
 only_branch kind lead rest bytes e high none (value v after) b = let is = value_begins v lead rest after (subst (λ x. BeginsWith 16 4 v x after) e b) in omega arith
 only_branch kind lead rest bytes e high none (literal c after) b = let is = (cons_parts lead c rest after (sym e ∙ b.1)).0 in let low = b.0 in omega arith
-only_branch kind lead rest bytes e high none (branch edges width behind) b = none edges width behind (subst (λ x. BeginsBranch kind x edges width behind) e b)
+only_branch kind lead rest bytes e high none (span run after) b = let is = span_begins (length run) lead rest (run ++ after) (subst (λ x. BeginsSpan x run after) e b.1) in omega arith
+only_branch kind lead rest bytes e high none (branch edges width table behind) b = none edges width table behind (subst (λ x. BeginsBranch kind x edges width table behind) e b)
+
+-- or only a span
+pub only_span : (kind : Kind) (lead : ℕ) (rest bytes : List ℕ) → bytes ≡ lead ∷ rest → 160 ≤ lead → lead < 192
+    → (has_spans kind ≡ true → (run after : List ℕ) → BeginsSpan (lead ∷ rest) run after → ⊥) → (s : Shape) → Begins kind bytes s → ⊥
+only_span kind lead rest bytes e low high none (value v after) b = let is = value_begins v lead rest after (subst (λ x. BeginsWith 16 4 v x after) e b) in omega arith
+only_span kind lead rest bytes e low high none (literal c after) b = let is = (cons_parts lead c rest after (sym e ∙ b.1)).0 in let small = b.0 in omega arith
+only_span kind lead rest bytes e low high none (span run after) b = none b.0 run after (subst (λ x. BeginsSpan x run after) e b.1)
+only_span kind lead rest bytes e low high none (branch edges width table behind) b =
+    let is = branch_begins _ lead rest b.body (subst (λ x. BeginsWith 32 3 (256 * (width - 1) + edges % 256) x b.body) e b.begins) in
+    omega arith
 
 -- what the number of a head says
 head_parts : (head w e : ℕ) → 1 ≤ w → 2 ≤ e → e ≤ 256 → head ≡ 256 * (w - 1) + e % 256 → (head / 256 + 1 ≡ w) × (head % 256 ≡ e % 256)
 head_parts head w e some two most is = (omega arith, omega arith)
 
-pub head_read : {kind : Kind} (lead m head edges width : ℕ) (rest body behind : List ℕ) → BeginsWith 32 m head (lead ∷ rest) body → BeginsBranch kind (lead ∷ rest) edges width behind
-    → (head / 256 + 1 ≡ width) × (head % 256 ≡ edges % 256) × (body ≡ behind)
-head_read lead m head edges width rest body behind r b =
-    let one = one_reading 32 m 3 head _ (lead ∷ rest) body behind r b.begins in
+pub head_read : {kind : Kind} (lead m head edges width : ℕ) (rest body table behind : List ℕ) → BeginsWith 32 m head (lead ∷ rest) body → (b : BeginsBranch kind (lead ∷ rest) edges width table behind)
+    → (head / 256 + 1 ≡ width) × (head % 256 ≡ edges % 256) × (body ≡ b.body)
+head_read lead m head edges width rest body table behind r b =
+    let one = one_reading 32 m 3 head _ (lead ∷ rest) body b.body r b.begins in
     let parts = head_parts head width edges b.some b.two b.at_most one.0 in
     (parts.0, parts.1, one.1)
 
-pub narrow : {kind : Kind} {bytes : List ℕ} (edges width : ℕ) (behind : List ℕ) → IsAscii kind → BeginsBranch kind bytes edges width behind → width ≤ 4
-narrow {kind = kind} edges width behind ascii b = let g = greatest_width_is kind ascii in let f = b.fits in omega arith
+-- a head has at most two bytes
+pub small_head : {kind : Kind} {bytes : List ℕ} (edges width : ℕ) (table behind : List ℕ) → BeginsBranch kind bytes edges width table behind → 256 * (width - 1) + edges % 256 < 4128
+small_head {kind = kind} edges width table behind b = let g = greatest_width_most kind in let f = b.fits in omega arith
+
+pub dropped : (n : ℕ) (xs : List ℕ) → length (drop n xs) ≤ length xs
+dropped zero xs = omega arith
+dropped (suc n) [] = omega arith
+dropped (suc n) (x ∷ xs) = let h = dropped n xs in omega arith
 
 -- what lies behind a node is shorter than the bytes
 pub literal_shorter : (kind : Kind) (c : ℕ) (rest bytes : List ℕ) → Begins kind bytes (literal c rest) → length rest < length bytes
 literal_shorter kind c rest bytes b = omega (arith, ap length b.1)
 
-pub branch_shorter : (kind : Kind) (edges width : ℕ) (behind bytes : List ℕ) → Begins kind bytes (branch edges width behind) → length behind < length bytes
-branch_shorter kind edges width behind bytes b = after_shorter 32 3 _ bytes behind b.begins
+pub span_shorter : (kind : Kind) (run rest bytes : List ℕ) → Begins kind bytes (span run rest) → length rest < length bytes
+span_shorter kind run rest bytes b = let all = after_shorter 16 5 _ bytes (run ++ rest) b.1 in let parts = length-append run rest in omega arith
+
+pub branch_shorter : (kind : Kind) (edges width : ℕ) (table behind bytes : List ℕ) → Begins kind bytes (branch edges width table behind) → length behind < length bytes
+branch_shorter kind edges width table behind bytes b =
+    let all = after_shorter 32 3 _ bytes b.body b.begins in
+    let rest = dropped (before_edges kind edges) b.body in
+    let is = ap length b.behind_is in
+    omega arith

@@ -1,16 +1,21 @@
 -- A look-up against the grammar, node by node.
-use Rattle.std.proofs.Common.{◌≡◌, ℕ, ◌+◌, ◌<◌, List, [], ◌∷◌, length, refl, sym, ◌∙◌, ap, subst, arith, Option, Some, None}
-use Rattle.zerotrie_core.specs.Kind.{Kind, IsAscii}
-use Rattle.zerotrie_core.specs.Maps.{Pairs, value_at}
-use Rattle.zerotrie_core.specs.Texts.{Lists}
+use Rattle.std.proofs.Common.{◌≡◌, ℕ, ◌+◌, ◌<◌, List, [], ◌∷◌, ◌++◌, length, refl, sym, ◌∙◌, ap, subst, arith, Option, Some, None}
+use Rattle.std.specs.Option.{option_map_or}
+use Rattle.std.proofs.lemmas.Bool.{eq-eqb}
+use Rattle.zerotrie_core.specs.Kind.{Kind}
+use Rattle.zerotrie_core.specs.Maps.{Pairs, value_at, after_run}
+use Rattle.zerotrie_core.specs.Texts.{Lists, nodes}
 use Rattle.zerotrie_core.specs.Nodes.{Shape, Begins}
-use Rattle.zerotrie_core.specs.Nodes.Shape.{value, literal, branch}
+use Rattle.zerotrie_core.specs.Nodes.Shape.{value, literal, span, branch}
 use Rattle.zerotrie_core.specs.reader.Reading.{Finds, Comes, AlwaysFinds, AlwaysComes}
 use Rattle.zerotrie_core.specs.reader.Going.{AlwaysGoes, AlwaysStops}
 use Rattle.zerotrie_core.specs.reader.Descending.{NodeEnds, NodeGoes}
 use Rattle.zerotrie_core.proofs.NumberLemmas.{after_shorter}
+use Rattle.zerotrie_core.proofs.KindLemmas.{spans_fold}
+use Rattle.zerotrie_core.proofs.NodeLemmas.{span_shorter}
+use Rattle.zerotrie_core.proofs.SpanLemmas.{after_is, value_at-run}
 use Rattle.zerotrie_core.proofs.ValueLemmas.{behind_none}
-use Rattle.zerotrie_core.proofs.OpenLemmas.{Opens, value_opens, literal_opens, branch_opens, no_node}
+use Rattle.zerotrie_core.proofs.OpenLemmas.{Opens, HasSpan, value_opens, literal_opens, span_opens, branch_opens, no_node}
 
 -- the key ends at a node: only a value answers
 opens_ends : {kind : Kind} {bytes : List ℕ} {pairs : Pairs} {edges : List ℕ} {targets : List (List ℕ)} (text : Lists kind bytes pairs) → Opens text edges targets → Finds text [] None 1
@@ -24,8 +29,8 @@ value_ends kind v rest key e bytes begins pairs text =
 pub literal_ends : (kind : Kind) (b : ℕ) (rest key : List ℕ) → key ≡ [] → NodeEnds kind (literal b rest) key None
 literal_ends kind b rest key e bytes begins pairs text = subst (λ k. Finds text k None 1) (sym e) (opens_ends text (literal_opens text b rest begins.0 begins.1))
 
-pub branch_ends : (kind : Kind) (n w : ℕ) (behind key : List ℕ) → key ≡ [] → NodeEnds kind (branch n w behind) key None
-branch_ends kind n w behind key e bytes begins pairs text = subst (λ k. Finds text k None 1) (sym e) (opens_ends text (branch_opens text n w behind begins).opens)
+pub branch_ends : (kind : Kind) (n w : ℕ) (table behind key : List ℕ) → key ≡ [] → NodeEnds kind (branch n w table behind) key None
+branch_ends kind n w table behind key e bytes begins pairs text = subst (λ k. Finds text k None 1) (sym e) (opens_ends text (branch_opens text n w table behind begins).opens)
 
 -- a key that goes on passes over a value
 pub value_goes : (kind : Kind) (v : ℕ) (rest key : List ℕ) → (length key ≡ 0 → ⊥) → NodeGoes kind (value v rest) key rest key
@@ -37,6 +42,45 @@ value_goes kind v rest (c ∷ key) some bytes begins = (
       record { below = h.below; inner = h.inner; answers = ap (λ p. value_at kind p (c ∷ key)) h.is; counts = h.counts c key }
       ),
 )
+
+-- it goes on behind the run of a span
+after_run-append : (run after : List ℕ) → after_run run (run ++ after) ≡ Some after
+after_run-append [] after = refl
+after_run-append (b ∷ run) after = rw (eq-eqb b b refl) (after_run-append run after)
+
+after_run-none : (run key : List ℕ) → ((after : List ℕ) → key ≡ run ++ after → ⊥) → after_run run key ≡ None
+after_run-none run key none = by (after_run run key) refl
+  where
+    by : (o : Option (List ℕ)) → after_run run key ≡ o → after_run run key ≡ None
+    by None e = e
+    by (Some after) e = absurd (none after (after_is run key after e))
+
+-- a span is found or passed by what the key has behind its run
+module _ {kind : Kind} {bytes : List ℕ} {pairs : Pairs} (text : Lists kind bytes pairs) (run rest : List ℕ) (h : HasSpan text run rest) (key : List ℕ) (o : Option (List ℕ)) (e : after_run run key ≡ o) where
+  span_answers : value_at kind pairs key ≡ option_map_or (λ after. value_at kind h.below after) o None
+  span_answers =
+      ap (λ p. value_at kind p key) h.is
+      ∙ value_at-run kind (spans_fold kind h.spans) run h.below key
+      ∙ ap (λ x. option_map_or (λ after. value_at kind h.below after) x None) e
+
+  span_counts : nodes text key ≡ 1 + option_map_or (λ after. nodes h.inner after) o 0
+  span_counts = h.counts key ∙ ap (λ x. 1 + option_map_or (λ after. nodes h.inner after) x 0) e
+
+pub span_goes : (kind : Kind) (run rest key after : List ℕ) → key ≡ run ++ after → NodeGoes kind (span run rest) key rest after
+span_goes kind run rest key after e bytes begins = (
+  span_shorter kind run rest bytes begins,
+  λ pairs text. (
+      let h = span_opens text run rest begins.1 in
+      let there = ap (after_run run) e ∙ after_run-append run after in
+      record { below = h.below; inner = h.inner; answers = span_answers text run rest h key (Some after) there; counts = span_counts text run rest h key (Some after) there }
+      ),
+)
+
+pub span_ends : (kind : Kind) (run rest key : List ℕ) → ((after : List ℕ) → key ≡ run ++ after → ⊥) → NodeEnds kind (span run rest) key None
+span_ends kind run rest key none bytes begins pairs text =
+    let h = span_opens text run rest begins.1 in
+    let gone = after_run-none run key none in
+    record { answers = span_answers text run rest h key None gone; counts = span_counts text run rest h key None gone }
 
 -- and goes by its next byte elsewhere
 pub node_ends : (kind : Kind) (s : Shape) (c : ℕ) (key after : List ℕ) → key ≡ c ∷ after → AlwaysStops kind s c → NodeEnds kind s key None
@@ -74,10 +118,10 @@ finds_at_end kind bytes key trie rest answer count came ends pairs text =
     record { answers = c.answers ∙ e.answers; counts = omega arith }
 
 -- where no node begins, nothing is found
-pub finds_nothing : (kind : Kind) → IsAscii kind → (bytes key trie rest : List ℕ) (count : ℕ) → AlwaysComes kind bytes key trie rest count → ((s : Shape) → Begins kind trie s → ⊥) → AlwaysFinds kind bytes key None count
-finds_nothing kind ascii bytes key trie rest count came none pairs text =
+pub finds_nothing : (kind : Kind) (bytes key trie rest : List ℕ) (count : ℕ) → AlwaysComes kind bytes key trie rest count → ((s : Shape) → Begins kind trie s → ⊥) → AlwaysFinds kind bytes key None count
+finds_nothing kind bytes key trie rest count came none pairs text =
     let c = came pairs text in
-    let empty = no_node ascii c.inner none in
+    let empty = no_node c.inner none in
     let zero' = empty.counts rest in
     let all = c.counts in
     record { answers = c.answers ∙ ap (λ p. value_at kind p rest) empty.is; counts = omega arith }

@@ -1,15 +1,15 @@
 -- The table of a branch: its edges have distinct folds, and where it is sorted they rise.
-use Rattle.std.proofs.Common.{◌≡◌, ℕ, zero, suc, ◌+◌, ◌%◌, ◌<◌, ◌≤◌, List, [], ◌∷◌, ◌++◌, length, refl, sym, ◌∙◌, ap, subst, arith, get_or, map, false, cond, drop, length-append}
+use Rattle.std.proofs.Common.{◌≡◌, ℕ, zero, suc, ◌+◌, ◌*◌, ◌%◌, ◌<◌, ◌≤◌, List, [], ◌∷◌, ◌++◌, length, refl, sym, ◌∙◌, ap, subst, arith, get_or, map, Bool, true, false, cond, drop, length-append}
 use Rattle.std.specs.List.{slice_index}
 use Rattle.std.proofs.lemmas.List.{drop_at}
 use Rattle.std.specs.List.Sorted.{IsStrictlyIncreasing}
 use Rattle.std.proofs.lemmas.Bool.{ne_eqb}
-use Rattle.zerotrie_core.specs.Kind.{Kind, IsAscii, fold_byte, is_hashed}
-use Rattle.zerotrie_core.specs.Branches.{IsTable, table_size}
+use Rattle.zerotrie_core.specs.Kind.{Kind, fold_byte, is_hashed}
+use Rattle.zerotrie_core.specs.Branches.{IsTable, table_size, before_edges}
 use Rattle.zerotrie_core.specs.Branches.IsTable.{sorted, hashed}
 use Rattle.zerotrie_base.specs.Hashes.{place_of}
 use Rattle.zerotrie_core.specs.reader.Reading.{AlwaysRises}
-use Rattle.zerotrie_core.proofs.KindLemmas.{ascii_sorted, hashed_spans, spans_fold}
+use Rattle.zerotrie_core.proofs.KindLemmas.{hashed_spans, spans_fold}
 use Rattle.zerotrie_core.proofs.EdgeLemmas.{member}
 
 -- each has the property
@@ -119,23 +119,20 @@ pub length-table : {kind : Kind} {edges table : List ℕ} → IsTable kind edges
 length-table (sorted plain up) = rw plain refl
 length-table {edges = es} (hashed {qs = qs} wide perfect) = let n = perfect.a_q_each in let all = length-append qs es in rw wide (omega arith)
 
--- how many bytes of the table of n edges stand before them
-pub before_edges : Kind → ℕ → ℕ
-before_edges kind n = cond (is_hashed kind n) (n + 1) 0
-
-pub before_ascii : (kind : Kind) → IsAscii kind → (n : ℕ) → before_edges kind n ≡ 0
-unfolding before_edges
-before_ascii kind ascii n = rw (ascii_sorted kind ascii n) refl
-
 -- the edges are the last bytes of the table
 pub edges_of_table : {kind : Kind} {edges table : List ℕ} → IsTable kind edges table → drop (before_edges kind (length edges)) table ≡ edges
-unfolding before_edges
 edges_of_table (sorted plain up) = rw plain refl
 edges_of_table {edges = es} (hashed {p = p} {qs = qs} wide perfect) =
     let n = perfect.a_q_each in
     rw wide (ap (λ k. drop k (p ∷ (qs ++ es))) (let one : length es + 1 ≡ suc (length qs) = omega arith in one) ∙ drop_at qs es (length qs) refl)
 
 pub before_within : {kind : Kind} {edges table : List ℕ} → IsTable kind edges table → before_edges kind (length edges) ≤ length table
-unfolding before_edges
 before_within (sorted plain up) = rw plain (omega arith)
 before_within {edges = es} (hashed {qs = qs} wide perfect) = let n = perfect.a_q_each in let all = length-append qs es in rw wide (omega arith)
+
+pub table_parts : (kind : Kind) (n : ℕ) → before_edges kind n + n ≡ table_size kind n
+table_parts kind n = both (is_hashed kind n)
+  where
+    both : (b : Bool) → cond b (n + 1) 0 + n ≡ cond b (2 * n + 1) n
+    both true = omega arith
+    both false = omega arith

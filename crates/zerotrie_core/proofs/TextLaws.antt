@@ -7,7 +7,6 @@ use Rattle.zerotrie_core.specs.Texts.Lists.{nothing, value, literal, span, branc
 use Rattle.zerotrie_core.specs.Texts.ListEach.{no_edge, edge}
 use Rattle.zerotrie_core.proofs.BranchLemmas.{HasTargets, target_between}
 use Rattle.zerotrie_core.proofs.CanonLaws.{nil_end}
-use Rattle.zerotrie_core.proofs.NumberLemmas.{cons_parts}
 use Rattle.zerotrie_core.proofs.OpenLemmas.{is_begun, is_held, value_opens, literal_opens, span_opens, branch_opens, nothing_listed}
 
 from_places : (ts us : List (List ℕ)) → length ts ≡ length us → ((i : ℕ) → i < length ts → get_or ts i [] ≡ get_or us i []) → ts ≡ us
@@ -36,16 +35,6 @@ first_of (edge {pairs = p} {more = m} n text each) = record { below = p; inner =
 none_of : {kind : Kind} {pairs : Pairs} → ListEach kind [] [] pairs → pairs ≡ []
 none_of no_edge = refl
 
--- two lists of one length in front of others
-same_parts : (xs ys more more' : List ℕ) → length xs ≡ length ys → xs ++ more ≡ ys ++ more' → (xs ≡ ys) × (more ≡ more')
-same_parts [] [] more more' n e = (refl, e)
-same_parts [] (y ∷ ys) more more' n e = absurd (omega arith)
-same_parts (x ∷ xs) [] more more' n e = absurd (omega arith)
-same_parts (x ∷ xs) (y ∷ ys) more more' n e =
-    let heads = cons_parts x y (xs ++ more) (ys ++ more') e in
-    let rest = same_parts xs ys more more' (omega arith) heads.1 in
-    (ap (λ z. z ∷ xs) heads.0 ∙ ap (λ zs. y ∷ zs) rest.0, rest.1)
-
 join_pairs : (e : ℕ) (xs ys more more' : Pairs) → xs ≡ ys → more ≡ more' → with_front e xs ++ more ≡ with_front e ys ++ more'
 join_pairs e xs ys more more' p q = ap (λ x. with_front e x ++ more) p ∙ ap (λ x. with_front e ys ++ x) q
 
@@ -59,16 +48,13 @@ mutual
       let o = literal_opens text' b rest low refl in
       let f = first_of o.each in
       sym (nil_end (with_front b p)) ∙ join_pairs b p f.below [] f.more (listed_once text f.inner) (sym (none_of f.later)) ∙ sym f.is ∙ sym o.same
-  listed_once {kind = kind} (span {spelling = spelling} {rest = rest} {pairs = p} run h some high s n f text) text' =
-      let o = span_opens text' (length run) (run ++ rest) (record { spelling = spelling; spells = s; bytes_are = refl }) in
-      let parts = same_parts run o.run rest o.rest (sym o.long) o.after_is in
-      ap (λ x. with_run x p) parts.0
-      ∙ ap (with_run o.run) (listed_once text (subst (λ x. Lists kind x o.below) (sym parts.1) o.inner))
-      ∙ sym o.is
+  listed_once (span {spelling = spelling} {rest = rest} run h some high s n f text) text' =
+      let o = span_opens text' run rest (record { spelling = spelling; spells = s; bytes_are = refl }) in
+      ap (with_run run) (listed_once text o.inner) ∙ sym o.is
   listed_once {kind = kind} (branch {edges = edges} {targets = targets} b each) text' =
       let begun = is_begun b in
-      let o = branch_opens text' (length edges) (b.width + 1) _ begun in
-      let own = is_held (length edges) (b.width + 1) _ b begun in
+      let o = branch_opens text' (length edges) (b.width + 1) _ _ begun in
+      let own = is_held (length edges) (b.width + 1) _ _ b begun in
       let edges_same : o.edges ≡ edges = sym o.holds.edges_are ∙ own.edges_are in
       let targets_same : o.targets ≡ targets = same_targets (length edges) (b.width + 1) _ o.targets targets o.holds.has_targets own.has_targets in
       each_once each (subst (λ es. ListEach kind es targets o.opens.all) edges_same (subst (λ ts. ListEach kind o.edges ts o.opens.all) targets_same o.opens.each)) ∙ sym o.opens.same

@@ -35,6 +35,10 @@ pub data IsTable (kind : Kind) : List ℕ → List ℕ → Type 0 where
 abbrev pub table_size : Kind → ℕ → ℕ
 table_size kind n = if is_hashed kind n then 2 * n + 1 else n
 
+-- how many bytes of it stand in front of the edges
+abbrev pub before_edges : Kind → ℕ → ℕ
+before_edges kind n = if is_hashed kind n then n + 1 else 0
+
 -- w is the least with n below 256 ^ (w + 1)
 pub record IsWidth (n w : ℕ) : Type 0 where
   pub enough : n < 256 ^ (w + 1)

@@ -1,33 +1,44 @@
 -- The nodes of a text, and what lies behind them.
 use Rattle.std.proofs.Common.{zero, suc}
-use Rattle.std.specs.Prelude.{◌≡◌, ℕ, ◌+◌, ◌-◌, ◌*◌, ◌%◌, ◌<◌, ◌≤◌, ◌==◌, List, ◌∷◌, length, slice_index, take, drop, if◌then◌else◌, Option}
+use Rattle.std.specs.Prelude.{◌≡◌, ℕ, ◌+◌, ◌-◌, ◌*◌, ◌%◌, ◌<◌, ◌≤◌, ◌==◌, List, ◌∷◌, ◌++◌, length, true, slice_index, take, drop, if◌then◌else◌, Option}
 use Rattle.std.specs.Borrow.{Bor}
 use Rattle.std.specs.Slice.{IsGetRangeResult}
-use Rattle.zerotrie_core.specs.Kind.{Kind, greatest_width}
+use Rattle.zerotrie_core.specs.Kind.{Kind, greatest_width, has_spans}
 use Rattle.zerotrie_core.specs.Numbers.{BeginsWith}
+use Rattle.zerotrie_core.specs.Branches.{table_size, before_edges}
 
 pub data Shape : Type 0 where
   -- a value, and what follows it
   value : ℕ → List ℕ → Shape
   -- a byte that all keys go on with, and what follows it
   literal : ℕ → List ℕ → Shape
-  -- how many edges a branch has, how many bytes an offset has, and all bytes from the edges on
-  branch : ℕ → ℕ → List ℕ → Shape
+  -- a run of bytes that all keys go on with, and what follows it
+  span : List ℕ → List ℕ → Shape
+  -- how many edges a branch has, how many bytes an offset has, its search table, and all bytes from the edges on
+  branch : ℕ → ℕ → List ℕ → List ℕ → Shape
 
--- The bytes are the head of a branch and what stands behind it, which has all edges and offsets.
-pub record BeginsBranch (kind : Kind) (bytes : List ℕ) (edges width : ℕ) (behind : List ℕ) : Type 0 where
+-- the bytes are the length of a run, the run, and the rest
+abbrev pub BeginsSpan : List ℕ → List ℕ → List ℕ → Type 0
+BeginsSpan bytes run rest = BeginsWith 16 5 (length run) bytes (run ++ rest)
+
+-- The bytes are the head of a branch and its body, which has its search table, that ends with the edges, and all offsets.
+pub record BeginsBranch (kind : Kind) (bytes : List ℕ) (edges width : ℕ) (table behind : List ℕ) : Type 0 where
   pub two : 2 ≤ edges
   pub at_most : edges ≤ 256
   pub some : 1 ≤ width
   pub fits : width ≤ greatest_width kind + 1
-  pub begins : BeginsWith 32 3 (256 * (width - 1) + edges % 256) bytes behind
-  pub holds : edges + width * (edges - 1) ≤ length behind
+  pub body : List ℕ
+  pub begins : BeginsWith 32 3 (256 * (width - 1) + edges % 256) bytes body
+  pub table_is : table ≡ take (table_size kind edges) body
+  pub behind_is : behind ≡ drop (before_edges kind edges) body
+  pub holds : table_size kind edges + width * (edges - 1) ≤ length body
 
 -- the bytes begin with this node
 abbrev pub Begins : Kind → List ℕ → Shape → Type 0
 Begins kind bytes (value v rest) = BeginsWith 16 4 v bytes rest
 Begins kind bytes (literal b rest) = (b < 128) × (bytes ≡ b ∷ rest)
-Begins kind bytes (branch edges width behind) = BeginsBranch kind bytes edges width behind
+Begins kind bytes (span run rest) = (has_spans kind ≡ true) × BeginsSpan bytes run rest
+Begins kind bytes (branch edges width table behind) = BeginsBranch kind bytes edges width table behind
 
 -- the targets of a branch, one after another
 abbrev pub targets_behind : ℕ → ℕ → List ℕ → List ℕ

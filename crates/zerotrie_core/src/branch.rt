@@ -4,13 +4,15 @@
 //! has an offset for each edge but the first, where its target begins: the highest bytes of all of them
 //! first, then the next, and so on.
 
-ghost use Rattle.std.specs.Prelude.{◌≡◌, ℕ, ◌+◌, ◌-◌, ◌*◌, ◌<◌, ◌≤◌, length, take, IfSome, IfNone, slice_index};
-ghost use Rattle.zerotrie_core.specs.Kind.{IsAscii, fold_byte};
+ghost use Rattle.std.specs.Prelude.{◌≡◌, ℕ, ◌+◌, ◌-◌, ◌*◌, ◌<◌, ◌≤◌, length, take, drop, IfSome, IfNone, slice_index};
+ghost use Rattle.zerotrie_core.specs.Kind.{fold_byte};
+ghost use Rattle.zerotrie_core.specs.Branches.{IsTable};
 ghost use Rattle.zerotrie_core.specs.Nodes.{number_from, IsTargetResult};
 ghost use Rattle.zerotrie_core.specs.reader.Reading.{AlwaysRises, IsPlace, HasNoPlace};
 ghost use Rattle.zerotrie_core.specs.reader.Going.{AlwaysGoes, AlwaysStops};
 
 use crate::options::ZeroTrieWithOptions;
+use zerotrie_base::PerfectByteHashMap;
 
 /// The byte as the kind compares it: an ASCII letter in lower case where case is ignored, and else itself.
 #[inline(always)]
@@ -93,15 +95,19 @@ fn offset_at(table: &[u8], place: usize, count: usize, width: usize) -> usize
     value
 }
 
-/// A branch: how many edges it has, how many bytes an offset has, and all bytes from the edges on.
+/// A branch: how many edges it has, how many bytes an offset has, its search table, and all bytes from the
+/// edges on, which are the last bytes of the table.
 #[derive(Clone, Copy)]
 pub struct Branch<'a> {
     pub edges: usize,
     pub width: usize,
+    pub table: &'a [u8],
     pub behind: &'a [u8],
     ghost some: { (2 ≤ edges) × (edges ≤ 256) },
     ghost narrow: { (1 ≤ width) × (width ≤ 8) },
     ghost whole: { edges + width * (edges - 1) ≤ length behind.now },
+    ghost ends: { drop (length table.now - edges) table.now ≡ take edges behind.now },
+    ghost sized: { edges < length table.now → length table.now ≡ 2 * edges + 1 },
 }
 
 impl<'a> Branch<'a> {
@@ -120,11 +126,15 @@ impl<'a> Branch<'a> {
     #[inline(always)]
     pub fn place_of<K: ZeroTrieWithOptions>(&self, byte: u8) -> Option<usize>
         ensures some { IfSome result (IsPlace K.kind self.now.edges self.now.behind.now byte) }
-        ensures none { IfNone result (AlwaysRises K.kind (take self.now.edges self.now.behind.now)
-            → HasNoPlace K.kind self.now.edges self.now.behind.now byte) }
+        ensures none { IfNone result
+            (IsTable K.kind (take self.now.edges self.now.behind.now) self.now.table.now
+                → HasNoPlace K.kind self.now.edges self.now.behind.now byte) }
     {
-        let (table, _) = self.behind.split_at(self.edges);
-        place_in::<K>(table, byte)
+        if K::USE_PHF && self.table.len() > self.edges {
+            return PerfectByteHashMap::from_bytes(self.table).get(byte);
+        }
+        let (edges, _) = self.behind.split_at(self.edges);
+        place_in::<K>(edges, byte)
     }
 
     /// The target of an edge, which lies between two offsets, if it does.
@@ -148,7 +158,6 @@ impl<'a> Branch<'a> {
     /// The edge that is the byte to the kind, and its target.
     #[inline(always)]
     pub fn follow<K: ZeroTrieWithOptions>(&self, byte: u8) -> Option<(u8, &'a [u8])>
-        requires { IsAscii K.kind }
         ensures shorter { IfSome result (λ r. length r.1.now ≤ length self.now.behind.now) }
         ensures some { IfSome result (λ r.
             AlwaysGoes K.kind (branch_shape self.now) byte r.0 r.1.now) }

@@ -1,9 +1,10 @@
 //! The first node of a text, as a value.
 
 ghost use Rattle.std.specs.Prelude.{◌≡◌, ℕ, ◌+◌, ◌-◌, ◌*◌, ◌/◌, ◌%◌, ◌<◌, ◌≤◌, List, length, IfSome, IfNone, ◌∷◌};
-ghost use Rattle.zerotrie_core.specs.Kind.{IsAscii};
+ghost use Rattle.zerotrie_core.specs.Kind.{greatest_width};
+ghost use Rattle.zerotrie_core.specs.Branches.{before_edges};
 ghost use Rattle.zerotrie_core.specs.Numbers.{BeginsWith};
-ghost use Rattle.zerotrie_core.specs.Nodes.{Shape, Begins, BeginsBranch};
+ghost use Rattle.zerotrie_core.specs.Nodes.{Shape, Begins, BeginsSpan, BeginsBranch};
 ghost use Rattle.zerotrie_core.specs.Shapes.{shape, branch_shape};
 
 use crate::branch::Branch;
@@ -16,6 +17,8 @@ pub enum Node<'a> {
     Value(usize, &'a [u8]),
     /// A byte that all keys go on with, and what follows it.
     Literal(u8, &'a [u8]),
+    /// A run of bytes that all keys go on with, and what follows it.
+    Span(&'a [u8], &'a [u8]),
     /// A branch.
     Branch(Branch<'a>),
 }
@@ -42,32 +45,73 @@ fn read_head(lead: u8, rest: &[u8]) -> Option<(usize, &[u8])>
     }
 }
 
-/// The branch that begins with a lead, where the bytes behind it have all its edges and offsets.
+/// The greatest width field of a branch.
+#[inline(always)]
+fn greatest_width<K: ZeroTrieWithOptions>() -> usize
+    ensures { result ≡ greatest_width K.kind }
+{
+    if K::EXTENDED { 7 } else { 3 }
+}
+
+/// How many bytes of the search table of a branch stand in front of its edges.
+#[inline(always)]
+fn before_edges<K: ZeroTrieWithOptions>(edges: usize) -> usize
+    requires { edges ≤ 256 }
+    ensures { result ≡ before_edges K.kind edges }
+{
+    if K::USE_PHF && edges >= 16 {
+        edges + 1
+    } else {
+        0
+    }
+}
+
+/// The branch that begins with a lead, where the bytes behind it have all its table and offsets.
 #[inline(always)]
 fn branch_at<K: ZeroTrieWithOptions>(lead: u8, rest: &[u8]) -> Option<Branch<'_>>
-    requires ascii { IsAscii K.kind }
-    requires lead { 192 ≤ lead }
+    requires { 192 ≤ lead }
     ensures some { IfSome result (λ b. Begins K.kind (lead ∷ rest.now) (branch_shape b)) }
-    ensures none { IfNone result ((edges width : ℕ) (behind : List ℕ)
-        → BeginsBranch K.kind (lead ∷ rest.now) edges width behind → ⊥) }
+    ensures none { IfNone result ((edges width : ℕ) (table behind : List ℕ)
+        → BeginsBranch K.kind (lead ∷ rest.now) edges width table behind → ⊥) }
 {
-    let (head, behind) = read_head(lead, rest)?;
+    let (head, body) = read_head(lead, rest)?;
     let width = head / 256;
     let edges = if head % 256 == 0 { 256 } else { head % 256 };
-    if width > 3 || edges < 2 || behind.len() < edges + (width + 1) * (edges - 1) {
+    let before = before_edges::<K>(edges);
+    if width > greatest_width::<K>() || edges < 2 {
         return None;
     }
+    if body.len() < before + edges + (width + 1) * (edges - 1) {
+        return None;
+    }
+    let (table, _) = body.split_at(before + edges);
+    let (_, behind) = body.split_at(before);
     Some(Branch {
         edges,
         width: width + 1,
+        table,
         behind,
     })
+}
+
+/// The run of the span that begins with a lead, and what follows it, where the bytes have all of the run.
+#[inline(always)]
+fn span_at(lead: u8, rest: &[u8]) -> Option<(&[u8], &[u8])>
+    requires { (160 ≤ lead) × (lead < 192) }
+    ensures some { IfSome result (λ r. BeginsSpan (lead ∷ rest.now) r.0.now r.1.now) }
+    ensures none { IfNone result ((run after : List ℕ)
+        → BeginsSpan (lead ∷ rest.now) run after → ⊥) }
+{
+    let (len, behind) = read_varint_meta3(lead, rest)?;
+    if behind.len() < len {
+        return None;
+    }
+    Some(behind.split_at(len))
 }
 
 /// The first node of the bytes. `None` exactly where no node of the kind begins.
 #[inline(always)]
 pub fn first_node<K: ZeroTrieWithOptions>(bytes: &[u8]) -> Option<Node<'_>>
-    requires { IsAscii K.kind }
     ensures some { IfSome result (λ node. Begins K.kind bytes.now (shape node)) }
     ensures none { IfNone result ((s : Shape) → Begins K.kind bytes.now s → ⊥) }
 {
@@ -79,7 +123,11 @@ pub fn first_node<K: ZeroTrieWithOptions>(bytes: &[u8]) -> Option<Node<'_>>
         let (value, after) = read_varint_meta3(lead, rest)?;
         Some(Node::Value(value, after))
     } else if lead < 192 {
-        None
+        if !K::SPANS {
+            return None;
+        }
+        let (run, after) = span_at(lead, rest)?;
+        Some(Node::Span(run, after))
     } else {
         Some(Node::Branch(branch_at::<K>(lead, rest)?))
     }

@@ -1,12 +1,11 @@
 //! Looking up a key in the bytes of a trie, where they lie.
 //!
 //! The look-up goes from node to node with the key in hand. It passes over value nodes until the key is used
-//! up, and then a value node is its answer. A literal has to be the next byte of the key, and a branch leads
-//! on by that byte; where the kind ignores case, an ASCII letter is the same byte in either case. Bytes that
+//! up, and then a value node is its answer. A literal has to be the next byte of the key, a span the next
+//! bytes, and a branch leads on by the next byte; where the kind ignores case, an ASCII letter is the same byte in either case. Bytes that
 //! are no trie get some answer, and nothing outside them is read.
 
 ghost use Rattle.std.specs.Prelude.{◌≡◌, ℕ, ◌+◌, ◌<◌, ◌≤◌, length};
-ghost use Rattle.zerotrie_core.specs.Kind.{IsAscii};
 ghost use Rattle.zerotrie_core.specs.Maps.{Map, look};
 ghost use Rattle.zerotrie_core.specs.Texts.{Means, nodes};
 ghost use Rattle.zerotrie_core.specs.Shapes.{shape};
@@ -27,7 +26,6 @@ enum Descent<'a> {
 /// Goes behind one node.
 #[inline(always)]
 fn descend<'a, K: ZeroTrieWithOptions>(node: Node<'a>, key: &'a [u8]) -> Descent<'a>
-    requires { IsAscii K.kind }
     ensures { Descends K.kind (shape node.entry) key.now result }
 {
     match node {
@@ -47,6 +45,10 @@ fn descend<'a, K: ZeroTrieWithOptions>(node: Node<'a>, key: &'a [u8]) -> Descent
                     Descent::Answer(None)
                 }
             }
+        },
+        Node::Span(run, rest) => match key.strip_prefix(run) {
+            None => Descent::Answer(None),
+            Some(after) => Descent::Down(rest, after),
         },
         Node::Branch(branch) => match key.split_first() {
             None => Descent::Answer(None),
@@ -74,7 +76,6 @@ fn descend<'a, K: ZeroTrieWithOptions>(node: Node<'a>, key: &'a [u8]) -> Descent
 /// It returns on any bytes, and takes no memory. On bytes that mean a map the first part is the key's value
 /// in that map. A key of n bytes makes it read at most 2n + 1 nodes.
 pub fn get_counted<K: ZeroTrieWithOptions>(bytes: &[u8], key: &[u8]) -> (Option<usize>, usize)
-    requires { IsAscii K.kind }
     ensures value { (m : Map) → Means K.kind bytes.now m → result.0 ≡ look K.kind m key.now }
     ensures count { (m : Map) (means : Means K.kind bytes.now m) → result.1 ≡ nodes means.lists key.now }
 {

@@ -1,10 +1,12 @@
-use Rattle.std.proofs.Common.{arith, sym, ◌∙◌}
+use Rattle.std.proofs.Common.{arith, sym, ◌∙◌, Some, None}
 use Rattle.std.proofs.lemmas.List.{nil_from_length}
 use Rattle.std.proofs.lemmas.Bool.{eqb-true, eqb-false}
+use Rattle.std.proofs.lemmas.Bool.Decides.{Decides-eqb}
+use Rattle.std.proofs.lemmas.Slice.Eq.{strip_prefix_is}
 use Rattle.zerotrie_core.specs.Nodes.Shape.{literal, branch}
 use Rattle.zerotrie_core.proofs.NodeLemmas.{literal_shorter, branch_shorter}
 use Rattle.zerotrie_core.proofs.GoingLemmas.{literal_along, literal_past}
-use Rattle.zerotrie_core.proofs.ReaderLemmas.{value_ends, value_goes, literal_ends, branch_ends, node_ends, node_goes}
+use Rattle.zerotrie_core.proofs.ReaderLemmas.{value_ends, value_goes, literal_ends, span_ends, span_goes, branch_ends, node_ends, node_goes}
 use Rattle.zerotrie_core.proofs.reader.descend.Goals as goal
 
 pub returns-then-is_empty : goal.returns-then-is_empty
@@ -37,13 +39,13 @@ returns-else-folded g c =
 pub returns-in-None-split_first : goal.returns-in-None-split_first
 returns-in-None-split_first g c =
     let b = c.in-Branch.branch in
-    rw c.in-Branch.is (branch_ends g.K.ZeroTrieWithOptions.kind b.edges b.width b.behind.now c.args.key.now (nil_from_length c.args.key.now c.in-None-split_first.ensures.cases))
+    rw c.in-Branch.is (branch_ends g.K.ZeroTrieWithOptions.kind b.edges b.width b.table.now b.behind.now c.args.key.now (nil_from_length c.args.key.now c.in-None-split_first.ensures.cases))
 
 pub returns-in-None-follow : goal.returns-in-None-follow
 returns-in-None-follow g c =
     let b = c.in-Branch.branch in
     rw c.in-Branch.is
-    (node_ends g.K.ZeroTrieWithOptions.kind (branch b.edges b.width b.behind.now) c.in-Some-split_first.byte.now c.args.key.now c.in-Some-split_first.after.now c.in-Some-split_first.ensures.cases.0 c.in-None-follow.ensures.none)
+    (node_ends g.K.ZeroTrieWithOptions.kind (branch b.edges b.width b.table.now b.behind.now) c.in-Some-split_first.byte.now c.args.key.now c.in-Some-split_first.after.now c.in-Some-split_first.ensures.cases.0 c.in-None-follow.ensures.none)
 
 pub returns-in-Some-follow : goal.returns-in-Some-follow
 returns-in-Some-follow g c =
@@ -51,6 +53,18 @@ returns-in-Some-follow g c =
     let b = c.in-Branch.branch in
     let short = c.in-Some-follow.ensures.shorter in
     rw c.in-Branch.is
-    (node_goes kind (branch b.edges b.width b.behind.now) c.in-Some-split_first.byte.now c.in-Some-follow._edge c.args.key.now c.in-Some-split_first.after.now c.in-Some-follow.target.now c.in-Some-split_first.ensures.cases.0
+    (node_goes kind (branch b.edges b.width b.table.now b.behind.now) c.in-Some-split_first.byte.now c.in-Some-follow._edge c.args.key.now c.in-Some-split_first.after.now c.in-Some-follow.target.now c.in-Some-split_first.ensures.cases.0
     c.in-Some-follow.ensures.some
-    (λ bytes begins. (let less = branch_shorter kind b.edges b.width b.behind.now bytes begins in omega (arith, less, short))))
+    (λ bytes begins. (let less = branch_shorter kind b.edges b.width b.table.now b.behind.now bytes begins in omega (arith, less, short))))
+
+pub returns-in-None-strip_prefix : goal.returns-in-None-strip_prefix
+returns-in-None-strip_prefix g c =
+    rw c.in-Span.is
+    (span_ends g.K.ZeroTrieWithOptions.kind c.in-Span.run'.now c.in-Span.rest.now c.args.key.now
+    (strip_prefix_is Decides-eqb c.args.key.now c.in-Span.run'.now None c.in-None-strip_prefix.ensures.cases))
+
+pub returns-in-Some-strip_prefix : goal.returns-in-Some-strip_prefix
+returns-in-Some-strip_prefix g c =
+    rw c.in-Span.is
+    (span_goes g.K.ZeroTrieWithOptions.kind c.in-Span.run'.now c.in-Span.rest.now c.args.key.now c.in-Some-strip_prefix.after.now
+    (strip_prefix_is Decides-eqb c.args.key.now c.in-Span.run'.now (Some c.in-Some-strip_prefix.after) c.in-Some-strip_prefix.ensures.cases))

@@ -27,7 +27,7 @@ loop-node-preserved g c =
     }
 
 ended : (g : _) (c : goal.In_default g) → AlwaysFinds g.K.ZeroTrieWithOptions.kind c.args.bytes.now c.args.key.now None c.loop-node.count
-ended g c = finds_nothing g.K.ZeroTrieWithOptions.kind c.requires c.args.bytes.now c.args.key.now c.loop-node.trie.now c.loop-node.key.now c.loop-node.count c.loop-node.invariant.came c.in_default.ensures.none
+ended g c = finds_nothing g.K.ZeroTrieWithOptions.kind c.args.bytes.now c.args.key.now c.loop-node.trie.now c.loop-node.key.now c.loop-node.count c.loop-node.invariant.came c.in_default.ensures.none
 
 pub returns-clause-value : goal.returns-clause-value
 returns-clause-value g c = value_found _ _ _ _ _ (ended g c)
