@@ -1,5 +1,5 @@
 -- What a kind says of two bytes, and what the kinds over ASCII keys and those with spans have in common.
-use Rattle.std.proofs.Common.{◌≡◌, ℕ, ◌≤◌, true, false, cond, leb, refl, arith}
+use Rattle.std.proofs.Common.{◌≡◌, ℕ, ◌≤◌, true, false, leb, refl, arith}
 use Rattle.std.specs.Prelude.{◌&&◌}
 use Rattle.std.proofs.lemmas.Bool.{eq-eqb, ne_eqb}
 use Rattle.zerotrie_core.specs.Kind.{Kind, simple_ascii, ignore_case, perfect_hash, extended_capacity, flags, IsAscii, same_byte, fold_byte, edge_limit, greatest_width, is_hashed, has_spans}
@@ -82,15 +82,3 @@ hashed_by simple_ascii n = refl
 hashed_by ignore_case n = refl
 hashed_by perfect_hash n = refl
 hashed_by extended_capacity n = refl
-
-pub spans_by : (kind : Kind) → has_spans kind ≡ (flags kind).spans
-spans_by simple_ascii = refl
-spans_by ignore_case = refl
-spans_by perfect_hash = refl
-spans_by extended_capacity = refl
-
-pub widest_by : (kind : Kind) → greatest_width kind ≡ cond (flags kind).extended 7 3
-widest_by simple_ascii = refl
-widest_by ignore_case = refl
-widest_by perfect_hash = refl
-widest_by extended_capacity = refl
