@@ -1,5 +1,5 @@
 -- What a kind says of two bytes, and what the kinds over ASCII keys and those with spans have in common.
-use Rattle.std.proofs.Common.{◌≡◌, ℕ, ◌≤◌, true, false, cond, leb, refl, arith}
+use Rattle.std.proofs.Common.{◌≡◌, ℕ, ◌≤◌, true, false, leb, refl, arith}
 use Rattle.std.specs.Prelude.{◌&&◌}
 use Rattle.std.proofs.lemmas.Bool.{eq-eqb, ne_eqb}
 use Rattle.zerotrie_core.specs.Kind.{Kind, simple_ascii, ignore_case, perfect_hash, extended_capacity, flags, IsAscii, same_byte, fold_byte, edge_limit, greatest_width, is_hashed, has_spans}
@@ -34,6 +34,12 @@ greatest_width_is simple_ascii ascii = refl
 greatest_width_is ignore_case ascii = refl
 greatest_width_is perfect_hash ascii = absurd ascii
 greatest_width_is extended_capacity ascii = absurd ascii
+
+pub greatest_width_most : (kind : Kind) → greatest_width kind ≤ 7
+greatest_width_most simple_ascii = omega arith
+greatest_width_most ignore_case = omega arith
+greatest_width_most perfect_hash = omega arith
+greatest_width_most extended_capacity = omega arith
 
 -- the kinds over ASCII keys have neither spans nor hashed tables
 pub ascii_spanless : (kind : Kind) → IsAscii kind → has_spans kind ≡ false
@@ -75,15 +81,3 @@ hashed_by simple_ascii n = refl
 hashed_by ignore_case n = refl
 hashed_by perfect_hash n = refl
 hashed_by extended_capacity n = refl
-
-pub spans_by : (kind : Kind) → has_spans kind ≡ (flags kind).spans
-spans_by simple_ascii = refl
-spans_by ignore_case = refl
-spans_by perfect_hash = refl
-spans_by extended_capacity = refl
-
-pub widest_by : (kind : Kind) → greatest_width kind ≡ cond (flags kind).extended 7 3
-widest_by simple_ascii = refl
-widest_by ignore_case = refl
-widest_by perfect_hash = refl
-widest_by extended_capacity = refl

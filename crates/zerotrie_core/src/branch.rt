@@ -1,8 +1,9 @@
 //! A branch, where it lies.
 //!
-//! Behind its head a branch has its edges, a table of offsets, and its targets, one after another. The table
-//! has an offset for each edge but the first, where its target begins: the highest bytes of all of them
-//! first, then the next, and so on.
+//! Behind its head a branch has its search table, a table of offsets, and its targets, one after another. A
+//! sorted search table is the edges. A hashed one has the parameters of a perfect hash in front of them. The
+//! table of offsets has one for each edge but the first, where its target begins: the highest bytes of all
+//! of them first, then the next, and so on.
 
 ghost use Rattle.std.specs.Prelude.{◌≡◌, ℕ, ◌+◌, ◌-◌, ◌*◌, ◌<◌, ◌≤◌, length, take, drop, IfSome, IfNone, slice_index};
 ghost use Rattle.zerotrie_core.specs.Kind.{fold_byte};
@@ -123,12 +124,14 @@ impl<'a> Branch<'a> {
     }
 
     /// The place of the edge that is the byte to the kind.
+    ///
+    /// A table of more bytes than edges is hashed, where the kind has hashed tables.
     #[inline(always)]
     pub fn place_of<K: ZeroTrieWithOptions>(&self, byte: u8) -> Option<usize>
         ensures some { IfSome result (IsPlace K.kind self.now.edges self.now.behind.now byte) }
         ensures none { IfNone result
             (IsTable K.kind (take self.now.edges self.now.behind.now) self.now.table.now
-                → HasNoPlace K.kind self.now.edges self.now.behind.now byte) }
+            → HasNoPlace K.kind self.now.edges self.now.behind.now byte) }
     {
         if K::USE_PHF && self.table.len() > self.edges {
             return PerfectByteHashMap::from_bytes(self.table).get(byte);

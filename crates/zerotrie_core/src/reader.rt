@@ -68,10 +68,14 @@ fn descend<'a, K: ZeroTrieWithOptions>(node: Node<'a>, key: &'a [u8]) -> Descent
 /// get_counted::<Simple>(&bytes, b"A")     // (None, 1)
 /// get_counted::<Ignore>(&bytes, b"A")     // (Some(5), 2)
 /// get_counted::<Ignore>(&bytes, b"b")     // (None, 1)
+///
+/// let bytes = [0xA2, 0xC3, 0xA9, 0x85];   // the key "é" with value 5
+/// get_counted::<Hash>(&bytes, "é".as_bytes())     // (Some(5), 2)
 /// ```
 ///
-/// It takes the kinds over ASCII keys. In `Ignore` an ASCII letter of the key matches in either case, and each
-/// other byte matches itself alone.
+/// In `Ignore` an ASCII letter of the key matches in either case. Every other byte, and in the other kinds
+/// each, matches itself alone. `Hash` and `Ext` also read spans, which are one node each, and find an edge
+/// of a branch of 16 edges or more by a perfect hash.
 ///
 /// It returns on any bytes, and takes no memory. On bytes that mean a map the first part is the key's value
 /// in that map. A key of n bytes makes it read at most 2n + 1 nodes.
@@ -98,7 +102,7 @@ pub fn get_counted<K: ZeroTrieWithOptions>(bytes: &[u8], key: &[u8]) -> (Option<
 #[cfg(test)]
 mod tests {
     use super::*;
-    use crate::options::{Ignore, Simple};
+    use crate::options::{Ext, Hash, Ignore, Simple};
     use std::test::Fail;
 
     #[test]
@@ -162,10 +166,116 @@ mod tests {
         Ok(())
     }
 
+    #[test]
+    fn spans_match_whole(rt: HostRuntime) -> Result<(), Fail> {
+        let bytes = [0x61, 0x8A, 0x62, 0xA3, 0x81, 0x91, 0xA1, 0x84];
+        let table: [(&[u8], Option<usize>, usize); 7] = [
+            (b"a", Some(10), 2),
+            (b"ab\x81\x91\xA1", Some(4), 5),
+            (b"ab\x81\x91", None, 4),
+            (b"ab\x81\x91\xA2", None, 4),
+            (b"ab\x81\x91\xA1\xA1", None, 5),
+            (b"ab", None, 4),
+            (b"b", None, 1),
+        ];
+        for (key, value, nodes) in table {
+            assert_eq!(rt; get_counted::<Hash>(&bytes, key), (value, nodes));
+            assert_eq!(rt; get_counted::<Ext>(&bytes, key), (value, nodes));
+        }
+        Ok(())
+    }
+
+    #[test]
+    fn letters_beyond_ascii(rt: HostRuntime) -> Result<(), Fail> {
+        let words = [
+            0xC2, 0x62, 0x66, 0x0F, 0xA2, 0xC3, 0xA5, 0xC2, 0x72, 0x7A, 0x01, 0x82, 0x7A, 0xA4,
+            0xC3, 0xB8, 0xC3, 0xB8, 0x83, 0x6F, 0x6F, 0x81,
+        ];
+        let table: [(&str, Option<usize>); 6] = [
+            ("foo", Some(1)),
+            ("bår", Some(2)),
+            ("båzzøø", Some(3)),
+            ("båzzø", None),
+            ("bar", None),
+            ("bø", None),
+        ];
+        for (key, value) in table {
+            assert_eq!(rt; get_counted::<Hash>(&words, key.as_bytes()).0, value);
+        }
+        let letters = [0xA1, 0xC3, 0xC2, 0xA5, 0xB8, 0x01, 0x81, 0x82];
+        for (key, value) in [("å", Some(1)), ("ø", Some(2)), ("ö", None), ("", None)] {
+            assert_eq!(rt; get_counted::<Hash>(&letters, key.as_bytes()).0, value);
+        }
+        Ok(())
+    }
+
+    #[test]
+    fn sixteen_edges_are_hashed(rt: HostRuntime) -> Result<(), Fail> {
+        let letters = [
+            0xD0, 0, 0, 0, 0, 0, 0, 0, 0, 0, 0, 0, 0, 0, 0, 0, 0, 0, 0x70, 0x61, 0x62, 0x63, 0x64,
+            0x65, 0x66, 0x67, 0x68, 0x69, 0x6A, 0x6B, 0x6C, 0x6D, 0x6E, 0x6F, 1, 2, 3, 4, 5, 6, 7,
+            8, 9, 10, 11, 12, 13, 14, 15, 0x8F, 0x80, 0x81, 0x82, 0x83, 0x84, 0x85, 0x86, 0x87,
+            0x88, 0x89, 0x8A, 0x8B, 0x8C, 0x8D, 0x8E,
+        ];
+        let moved = [
+            0xD0, 1, 1, 0, 0, 0, 0, 0, 0, 0, 0, 0, 0, 0, 0, 0, 0, 0, 0x61, 0x71, 0x62, 0x63, 0x64,
+            0x65, 0x66, 0x67, 0x68, 0x69, 0x6A, 0x6B, 0x6C, 0x6D, 0x6E, 0x6F, 1, 2, 3, 4, 5, 6, 7,
+            8, 9, 10, 11, 12, 13, 14, 15, 0x80, 0x8F, 0x81, 0x82, 0x83, 0x84, 0x85, 0x86, 0x87,
+            0x88, 0x89, 0x8A, 0x8B, 0x8C, 0x8D, 0x8E,
+        ];
+        for byte in 0..=255 {
+            let place = (byte as usize)
+                .checked_sub(0x61)
+                .filter(|place| *place < 16);
+            assert_eq!(rt; get_counted::<Hash>(&letters, &[byte]).0, place);
+            assert_eq!(rt; get_counted::<Ext>(&letters, &[byte]).0, place);
+            let value = match byte {
+                0x61..=0x6F => Some(byte as usize - 0x61),
+                0x71 => Some(15),
+                _ => None,
+            };
+            assert_eq!(rt; get_counted::<Hash>(&moved, &[byte]).0, value);
+        }
+        Ok(())
+    }
+
+    #[test]
+    fn each_byte_is_an_edge(rt: HostRuntime) -> Result<(), Fail> {
+        let mut bytes = Vec::from_array(rt.alloc(), [0xE1, 0x60])?;
+        bytes.resize(259, 0)?;
+        for byte in 0..=255 {
+            bytes.push(byte)?;
+        }
+        bytes.resize(770, 0)?;
+        for byte in 1..=255 {
+            bytes.push(byte)?;
+        }
+        bytes.resize(1281, 0x80)?;
+        for byte in 0..=255 {
+            assert_eq!(rt; get_counted::<Hash>(&bytes, &[byte]), (Some(0), 2));
+            assert_eq!(rt; get_counted::<Hash>(&bytes, &[byte, byte]), (None, 2));
+        }
+        Ok(())
+    }
+
+    #[test]
+    fn spans_of_fifteen_and_sixteen_bytes(rt: HostRuntime) -> Result<(), Fail> {
+        let key = [0xC3; 16];
+        let mut short = Vec::from_array(rt.alloc(), [0xAF])?;
+        short.extend_from_slice(&key[1..])?;
+        short.push(0x81)?;
+        assert_eq!(rt; get_counted::<Hash>(&short, &key[1..]), (Some(1), 2));
+        let mut long = Vec::from_array(rt.alloc(), [0xB0, 0x00])?;
+        long.extend_from_slice(&key)?;
+        long.push(0x81)?;
+        assert_eq!(rt; get_counted::<Hash>(&long, &key), (Some(1), 2));
+        Ok(())
+    }
+
     /// No answer is promised on such bytes, but there is one.
     #[test]
     fn returns_on_bytes_that_are_no_trie(rt: HostRuntime) {
-        let table: [&[u8]; 10] = [
+        let table: [&[u8]; 13] = [
             &[0x61],
             &[0x80, 0x80],
             &[0xC1, 0x61, 0x81],
@@ -176,12 +286,23 @@ mod tests {
             &[0xC0, 0x61],
             &[0xE1, 0xDF, 0xDF, 0xDF, 0xDF, 0xDF, 0xDF, 0xDF, 0xDF, 0x5F],
             &[0xC2, 0x61, 0x62, 0xFF, 0x80, 0x81],
+            &[
+                0xBF, 0xFF, 0xFF, 0xFF, 0xFF, 0xFF, 0xFF, 0xFF, 0xFF, 0x7F, 0x61,
+            ],
+            &[0xEF, 0x62, 0x61, 0x62, 0x80, 0x81],
+            &[
+                0xF0, 0x70, 0, 0, 0, 0, 0, 0, 0, 0, 0, 0, 0, 0, 0, 0, 0, 0, 0x61,
+            ],
         ];
         for bytes in table {
             for key in [b"".as_slice(), b"a", b"b", b"ab", b"aa"] {
                 let (_, nodes) = get_counted::<Simple>(bytes, key);
                 assert!(rt; nodes <= bytes.len());
                 let (_, nodes) = get_counted::<Ignore>(bytes, key);
+                assert!(rt; nodes <= bytes.len());
+                let (_, nodes) = get_counted::<Hash>(bytes, key);
+                assert!(rt; nodes <= bytes.len());
+                let (_, nodes) = get_counted::<Ext>(bytes, key);
                 assert!(rt; nodes <= bytes.len());
             }
         }

@@ -1,6 +1,5 @@
-use Rattle.std.proofs.Common.{◌≡◌, ◌+◌, ◌-◌, ◌*◌, ◌/◌, ◌%◌, ◌≤◌, length, arith, ap, sym, ◌∙◌}
-use Rattle.zerotrie_core.specs.Branches.{table_size, before_edges}
-use Rattle.zerotrie_core.specs.Nodes.{BeginsBranch}
+use Rattle.std.proofs.Common.{◌≡◌, ◌+◌, ◌-◌, ◌*◌, ◌/◌, ◌≤◌, length, arith, ap, ◌∙◌}
+use Rattle.zerotrie_core.specs.Branches.{table_size}
 use Rattle.zerotrie_core.proofs.NodeLemmas.{head_read, small_head}
 use Rattle.zerotrie_core.proofs.TableLemmas.{table_parts}
 use Rattle.zerotrie_core.proofs.node.branch_at.Goals as goal
