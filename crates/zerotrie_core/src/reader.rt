@@ -2,8 +2,8 @@
 //!
 //! The look-up goes from node to node with the key in hand. It passes over value nodes until the key is used
 //! up, and then a value node is its answer. A literal has to be the next byte of the key, a span the next
-//! bytes, and a branch leads on by the next byte; where the kind ignores case, an ASCII letter is the same byte in either case. Bytes that
-//! are no trie get some answer, and nothing outside them is read.
+//! bytes, and a branch leads on by the next byte; where the kind ignores case, an ASCII letter is the same
+//! byte in either case. Bytes that are no trie get some answer, and nothing outside them is read.
 
 ghost use Rattle.std.specs.Prelude.{◌≡◌, ℕ, ◌+◌, ◌<◌, ◌≤◌, length};
 ghost use Rattle.zerotrie_core.specs.Maps.{Map, look};

@@ -89,6 +89,20 @@ pub fn are_distinct(keys: &[u8]) -> bool
     true
 }
 
+/// The place of a byte in its bucket. With zeros for both parameters, as many tables have them, it is the
+/// bucket itself, and no second remainder is taken.
+#[inline]
+fn place_in_bucket(byte: u8, p: u8, q: u8, n: u8, bucket: u8) -> u8
+    requires { bucket ≡ f1 byte p n }
+    ensures { result ≡ f2 byte q n }
+{
+    if p == 0 && q == 0 {
+        bucket
+    } else {
+        f2(byte, q, n)
+    }
+}
+
 /// What the bytes of a table answer for the key.
 fn number_of(bytes: &[u8], key: u8) -> Option<usize>
     ensures { result ≡ number_of bytes.now key }
@@ -100,8 +114,9 @@ fn number_of(bytes: &[u8], key: u8) -> Option<usize>
     }
     let n = (count % 256) as u8;
     let (qs, keys) = rest.split_at(count);
-    let q = qs[f1(key, *p, n) as usize];
-    let place = f2(key, q, n) as usize;
+    let bucket = f1(key, *p, n);
+    let q = qs[bucket as usize];
+    let place = place_in_bucket(key, *p, q, n, bucket) as usize;
     if keys[place] == key {
         Some(place)
     } else {
