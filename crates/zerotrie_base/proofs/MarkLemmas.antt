@@ -1,13 +1,13 @@
 -- Places that are marked as taken.
 use Rattle.std.proofs.Common.{◌≡◌, ◌≢◌, ℕ, ◌+◌, ◌<◌, ◌≤◌, List, [], ◌∷◌, ◌++◌, length, map, get_or, set, take, drop, replicate, refl, sym, ◌∙◌, ap, subst, arith, Bool, true, false, not, eqb, inl, inr, append_assoc, get_or-set_same, get_or-set_other, length-set}
-use Rattle.std.specs.Prelude.{◌||◌, ◌&&◌}
-use Rattle.std.specs.List.{IsDistinct, list_any}
+use Rattle.std.specs.Prelude.{◌||◌, ◌&&◌, filter}
+use Rattle.std.specs.List.{IsDistinct, list_any, range_with_len}
 use Rattle.std.proofs.lemmas.Bool.{ne_eqb}
 use Rattle.std.proofs.lemmas.Bool.Decides.{eqb_tells}
-use Rattle.std.proofs.lemmas.List.{get_or-replicate, length-replicate, map_more, drop_more, take-append-drop, map-append}
+use Rattle.std.proofs.lemmas.List.{get_or-replicate, length-replicate, map_more, drop_more, take-append-drop, map-append, ext_get_or}
 use Rattle.std.proofs.lemmas.List.Folds.{list_any-append}
 use Rattle.zerotrie_base.specs.byte_phf.Search.{IsMarked}
-use Rattle.zerotrie_base.proofs.ApartLemmas.{Has, has_any, any_has, any_has_not, has_not_any, apart_distinct, distinct_apart, apart_joined, apart_across, has_right}
+use Rattle.zerotrie_base.proofs.ApartLemmas.{Has, has_any, any_has, has_filter, from_filter, has_range, apart_filter, apart_range, any_has_not, has_not_any, apart_distinct, distinct_apart, apart_joined, apart_across, has_right}
 
 pub marked_none : IsMarked [] (replicate 256 false)
 marked_none = record { size = length-replicate 256 false; marks = λ x h. get_or-replicate 256 x false false h }
@@ -62,3 +62,19 @@ places_split f used bucket i y h e =
 pub none_more : (P : ℕ → Type 0) (first q : ℕ) → ((x : ℕ) → first ≤ x → x < q → P x → ⊥) → (P q → ⊥) → (x : ℕ) → first ≤ x → x < q + 1 → P x → ⊥
 none_more P first q none here x lo hi h =
     elim (eqb_tells x q) [ inl e ↦ here (subst P e.1 h) | inr e ↦ none x lo (let ne = e.1 in omega arith) h ]
+
+-- the places that are marked, each once
+
+marked_bit : (taken : List Bool) (x : ℕ) → x < 256 → (b : Bool) → get_or taken x false ≡ b → b ≡ list_any (eqb x) (filter (λ y. get_or taken y false) (range_with_len 0 256))
+marked_bit taken x h true e = sym (any_has x _ (has_filter (λ y. get_or taken y false) x (range_with_len 0 256) (has_range x 0 256 (omega arith) (omega arith)) e))
+marked_bit taken x h false e = sym (any_has_not x _ (λ k. let r = (from_filter (λ y. get_or taken y false) x (range_with_len 0 256) k).1 in let w : true ≡ false = sym r ∙ e in cc))
+
+pub marked_by : (taken : List Bool) → length taken ≡ 256 → (used : List ℕ) × IsMarked used taken × IsDistinct eqb used
+marked_by taken size = (
+  filter (λ y. get_or taken y false) (range_with_len 0 256),
+  record { size = size; marks = λ x h. marked_bit taken x h (get_or taken x false) refl },
+  distinct_apart _ (apart_filter (λ y. get_or taken y false) (range_with_len 0 256) (apart_range 0 256)),
+)
+
+pub same_marks : (used : List ℕ) (a b : List Bool) → IsMarked used a → IsMarked used b → a ≡ b
+same_marks used a b ma mb = ext_get_or false a b (ma.size ∙ sym mb.size) (λ x h. ma.marks x (let s = ma.size in omega arith) ∙ sym (mb.marks x (let s = ma.size in omega arith)))
