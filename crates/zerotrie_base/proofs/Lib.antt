@@ -4,6 +4,7 @@ mod MarkLemmas
 mod TableReads
 mod FillLemmas
 mod OrderLemmas
+mod GroupLemmas
 mod PlacedLemmas
 mod SolveLemmas
 mod CacheLemmas

@@ -1,3 +1,4 @@
 -- Words of the private functions of `byte_phf`.
 pub mod Search
 pub mod Held
+pub mod Groups

@@ -5,13 +5,15 @@
 
 mod builder;
 mod cached_owned;
+mod groups;
+mod remainders;
 
-ghost use Rattle.std.specs.Prelude.{◌≡◌, ◌≢◌, ◌==◌, ◌+◌, ◌/◌, ◌<◌, ◌↔◌, ◌⊎◌, ℕ, List, [], ◌∷◌, ◌++◌, length, drop, slice_index, replicate, nat_eq, IfOk, IfErr, IsTrue};
+ghost use Rattle.std.specs.Prelude.{◌≡◌, ◌≢◌, ◌==◌, ◌+◌, ◌-◌, ◌/◌, ◌%◌, ◌<◌, ◌↔◌, ◌⊎◌, ℕ, List, [], ◌∷◌, ◌++◌, length, drop, slice_index, replicate, nat_eq, bit_xor, IfOk, IfErr, IsTrue};
 ghost use Rattle.std.specs.Cmp.{on_equiv, on_per};
 ghost use Rattle.std.specs.Cmp as cmp;
 ghost use Rattle.std.specs.Cmp.Lexicographic.{pointwise, nat_list_eq_equiv};
 ghost use Rattle.std.specs.List.{IsDistinct};
-ghost use Rattle.zerotrie_base.specs.Hashes.{f1, f2, IsPerfect, IsPerfectTable, IsPlain, number_of};
+ghost use Rattle.zerotrie_base.specs.Hashes.{f1, f2, turned, IsPerfect, IsPerfectTable, IsPlain, number_of};
 ghost use Rattle.zerotrie_base.specs.Refusals.{IsTableRefusal};
 
 use crate::error::ZeroTrieBuildError;
@@ -35,12 +37,18 @@ const Q_FAST_MAX: u8 = 95;
 pub fn f1(byte: u8, p: u8, n: u8) -> u8
     ensures { result ≡ f1 byte p n }
 {
-    if n == 0 {
+    if n == 0 { byte } else { mixed(byte, p) % n }
+}
+
+/// The number whose remainder is the bucket of the byte, by the parameter `p`.
+#[inline]
+fn mixed(byte: u8, p: u8) -> u8
+    ensures { (n : ℕ) → 0 < n → f1 byte p n ≡ result % n }
+{
+    if p == 0 {
         byte
-    } else if p == 0 {
-        byte % n
     } else {
-        (byte ^ p ^ (byte >> (p % 8))) % n
+        byte ^ p ^ (byte >> (p % 8))
     }
 }
 
@@ -54,18 +62,23 @@ pub fn f1(byte: u8, p: u8, n: u8) -> u8
 /// The remainder by `n` of the byte and `q` in exclusive or. That number is first turned `q - 95` times
 /// where `q` is above 95: one turn is its exclusive or with itself shifted left and right by one, in
 /// eight bits. An `n` of 0 stands for 256: every byte is its own place.
-#[tactic(auto, using(crate::proofs::HashLemmas::turned_more))]
 pub fn f2(byte: u8, q: u8, n: u8) -> u8
     ensures { result ≡ f2 byte q n }
 {
-    if n == 0 {
-        return byte;
-    }
+    if n == 0 { byte } else { turned(byte, q) % n }
+}
+
+/// The number whose remainder is the place of the byte, by the parameter `q`.
+#[inline]
+#[tactic(auto, using(crate::proofs::HashLemmas::turned_more))]
+fn turned(byte: u8, q: u8) -> u8
+    ensures { result ≡ turned (q - 95) (bit_xor byte q) }
+{
     let mut turned = byte ^ q;
     for _turn in Q_FAST_MAX..q {
         turned = turned ^ (turned << 1) ^ (turned >> 1);
     }
-    turned % n
+    turned
 }
 
 /// Whether no byte comes twice.
