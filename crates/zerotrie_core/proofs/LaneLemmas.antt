@@ -34,17 +34,17 @@ length-read : (xs : List ℕ) (y : ℕ) → length (map (λ z. eqb z y) xs) ≡ 
 length-read [] y = refl
 length-read (x ∷ xs) y = ap suc (length-read xs y)
 
-fits : (xs : List ℕ) (y : ℕ) → length xs ≤ 32 → mask_of xs y < 2 ^ 64
+fits : (xs : List ℕ) (y : ℕ) → length xs ≤ 64 → mask_of xs y < 2 ^ 64
 fits xs y h =
     let s = subst (λ n. mask_of xs y < 2 ^ n) (length-read xs y) (mask_l-lt (map (λ z. eqb z y) xs)) in
-    let more : 2 ^ length xs ≤ 2 ^ 32 = pow-le-pow_right (omega arith) h in
+    let more : 2 ^ length xs ≤ 2 ^ 64 = pow-le-pow_right (omega arith) h in
     omega arith
 
 no_bits : trailing_zeros w64 0 ≡ 64
 unfolding count_trailing_zeros
 no_bits = refl
 
-module _ (xs : List ℕ) (y z : ℕ) (short : length xs ≤ 32) where
+module _ (xs : List ℕ) (y z : ℕ) (short : length xs ≤ 64) where
   abbrev pub both : ℕ
   both = bit_or (mask_of xs y) (mask_of xs z)
 
@@ -68,7 +68,7 @@ module _ (xs : List ℕ) (y z : ℕ) (short : length xs ≤ 32) where
                     absurd (omega (arith, a, b, o, set))
               ]
             ]
-        | inr none ↦ let e : both ≡ 0 = omega arith in let f = ap (trailing_zeros w64) e ∙ no_bits in let more : length xs < 64 = omega arith in absurd (omega (arith, f, h, more))
+        | inr none ↦ let e : both ≡ 0 = omega arith in let f = ap (trailing_zeros w64) e ∙ no_bits in absurd (omega (arith, f, h, short))
       ]
 
   pub first_missed : (k : ℕ) → k < length xs → k < trailing_zeros w64 both → (get_or xs k 0 ≡ y → ⊥) × (get_or xs k 0 ≡ z → ⊥)
@@ -81,7 +81,7 @@ module _ (xs : List ℕ) (y z : ℕ) (short : length xs ≤ 32) where
       (λ e. (let a = bit_set xs y k h e in omega (arith, a, o, clear)), λ e. (let b = bit_set xs z k h e in omega (arith, b, o, clear)))
 
 -- the first n of some bytes, as they are loaded
-module _ (n : ℕ) (bytes : List ℕ) (y z : ℕ) (short : n ≤ 32) (long : n ≤ length bytes) where
+module _ (n : ℕ) (bytes : List ℕ) (y z : ℕ) (short : n ≤ 64) (long : n ≤ length bytes) where
   lanes_len : length (take n bytes) ≡ n
   lanes_len = length-take-le n bytes long
 

@@ -12,7 +12,7 @@ ghost use Rattle.zerotrie_core.specs.Nodes.{number_from, IsTargetResult};
 ghost use Rattle.zerotrie_core.specs.reader.Reading.{AlwaysRises, IsPlace, HasNoPlace};
 ghost use Rattle.zerotrie_core.specs.reader.Going.{AlwaysGoes, AlwaysStops};
 
-use crate::lanes::{first_in_16, first_in_32};
+use crate::lanes::{first_in_16, first_in_32, first_in_64};
 use crate::options::ZeroTrieWithOptions;
 use zerotrie_base::PerfectByteHashMap;
 
@@ -149,9 +149,9 @@ impl<'a> Branch<'a> {
 
     /// The place of the edge that is the byte to the kind.
     ///
-    /// A table of more bytes than edges is hashed, where the kind has hashed tables. Up to 32 edges are all
-    /// looked at at once, with what bytes stand behind them. A sorted table is halved where it has more
-    /// edges, or too few bytes are left.
+    /// Up to 64 edges are all looked at at once, whatever their order, with what bytes stand behind them.
+    /// Where there are more, or too few bytes are left, a table of more bytes than edges is hashed, in the
+    /// kinds that have hashed tables, and any other is halved.
     #[inline(always)]
     pub fn place_of<K: ZeroTrieWithOptions>(&self, byte: u8) -> Option<usize>
         ensures some { IfSome result (IsPlace K.kind self.now.edges self.now.behind.now byte) }
@@ -159,15 +159,18 @@ impl<'a> Branch<'a> {
             (IsTable K.kind (take self.now.edges self.now.behind.now) self.now.table.now
             → HasNoPlace K.kind self.now.edges self.now.behind.now byte) }
     {
-        if K::USE_PHF && self.table.len() > self.edges {
-            return PerfectByteHashMap::from_bytes(self.table).get(byte);
-        }
         let (low, high) = both_cases::<K>(byte);
         if self.edges <= 16 && self.behind.len() >= 16 {
             return before_end(first_in_16(self.behind, low, high), self.edges);
         }
         if self.edges <= 32 && self.behind.len() >= 32 {
             return before_end(first_in_32(self.behind, low, high), self.edges);
+        }
+        if self.edges <= 64 && self.behind.len() >= 64 {
+            return before_end(first_in_64(self.behind, low, high), self.edges);
+        }
+        if K::USE_PHF && self.table.len() > self.edges {
+            return PerfectByteHashMap::from_bytes(self.table).get(byte);
         }
         let (edges, _) = self.behind.split_at(self.edges);
         place_in::<K>(edges, byte)

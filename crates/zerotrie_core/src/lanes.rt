@@ -1,4 +1,4 @@
-//! Bytes held against two others, sixteen or 32 at once.
+//! Bytes held against two others, many at once.
 
 ghost use Rattle.std.specs.Prelude.{◌≡◌, ◌≢◌, ℕ, ◌<◌, ◌≤◌, ◌⊎◌, length, slice_index};
 
@@ -31,5 +31,20 @@ pub fn first_in_32(bytes: &[u8], one: u8, other: u8) -> usize
     let lanes = u8x32::from_slice(bytes);
     let ones = lanes.simd_eq(u8x32::splat(one)).to_bitmask();
     let others = lanes.simd_eq(u8x32::splat(other)).to_bitmask();
+    (ones | others).trailing_zeros() as usize
+}
+
+/// The first place among 64 where one of two bytes stands, or 64.
+#[inline(always)]
+pub fn first_in_64(bytes: &[u8], one: u8, other: u8) -> usize
+    requires { 64 ≤ length bytes.now }
+    ensures hit { result < 64 → (slice_index bytes.now result ≡ one)
+        ⊎ (slice_index bytes.now result ≡ other) }
+    ensures missed { (k : ℕ) → k < 64 → k < result → (slice_index bytes.now k ≢ one)
+        × (slice_index bytes.now k ≢ other) }
+{
+    let lanes = u8x64::from_slice(bytes);
+    let ones = lanes.simd_eq(u8x64::splat(one)).to_bitmask();
+    let others = lanes.simd_eq(u8x64::splat(other)).to_bitmask();
     (ones | others).trailing_zeros() as usize
 }

@@ -1,4 +1,4 @@
-use Rattle.std.proofs.Common.{◌≡◌, ℕ, take, eqb, arith, w8}
+use Rattle.std.proofs.Common.{take, eqb, arith, w8}
 use Rattle.std.proofs.lemmas.List.{length-take-le}
 use Rattle.std.proofs.lemmas.Simd.{bitmask_splat}
 use Rattle.zerotrie_core.proofs.LaneLemmas.{lowest_hit, lowest_missed}
