@@ -11,6 +11,7 @@ mod HeadLemmas
 mod OpenLemmas
 mod EachLemmas
 mod GoingLemmas
+mod LaneLemmas
 mod PlaceLemmas
 mod ReaderLemmas
 mod CaseLemmas

@@ -5,13 +5,14 @@
 //! table of offsets has one for each edge but the first, where its target begins: the highest bytes of all
 //! of them first, then the next, and so on.
 
-ghost use Rattle.std.specs.Prelude.{◌≡◌, ℕ, ◌+◌, ◌-◌, ◌*◌, ◌<◌, ◌≤◌, length, take, drop, IfSome, IfNone, slice_index};
+ghost use Rattle.std.specs.Prelude.{◌≡◌, ◌↔◌, ℕ, ◌+◌, ◌-◌, ◌*◌, ◌<◌, ◌≤◌, ◌⊎◌, length, take, drop, IfSome, IfNone, slice_index};
 ghost use Rattle.zerotrie_core.specs.Kind.{fold_byte};
 ghost use Rattle.zerotrie_core.specs.Branches.{IsTable};
 ghost use Rattle.zerotrie_core.specs.Nodes.{number_from, IsTargetResult};
 ghost use Rattle.zerotrie_core.specs.reader.Reading.{AlwaysRises, IsPlace, HasNoPlace};
 ghost use Rattle.zerotrie_core.specs.reader.Going.{AlwaysGoes, AlwaysStops};
 
+use crate::lanes::{first_in_16, first_in_32, first_in_64};
 use crate::options::ZeroTrieWithOptions;
 use zerotrie_base::PerfectByteHashMap;
 
@@ -24,6 +25,20 @@ pub fn folded<K: ZeroTrieWithOptions>(byte: u8) -> u8
         byte.to_ascii_lowercase()
     } else {
         byte
+    }
+}
+
+/// The bytes that are this byte to the kind: a letter in either case where case is ignored, and else itself
+/// alone.
+#[inline(always)]
+fn both_cases<K: ZeroTrieWithOptions>(byte: u8) -> (u8, u8)
+    ensures { (b : ℕ) → (fold_byte K.kind b ≡ fold_byte K.kind byte)
+        ↔ ((b ≡ result.0) ⊎ (b ≡ result.1)) }
+{
+    if K::IGNORE_CASE {
+        (folded::<K>(byte), byte.to_ascii_uppercase())
+    } else {
+        (byte, byte)
     }
 }
 
@@ -70,6 +85,15 @@ fn place_in<K: ZeroTrieWithOptions>(table: &[u8], byte: u8) -> Option<usize>
     } else {
         None
     }
+}
+
+/// The place, where it lies before the end.
+#[inline(always)]
+fn before_end(place: usize, end: usize) -> Option<usize>
+    ensures some { IfSome result (λ r. (r < end) × (r ≡ place)) }
+    ensures none { IfNone result (end ≤ place) }
+{
+    if place < end { Some(place) } else { None }
 }
 
 /// The number whose bytes stand at one place of each block, the highest first.
@@ -125,7 +149,9 @@ impl<'a> Branch<'a> {
 
     /// The place of the edge that is the byte to the kind.
     ///
-    /// A table of more bytes than edges is hashed, where the kind has hashed tables.
+    /// Up to 64 edges are all looked at at once, whatever their order, with what bytes stand behind them.
+    /// Where there are more, or too few bytes are left, a table of more bytes than edges is hashed, in the
+    /// kinds that have hashed tables, and any other is halved.
     #[inline(always)]
     pub fn place_of<K: ZeroTrieWithOptions>(&self, byte: u8) -> Option<usize>
         ensures some { IfSome result (IsPlace K.kind self.now.edges self.now.behind.now byte) }
@@ -133,6 +159,16 @@ impl<'a> Branch<'a> {
             (IsTable K.kind (take self.now.edges self.now.behind.now) self.now.table.now
             → HasNoPlace K.kind self.now.edges self.now.behind.now byte) }
     {
+        let (low, high) = both_cases::<K>(byte);
+        if self.edges <= 16 && self.behind.len() >= 16 {
+            return before_end(first_in_16(self.behind, low, high), self.edges);
+        }
+        if self.edges <= 32 && self.behind.len() >= 32 {
+            return before_end(first_in_32(self.behind, low, high), self.edges);
+        }
+        if self.edges <= 64 && self.behind.len() >= 64 {
+            return before_end(first_in_64(self.behind, low, high), self.edges);
+        }
         if K::USE_PHF && self.table.len() > self.edges {
             return PerfectByteHashMap::from_bytes(self.table).get(byte);
         }

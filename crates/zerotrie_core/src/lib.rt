@@ -2,6 +2,7 @@
 #![tactic(auto)]
 
 mod branch;
+mod lanes;
 pub mod laws;
 mod node;
 mod options;

@@ -1,0 +1,106 @@
+-- The lowest bit of two masks of lanes.
+use Rattle.std.proofs.Common.{◌≡◌, ℕ, zero, suc, ◌+◌, ◌*◌, ◌/◌, ◌%◌, ◌^◌, ◌<◌, ◌≤◌, List, [], ◌∷◌, Bool, true, false, cond, eqb, length, take, get_or, map, refl, sym, ap, subst, ◌∙◌, arith, w64, ◌⊎◌, inl, inr}
+use Rattle.std.specs.Int.Bits.{bit_or}
+use Rattle.std.specs.Int.{bit_at, trailing_zeros}
+use Rattle.std.specs.Int.Count.{count_trailing_zeros}
+use Rattle.std.specs.Simd.Lanes.{mask_l}
+use Rattle.std.proofs.Math.Nat.{pow-le-pow_right}
+use Rattle.std.proofs.lemmas.List.{get_or-take, length-take-le}
+use Rattle.std.proofs.lemmas.Nat.{or_lt}
+use Rattle.std.proofs.lemmas.Simd.{bit_mask_l, mask_l-lt}
+use Rattle.std.proofs.lemmas.Bool.{eqb-true, eq-eqb, cases_lt, cases_eq, ne_eqb}
+use Rattle.std.proofs.lemmas.Nat.Bits.{bit_at-trailing_zeros, bit_at_or, bit_at-zero, bit_at-lt}
+
+-- the lanes that are a byte
+abbrev pub mask_of : List ℕ → ℕ → ℕ
+mask_of xs y = mask_l (map (λ z. eqb z y) xs)
+
+read : (xs : List ℕ) (y k : ℕ) → k < length xs → get_or (map (λ z. eqb z y) xs) k false ≡ eqb (get_or xs k 0) y
+read [] y k h = absurd (omega arith)
+read (x ∷ xs) y zero h = refl
+read (x ∷ xs) y (suc k) h = read xs y k (omega arith)
+
+bit_is : (xs : List ℕ) (y k : ℕ) → k < length xs → bit_at (mask_of xs y) k ≡ cond (eqb (get_or xs k 0) y) 1 0
+bit_is xs y k h = bit_mask_l (map (λ z. eqb z y) xs) k ∙ ap (λ b. cond b 1 0) (read xs y k h)
+
+-- a bit that is set is a lane that is the byte
+bit_set : (xs : List ℕ) (y k : ℕ) → k < length xs → get_or xs k 0 ≡ y → bit_at (mask_of xs y) k ≡ 1
+bit_set xs y k h e = bit_is xs y k h ∙ ap (λ b. cond {A = ℕ} b 1 0) (eq-eqb (get_or xs k 0) y e)
+
+bit_clear : (xs : List ℕ) (y k : ℕ) → k < length xs → (get_or xs k 0 ≡ y → ⊥) → bit_at (mask_of xs y) k ≡ 0
+bit_clear xs y k h n = bit_is xs y k h ∙ ap (λ b. cond {A = ℕ} b 1 0) (ne_eqb (get_or xs k 0) y n)
+
+length-read : (xs : List ℕ) (y : ℕ) → length (map (λ z. eqb z y) xs) ≡ length xs
+length-read [] y = refl
+length-read (x ∷ xs) y = ap suc (length-read xs y)
+
+fits : (xs : List ℕ) (y : ℕ) → length xs ≤ 64 → mask_of xs y < 2 ^ 64
+fits xs y h =
+    let s = subst (λ n. mask_of xs y < 2 ^ n) (length-read xs y) (mask_l-lt (map (λ z. eqb z y) xs)) in
+    let more : 2 ^ length xs ≤ 2 ^ 64 = pow-le-pow_right (omega arith) h in
+    omega arith
+
+no_bits : trailing_zeros w64 0 ≡ 64
+unfolding count_trailing_zeros
+no_bits = refl
+
+module _ (xs : List ℕ) (y z : ℕ) (short : length xs ≤ 64) where
+  abbrev pub both : ℕ
+  both = bit_or (mask_of xs y) (mask_of xs z)
+
+  both_fit : both < 2 ^ 64
+  both_fit = or_lt 64 (mask_of xs y) (mask_of xs z) (fits xs y short) (fits xs z short)
+
+  pub first_hit : trailing_zeros w64 both < length xs → (get_or xs (trailing_zeros w64 both) 0 ≡ y) ⊎ (get_or xs (trailing_zeros w64 both) 0 ≡ z)
+  first_hit h =
+      let k = trailing_zeros w64 both in
+      elim (cases_lt 0 both) [
+        | inl some ↦
+            let set = (bit_at-trailing_zeros w64 both some both_fit).1 in
+            elim (cases_eq (get_or xs k 0) y) [
+              | inl same ↦ inl same
+              | inr other ↦ elim (cases_eq (get_or xs k 0) z) [
+                | inl same ↦ inr same
+                | inr neither ↦
+                    let a = bit_clear xs y k h other in
+                    let b = bit_clear xs z k h neither in
+                    let o = bit_at_or (mask_of xs y) (mask_of xs z) k in
+                    absurd (omega (arith, a, b, o, set))
+              ]
+            ]
+        | inr none ↦ let e : both ≡ 0 = omega arith in let f = ap (trailing_zeros w64) e ∙ no_bits in absurd (omega (arith, f, h, short))
+      ]
+
+  pub first_missed : (k : ℕ) → k < length xs → k < trailing_zeros w64 both → (get_or xs k 0 ≡ y → ⊥) × (get_or xs k 0 ≡ z → ⊥)
+  first_missed k h before =
+      let clear : bit_at both k ≡ 0 = elim (cases_lt 0 both) [
+        | inl some ↦ (bit_at-trailing_zeros w64 both some both_fit).2 k before
+        | inr none ↦ let e : both ≡ 0 = omega arith in ap (λ n. bit_at n k) e ∙ bit_at-zero k
+      ] in
+      let o = bit_at_or (mask_of xs y) (mask_of xs z) k in
+      (λ e. (let a = bit_set xs y k h e in omega (arith, a, o, clear)), λ e. (let b = bit_set xs z k h e in omega (arith, b, o, clear)))
+
+-- the first n of some bytes, as they are loaded
+module _ (n : ℕ) (bytes : List ℕ) (y z : ℕ) (short : n ≤ 64) (long : n ≤ length bytes) where
+  lanes_len : length (take n bytes) ≡ n
+  lanes_len = length-take-le n bytes long
+
+  pub lowest_hit : (a b : ℕ) → a ≡ mask_of (take n bytes) y → b ≡ mask_of (take n bytes) z
+      → trailing_zeros w64 (bit_or a b) < n → (get_or bytes (trailing_zeros w64 (bit_or a b)) 0 ≡ y) ⊎ (get_or bytes (trailing_zeros w64 (bit_or a b)) 0 ≡ z)
+  lowest_hit a b is_a is_b h =
+      let k = trailing_zeros w64 (bit_or a b) in
+      let e : trailing_zeros w64 (both (take n bytes) y z (omega (arith, lanes_len, short))) ≡ k = rw (is_a, is_b) refl in
+      let same = get_or-take n bytes k 0 h in
+      let hit = subst (λ j. j < length (take n bytes) → (get_or (take n bytes) j 0 ≡ y) ⊎ (get_or (take n bytes) j 0 ≡ z)) e (first_hit (take n bytes) y z (omega (arith, lanes_len, short))) (omega (arith, lanes_len, h)) in
+      elim hit [
+        | inl one ↦ inl (sym same ∙ one)
+        | inr other ↦ inr (sym same ∙ other)
+      ]
+
+  pub lowest_missed : (a b : ℕ) → a ≡ mask_of (take n bytes) y → b ≡ mask_of (take n bytes) z
+      → (k : ℕ) → k < n → k < trailing_zeros w64 (bit_or a b) → (get_or bytes k 0 ≡ y → ⊥) × (get_or bytes k 0 ≡ z → ⊥)
+  lowest_missed a b is_a is_b k h before =
+      let e : trailing_zeros w64 (bit_or a b) ≡ trailing_zeros w64 (both (take n bytes) y z (omega (arith, lanes_len, short))) = rw (is_a, is_b) refl in
+      let same = get_or-take n bytes k 0 h in
+      let missed = first_missed (take n bytes) y z (omega (arith, lanes_len, short)) k (omega (arith, lanes_len, h)) (subst (λ j. k < j) e before) in
+      (λ f. missed.0 (same ∙ f), λ f. missed.1 (same ∙ f))

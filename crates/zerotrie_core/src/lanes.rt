@@ -1,0 +1,50 @@
+//! Bytes held against two others, many at once.
+
+ghost use Rattle.std.specs.Prelude.{◌≡◌, ◌≢◌, ℕ, ◌<◌, ◌≤◌, ◌⊎◌, length, slice_index};
+
+use std::simd::prelude::*;
+
+/// The first place among sixteen where one of two bytes stands, or 64.
+#[inline(always)]
+pub fn first_in_16(bytes: &[u8], one: u8, other: u8) -> usize
+    requires { 16 ≤ length bytes.now }
+    ensures hit { result < 16 → (slice_index bytes.now result ≡ one)
+        ⊎ (slice_index bytes.now result ≡ other) }
+    ensures missed { (k : ℕ) → k < 16 → k < result → (slice_index bytes.now k ≢ one)
+        × (slice_index bytes.now k ≢ other) }
+{
+    let lanes = u8x16::from_slice(bytes);
+    let ones = lanes.simd_eq(u8x16::splat(one)).to_bitmask();
+    let others = lanes.simd_eq(u8x16::splat(other)).to_bitmask();
+    (ones | others).trailing_zeros() as usize
+}
+
+/// The first place among 32 where one of two bytes stands, or 64.
+#[inline(always)]
+pub fn first_in_32(bytes: &[u8], one: u8, other: u8) -> usize
+    requires { 32 ≤ length bytes.now }
+    ensures hit { result < 32 → (slice_index bytes.now result ≡ one)
+        ⊎ (slice_index bytes.now result ≡ other) }
+    ensures missed { (k : ℕ) → k < 32 → k < result → (slice_index bytes.now k ≢ one)
+        × (slice_index bytes.now k ≢ other) }
+{
+    let lanes = u8x32::from_slice(bytes);
+    let ones = lanes.simd_eq(u8x32::splat(one)).to_bitmask();
+    let others = lanes.simd_eq(u8x32::splat(other)).to_bitmask();
+    (ones | others).trailing_zeros() as usize
+}
+
+/// The first place among 64 where one of two bytes stands, or 64.
+#[inline(always)]
+pub fn first_in_64(bytes: &[u8], one: u8, other: u8) -> usize
+    requires { 64 ≤ length bytes.now }
+    ensures hit { result < 64 → (slice_index bytes.now result ≡ one)
+        ⊎ (slice_index bytes.now result ≡ other) }
+    ensures missed { (k : ℕ) → k < 64 → k < result → (slice_index bytes.now k ≢ one)
+        × (slice_index bytes.now k ≢ other) }
+{
+    let lanes = u8x64::from_slice(bytes);
+    let ones = lanes.simd_eq(u8x64::splat(one)).to_bitmask();
+    let others = lanes.simd_eq(u8x64::splat(other)).to_bitmask();
+    (ones | others).trailing_zeros() as usize
+}
