@@ -2,12 +2,7 @@ mod Ranges
 mod Items
 mod NodeLemmas
 mod Runs
-mod Parting
-mod Asides
 mod Overflow
-mod Closing
-mod Taking
-mod Adding
 mod Building
 mod Sorting
 mod Permuted

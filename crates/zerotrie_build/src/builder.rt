@@ -1,35 +1,68 @@
 //! The builder.
 
-ghost use Rattle.std.specs.Prelude.{◌≡◌, ◌<◌, ℕ, All, IfOk};
+ghost use Rattle.std.specs.Prelude.{◌≡◌, ◌↔◌, IsTrue, IfOk, OnOk, IfErr, false};
+ghost use Rattle.std.specs.List.Sorted.{IsPermutation};
 ghost use Rattle.std.specs.Iterator.{IsFiniteIterable};
 ghost use Rattle.zerotrie_core.specs.Items.{pairs_of, keyed};
-ghost use Rattle.zerotrie_core.specs.Kind.{IsAscii, kind_with};
-ghost use Rattle.zerotrie_core.specs.Maps.{Ascends, RepeatsKey};
-ghost use Rattle.zerotrie_core.specs.Routes.{ascending, any_order, IsBuild, OfAllGiven, IsBuildOfAll};
+ghost use Rattle.zerotrie_core.specs.Kind.{kind_with};
+ghost use Rattle.zerotrie_core.specs.Maps.{Ascends};
+ghost use Rattle.zerotrie_core.specs.Routes.{ascending, any_order, HasCause, IsBuild, OfAllGiven, IsBuildOfAll};
 ghost use Rattle.zerotrie_build.specs.Items.{pairs};
-ghost use Rattle.zerotrie_build.specs.Order.{Ordered};
+ghost use Rattle.zerotrie_build.specs.Order.{Ordered, AreKeys};
 
-use crate::growing::grow;
+use crate::measuring::measure_all;
 use crate::order::{is_ordered, repeats_next, sort_by_fold};
 use crate::slice_indices::ByteSliceWithIndices;
 use crate::store::TrieBuilderStore;
+use crate::writing::write;
 use std::alloc::{AllocError, Global};
 use zerotrie_core::{
-    Ignore, Simple, TrieKey, ZeroTrieBuildError, ZeroTrieBuilderOptions, ZeroTrieWithOptions, laws,
+    Ext, Hash, Ignore, Simple, TrieKey, ZeroTrieBuildError, ZeroTrieBuilderOptions,
+    ZeroTrieWithOptions, laws,
 };
 
-/// The bytes of the trie of ASCII items in the order of the kind.
+/// Whether each byte of the keys is one that the kind takes.
+fn takes_bytes<K: ZeroTrieWithOptions>(items: ByteSliceWithIndices<'_>) -> bool
+    ensures { IsTrue result ↔ AreKeys K.kind (pairs items.entry) }
+{
+    K::SPANS || items.is_all_ascii()
+}
+
+/// Puts the items in the order of the kind.
+fn put_in_order<K: ZeroTrieWithOptions>(
+    items: &mut [(&[u8], usize)],
+) -> Result<(), ZeroTrieBuildError>
+    ensures same { IsPermutation (pairs_of items.old) (pairs_of items.new) }
+    ensures ordered { OnOk result (Ordered K.kind (pairs_of items.new)) }
+    ensures keys { OnOk result (AreKeys K.kind (pairs_of items.new)) }
+    ensures refused { IfErr result (λ e. HasCause any_order K.kind (pairs_of items.old) e) }
+{
+    sort_by_fold::<K>(items);
+    if repeats_next(items) {
+        return Err(ZeroTrieBuildError::DuplicateKey);
+    }
+    if !takes_bytes::<K>(ByteSliceWithIndices::from_byte_slice(items)) {
+        return Err(ZeroTrieBuildError::NonAsciiError);
+    }
+    if !is_ordered::<K>(items) {
+        return Err(ZeroTrieBuildError::MixedCase);
+    }
+    Ok(())
+}
+
+/// The bytes of the trie of items in the order of the kind.
 fn grow_ordered<K: ZeroTrieWithOptions, S: TrieBuilderStore + Drop>(
     alloc: Global,
     items: ByteSliceWithIndices<'_>,
 ) -> Result<S, ZeroTrieBuildError>
-    requires kind { IsAscii K.kind }
     requires ordered { Ordered K.kind (pairs items) }
-    requires ascii { All (λ e. All (λ b. b < 128) e.0) (pairs items) }
+    requires keys { AreKeys K.kind (pairs items) }
     ensures { IsBuild any_order K.kind S.list (pairs items.entry) result }
 {
     laws::canonical_exactly();
-    grow::<K, S>(alloc, items)
+    laws::meant_fits();
+    let measured = measure_all::<K>(alloc, items)?;
+    write::<K, S>(alloc, items, &measured)
 }
 
 /// The bytes of the trie of items in any order, which are put in the order of the kind.
@@ -37,40 +70,46 @@ fn grow_sorted<K: ZeroTrieWithOptions, S: TrieBuilderStore + Drop>(
     alloc: Global,
     items: &mut [(&[u8], usize)],
 ) -> Result<S, ZeroTrieBuildError>
-    requires { IsAscii K.kind }
     ensures { IsBuild any_order K.kind S.list (pairs_of items.old) result }
 {
-    sort_by_fold::<K>(items);
-    if repeats_next(items) {
-        return Err(ZeroTrieBuildError::DuplicateKey);
-    }
-    if !ByteSliceWithIndices::from_byte_slice(items).is_all_ascii() {
-        return Err(ZeroTrieBuildError::NonAsciiError);
-    }
-    if !is_ordered::<K>(items) {
-        return Err(ZeroTrieBuildError::MixedCase);
-    }
+    put_in_order::<K>(items)?;
     grow_ordered::<K, S>(alloc, ByteSliceWithIndices::from_byte_slice(items))
 }
 
+/// The bytes of the trie of items that ascend by the bytes of their keys, for a kind that has this order.
+fn grow_ascending<K: ZeroTrieWithOptions, S: TrieBuilderStore + Drop>(
+    alloc: Global,
+    items: ByteSliceWithIndices<'_>,
+) -> Result<S, ZeroTrieBuildError>
+    requires case { K.IGNORE_CASE ≡ false }
+    requires ascends { Ascends (pairs items) }
+    ensures { IsBuild any_order K.kind S.list (pairs items.entry) result }
+{
+    if !takes_bytes::<K>(items) {
+        return Err(ZeroTrieBuildError::NonAsciiError);
+    }
+    grow_ordered::<K, S>(alloc, items)
+}
+
 /// The bytes of the trie of items that ascend by the bytes of their keys.
-fn grow_ascending<S: TrieBuilderStore + Drop>(
+fn grow_ascending_by<S: TrieBuilderStore + Drop>(
     alloc: Global,
     items: ByteSliceWithIndices<'_>,
     options: ZeroTrieBuilderOptions,
 ) -> Result<S, ZeroTrieBuildError>
-    requires kind { IsAscii (kind_with options) }
-    requires ascends { Ascends (pairs items) }
+    requires { Ascends (pairs items) }
     ensures { IsBuild any_order (kind_with options) S.list (pairs items.entry) result }
 {
-    if !items.is_all_ascii() {
-        return Err(ZeroTrieBuildError::NonAsciiError);
+    if options.ignore_case() {
+        let mut items = items.to_vec_u8(alloc)?;
+        grow_sorted::<Ignore, S>(alloc, items.as_mut_slice())
+    } else if options.extended() {
+        grow_ascending::<Ext, S>(alloc, items)
+    } else if options.use_phf() {
+        grow_ascending::<Hash, S>(alloc, items)
+    } else {
+        grow_ascending::<Simple, S>(alloc, items)
     }
-    if !options.ignore_case() {
-        return grow_ordered::<Simple, S>(alloc, items);
-    }
-    let mut items = items.to_vec_u8(alloc)?;
-    grow_sorted::<Ignore, S>(alloc, items.as_mut_slice())
 }
 
 /// The bytes of the trie of items in any order.
@@ -79,11 +118,14 @@ fn grow_any<S: TrieBuilderStore + Drop>(
     items: &mut [(&[u8], usize)],
     options: ZeroTrieBuilderOptions,
 ) -> Result<S, ZeroTrieBuildError>
-    requires { IsAscii (kind_with options) }
     ensures { IsBuild any_order (kind_with options) S.list (pairs_of items.old) result }
 {
     if options.ignore_case() {
         grow_sorted::<Ignore, S>(alloc, items)
+    } else if options.extended() {
+        grow_sorted::<Ext, S>(alloc, items)
+    } else if options.use_phf() {
+        grow_sorted::<Hash, S>(alloc, items)
     } else {
         grow_sorted::<Simple, S>(alloc, items)
     }
@@ -135,13 +177,12 @@ impl<S: TrieBuilderStore + Drop> ZeroTrieBuilder<S> {
         items: ByteSliceWithIndices<'_>,
         options: ZeroTrieBuilderOptions,
     ) -> Result<Self, ZeroTrieBuildError>
-        requires { IsAscii (kind_with options) }
         ensures { IsBuild ascending (kind_with options) (λ b. S.list b.data) (pairs items.entry) result }
     {
         if !items.is_sorted() {
             return Err(ZeroTrieBuildError::Unsorted);
         }
-        let data = grow_ascending(alloc, items, options)?;
+        let data = grow_ascending_by(alloc, items, options)?;
         Ok(ZeroTrieBuilder { data })
     }
 
@@ -157,8 +198,7 @@ impl<S: TrieBuilderStore + Drop> ZeroTrieBuilder<S> {
     ) -> Result<Self, ZeroTrieBuildError>
     where
         U::IntoIter: Drop,
-        requires kind { IsAscii (kind_with options) }
-        requires steps { IsFiniteIterable U.into_iter_gives U.IntoIter.can_next U.IntoIter.remaining iter }
+        requires { IsFiniteIterable U.into_iter_gives U.IntoIter.can_next U.IntoIter.remaining iter }
         ensures { IsBuildOfAll (OfAllGiven U.into_iter_gives U.IntoIter.next_gives K.key iter)
             (kind_with options) (λ b. S.list b.data) result }
     {

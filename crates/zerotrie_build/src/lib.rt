@@ -2,12 +2,13 @@
 #![tactic(auto)]
 
 mod builder;
-mod growing;
-mod nodes;
+mod laying;
+mod measuring;
 mod order;
-mod siblings;
 mod slice_indices;
+mod steps;
 mod store;
+mod writing;
 
 pub use builder::ZeroTrieBuilder;
 pub use slice_indices::ByteSliceWithIndices;

@@ -1,0 +1,4 @@
+-- Words of the two passes.
+pub mod Windows
+pub mod Measured
+pub mod Puts
