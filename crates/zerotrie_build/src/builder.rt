@@ -11,7 +11,7 @@ ghost use Rattle.zerotrie_build.specs.Items.{pairs};
 ghost use Rattle.zerotrie_build.specs.Order.{Ordered, AreKeys};
 
 use crate::measuring::measure_all;
-use crate::order::{is_ordered, repeats_next, sort_by_fold};
+use crate::order::{are_keys, is_ordered, repeats_next, sort_by_fold};
 use crate::slice_indices::ByteSliceWithIndices;
 use crate::store::TrieBuilderStore;
 use crate::writing::write;
@@ -21,13 +21,6 @@ use zerotrie_core::{
     ZeroTrieWithOptions, laws,
 };
 
-/// Whether each byte of the keys is one that the kind takes.
-fn takes_bytes<K: ZeroTrieWithOptions>(items: ByteSliceWithIndices<'_>) -> bool
-    ensures { IsTrue result ↔ AreKeys K.kind (pairs items.entry) }
-{
-    K::SPANS || items.is_all_ascii()
-}
-
 /// Puts the items in the order of the kind.
 fn put_in_order<K: ZeroTrieWithOptions>(
     items: &mut [(&[u8], usize)],
@@ -35,16 +28,17 @@ fn put_in_order<K: ZeroTrieWithOptions>(
     ensures same { IsPermutation (pairs_of items.old) (pairs_of items.new) }
     ensures ordered { OnOk result (Ordered K.kind (pairs_of items.new)) }
     ensures keys { OnOk result (AreKeys K.kind (pairs_of items.new)) }
-    ensures refused { IfErr result (λ e. HasCause any_order K.kind (pairs_of items.old) e) }
+    ensures refused { IfErr result (HasCause any_order K.kind (pairs_of items.old)) }
 {
     sort_by_fold::<K>(items);
     if repeats_next(items) {
         return Err(ZeroTrieBuildError::DuplicateKey);
     }
-    if !takes_bytes::<K>(ByteSliceWithIndices::from_byte_slice(items)) {
+    let sorted = ByteSliceWithIndices::from_byte_slice(items);
+    if !are_keys::<K>(sorted) {
         return Err(ZeroTrieBuildError::NonAsciiError);
     }
-    if !is_ordered::<K>(items) {
+    if K::IGNORE_CASE && !is_ordered::<K>(sorted) {
         return Err(ZeroTrieBuildError::MixedCase);
     }
     Ok(())
@@ -76,23 +70,27 @@ fn grow_sorted<K: ZeroTrieWithOptions, S: TrieBuilderStore + Drop>(
     grow_ordered::<K, S>(alloc, ByteSliceWithIndices::from_byte_slice(items))
 }
 
-/// The bytes of the trie of items that ascend by the bytes of their keys, for a kind that has this order.
+/// The bytes of the trie of items that ascend by the bytes of their keys. Where the kind has another order,
+/// they are sorted once more, unless they are in that order too.
 fn grow_ascending<K: ZeroTrieWithOptions, S: TrieBuilderStore + Drop>(
     alloc: Global,
     items: ByteSliceWithIndices<'_>,
 ) -> Result<S, ZeroTrieBuildError>
-    requires case { K.IGNORE_CASE ≡ false }
-    requires ascends { Ascends (pairs items) }
+    requires { Ascends (pairs items) }
     ensures { IsBuild any_order K.kind S.list (pairs items.entry) result }
 {
-    if !takes_bytes::<K>(items) {
+    if !are_keys::<K>(items) {
         return Err(ZeroTrieBuildError::NonAsciiError);
     }
-    grow_ordered::<K, S>(alloc, items)
+    if !K::IGNORE_CASE || is_ordered::<K>(items) {
+        return grow_ordered::<K, S>(alloc, items);
+    }
+    let mut items = items.to_vec_u8(alloc)?;
+    grow_sorted::<K, S>(alloc, items.as_mut_slice())
 }
 
-/// The bytes of the trie of items that ascend by the bytes of their keys.
-fn grow_ascending_by<S: TrieBuilderStore + Drop>(
+/// The bytes of the trie of items that ascend by the bytes of their keys, in the kind of the options.
+fn grow_slice<S: TrieBuilderStore + Drop>(
     alloc: Global,
     items: ByteSliceWithIndices<'_>,
     options: ZeroTrieBuilderOptions,
@@ -101,8 +99,7 @@ fn grow_ascending_by<S: TrieBuilderStore + Drop>(
     ensures { IsBuild any_order (kind_with options) S.list (pairs items.entry) result }
 {
     if options.ignore_case() {
-        let mut items = items.to_vec_u8(alloc)?;
-        grow_sorted::<Ignore, S>(alloc, items.as_mut_slice())
+        grow_ascending::<Ignore, S>(alloc, items)
     } else if options.extended() {
         grow_ascending::<Ext, S>(alloc, items)
     } else if options.use_phf() {
@@ -112,7 +109,7 @@ fn grow_ascending_by<S: TrieBuilderStore + Drop>(
     }
 }
 
-/// The bytes of the trie of items in any order.
+/// The bytes of the trie of items in any order, in the kind of the options.
 fn grow_any<S: TrieBuilderStore + Drop>(
     alloc: Global,
     items: &mut [(&[u8], usize)],
@@ -182,7 +179,7 @@ impl<S: TrieBuilderStore + Drop> ZeroTrieBuilder<S> {
         if !items.is_sorted() {
             return Err(ZeroTrieBuildError::Unsorted);
         }
-        let data = grow_ascending_by(alloc, items, options)?;
+        let data = grow_slice(alloc, items, options)?;
         Ok(ZeroTrieBuilder { data })
     }
 

@@ -2,7 +2,6 @@
 #![tactic(auto)]
 
 mod builder;
-mod laying;
 mod measuring;
 mod order;
 mod slice_indices;
