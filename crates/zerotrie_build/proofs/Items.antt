@@ -1,4 +1,4 @@
-use Rattle.std.proofs.Common.{◌≡◌, ℕ, zero, suc, ◌+◌, ◌<◌, ◌≤◌, ◌⊎◌, List, [], ◌∷◌, ◌++◌, length, get_or, take, arith, refl, ap, ◌∙◌, sym, Some, slice_get, All, Ordering, Equal, Greater, is_lt, Bool, true, false, IsTrue, ◌↔◌, Fits, w8, subst, inl, inr}
+use Rattle.std.proofs.Common.{◌≡◌, ℕ, zero, suc, ◌+◌, ◌^◌, ◌<◌, ◌≤◌, ◌⊎◌, List, [], ◌∷◌, ◌++◌, length, get_or, take, arith, refl, ap, ◌∙◌, sym, Some, slice_get, All, Ordering, Equal, Greater, is_lt, Bool, true, false, IsTrue, ◌↔◌, Fits, w8, subst, inl, inr}
 use Rattle.std.proofs.lemmas.Option.{slice_get-map, slice_get-get_or, slice_get_within, get_or_from_slice_get}
 use Rattle.std.proofs.lemmas.Grind.{common_steps}
 use Rattle.std.specs.Borrow.{Bor}
@@ -167,5 +167,14 @@ keys_on limit pairs i a p before here k d below =
     let le : k ≤ i = omega arith in
     elim (eq-or-lt_of_le le) [
       | inl same ↦ subst (λ x. All (λ b. b < limit) (get_or pairs x d).0) (sym same) (subst (λ x. All (λ b. b < limit) x.0) (sym (got pairs i d a p)) here)
+      | inr less ↦ before k d less
+    ]
+
+pub values_on : (pairs : Pairs) (i : ℕ) (a : List ℕ × ℕ) → slice_get pairs i ≡ Some a → ((k : ℕ) (d : List ℕ × ℕ) → k < i → (get_or pairs k d).1 < 2 ^ 64)
+    → a.1 < 2 ^ 64 → (k : ℕ) (d : List ℕ × ℕ) → k < i + 1 → (get_or pairs k d).1 < 2 ^ 64
+values_on pairs i a p before here k d below =
+    let le : k ≤ i = omega arith in
+    elim (eq-or-lt_of_le le) [
+      | inl same ↦ subst (λ x. (get_or pairs x d).1 < 2 ^ 64) (sym same) (subst (λ x. x.1 < 2 ^ 64) (sym (got pairs i d a p)) here)
       | inr less ↦ before k d less
     ]

@@ -6,9 +6,9 @@ ghost use Rattle.std.specs.Iterator.{IsFiniteIterable};
 ghost use Rattle.zerotrie_core.specs.Items.{pairs_of, keyed};
 ghost use Rattle.zerotrie_core.specs.Kind.{kind_with};
 ghost use Rattle.zerotrie_core.specs.Maps.{Ascends};
-ghost use Rattle.zerotrie_core.specs.Routes.{ascending, any_order, HasCause, IsBuild, OfAllGiven, IsBuildOfAll};
+ghost use Rattle.zerotrie_core.specs.Routes.{ascending, any_order, HasCause, IsBuild, IsLength, OfAllGiven, IsBuildOfAll};
 ghost use Rattle.zerotrie_build.specs.Items.{pairs};
-ghost use Rattle.zerotrie_build.specs.Order.{Ordered, AreKeys};
+ghost use Rattle.zerotrie_build.specs.Order.{Ordered, AreKeys, AreValues};
 
 use crate::measuring::measure_all;
 use crate::order::{are_keys, is_ordered, repeats_next, sort_by_fold};
@@ -28,6 +28,7 @@ fn put_in_order<K: ZeroTrieWithOptions>(
     ensures same { IsPermutation (pairs_of items.old) (pairs_of items.new) }
     ensures ordered { OnOk result (Ordered K.kind (pairs_of items.new)) }
     ensures keys { OnOk result (AreKeys K.kind (pairs_of items.new)) }
+    ensures values { OnOk result (AreValues (pairs_of items.new)) }
     ensures refused { IfErr result (HasCause any_order K.kind (pairs_of items.old)) }
 {
     sort_by_fold::<K>(items);
@@ -126,6 +127,88 @@ fn grow_any<S: TrieBuilderStore + Drop>(
     } else {
         grow_sorted::<Simple, S>(alloc, items)
     }
+}
+
+/// How long the text of items in the order of the kind is.
+fn len_ordered<K: ZeroTrieWithOptions>(
+    alloc: Global,
+    items: ByteSliceWithIndices<'_>,
+) -> Result<usize, ZeroTrieBuildError>
+    requires ordered { Ordered K.kind (pairs items) }
+    requires keys { AreKeys K.kind (pairs items) }
+    requires values { AreValues (pairs items) }
+    ensures { IsLength any_order K.kind (pairs items.entry) result }
+{
+    let measured = measure_all::<K>(alloc, items)?;
+    Ok(measured.targets[0].len)
+}
+
+/// How long the text of items that ascend by the bytes of their keys is.
+fn len_ascending<K: ZeroTrieWithOptions>(
+    alloc: Global,
+    items: ByteSliceWithIndices<'_>,
+) -> Result<usize, ZeroTrieBuildError>
+    requires { Ascends (pairs items) }
+    ensures { IsLength any_order K.kind (pairs items.entry) result }
+{
+    if !are_keys::<K>(items) {
+        return Err(ZeroTrieBuildError::NonAsciiError);
+    }
+    if !K::IGNORE_CASE || is_ordered::<K>(items) {
+        return len_ordered::<K>(alloc, items);
+    }
+    let mut items = items.to_vec_u8(alloc)?;
+    put_in_order::<K>(items.as_mut_slice())?;
+    len_ordered::<K>(
+        alloc,
+        ByteSliceWithIndices::from_byte_slice(items.as_slice()),
+    )
+}
+
+/// How long the text of items that ascend by the bytes of their keys is, in the kind of the options.
+fn len_slice(
+    alloc: Global,
+    items: ByteSliceWithIndices<'_>,
+    options: ZeroTrieBuilderOptions,
+) -> Result<usize, ZeroTrieBuildError>
+    requires { Ascends (pairs items) }
+    ensures { IsLength any_order (kind_with options) (pairs items.entry) result }
+{
+    if options.ignore_case() {
+        len_ascending::<Ignore>(alloc, items)
+    } else if options.extended() {
+        len_ascending::<Ext>(alloc, items)
+    } else if options.use_phf() {
+        len_ascending::<Hash>(alloc, items)
+    } else {
+        len_ascending::<Simple>(alloc, items)
+    }
+}
+
+/// How many bytes a build of the items has, whose keys ascend strictly by their bytes. It writes none of
+/// them. No items have no bytes.
+///
+/// ```
+/// let items = [("ad", 22), ("adef", 33)];
+/// let items = ByteSliceWithIndices::from_str_slice(&items);
+/// assert_eq!(rt; encoded_len(rt.alloc(), items, ZeroTrieBuilderOptions::of::<Simple>())?, 7);
+/// ```
+///
+/// It is refused with `Unsorted`, `NonAsciiError`, `MixedCase`, `CapacityExceeded` or `OutOfMemory`, each for
+/// the reason that `ZeroTrieBuildError` gives, and so just where a build is, but for a hashed table that
+/// isn't found.
+pub fn encoded_len(
+    alloc: Global,
+    items: ByteSliceWithIndices<'_>,
+    options: ZeroTrieBuilderOptions,
+) -> Result<usize, ZeroTrieBuildError>
+    ensures { IsLength ascending (kind_with options) (pairs items.entry) result }
+{
+    if !items.is_sorted() {
+        return Err(ZeroTrieBuildError::Unsorted);
+    }
+    let len = len_slice(alloc, items, options)?;
+    Ok(len)
 }
 
 /// The items, each key by its bytes. The keys' bytes are not copied.

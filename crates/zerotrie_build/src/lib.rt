@@ -1,4 +1,4 @@
-//! The builder that grows a trie's bytes backwards, from the last node to the first.
+//! The builder of a trie's bytes, which measures them first and then writes them from the first to the last.
 #![tactic(auto)]
 
 mod builder;
@@ -9,6 +9,6 @@ mod steps;
 mod store;
 mod writing;
 
-pub use builder::ZeroTrieBuilder;
+pub use builder::{ZeroTrieBuilder, encoded_len};
 pub use slice_indices::ByteSliceWithIndices;
 pub use store::TrieBuilderStore;

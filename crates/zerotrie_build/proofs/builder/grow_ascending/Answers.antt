@@ -7,7 +7,7 @@ use Rattle.zerotrie_build.proofs.builder.grow_ascending.Goals.{then-not-IGNORE_C
 
 pub returns-then-not-are_keys : goal.returns-then-not-are_keys
 returns-then-not-are_keys g c =
-    inr ((λ e. cc), some_foreign g.K.ZeroTrieWithOptions.kind (pairs c.args.items) (λ all. let yes = c.are_keys.ensures.1 all in let no = c.if-not-are_keys.true in cc))
+    inr ((λ e. cc), some_foreign g.K.ZeroTrieWithOptions.kind (pairs c.args.items) (λ all. let yes = c.are_keys.ensures.keys.1 all in let no = c.if-not-are_keys.true in cc))
 
 pub grow_ordered-requires-clause-ordered : goal.grow_ordered-requires-clause-ordered
 grow_ordered-requires-clause-ordered g c =

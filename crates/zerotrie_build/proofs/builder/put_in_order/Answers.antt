@@ -5,7 +5,7 @@ use Rattle.zerotrie_core.specs.Items.{pairs_of}
 use Rattle.zerotrie_core.specs.Kind.{flags}
 use Rattle.zerotrie_core.specs.Maps.{IsCaseConsistent}
 use Rattle.zerotrie_core.specs.declared.ZeroTrieBuildError.TheVariants.{DuplicateKey, NonAsciiError, MixedCase}
-use Rattle.zerotrie_build.specs.Order.{AreKeys, Ordered, RepeatsNext}
+use Rattle.zerotrie_build.specs.Order.{AreKeys, AreValues, Ordered, RepeatsNext}
 use Rattle.zerotrie_build.proofs.Building.{some_foreign}
 use Rattle.zerotrie_build.proofs.Permuted.{consistent_permuted, has_cause_permuted}
 use Rattle.zerotrie_build.proofs.Sorting.{next_repeats, sorted_ordered, plain_consistent}
@@ -31,7 +31,7 @@ returns-then-not-are_keys-clause-refused g c =
     let sorted = c.sort_by_fold.new.items in
     has_cause_permuted kind (pairs_of c.args.items.now) (pairs_of sorted) NonAsciiError
     (IsPermutation-map (λ e. (e.0.now, e.1)) c.args.items.now sorted c.sort_by_fold.ensures.same)
-    ((λ e. cc), some_foreign kind (pairs_of sorted) (λ all. let yes = c.are_keys.ensures.1 (subst (AreKeys kind) (sym c.from_byte_slice-sorted.ensures) all) in let no = c.if-not-are_keys.true in cc))
+    ((λ e. cc), some_foreign kind (pairs_of sorted) (λ all. let yes = c.are_keys.ensures.keys.1 (subst (AreKeys kind) (sym c.from_byte_slice-sorted.ensures) all) in let no = c.if-not-are_keys.true in cc))
 
 pub returns-then-not-is_ordered-clause-same : goal.returns-then-not-is_ordered-clause-same
 returns-then-not-is_ordered-clause-same g c = IsPermutation-map (λ e. (e.0.now, e.1)) c.args.items.now c.sort_by_fold.new.items c.sort_by_fold.ensures.same
@@ -66,4 +66,7 @@ returns-clause-ordered g c =
     ]
 
 pub returns-clause-keys : goal.returns-clause-keys
-returns-clause-keys g c = subst (AreKeys g.K.ZeroTrieWithOptions.kind) c.from_byte_slice-sorted.ensures (c.are_keys.ensures.0 c.if-not-are_keys.false)
+returns-clause-keys g c = subst (AreKeys g.K.ZeroTrieWithOptions.kind) c.from_byte_slice-sorted.ensures (c.are_keys.ensures.keys.0 c.if-not-are_keys.false)
+
+pub returns-clause-values : goal.returns-clause-values
+returns-clause-values g c = subst AreValues c.from_byte_slice-sorted.ensures (c.are_keys.ensures.values c.if-not-are_keys.false)
