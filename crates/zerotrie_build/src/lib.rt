@@ -2,6 +2,7 @@
 #![tactic(auto)]
 
 mod builder;
+mod laying;
 mod measuring;
 mod order;
 mod slice_indices;

@@ -7,11 +7,145 @@ ghost use Rattle.zerotrie_core.specs.Causes.{Cause};
 ghost use Rattle.zerotrie_build.specs.Items.{pairs};
 ghost use Rattle.zerotrie_build.specs.passes.Measured.{IsMeasured};
 
-use crate::measuring::Measured;
+use crate::laying::Layout;
+use crate::measuring::{Measured, Target, width_of};
 use crate::slice_indices::ByteSliceWithIndices;
+use crate::steps::{Step, Window, first_step};
 use crate::store::TrieBuilderStore;
-use std::alloc::Global;
-use zerotrie_core::{ZeroTrieBuildError, ZeroTrieWithOptions};
+use std::alloc::{AllocError, Global};
+use zerotrie_core::{
+    ZeroTrieBuildError, ZeroTrieWithOptions, write_varint_meta2, write_varint_meta3,
+};
+
+/// The bits of the lead of a value node.
+const VALUE: u8 = 0b1000_0000;
+
+/// The bits of the lead of a span.
+const SPAN: u8 = 0b1010_0000;
+
+/// The bits of the lead of a branch.
+const BRANCH: u8 = 0b1100_0000;
+
+/// A store whose first `at` bytes are written. The others are zeros.
+#[derive(Drop)]
+pub(crate) struct Writing<S> {
+    pub(crate) data: S,
+    pub(crate) at: usize,
+}
+
+impl<S: TrieBuilderStore + Drop> Writing<S> {
+    /// Writes a byte.
+    fn put(&mut self, byte: u8) {
+        // That a length is below 2^64 tells the proof that so is the place behind it.
+        let _len = self.data.atbs_len();
+        self.data.atbs_bitor_assign(self.at, byte);
+        self.at += 1;
+    }
+
+    /// Writes bytes.
+    fn put_all(&mut self, bytes: &[u8]) {
+        for byte in bytes {
+            self.put(*byte);
+        }
+    }
+
+    /// Writes a number, with these bits added to its lead.
+    fn put_number(&mut self, bits: u8, number: &[u8]) {
+        if let Some((lead, trail)) = number.split_first() {
+            self.put(bits + *lead);
+            self.put_all(trail);
+        }
+    }
+
+    /// Writes the bytes of this weight of the offsets of a branch to these targets.
+    fn put_block(&mut self, targets: &[Target], numbers: &[usize], place: usize) {
+        let mut end = 0;
+        for index in 1..numbers.len() {
+            end += targets[numbers[index - 1]].len;
+            self.put(((end >> (8 * place)) % 256) as u8);
+        }
+    }
+
+    /// Writes a branch with this search table in front of these targets.
+    fn put_branch(&mut self, table: &[u8], targets: &[Target], numbers: &[usize]) {
+        let width = width_of(total(targets, numbers));
+        self.put_number(
+            BRANCH,
+            &write_varint_meta2(256 * width + numbers.len() % 256),
+        );
+        self.put_all(table);
+        for place in (0..width + 1).rev() {
+            self.put_block(targets, numbers, place);
+        }
+    }
+
+    /// Writes a span of the bytes that the window's keys go on with.
+    fn put_span(&mut self, items: ByteSliceWithIndices<'_>, window: Window, run: usize) {
+        let (key, _) = items.get(window.from);
+        self.put_number(SPAN, &write_varint_meta3(run));
+        self.put_all(&key[window.depth..window.depth + run]);
+    }
+
+    /// Writes a window up to the targets of its first branch, and lays these out.
+    fn put_front<K: ZeroTrieWithOptions>(
+        &mut self,
+        items: ByteSliceWithIndices<'_>,
+        measured: &Measured,
+        index: usize,
+        layout: &mut Layout,
+    ) -> Result<(), ZeroTrieBuildError> {
+        layout.clear();
+        let mut rest = measured.windows[index];
+        loop {
+            match first_step::<K>(items, rest) {
+                Step::End => return Ok(()),
+                Step::Value(value) => {
+                    self.put_number(VALUE, &write_varint_meta3(value));
+                    rest.from += 1;
+                }
+                Step::Literal(byte) => {
+                    self.put(byte);
+                    rest.depth += 1;
+                }
+                Step::Span(run) => {
+                    self.put_span(items, rest, run);
+                    rest.depth += run;
+                }
+                Step::Branch => {
+                    layout.set::<K>(items, measured, measured.targets[index])?;
+                    self.put_branch(
+                        layout.table.as_slice(),
+                        measured.targets.as_slice(),
+                        layout.numbers.as_slice(),
+                    );
+                    return Ok(());
+                }
+            }
+        }
+    }
+}
+
+/// The sum of the lengths of these targets.
+fn total(targets: &[Target], numbers: &[usize]) -> usize {
+    let mut total = 0;
+    for number in numbers {
+        total += targets[*number].len;
+    }
+    total
+}
+
+/// Puts the numbers on the list of open windows, the first on top.
+fn push_numbers(pending: &mut Vec<usize>, numbers: &[usize]) -> Result<(), AllocError> {
+    for number in numbers.iter().rev() {
+        pending.push(*number)?;
+    }
+    Ok(())
+}
+
+/// Takes the number on top off.
+fn next_number(pending: &mut Vec<usize>) -> Option<usize> {
+    pending.pop()
+}
 
 /// Writes the text of the items.
 pub(crate) fn write<K: ZeroTrieWithOptions, S: TrieBuilderStore + Drop>(
@@ -24,6 +158,16 @@ pub(crate) fn write<K: ZeroTrieWithOptions, S: TrieBuilderStore + Drop>(
     ensures refused { IfErr result (λ e. e ≢ ZeroTrieBuildError.OutOfMemory
         → (e ≡ ZeroTrieBuildError.CouldNotSolvePerfectHash) × Cause K.kind (pairs items.entry) e) }
 {
-    let _stub = (alloc, items.len(), measured.windows.len());
-    Err(ZeroTrieBuildError::OutOfMemory)
+    let mut data = S::atbs_new_empty(alloc);
+    data.atbs_prepend_n_zeros(measured.targets[0].len)?;
+    let mut writing = Writing { data, at: 0 };
+    let mut layout = Layout::new(alloc);
+    let mut pending = Vec::new(alloc);
+    pending.push(0)?;
+    while let Some(index) = next_number(&mut pending) {
+        writing.put_front::<K>(items, measured, index, &mut layout)?;
+        push_numbers(&mut pending, layout.numbers.as_slice())?;
+    }
+    let Writing { data, at: _ } = writing;
+    Ok(data)
 }
