@@ -29,3 +29,11 @@ pub use Rattle.zerotrie_core.proofs.SpanLemmas.{value_at-run, residual-run, resi
 -- the length of texts, by what stands first in them
 pub use Rattle.zerotrie_core.proofs.SizeLemmas.{size_none, size_value, size_literal, size_span, size_branch}
 pub use Rattle.zerotrie_core.proofs.SizeLaws.{listed_size}
+-- pairs in groups behind their first bytes, and the edges in the order of the kind
+pub use Rattle.zerotrie_core.proofs.KindLemmas.{edge_limit_to}
+pub use Rattle.zerotrie_core.proofs.EdgeLemmas.{member, member_head, member_later, begins_some-append, begins_some-front}
+pub use Rattle.zerotrie_core.proofs.OrderedLemmas.{ordered_is, edges_rise, member-edges, member-edges_past, length-ordered, total-ordered}
+pub use Rattle.zerotrie_core.proofs.CanonLaws.{edge_once, residual_later, not_first}
+pub use Rattle.zerotrie_core.proofs.EncodeLaws.{rises_increasing}
+pub use Rattle.zerotrie_core.proofs.FrontLemmas.{front_len, length-branch_front}
+pub use Rattle.zerotrie_core.proofs.SameLemmas.{same-size_of}
