@@ -6,3 +6,4 @@ mod Overflow
 mod Building
 mod Sorting
 mod Permuted
+mod StepLemmas
