@@ -7,3 +7,4 @@ mod Building
 mod Sorting
 mod Permuted
 mod StepLemmas
+mod PutLemmas
