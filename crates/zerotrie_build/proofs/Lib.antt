@@ -8,3 +8,5 @@ mod Sorting
 mod Permuted
 mod WindowLemmas
 mod GroupLemmas
+mod StepLemmas
+mod PutLemmas

@@ -2,3 +2,4 @@
 pub mod Windows
 pub mod Measured
 pub mod Puts
+pub mod Writing
