@@ -50,7 +50,7 @@ no_pair [] h = refl
 no_pair (e ∷ pairs) h = absurd (cc)
 
 -- each group is what stands behind its byte
-sizes_grouped : (kind : Kind) (f : Pairs → ℕ) (bs : List ℕ) (ps : List Pairs) (all : Pairs) → SomeEach bs ps → Rises kind bs → ((b : ℕ) → member b bs ≡ true → residual b all ≡ residual b (grouped bs ps))
+pub sizes_grouped : {A : Type 0} (kind : Kind) (f : Pairs → A) (bs : List ℕ) (ps : List Pairs) (all : Pairs) → SomeEach bs ps → Rises kind bs → ((b : ℕ) → member b bs ≡ true → residual b all ≡ residual b (grouped bs ps))
     → map (λ b. f (residual b all)) bs ≡ map f ps
 sizes_grouped kind f [] [] all some rises same = refl
 sizes_grouped kind f [] (p ∷ ps) all some rises same = absurd some

@@ -10,3 +10,4 @@ mod WindowLemmas
 mod GroupLemmas
 mod StepLemmas
 mod PutLemmas
+mod RunLemmas

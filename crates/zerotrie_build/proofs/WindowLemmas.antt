@@ -116,7 +116,7 @@ at_span kind (Some c) (Some e) x n m h = elim (eqb_tells e c) [
     chosen true e h = (cc, e)
     chosen false e h = absurd (cc)
 
-no_byte : (key : List ℕ) (d : ℕ) → slice_get key d ≡ None → drop d key ≡ []
+pub no_byte : (key : List ℕ) (d : ℕ) → slice_get key d ≡ None → drop d key ≡ []
 no_byte key d h = elim (slice_get_cases key d).1 [
   | inl there ↦ absurd (let e = there.2 in cc)
   | inr past ↦ drop_all d key past.0
@@ -132,7 +132,7 @@ step_value kind all w v within e =
     ∙ ap (λ x. ([], x) ∷ cut all (w.from + 1) w.to w.depth) a.1)
 
 -- the key of the last pair
-abbrev last_key : Pairs → List ℕ
+abbrev pub last_key : Pairs → List ℕ
 last_key [] = []
 last_key (e ∷ []) = e.0
 last_key (e ∷ f ∷ more) = last_key (f ∷ more)
@@ -173,7 +173,7 @@ last_take d zero (x ∷ xs) h = refl
 last_take d (suc n) (x ∷ []) h = absurd (omega arith)
 last_take d (suc n) (x ∷ y ∷ xs) h = last_take d n (y ∷ xs) (omega arith)
 
-last_cut : (all : Pairs) (from to d : ℕ) → from < to → to ≤ length all → last_key (cut all from to d) ≡ drop d (item_of all (to - 1)).0
+pub last_cut : (all : Pairs) (from to d : ℕ) → from < to → to ≤ length all → last_key (cut all from to d) ≡ drop d (item_of all (to - 1)).0
 last_cut all from to d h within =
     let n = to - from - 1 in
     let e : to - from ≡ suc n = omega arith in
@@ -279,7 +279,7 @@ edge_most perfect_hash b h = h
 edge_most extended_capacity b h = h
 
 -- the first byte behind the depth is one of the kind
-rest_byte : (kind : Kind) (all : Pairs) (i d b : ℕ) (k : List ℕ) → AreKeys kind all → i < length all → drop d (item_of all i).0 ≡ b ∷ k → b < edge_limit kind
+pub rest_byte : (kind : Kind) (all : Pairs) (i d b : ℕ) (k : List ℕ) → AreKeys kind all → i < length all → drop d (item_of all i).0 ≡ b ∷ k → b < edge_limit kind
 rest_byte kind all i d b k keys h is =
     let key = (item_of all i).0 in
     let long = length-drop d key in
