@@ -11,3 +11,4 @@ mod GroupLemmas
 mod StepLemmas
 mod PutLemmas
 mod RunLemmas
+mod OpenLemmas

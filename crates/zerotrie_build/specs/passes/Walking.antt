@@ -51,5 +51,5 @@ pub record Measuring (kind : Kind) (all : Pairs) (windows : List Window) (target
   pub whole : window_at windows 0 ≡ record { from = 0; to = length all; depth = 0 }
   pub placed : (i : ℕ) → i < length windows → IsPlaced kind all (window_at windows i)
   pub walked : (i : ℕ) → i < index → IsWalked kind all windows i (target_at targets i)
-  pub opened : (i : ℕ) → index ≤ i → i < length windows → i < (target_at targets i).first
+  pub later : (i : ℕ) → index ≤ i → i < length windows → i < (target_at targets i).first
   pub each : (i : ℕ) → index ≤ i → i < length windows → IsOpen kind all windows targets (window_at windows i) (target_at targets i)
