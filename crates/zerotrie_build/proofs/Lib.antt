@@ -7,3 +7,9 @@ mod Building
 mod Sorting
 mod Permuted
 mod Parting
+mod WindowLemmas
+mod GroupLemmas
+mod StepLemmas
+mod PutLemmas
+mod RunLemmas
+mod OpenLemmas

@@ -2,3 +2,5 @@
 pub mod Windows
 pub mod Measured
 pub mod Puts
+pub mod Writing
+pub mod Walking

@@ -1,7 +1,9 @@
 //! The first pass: the lengths of the text and of the targets of its branches.
 
 ghost use Rattle.std.specs.Prelude.{◌≡◌, ◌≢◌, ℕ, List, ◌+◌, ◌-◌, ◌*◌, ◌%◌, ◌^◌, ◌<◌, ◌≤◌, ◌++◌, length, map, IfOk, OnOk, IfErr, Some};
+ghost use Rattle.zerotrie_core.specs.Kind.{is_hashed};
 ghost use Rattle.zerotrie_core.specs.Maps.{map_of};
+ghost use Rattle.zerotrie_core.specs.Branches.{IsWidth};
 ghost use Rattle.zerotrie_core.specs.Fits.{ExceedsCapacity};
 ghost use Rattle.zerotrie_build.specs.Items.{pairs};
 ghost use Rattle.zerotrie_build.specs.Order.{Ordered, AreKeys};
@@ -130,7 +132,9 @@ impl Measured {
 }
 
 /// The least number w with `total` below 256^(w + 1).
-pub(crate) fn width_of(total: usize) -> usize {
+pub(crate) fn width_of(total: usize) -> usize
+    ensures { IsWidth total result }
+{
     let mut width = 0;
     let mut rest = total;
     while rest >= 256 {
@@ -141,7 +145,9 @@ pub(crate) fn width_of(total: usize) -> usize {
 }
 
 /// Whether a branch of so many edges has a hashed table.
-pub(crate) fn is_hashed<K: ZeroTrieWithOptions>(edges: usize) -> bool {
+pub(crate) fn is_hashed<K: ZeroTrieWithOptions>(edges: usize) -> bool
+    ensures { result ≡ is_hashed K.kind edges }
+{
     K::USE_PHF && edges >= 16
 }
 

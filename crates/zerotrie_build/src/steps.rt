@@ -1,6 +1,6 @@
 //! What stands first in the text of a window of the items.
 
-ghost use Rattle.std.specs.Prelude.{◌≡◌, ℕ, ◌+◌, ◌^◌, ◌<◌, ◌≤◌, IfSome, length};
+ghost use Rattle.std.specs.Prelude.{◌≡◌, ℕ, ◌+◌, ◌-◌, ◌^◌, ◌<◌, ◌≤◌, IfSome, Some, length};
 ghost use Rattle.zerotrie_build.specs.Items.{pairs};
 ghost use Rattle.zerotrie_build.specs.passes.Windows.{step_of, byte_of, edge_of, high_front, IsGroup};
 
@@ -57,18 +57,29 @@ fn high_front_len(key: &[u8], other: &[u8]) -> usize
     count
 }
 
-/// What the keys of the window go on with, where its first and its last key both go on with this byte.
+/// What stands first in the text of the window, where its first and its last key both go on with this byte.
 fn common_step<K: ZeroTrieWithOptions>(
     items: ByteSliceWithIndices<'_>,
     window: Window,
     byte: u8,
-) -> Step {
+) -> Step
+    requires some { window.from < window.to }
+    requires items { window.to ≤ length (pairs items) }
+    requires first { byte_of (pairs items) window.from window.depth ≡ Some byte }
+    requires last { byte_of (pairs items) (window.to - 1) window.depth ≡ Some byte }
+    ensures is { result ≡ step_of K.kind (pairs items.entry) window }
+    ensures span { (n : ℕ) → result ≡ Step.Span n → window.depth + n < 2 ^ 64 }
+{
     if !K::SPANS || byte < 128 {
         return Step::Literal(byte);
     }
     let (first, _) = items.get(window.from);
     let (last, _) = items.get(window.to - 1);
-    Step::Span(high_front_len(&first[window.depth..], &last[window.depth..]))
+    let _len = first.len();
+    Step::Span(high_front_len(
+        &first[window.depth..],
+        &last[window.depth..],
+    ))
 }
 
 /// What stands first in the text of the window.
@@ -80,6 +91,7 @@ pub(crate) fn first_step<K: ZeroTrieWithOptions>(
     ensures is { result ≡ step_of K.kind (pairs items.entry) window }
     ensures literal { (b : ℕ) → result ≡ Step.Literal b → window.depth + 1 < 2 ^ 64 }
     ensures span { (n : ℕ) → result ≡ Step.Span n → window.depth + n < 2 ^ 64 }
+    ensures branch { result ≡ Step.Branch → window.depth + 1 < 2 ^ 64 }
 {
     if window.from >= window.to {
         return Step::End;
