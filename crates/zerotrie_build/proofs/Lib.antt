@@ -13,3 +13,5 @@ mod StepLemmas
 mod PutLemmas
 mod RunLemmas
 mod OpenLemmas
+mod AgreeLemmas
+mod MeasuredLemmas

@@ -126,12 +126,12 @@ rising_more kind all start w c cs from within up g from_is down b first r =
     }
 
 -- the windows as groups of pairs
-groups_grouped : (all : Pairs) (d from to : ℕ) (cs : List Window) → from ≤ to → Groups all d from to cs → cut all from to d ≡ grouped (map (edge_of all) cs) (map (window all) cs)
+pub groups_grouped : (all : Pairs) (d from to : ℕ) (cs : List Window) → from ≤ to → Groups all d from to cs → cut all from to d ≡ grouped (map (edge_of all) cs) (map (window all) cs)
 groups_grouped all d from to [] le g = cut_none all from to d (omega arith)
 groups_grouped all d from to (c ∷ cs) le g =
     cut_append all from c.to to d (omega (arith, g.2)) g.3 ∙ ap (λ x. x ++ cut all c.to to d) g.4 ∙ ap (λ x. with_front (edge_of all c) (window all c) ++ x) (groups_grouped all d c.to to cs g.3 g.5)
 
-some_each : (all : Pairs) (d from to : ℕ) (cs : List Window) → to ≤ length all → Groups all d from to cs → SomeEach (map (edge_of all) cs) (map (window all) cs)
+pub some_each : (all : Pairs) (d from to : ℕ) (cs : List Window) → to ≤ length all → Groups all d from to cs → SomeEach (map (edge_of all) cs) (map (window all) cs)
 some_each all d from to [] within g = tt
 some_each all d from to (c ∷ cs) within g =
     (some_items all c (omega (arith, g.0, g.2)) (omega (arith, g.3)), some_each all d c.to to cs within g.5)

@@ -45,3 +45,8 @@ pub use Rattle.zerotrie_core.proofs.SameLemmas.{same-size_of, value_at-residual}
 pub use Rattle.zerotrie_core.proofs.TableLemmas.{Distinct, NoneLike, table_distinct, length-table}
 pub use Rattle.zerotrie_core.proofs.FrontLemmas.{IsWidth-width, within_width, front_targets, front_len, length-branch_front}
 pub use Rattle.zerotrie_core.proofs.EncodeLaws.{fold_ascii}
+-- which pairs fit a kind
+pub use Rattle.zerotrie_core.proofs.EncodeLaws.{NarrowBehind}
+pub use Rattle.zerotrie_core.proofs.FitsLaws.{AllNarrow, narrow_none, narrow_value, narrow_at, narrow_front, narrow-same, all_entries}
+pub use Rattle.zerotrie_core.proofs.SpanLemmas.{by_fronts}
+pub use Rattle.zerotrie_core.proofs.TableLemmas.{increasing_rises}
