@@ -83,3 +83,15 @@ ascending_refusal kind pairs e up refusal = elim refusal [
   | inl memory ↦ inl memory
   | inr cause ↦ inr ((λ same. ascends_apart pairs up (subst (Cause kind pairs) same cause.1)), cause.1)
 ]
+
+-- pairs with distinct keys could not be measured, so their length is refused
+pub length_refusal : (kind : Kind) (pairs : Pairs) (e : ZeroTrieBuildError) → (RepeatsKey pairs → ⊥)
+    → (e ≢ OutOfMemory → (e ≡ CapacityExceeded) × ExceedsCapacity kind (map_of pairs)) → IsRefusal any_order kind pairs e × (e ≢ CouldNotSolvePerfectHash)
+length_refusal kind pairs e distinct refused = (
+  measured_refusal kind pairs e distinct refused,
+  λ same. let r = refused (λ memory. let x : CouldNotSolvePerfectHash ≡ OutOfMemory = sym same ∙ memory in cc) in let x : CouldNotSolvePerfectHash ≡ CapacityExceeded = sym same ∙ r.0 in cc,
+)
+
+-- the length of pairs that ascend, which are in one order or any
+pub ascending_length : (kind : Kind) (pairs : Pairs) (e : ZeroTrieBuildError) → Ascends pairs → IsRefusal any_order kind pairs e × (e ≢ CouldNotSolvePerfectHash) → IsRefusal ascending kind pairs e × (e ≢ CouldNotSolvePerfectHash)
+ascending_length kind pairs e up refused = (ascending_refusal kind pairs e up refused.0, refused.1)

@@ -6,7 +6,8 @@ use Rattle.std.proofs.lemmas.Simd.{map-map}
 use Rattle.std.proofs.lemmas.Option.{slice_get_within}
 use Rattle.std.proofs.Math.Nat.{le-max_left, le-max_right}
 use Rattle.std.specs.FinMap.{entries}
-use Rattle.zerotrie_core.specs.Kind.{Kind, greatest_width}
+use Rattle.std.specs.Prelude.{All}
+use Rattle.zerotrie_core.specs.Kind.{Kind, greatest_width, edge_limit}
 use Rattle.zerotrie_core.specs.Maps.{Pairs, map_of, with_front, edges, residual, behind_all, longest}
 use Rattle.zerotrie_core.specs.Branches.{total}
 use Rattle.zerotrie_core.specs.Canonical.{size_of, size}
@@ -108,7 +109,7 @@ sizes_part kind all windows targets t e =
     sym (ap (take n) (drop-map (λ u. u.len) t.first targets) ∙ take-map (λ u. u.len) n (drop t.first targets))
     ∙ ap (λ xs. take n (drop t.first xs)) e
     ∙ ap (take n) (drop-map (λ w. size_of kind (window all w)) t.first windows) ∙ take-map (λ w. size_of kind (window all w)) n (drop t.first windows)
-    ∙ sym (map-map (window all) (size_of kind) (part t windows))
+    ∙ sym (map-map (size_of kind) (window all) (part t windows))
 
 branch_narrow : (kind : Kind) (all : Pairs) (windows : List Window) (targets : List Target) (w : Window) (t : Target) (o : IsOpen kind all windows targets w t) → AreKeys kind all → step_of kind all o.behind ≡ Branch
     → map (λ u. u.len) targets ≡ map (λ x. size_of kind (window all x)) windows → EachNarrow kind (map (window all) (part t windows)) → Narrow kind (window all o.behind)
@@ -176,7 +177,7 @@ measured_fits kind all windows targets m values short =
     let narrow = subst (Narrow kind) whole (each_narrow (longest all) kind all windows targets m sizes 0 m.some (omega arith)) in
     record {
       values = all_entries (λ e. e.1 < 2 ^ 64) all values;
-      key_bytes = all_entries _ all m.keys;
+      key_bytes = all_entries (λ e. All (λ b. b < edge_limit kind) e.0) all m.keys;
       case = consistent_entries kind all (ordered_consistent kind all (subst (Ordered kind) whole (m.each 0 m.some).ordered));
       narrow = λ front. narrow-same kind front (entries (map_of all)) all (same-entries all) (narrow front);
       short = subst (λ n. n < 2 ^ 64) (measured_len kind all windows targets m) short;

@@ -1,6 +1,6 @@
 //! The builder.
 
-ghost use Rattle.std.specs.Prelude.{◌≡◌, ◌↔◌, IsTrue, IfOk, OnOk, IfErr, false};
+ghost use Rattle.std.specs.Prelude.{◌≡◌, ◌≢◌, ◌<◌, IfOk, OnOk, IfErr, length};
 ghost use Rattle.std.specs.List.Sorted.{IsPermutation};
 ghost use Rattle.std.specs.Iterator.{IsFiniteIterable};
 ghost use Rattle.zerotrie_core.specs.Items.{pairs_of, keyed};
@@ -8,9 +8,10 @@ ghost use Rattle.zerotrie_core.specs.Kind.{kind_with};
 ghost use Rattle.zerotrie_core.specs.Maps.{Ascends};
 ghost use Rattle.zerotrie_core.specs.Routes.{ascending, any_order, HasCause, IsBuild, IsLength, OfAllGiven, IsBuildOfAll};
 ghost use Rattle.zerotrie_build.specs.Items.{pairs};
+ghost use Rattle.zerotrie_build.specs.passes.Measured.{target_at};
 ghost use Rattle.zerotrie_build.specs.Order.{Ordered, AreKeys, AreValues};
 
-use crate::measuring::measure_all;
+use crate::measuring::{Measured, measure_all};
 use crate::order::{are_keys, is_ordered, repeats_next, sort_by_fold};
 use crate::slice_indices::ByteSliceWithIndices;
 use crate::store::TrieBuilderStore;
@@ -30,6 +31,7 @@ fn put_in_order<K: ZeroTrieWithOptions>(
     ensures keys { OnOk result (AreKeys K.kind (pairs_of items.new)) }
     ensures values { OnOk result (AreValues (pairs_of items.new)) }
     ensures refused { IfErr result (HasCause any_order K.kind (pairs_of items.old)) }
+    ensures no_search { IfErr result (λ e. e ≢ ZeroTrieBuildError.CouldNotSolvePerfectHash) }
 {
     sort_by_fold::<K>(items);
     if repeats_next(items) {
@@ -129,6 +131,14 @@ fn grow_any<S: TrieBuilderStore + Drop>(
     }
 }
 
+/// How long the text that was measured is.
+fn whole_len(measured: &Measured) -> usize
+    requires { 0 < length measured.now.targets.items }
+    ensures { result ≡ (target_at measured.now.targets.items 0).len }
+{
+    measured.targets[0].len
+}
+
 /// How long the text of items in the order of the kind is.
 fn len_ordered<K: ZeroTrieWithOptions>(
     alloc: Global,
@@ -140,7 +150,18 @@ fn len_ordered<K: ZeroTrieWithOptions>(
     ensures { IsLength any_order K.kind (pairs items.entry) result }
 {
     let measured = measure_all::<K>(alloc, items)?;
-    Ok(measured.targets[0].len)
+    Ok(whole_len(&measured))
+}
+
+/// How long the text of items in any order is, which are put in the order of the kind.
+fn len_sorted<K: ZeroTrieWithOptions>(
+    alloc: Global,
+    items: &mut [(&[u8], usize)],
+) -> Result<usize, ZeroTrieBuildError>
+    ensures { IsLength any_order K.kind (pairs_of items.old) result }
+{
+    put_in_order::<K>(items)?;
+    len_ordered::<K>(alloc, ByteSliceWithIndices::from_byte_slice(items))
 }
 
 /// How long the text of items that ascend by the bytes of their keys is.
@@ -158,11 +179,7 @@ fn len_ascending<K: ZeroTrieWithOptions>(
         return len_ordered::<K>(alloc, items);
     }
     let mut items = items.to_vec_u8(alloc)?;
-    put_in_order::<K>(items.as_mut_slice())?;
-    len_ordered::<K>(
-        alloc,
-        ByteSliceWithIndices::from_byte_slice(items.as_slice()),
-    )
+    len_sorted::<K>(alloc, items.as_mut_slice())
 }
 
 /// How long the text of items that ascend by the bytes of their keys is, in the kind of the options.
