@@ -53,7 +53,7 @@ run_narrow {kind = kind} {all = all} {w = w} (span m is run) within keys up narr
     let f = a.front in
     subst (Narrow kind) (sym f.is)
     (by_fronts (λ p. (p ≡ [] → ⊥) × Narrow kind p) (take m (drop w.depth (item_of all w.from).0)) (window all w') f.high (narrow_front kind)
-        (some_items all w' a.inside within, run_narrow run within keys f.ordered narrow)).1
+    (some_items all w' a.inside within, run_narrow run within keys f.ordered narrow)).1
 
 deeper : {kind : Kind} {all : Pairs} {w behind : Window} {n : ℕ} → Run kind all w behind n → w.depth ≤ behind.depth
 deeper here = omega arith
