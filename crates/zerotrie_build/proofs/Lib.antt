@@ -8,3 +8,6 @@ mod Sorting
 mod Permuted
 mod StepLemmas
 mod PutLemmas
+mod FrontLemmas
+mod LayLemmas
+mod WriteLemmas
