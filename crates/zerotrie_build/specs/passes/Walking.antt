@@ -16,6 +16,7 @@ IsBehind all w = (front : List ℕ) × ((b : ℕ) → residual b (behind_all fro
 
 -- The window is a part of the items in their order, and its text a part of the whole.
 pub record IsPlaced (kind : Kind) (all : Pairs) (w : Window) : Type 0 where
+  pub order : w.from ≤ w.to
   pub within : w.to ≤ length all
   pub ordered : Ordered kind (window all w)
   pub behind : IsBehind all w
