@@ -232,3 +232,14 @@ branching kind all w cs within keys p g rises =
       sized = subst (λ x. Sized kind x (map (size_of kind) ps)) (sym is) (size_grouped kind es ps some rises bytes (omega arith));
       behind = sizes_grouped kind (λ p. p) es ps (window all w) some rises (λ b m. ap (residual b) is);
     }
+
+-- the first byte of each item of a branch
+pub branch_byte : (kind : Kind) (all : Pairs) (w : Window) (i : ℕ) → step_of kind all w ≡ Branch → w.to ≤ length all → Ordered kind (window all w) → w.from ≤ i → i < w.to → (b : ℕ) × (byte_of all i w.depth ≡ Some b)
+branch_byte kind all w i is within up from below =
+    let p = step_branch kind all w is in
+    let r = all_long (i - w.from) kind all w.from w.to w.depth p.byte (omega arith) within up p.first in
+    let at : w.from + (i - w.from) ≡ i = omega arith in
+    (r.0, subst (λ j. byte_of all j w.depth ≡ Some r.0) at r.1)
+
+pub rising_none : (kind : Kind) (all : Pairs) (from to d : ℕ) → Rising kind all from to d []
+rising_none kind all from to d = record { up = tt; below = λ h b is. tt }

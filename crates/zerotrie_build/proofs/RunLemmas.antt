@@ -219,3 +219,8 @@ along {kind = kind} {all = all} {w = w} {behind = behind} (span {n = n} m is run
 -- a run of 2^64 bytes or more
 pub too_long : {kind : Kind} {all : Pairs} {w behind : Window} {n : ℕ} → Run kind all w behind n → w.to ≤ length all → AreKeys kind all → Ordered kind (window all w) → 2 ^ 64 ≤ n → 2 ^ 64 ≤ size_of kind (window all w)
 too_long run within keys up large = let size = (along run within keys up).size in omega arith
+
+-- where no node stands first and there are items, a branch does
+pub stopped : (kind : Kind) (all : Pairs) (w : Window) → (step_of kind all w ≡ End) ⊎ (step_of kind all w ≡ Branch) → w.from < w.to → step_of kind all w ≡ Branch
+stopped kind all w (inl end) inside = absurd (let past = step_end kind all w end in omega arith)
+stopped kind all w (inr branch) inside = branch
