@@ -16,7 +16,7 @@ use Rattle.zerotrie_core.specs.Branches.IsTable.{sorted, hashed}
 use Rattle.zerotrie_core.specs.Branches.{IsTable}
 use Rattle.zerotrie_core.specs.Causes.{AreCrooked, ZeroTrieBuildError, NonAsciiError, CapacityExceeded, CouldNotSolvePerfectHash, MixedCase, IllegalDelimiter, DuplicateKey, Unsorted, BufferTooSmall, BufferTooLarge, StackExceeded, OutOfMemory}
 use Rattle.zerotrie_core.proofs.CallerLemmas.{hashed_spans, spans_fold}
-use Rattle.zerotrie_build.specs.passes.Writing.{place_in, IsPlaced, IsLaid}
+use Rattle.zerotrie_build.specs.passes.Writing.{place_in, IsSearched, IsLaid}
 
 -- each is below all behind it
 abbrev pub Up : List ℕ → Type 0
@@ -125,10 +125,10 @@ pub hashed_up : (kind : Kind) (n : ℕ) (es : List ℕ) → is_hashed kind n ≡
 hashed_up kind n es h up = subst IsStrictlyIncreasing (back_each (fold_byte kind) es (λ k l. spans_fold kind (hashed_spans kind n h) (get_or es k 0))) up
 
 pub laid_hashed : (kind : Kind) (edge : ℕ → ℕ) (first n : ℕ) (edges table numbers : List ℕ) → is_hashed kind n ≡ true → IsStrictlyIncreasing (map (fold_byte kind) (map edge (range_with_len first n)))
-    → edges ≡ map edge (range_with_len first n) → IsPlaced first edges table numbers → IsLaid kind edge first n table numbers
+    → edges ≡ map edge (range_with_len first n) → IsSearched first edges table numbers → IsLaid kind edge first n table numbers
 laid_hashed kind edge first n edges table numbers wide rises same placing =
     let es = map edge (range_with_len first n) in
-    let l : IsPlaced first es table numbers = subst (λ x. IsPlaced first x table numbers) same placing in
+    let l : IsSearched first es table numbers = subst (λ x. IsSearched first x table numbers) same placing in
     let up = up_of es (hashed_up kind n es wide rises) in
     let count = length-map-range_with_len edge first n in
     let back = edges_back edge first n l.placed up l.permutation in
@@ -167,7 +167,7 @@ pub table_keys : (keys bytes shown : List ℕ) → (t : IsPerfectTable keys byte
 table_keys keys bytes shown t is = is ∙ ap (λ b. drop (1 + length b / 2) b) t.bytes_are ∙ keys_behind t.p t.qs t.placed t.perfect.a_q_each
 
 pub placed : (first : ℕ) (edges keys bytes shown table numbers : List ℕ) → (t : IsPerfectTable keys bytes) → keys ≡ edges → shown ≡ drop (1 + length bytes / 2) bytes → table ≡ bytes
-    → numbers ≡ map (λ b. first + place_in edges b) shown → IsPlaced first edges table numbers
+    → numbers ≡ map (λ b. first + place_in edges b) shown → IsSearched first edges table numbers
 placed first edges keys bytes shown table numbers t same shows is ns = record {
   p = t.p;
   qs = t.qs;

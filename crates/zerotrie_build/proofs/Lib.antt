@@ -6,8 +6,13 @@ mod Overflow
 mod Building
 mod Sorting
 mod Permuted
+mod WindowLemmas
+mod GroupLemmas
 mod StepLemmas
 mod PutLemmas
+mod RunLemmas
+mod OpenLemmas
+mod ListedLemmas
 mod FrontLemmas
 mod LayLemmas
 mod WriteLemmas

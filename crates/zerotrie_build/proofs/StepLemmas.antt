@@ -1,11 +1,11 @@
 -- What stands first in a window, as pairs.
 use Rattle.std.proofs.Common.{◌≡◌, ℕ, zero, suc, ◌+◌, ◌-◌, ◌<◌, ◌≤◌, List, [], ◌∷◌, length, refl, ◌∙◌, ap, arith, drop, Bool, true, false, cond, eqb, leb}
-use Rattle.std.proofs.Common.{Some, slice_get, subst, map, take}
+use Rattle.std.proofs.Common.{Some, slice_get, subst}
 use Rattle.std.specs.Prelude.{◌&&◌}
-use Rattle.std.proofs.lemmas.List.{drop_all, take_all}
+use Rattle.std.proofs.lemmas.List.{drop_all}
 use Rattle.std.proofs.lemmas.Option.{slice_get_within, get_or_from_slice_get}
 use Rattle.zerotrie_core.specs.Maps.{Pairs}
-use Rattle.zerotrie_build.specs.passes.Windows.{cut, byte_of, high_front}
+use Rattle.zerotrie_build.specs.passes.Windows.{byte_of, high_front}
 
 -- a key that has ended has nothing in common with another
 high_nil : (k : List ℕ) → high_front k [] ≡ 0
@@ -28,10 +28,3 @@ high_most (a ∷ k) (b ∷ l) = most (eqb a b && leb 128 a) (high_front k l) (hi
 -- a key that goes on at the depth is longer
 pub key_within : (all : Pairs) (i d b : ℕ) (e : List ℕ × ℕ) → slice_get all i ≡ Some e → byte_of all i d ≡ Some b → d < length e.0
 key_within all i d b e at goes = slice_get_within e.0 d b (subst (λ f. slice_get f.0 d ≡ Some b) (get_or_from_slice_get all i e ([], 0) at) goes)
-
-cut_id : (xs : Pairs) → map {B = List ℕ × ℕ} (λ e. (drop 0 e.0, e.1)) xs ≡ xs
-cut_id [] = refl
-cut_id (x ∷ xs) = ap (λ r. x ∷ r) (cut_id xs)
-
-pub cut_whole : (all : Pairs) → cut all 0 (length all) 0 ≡ all
-cut_whole all = cut_id (take (length all - 0) (drop 0 all)) ∙ take_all (length all - 0) all (omega arith)

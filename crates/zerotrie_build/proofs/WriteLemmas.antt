@@ -14,7 +14,7 @@ use Rattle.zerotrie_build.specs.passes.Windows.{window}
 use Rattle.zerotrie_build.specs.passes.Measured.{IsMeasured, window_at, target_at}
 use Rattle.zerotrie_build.specs.passes.Writing.{Listed, Texts, FrontPut, Left, lens_of}
 use Rattle.zerotrie_build.proofs.PutLemmas.{total_append}
-use Rattle.zerotrie_build.proofs.StepLemmas.{cut_whole}
+use Rattle.zerotrie_build.proofs.WindowLemmas.{cut_whole}
 
 record Split (kind : Kind) (all : Pairs) (xs ys : List Window) (texts : List (List ℕ)) : Type 0 where
   front : List (List ℕ)

@@ -3,3 +3,4 @@ pub mod Windows
 pub mod Measured
 pub mod Puts
 pub mod Writing
+pub mod Walking

@@ -7,7 +7,7 @@ ghost use Rattle.zerotrie_core.specs.Kind.{fold_byte};
 ghost use Rattle.zerotrie_core.specs.Causes.{AreCrooked};
 ghost use Rattle.zerotrie_build.specs.Items.{pairs};
 ghost use Rattle.zerotrie_build.specs.passes.Measured.{window_at};
-ghost use Rattle.zerotrie_build.specs.passes.Writing.{numbers_of, edge_no, place_in, IsPlaced, IsLaid};
+ghost use Rattle.zerotrie_build.specs.passes.Writing.{numbers_of, edge_no, place_in, IsSearched, IsLaid};
 
 use crate::measuring::{Measured, Target, is_hashed};
 use crate::slice_indices::ByteSliceWithIndices;
@@ -73,7 +73,7 @@ impl Layout {
     fn set_hashed(&mut self, first: usize) -> Result<(), ZeroTrieBuildError>
         requires rises { IsStrictlyIncreasing self.old.table.items }
         requires room { first + length self.old.table.items < 2 ^ 64 }
-        ensures ok { OnOk result (IsPlaced first self.old.table.items self.new.table.items self.new.numbers.items) }
+        ensures ok { OnOk result (IsSearched first self.old.table.items self.new.table.items self.new.numbers.items) }
         ensures refused { IfErr result (IsTableRefusal self.old.table.items) }
     {
         let keys = Vec::from_slice(self.alloc, self.table.as_slice())?;

@@ -91,6 +91,7 @@ pub(crate) fn first_step<K: ZeroTrieWithOptions>(
     ensures is { result ≡ step_of K.kind (pairs items.entry) window }
     ensures literal { (b : ℕ) → result ≡ Step.Literal b → window.depth + 1 < 2 ^ 64 }
     ensures span { (n : ℕ) → result ≡ Step.Span n → window.depth + n < 2 ^ 64 }
+    ensures branch { result ≡ Step.Branch → window.depth + 1 < 2 ^ 64 }
 {
     if window.from >= window.to {
         return Step::End;
