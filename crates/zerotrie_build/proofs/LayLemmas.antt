@@ -89,7 +89,7 @@ back_each : (f : ℕ → ℕ) (xs : List ℕ) → ((k : ℕ) → k < length xs �
 back_each f [] h = refl
 back_each f (x ∷ xs) h = ap (λ y. y ∷ map f xs) (h 0 (omega arith)) ∙ ap (λ r. x ∷ r) (back_each f xs (λ k l. h (suc k) (omega arith)))
 
-map_both : {A B C : Type 0} (f : B → C) (h : A → B) (xs : List A) → map f (map h xs) ≡ map (λ x. f (h x)) xs
+pub map_both : {A B C : Type 0} (f : B → C) (h : A → B) (xs : List A) → map f (map h xs) ≡ map (λ x. f (h x)) xs
 map_both f h [] = refl
 map_both f h (x ∷ xs) = ap (λ r. f (h x) ∷ r) (map_both f h xs)
 

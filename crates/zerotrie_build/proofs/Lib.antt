@@ -14,5 +14,6 @@ mod RunLemmas
 mod OpenLemmas
 mod ListedLemmas
 mod FrontLemmas
+mod BranchLemmas
 mod LayLemmas
 mod WriteLemmas

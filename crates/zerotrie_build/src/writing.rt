@@ -173,9 +173,9 @@ impl<S: TrieBuilderStore + Drop> Writing<S> {
                     self.put(byte);
                     rest.depth += 1;
                 }
-                Step::Span(run) => {
-                    self.put_span(items, rest, run);
-                    rest.depth += run;
+                Step::Span(count) => {
+                    self.put_span(items, rest, count);
+                    rest.depth += count;
                 }
                 Step::Branch => {
                     layout.set::<K>(items, measured, measured.targets[index])?;
