@@ -63,13 +63,13 @@ left_room {targets = targets} {i = i} {rest = rest} l =
     let a = l.at_is in omega arith
 
 -- nothing is open any more
-pub left_end : (kind : Kind) (all : Pairs) (windows : List Window) (targets : List Target) (list : List ℕ) (at : ℕ) (numbers : List ℕ) → numbers ≡ [] → at < 2 ^ 64
+pub left_end : (kind : Kind) (all : Pairs) (windows : List Window) (targets : List Target) (list : List ℕ) (at : ℕ) (numbers : List ℕ) → numbers ≡ [] → length list < 2 ^ 64
     → Left kind all windows targets list at numbers → Means kind list (map_of all)
 left_end kind all windows targets list at [] e small l =
     let whole : list ≡ l.written ++ [] = l.list_is in
     let done = subst (λ x. Listed kind x all) (sym whole) (l.completes [] tt) in
     record {
-      short = (let a = l.at_is in let n = ap length whole in let k = length-append l.written [] in omega arith);
+      short = small;
       pairs = done.listed;
       lists = done.lists;
       is = sym (same-map done.listed all done.same);

@@ -244,5 +244,7 @@ pub(crate) fn write<K: ZeroTrieWithOptions, S: TrieBuilderStore + Drop>(
         push_numbers(&mut pending, layout.numbers.as_slice())?;
     }
     let Writing { data, at: _ } = writing;
+    // That a length is below 2^64 tells the proof that so is that of the text.
+    let _len = data.atbs_len();
     Ok(data)
 }

@@ -37,10 +37,12 @@ loop-index-smaller g c =
     let i = c.in-Some.index in
     let rest = reverse c.next_number.new.pending.items in
     let l : Left kind all ws ts (list c.loop-index.writing.data) c.loop-index.writing.at (i ∷ rest) = subst (Left kind all ws ts (list c.loop-index.writing.data) c.loop-index.writing.at) c.in-Some.ensures.some c.loop-index.invariant in
+    let numbers = c.put_front.new.layout.numbers.items in
+    let next : numbers ++ rest ≡ reverse c.push_numbers.new.pending.items = ap (λ x. x ++ rest) (sym c.as_slice.ensures.value) ∙ sym c.in_ok-push_numbers.ensures in
     let less = left_less l c.in_ok-put_front.ensures.put in
-    let a = ap length c.in_ok-push_numbers.ensures in
+    let a = ap length next in
     let b = ap length c.in-Some.ensures.some in
-    ?
+    omega arith
 
 pub loop-index-preserved : goal.loop-index-preserved
 loop-index-preserved g c =
@@ -52,7 +54,9 @@ loop-index-preserved g c =
     let i = c.in-Some.index in
     let rest = reverse c.next_number.new.pending.items in
     let l : Left kind all ws ts (list c.loop-index.writing.data) c.loop-index.writing.at (i ∷ rest) = subst (Left kind all ws ts (list c.loop-index.writing.data) c.loop-index.writing.at) c.in-Some.ensures.some c.loop-index.invariant in
-    ?
+    let numbers = c.put_front.new.layout.numbers.items in
+    let next : numbers ++ rest ≡ reverse c.push_numbers.new.pending.items = ap (λ x. x ++ rest) (sym c.as_slice.ensures.value) ∙ sym c.in_ok-push_numbers.ensures in
+    subst (Left kind all ws ts (list c.put_front.new.self.data) c.put_front.new.self.at) next (left_more kind all ws ts _ _ _ _ i numbers rest l c.in_ok-put_front.ensures.put)
 
 pub returns-clause-means : goal.returns-clause-means
-returns-clause-means g c = left_end _ _ _ _ _ _ _ c.in_default.ensures.none ? c.loop-index.invariant
+returns-clause-means g c = left_end _ _ _ _ _ _ _ c.in_default.ensures.none (let e = c.atbs_len-len.ensures in let n = c.atbs_len-len.type_inv in omega arith) c.loop-index.invariant
