@@ -12,3 +12,4 @@ mod StepLemmas
 mod PutLemmas
 mod RunLemmas
 mod OpenLemmas
+mod PlacedLemmas
