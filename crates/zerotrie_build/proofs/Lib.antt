@@ -13,3 +13,4 @@ mod PutLemmas
 mod RunLemmas
 mod OpenLemmas
 mod PlacedLemmas
+mod MeasureLemmas
