@@ -1,7 +1,7 @@
 -- Targets that are measured, from the last to the first.
 use Rattle.std.proofs.Common.{◌≡◌, ◌≢◌, ℕ, zero, suc, ◌+◌, ◌-◌, ◌^◌, ◌<◌, ◌≤◌, ◌⊎◌, inl, inr, List, [], ◌∷◌, ◌++◌, length, refl, sym, ◌∙◌, ap, subst, arith, get_or, drop, take, map, All}
 use Rattle.std.proofs.lemmas.Bool.{cases_lt}
-use Rattle.std.proofs.lemmas.List.{drop_more, drop-set-lt, get_or-set_other, get_or-set_same, length-take-le, length-drop, length-map}
+use Rattle.std.proofs.lemmas.List.{get_or_read, length-set, drop_more, drop-set-lt, get_or-set_other, get_or-set_same, length-take-le, length-drop, length-map}
 use Rattle.std.specs.Prelude.{slice_set}
 use Rattle.std.specs.FinMap.{entries}
 use Rattle.zerotrie_core.specs.Kind.{Kind, fold_byte, edge_limit, greatest_width, ordered as in_order, simple_ascii, ignore_case, perfect_hash, extended_capacity}
@@ -119,6 +119,7 @@ pub measuring_next : (kind : Kind) (all : Pairs) (windows : List Window) (target
 measuring_next kind all windows targets targets' j m within long others parts later opened =
     let count = m.count in
     record {
+      within = omega arith;
       count = long ∙ m.count;
       some = m.some;
       whole = m.whole;
@@ -245,6 +246,7 @@ open_branch kind all windows targets targets' j n keys m within w next t' is len
 -- all windows walked, and none measured
 pub measuring_none : (kind : Kind) (all : Pairs) (windows : List Window) (targets : List Target) (index : ℕ) → Walking kind all windows targets → length targets ≡ length windows → index ≡ length targets → Measuring kind all windows targets index
 measuring_none kind all windows targets index walking count at = record {
+  within = omega arith;
   count = count;
   some = walking.some;
   whole = walking.whole;
@@ -293,3 +295,76 @@ exceeds_branch kind all windows targets j keys m within w next (inr long) =
     let sized : branch_size kind (lengths_of targets (target_at targets j)) + total (lengths_of targets (target_at targets j)) ≡ size_of kind (window all w.behind) =
     ap (λ ls. branch_size kind ls + total ls) next.lens ∙ sym next.branching.sized.size in
     exceeds_size kind all (omega arith)
+
+-- A turn of the loop over the numbers, from the last on: t is the target of the number below the index.
+pub record Turn (kind : Kind) (all : Pairs) (windows : List Window) (targets : List Target) (index : ℕ) (t : Target) : Type 0 where
+  pub keys : AreKeys kind all
+  pub measuring : Measuring kind all windows targets (suc (index - 1))
+  pub within : index - 1 < length windows
+  pub walked : IsWalked kind all windows (index - 1) (target_at targets (index - 1))
+  pub is : t ≡ target_at targets (index - 1)
+
+pub turn : (kind : Kind) (all : Pairs) (windows : List Window) (targets : List Target) (index : ℕ) (t : Target) → AreKeys kind all → Measuring kind all windows targets index → 0 < index → t ≡ get_or targets (index - 1) t → Turn kind all windows targets index t
+turn kind all windows targets index t keys m some read =
+    let s : index ≡ suc (index - 1) = omega arith in
+    let within = m.within in
+    let count = m.count in
+    record {
+      keys = keys;
+      measuring = subst (Measuring kind all windows targets) s m;
+      within = omega arith;
+      walked = m.walked (index - 1) (omega arith);
+      is = get_or_read targets (index - 1) t (omega arith) read no_target;
+    }
+
+-- where the window has no branch, nothing is to be counted
+pub turn_end : {kind : Kind} {all : Pairs} {windows : List Window} {targets : List Target} {index : ℕ} {t : Target} → Turn kind all windows targets index t → t.end ≤ t.first → Measuring kind all windows targets (index - 1)
+turn_end {kind = kind} {all = all} {windows = windows} {targets = targets} {index = index} {t = t} r past =
+    let j = index - 1 in
+    let end : (target_at targets j).end ≤ (target_at targets j).first = subst (λ u. u.end ≤ u.first) r.is past in
+    measuring_next kind all windows targets targets j r.measuring r.within refl (λ i h. refl) (λ u h. refl) r.walked.later (open_end kind all windows targets j r.keys r.measuring r.within r.walked end)
+
+-- the targets of a branch
+pub turn_next : {kind : Kind} {all : Pairs} {windows : List Window} {targets : List Target} {index : ℕ} {t : Target} (r : Turn kind all windows targets index t) → t.first < t.end → Next kind all windows targets (target_at targets (index - 1)) r.walked.behind
+turn_next {kind = kind} {all = all} {windows = windows} {targets = targets} {index = index} {t = t} r some =
+    next kind all windows targets (index - 1) r.keys r.measuring r.within r.walked (subst (λ u. u.first < u.end) r.is some)
+
+pub turn_many : {kind : Kind} {all : Pairs} {windows : List Window} {targets : List Target} {index : ℕ} {t : Target} (slice : List Target) → Turn kind all windows targets index t → t.first < t.end → slice ≡ targets
+    → (2 ≤ length (part t slice)) × (length (part t slice) ≤ 256)
+turn_many {kind = kind} {all = all} {windows = windows} {targets = targets} {index = index} {t = t} slice r some same =
+    let n = turn_next r some in
+    let many = n.many in
+    let two = n.branching.two in
+    let few = n.few in
+    let is : length (part t slice) ≡ length (part (target_at targets (index - 1)) targets) = ap (λ u. length (part u slice)) r.is ∙ ap (λ ts. length (part (target_at targets (index - 1)) ts)) same in
+    (omega arith, omega arith)
+
+-- what is refused is
+pub turn_refused : {kind : Kind} {all : Pairs} {windows : List Window} {targets : List Target} {index : ℕ} {t : Target} (slice : List Target) → Turn kind all windows targets index t → t.first < t.end → slice ≡ targets
+    → (256 ^ (greatest_width kind + 1) ≤ total (lengths_of slice t)) ⊎ (2 ^ 64 ≤ t.len + (branch_size kind (lengths_of slice t) + total (lengths_of slice t))) → ExceedsCapacity kind (map_of all)
+turn_refused {kind = kind} {all = all} {windows = windows} {targets = targets} {index = index} {t = t} slice r some same refused =
+    exceeds_branch kind all windows targets (index - 1) r.keys r.measuring r.within r.walked (turn_next r some)
+    (subst (λ u. (256 ^ (greatest_width kind + 1) ≤ total (lengths_of targets u)) ⊎ (2 ^ 64 ≤ u.len + (branch_size kind (lengths_of targets u) + total (lengths_of targets u)))) r.is
+    (subst (λ ts. (256 ^ (greatest_width kind + 1) ≤ total (lengths_of ts t)) ⊎ (2 ^ 64 ≤ t.len + (branch_size kind (lengths_of ts t) + total (lengths_of ts t)))) same refused))
+
+-- the branch is counted
+pub turn_branch : {kind : Kind} {all : Pairs} {windows : List Window} {targets : List Target} {index : ℕ} {t : Target} (slice : List Target) (n : ℕ) (u : Target) → Turn kind all windows targets index t → t.first < t.end → slice ≡ targets → u ≡ get_or targets (index - 1) u
+    → n ≡ t.len + (branch_size kind (lengths_of slice t) + total (lengths_of slice t)) → total (lengths_of slice t) < 256 ^ (greatest_width kind + 1)
+    → Measuring kind all windows (slice_set targets (index - 1) (record { first = u.first; end = u.end; len = n })) (index - 1)
+turn_branch {kind = kind} {all = all} {windows = windows} {targets = targets} {index = index} {t = t} slice n u r some same read len narrow =
+    let j = index - 1 in
+    let t0 = target_at targets j in
+    let t' : Target = record { first = u.first; end = u.end; len = n } in
+    let targets' = slice_set targets j t' in
+    let count = r.measuring.count in
+    let within = r.within in
+    let later = r.walked.later in
+    let is : u ≡ t0 = get_or_read targets j u (omega arith) read no_target in
+    let here : target_at targets' j ≡ record t0 { len = n } = get_or-set_same targets j t' no_target (omega arith) ∙ ap (λ (v : Target). record { first = v.first; end = v.end; len = n }) is in
+    let len_is : n ≡ t0.len + (branch_size kind (lengths_of targets t0) + total (lengths_of targets t0)) =
+    subst (λ v. n ≡ v.len + (branch_size kind (lengths_of targets v) + total (lengths_of targets v))) r.is (subst (λ ts. n ≡ t.len + (branch_size kind (lengths_of ts t) + total (lengths_of ts t))) same len) in
+    let narrow_is : total (lengths_of targets t0) < 256 ^ (greatest_width kind + 1) =
+    subst (λ v. total (lengths_of targets v) < 256 ^ (greatest_width kind + 1)) r.is (subst (λ ts. total (lengths_of ts t) < 256 ^ (greatest_width kind + 1)) same narrow) in
+    measuring_next kind all windows targets targets' j r.measuring r.within (length-set targets j t') (λ i h. get_or-set_other targets j i t' no_target h) (λ v h. part_set v t' targets j h)
+    (subst (λ v. j < v.first) (sym here) later)
+    (open_branch kind all windows targets targets' j n r.keys r.measuring r.within r.walked (turn_next r some) (target_at targets' j) here len_is narrow_is (part_set t0 t' targets j later))
