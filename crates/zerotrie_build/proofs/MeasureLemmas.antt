@@ -368,3 +368,10 @@ turn_branch {kind = kind} {all = all} {windows = windows} {targets = targets} {i
     measuring_next kind all windows targets targets' j r.measuring r.within (length-set targets j t') (λ i h. get_or-set_other targets j i t' no_target h) (λ v h. part_set v t' targets j h)
     (subst (λ v. j < v.first) (sym here) later)
     (open_branch kind all windows targets targets' j n r.keys r.measuring r.within r.walked (turn_next r some) (target_at targets' j) here len_is narrow_is (part_set t0 t' targets j later))
+
+pub turn_within : {kind : Kind} {all : Pairs} {windows : List Window} {targets : List Target} {index : ℕ} {t : Target} → Turn kind all windows targets index t → (t.first ≤ t.end) × (t.end ≤ length targets)
+turn_within {windows = windows} {targets = targets} {t = t} r =
+    let order = r.walked.first_end in
+    let end = r.walked.end_within in
+    let count = r.measuring.count in
+    subst (λ u. (u.first ≤ u.end) × (u.end ≤ length targets)) (sym r.is) (order, omega arith)
