@@ -366,7 +366,7 @@ front_branch {kind = kind} {all = all} {windows = windows} {targets = targets} {
       within = b.within;
       lists = λ texts h. subst (λ x. Listed kind x (window all w)) (sym (append_assoc g.done front (concat texts)))
           (g.lists (front ++ concat texts) (branch_text kind all windows targets t rest.depth rest.from rest.to table numbers texts b (omega arith) groups o.rises two (omega arith)
-            (lens_are kind all windows targets numbers texts (λ j l. (m.each j l).len) b.within h) h));
+          (lens_are kind all windows targets numbers texts (λ j l. (m.each j l).len) b.within h) h));
     }
 
 -- what the layout of a branch asks
@@ -420,9 +420,9 @@ branch_numbers {windows = windows} {t = t} {numbers = numbers} ts ns same o laid
     let order = o.first_end in
     let long = ap length ts_is in
     subst (λ x. (k d : ℕ) → k < length x → get_or x k d < length ts) (sym ns_is) (λ k d h.
-      let below = numbers_within t.first (t.end - t.first) (length windows) numbers laid.permutation (omega arith) k h in
-      let at = get_or_default numbers k d 0 h in
-      omega arith)
+    let below = numbers_within t.first (t.end - t.first) (length windows) numbers laid.permutation (omega arith) k h in
+    let at = get_or_default numbers k d 0 h in
+    omega arith)
 
 pub branch_small : {kind : Kind} {all : Pairs} {windows : List Window} {targets : List Target} {w : Window} {t : Target} {table numbers : List ℕ} (ts : List Target) (ns : List ℕ) → length targets ≡ length windows
     → IsOpen kind all windows targets w t → IsLaid kind (edge_no all windows) t.first (t.end - t.first) table numbers → ts ≡ targets → ns ≡ numbers → total (lens_of ts ns) < 2 ^ 64

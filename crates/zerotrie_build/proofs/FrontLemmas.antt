@@ -171,8 +171,8 @@ going_span {kind = kind} {all = all} {w = w} {rest = rest} list'' at'' n g stops
       run = o.run;
       lists = λ t l. subst (λ x. Listed kind x (window all w)) (ap (λ x. g.done ++ x) (sym (append_assoc sp run t)) ∙ sym (append_assoc g.done (sp ++ run) t))
           (g.lists (sp ++ (run ++ t)) (subst (Listed kind (sp ++ (run ++ t))) (sym f.is)
-            (listed_span kind run sp t pairs st.spans (run_some n run st.some f.long) f.high (subst (λ k. SpellsAs span_form k sp) (sym f.long) s)
-            _ _ (cut_first all rest.from rest.to d st.inside (omega arith)) ends l)));
+          (listed_span kind run sp t pairs st.spans (run_some n run st.some f.long) f.high (subst (λ k. SpellsAs span_form k sp) (sym f.long) s)
+          _ _ (cut_first all rest.from rest.to d st.inside (omega arith)) ends l)));
       ordered = f.ordered;
       to_is = g.to_is;
     }

@@ -103,12 +103,12 @@ edges_back edge first n placed up perm =
     let es = map edge (range_with_len first n) in
     map_both edge (λ b. first + place_in es b) placed
     ∙ back_each (λ b. edge (first + place_in es b)) placed (λ k h.
-      let c : Contains es (get_or placed k 0) = Contains-permutation placed es (get_or placed k 0) (IsPermutation-sym es placed perm) (contains_at placed k h) in
-      let i = c.0 in
-      let at : get_or es i 0 ≡ get_or placed k 0 = get_or_default es i 0 (get_or placed k 0) c.1 ∙ c.2 in
-      let within : i < n = (let l = length-map-range_with_len edge first n in let b = c.1 in omega arith) in
-      ap (λ b. edge (first + place_in es b)) (sym at) ∙ ap (λ j. edge (first + j)) (place_there es up i c.1)
-      ∙ sym (get_or-map-range_with_len edge first n i (first + i) 0 within refl) ∙ at)
+    let c : Contains es (get_or placed k 0) = Contains-permutation placed es (get_or placed k 0) (IsPermutation-sym es placed perm) (contains_at placed k h) in
+    let i = c.0 in
+    let at : get_or es i 0 ≡ get_or placed k 0 = get_or_default es i 0 (get_or placed k 0) c.1 ∙ c.2 in
+    let within : i < n = (let l = length-map-range_with_len edge first n in let b = c.1 in omega arith) in
+    ap (λ b. edge (first + place_in es b)) (sym at) ∙ ap (λ j. edge (first + j)) (place_there es up i c.1)
+    ∙ sym (get_or-map-range_with_len edge first n i (first + i) 0 within refl) ∙ at)
 
 pub laid_sorted : (kind : Kind) (edge : ℕ → ℕ) (first n : ℕ) (table numbers : List ℕ) → is_hashed kind n ≡ false → IsStrictlyIncreasing (map (fold_byte kind) (map edge (range_with_len first n)))
     → table ≡ map edge (range_with_len first n) → numbers ≡ range_with_len first n → IsLaid kind edge first n table numbers

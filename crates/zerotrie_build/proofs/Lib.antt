@@ -17,3 +17,5 @@ mod FrontLemmas
 mod BranchLemmas
 mod LayLemmas
 mod WriteLemmas
+mod PlacedLemmas
+mod MeasureLemmas

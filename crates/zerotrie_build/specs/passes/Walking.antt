@@ -47,6 +47,7 @@ pub record Walking (kind : Kind) (all : Pairs) (windows : List Window) (targets 
 
 -- All windows are walked, and those from a number on are measured.
 pub record Measuring (kind : Kind) (all : Pairs) (windows : List Window) (targets : List Target) (index : ℕ) : Type 0 where
+  pub within : index ≤ length windows
   pub count : length targets ≡ length windows
   pub some : 0 < length windows
   pub whole : window_at windows 0 ≡ record { from = 0; to = length all; depth = 0 }

@@ -12,9 +12,12 @@ use Rattle.zerotrie_build.proofs.writing.Writing.put_front.Goals as goal
 pub loop-value-init : goal.loop-value-init
 loop-value-init g c =
     let ws = c.args.measured.now.windows.items in
-    let o = c.requires.measured.each c.args.index c.requires.within in
-    (o, subst (Going g.K.ZeroTrieWithOptions.kind (pairs c.args.items) (window_at ws c.args.index) o.bytes o.behind (g.S.TrieBuilderStore.list c.args.self.now.data) c.args.self.now.at (g.S.TrieBuilderStore.list c.args.self.now.data) c.args.self.now.at)
-    (sym (get_or_read ws c.args.index c.index-rest.result.now c.requires.within c.index-rest.ensures no_window)) (going_start _ _ o), c.clear.ensures.numbers)
+    let o = c.requires.measured.each c.args.index c.requires.within in (
+      o,
+      subst (Going g.K.ZeroTrieWithOptions.kind (pairs c.args.items) (window_at ws c.args.index) o.bytes o.behind (g.S.TrieBuilderStore.list c.args.self.now.data) c.args.self.now.at (g.S.TrieBuilderStore.list c.args.self.now.data) c.args.self.now.at)
+          (sym (get_or_read ws c.args.index c.index-rest.result.now c.requires.within c.index-rest.ensures no_window)) (going_start _ _ o),
+      c.clear.ensures.numbers,
+    )
 
 pub put_value-requires : goal.put_value-requires
 put_value-requires g c = let v = c.loop-value.invariant in room_value c.in-Value.value _ v.1 v.0.stops (sym c.first_step.ensures.is ∙ c.in-Value.is) (open_bytes v.0) c.requires.room

@@ -16,8 +16,9 @@ put_block-requires-clause-room g c =
 pub loop-place-preserved : goal.loop-place-preserved
 loop-place-preserved g c =
     let v = c.loop-place.invariant in
-    let os = ends (lens_of c.args.targets.now c.args.numbers.now) in
-    (v.0 ++ map (λ o. o / 256 ^ (c.loop-place.place - 1) % 256) os,
-    append_assoc v.0 (map (λ o. o / 256 ^ (c.loop-place.place - 1) % 256) os) (blocks (c.loop-place.place - 1) os) ∙ ap (λ x. v.0 ++ x) (sym (block_first c.loop-place.place os c.loop-place-test.true)) ∙ v.1,
-    (let l = v.2 in omega arith),
-    puts_then _ _ _ _ _ _ _ _ v.3 c.put_block.ensures)
+    let os = ends (lens_of c.args.targets.now c.args.numbers.now) in (
+      v.0 ++ map (λ o. o / 256 ^ (c.loop-place.place - 1) % 256) os,
+      append_assoc v.0 (map (λ o. o / 256 ^ (c.loop-place.place - 1) % 256) os) (blocks (c.loop-place.place - 1) os) ∙ ap (λ x. v.0 ++ x) (sym (block_first c.loop-place.place os c.loop-place-test.true)) ∙ v.1,
+      (let l = v.2 in omega arith),
+      puts_then _ _ _ _ _ _ _ _ v.3 c.put_block.ensures,
+    )
