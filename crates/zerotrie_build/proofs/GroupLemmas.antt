@@ -1,8 +1,8 @@
 -- Groups of pairs behind bytes: their edges, and how long their texts are.
-use Rattle.std.proofs.Common.{◌≡◌, ℕ, zero, suc, ◌+◌, ◌<◌, ◌≤◌, List, [], ◌∷◌, ◌++◌, length, refl, sym, ◌∙◌, ap, arith, map, None, Bool, true, false, inl, inr}
+use Rattle.std.proofs.Common.{◌≡◌, ℕ, zero, suc, ◌+◌, ◌*◌, ◌<◌, ◌≤◌, List, [], ◌∷◌, ◌++◌, length, refl, sym, ◌∙◌, ap, arith, map, None, Bool, true, false, inl, inr}
 use Rattle.std.proofs.lemmas.Bool.{cases_lt}
 use Rattle.std.proofs.lemmas.List.{length-map, append-nil}
-use Rattle.zerotrie_core.specs.Kind.{Kind, ordered}
+use Rattle.zerotrie_core.specs.Kind.{Kind, ordered, is_hashed}
 use Rattle.zerotrie_core.specs.Maps.{Pairs, with_front, value_at, begins_some, residual, edges}
 use Rattle.zerotrie_core.specs.Branches.{total, branch_front, table_size}
 use Rattle.zerotrie_core.specs.Canonical.{size_of, branch_size}
@@ -82,6 +82,12 @@ none_grouped kind (b ∷ bs) (p ∷ ps) = none_front kind b p (grouped bs ps) (n
 -- the bytes of a branch go by how many targets it has and how long they are together
 pub branch_size_is : (kind : Kind) (xs : List ℕ) → branch_size kind xs ≡ front_len (total xs) (length xs) + table_size kind (length xs)
 branch_size_is kind xs = let front = length-branch_front [] xs in omega arith
+
+pub table_hashed : (kind : Kind) (n : ℕ) → is_hashed kind n ≡ true → table_size kind n ≡ 2 * n + 1
+table_hashed kind n h = rw h refl
+
+pub table_sorted : (kind : Kind) (n : ℕ) → is_hashed kind n ≡ false → table_size kind n ≡ n
+table_sorted kind n h = rw h refl
 
 -- how long the text of groups is
 pub record Sized (kind : Kind) (pairs : Pairs) (sizes : List ℕ) : Type 0 where

@@ -15,3 +15,10 @@ mod RunLemmas
 mod OpenLemmas
 mod AgreeLemmas
 mod MeasuredLemmas
+mod ListedLemmas
+mod FrontLemmas
+mod BranchLemmas
+mod LayLemmas
+mod WriteLemmas
+mod PlacedLemmas
+mod MeasureLemmas

@@ -163,6 +163,10 @@ each_all P [] each i d h = absurd (omega arith)
 each_all P (e ∷ es) each zero d h = each.0
 each_all P (e ∷ es) each (suc i) d h = each_all P es each.1 i d (omega arith)
 
+-- the edges of groups are bytes of the kind
+pub groups_low : (kind : Kind) (all : Pairs) (d from to : ℕ) (cs : List Window) → to ≤ length all → AreKeys kind all → Groups all d from to cs → All (λ b. b < edge_limit kind) (map (edge_of all) cs)
+groups_low kind all d from to cs within keys g i e h = each_all (λ b. b < edge_limit kind) (map (edge_of all) cs) (low_each kind all d from to cs within keys g) i e h
+
 or_cases : (x y : Bool) → (x || y) ≡ true → (x ≡ true) ⊎ (y ≡ true)
 or_cases true y e = inl refl
 or_cases false y e = inr e
@@ -208,7 +212,6 @@ two_groups all w (c ∷ x ∷ cs) within p g = omega arith
 -- What the groups of a branch say of its text.
 pub record Branching (kind : Kind) (all : Pairs) (w : Window) (cs : List Window) : Type 0 where
   pub two : 2 ≤ length cs
-  pub low : All (λ b. b < edge_limit kind) (map (edge_of all) cs)
   pub edges_are : in_order kind (edges (window all w)) ≡ map (edge_of all) cs
   pub sized : Sized kind (window all w) (map (size_of kind) (map (window all) cs))
   pub behind : map (λ b. residual b (window all w)) (map (edge_of all) cs) ≡ map (λ p. p) (map (window all) cs)
@@ -227,8 +230,18 @@ branching kind all w cs within keys p g rises =
     let many = length-map cs (edge_of all) in
     record {
       two = two;
-      low = λ i d h. each_all (λ b. b < edge_limit kind) es low i d h;
       edges_are = ap (λ x. in_order kind (edges x)) is ∙ edges_grouped kind es ps some rises bytes;
       sized = subst (λ x. Sized kind x (map (size_of kind) ps)) (sym is) (size_grouped kind es ps some rises bytes (omega arith));
       behind = sizes_grouped kind (λ p. p) es ps (window all w) some rises (λ b m. ap (residual b) is);
     }
+
+-- the first byte of each item of a branch
+pub branch_byte : (kind : Kind) (all : Pairs) (w : Window) (i : ℕ) → step_of kind all w ≡ Branch → w.to ≤ length all → Ordered kind (window all w) → w.from ≤ i → i < w.to → (b : ℕ) × (byte_of all i w.depth ≡ Some b)
+branch_byte kind all w i is within up from below =
+    let p = step_branch kind all w is in
+    let r = all_long (i - w.from) kind all w.from w.to w.depth p.byte (omega arith) within up p.first in
+    let at : w.from + (i - w.from) ≡ i = omega arith in
+    (r.0, subst (λ j. byte_of all j w.depth ≡ Some r.0) at r.1)
+
+pub rising_none : (kind : Kind) (all : Pairs) (from to d : ℕ) → Rising kind all from to d []
+rising_none kind all from to d = record { up = tt; below = λ h b is. tt }

@@ -1,5 +1,5 @@
 -- What the values, literals and spans in front of a window's first branch say of its text.
-use Rattle.std.proofs.Common.{◌≡◌, ℕ, zero, suc, ◌+◌, ◌-◌, ◌<◌, ◌≤◌, ◌⊎◌, inl, inr, List, [], ◌∷◌, ◌++◌, length, refl, sym, ◌∙◌, ap, subst, arith, get_or, take, drop, Option, Some, None, slice_get, true, false, cond, eqb, leb, Bool}
+use Rattle.std.proofs.Common.{◌≡◌, ℕ, zero, suc, ◌+◌, ◌-◌, ◌^◌, ◌<◌, ◌≤◌, ◌⊎◌, inl, inr, List, [], ◌∷◌, ◌++◌, length, refl, sym, ◌∙◌, ap, subst, arith, get_or, take, drop, Option, Some, None, slice_get, true, false, cond, eqb, leb, Bool}
 use Rattle.std.specs.Prelude.{◌&&◌, ◌||◌}
 use Rattle.std.proofs.lemmas.Bool.{eq-eqb, ne_eqb, cases_lt}
 use Rattle.std.proofs.lemmas.Bool.Decides.{eqb_tells}
@@ -160,6 +160,7 @@ behind_bytes all w c (b ∷ run) some is at =
 -- What a run says of the window behind it.
 pub record Along (kind : Kind) (all : Pairs) (w behind : Window) (n : ℕ) : Type 0 where
   pub to_is : behind.to ≡ w.to
+  pub order : w.from ≤ w.to → behind.from ≤ behind.to
   pub ordered : Ordered kind (window all behind)
   pub size : size_of kind (window all w) ≡ n + size_of kind (window all behind)
   pub at : IsBehind all w → IsBehind all behind
@@ -168,7 +169,7 @@ long_run : (run : List ℕ) (n : ℕ) → length run ≡ n → 0 < n → run ≡
 long_run run n is some none = let z = ap length none in omega arith
 
 pub along : {kind : Kind} {all : Pairs} {w behind : Window} {n : ℕ} → Run kind all w behind n → w.to ≤ length all → AreKeys kind all → Ordered kind (window all w) → Along kind all w behind n
-along here within keys up = record { to_is = refl; ordered = up; size = omega arith; at = λ at. at }
+along here within keys up = record { to_is = refl; order = λ le. le; ordered = up; size = omega arith; at = λ at. at }
 along {kind = kind} {all = all} {w = w} {behind = behind} (value {n = n} v is run) within keys up =
     let a = step_value kind all w v within is in
     let w' : Window = record w { from = w.from + 1 } in
@@ -178,6 +179,7 @@ along {kind = kind} {all = all} {w = w} {behind = behind} (value {n = n} v is ru
     let rest = r.size in
     record {
       to_is = r.to_is;
+      order = λ le. r.order (let inside = a.0 in omega arith);
       ordered = r.ordered;
       size = omega arith;
       at = λ at. r.at (at.0, λ b. at.1 b ∙ ap (residual b) a.1);
@@ -191,6 +193,7 @@ along {kind = kind} {all = all} {w = w} {behind = behind} (literal {n = n} b is 
     let rest = r.size in
     record {
       to_is = r.to_is;
+      order = r.order;
       ordered = r.ordered;
       size = omega arith;
       at = λ at. r.at (behind_byte all w w' b (ap (residual b) a.is ∙ residual-front b (window all w')) at);
@@ -207,7 +210,17 @@ along {kind = kind} {all = all} {w = w} {behind = behind} (span {n = n} m is run
     let rest = r.size in
     record {
       to_is = r.to_is;
+      order = r.order;
       ordered = r.ordered;
       size = omega arith;
       at = λ at. r.at (behind_bytes all w w' bytes there f.is at);
     }
+
+-- a run of 2^64 bytes or more
+pub too_long : {kind : Kind} {all : Pairs} {w behind : Window} {n : ℕ} → Run kind all w behind n → w.to ≤ length all → AreKeys kind all → Ordered kind (window all w) → 2 ^ 64 ≤ n → 2 ^ 64 ≤ size_of kind (window all w)
+too_long run within keys up large = let size = (along run within keys up).size in omega arith
+
+-- where no node stands first and there are items, a branch does
+pub stopped : (kind : Kind) (all : Pairs) (w : Window) → (step_of kind all w ≡ End) ⊎ (step_of kind all w ≡ Branch) → w.from < w.to → step_of kind all w ≡ Branch
+stopped kind all w (inl end) inside = absurd (let past = step_end kind all w end in omega arith)
+stopped kind all w (inr branch) inside = branch

@@ -338,7 +338,7 @@ span_high : (kind : Kind) (all : Pairs) (w : Window) (n : ℕ) → step_of kind 
 span_high kind all w n e = let t = tests kind all w (Span n) (λ h. cc) e in at_span kind _ _ _ _ n t.is
 
 -- the keys have some bytes in common where a span stands
-span_some : (kind : Kind) (all : Pairs) (w : Window) (n : ℕ) → step_of kind all w ≡ Span n → (0 < n) × (high_front (drop w.depth (item_of all w.from).0) (drop w.depth (item_of all (w.to - 1)).0) ≡ n)
+pub span_some : (kind : Kind) (all : Pairs) (w : Window) (n : ℕ) → step_of kind all w ≡ Span n → (0 < n) × (high_front (drop w.depth (item_of all w.from).0) (drop w.depth (item_of all (w.to - 1)).0) ≡ n)
 span_some kind all w n e =
     let a = span_high kind all w n e in
     let first = (item_of all w.from).0 in

@@ -16,6 +16,7 @@ IsBehind all w = (front : List ℕ) × ((b : ℕ) → residual b (behind_all fro
 
 -- The window is a part of the items in their order, and its text a part of the whole.
 pub record IsPlaced (kind : Kind) (all : Pairs) (w : Window) : Type 0 where
+  pub order : w.from ≤ w.to
   pub within : w.to ≤ length all
   pub ordered : Ordered kind (window all w)
   pub behind : IsBehind all w
@@ -46,6 +47,7 @@ pub record Walking (kind : Kind) (all : Pairs) (windows : List Window) (targets 
 
 -- All windows are walked, and those from a number on are measured.
 pub record Measuring (kind : Kind) (all : Pairs) (windows : List Window) (targets : List Target) (index : ℕ) : Type 0 where
+  pub within : index ≤ length windows
   pub count : length targets ≡ length windows
   pub some : 0 < length windows
   pub whole : window_at windows 0 ≡ record { from = 0; to = length all; depth = 0 }
