@@ -275,7 +275,7 @@ exceeds_size kind all large = let same = same-size_of kind (entries (map_of all)
 pub exceeds_branch : (kind : Kind) (all : Pairs) (windows : List Window) (targets : List Target) (j : ℕ) → AreKeys kind all → Measuring kind all windows targets (suc j) → j < length windows → (w : IsWalked kind all windows j (target_at targets j))
     → Next kind all windows targets (target_at targets j) w.behind
     → (256 ^ (greatest_width kind + 1) ≤ total (lengths_of targets (target_at targets j)))
-        ⊎ (2 ^ 64 ≤ (target_at targets j).len + (branch_size kind (lengths_of targets (target_at targets j)) + total (lengths_of targets (target_at targets j)))) → ExceedsCapacity kind (map_of all)
+    ⊎ (2 ^ 64 ≤ (target_at targets j).len + (branch_size kind (lengths_of targets (target_at targets j)) + total (lengths_of targets (target_at targets j)))) → ExceedsCapacity kind (map_of all)
 exceeds_branch kind all windows targets j keys m within w next (inl wide) =
     let placed = m.placed j within in
     let a = along w.run placed.within keys placed.ordered in

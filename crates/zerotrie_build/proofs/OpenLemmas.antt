@@ -47,8 +47,8 @@ group_more all d start to w c added depth_is to_is within g from_is down b first
     let e = edge_is all w c b from_is down first in
     let k = group_front (c.to - w.from) all w.from c.to w.depth b refl (omega arith) (λ i a l. g.same i a l ∙ first) in
     let front : cut all w.from c.to d ≡ with_front (edge_of all c) (window all c) =
-        ap (cut all w.from c.to) (sym depth_is) ∙ k ∙ ap (λ x. with_front x (cut all w.from c.to (w.depth + 1))) (sym e) ∙ ap (λ x. with_front (edge_of all c) (cut all x c.to (w.depth + 1))) (sym from_is)
-        ∙ ap (λ x. with_front (edge_of all c) (cut all c.from c.to x)) (sym down) in
+    ap (cut all w.from c.to) (sym depth_is) ∙ k ∙ ap (λ x. with_front x (cut all w.from c.to (w.depth + 1))) (sym e) ∙ ap (λ x. with_front (edge_of all c) (cut all x c.to (w.depth + 1))) (sym from_is)
+    ∙ ap (λ x. with_front (edge_of all c) (cut all c.from c.to x)) (sym down) in
     subst (Groups all d start to) (sym (append_assoc added (c ∷ []) more)) (goes (c ∷ more) (from_is, (let a = depth_is in omega arith), some, (let a = to_is in omega arith), front, rest))
 
 -- each fold is below x

@@ -127,9 +127,11 @@ pub step_value : (kind : Kind) (all : Pairs) (w : Window) (v : ℕ) → w.to ≤
     → (w.from < w.to) × (window all w ≡ ([], v) ∷ window all (record w { from = w.from + 1 }))
 step_value kind all w v within e =
     let t = tests kind all w (Value v) (λ h. cc) e in
-    let a = at_value kind _ _ _ _ v t.is in
-    (t.inside, cut_first all w.from w.to w.depth t.inside within ∙ ap (λ k. (k, (item_of all w.from).1) ∷ cut all (w.from + 1) w.to w.depth) (no_byte (item_of all w.from).0 w.depth a.0)
-    ∙ ap (λ x. ([], x) ∷ cut all (w.from + 1) w.to w.depth) a.1)
+    let a = at_value kind _ _ _ _ v t.is in (
+      t.inside,
+      cut_first all w.from w.to w.depth t.inside within ∙ ap (λ k. (k, (item_of all w.from).1) ∷ cut all (w.from + 1) w.to w.depth) (no_byte (item_of all w.from).0 w.depth a.0)
+          ∙ ap (λ x. ([], x) ∷ cut all (w.from + 1) w.to w.depth) a.1,
+    )
 
 -- the key of the last pair
 abbrev pub last_key : Pairs → List ℕ
@@ -259,7 +261,7 @@ common (a ∷ k) (b ∷ l) n h = elim (eqb_tells a b) [
   | inl same ↦ elim (cases_lt a 128) [
     | inl low ↦ absurd (let h' = rw (same.0, lt-leb 128 a low) at h in omega arith)
     | inr high ↦ (let h' = rw (same.0, le-leb 128 a high) at h in
-      record { byte = a; first_rest = k; last_rest = l; first = refl; last_too = ap (λ x. x ∷ l) (sym same.1); high = high; rest = omega arith })
+        record { byte = a; first_rest = k; last_rest = l; first = refl; last_too = ap (λ x. x ∷ l) (sym same.1); high = high; rest = omega arith })
   ]
   | inr other ↦ absurd (let h' = rw other.0 at h in omega arith)
 ]
