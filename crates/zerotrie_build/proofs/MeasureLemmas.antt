@@ -1,14 +1,14 @@
 -- Targets that are measured, from the last to the first.
-use Rattle.std.proofs.Common.{◌≡◌, ◌≢◌, ℕ, zero, suc, ◌+◌, ◌-◌, ◌^◌, ◌<◌, ◌≤◌, ◌⊎◌, inl, inr, List, [], ◌∷◌, ◌++◌, length, refl, sym, ◌∙◌, ap, subst, arith, get_or, drop, take, map, All}
+use Rattle.std.proofs.Common.{◌≡◌, ◌≢◌, ℕ, zero, suc, ◌+◌, ◌-◌, ◌^◌, ◌<◌, ◌≤◌, ◌⊎◌, inl, inr, List, [], ◌∷◌, length, refl, sym, ◌∙◌, ap, subst, arith, get_or, drop, take, map}
 use Rattle.std.proofs.lemmas.Bool.{cases_lt}
 use Rattle.std.proofs.lemmas.List.{get_or_read, length-set, drop_more, drop-set-lt, get_or-set_other, get_or-set_same, length-take-le, length-drop, length-map}
 use Rattle.std.specs.Prelude.{slice_set}
 use Rattle.std.specs.FinMap.{entries}
 use Rattle.zerotrie_core.specs.Kind.{Kind, fold_byte, edge_limit, greatest_width, ordered as in_order, simple_ascii, ignore_case, perfect_hash, extended_capacity}
-use Rattle.zerotrie_core.specs.Maps.{Pairs, map_of, residual, behind_all, edges}
+use Rattle.zerotrie_core.specs.Maps.{Pairs, map_of, behind_all, edges}
 use Rattle.zerotrie_core.specs.Branches.{total}
 use Rattle.zerotrie_core.specs.Canonical.{size, size_of, branch_size}
-use Rattle.zerotrie_core.specs.Fits.{targets_size, OverflowsAt, ExceedsCapacity}
+use Rattle.zerotrie_core.specs.Fits.{ExceedsCapacity}
 use Rattle.zerotrie_core.proofs.CallerLemmas.{Rises, AllAbove, increasing_rises, fold_ascii, size_none, same-size_of, same-entries, length-ordered}
 use Rattle.zerotrie_build.specs.Order.{AreKeys}
 use Rattle.zerotrie_build.specs.declared.steps.Window.{Window}
@@ -20,8 +20,8 @@ use Rattle.zerotrie_build.specs.passes.Walking.{IsBehind, IsPlaced, IsOpened, Is
 use Rattle.zerotrie_build.proofs.NodeLemmas.{power_some}
 use Rattle.zerotrie_build.proofs.Overflow.{same_edges, same_targets_size, exceeds}
 use Rattle.zerotrie_build.proofs.WindowLemmas.{cut_none, step_end}
-use Rattle.zerotrie_build.proofs.GroupLemmas.{Sized, edges_grouped}
-use Rattle.zerotrie_build.proofs.RunLemmas.{Along, along}
+use Rattle.zerotrie_build.proofs.GroupLemmas.{edges_grouped}
+use Rattle.zerotrie_build.proofs.RunLemmas.{along}
 use Rattle.zerotrie_build.proofs.OpenLemmas.{Branching, groups_low}
 use Rattle.zerotrie_build.proofs.PlacedLemmas.{found, end_none}
 
@@ -275,7 +275,7 @@ exceeds_size kind all large = let same = same-size_of kind (entries (map_of all)
 pub exceeds_branch : (kind : Kind) (all : Pairs) (windows : List Window) (targets : List Target) (j : ℕ) → AreKeys kind all → Measuring kind all windows targets (suc j) → j < length windows → (w : IsWalked kind all windows j (target_at targets j))
     → Next kind all windows targets (target_at targets j) w.behind
     → (256 ^ (greatest_width kind + 1) ≤ total (lengths_of targets (target_at targets j)))
-        ⊎ (2 ^ 64 ≤ (target_at targets j).len + (branch_size kind (lengths_of targets (target_at targets j)) + total (lengths_of targets (target_at targets j)))) → ExceedsCapacity kind (map_of all)
+    ⊎ (2 ^ 64 ≤ (target_at targets j).len + (branch_size kind (lengths_of targets (target_at targets j)) + total (lengths_of targets (target_at targets j)))) → ExceedsCapacity kind (map_of all)
 exceeds_branch kind all windows targets j keys m within w next (inl wide) =
     let placed = m.placed j within in
     let a = along w.run placed.within keys placed.ordered in

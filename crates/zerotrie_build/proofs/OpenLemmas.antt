@@ -1,26 +1,20 @@
 -- The windows that are opened for the branch of a window.
-use Rattle.std.proofs.Common.{◌≡◌, ℕ, zero, suc, ◌+◌, ◌-◌, ◌<◌, ◌≤◌, ◌⊎◌, inl, inr, List, [], ◌∷◌, ◌++◌, length, refl, sym, ◌∙◌, ap, subst, arith, get_or, drop, take, map, Some, slice_get, append_assoc, All, true, false, cond, eqb, leb, Bool}
-use Rattle.std.specs.Prelude.{◌||◌, ◌&&◌}
-use Rattle.std.proofs.lemmas.Bool.{eq-eqb}
+use Rattle.std.proofs.Common.{◌≡◌, ℕ, zero, suc, ◌+◌, ◌-◌, ◌<◌, ◌≤◌, ◌⊎◌, inl, inr, List, [], ◌∷◌, ◌++◌, length, refl, sym, ◌∙◌, ap, subst, arith, get_or, drop, map, Some, slice_get, append_assoc, All, true, false, eqb, Bool}
+use Rattle.std.specs.Prelude.{◌||◌}
 use Rattle.std.proofs.lemmas.Bool.Decides.{eqb_tells}
-use Rattle.std.proofs.lemmas.Option.{slice_get_within, get_or_from_slice_get}
+use Rattle.std.proofs.lemmas.Option.{get_or_from_slice_get}
 use Rattle.std.proofs.lemmas.List.{length-map}
-use Rattle.std.proofs.lemmas.List.Sums.{sum_by-cons}
-use Rattle.std.proofs.Math.Seq.{drop-cons}
-use Rattle.std.specs.List.Sorted.{IsStrictlyIncreasing}
 use Rattle.zerotrie_core.specs.Kind.{Kind, fold_byte, edge_limit, ordered as in_order}
-use Rattle.zerotrie_core.specs.Maps.{Pairs, with_front, residual, behind_all, edges}
-use Rattle.zerotrie_core.specs.Branches.{total}
-use Rattle.zerotrie_core.specs.Canonical.{size_of, branch_size}
-use Rattle.zerotrie_core.proofs.CallerLemmas.{Rises, AllAbove, rises_increasing, member, edge_limit_to}
-use Rattle.zerotrie_build.specs.Order.{Before, BeforeFirst, Ordered, AreKeys}
+use Rattle.zerotrie_core.specs.Maps.{Pairs, with_front, residual, edges}
+use Rattle.zerotrie_core.specs.Canonical.{size_of}
+use Rattle.zerotrie_core.proofs.CallerLemmas.{Rises, AllAbove, member, edge_limit_to}
+use Rattle.zerotrie_build.specs.Order.{Before, Ordered, AreKeys}
 use Rattle.zerotrie_build.specs.declared.steps.Window.{Window}
 use Rattle.zerotrie_build.specs.declared.steps.Step.TheVariants.{Branch}
 use Rattle.zerotrie_build.specs.passes.Windows.{cut, window, item_of, byte_of, edge_of, step_of, IsGroup}
-use Rattle.zerotrie_build.specs.passes.Measured.{Groups, no_window}
-use Rattle.zerotrie_build.specs.passes.Walking.{IsBehind, IsPlaced, IsOpened}
-use Rattle.zerotrie_build.proofs.WindowLemmas.{cut_first, cut_none, cut_append, last_key, last_cut, key_cut, rest_byte, ordered_front}
-use Rattle.zerotrie_build.proofs.RunLemmas.{IsParting, step_branch, follows_cut, all_long, behind_byte, some_items}
+use Rattle.zerotrie_build.specs.passes.Measured.{Groups}
+use Rattle.zerotrie_build.proofs.WindowLemmas.{cut_first, cut_none, cut_append, last_key, last_cut, key_cut, rest_byte}
+use Rattle.zerotrie_build.proofs.RunLemmas.{IsParting, step_branch, follows_cut, all_long, some_items}
 use Rattle.zerotrie_build.proofs.GroupLemmas.{grouped, SomeEach, edges_grouped, sizes_grouped, Sized, size_grouped}
 
 -- items that have one byte have it in front

@@ -1,15 +1,15 @@
 -- Windows that are walked, as windows and targets are pushed.
-use Rattle.std.proofs.Common.{◌≡◌, ℕ, zero, suc, ◌+◌, ◌-◌, ◌<◌, ◌≤◌, ◌⊎◌, inl, inr, List, [], ◌∷◌, ◌++◌, length, refl, sym, ◌∙◌, ap, subst, arith, get_or, drop, take, map, length-append}
+use Rattle.std.proofs.Common.{◌≡◌, ℕ, zero, suc, ◌-◌, ◌<◌, ◌≤◌, inl, inr, List, [], ◌∷◌, ◌++◌, length, refl, sym, ◌∙◌, ap, subst, arith, get_or, drop, take, map, length-append}
 use Rattle.std.proofs.lemmas.Bool.{cases_lt}
 use Rattle.std.proofs.lemmas.List.{get_or_append_left, drop-append-le, take-append-le, take_all, length-drop}
 use Rattle.std.proofs.lemmas.List.Sums.{sum_by-cons}
 use Rattle.std.proofs.Math.Seq.{get_or-append_right, drop-append_seam}
 use Rattle.zerotrie_core.specs.Kind.{Kind}
-use Rattle.zerotrie_core.specs.Maps.{Pairs, with_front, residual}
+use Rattle.zerotrie_core.specs.Maps.{Pairs, residual}
 use Rattle.zerotrie_core.specs.Branches.{total}
 use Rattle.zerotrie_core.specs.Canonical.{size_of}
 use Rattle.zerotrie_core.proofs.CallerLemmas.{increasing_rises}
-use Rattle.zerotrie_build.specs.Order.{Ordered, BeforeFirst, AreKeys}
+use Rattle.zerotrie_build.specs.Order.{Ordered, AreKeys}
 use Rattle.zerotrie_build.specs.declared.steps.Window.{Window}
 use Rattle.zerotrie_build.specs.declared.steps.Step.TheVariants.{End, Branch}
 use Rattle.zerotrie_build.specs.declared.measuring.Target.{Target}
@@ -17,7 +17,7 @@ use Rattle.zerotrie_build.specs.passes.Windows.{cut, window, edge_of, step_of}
 use Rattle.zerotrie_build.specs.passes.Measured.{Run, Stops, Groups, part, no_window, no_target, window_at, target_at}
 use Rattle.zerotrie_build.specs.passes.Walking.{IsBehind, IsPlaced, IsOpened, IsWalked, Walking}
 use Rattle.zerotrie_build.proofs.WindowLemmas.{cut_append, cut_whole, step_end, ordered_front}
-use Rattle.zerotrie_build.proofs.RunLemmas.{Along, along, IsParting, step_branch, behind_byte}
+use Rattle.zerotrie_build.proofs.RunLemmas.{along, step_branch, behind_byte}
 use Rattle.zerotrie_build.proofs.OpenLemmas.{Branching, branching}
 
 -- each of the windows

@@ -1,11 +1,11 @@
 -- What the values, literals and spans in front of a window's first branch say of its text.
-use Rattle.std.proofs.Common.{◌≡◌, ℕ, zero, suc, ◌+◌, ◌-◌, ◌^◌, ◌<◌, ◌≤◌, ◌⊎◌, inl, inr, List, [], ◌∷◌, ◌++◌, length, refl, sym, ◌∙◌, ap, subst, arith, get_or, take, drop, Option, Some, None, slice_get, true, false, cond, eqb, leb, Bool}
+use Rattle.std.proofs.Common.{◌≡◌, ℕ, zero, suc, ◌+◌, ◌-◌, ◌^◌, ◌<◌, ◌≤◌, ◌⊎◌, inl, inr, List, [], ◌∷◌, ◌++◌, length, refl, sym, ◌∙◌, ap, subst, arith, take, drop, Option, Some, None, slice_get, true, false, cond, eqb, leb, Bool}
 use Rattle.std.specs.Prelude.{◌&&◌, ◌||◌}
-use Rattle.std.proofs.lemmas.Bool.{eq-eqb, ne_eqb, cases_lt}
+use Rattle.std.proofs.lemmas.Bool.{eq-eqb}
 use Rattle.std.proofs.lemmas.Bool.Decides.{eqb_tells}
-use Rattle.zerotrie_core.specs.Kind.{Kind, fold_byte, has_spans, edge_limit}
-use Rattle.zerotrie_core.specs.Numbers.{value_form, span_form, spelled_as}
-use Rattle.zerotrie_core.specs.Maps.{Pairs, with_front, with_run, begins_some, residual, behind_all, edges, run_of}
+use Rattle.zerotrie_core.specs.Kind.{Kind, has_spans}
+use Rattle.zerotrie_core.specs.Numbers.{span_form, spelled_as}
+use Rattle.zerotrie_core.specs.Maps.{Pairs, with_run, begins_some, residual, behind_all, edges, run_of}
 use Rattle.zerotrie_core.specs.Canonical.{size_of}
 use Rattle.zerotrie_core.proofs.CallerLemmas.{residual-front, size_value, size_literal, size_span, run_of-literal, run_of-value, run_of-many, member, member-edges, edge_limit_to}
 use Rattle.zerotrie_build.specs.Order.{Before, BeforeFirst, Ordered, AreKeys}
@@ -16,8 +16,8 @@ use Rattle.zerotrie_build.specs.passes.Windows.{cut, window, item_of, byte_of, h
 use Rattle.zerotrie_build.specs.passes.Measured.{Run}
 use Rattle.zerotrie_build.specs.passes.Measured.Run.{here, value, literal, span}
 use Rattle.zerotrie_build.specs.passes.Walking.{IsBehind}
-use Rattle.zerotrie_build.proofs.Runs.{with_run-nil, with_run-front, behind_all-run}
-use Rattle.zerotrie_build.proofs.WindowLemmas.{cut_first, Tests, tests, last_key, last_cut, key_cut, key_byte, step_end, step_value, IsLiteral, step_literal, Front, IsSpan, step_span, span_once, none_empty, ordered_front, no_byte}
+use Rattle.zerotrie_build.proofs.Runs.{behind_all-run}
+use Rattle.zerotrie_build.proofs.WindowLemmas.{cut_first, tests, last_key, last_cut, key_cut, key_byte, step_end, step_value, step_literal, step_span, span_once, none_empty, ordered_front, no_byte}
 
 -- What a branch in front means: the first key goes on with a byte, and the last one does not go on with the same.
 pub record IsParting (all : Pairs) (w : Window) : Type 0 where

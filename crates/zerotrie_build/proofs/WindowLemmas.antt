@@ -1,5 +1,5 @@
 -- Windows as pairs, by what stands first in them.
-use Rattle.std.proofs.Common.{◌≡◌, ℕ, zero, suc, ◌+◌, ◌-◌, ◌<◌, ◌≤◌, ◌⊎◌, inl, inr, List, [], ◌∷◌, ◌++◌, length, refl, sym, ◌∙◌, ap, subst, arith, get_or, take, drop, map, Option, Some, None, slice_get, length-drop, true, false, cond, eqb, leb, ltb, Bool}
+use Rattle.std.proofs.Common.{◌≡◌, ℕ, zero, suc, ◌+◌, ◌-◌, ◌<◌, ◌≤◌, ◌⊎◌, inl, inr, List, [], ◌∷◌, ◌++◌, length, refl, sym, ◌∙◌, ap, subst, arith, get_or, take, drop, map, Option, Some, None, slice_get, length-drop, true, false, cond, eqb, leb, Bool}
 use Rattle.std.specs.Prelude.{◌&&◌}
 use Rattle.std.proofs.lemmas.Bool.{cases_lt, lt-ltb, le-ltb, lt-leb, le-leb, eq-eqb}
 use Rattle.std.proofs.lemmas.Bool.Decides.{eqb_tells}
@@ -9,7 +9,7 @@ use Rattle.std.proofs.Math.Seq.{take-add, drop-cons}
 use Rattle.zerotrie_core.specs.Kind.{Kind, fold_byte, has_spans, edge_limit, simple_ascii, ignore_case, perfect_hash, extended_capacity}
 use Rattle.zerotrie_core.specs.Maps.{Pairs, with_front, with_run, value_at}
 use Rattle.zerotrie_core.specs.Texts.{AreHigh}
-use Rattle.zerotrie_build.specs.Order.{Before, BeforeFirst, Ordered, AreKeys}
+use Rattle.zerotrie_build.specs.Order.{Before, Ordered, AreKeys}
 use Rattle.zerotrie_build.specs.declared.steps.Window.{Window}
 use Rattle.zerotrie_build.specs.declared.steps.Step.{Step}
 use Rattle.zerotrie_build.specs.declared.steps.Step.TheVariants.{End, Value, Literal, Span, Branch}

@@ -1,5 +1,5 @@
 -- What is known while the first pass goes on.
-use Rattle.std.specs.Prelude.{◌≡◌, ℕ, ◌<◌, ◌≤◌, ◌-◌, List, length, map}
+use Rattle.std.specs.Prelude.{◌≡◌, ℕ, ◌<◌, ◌≤◌, List, length, map}
 use Rattle.std.specs.List.Sorted.{IsStrictlyIncreasing}
 use Rattle.zerotrie_core.specs.Kind.{Kind, fold_byte}
 use Rattle.zerotrie_core.specs.Maps.{Pairs, residual, behind_all}
@@ -8,7 +8,7 @@ use Rattle.zerotrie_build.specs.Order.{Ordered}
 use Rattle.zerotrie_build.specs.declared.steps.Window.{Window}
 use Rattle.zerotrie_build.specs.declared.measuring.Target.{Target}
 use Rattle.zerotrie_build.specs.passes.Windows.{window, edge_of}
-use Rattle.zerotrie_build.specs.passes.Measured.{Run, Stops, Groups, part, edges_of, window_at, target_at, IsOpen}
+use Rattle.zerotrie_build.specs.passes.Measured.{Run, Stops, Groups, part, window_at, target_at, IsOpen}
 
 -- behind some front stand the pairs of the window, but for the value of the empty key
 abbrev pub IsBehind : Pairs → Window → Type 0

@@ -1,7 +1,7 @@
-use Rattle.std.proofs.Common.{rules, ◌≡◌, ◌+◌, ◌-◌, ◌<◌, ◌≤◌, arith, sym, ap, subst, ◌∙◌, length, inl, inr}
+use Rattle.std.proofs.Common.{rules, arith}
 use Rattle.std.proofs.lemmas.Result.{err_from_is_err_and}
 use Rattle.zerotrie_build.specs.Items.{pairs}
-use Rattle.zerotrie_build.proofs.MeasureLemmas.{Turn, turn, turn_end, turn_many, turn_refused, turn_branch, turn_within, measuring_none, measured_all, exceeds_size}
+use Rattle.zerotrie_build.proofs.MeasureLemmas.{turn, turn_end, turn_many, turn_refused, turn_branch, turn_within, exceeds_size}
 use Rattle.zerotrie_build.proofs.measuring.measure_all.Goals as goal
 
 pub returns-in_err-measured-clause-refused : goal.returns-in_err-measured-clause-refused

@@ -1,10 +1,10 @@
-use Rattle.std.proofs.Common.{◌≡◌, ℕ, ◌+◌, ◌-◌, ◌^◌, ◌<◌, ◌≤◌, sym, ◌∙◌, ap, subst, refl, length, arith, append_assoc, [], ◌∷◌, ◌++◌, Some}
+use Rattle.std.proofs.Common.{◌≡◌, ◌+◌, sym, ◌∙◌, ap, subst, refl, arith, append_assoc, [], ◌∷◌, ◌++◌, Some}
 use Rattle.std.proofs.lemmas.List.{append-nil}
 use Rattle.zerotrie_core.proofs.CallerLemmas.{rises_increasing}
 use Rattle.zerotrie_build.specs.Items.{pairs}
 use Rattle.zerotrie_build.specs.Order.{Ordered}
 use Rattle.zerotrie_build.specs.declared.steps.Window.{Window}
-use Rattle.zerotrie_build.specs.passes.Windows.{cut, byte_of, edge_of}
+use Rattle.zerotrie_build.specs.passes.Windows.{cut, byte_of}
 use Rattle.zerotrie_build.specs.passes.Measured.{Groups}
 use Rattle.zerotrie_build.proofs.RunLemmas.{stopped}
 use Rattle.zerotrie_build.proofs.OpenLemmas.{group_more, branch_byte, rising_more, rising_none}

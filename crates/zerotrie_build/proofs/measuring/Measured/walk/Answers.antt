@@ -1,4 +1,4 @@
-use Rattle.std.proofs.Common.{rules, refl, ap, ◌∷◌, [], ◌∙◌, length}
+use Rattle.std.proofs.Common.{rules}
 use Rattle.zerotrie_build.specs.Items.{pairs}
 use Rattle.zerotrie_build.proofs.PlacedLemmas.{walking_none}
 use Rattle.zerotrie_build.proofs.measuring.Measured.walk.Goals as goal

@@ -1,10 +1,9 @@
-use Rattle.std.proofs.Common.{rules, ◌≡◌, ◌+◌, ◌<◌, ◌≤◌, arith, sym, ap, subst, ◌∙◌, length}
+use Rattle.std.proofs.Common.{rules, arith, sym, subst, length}
 use Rattle.std.proofs.lemmas.List.{get_or_read}
 use Rattle.zerotrie_build.specs.Items.{pairs}
-use Rattle.zerotrie_build.specs.declared.steps.Window.{Window}
-use Rattle.zerotrie_build.specs.passes.Measured.{Run, window_at, no_window}
+use Rattle.zerotrie_build.specs.passes.Measured.{Run, no_window}
 use Rattle.zerotrie_build.specs.passes.Walking.{IsPlaced}
-use Rattle.zerotrie_build.proofs.RunLemmas.{Along, along}
+use Rattle.zerotrie_build.proofs.RunLemmas.{along}
 use Rattle.zerotrie_build.proofs.PlacedLemmas.{walking_more}
 use Rattle.zerotrie_build.proofs.measuring.Measured.walk_next.Goals as goal
 
