@@ -1,17 +1,17 @@
 -- What a build answers for its pairs.
-use Rattle.std.proofs.Common.{◌≡◌, ◌≢◌, ℕ, zero, suc, ◌^◌, ◌<◌, ◌≤◌, ◌⊎◌, inl, inr, List, [], ◌∷◌, length, refl, sym, subst, arith, get_or, All, Result, Ok, Err}
+use Rattle.std.proofs.Common.{◌≡◌, ◌≢◌, ℕ, zero, suc, ◌^◌, ◌<◌, ◌≤◌, ◌⊎◌, inl, inr, List, [], ◌∷◌, length, refl, sym, ◌∙◌, subst, arith, get_or, All, Result, Ok, Err}
 use Rattle.std.specs.Prelude.{Any, IfOk, IfErr}
-use Rattle.zerotrie_core.specs.Kind.{Kind, IsAscii}
+use Rattle.zerotrie_core.specs.Kind.{Kind, IsAscii, edge_limit}
 use Rattle.zerotrie_core.specs.Maps.{Pairs, map_of, Ascends, RepeatsKey}
-use Rattle.zerotrie_core.specs.Texts.{Lists, Means}
+use Rattle.zerotrie_core.specs.Texts.{Means}
 use Rattle.zerotrie_core.specs.Fits.{ExceedsCapacity}
 use Rattle.zerotrie_core.specs.Laws.{MeansFits, MeansCanonical}
 use Rattle.zerotrie_core.specs.Causes.{Cause}
-use Rattle.zerotrie_core.specs.Routes.{any_order, ascending, IsBuild, IsRefusal}
+use Rattle.zerotrie_core.specs.Routes.{any_order, ascending, HasCause, IsBuild, IsRefusal}
 use Rattle.zerotrie_core.specs.declared.ZeroTrieBuildError.{ZeroTrieBuildError}
 use Rattle.zerotrie_core.specs.declared.ZeroTrieBuildError.TheVariants.{NonAsciiError, CapacityExceeded, CouldNotSolvePerfectHash, MixedCase, IllegalDelimiter, DuplicateKey, Unsorted, BufferTooSmall, BufferTooLarge, StackExceeded, OutOfMemory}
-use Rattle.zerotrie_core.proofs.CallerLemmas.{edge_limit_is}
 use Rattle.zerotrie_core.proofs.CallerLemmas.{ascends_apart}
+use Rattle.zerotrie_build.specs.Order.{AreKeys}
 use Rattle.zerotrie_build.proofs.Items.{below_or_from}
 
 module _ {X : Type 0} (P Q : X → Type 0) (decide : (x : X) → P x ⊎ Q x) where
@@ -33,42 +33,49 @@ module _ {X : Type 0} (P Q : X → Type 0) (decide : (x : X) → P x ⊎ Q x) wh
     | inr q ↦ inr (0, x, (let g : 0 < suc (length xs) = omega arith in g), refl, q)
   ]
 
--- not all ASCII, so some byte is not
-pub some_not_ascii : (kind : Kind) → IsAscii kind → (pairs : Pairs) → (All (λ e. All (λ b. b < 128) e.0) pairs → ⊥) → Cause kind pairs NonAsciiError
-some_not_ascii kind is_ascii pairs none =
-    subst (λ n. Any (λ e. Any (λ b. n ≤ b) e.0) pairs) (sym (edge_limit_is kind is_ascii))
-    (elim (all_or_any (λ e. All (λ b. b < 128) e.0) (λ e. Any (λ b. 128 ≤ b) e.0) (λ e. all_or_any (λ b. b < 128) (λ b. 128 ≤ b) (λ b. below_or_from b 128) e.0) pairs) [
+-- not all are bytes of the kind, so some byte is not
+pub some_foreign : (kind : Kind) (pairs : Pairs) → (AreKeys kind pairs → ⊥) → Cause kind pairs NonAsciiError
+some_foreign kind pairs none =
+    elim (all_or_any (λ e. All (λ b. b < edge_limit kind) e.0) (λ e. Any (λ b. edge_limit kind ≤ b) e.0)
+    (λ e. all_or_any (λ b. b < edge_limit kind) (λ b. edge_limit kind ≤ b) (λ b. below_or_from b (edge_limit kind)) e.0) pairs) [
       | inl all ↦ absurd (none all)
       | inr any ↦ any
-    ])
+    ]
 
-memory_or : (kind : Kind) (pairs : Pairs) (e : ZeroTrieBuildError) → (RepeatsKey pairs → ⊥) → (e ≢ OutOfMemory → (e ≡ CapacityExceeded) × ExceedsCapacity kind (map_of pairs)) → IsRefusal any_order kind pairs e
-memory_or kind pairs OutOfMemory distinct refused = inl refl
-memory_or kind pairs CapacityExceeded distinct refused = inr ((λ e. cc), (distinct, (refused (λ e. cc)).1))
-memory_or kind pairs NonAsciiError distinct refused = let other = (refused (λ e. cc)).0 in absurd (cc)
-memory_or kind pairs CouldNotSolvePerfectHash distinct refused = let other = (refused (λ e. cc)).0 in absurd (cc)
-memory_or kind pairs MixedCase distinct refused = let other = (refused (λ e. cc)).0 in absurd (cc)
-memory_or kind pairs IllegalDelimiter distinct refused = let other = (refused (λ e. cc)).0 in absurd (cc)
-memory_or kind pairs DuplicateKey distinct refused = let other = (refused (λ e. cc)).0 in absurd (cc)
-memory_or kind pairs Unsorted distinct refused = let other = (refused (λ e. cc)).0 in absurd (cc)
-memory_or kind pairs BufferTooSmall distinct refused = let other = (refused (λ e. cc)).0 in absurd (cc)
-memory_or kind pairs (BufferTooLarge needed) distinct refused = let other = (refused (λ e. cc)).0 in absurd (cc)
-memory_or kind pairs StackExceeded distinct refused = let other = (refused (λ e. cc)).0 in absurd (cc)
+-- an error is want of memory, or what holds of every other holds of it
+pub memory_or : (P : Type 0) (e : ZeroTrieBuildError) → (e ≢ OutOfMemory → P) → (e ≡ OutOfMemory) ⊎ P
+memory_or P OutOfMemory other = inl refl
+memory_or P CapacityExceeded other = inr (other (λ e. cc))
+memory_or P NonAsciiError other = inr (other (λ e. cc))
+memory_or P CouldNotSolvePerfectHash other = inr (other (λ e. cc))
+memory_or P MixedCase other = inr (other (λ e. cc))
+memory_or P IllegalDelimiter other = inr (other (λ e. cc))
+memory_or P DuplicateKey other = inr (other (λ e. cc))
+memory_or P Unsorted other = inr (other (λ e. cc))
+memory_or P BufferTooSmall other = inr (other (λ e. cc))
+memory_or P (BufferTooLarge needed) other = inr (other (λ e. cc))
+memory_or P StackExceeded other = inr (other (λ e. cc))
 
--- what is grown from pairs with distinct keys is a build of them
-pub grown_build : {S : Type 0} (kind : Kind) (list : S → List ℕ) (pairs : Pairs) (r : Result S ZeroTrieBuildError) → IsAscii kind → ((k : Kind) → IsAscii k → MeansFits k) → ((k : Kind) → IsAscii k → MeansCanonical k)
-    → (RepeatsKey pairs → ⊥) → IfOk r (λ s. Lists kind (list s) pairs) → IfOk r (λ s. length (list s) < 2 ^ 64)
-    → IfErr r (λ e. e ≢ OutOfMemory → (e ≡ CapacityExceeded) × ExceedsCapacity kind (map_of pairs)) → IsBuild any_order kind list pairs r
-grown_build kind list pairs (Ok s) is_ascii fits canonical distinct lists short refused =
-    let means : Means kind (list s) (map_of pairs) = record { short = short; pairs = pairs; lists = lists; is = refl } in (
-      distinct,
-      record {
-        fits = fits kind is_ascii (list s) (map_of pairs) means;
-        text = λ ascii. canonical kind ascii (list s) (map_of pairs) means;
-        means = means;
-      },
-    )
-grown_build kind list pairs (Err e) is_ascii fits canonical distinct lists short refused = memory_or kind pairs e distinct refused
+-- pairs with distinct keys that could not be measured
+pub measured_refusal : (kind : Kind) (pairs : Pairs) (e : ZeroTrieBuildError) → (RepeatsKey pairs → ⊥)
+    → (e ≢ OutOfMemory → (e ≡ CapacityExceeded) × ExceedsCapacity kind (map_of pairs)) → IsRefusal any_order kind pairs e
+measured_refusal kind pairs e distinct refused =
+    memory_or (HasCause any_order kind pairs e) e (λ other. let r = refused other in subst (HasCause any_order kind pairs) (sym r.0) ((λ same. cc), (distinct, r.1)))
+
+-- what is written of pairs with distinct keys is a build of them
+pub written_build : {S : Type 0} (kind : Kind) (list : S → List ℕ) (pairs : Pairs) (r : Result S ZeroTrieBuildError) → ((k : Kind) → MeansFits k) → ((k : Kind) → IsAscii k → MeansCanonical k)
+    → (RepeatsKey pairs → ⊥) → IfOk r (λ s. Means kind (list s) (map_of pairs))
+    → IfErr r (λ e. e ≢ OutOfMemory → (e ≡ CouldNotSolvePerfectHash) × Cause kind pairs e) → IsBuild any_order kind list pairs r
+written_build kind list pairs (Ok s) fits canonical distinct means refused = (
+  distinct,
+  record {
+    fits = fits kind (list s) (map_of pairs) means;
+    text = λ ascii. canonical kind ascii (list s) (map_of pairs) means;
+    means = means;
+  },
+)
+written_build kind list pairs (Err e) fits canonical distinct means refused =
+    memory_or (HasCause any_order kind pairs e) e (λ other. let r = refused other in ((λ same. let s : CouldNotSolvePerfectHash ≡ Unsorted = sym r.0 ∙ same in cc), r.1))
 
 -- pairs that ascend are never refused as repeated
 pub ascending_refusal : (kind : Kind) (pairs : Pairs) (e : ZeroTrieBuildError) → Ascends pairs → IsRefusal any_order kind pairs e → IsRefusal ascending kind pairs e
@@ -76,3 +83,15 @@ ascending_refusal kind pairs e up refusal = elim refusal [
   | inl memory ↦ inl memory
   | inr cause ↦ inr ((λ same. ascends_apart pairs up (subst (Cause kind pairs) same cause.1)), cause.1)
 ]
+
+-- pairs with distinct keys could not be measured, so their length is refused
+pub length_refusal : (kind : Kind) (pairs : Pairs) (e : ZeroTrieBuildError) → (RepeatsKey pairs → ⊥)
+    → (e ≢ OutOfMemory → (e ≡ CapacityExceeded) × ExceedsCapacity kind (map_of pairs)) → IsRefusal any_order kind pairs e × (e ≢ CouldNotSolvePerfectHash)
+length_refusal kind pairs e distinct refused = (
+  measured_refusal kind pairs e distinct refused,
+  λ same. let r = refused (λ memory. let x : CouldNotSolvePerfectHash ≡ OutOfMemory = sym same ∙ memory in cc) in let x : CouldNotSolvePerfectHash ≡ CapacityExceeded = sym same ∙ r.0 in cc,
+)
+
+-- the length of pairs that ascend, which are in one order or any
+pub ascending_length : (kind : Kind) (pairs : Pairs) (e : ZeroTrieBuildError) → Ascends pairs → IsRefusal any_order kind pairs e × (e ≢ CouldNotSolvePerfectHash) → IsRefusal ascending kind pairs e × (e ≢ CouldNotSolvePerfectHash)
+ascending_length kind pairs e up refused = (ascending_refusal kind pairs e up refused.0, refused.1)

@@ -1,14 +1,15 @@
-use Rattle.std.proofs.Common.{◌≡◌, ℕ, zero, suc, ◌+◌, ◌<◌, ◌≤◌, ◌⊎◌, List, [], ◌∷◌, ◌++◌, length, get_or, take, arith, refl, ap, ◌∙◌, sym, Some, slice_get, All, Ordering, Equal, Greater, is_lt, true, subst, inl, inr}
+use Rattle.std.proofs.Common.{◌≡◌, ℕ, zero, suc, ◌+◌, ◌^◌, ◌<◌, ◌≤◌, ◌⊎◌, List, [], ◌∷◌, ◌++◌, length, get_or, take, arith, refl, ap, ◌∙◌, sym, Some, slice_get, All, Ordering, Equal, Greater, is_lt, Bool, true, false, IsTrue, ◌↔◌, Fits, w8, subst, inl, inr}
 use Rattle.std.proofs.lemmas.Option.{slice_get-map, slice_get-get_or, slice_get_within, get_or_from_slice_get}
 use Rattle.std.proofs.lemmas.Grind.{common_steps}
 use Rattle.std.specs.Borrow.{Bor}
 use Rattle.std.proofs.Math.Nat.{eq-or-lt_of_le}
 use Rattle.std.specs.Str.{IsAscii, IsNotAscii}
+use Rattle.std.specs.Bool.{MatchBool}
 use Rattle.std.specs.Cmp.Lexicographic.{slice_cmp}
 use Rattle.std.specs.Ordering.{nat_cmp}
 use Rattle.std.specs.Prelude.{option_map}
 use Rattle.std.specs.declared.cmp.Ordering.TheVariants.{Less}
-use Rattle.zerotrie_core.specs.Kind.{Kind}
+use Rattle.zerotrie_core.specs.Kind.{Kind, simple_ascii, ignore_case, perfect_hash, extended_capacity, flags, edge_limit}
 use Rattle.zerotrie_core.specs.Maps.{Pairs, Ascends}
 use Rattle.zerotrie_core.specs.Items.{Items, pairs_of}
 use Rattle.zerotrie_build.specs.Order.{Before, Ordered}
@@ -127,3 +128,53 @@ ascii_on pairs i before here k d below =
 
 pub take_one_more : (pairs : Pairs) (i : ℕ) (a : List ℕ × ℕ) → slice_get pairs i ≡ Some a → take (i + 1) pairs ≡ take i pairs ++ a ∷ []
 take_one_more pairs i a h = grind (arith, common_steps, got pairs i a a h, slice_get_within pairs i a h)
+
+-- any byte may be an edge where there are spans, and an ASCII byte alone where there are none
+pub limit_high : (kind : Kind) → (flags kind).spans ≡ true → edge_limit kind ≡ 256
+limit_high simple_ascii h = absurd (cc)
+limit_high ignore_case h = absurd (cc)
+limit_high perfect_hash h = refl
+limit_high extended_capacity h = refl
+
+pub limit_low : (kind : Kind) → (flags kind).spans ≡ false → edge_limit kind ≡ 128
+limit_low simple_ascii h = refl
+limit_low ignore_case h = refl
+limit_low perfect_hash h = absurd (cc)
+limit_low extended_capacity h = absurd (cc)
+
+-- bytes that were read
+pub any_byte : (key : List ℕ) → ((i : ℕ) → Fits w8 (get_or key i 0)) → All (λ b. b < 256) key
+any_byte key fits k d below = rw (get_or-any key k d 0 below) (omega (arith, fits k))
+
+-- what a test for ASCII says of the bytes
+pub ascii_by : (r : Bool) (key : List ℕ) → MatchBool r (IsAscii key) (IsNotAscii key) → IsTrue r ↔ All (λ b. b < 128) key
+ascii_by true key h = (λ t k d below. rw (get_or-any key k d 0 below) (h k), λ all. refl)
+ascii_by false key h = (
+  λ t. cc,
+  λ all. elim (below_or_from h.0 (length key)) [
+    | inl within ↦ let low : get_or key h.0 0 < 128 = all h.0 0 within in let high : 128 ≤ get_or key h.0 0 = h.1 in absurd (omega arith)
+    | inr past ↦ let zero_there : get_or key h.0 0 ≡ 0 = get_or-past key h.0 0 past in let high : 128 ≤ get_or key h.0 0 = h.1 in absurd (omega arith)
+  ],
+)
+
+-- the key of one item, and the keys up to it
+pub key_here : (limit : ℕ) (pairs : Pairs) (i : ℕ) (a : List ℕ × ℕ) → slice_get pairs i ≡ Some a → All (λ e. All (λ b. b < limit) e.0) pairs → All (λ b. b < limit) a.0
+key_here limit pairs i a p all = subst (λ x. All (λ b. b < limit) x.0) (got pairs i a a p) (all i a (slice_get_within pairs i a p))
+
+pub keys_on : (limit : ℕ) (pairs : Pairs) (i : ℕ) (a : List ℕ × ℕ) → slice_get pairs i ≡ Some a → ((k : ℕ) (d : List ℕ × ℕ) → k < i → All (λ b. b < limit) (get_or pairs k d).0)
+    → All (λ b. b < limit) a.0 → (k : ℕ) (d : List ℕ × ℕ) → k < i + 1 → All (λ b. b < limit) (get_or pairs k d).0
+keys_on limit pairs i a p before here k d below =
+    let le : k ≤ i = omega arith in
+    elim (eq-or-lt_of_le le) [
+      | inl same ↦ subst (λ x. All (λ b. b < limit) (get_or pairs x d).0) (sym same) (subst (λ x. All (λ b. b < limit) x.0) (sym (got pairs i d a p)) here)
+      | inr less ↦ before k d less
+    ]
+
+pub values_on : (pairs : Pairs) (i : ℕ) (a : List ℕ × ℕ) → slice_get pairs i ≡ Some a → ((k : ℕ) (d : List ℕ × ℕ) → k < i → (get_or pairs k d).1 < 2 ^ 64)
+    → a.1 < 2 ^ 64 → (k : ℕ) (d : List ℕ × ℕ) → k < i + 1 → (get_or pairs k d).1 < 2 ^ 64
+values_on pairs i a p before here k d below =
+    let le : k ≤ i = omega arith in
+    elim (eq-or-lt_of_le le) [
+      | inl same ↦ subst (λ x. (get_or pairs x d).1 < 2 ^ 64) (sym same) (subst (λ x. x.1 < 2 ^ 64) (sym (got pairs i d a p)) here)
+      | inr less ↦ before k d less
+    ]

@@ -18,11 +18,11 @@ filter_agree : (p q : ℕ → Bool) (zs : List ℕ) → ((b : ℕ) → p b ≡ q
 filter_agree p q zs h = ap (λ t. filter t zs) (fun_ext h)
 
 -- edges and sizes go by the residuals
-same_edges : (xs ys : Pairs) → ((b : ℕ) → residual b xs ≡ residual b ys) → edges xs ≡ edges ys
+pub same_edges : (xs ys : Pairs) → ((b : ℕ) → residual b xs ≡ residual b ys) → edges xs ≡ edges ys
 unfolding edges
 same_edges xs ys h = filter_agree (begins_some xs) (begins_some ys) (range_with_len 0 256) (λ b. begins_behind xs b ∙ ap some_pair (h b) ∙ sym (begins_behind ys b))
 
-same_targets_size : (kind : Kind) (xs ys : Pairs) → ((b : ℕ) → residual b xs ≡ residual b ys) → targets_size kind xs ≡ targets_size kind ys
+pub same_targets_size : (kind : Kind) (xs ys : Pairs) → ((b : ℕ) → residual b xs ≡ residual b ys) → targets_size kind xs ≡ targets_size kind ys
 unfolding targets_size
 same_targets_size kind xs ys h =
     ap total (map_agree (λ b. size_of kind (residual b xs)) (λ b. size_of kind (residual b ys)) (edges xs) (λ b. ap (size_of kind) (h b)))

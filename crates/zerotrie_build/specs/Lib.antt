@@ -1,4 +1,4 @@
 pub mod Items
 pub mod Ranges
 pub mod Order
-pub mod Growing
+pub mod passes

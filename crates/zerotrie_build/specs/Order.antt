@@ -1,9 +1,9 @@
 -- The order that the keys of a text have.
-use Rattle.std.specs.Prelude.{◌≡◌, ℕ, ◌<◌, ◌⊎◌, List, [], ◌∷◌, map}
+use Rattle.std.specs.Prelude.{◌≡◌, ℕ, ◌^◌, ◌<◌, ◌⊎◌, List, [], ◌∷◌, map, All}
 use Rattle.std.specs.Cmp.Lexicographic.{slice_cmp}
 use Rattle.std.specs.Ordering.{nat_cmp, ordering_then}
 use Rattle.std.specs.declared.cmp.Ordering.{Ordering}
-use Rattle.zerotrie_core.specs.Kind.{Kind, fold_byte}
+use Rattle.zerotrie_core.specs.Kind.{Kind, fold_byte, edge_limit}
 use Rattle.zerotrie_core.specs.Maps.{Pairs}
 
 -- The key comes before the next in a text of the kind: where they part, it ends or has a byte that is lower to the kind.
@@ -39,3 +39,11 @@ IsFirst key (e ∷ pairs) = key ≡ e.0
 abbrev pub RepeatsNext : Pairs → Type 0
 RepeatsNext [] = ⊥
 RepeatsNext (e ∷ pairs) = IsFirst e.0 pairs ⊎ RepeatsNext pairs
+
+-- all bytes of the keys are bytes of the kind
+abbrev pub AreKeys : Kind → Pairs → Type 0
+AreKeys kind pairs = All (λ e. All (λ b. b < edge_limit kind) e.0) pairs
+
+-- all values are numbers of 64 bits
+abbrev pub AreValues : Pairs → Type 0
+AreValues pairs = All (λ e. e.1 < 2 ^ 64) pairs

@@ -1,35 +1,65 @@
 //! The builder.
 
-ghost use Rattle.std.specs.Prelude.{◌≡◌, ◌<◌, ℕ, All, IfOk};
+ghost use Rattle.std.specs.Prelude.{◌≡◌, ◌≢◌, ◌<◌, IfOk, OnOk, IfErr, length};
+ghost use Rattle.std.specs.List.Sorted.{IsPermutation};
 ghost use Rattle.std.specs.Iterator.{IsFiniteIterable};
 ghost use Rattle.zerotrie_core.specs.Items.{pairs_of, keyed};
-ghost use Rattle.zerotrie_core.specs.Kind.{IsAscii, kind_with};
-ghost use Rattle.zerotrie_core.specs.Maps.{Ascends, RepeatsKey};
-ghost use Rattle.zerotrie_core.specs.Routes.{ascending, any_order, IsBuild, OfAllGiven, IsBuildOfAll};
+ghost use Rattle.zerotrie_core.specs.Kind.{kind_with};
+ghost use Rattle.zerotrie_core.specs.Maps.{Ascends};
+ghost use Rattle.zerotrie_core.specs.Routes.{ascending, any_order, HasCause, IsBuild, IsLength, OfAllGiven, IsBuildOfAll};
 ghost use Rattle.zerotrie_build.specs.Items.{pairs};
-ghost use Rattle.zerotrie_build.specs.Order.{Ordered};
+ghost use Rattle.zerotrie_build.specs.passes.Measured.{target_at};
+ghost use Rattle.zerotrie_build.specs.Order.{Ordered, AreKeys, AreValues};
 
-use crate::growing::grow;
-use crate::order::{is_ordered, repeats_next, sort_by_fold};
+use crate::measuring::{Measured, measure_all};
+use crate::order::{are_keys, is_ordered, repeats_next, sort_by_fold};
 use crate::slice_indices::ByteSliceWithIndices;
 use crate::store::TrieBuilderStore;
+use crate::writing::write;
 use std::alloc::{AllocError, Global};
 use zerotrie_core::{
-    Ignore, Simple, TrieKey, ZeroTrieBuildError, ZeroTrieBuilderOptions, ZeroTrieWithOptions, laws,
+    Ext, Hash, Ignore, Simple, TrieKey, ZeroTrieBuildError, ZeroTrieBuilderOptions,
+    ZeroTrieWithOptions, laws,
 };
 
-/// The bytes of the trie of ASCII items in the order of the kind.
+/// Puts the items in the order of the kind.
+fn put_in_order<K: ZeroTrieWithOptions>(
+    items: &mut [(&[u8], usize)],
+) -> Result<(), ZeroTrieBuildError>
+    ensures same { IsPermutation (pairs_of items.old) (pairs_of items.new) }
+    ensures ordered { OnOk result (Ordered K.kind (pairs_of items.new)) }
+    ensures keys { OnOk result (AreKeys K.kind (pairs_of items.new)) }
+    ensures values { OnOk result (AreValues (pairs_of items.new)) }
+    ensures refused { IfErr result (HasCause any_order K.kind (pairs_of items.old)) }
+    ensures no_search { IfErr result (λ e. e ≢ ZeroTrieBuildError.CouldNotSolvePerfectHash) }
+{
+    sort_by_fold::<K>(items);
+    if repeats_next(items) {
+        return Err(ZeroTrieBuildError::DuplicateKey);
+    }
+    let sorted = ByteSliceWithIndices::from_byte_slice(items);
+    if !are_keys::<K>(sorted) {
+        return Err(ZeroTrieBuildError::NonAsciiError);
+    }
+    if K::IGNORE_CASE && !is_ordered::<K>(sorted) {
+        return Err(ZeroTrieBuildError::MixedCase);
+    }
+    Ok(())
+}
+
+/// The bytes of the trie of items in the order of the kind.
 fn grow_ordered<K: ZeroTrieWithOptions, S: TrieBuilderStore + Drop>(
     alloc: Global,
     items: ByteSliceWithIndices<'_>,
 ) -> Result<S, ZeroTrieBuildError>
-    requires kind { IsAscii K.kind }
     requires ordered { Ordered K.kind (pairs items) }
-    requires ascii { All (λ e. All (λ b. b < 128) e.0) (pairs items) }
+    requires keys { AreKeys K.kind (pairs items) }
     ensures { IsBuild any_order K.kind S.list (pairs items.entry) result }
 {
     laws::canonical_exactly();
-    grow::<K, S>(alloc, items)
+    laws::meant_fits();
+    let measured = measure_all::<K>(alloc, items)?;
+    write::<K, S>(alloc, items, &measured)
 }
 
 /// The bytes of the trie of items in any order, which are put in the order of the kind.
@@ -37,56 +67,165 @@ fn grow_sorted<K: ZeroTrieWithOptions, S: TrieBuilderStore + Drop>(
     alloc: Global,
     items: &mut [(&[u8], usize)],
 ) -> Result<S, ZeroTrieBuildError>
-    requires { IsAscii K.kind }
     ensures { IsBuild any_order K.kind S.list (pairs_of items.old) result }
 {
-    sort_by_fold::<K>(items);
-    if repeats_next(items) {
-        return Err(ZeroTrieBuildError::DuplicateKey);
-    }
-    if !ByteSliceWithIndices::from_byte_slice(items).is_all_ascii() {
-        return Err(ZeroTrieBuildError::NonAsciiError);
-    }
-    if !is_ordered::<K>(items) {
-        return Err(ZeroTrieBuildError::MixedCase);
-    }
+    put_in_order::<K>(items)?;
     grow_ordered::<K, S>(alloc, ByteSliceWithIndices::from_byte_slice(items))
 }
 
-/// The bytes of the trie of items that ascend by the bytes of their keys.
-fn grow_ascending<S: TrieBuilderStore + Drop>(
+/// The bytes of the trie of items that ascend by the bytes of their keys. Where the kind has another order,
+/// they are sorted once more, unless they are in that order too.
+fn grow_ascending<K: ZeroTrieWithOptions, S: TrieBuilderStore + Drop>(
+    alloc: Global,
+    items: ByteSliceWithIndices<'_>,
+) -> Result<S, ZeroTrieBuildError>
+    requires { Ascends (pairs items) }
+    ensures { IsBuild any_order K.kind S.list (pairs items.entry) result }
+{
+    if !are_keys::<K>(items) {
+        return Err(ZeroTrieBuildError::NonAsciiError);
+    }
+    if !K::IGNORE_CASE || is_ordered::<K>(items) {
+        return grow_ordered::<K, S>(alloc, items);
+    }
+    let mut items = items.to_vec_u8(alloc)?;
+    grow_sorted::<K, S>(alloc, items.as_mut_slice())
+}
+
+/// The bytes of the trie of items that ascend by the bytes of their keys, in the kind of the options.
+fn grow_slice<S: TrieBuilderStore + Drop>(
     alloc: Global,
     items: ByteSliceWithIndices<'_>,
     options: ZeroTrieBuilderOptions,
 ) -> Result<S, ZeroTrieBuildError>
-    requires kind { IsAscii (kind_with options) }
-    requires ascends { Ascends (pairs items) }
+    requires { Ascends (pairs items) }
     ensures { IsBuild any_order (kind_with options) S.list (pairs items.entry) result }
 {
-    if !items.is_all_ascii() {
-        return Err(ZeroTrieBuildError::NonAsciiError);
+    if options.ignore_case() {
+        grow_ascending::<Ignore, S>(alloc, items)
+    } else if options.extended() {
+        grow_ascending::<Ext, S>(alloc, items)
+    } else if options.use_phf() {
+        grow_ascending::<Hash, S>(alloc, items)
+    } else {
+        grow_ascending::<Simple, S>(alloc, items)
     }
-    if !options.ignore_case() {
-        return grow_ordered::<Simple, S>(alloc, items);
-    }
-    let mut items = items.to_vec_u8(alloc)?;
-    grow_sorted::<Ignore, S>(alloc, items.as_mut_slice())
 }
 
-/// The bytes of the trie of items in any order.
+/// The bytes of the trie of items in any order, in the kind of the options.
 fn grow_any<S: TrieBuilderStore + Drop>(
     alloc: Global,
     items: &mut [(&[u8], usize)],
     options: ZeroTrieBuilderOptions,
 ) -> Result<S, ZeroTrieBuildError>
-    requires { IsAscii (kind_with options) }
     ensures { IsBuild any_order (kind_with options) S.list (pairs_of items.old) result }
 {
     if options.ignore_case() {
         grow_sorted::<Ignore, S>(alloc, items)
+    } else if options.extended() {
+        grow_sorted::<Ext, S>(alloc, items)
+    } else if options.use_phf() {
+        grow_sorted::<Hash, S>(alloc, items)
     } else {
         grow_sorted::<Simple, S>(alloc, items)
     }
+}
+
+/// How long the text that was measured is.
+fn whole_len(measured: &Measured) -> usize
+    requires { 0 < length measured.now.targets.items }
+    ensures { result ≡ (target_at measured.now.targets.items 0).len }
+{
+    measured.targets[0].len
+}
+
+/// How long the text of items in the order of the kind is.
+fn len_ordered<K: ZeroTrieWithOptions>(
+    alloc: Global,
+    items: ByteSliceWithIndices<'_>,
+) -> Result<usize, ZeroTrieBuildError>
+    requires ordered { Ordered K.kind (pairs items) }
+    requires keys { AreKeys K.kind (pairs items) }
+    requires values { AreValues (pairs items) }
+    ensures { IsLength any_order K.kind (pairs items.entry) result }
+{
+    let measured = measure_all::<K>(alloc, items)?;
+    Ok(whole_len(&measured))
+}
+
+/// How long the text of items in any order is, which are put in the order of the kind.
+fn len_sorted<K: ZeroTrieWithOptions>(
+    alloc: Global,
+    items: &mut [(&[u8], usize)],
+) -> Result<usize, ZeroTrieBuildError>
+    ensures { IsLength any_order K.kind (pairs_of items.old) result }
+{
+    put_in_order::<K>(items)?;
+    len_ordered::<K>(alloc, ByteSliceWithIndices::from_byte_slice(items))
+}
+
+/// How long the text of items that ascend by the bytes of their keys is.
+fn len_ascending<K: ZeroTrieWithOptions>(
+    alloc: Global,
+    items: ByteSliceWithIndices<'_>,
+) -> Result<usize, ZeroTrieBuildError>
+    requires { Ascends (pairs items) }
+    ensures { IsLength any_order K.kind (pairs items.entry) result }
+{
+    if !are_keys::<K>(items) {
+        return Err(ZeroTrieBuildError::NonAsciiError);
+    }
+    if !K::IGNORE_CASE || is_ordered::<K>(items) {
+        return len_ordered::<K>(alloc, items);
+    }
+    let mut items = items.to_vec_u8(alloc)?;
+    len_sorted::<K>(alloc, items.as_mut_slice())
+}
+
+/// How long the text of items that ascend by the bytes of their keys is, in the kind of the options.
+fn len_slice(
+    alloc: Global,
+    items: ByteSliceWithIndices<'_>,
+    options: ZeroTrieBuilderOptions,
+) -> Result<usize, ZeroTrieBuildError>
+    requires { Ascends (pairs items) }
+    ensures { IsLength any_order (kind_with options) (pairs items.entry) result }
+{
+    if options.ignore_case() {
+        len_ascending::<Ignore>(alloc, items)
+    } else if options.extended() {
+        len_ascending::<Ext>(alloc, items)
+    } else if options.use_phf() {
+        len_ascending::<Hash>(alloc, items)
+    } else {
+        len_ascending::<Simple>(alloc, items)
+    }
+}
+
+/// How many bytes a build of the items has, whose keys ascend strictly by their bytes. It writes none of
+/// them. No items have no bytes.
+///
+/// ```
+/// let items = [("ad", 22), ("adef", 33)];
+/// let items = ByteSliceWithIndices::from_str_slice(&items);
+/// assert_eq!(rt; encoded_len(rt.alloc(), items, ZeroTrieBuilderOptions::of::<Simple>())?, 7);
+/// ```
+///
+/// It is refused with `Unsorted`, `NonAsciiError`, `MixedCase`, `CapacityExceeded` or `OutOfMemory`, each for
+/// the reason that `ZeroTrieBuildError` gives, and so just where a build is, but for a hashed table that
+/// isn't found.
+pub fn encoded_len(
+    alloc: Global,
+    items: ByteSliceWithIndices<'_>,
+    options: ZeroTrieBuilderOptions,
+) -> Result<usize, ZeroTrieBuildError>
+    ensures { IsLength ascending (kind_with options) (pairs items.entry) result }
+{
+    if !items.is_sorted() {
+        return Err(ZeroTrieBuildError::Unsorted);
+    }
+    let len = len_slice(alloc, items, options)?;
+    Ok(len)
 }
 
 /// The items, each key by its bytes. The keys' bytes are not copied.
@@ -135,13 +274,12 @@ impl<S: TrieBuilderStore + Drop> ZeroTrieBuilder<S> {
         items: ByteSliceWithIndices<'_>,
         options: ZeroTrieBuilderOptions,
     ) -> Result<Self, ZeroTrieBuildError>
-        requires { IsAscii (kind_with options) }
         ensures { IsBuild ascending (kind_with options) (λ b. S.list b.data) (pairs items.entry) result }
     {
         if !items.is_sorted() {
             return Err(ZeroTrieBuildError::Unsorted);
         }
-        let data = grow_ascending(alloc, items, options)?;
+        let data = grow_slice(alloc, items, options)?;
         Ok(ZeroTrieBuilder { data })
     }
 
@@ -157,8 +295,7 @@ impl<S: TrieBuilderStore + Drop> ZeroTrieBuilder<S> {
     ) -> Result<Self, ZeroTrieBuildError>
     where
         U::IntoIter: Drop,
-        requires kind { IsAscii (kind_with options) }
-        requires steps { IsFiniteIterable U.into_iter_gives U.IntoIter.can_next U.IntoIter.remaining iter }
+        requires { IsFiniteIterable U.into_iter_gives U.IntoIter.can_next U.IntoIter.remaining iter }
         ensures { IsBuildOfAll (OfAllGiven U.into_iter_gives U.IntoIter.next_gives K.key iter)
             (kind_with options) (λ b. S.list b.data) result }
     {

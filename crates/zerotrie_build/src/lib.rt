@@ -1,14 +1,15 @@
-//! The builder that grows a trie's bytes backwards, from the last node to the first.
+//! The builder of a trie's bytes, which measures them first and then writes them from the first to the last.
 #![tactic(auto)]
 
 mod builder;
-mod growing;
-mod nodes;
+mod laying;
+mod measuring;
 mod order;
-mod siblings;
 mod slice_indices;
+mod steps;
 mod store;
+mod writing;
 
-pub use builder::ZeroTrieBuilder;
+pub use builder::{ZeroTrieBuilder, encoded_len};
 pub use slice_indices::ByteSliceWithIndices;
 pub use store::TrieBuilderStore;

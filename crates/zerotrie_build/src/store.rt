@@ -152,7 +152,7 @@ impl TrieBuilderStore for VecDeque<u8> {
     }
 
     fn atbs_to_bytes(&self, alloc: Global) -> Result<Vec<u8>, AllocError> {
-        let mut bytes = Vec::new(alloc);
+        let mut bytes = Vec::with_capacity(alloc, self.len())?;
         let (front, back) = self.as_slices();
         bytes.extend_from_slice(front)?;
         bytes.extend_from_slice(back)?;

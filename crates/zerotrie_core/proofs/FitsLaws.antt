@@ -27,14 +27,14 @@ use Rattle.zerotrie_core.proofs.OrderLaws.{entries-map_of, means_same, means_siz
 use Rattle.zerotrie_core.proofs.EncodeLaws.{SmallValues, NarrowBehind}
 use Rattle.zerotrie_core.proofs.ListedLemmas.{targets_value, behind_all-nil}
 
-narrow_none : (kind : Kind) (front : List ℕ) → NarrowBehind kind front []
+pub narrow_none : (kind : Kind) (front : List ℕ) → NarrowBehind kind front []
 narrow_none kind front two = absurd (let none = ap length (ap edges (behind_all-nil front) ∙ edges_none) in omega arith)
 
-narrow_value : (kind : Kind) (v : ℕ) (pairs : Pairs) → NarrowBehind kind [] pairs → NarrowBehind kind [] (([], v) ∷ pairs)
+pub narrow_value : (kind : Kind) (v : ℕ) (pairs : Pairs) → NarrowBehind kind [] pairs → NarrowBehind kind [] (([], v) ∷ pairs)
 narrow_value kind v pairs narrow two =
     subst (λ n. n < 256 ^ (greatest_width kind + 1)) (sym (targets_value kind v pairs)) (narrow (subst (λ es. 2 ≤ length es) (edges_value v pairs) two))
 
-narrow_at : (kind : Kind) (c : ℕ) (front : List ℕ) (pairs behind : Pairs) → residual c pairs ≡ behind → NarrowBehind kind front behind → NarrowBehind kind (c ∷ front) pairs
+pub narrow_at : (kind : Kind) (c : ℕ) (front : List ℕ) (pairs behind : Pairs) → residual c pairs ≡ behind → NarrowBehind kind front behind → NarrowBehind kind (c ∷ front) pairs
 narrow_at kind c front pairs behind e = subst (NarrowBehind kind front) (sym e)
 
 -- pairs that answer alike need the same branches
@@ -50,11 +50,11 @@ narrow_branch {kind = kind} {targets = targets} b each two =
     (within_width (greatest_width kind) b.width (length (concat targets)) b.fits b.is_width)
 
 -- behind any front
-abbrev AllNarrow : Kind → Pairs → Type 0
+abbrev pub AllNarrow : Kind → Pairs → Type 0
 AllNarrow kind pairs = (pairs ≡ [] → ⊥) × ((front : List ℕ) → NarrowBehind kind front pairs)
 
 -- pairs that all begin with one byte need no branch there
-narrow_front : (kind : Kind) (b : ℕ) (pairs : Pairs) → b < 256 → AllNarrow kind pairs → AllNarrow kind (with_front b pairs)
+pub narrow_front : (kind : Kind) (b : ℕ) (pairs : Pairs) → b < 256 → AllNarrow kind pairs → AllNarrow kind (with_front b pairs)
 narrow_front kind b pairs low all = ((λ none. all.0 (front_none b pairs none)), behind)
   where
     behind : (front : List ℕ) → NarrowBehind kind front (with_front b pairs)

@@ -78,7 +78,7 @@ tail_rises x xs up k h =
     let s : suc k + 1 ≡ suc (k + 1) = omega arith in
     subst (λ j. get_or (x ∷ xs) (suc k) 0 < get_or (x ∷ xs) j 0) s (up (suc k) (omega arith))
 
-increasing_rises : (kind : Kind) (es : List ℕ) → IsStrictlyIncreasing (map (fold_byte kind) es) → Rises kind es
+pub increasing_rises : (kind : Kind) (es : List ℕ) → IsStrictlyIncreasing (map (fold_byte kind) es) → Rises kind es
 increasing_rises kind [] up = tt
 increasing_rises kind (e ∷ es) up =
     let r = increasing_rises kind es (tail_rises (fold_byte kind e) (map (fold_byte kind) es) up) in

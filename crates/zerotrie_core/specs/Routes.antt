@@ -1,13 +1,15 @@
 -- The routes of a build, and what each answers.
-use Rattle.std.specs.Prelude.{◌≡◌, ℕ, ◌⊎◌, List, Option, Result, Ok, Err}
+use Rattle.std.specs.Prelude.{◌≡◌, ◌≢◌, ℕ, ◌⊎◌, List, Option, Result, Ok, Err}
 use Rattle.std.specs.Iterator.Runs.{WholeRun}
 use Rattle.zerotrie_core.specs.Kind.{Kind}
-use Rattle.zerotrie_core.specs.Maps.{Pairs, Ascends, RepeatsKey}
+use Rattle.zerotrie_core.specs.Maps.{Pairs, map_of, Ascends, RepeatsKey}
 use Rattle.zerotrie_core.specs.Items.{keyed}
+use Rattle.zerotrie_core.specs.Canonical.{size}
+use Rattle.zerotrie_core.specs.Fits.{Fits}
 use Rattle.zerotrie_core.specs.Causes.{Cause}
 use Rattle.zerotrie_core.specs.Built.{IsBuilt}
 use Rattle.zerotrie_base.specs.declared.error.ZeroTrieBuildError.{ZeroTrieBuildError}
-use Rattle.zerotrie_base.specs.declared.error.ZeroTrieBuildError.TheVariants.{DuplicateKey, Unsorted, OutOfMemory}
+use Rattle.zerotrie_base.specs.declared.error.ZeroTrieBuildError.TheVariants.{CouldNotSolvePerfectHash, DuplicateKey, Unsorted, OutOfMemory}
 
 pub data Route : Type 0 where
   -- a list that is to ascend by the bytes of its keys
@@ -42,6 +44,12 @@ IsRefusal route kind pairs e = (e ≡ OutOfMemory) ⊎ HasCause route kind pairs
 abbrev pub IsBuild : {B : Type 0} → Route → Kind → (B → List ℕ) → Pairs → Result B ZeroTrieBuildError → Type 0
 IsBuild route kind bytes pairs (Ok b) = Takes route pairs × IsBuilt kind pairs (bytes b)
 IsBuild route kind bytes pairs (Err e) = IsRefusal route kind pairs e
+
+-- What the length that a build of the pairs by the route would have is answered as: their map's size, or a refusal.
+-- No table is searched for.
+abbrev pub IsLength : Route → Kind → Pairs → Result ℕ ZeroTrieBuildError → Type 0
+IsLength route kind pairs (Ok n) = Takes route pairs × Fits kind (map_of pairs) × (n ≡ size kind (map_of pairs))
+IsLength route kind pairs (Err e) = IsRefusal route kind pairs e × (e ≢ CouldNotSolvePerfectHash)
 
 -- the fact holds of the pairs that an iterator gives, one after another and no more
 abbrev pub OfAllGiven : {U I K : Type 0} → (U → I → Type 0) → (I → Option (K × ℕ) → I → Type 0) → (K → List ℕ) → U → (Pairs → Type 0) → Type 0

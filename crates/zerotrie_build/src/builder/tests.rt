@@ -1,9 +1,10 @@
-ghost use Rattle.zerotrie_core.specs.Kind.{IsAscii};
+mod counting;
 
 use super::*;
+use counting::Counting;
 use std::collections::VecDeque;
 use std::test::Fail;
-use zerotrie_core::{Ignore, Simple, ZeroTrieWithOptions};
+use zerotrie_core::{Ext, Hash, Ignore, Simple, ZeroTrieWithOptions};
 
 type Builder = ZeroTrieBuilder<VecDeque<u8>>;
 
@@ -11,9 +12,7 @@ type Builder = ZeroTrieBuilder<VecDeque<u8>>;
 fn text_of<K: ZeroTrieWithOptions>(
     alloc: Global,
     items: ByteSliceWithIndices<'_>,
-) -> Result<Vec<u8>, ZeroTrieBuildError>
-    requires { IsAscii K.kind }
-{
+) -> Result<Vec<u8>, ZeroTrieBuildError> {
     let options = ZeroTrieBuilderOptions::of::<K>();
     let builder: Builder = ZeroTrieBuilder::from_sorted_tuple_slice(alloc, items, options)?;
     Ok(builder.to_bytes(alloc)?)
@@ -23,9 +22,7 @@ fn text_of<K: ZeroTrieWithOptions>(
 fn by_slice<K: ZeroTrieWithOptions>(
     alloc: Global,
     items: &[(&[u8], usize)],
-) -> Result<Vec<u8>, ZeroTrieBuildError>
-    requires { IsAscii K.kind }
-{
+) -> Result<Vec<u8>, ZeroTrieBuildError> {
     text_of::<K>(alloc, ByteSliceWithIndices::from_byte_slice(items))
 }
 
@@ -38,9 +35,7 @@ fn by_text(alloc: Global, items: &[(&str, usize)]) -> Result<Vec<u8>, ZeroTrieBu
 fn by_iter<K: ZeroTrieWithOptions>(
     alloc: Global,
     items: &[(&[u8], usize)],
-) -> Result<Vec<u8>, ZeroTrieBuildError>
-    requires { IsAscii K.kind }
-{
+) -> Result<Vec<u8>, ZeroTrieBuildError> {
     let options = ZeroTrieBuilderOptions::of::<K>();
     let builder: Builder = ZeroTrieBuilder::from_bytes_iter(alloc, items.iter().copied(), options)?;
     Ok(builder.to_bytes(alloc)?)
@@ -274,5 +269,101 @@ fn mixed_case(rt: HostRuntime) -> Result<(), Fail> {
     assert!(rt;
         by_iter::<Ignore>(rt.alloc(), &differing).err() == Some(ZeroTrieBuildError::MixedCase)
     );
+    Ok(())
+}
+
+/// Texts with spans and hashed tables, in both kinds that have them.
+#[test]
+fn texts_with_spans(rt: HostRuntime) -> Result<(), Fail> {
+    let rows: [(&[(&str, usize)], &[u8]); 3] = [
+        (
+            &[("bår", 2), ("båzzøø", 3), ("foo", 1)],
+            &[
+                0xC2, 0x62, 0x66, 0x0F, 0xA2, 0xC3, 0xA5, 0xC2, 0x72, 0x7A, 0x01, 0x82, 0x7A, 0xA4,
+                0xC3, 0xB8, 0xC3, 0xB8, 0x83, 0x6F, 0x6F, 0x81,
+            ],
+        ),
+        (
+            &[("å", 1), ("ø", 2)],
+            &[0xA1, 0xC3, 0xC2, 0xA5, 0xB8, 0x01, 0x81, 0x82],
+        ),
+        (&[("", 3), ("é", 4)], &[0x83, 0xA2, 0xC3, 0xA9, 0x84]),
+    ];
+    for (items, bytes) in rows {
+        let items = ByteSliceWithIndices::from_str_slice(items);
+        assert_eq!(rt; text_of::<Hash>(rt.alloc(), items)?.as_slice(), bytes);
+        assert_eq!(rt; text_of::<Ext>(rt.alloc(), items)?.as_slice(), bytes);
+    }
+    Ok(())
+}
+
+/// The lengths that are told beforehand are those of the texts.
+fn has_len<K: ZeroTrieWithOptions>(
+    alloc: Global,
+    items: &[(&[u8], usize)],
+    len: usize,
+) -> Result<bool, Fail> {
+    let given = ByteSliceWithIndices::from_byte_slice(items);
+    let told = encoded_len(alloc, given, ZeroTrieBuilderOptions::of::<K>())?;
+    Ok(told == len && text_of::<K>(alloc, given)?.len() == len)
+}
+
+#[test]
+fn lengths_beforehand(rt: HostRuntime) -> Result<(), Fail> {
+    let alloc = rt.alloc();
+    let all: Vec<u8> = (0..256usize).map(|b| b as u8).collect(alloc)?;
+    let mut items: Vec<(&[u8], usize)> = Vec::new(alloc);
+    for byte in all.as_slice().chunks(1) {
+        items.push((byte, 0))?;
+    }
+    let bytes = items.as_slice();
+    let letters = bytes.get(97..113).ok_or("short")?;
+    assert!(rt; has_len::<Hash>(alloc, bytes, 1281)?);
+    assert!(rt; has_len::<Ext>(alloc, bytes, 1281)?);
+    assert!(rt; has_len::<Hash>(alloc, letters, 65)?);
+    assert!(rt; has_len::<Simple>(alloc, letters, 48)?);
+    let key = vec![in alloc; b'a'; 100000]?;
+    let long: [(&[u8], usize); 1] = [(key.as_slice(), 0)];
+    assert!(rt; has_len::<Simple>(alloc, &long, 100001)?);
+    assert!(rt; has_len::<Ignore>(alloc, &long, 100001)?);
+    assert!(rt; has_len::<Hash>(alloc, &long, 100001)?);
+    assert!(rt; has_len::<Ext>(alloc, &long, 100001)?);
+    assert!(rt; has_len::<Ext>(alloc, &[], 0)?);
+    Ok(())
+}
+
+/// A build grows its store once, and writes each byte at a place behind those written before.
+#[test]
+fn a_build_grows_once(rt: HostRuntime) -> Result<(), Fail> {
+    let rows: [&[(&str, usize)]; 3] = [
+        &[("", 11), ("ad", 22), ("adef", 33), ("adghk", 44)],
+        &[("bår", 2), ("båzzøø", 3), ("foo", 1)],
+        &[
+            ("a", 0),
+            ("b", 1),
+            ("c", 2),
+            ("d", 3),
+            ("e", 4),
+            ("f", 5),
+            ("g", 6),
+            ("h", 7),
+            ("i", 8),
+            ("j", 9),
+            ("k", 10),
+            ("l", 11),
+            ("m", 12),
+            ("n", 13),
+            ("o", 14),
+            ("p", 15),
+        ],
+    ];
+    for items in rows {
+        let builder: ZeroTrieBuilder<Counting> = ZeroTrieBuilder::from_sorted_tuple_slice(
+            rt.alloc(),
+            ByteSliceWithIndices::from_str_slice(items),
+            ZeroTrieBuilderOptions::of::<Hash>(),
+        )?;
+        assert!(rt; builder.data.grew == 1 && builder.data.ascends);
+    }
     Ok(())
 }

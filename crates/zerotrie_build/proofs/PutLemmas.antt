@@ -1,0 +1,139 @@
+-- Bytes written over zeros.
+use Rattle.std.proofs.Common.{◌≡◌, ℕ, zero, suc, ◌+◌, ◌<◌, ◌≤◌, List, [], ◌∷◌, ◌++◌, length, refl, sym, ◌∙◌, ap, subst, arith, append_assoc, length-append, replicate, take, get_or}
+use Rattle.std.specs.Prelude.{slice_set, slice_index, bit_or}
+use Rattle.std.proofs.Common.{◌-◌, ◌*◌, ◌/◌, ◌%◌, ◌^◌, ◌⊎◌, map}
+use Rattle.std.proofs.lemmas.List.{append-nil, length-set, take_more, map-append, get_or-map}
+use Rattle.std.proofs.lemmas.List.Sums.{sum_by-cons}
+use Rattle.std.proofs.lemmas.List.FromFn.{length-map-range_with_len}
+use Rattle.std.specs.List.{range_with_len}
+use Rattle.std.specs.Int.Bits.{or_zero_l}
+use Rattle.zerotrie_core.specs.Numbers.{Form, Spells, spelled_as, branch_form}
+use Rattle.zerotrie_core.specs.Branches.{IsWidth, blocks, total, ends, branch_front}
+use Rattle.zerotrie_core.proofs.CallerLemmas.{below_metadata, spelling_is, length-blocks, width_is, length-branch_front}
+use Rattle.zerotrie_build.specs.passes.Puts.{Puts}
+use Rattle.zerotrie_build.specs.declared.measuring.Target.{Target}
+use Rattle.zerotrie_build.specs.passes.Measured.{target_at}
+use Rattle.zerotrie_build.specs.passes.Writing.{with_bits, lens_of}
+
+pub puts_nothing : (list : List ℕ) (at : ℕ) → Puts list at list at []
+puts_nothing list at = record { at_is = omega arith; same = refl; puts = λ written left a l. l ∙ ap (λ n. written ++ replicate n 0) (let e : 0 + left ≡ left = omega arith in e) ∙ ap (λ w. w ++ replicate left 0) (sym (append-nil written)) }
+
+pub puts_then : (l : List ℕ) (a : ℕ) (l' : List ℕ) (a' : ℕ) (l'' : List ℕ) (a'' : ℕ) (xs ys : List ℕ) → Puts l a l' a' xs → Puts l' a' l'' a'' ys → Puts l a l'' a'' (xs ++ ys)
+puts_then l a l' a' l'' a'' xs ys p q = record {
+  at_is = (let e = length-append xs ys in let f = p.at_is in let g = q.at_is in omega arith);
+  same = q.same ∙ p.same;
+  puts = λ written left at_is is.
+      (let e : length (xs ++ ys) + left ≡ length xs + (length ys + left) = (let k = length-append xs ys in omega arith) in
+      let first = p.puts written (length ys + left) at_is (is ∙ ap (λ n. written ++ replicate n 0) e) in
+      let here : a' ≡ length (written ++ xs) = (let k = length-append written xs in let f = p.at_is in omega arith) in
+      q.puts (written ++ xs) left here first ∙ ap (λ w. w ++ replicate left 0) (append_assoc written xs ys));
+}
+
+set_at : (written : List ℕ) (b : ℕ) (more : List ℕ) → slice_set (written ++ 0 ∷ more) (length written) (bit_or (slice_index (written ++ 0 ∷ more) (length written)) b) ≡ (written ++ b ∷ []) ++ more
+set_at [] b more = ap (λ x. x ∷ more) (or_zero_l b)
+set_at (x ∷ written) b more = ap (λ r. x ∷ r) (set_at written b more)
+
+pub puts_byte : (list : List ℕ) (at b : ℕ) (list' : List ℕ) (at' : ℕ) → list' ≡ slice_set list at (bit_or (slice_index list at) b) → at' ≡ at + 1 → Puts list at list' at' (b ∷ [])
+puts_byte list at b list' at' set next = record {
+  at_is = next;
+  same = ap length set ∙ length-set list at (bit_or (slice_index list at) b);
+  puts = λ written left at_is is.
+      set ∙ ap (λ n. slice_set list n (bit_or (slice_index list n) b)) at_is ∙ ap (λ l. slice_set l (length written) (bit_or (slice_index l (length written)) b)) (is ∙ ap (λ n. written ++ replicate n 0) (let e : 1 + left ≡ suc left = omega arith in e)) ∙ set_at written b (replicate left 0);
+}
+
+-- the next of the bytes
+pub puts_more : (l : List ℕ) (a : ℕ) (l' : List ℕ) (a' : ℕ) (l'' : List ℕ) (a'' : ℕ) (xs : List ℕ) (i b : ℕ) → i < length xs → b ≡ get_or xs i 0 → Puts l a l' a' (take i xs) → Puts l' a' l'' a'' (b ∷ []) → Puts l a l'' a'' (take (i + 1) xs)
+puts_more l a l' a' l'' a'' xs i b h e p q = subst (Puts l a l'' a'') (ap (λ x. take i xs ++ x ∷ []) e ∙ sym (take_more xs i 0 h)) (puts_then l a l' a' l'' a'' (take i xs) (b ∷ []) p q)
+
+pub puts_same : (l : List ℕ) (a : ℕ) (l' : List ℕ) (a' : ℕ) (xs ys : List ℕ) → xs ≡ ys → Puts l a l' a' xs → Puts l a l' a' ys
+puts_same l a l' a' xs ys e = subst (Puts l a l' a') e
+
+-- a place that was reached is within, where there is room for more
+pub room_for : {l : List ℕ} {a : ℕ} {l' : List ℕ} {a' : ℕ} {xs : List ℕ} (n : ℕ) → Puts l a l' a' xs → a + (length xs + n) ≤ length l → a' + n ≤ length l'
+room_for n p h = let e = p.at_is in let s = p.same in omega arith
+
+pub puts_map : {A : Type 0} (f : A → ℕ) (l : List ℕ) (a : ℕ) (l' : List ℕ) (a' : ℕ) (l'' : List ℕ) (a'' : ℕ) (xs : List A) (i : ℕ) (d : A) (b : ℕ) → i < length xs → b ≡ f (get_or xs i d) → Puts l a l' a' (map f (take i xs)) → Puts l' a' l'' a'' (b ∷ []) → Puts l a l'' a'' (map f (take (i + 1) xs))
+puts_map f l a l' a' l'' a'' xs i d b h e p q =
+    subst (Puts l a l'' a'') (ap (λ x. map f (take i xs) ++ x ∷ []) e ∙ sym (map-append f (take i xs) (get_or xs i d ∷ [])) ∙ ap (map f) (sym (take_more xs i d h)))
+    (puts_then l a l' a' l'' a'' (map f (take i xs)) (b ∷ []) p q)
+
+-- a number with bits of metadata is its spelling
+pub number_is : (form : Form) (v bits : ℕ) (bytes : List ℕ) → (form.latent_value ≡ 16) ⊎ (form.latent_value ≡ 32) → bits ≡ form.metadata * (2 * form.latent_value)
+    → Spells form.latent_value 0 v bytes → with_bits bits bytes ≡ spelled_as form v
+number_is form v bits bytes known e s =
+    let b = below_metadata form.latent_value 0 v bytes s in
+    let is : bytes ≡ b.0 ∷ b.1 = b.3 ∙ ap (λ x. x ∷ b.1) (let z : 0 * (2 * form.latent_value) + b.0 ≡ b.0 = omega arith in z) in
+    ap (with_bits bits) is ∙ ap (λ x. (x + b.0) ∷ b.1) e ∙ spelling_is form v ((form.metadata * (2 * form.latent_value) + b.0) ∷ b.1) known (b.4 form.metadata)
+
+length-with_bits : (bits : ℕ) (bytes : List ℕ) → length (with_bits bits bytes) ≡ length bytes
+length-with_bits bits [] = refl
+length-with_bits bits (b ∷ bytes) = refl
+
+pub number_len : (form : Form) (v bits : ℕ) (bytes : List ℕ) → (form.latent_value ≡ 16) ⊎ (form.latent_value ≡ 32) → bits ≡ form.metadata * (2 * form.latent_value)
+    → Spells form.latent_value 0 v bytes → length bytes ≡ length (spelled_as form v)
+number_len form v bits bytes known e s = sym (length-with_bits bits bytes) ∙ ap length (number_is form v bits bytes known e s)
+
+pub count_map : {A : Type 0} (f : A → ℕ) (xs : List A) → length (map f xs) ≡ length xs
+count_map f [] = refl
+count_map f (x ∷ xs) = ap suc (count_map f xs)
+
+pub block_first : (place : ℕ) (os : List ℕ) → 0 < place → blocks place os ≡ map (λ o. o / 256 ^ (place - 1) % 256) os ++ blocks (place - 1) os
+block_first zero os h = absurd (omega arith)
+block_first (suc p) os h = let e : p ≡ suc p - 1 = omega arith in ap (λ q. map (λ o. o / 256 ^ q % 256) os ++ blocks q os) e
+
+length-ends : (lens : List ℕ) → length (ends lens) ≡ length lens - 1
+length-ends lens = length-map-range_with_len (λ i. total (take i lens)) 1 (length lens - 1)
+
+pub blocks_len : (done : List ℕ) (place bytes : ℕ) (lens : List ℕ) → 0 < place → done ++ blocks place (ends lens) ≡ blocks bytes (ends lens) → length done + (length lens - 1) ≤ bytes * (length lens - 1)
+blocks_len done place bytes lens h e =
+    let os = ends lens in
+    let a = ap length e in
+    let b = length-append done (blocks place os) in
+    let c = length-blocks bytes os ∙ ap (λ n. bytes * n) (length-ends lens) in
+    let d = ap length (block_first place os h) ∙ length-append (map (λ o. o / 256 ^ (place - 1) % 256) os) (blocks (place - 1) os) in
+    let f = count_map (λ o. o / 256 ^ (place - 1) % 256) os ∙ length-ends lens in
+    omega arith
+
+pub block_so_far : (place i : ℕ) (lens : List ℕ) → length (map (λ o. o / 256 ^ place % 256) (map (λ j. total (take j lens)) (range_with_len 1 (i - 1)))) ≡ i - 1
+block_so_far place i lens = count_map _ (map (λ j. total (take j lens)) (range_with_len 1 (i - 1))) ∙ length-map-range_with_len (λ j. total (take j lens)) 1 (i - 1)
+
+pub total_push : (xs : List ℕ) (x : ℕ) → total (xs ++ x ∷ []) ≡ total xs + x
+total_push [] x = omega (arith, sum_by-cons (λ n. n) x [])
+total_push (y ∷ xs) x = let a = sum_by-cons (λ n. n) y (xs ++ x ∷ []) in let b = sum_by-cons (λ n. n) y xs in let r = total_push xs x in omega arith
+
+pub total_append : (xs ys : List ℕ) → total (xs ++ ys) ≡ total xs + total ys
+total_append [] ys = omega arith
+total_append (y ∷ xs) ys = let a = sum_by-cons (λ n. n) y (xs ++ ys) in let b = sum_by-cons (λ n. n) y xs in let r = total_append xs ys in omega arith
+
+pub total_take : (xs : List ℕ) (n : ℕ) → total (take n xs) ≤ total xs
+total_take xs zero = omega arith
+total_take [] (suc n) = omega arith
+total_take (x ∷ xs) (suc n) = let a = sum_by-cons (λ n. n) x (take n xs) in let b = sum_by-cons (λ n. n) x xs in let r = total_take xs n in omega arith
+
+-- the length of one of the targets
+pub lens_at : (ts : List Target) (ns : List ℕ) (i : ℕ) → i < length ns → get_or (lens_of ts ns) i 0 ≡ (target_at ts (get_or ns i 0)).len
+lens_at ts ns i h = get_or-map (λ j. (target_at ts j).len) ns i 0 0 h
+
+pub count_lens : (ts : List Target) (ns : List ℕ) → length (lens_of ts ns) ≡ length ns
+count_lens ts ns = count_map (λ j. (target_at ts j).len) ns
+
+pub lens_take : (ts : List Target) (n : ℕ) (ns : List ℕ) → take n (lens_of ts ns) ≡ lens_of ts (take n ns)
+lens_take ts zero ns = refl
+lens_take ts (suc n) [] = refl
+lens_take ts (suc n) (j ∷ ns) = ap (λ x. (target_at ts j).len ∷ x) (lens_take ts n ns)
+
+-- the bytes of a branch in front of its targets, by the width and the number of these
+pub front_is : (table lens : List ℕ) (w n : ℕ) → IsWidth (total lens) w → length lens ≡ n
+    → spelled_as branch_form (256 * w + n % 256) ++ (table ++ blocks (w + 1) (ends lens)) ≡ branch_front table lens
+front_is table lens w n is count =
+    ap (λ k. spelled_as branch_form (256 * w + k % 256) ++ (table ++ blocks (w + 1) (ends lens))) (sym count)
+    ∙ ap (λ x. spelled_as branch_form (256 * x + length lens % 256) ++ (table ++ blocks (x + 1) (ends lens))) (width_is (total lens) w is)
+
+pub front_long : (table lens : List ℕ) (w n : ℕ) → IsWidth (total lens) w → length lens ≡ n
+    → length (branch_front table lens) ≡ length (spelled_as branch_form (256 * w + n % 256)) + (length table + (w + 1) * (n - 1))
+front_long table lens w n is count =
+    let whole = ap length (sym (front_is table lens w n is count)) in
+    let a = length-append (spelled_as branch_form (256 * w + n % 256)) (table ++ blocks (w + 1) (ends lens)) in
+    let b = length-append table (blocks (w + 1) (ends lens)) in
+    let c = length-blocks (w + 1) (ends lens) ∙ ap (λ k. (w + 1) * k) (length-ends lens ∙ ap (λ k. k - 1) count) in
+    omega arith

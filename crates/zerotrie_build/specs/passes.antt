@@ -1,0 +1,6 @@
+-- Words of the two passes.
+pub mod Windows
+pub mod Measured
+pub mod Puts
+pub mod Writing
+pub mod Walking

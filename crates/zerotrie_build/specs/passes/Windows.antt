@@ -1,0 +1,54 @@
+-- Windows of the items, and what stands first in their texts.
+use Rattle.std.specs.Prelude.{◌≡◌, ◌≢◌, ℕ, ◌+◌, ◌-◌, ◌<◌, ◌≤◌, ◌==◌, ◌&&◌, nat_lt, nat_le, if◌then◌else◌, List, [], ◌∷◌, map, take, drop, slice_get, slice_index, slice_index_or, Option, Some, None}
+use Rattle.zerotrie_core.specs.Kind.{Kind, has_spans}
+use Rattle.zerotrie_core.specs.Maps.{Pairs}
+use Rattle.zerotrie_build.specs.declared.steps.Window.{Window}
+use Rattle.zerotrie_build.specs.declared.steps.Step.{Step}
+use Rattle.zerotrie_build.specs.declared.steps.Step.TheVariants.{End, Value, Literal, Span, Branch}
+
+-- the items from one number to below another, each key without so many first bytes
+abbrev pub cut : Pairs → ℕ → ℕ → ℕ → Pairs
+cut all from to depth = map {B = List ℕ × ℕ} (λ e. (drop depth e.0, e.1)) (take (to - from) (drop from all))
+
+abbrev pub window : Pairs → Window → Pairs
+window all w = cut all w.from w.to w.depth
+
+-- the item of a number
+abbrev pub item_of : Pairs → ℕ → List ℕ × ℕ
+item_of all index = slice_index_or all index ([], 0)
+
+-- the byte of a key at a depth
+abbrev pub byte_of : Pairs → ℕ → ℕ → Option ℕ
+byte_of all index depth = slice_get (item_of all index).0 depth
+
+-- the byte in front of a window
+abbrev pub edge_of : Pairs → Window → ℕ
+edge_of all w = slice_index (item_of all w.from).0 (w.depth - 1)
+
+-- how many bytes from 128 on two keys have in common in front
+abbrev pub high_front : List ℕ → List ℕ → ℕ
+high_front [] l = 0
+high_front (a ∷ k) [] = 0
+high_front (a ∷ k) (b ∷ l) = if (a == b) && nat_le 128 a then 1 + high_front k l else 0
+
+-- by the bytes with which the first and the last key go on, the value of the first item, and how many bytes from 128
+-- on the two keys have in common
+abbrev pub step_at : Kind → Option ℕ → Option ℕ → ℕ → ℕ → Step
+step_at kind None last v high = Value v
+step_at kind (Some b) None v high = Branch
+step_at kind (Some b) (Some c) v high =
+    if c == b then (if nat_le 128 b && has_spans kind then Span high else Literal b) else Branch
+
+-- what stands first in the text of a window
+abbrev pub step_of : Kind → Pairs → Window → Step
+step_of kind all w = if nat_lt w.from w.to
+    then step_at kind (byte_of all w.from w.depth) (byte_of all (w.to - 1) w.depth) (item_of all w.from).1
+    (high_front (drop w.depth (item_of all w.from).0) (drop w.depth (item_of all (w.to - 1)).0))
+    else End
+
+-- The items up to end, and no others that follow them, have the byte of the first.
+pub record IsGroup (all : Pairs) (w : Window) (end : ℕ) : Type 0 where
+  pub some : w.from < end
+  pub within : end ≤ w.to
+  pub same : (i : ℕ) → w.from ≤ i → i < end → byte_of all i w.depth ≡ byte_of all w.from w.depth
+  pub other : end < w.to → byte_of all end w.depth ≢ byte_of all w.from w.depth

@@ -1,0 +1,66 @@
+//! A store that counts what is asked of it.
+
+ghost use Rattle.std.specs.Prelude.{◌≡◌};
+
+use crate::store::TrieBuilderStore;
+use std::alloc::{AllocError, Global};
+use std::collections::VecDeque;
+
+/// A store that counts how often it grew, and knows whether the places that were written ascend strictly.
+#[derive(Drop)]
+pub struct Counting {
+    bytes: VecDeque<u8>,
+    next: usize,
+    pub grew: usize,
+    pub ascends: bool,
+}
+
+impl TrieBuilderStore for Counting {
+    ghost list = { λ s. s.bytes.items };
+
+    fn atbs_new_empty(alloc: Global) -> Self {
+        Counting {
+            bytes: VecDeque::new(alloc),
+            next: 0,
+            grew: 0,
+            ascends: true,
+        }
+    }
+
+    fn atbs_len(&self) -> usize {
+        self.bytes.len()
+    }
+
+    fn atbs_push_front(&mut self, byte: u8) -> Result<(), AllocError> {
+        self.grew = self.grew.saturating_add(1);
+        self.bytes.atbs_push_front(byte)
+    }
+
+    fn atbs_extend_front(&mut self, bytes: &[u8]) -> Result<(), AllocError> {
+        self.grew = self.grew.saturating_add(1);
+        self.bytes.atbs_extend_front(bytes)
+    }
+
+    fn atbs_to_bytes(&self, alloc: Global) -> Result<Vec<u8>, AllocError> {
+        self.bytes.atbs_to_bytes(alloc)
+    }
+
+    fn atbs_bitor_assign(&mut self, index: usize, bits: u8) {
+        self.ascends = self.ascends && index >= self.next;
+        self.next = index.saturating_add(1);
+        self.bytes.atbs_bitor_assign(index, bits);
+    }
+
+    fn atbs_pop_front(&mut self) -> u8 {
+        self.bytes.atbs_pop_front()
+    }
+
+    fn atbs_prepend_n_zeros(&mut self, count: usize) -> Result<(), AllocError> {
+        self.grew = self.grew.saturating_add(1);
+        self.bytes.atbs_prepend_n_zeros(count)
+    }
+
+    fn atbs_permute_front(&mut self, lengths: &[usize], order: &[usize]) -> Result<(), AllocError> {
+        self.bytes.atbs_permute_front(lengths, order)
+    }
+}

@@ -1,0 +1,128 @@
+//! What stands first in the text of a window of the items.
+
+ghost use Rattle.std.specs.Prelude.{◌≡◌, ℕ, ◌+◌, ◌-◌, ◌^◌, ◌<◌, ◌≤◌, IfSome, Some, length};
+ghost use Rattle.zerotrie_build.specs.Items.{pairs};
+ghost use Rattle.zerotrie_build.specs.passes.Windows.{step_of, byte_of, edge_of, high_front, IsGroup};
+
+use crate::slice_indices::ByteSliceWithIndices;
+use zerotrie_core::ZeroTrieWithOptions;
+
+/// The items from one number to below another, each key without its first `depth` bytes.
+#[derive(Clone, Copy, Debug)]
+pub(crate) struct Window {
+    pub(crate) from: usize,
+    pub(crate) to: usize,
+    pub(crate) depth: usize,
+}
+
+/// What stands first in the text of a window.
+#[derive(Clone, Copy, Debug)]
+pub(crate) enum Step {
+    /// Nothing: there are no items.
+    End,
+    /// The value of the first item, whose key ends here.
+    Value(usize),
+    /// A byte that all keys have.
+    Literal(u8),
+    /// So many bytes from 128 on, which all keys have.
+    Span(usize),
+    /// A branch: the keys part.
+    Branch,
+}
+
+/// The byte of the item's key at the depth, if there is one.
+pub(crate) fn byte_at(items: ByteSliceWithIndices<'_>, index: usize, depth: usize) -> Option<u8>
+    requires { index < length (pairs items) }
+    ensures is { result ≡ byte_of (pairs items.entry) index depth }
+    ensures room { IfSome result (λ _. depth + 1 < 2 ^ 64) }
+{
+    let (key, _) = items.get(index);
+    // That a length is below 2^64 tells the proof that so is a place in it.
+    let _len = key.len();
+    key.get(depth).copied()
+}
+
+/// How many bytes from 128 on two keys have in common in front.
+fn high_front_len(key: &[u8], other: &[u8]) -> usize
+    ensures { result ≡ high_front key.now other.now }
+{
+    let mut count = 0;
+    while count < key.len()
+        && count < other.len()
+        && key[count] == other[count]
+        && key[count] >= 128
+    {
+        count += 1;
+    }
+    count
+}
+
+/// What stands first in the text of the window, where its first and its last key both go on with this byte.
+fn common_step<K: ZeroTrieWithOptions>(
+    items: ByteSliceWithIndices<'_>,
+    window: Window,
+    byte: u8,
+) -> Step
+    requires some { window.from < window.to }
+    requires items { window.to ≤ length (pairs items) }
+    requires first { byte_of (pairs items) window.from window.depth ≡ Some byte }
+    requires last { byte_of (pairs items) (window.to - 1) window.depth ≡ Some byte }
+    ensures is { result ≡ step_of K.kind (pairs items.entry) window }
+    ensures span { (n : ℕ) → result ≡ Step.Span n → window.depth + n < 2 ^ 64 }
+{
+    if !K::SPANS || byte < 128 {
+        return Step::Literal(byte);
+    }
+    let (first, _) = items.get(window.from);
+    let (last, _) = items.get(window.to - 1);
+    let _len = first.len();
+    Step::Span(high_front_len(&first[window.depth..], &last[window.depth..]))
+}
+
+/// What stands first in the text of the window.
+pub(crate) fn first_step<K: ZeroTrieWithOptions>(
+    items: ByteSliceWithIndices<'_>,
+    window: Window,
+) -> Step
+    requires { window.to ≤ length (pairs items) }
+    ensures is { result ≡ step_of K.kind (pairs items.entry) window }
+    ensures literal { (b : ℕ) → result ≡ Step.Literal b → window.depth + 1 < 2 ^ 64 }
+    ensures span { (n : ℕ) → result ≡ Step.Span n → window.depth + n < 2 ^ 64 }
+    ensures branch { result ≡ Step.Branch → window.depth + 1 < 2 ^ 64 }
+{
+    if window.from >= window.to {
+        return Step::End;
+    }
+    match byte_at(items, window.from, window.depth) {
+        None => Step::Value(items.get(window.from).1),
+        Some(byte) => {
+            if byte_at(items, window.to - 1, window.depth) == Some(byte) {
+                common_step::<K>(items, window, byte)
+            } else {
+                Step::Branch
+            }
+        }
+    }
+}
+
+/// Where the first items that have one byte at the depth end.
+pub(crate) fn group_end(items: ByteSliceWithIndices<'_>, window: Window) -> usize
+    requires within { window.from < window.to }
+    requires items { window.to ≤ length (pairs items) }
+    ensures { IsGroup (pairs items.entry) window result }
+{
+    let byte = byte_at(items, window.from, window.depth);
+    let mut end = window.from + 1;
+    while end < window.to && byte_at(items, end, window.depth) == byte {
+        end += 1;
+    }
+    end
+}
+
+/// The byte in front of the window.
+pub(crate) fn edge_at(items: ByteSliceWithIndices<'_>, window: Window) -> u8
+    requires { window.from < length (pairs items) }
+    ensures { result ≡ edge_of (pairs items.entry) window }
+{
+    byte_at(items, window.from, window.depth.saturating_sub(1)).unwrap_or(0)
+}

@@ -1,0 +1,250 @@
+//! The second pass: the bytes of the text, from the first to the last.
+
+ghost use Rattle.std.specs.Prelude.{◌≡◌, ◌≢◌, ℕ, List, [], ◌∷◌, ◌+◌, ◌-◌, ◌*◌, ◌/◌, ◌%◌, ◌^◌, ◌<◌, ◌≤◌, ◌++◌, length, map, slice_index, slice_index_or, take, drop, reverse, All, IfOk, OnOk, IfErr, IfSome, IfNone};
+ghost use Rattle.zerotrie_core.specs.Maps.{map_of};
+ghost use Rattle.zerotrie_core.specs.Numbers.{value_form, span_form, SpellsAs, spelled_as};
+ghost use Rattle.zerotrie_core.specs.Branches.{total as total_of, ends, blocks, branch_front};
+ghost use Rattle.zerotrie_core.specs.Texts.{Means};
+ghost use Rattle.zerotrie_core.specs.Causes.{Cause};
+ghost use Rattle.zerotrie_build.specs.Items.{pairs};
+ghost use Rattle.zerotrie_build.specs.passes.Windows.{item_of};
+ghost use Rattle.zerotrie_build.specs.passes.Measured.{IsMeasured, target_at};
+ghost use Rattle.zerotrie_build.specs.passes.Puts.{Puts};
+ghost use Rattle.zerotrie_build.specs.passes.Writing.{with_bits, lens_of, FrontPut};
+
+use crate::laying::Layout;
+use crate::measuring::{Measured, Target, width_of};
+use crate::slice_indices::ByteSliceWithIndices;
+use crate::steps::{Step, Window, first_step};
+use crate::store::TrieBuilderStore;
+use std::alloc::{AllocError, Global};
+use zerotrie_core::{
+    ZeroTrieBuildError, ZeroTrieWithOptions, write_varint_meta2, write_varint_meta3,
+};
+
+/// The bits of the lead of a value node.
+const VALUE: u8 = 0b1000_0000;
+
+/// The bits of the lead of a span.
+const SPAN: u8 = 0b1010_0000;
+
+/// The bits of the lead of a branch.
+const BRANCH: u8 = 0b1100_0000;
+
+/// A store whose first `at` bytes are written. The others are zeros.
+#[derive(Drop)]
+pub(crate) struct Writing<S> {
+    pub(crate) data: S,
+    pub(crate) at: usize,
+}
+
+impl<S: TrieBuilderStore + Drop> Writing<S> {
+    /// Writes a byte.
+    fn put(&mut self, byte: u8)
+        requires { self.old.at < length (S.list self.old.data) }
+        ensures { Puts (S.list self.old.data) self.old.at (S.list self.new.data) self.new.at (byte ∷ []) }
+    {
+        // That a length is below 2^64 tells the proof that so is the place behind it.
+        let _len = self.data.atbs_len();
+        self.data.atbs_bitor_assign(self.at, byte);
+        self.at += 1;
+    }
+
+    /// Writes bytes.
+    fn put_all(&mut self, bytes: &[u8])
+        requires { self.old.at + length bytes.now ≤ length (S.list self.old.data) }
+        ensures { Puts (S.list self.old.data) self.old.at (S.list self.new.data) self.new.at bytes.now }
+    {
+        for byte in bytes {
+            self.put(*byte);
+        }
+    }
+
+    /// Writes a number, with these bits added to its lead.
+    fn put_number(&mut self, bits: u8, number: &[u8])
+        requires room { self.old.at + length number.now ≤ length (S.list self.old.data) }
+        requires bits { bits + slice_index number.now 0 < 256 }
+        ensures { Puts (S.list self.old.data) self.old.at (S.list self.new.data) self.new.at (with_bits bits number.now) }
+    {
+        if let Some((lead, trail)) = number.split_first() {
+            self.put(bits + *lead);
+            self.put_all(trail);
+        }
+    }
+
+    /// Writes a value node.
+    fn put_value(&mut self, value: usize)
+        requires { self.old.at + length (spelled_as value_form value) ≤ length (S.list self.old.data) }
+        ensures puts { Puts (S.list self.old.data) self.old.at (S.list self.new.data) self.new.at
+            (spelled_as value_form value) }
+        ensures spells { SpellsAs value_form value (spelled_as value_form value) }
+    {
+        self.put_number(VALUE, &write_varint_meta3(value));
+    }
+
+    /// Writes a span of the bytes that the window's keys go on with.
+    fn put_span(&mut self, items: ByteSliceWithIndices<'_>, window: Window, run: usize)
+        requires item { window.from < length (pairs items) }
+        requires run { window.depth + run ≤ length (item_of (pairs items) window.from).0 }
+        requires room { self.old.at + (length (spelled_as span_form run) + run) ≤ length (S.list self.old.data) }
+        ensures puts { Puts (S.list self.old.data) self.old.at (S.list self.new.data) self.new.at
+            (spelled_as span_form run ++ take run (drop window.depth (item_of (pairs items.entry) window.from).0)) }
+        ensures spells { SpellsAs span_form run (spelled_as span_form run) }
+    {
+        let (key, _) = items.get(window.from);
+        self.put_number(SPAN, &write_varint_meta3(run));
+        self.put_all(&key[window.depth..window.depth + run]);
+    }
+
+    /// Writes the bytes of this weight of the offsets of a branch to these targets.
+    fn put_block(&mut self, targets: &[Target], numbers: &[usize], place: usize)
+        requires place { place < 8 }
+        requires within { All (λ i. i < length targets.now) numbers.now }
+        requires small { total_of (lens_of targets.now numbers.now) < 2 ^ 64 }
+        requires room { self.old.at + (length numbers.now - 1) ≤ length (S.list self.old.data) }
+        ensures { Puts (S.list self.old.data) self.old.at (S.list self.new.data) self.new.at
+            (map (λ o. o / 256 ^ place % 256) (ends (lens_of targets.now numbers.now))) }
+    {
+        let mut end = 0;
+        for index in 1..numbers.len() {
+            end += targets[numbers[index - 1]].len;
+            self.put(((end >> (8 * place)) % 256) as u8);
+        }
+    }
+
+    /// Writes so many bytes of each offset of a branch to these targets, the highest of them first.
+    fn put_offsets(&mut self, targets: &[Target], numbers: &[usize], bytes: usize)
+        requires bytes { bytes ≤ 8 }
+        requires within { All (λ i. i < length targets.now) numbers.now }
+        requires small { total_of (lens_of targets.now numbers.now) < 2 ^ 64 }
+        requires room { self.old.at + bytes * (length numbers.now - 1) ≤ length (S.list self.old.data) }
+        ensures { Puts (S.list self.old.data) self.old.at (S.list self.new.data) self.new.at
+            (blocks bytes (ends (lens_of targets.now numbers.now))) }
+    {
+        for place in (0..bytes).rev() {
+            self.put_block(targets, numbers, place);
+        }
+    }
+
+    /// Writes a branch with this search table in front of these targets.
+    fn put_branch(&mut self, table: &[u8], targets: &[Target], numbers: &[usize])
+        requires within { All (λ i. i < length targets.now) numbers.now }
+        requires small { total_of (lens_of targets.now numbers.now) < 2 ^ 64 }
+        requires room { self.old.at + length (branch_front table.now (lens_of targets.now numbers.now))
+            ≤ length (S.list self.old.data) }
+        ensures { Puts (S.list self.old.data) self.old.at (S.list self.new.data) self.new.at
+            (branch_front table.now (lens_of targets.now numbers.now)) }
+    {
+        let width = width_of(total(targets, numbers));
+        self.put_number(
+            BRANCH,
+            &write_varint_meta2(256 * width + numbers.len() % 256),
+        );
+        self.put_all(table);
+        self.put_offsets(targets, numbers, width + 1);
+    }
+
+    /// Writes a window up to the targets of its first branch, and lays these out.
+    fn put_front<K: ZeroTrieWithOptions>(
+        &mut self,
+        items: ByteSliceWithIndices<'_>,
+        measured: &Measured,
+        index: usize,
+        layout: &mut Layout,
+    ) -> Result<(), ZeroTrieBuildError>
+        requires measured { IsMeasured K.kind (pairs items) measured.now.windows.items measured.now.targets.items }
+        requires within { index < length measured.now.windows.items }
+        requires room { self.old.at + (target_at measured.now.targets.items index).len ≤ length (S.list self.old.data) }
+        ensures put { OnOk result (FrontPut K.kind (pairs items.entry) measured.now.windows.items measured.now.targets.items
+            index layout.new.numbers.items (S.list self.old.data) self.old.at (S.list self.new.data) self.new.at) }
+        ensures refused { IfErr result (λ e. e ≢ ZeroTrieBuildError.OutOfMemory
+            → (e ≡ ZeroTrieBuildError.CouldNotSolvePerfectHash) × Cause K.kind (pairs items.entry) e) }
+    {
+        layout.clear();
+        let mut rest = measured.windows[index];
+        loop {
+            match first_step::<K>(items, rest) {
+                Step::End => return Ok(()),
+                Step::Value(value) => {
+                    self.put_value(value);
+                    rest.from += 1;
+                }
+                Step::Literal(byte) => {
+                    self.put(byte);
+                    rest.depth += 1;
+                }
+                Step::Span(count) => {
+                    self.put_span(items, rest, count);
+                    rest.depth += count;
+                }
+                Step::Branch => {
+                    layout.set::<K>(items, measured, measured.targets[index])?;
+                    self.put_branch(
+                        layout.table.as_slice(),
+                        measured.targets.as_slice(),
+                        layout.numbers.as_slice(),
+                    );
+                    return Ok(());
+                }
+            }
+        }
+    }
+}
+
+/// The sum of the lengths of these targets.
+fn total(targets: &[Target], numbers: &[usize]) -> usize
+    requires within { All (λ i. i < length targets.now) numbers.now }
+    requires small { total_of (lens_of targets.now numbers.now) < 2 ^ 64 }
+    ensures { result ≡ total_of (lens_of targets.now numbers.now) }
+{
+    let mut total = 0;
+    for number in numbers {
+        total += targets[*number].len;
+    }
+    total
+}
+
+/// Puts the numbers on the list of open windows, the first on top.
+fn push_numbers(pending: &mut Vec<usize>, numbers: &[usize]) -> Result<(), AllocError>
+    ensures { OnOk result (reverse pending.new.items ≡ numbers.now ++ reverse pending.old.items) }
+{
+    for index in (0..numbers.len()).rev() {
+        pending.push(numbers[index])?;
+    }
+    Ok(())
+}
+
+/// Takes the number on top off.
+fn next_number(pending: &mut Vec<usize>) -> Option<usize>
+    ensures some { IfSome result (λ i. reverse pending.old.items ≡ i ∷ reverse pending.new.items) }
+    ensures none { IfNone result (reverse pending.old.items ≡ []) }
+{
+    pending.pop()
+}
+
+/// Writes the text of the items.
+pub(crate) fn write<K: ZeroTrieWithOptions, S: TrieBuilderStore + Drop>(
+    alloc: Global,
+    items: ByteSliceWithIndices<'_>,
+    measured: &Measured,
+) -> Result<S, ZeroTrieBuildError>
+    requires { IsMeasured K.kind (pairs items) measured.now.windows.items measured.now.targets.items }
+    ensures means { IfOk result (λ store. Means K.kind (S.list store) (map_of (pairs items.entry))) }
+    ensures refused { IfErr result (λ e. e ≢ ZeroTrieBuildError.OutOfMemory
+        → (e ≡ ZeroTrieBuildError.CouldNotSolvePerfectHash) × Cause K.kind (pairs items.entry) e) }
+{
+    let mut data = S::atbs_new_empty(alloc);
+    data.atbs_prepend_n_zeros(measured.targets[0].len)?;
+    let mut writing = Writing { data, at: 0 };
+    let mut layout = Layout::new(alloc);
+    let mut pending = Vec::new(alloc);
+    pending.push(0)?;
+    while let Some(index) = next_number(&mut pending) {
+        writing.put_front::<K>(items, measured, index, &mut layout)?;
+        push_numbers(&mut pending, layout.numbers.as_slice())?;
+    }
+    let Writing { data, at: _ } = writing;
+    // That a length is below 2^64 tells the proof that so is that of the text.
+    let _len = data.atbs_len();
+    Ok(data)
+}
