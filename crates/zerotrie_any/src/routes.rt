@@ -41,7 +41,7 @@ pub fn bytes_from_slice<K: ZeroTrieWithOptions>(
 }
 
 /// The entries of a map, each key by its bytes. The keys' bytes are not copied.
-fn items_of<Key: TrieKey + Ord>(
+pub(crate) fn items_of<Key: TrieKey + Ord>(
     alloc: Global,
     entries: &BTreeMap<Key, usize>,
 ) -> Result<Vec<(&[u8], usize)>, AllocError>
