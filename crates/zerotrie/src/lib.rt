@@ -23,8 +23,8 @@
 //! - `ZeroTrieSimpleAscii` for ASCII keys,
 //! - `ZeroAsciiIgnoreCaseTrie` for ASCII keys that are found without the case of their letters,
 //! - `ZeroTriePerfectHash` for keys of any bytes,
-//! - `ZeroTrieExtendedCapacity` for keys of any bytes in texts of more than 2^32 bytes,
-//! - `ZeroTrie`, which is of the first or one of the last two kinds, whichever was built or named.
+//! - `ZeroTrieExtendedCapacity` for keys of any bytes in texts of any length,
+//! - `ZeroTrie`, of a kind that is known when the program runs: any of these but the one without case.
 //!
 //! A look-up takes no memory and copies nothing. In the kinds over ASCII a build answers the one text of the
 //! map, whichever way the pairs came, so tries of one map have equal bytes.
