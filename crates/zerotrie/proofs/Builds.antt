@@ -45,6 +45,9 @@ auto_build_of_copies key kind_of bytes (Ok b) items iter copies is all copied h 
     (of_copies iter_rest (λ xs. (kind_of b ≡ auto_kind (keyed key xs)) × IsBuild any_order (auto_kind (keyed key xs)) bytes (keyed key xs) (Ok b)) h.0 copies iter copied all h.1 h.2)
 auto_build_of_copies key kind_of bytes (Err e) items iter copies is all copied refusal = elim refusal [
   | inl memory ↦ (tt, inl memory)
-  | inr h ↦ (tt, inr (subst (λ xs. HasCause any_order (auto_kind (keyed key xs)) (keyed key xs) e) is
-      (of_copies iter_rest (λ xs. HasCause any_order (auto_kind (keyed key xs)) (keyed key xs) e) h.0 copies iter copied all h.1 h.2)))
+  | inr h ↦ (
+    tt,
+    inr (subst (λ xs. HasCause any_order (auto_kind (keyed key xs)) (keyed key xs) e) is
+        (of_copies iter_rest (λ xs. HasCause any_order (auto_kind (keyed key xs)) (keyed key xs) e) h.0 copies iter copied all h.1 h.2)),
+  )
 ]

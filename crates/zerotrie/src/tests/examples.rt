@@ -5,6 +5,30 @@ use std::collections::VecDeque;
 use zerotrie_any::{bytes_from_iter, bytes_from_slice};
 use zerotrie_build::{ByteSliceWithIndices, ZeroTrieBuilder};
 
+/// The example that the library's page opens with.
+#[test]
+fn the_first_example_answers(rt: HostRuntime) -> Result<(), Fail> {
+    let pairs = [("foo", 1), ("bar", 2), ("bazzoo", 3)];
+    let trie = ZeroTrieSimpleAscii::try_from_iter(rt.alloc(), pairs)?;
+    assert_eq!(rt; trie.get(b"bar"), Some(2));
+    assert_eq!(rt; trie.get(b"unknown"), None);
+    assert_eq!(rt; trie.byte_len(), 17);
+    let bytes = trie.into_store();
+    let again = ZeroTrieSimpleAscii::from_bytes(bytes.as_slice());
+    assert_eq!(rt; again.get(b"bazzoo"), Some(3));
+    Ok(())
+}
+
+/// The example of header names, which are found in either case.
+#[test]
+fn header_names_are_found_in_either_case(rt: HostRuntime) -> Result<(), Fail> {
+    let headers = [("Accept", 1), ("Content-Type", 2), ("Content-Length", 3)];
+    let trie = ZeroAsciiIgnoreCaseTrie::try_from_iter(rt.alloc(), headers)?;
+    assert_eq!(rt; trie.get(b"content-type"), Some(2));
+    assert_eq!(rt; trie.get(b"ACCEPT"), Some(1));
+    Ok(())
+}
+
 #[test]
 fn bytes_are_looked_up_where_they_lie(rt: HostRuntime) -> Result<(), Fail> {
     let trie = ZeroTrieSimpleAscii::from_bytes(b"abc\x85");
