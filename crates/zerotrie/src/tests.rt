@@ -40,3 +40,26 @@ const MIXED: [(&str, usize); 6] = [
     ("aBce", 3),
     ("aBcghi", 5),
 ];
+
+/// Fourteen locales, which take 71 bytes.
+const LOCALES: [(&str, usize); 14] = [
+    ("ar/FR", 0),
+    ("ar/IR", 1),
+    ("ar/SA", 2),
+    ("ar/UK", 3),
+    ("ar/US", 4),
+    ("en/AU", 5),
+    ("en/FR", 6),
+    ("en/UK", 7),
+    ("en/US", 8),
+    ("fr/FR", 9),
+    ("fr/SA", 10),
+    ("fr/UK", 11),
+    ("fr/US", 12),
+    ("it/IT", 13),
+];
+
+/// Their text.
+const LOCALES_TEXT: &[u8] =
+    b"\xC4aefi\x16(:r/\xC4FISU\x02\x04\x06R\x80R\x81A\x82\xC2KS\x01\x83\x84n/\xC3AFU\x02\x04\
+    U\x85R\x86\xC2KS\x01\x87\x88r/\xC3FSU\x02\x04R\x89A\x8A\xC2KS\x01\x8B\x8Ct/IT\x8D";

@@ -44,10 +44,7 @@ fn as_bytes<'a>(
     Ok(ByteSliceWithIndices::from_str_slice(items).to_vec_u8(alloc)?)
 }
 
-/// How many routes there are.
-const ROUTES: usize = 6;
-
-/// The trie over ASCII keys of items that ascend, by one of the routes.
+/// The trie over ASCII keys of items that ascend, by one of six routes.
 fn ascii_by<K: AsciiKind>(
     alloc: Global,
     route: usize,
@@ -63,7 +60,7 @@ fn ascii_by<K: AsciiKind>(
     }
 }
 
-/// The trie over keys of any bytes of items that ascend, by one of the routes.
+/// The trie over keys of any bytes of items that ascend, by one of four routes.
 fn hashed_by<K: HashedKind>(
     alloc: Global,
     route: usize,
@@ -71,15 +68,13 @@ fn hashed_by<K: HashedKind>(
 ) -> Result<HashedTrie<K, Vec<u8>>, ZeroTrieBuildError> {
     match route {
         0 => HashedTrie::try_from_btree_map_str(alloc, &text_map(alloc, items)?),
-        1 => HashedTrie::try_from_btree_map_str(alloc, &string_map(alloc, items)?),
-        2 => HashedTrie::try_from_btree_map(alloc, &text_map(alloc, items)?),
-        3 => HashedTrie::try_from_btree_map(alloc, &bytes_map(alloc, items)?),
-        4 => HashedTrie::try_from_sorted_slice(alloc, as_bytes(alloc, items)?.as_slice()),
+        1 => HashedTrie::try_from_btree_map(alloc, &bytes_map(alloc, items)?),
+        2 => HashedTrie::try_from_sorted_slice(alloc, as_bytes(alloc, items)?.as_slice()),
         _ => HashedTrie::try_from_iter(alloc, items.iter().rev().copied()),
     }
 }
 
-/// The trie of items that ascend, of the kind that is taken for them, by one of the routes.
+/// The trie of items that ascend, of the kind that is taken for them, by one of four routes.
 fn auto_by(
     alloc: Global,
     route: usize,
@@ -87,10 +82,8 @@ fn auto_by(
 ) -> Result<ZeroTrie<Vec<u8>>, ZeroTrieBuildError> {
     match route {
         0 => ZeroTrie::try_from_btree_map_str(alloc, &text_map(alloc, items)?),
-        1 => ZeroTrie::try_from_btree_map_str(alloc, &string_map(alloc, items)?),
-        2 => ZeroTrie::try_from_btree_map(alloc, &text_map(alloc, items)?),
-        3 => ZeroTrie::try_from_btree_map(alloc, &bytes_map(alloc, items)?),
-        4 => ZeroTrie::try_from_sorted_slice(alloc, as_bytes(alloc, items)?.as_slice()),
+        1 => ZeroTrie::try_from_btree_map(alloc, &bytes_map(alloc, items)?),
+        2 => ZeroTrie::try_from_sorted_slice(alloc, as_bytes(alloc, items)?.as_slice()),
         _ => ZeroTrie::try_from_iter(alloc, items.iter().rev().copied()),
     }
 }
@@ -98,36 +91,56 @@ fn auto_by(
 /// Items that ascend, and their text.
 type Row<'a> = (&'a [(&'a str, usize)], &'a [u8]);
 
-/// Every route over ASCII keys builds these texts, in which the keys are found.
+/// Whether the bytes of a trie are the text, in which the keys are found.
+fn has_ascii<K: AsciiKind>(trie: &AsciiTrie<K, Vec<u8>>, row: Row<'_>) -> bool {
+    let (items, text) = row;
+    trie.as_bytes() == text
+        && trie.is_empty() == text.is_empty()
+        && trie.get(b"unknown").is_none()
+        && items
+            .iter()
+            .all(|(key, value)| trie.get(key.as_bytes()) == Some(*value))
+}
+
+fn has_hashed<K: HashedKind>(trie: &HashedTrie<K, Vec<u8>>, row: Row<'_>) -> bool {
+    let (items, text) = row;
+    trie.as_bytes() == text
+        && trie.is_empty() == text.is_empty()
+        && trie.get(b"unknown").is_none()
+        && items
+            .iter()
+            .all(|(key, value)| trie.get(key.as_bytes()) == Some(*value))
+}
+
+fn has_auto(trie: &ZeroTrie<Vec<u8>>, row: Row<'_>) -> bool {
+    let (items, text) = row;
+    trie.store.as_slice() == text
+        && trie.get(b"unknown").is_none()
+        && items
+            .iter()
+            .all(|(key, value)| trie.get(key.as_bytes()) == Some(*value))
+}
+
+/// Every route over ASCII keys builds these texts.
 fn ascii_texts<K: AsciiKind, H: AllocGlobal + Abort>(rt: &H, rows: &[Row<'_>]) -> Result<(), Fail> {
-    for (items, text) in rows {
-        for route in 0..ROUTES {
-            let trie = ascii_by::<K>(rt.alloc(), route, *items)?;
-            assert_eq!(rt; trie.as_bytes(), *text, "by route {route}");
-            assert_eq!(rt; trie.is_empty(), items.is_empty());
-            for (key, value) in *items {
-                assert_eq!(rt; trie.get(key.as_bytes()), Some(*value));
-            }
-            assert_eq!(rt; trie.get(b"unknown"), None);
+    for row in rows {
+        for route in 0..6 {
+            let trie = ascii_by::<K>(rt.alloc(), route, row.0)?;
+            assert!(rt; has_ascii(&trie, *row));
         }
     }
     Ok(())
 }
 
-/// Every route over keys of any bytes builds these texts, in which the keys are found.
+/// Every route over keys of any bytes builds these texts.
 fn hashed_texts<K: HashedKind, H: AllocGlobal + Abort>(
     rt: &H,
     rows: &[Row<'_>],
 ) -> Result<(), Fail> {
-    for (items, text) in rows {
-        for route in 0..ROUTES {
-            let trie = hashed_by::<K>(rt.alloc(), route, *items)?;
-            assert_eq!(rt; trie.as_bytes(), *text, "by route {route}");
-            assert_eq!(rt; trie.is_empty(), items.is_empty());
-            for (key, value) in *items {
-                assert_eq!(rt; trie.get(key.as_bytes()), Some(*value));
-            }
-            assert_eq!(rt; trie.get(b"unknown"), None);
+    for row in rows {
+        for route in 0..4 {
+            let trie = hashed_by::<K>(rt.alloc(), route, row.0)?;
+            assert!(rt; has_hashed(&trie, *row));
         }
     }
     Ok(())
@@ -135,7 +148,7 @@ fn hashed_texts<K: HashedKind, H: AllocGlobal + Abort>(
 
 #[test]
 fn simple_texts(rt: HostRuntime) -> Result<(), Fail> {
-    let rows: [Row<'_>; 8] = [
+    let rows: [Row<'_>; 11] = [
         (&[], &[]),
         (
             &[("", 11), ("ad", 22), ("adef", 33), ("adghk", 44)],
@@ -151,6 +164,9 @@ fn simple_texts(rt: HostRuntime) -> Result<(), Fail> {
                 0x6F, 0x6F, 0x81,
             ],
         ),
+        (&[("ad", 22), ("adef", 33)], b"ad\x90\x06ef\x90\x11"),
+        (&[("abc", 11), ("xyz", 22)], b"\xC2ax\x03bc\x8Byz\x90\x06"),
+        (&LOCALES, LOCALES_TEXT),
         // A value below 16 has one byte, and below 2064 two.
         (&[("", 15)], &[0x8F]),
         (&[("", 16)], &[0x90, 0x00]),
@@ -254,13 +270,19 @@ fn hashed_texts_of_both_kinds(rt: HostRuntime) -> Result<(), Fail> {
 #[test]
 fn long_spans(rt: HostRuntime) -> Result<(), Fail> {
     let run = [0xC3u8; 16];
-    let rows: [(usize, &[u8]); 2] = [(15, &[0xAF]), (16, &[0xB0, 0x00])];
-    for (length, head) in rows {
-        let key = &run[..length];
-        let trie = ZeroTriePerfectHash::try_from_iter(rt.alloc(), [(key, 1)])?;
-        assert_eq!(rt; trie.byte_len(), length + length / 16 + 2);
-        assert!(rt; trie.as_bytes().starts_with(head) && trie.as_bytes().ends_with(b"\xC3\x81"));
-        assert_eq!(rt; trie.get(key), Some(1));
+    let rows: [(usize, &[u8]); 2] = [
+        (
+            15,
+            b"\xAF\xC3\xC3\xC3\xC3\xC3\xC3\xC3\xC3\xC3\xC3\xC3\xC3\xC3\xC3\xC3\x81",
+        ),
+        (
+            16,
+            b"\xB0\0\xC3\xC3\xC3\xC3\xC3\xC3\xC3\xC3\xC3\xC3\xC3\xC3\xC3\xC3\xC3\xC3\x81",
+        ),
+    ];
+    for (length, text) in rows {
+        let trie = ZeroTriePerfectHash::try_from_iter(rt.alloc(), [(&run[..length], 1)])?;
+        assert_eq!(rt; trie.as_bytes(), text);
     }
     Ok(())
 }
@@ -283,27 +305,37 @@ fn all_bytes_are_edges(rt: HostRuntime) -> Result<(), Fail> {
     Ok(())
 }
 
-/// Keys of ASCII alone make a trie without spans and hashes, and the letters have a text of 48 bytes.
+/// Keys of ASCII alone make a trie without spans and hashes.
 #[test]
 fn auto_texts(rt: HostRuntime) -> Result<(), Fail> {
-    let rows: [(&[(&str, usize)], ZeroTrieFlavor, usize); 4] = [
-        (&[], ZeroTrieFlavor::SimpleAscii, 0),
+    let rows: [(Row<'_>, ZeroTrieFlavor); 4] = [
+        ((&[], &[]), ZeroTrieFlavor::SimpleAscii),
         (
-            &[("abc", 11), ("axyb", 33), ("xyz", 22)],
+            (
+                &[("abc", 11), ("axyb", 33), ("xyz", 22)],
+                b"\xC2ax\x0A\xC2bx\x02c\x8Byb\x90\x11yz\x90\x06",
+            ),
             ZeroTrieFlavor::SimpleAscii,
-            18,
         ),
-        (&LETTERS, ZeroTrieFlavor::SimpleAscii, 48),
-        (&[("å", 1), ("ø", 2)], ZeroTrieFlavor::PerfectHash, 8),
+        (
+            (
+                &LETTERS,
+                b"\xD0abcdefghijklmnop\
+                \x01\x02\x03\x04\x05\x06\x07\x08\x09\x0A\x0B\x0C\x0D\x0E\x0F\
+                \x80\x81\x82\x83\x84\x85\x86\x87\x88\x89\x8A\x8B\x8C\x8D\x8E\x8F",
+            ),
+            ZeroTrieFlavor::SimpleAscii,
+        ),
+        (
+            (&[("å", 1), ("ø", 2)], b"\xA1\xC3\xC2\xA5\xB8\x01\x81\x82"),
+            ZeroTrieFlavor::PerfectHash,
+        ),
     ];
-    for (items, flavor, length) in rows {
-        for route in 0..ROUTES {
-            let trie = auto_by(rt.alloc(), route, items)?;
-            assert_eq!(rt; trie.flavor, flavor);
-            assert_eq!(rt; trie.byte_len(), length);
-            for (key, value) in items {
-                assert_eq!(rt; trie.get(key.as_bytes()), Some(*value));
-            }
+    for (row, flavor) in rows {
+        for route in 0..4 {
+            let trie = auto_by(rt.alloc(), route, row.0)?;
+            assert!(rt; trie.flavor == flavor && has_auto(&trie, row));
+            assert_eq!(rt; trie.byte_len(), row.1.len());
         }
     }
     Ok(())
@@ -328,37 +360,6 @@ fn many_keys_are_hashed(rt: HostRuntime) -> Result<(), Fail> {
     Ok(())
 }
 
-/// The texts of some pairs as a `ZeroTrie`, of which the second has a key that is not ASCII.
-#[test]
-fn auto_bytes(rt: HostRuntime) -> Result<(), Fail> {
-    let simple = ZeroTrie::try_from_iter(rt.alloc(), [("abc", 11), ("xyz", 22), ("axyb", 33)])?;
-    assert_eq!(rt;
-        simple.into_store().as_slice(),
-        b"\xC2ax\x0A\xC2bx\x02c\x8Byb\x90\x11yz\x90\x06".as_slice()
-    );
-    let hashed = ZeroTrie::try_from_iter(rt.alloc(), [("å", 1), ("ø", 2)])?;
-    assert_eq!(rt;
-        hashed.into_store().as_slice(),
-        b"\xA1\xC3\xC2\xA5\xB8\x01\x81\x82".as_slice()
-    );
-    Ok(())
-}
-
-#[test]
-fn fourteen_locales_take_71_bytes(rt: HostRuntime) -> Result<(), Fail> {
-    let keys = [
-        "ar/FR", "ar/IR", "ar/SA", "ar/UK", "ar/US", "en/AU", "en/FR", "en/UK", "en/US", "fr/FR",
-        "fr/SA", "fr/UK", "fr/US", "it/IT",
-    ];
-    let pairs = keys.iter().enumerate().map(|(value, key)| (*key, value));
-    let trie = ZeroTrieSimpleAscii::try_from_iter(rt.alloc(), pairs)?;
-    assert_eq!(rt; trie.byte_len(), 71);
-    for (value, key) in keys.iter().enumerate() {
-        assert_eq!(rt; trie.get(key.as_bytes()), Some(value));
-    }
-    Ok(())
-}
-
 /// Targets of 255 bytes together have offsets of one byte, and of 256 bytes two.
 #[test]
 fn a_wide_branch_has_wide_offsets(rt: HostRuntime) -> Result<(), Fail> {
@@ -371,11 +372,12 @@ fn a_wide_branch_has_wide_offsets(rt: HostRuntime) -> Result<(), Fail> {
     for (count, length, front) in table {
         let items = [(&long[..count], 0), (b"b".as_slice(), 0)];
         let trie = ZeroTrieSimpleAscii::try_from_sorted_slice(rt.alloc(), &items)?;
-        assert_eq!(rt; trie.byte_len(), length);
-        assert!(rt; trie.as_bytes().starts_with(front));
-        for (key, value) in items {
-            assert_eq!(rt; trie.get(key), Some(value));
-        }
+        assert!(rt; trie.byte_len() == length && trie.as_bytes().starts_with(front));
+        assert!(rt;
+            items
+                .iter()
+                .all(|(key, value)| trie.get(*key) == Some(*value))
+        );
     }
     Ok(())
 }
