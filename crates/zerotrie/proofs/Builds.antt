@@ -1,24 +1,22 @@
 -- What a build of all that an iterator gives says of the list that the iterator goes over.
 use Rattle.std.proofs.Common.{◌≡◌, ℕ, List, Option, Result, Ok, Err, Iter, inl, inr, ap, subst, ◌∙◌}
 use Rattle.std.specs.Borrow.{Bor}
-use Rattle.std.specs.Iterator.Runs.{SomeRun, WholeRun, EachRunFrom, EveryRun, IsCopiedRun, ItemsMapTo, ItemsAre}
+use Rattle.std.specs.Prelude.{IfOk}
+use Rattle.std.specs.Iterator.Runs.{SomeRun, WholeRun, EachRunFrom, EveryRun, IsCopiedRun, ItemsMapTo}
 use Rattle.std.specs.Slice.Iter.{iter_rest, iter_steps}
 use Rattle.zerotrie_core.specs.Items.{keyed}
 use Rattle.zerotrie_core.specs.Kind.{Kind}
 use Rattle.zerotrie_core.specs.Maps.{Pairs}
 use Rattle.zerotrie_core.specs.Routes.{any_order, HasCause, IsBuild, OfAllGiven, IsBuildOfAll}
 use Rattle.zerotrie_core.specs.declared.ZeroTrieBuildError.{ZeroTrieBuildError}
+use Rattle.zerotrie_any.specs.Auto.{auto_kind, IsAutoBuildOfAll}
+pub use Rattle.zerotrie_any.proofs.Elements.{of_elements}
 
 -- A build of all that an iterator gives is one of the pairs, if what holds of all that it gives holds of the pairs.
 pub build_of : {B : Type 0} {OfAll : (Pairs → Type 0) → Type 0} (kind : Kind) (bytes : B → List ℕ) (pairs : Pairs) (r : Result B ZeroTrieBuildError)
     → ((Fact : Pairs → Type 0) → OfAll Fact → Fact pairs) → IsBuildOfAll OfAll kind bytes r → IsBuild any_order kind bytes pairs r
 build_of kind bytes pairs (Ok b) gives build = gives (λ p. IsBuild any_order kind bytes p (Ok b)) build
 build_of kind bytes pairs (Err e) gives refusal = elim refusal [ inl memory ↦ inl memory | inr cause ↦ inr (gives (λ p. HasCause any_order kind p e) cause) ]
-
--- What holds of the items of a whole run over the elements of a list, as the iterator of an array or a Vec gives them, holds of the list.
-pub of_elements : {S A : Type 0} {steps : S → Option A → S → Type 0} (rest : S → List A) (Fact : List A → Type 0) (xs : List A) (s : S)
-    → rest s ≡ xs → EveryRun steps (λ p. ItemsAre p (rest p.from)) → WholeRun steps s (λ p. Fact p.items) → Fact xs
-of_elements rest Fact xs s is all h = subst Fact ((all h.0 h.0.seen).4 h.2 ∙ ap rest h.1 ∙ is) h.3
 
 -- What holds of the items of a whole run over copies, as `iter().copied()` gives them, holds of the list that is copied.
 pub of_copies : {S T A : Type 0} {steps : S → Option A → S → Type 0} {source : T → Option (Bor A) → T → Type 0} (rest : T → List A) (Fact : List A → Type 0) (i s : S) (t : T)
@@ -36,3 +34,20 @@ pub build_of_copies : {B S K : Type 0} {steps : S → Option (K × ℕ) → S �
 build_of_copies {S = S} {steps = steps} key kind bytes r items iter copies is all copied build =
     build_of {OfAll = OfAllGiven (λ (given it : S). it ≡ given) steps key copies} kind bytes (keyed key items) r
     (λ Fact h. subst (λ xs. Fact (keyed key xs)) is (of_copies iter_rest (λ xs. Fact (keyed key xs)) h.0 copies iter copied all h.1 h.2)) build
+
+-- The same of a build into the kind that is taken for the items, and that it is of this kind.
+pub auto_build_of_copies : {B S K : Type 0} {steps : S → Option (K × ℕ) → S → Type 0} (key : K → List ℕ) (kind_of : B → Kind) (bytes : B → List ℕ) (r : Result B ZeroTrieBuildError)
+    (items : List (K × ℕ)) (iter : Iter (K × ℕ)) (copies : S) (is : iter_rest iter ≡ items) (all : EveryRun (iter_steps {A = K × ℕ}) (λ q. ItemsMapTo q (λ y. y.now) (iter_rest q.from)))
+    (copied : EachRunFrom steps copies (λ p. SomeRun (iter_steps {A = K × ℕ}) iter (λ q. IsCopiedRun p q (λ y. y.now)))) → IsAutoBuildOfAll (OfAllGiven (λ given it. it ≡ given) steps key copies) kind_of bytes r
+    → IfOk r (λ b. kind_of b ≡ auto_kind (keyed key items)) × IsBuild any_order (auto_kind (keyed key items)) bytes (keyed key items) r
+auto_build_of_copies key kind_of bytes (Ok b) items iter copies is all copied h =
+    subst (λ xs. (kind_of b ≡ auto_kind (keyed key xs)) × IsBuild any_order (auto_kind (keyed key xs)) bytes (keyed key xs) (Ok b)) is
+    (of_copies iter_rest (λ xs. (kind_of b ≡ auto_kind (keyed key xs)) × IsBuild any_order (auto_kind (keyed key xs)) bytes (keyed key xs) (Ok b)) h.0 copies iter copied all h.1 h.2)
+auto_build_of_copies key kind_of bytes (Err e) items iter copies is all copied refusal = elim refusal [
+  | inl memory ↦ (tt, inl memory)
+  | inr h ↦ (
+    tt,
+    inr (subst (λ xs. HasCause any_order (auto_kind (keyed key xs)) (keyed key xs) e) is
+        (of_copies iter_rest (λ xs. HasCause any_order (auto_kind (keyed key xs)) (keyed key xs) e) h.0 copies iter copied all h.1 h.2)),
+  )
+]

@@ -14,3 +14,5 @@ pub use Rattle.zerotrie_core.specs.Items
 pub use Rattle.zerotrie_core.specs.Routes
 pub use Rattle.zerotrie_core.specs.Laws
 pub use Rattle.zerotrie_any.specs.Order
+pub use Rattle.zerotrie_any.specs.Auto
+pub use Rattle.zerotrie_any.specs.Flavors

@@ -18,10 +18,16 @@
 //! }
 //! ```
 //!
-//! `ZeroAsciiIgnoreCaseTrie` has the same calls, and finds keys without the case of their letters.
+//! Each kind of trie has the same calls:
 //!
-//! A look-up takes no memory and copies nothing. A build answers the one text of the map, whichever way
-//! the pairs came, so tries of one map have equal bytes.
+//! - `ZeroTrieSimpleAscii` for ASCII keys,
+//! - `ZeroAsciiIgnoreCaseTrie` for ASCII keys that are found without the case of their letters,
+//! - `ZeroTriePerfectHash` for keys of any bytes,
+//! - `ZeroTrieExtendedCapacity` for keys of any bytes in texts of any length,
+//! - `ZeroTrie`, of a kind that is known when the program runs: any of these but the one without case.
+//!
+//! A look-up takes no memory and copies nothing. In the kinds over ASCII a build answers the one text of the
+//! map, whichever way the pairs came, so tries of one map have equal bytes.
 //!
 //! A crate that stands on `zerotrie` alone can state and prove contracts over it. `Rattle.zerotrie.specs`
 //! has the definitions that the library's clauses cite. Of the lemmas, `Rattle.zerotrie.proofs.Builds` says
@@ -32,12 +38,13 @@
 #[cfg(test)]
 mod tests;
 
-pub use zerotrie_any::TextKey;
+pub use zerotrie_any::{HasFlavor, TextKey, ZeroTrie, ZeroTrieFlavor};
 pub use zerotrie_ascii::{AsciiKind, AsciiTrie, ZeroAsciiIgnoreCaseTrie, ZeroTrieSimpleAscii};
 pub use zerotrie_core::{
-    ConvertStore, Ignore, Simple, TrieKey, TrieStore, ZeroTrieBuildError, ZeroTrieBuilderOptions,
-    ZeroTrieWithOptions, laws,
+    ConvertStore, Ext, Hash, Ignore, Simple, TrieKey, TrieStore, ZeroTrieBuildError,
+    ZeroTrieBuilderOptions, ZeroTrieWithOptions, laws,
 };
+pub use zerotrie_hashed::{HashedKind, HashedTrie, ZeroTrieExtendedCapacity, ZeroTriePerfectHash};
 
 /// The perfect hash of bytes, on which hashed branches rest.
 pub mod _internal {

@@ -1,1 +1,3 @@
 pub mod MapOrder
+pub mod Elements
+pub mod AutoLemmas

@@ -3,6 +3,8 @@
 
 mod keys;
 mod routes;
+mod zerotrie;
 
 pub use keys::TextKey;
 pub use routes::{bytes_from_iter, bytes_from_map, bytes_from_slice};
+pub use zerotrie::{HasFlavor, ZeroTrie, ZeroTrieFlavor};

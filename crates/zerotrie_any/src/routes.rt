@@ -2,7 +2,6 @@
 
 ghost use Rattle.std.specs.Prelude.{◌≡◌, IfOk, OnOk};
 ghost use Rattle.std.specs.Iterator.{IsFiniteIterable};
-ghost use Rattle.zerotrie_core.specs.Kind.{IsAscii};
 ghost use Rattle.zerotrie_core.specs.Maps.{Ascends};
 ghost use Rattle.zerotrie_core.specs.Items.{pairs_of, keyed};
 ghost use Rattle.zerotrie_core.specs.Routes.{ascending, in_order, IsBuild, OfAllGiven, IsBuildOfAll};
@@ -24,13 +23,13 @@ use zerotrie_core::{TrieKey, ZeroTrieBuildError, ZeroTrieBuilderOptions, ZeroTri
 /// The bytes mean the map of the items, and for a kind whose tables are all sorted they are the map's one
 /// text.
 ///
-/// A build is refused with `Unsorted`, `NonAsciiError`, `MixedCase`, `CapacityExceeded` or `OutOfMemory`,
-/// each for the reason that `ZeroTrieBuildError` gives.
+/// A build of any kind is refused with `Unsorted`, `CapacityExceeded` or `OutOfMemory`. The kinds over ASCII
+/// refuse with `NonAsciiError` too, the kind without case with `MixedCase`, and the hashed kinds with
+/// `CouldNotSolvePerfectHash`. Each has the reason that `ZeroTrieBuildError` gives.
 pub fn bytes_from_slice<K: ZeroTrieWithOptions>(
     alloc: Global,
     items: &[(&[u8], usize)],
 ) -> Result<Vec<u8>, ZeroTrieBuildError>
-    requires { IsAscii K.kind }
     ensures { IsBuild ascending K.kind (λ bytes. bytes.items) (pairs_of items.now) result }
 {
     let builder: ZeroTrieBuilder<VecDeque<u8>> = ZeroTrieBuilder::from_sorted_tuple_slice(
@@ -42,7 +41,7 @@ pub fn bytes_from_slice<K: ZeroTrieWithOptions>(
 }
 
 /// The entries of a map, each key by its bytes. The keys' bytes are not copied.
-fn items_of<Key: TrieKey + Ord>(
+pub(crate) fn items_of<Key: TrieKey + Ord>(
     alloc: Global,
     entries: &BTreeMap<Key, usize>,
 ) -> Result<Vec<(&[u8], usize)>, AllocError>
@@ -58,14 +57,13 @@ fn items_of<Key: TrieKey + Ord>(
 
 /// The bytes of the trie of a map. An empty map gives an empty trie.
 ///
-/// A build is refused with `Unsorted`, `NonAsciiError`, `MixedCase`, `CapacityExceeded` or `OutOfMemory`,
-/// each for the reason that `ZeroTrieBuildError` gives. `Unsorted` never comes where the map's keys are in
-/// the order of their bytes, as keys of bytes and of text are.
+/// A build is refused as one of a slice is, each time for the reason that `ZeroTrieBuildError` gives.
+/// `Unsorted` never comes where the map's keys are in the order of their bytes, as keys of bytes and of text
+/// are.
 pub fn bytes_from_map<K: ZeroTrieWithOptions, Key: TrieKey + Ord>(
     alloc: Global,
     entries: &BTreeMap<Key, usize>,
 ) -> Result<Vec<u8>, ZeroTrieBuildError>
-    requires { IsAscii K.kind }
     ensures build { IsBuild ascending K.kind (λ bytes. bytes.items) (keyed Key.key entries.now.entries) result }
     ensures by_bytes { IsByBytes Key.cmp Key.key
         → IsBuild in_order K.kind (λ bytes. bytes.items) (keyed Key.key entries.now.entries) result }
@@ -82,8 +80,9 @@ pub fn bytes_from_map<K: ZeroTrieWithOptions, Key: TrieKey + Ord>(
 /// assert_eq!(rt; bytes.as_slice(), b"ad\x90\x06ef\x90\x11".as_slice());
 /// ```
 ///
-/// A build is refused with `DuplicateKey`, `NonAsciiError`, `MixedCase`, `CapacityExceeded` or
-/// `OutOfMemory`, each for the reason that `ZeroTrieBuildError` gives.
+/// A build of any kind is refused with `DuplicateKey`, `CapacityExceeded` or `OutOfMemory`. The kinds over
+/// ASCII refuse with `NonAsciiError` too, the kind without case with `MixedCase`, and the hashed kinds with
+/// `CouldNotSolvePerfectHash`. Each has the reason that `ZeroTrieBuildError` gives.
 pub fn bytes_from_iter<
     K: ZeroTrieWithOptions,
     Key: TrieKey + Drop,
@@ -91,8 +90,7 @@ pub fn bytes_from_iter<
 >(alloc: Global, iter: U) -> Result<Vec<u8>, ZeroTrieBuildError>
 where
     U::IntoIter: Drop,
-    requires ascii { IsAscii K.kind }
-    requires steps { IsFiniteIterable U.into_iter_gives U.IntoIter.can_next U.IntoIter.remaining iter }
+    requires { IsFiniteIterable U.into_iter_gives U.IntoIter.can_next U.IntoIter.remaining iter }
     ensures { IsBuildOfAll (OfAllGiven U.into_iter_gives U.IntoIter.next_gives Key.key iter)
         K.kind (λ bytes. bytes.items) result }
 {

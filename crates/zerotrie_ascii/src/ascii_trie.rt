@@ -5,17 +5,19 @@ ghost use Rattle.std.specs.Cmp.{on_equiv, on_per};
 ghost use Rattle.std.specs.Cmp as cmp;
 ghost use Rattle.std.specs.Cmp.Lexicographic.{pointwise, nat_list_eq_equiv};
 ghost use Rattle.std.specs.Iterator.{IsFiniteIterable};
+ghost use Rattle.zerotrie_core.specs.Kind.{simple_ascii};
 ghost use Rattle.zerotrie_core.specs.Maps.{Map, look};
 ghost use Rattle.zerotrie_core.specs.Texts.{Means};
 ghost use Rattle.zerotrie_core.specs.Items.{pairs_of, keyed};
 ghost use Rattle.zerotrie_core.specs.Routes.{ascending, in_order, IsBuild, OfAllGiven, IsBuildOfAll};
+ghost use Rattle.zerotrie_any.specs.Flavors.{flavor_kind};
 ghost use Rattle.zerotrie_any.specs.Order.{IsByBytes};
 
 use crate::options::AsciiKind;
 use std::alloc::{AllocError, Global};
 use std::collections::BTreeMap;
 use std::marker::PhantomData;
-use zerotrie_any::{TextKey, bytes_from_iter, bytes_from_map, bytes_from_slice};
+use zerotrie_any::{TextKey, ZeroTrie, bytes_from_iter, bytes_from_map, bytes_from_slice};
 use zerotrie_core::{
     ConvertStore, Ignore, Simple, TrieKey, TrieStore, ZeroTrieBuildError, get_counted, laws,
 };
@@ -176,6 +178,16 @@ impl<K: AsciiKind, S: TrieStore> AsciiTrie<K, S> {
     {
         let (value, _nodes) = get_counted::<K>(self.as_bytes(), key);
         value
+    }
+}
+
+impl<S> ZeroTrieSimpleAscii<S> {
+    /// The same trie as a `ZeroTrie`.
+    pub fn into_zerotrie(self) -> ZeroTrie<S>
+        ensures kind { flavor_kind result.flavor ≡ simple_ascii }
+        ensures store { result.store ≡ self.store }
+    {
+        ZeroTrie::of_kind::<Simple>(self.into_store())
     }
 }
 

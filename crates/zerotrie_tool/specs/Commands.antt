@@ -1,20 +1,27 @@
 -- Which lines are commands.
 use Rattle.std.specs.Prelude.{◌≡◌, ℕ, ◌⊎◌, List, [], ◌∷◌, ◌++◌, codes}
-use Rattle.zerotrie.specs.Kind.{Kind, simple_ascii, ignore_case}
+use Rattle.zerotrie.specs.Kind.{Kind, simple_ascii, ignore_case, perfect_hash, extended_capacity}
 use Rattle.zerotrie.specs.Maps.{Pairs}
+use Rattle.zerotrie.specs.Auto.{auto_kind}
 use Rattle.zerotrie_tool.specs.Numbers.{IsNumber}
 use Rattle.zerotrie_tool.specs.declared.command.Choice.{Choice}
-use Rattle.zerotrie_tool.specs.declared.command.Choice.TheVariants.{Simple, Ignore}
+use Rattle.zerotrie_tool.specs.declared.command.Choice.TheVariants.{Simple, Ignore, Hash, Ext, Auto}
 
 -- the name of a choice
 abbrev pub name_of : Choice → List ℕ
 name_of Simple = codes "simple"
 name_of Ignore = codes "ignore"
+name_of Hash = codes "hash"
+name_of Ext = codes "ext"
+name_of Auto = codes "auto"
 
 -- the kind of the trie that a choice takes for the pairs
 abbrev pub kind_of : Choice → Pairs → Kind
 kind_of Simple pairs = simple_ascii
 kind_of Ignore pairs = ignore_case
+kind_of Hash pairs = perfect_hash
+kind_of Ext pairs = extended_capacity
+kind_of Auto pairs = auto_kind pairs
 
 pub data Command : Type 0 where
   choose : Choice → Command

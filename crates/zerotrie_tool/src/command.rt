@@ -3,7 +3,7 @@
 ghost use Rattle.std.specs.Prelude.{◌≡◌, ◌==◌, ℕ, List, IfSome, IfNone};
 ghost use Rattle.std.specs.List.{before_first, position};
 ghost use Rattle.zerotrie_tool.specs.Numbers.{IsNumber};
-ghost use Rattle.zerotrie_tool.specs.Commands.{Command, choose, add, HasKey, IsCommand};
+ghost use Rattle.zerotrie_tool.specs.Commands.{Command, name_of, choose, add, HasKey, IsCommand};
 ghost use Rattle.zerotrie_tool.specs.answer.Parsing.{meaning};
 
 /// A kind of trie, as a `kind` line names it.
@@ -13,6 +13,12 @@ pub enum Choice {
     Simple,
     /// `ignore`: keys are ASCII and are looked up without the case of letters.
     Ignore,
+    /// `hash`: keys are of any bytes.
+    Hash,
+    /// `ext`: keys are of any bytes, and a branch may have targets of any length.
+    Ext,
+    /// `auto`: as `simple` if all keys are ASCII and there are fewer than 512, else as `hash`.
+    Auto,
 }
 
 /// What a line asks for.
@@ -73,18 +79,31 @@ fn key_behind<'a>(words: &[u8], line: &'a [u8]) -> Option<&'a [u8]>
     }
 }
 
-fn parse_choice(line: &[u8]) -> Option<Choice>
-    ensures some { IfSome result (λ choice. IsCommand line.now (choose choice)) }
-    ensures none { IfNone result ((choice : Choice) → IsCommand line.now (choose choice) → ⊥) }
+/// The choice of this name.
+fn choice_named(name: &[u8]) -> Option<Choice>
+    ensures some { IfSome result (λ choice. name.now ≡ name_of choice) }
+    ensures none { IfNone result ((choice : Choice) → name.now ≡ name_of choice → ⊥) }
 {
-    let name = line.strip_prefix(b"kind ")?;
     if name == b"simple".as_slice() {
         Some(Choice::Simple)
     } else if name == b"ignore".as_slice() {
         Some(Choice::Ignore)
+    } else if name == b"hash".as_slice() {
+        Some(Choice::Hash)
+    } else if name == b"ext".as_slice() {
+        Some(Choice::Ext)
+    } else if name == b"auto".as_slice() {
+        Some(Choice::Auto)
     } else {
         None
     }
+}
+
+fn parse_choice(line: &[u8]) -> Option<Choice>
+    ensures some { IfSome result (λ choice. IsCommand line.now (choose choice)) }
+    ensures none { IfNone result ((choice : Choice) → IsCommand line.now (choose choice) → ⊥) }
+{
+    choice_named(line.strip_prefix(b"kind ")?)
 }
 
 fn parse_pair(line: &[u8]) -> Option<(usize, &[u8])>

@@ -71,7 +71,7 @@ fn read_all<R: Read>(alloc: Global, reader: &mut Noted<R>) -> Result<Vec<u8>, Ru
 /// Reads all input, forms all answers, and then writes them. It answers the status to end with.
 ///
 /// ```text
-/// kind simple     chooses a kind of trie, simple or ignore
+/// kind simple     chooses a kind of trie: simple, ignore, hash, ext or auto
 /// + 22 ad         adds a pair
 /// build           builds the trie of the pairs, and prints ok 4 61649006: its length and its bytes
 /// ? ad            prints 22, the number of the key, or none

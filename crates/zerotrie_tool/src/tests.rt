@@ -24,7 +24,7 @@ fn runs<H: AllocGlobal + Abort>(
 
 #[test]
 fn builds_and_look_ups(rt: HostRuntime) -> Result<(), Fail> {
-    let rows: [(&[u8], &[u8], u8); 13] = [
+    let rows: [(&[u8], &[u8], u8); 16] = [
         (b"", b"", 0),
         (
             b"kind simple\n+ 11\n+ 22 ad\n+ 33 adef\n+ 44 adghk\nbuild\n? ad\n? unknown\n",
@@ -85,6 +85,23 @@ fn builds_and_look_ups(rt: HostRuntime) -> Result<(), Fail> {
             b"ok 2 6181\n1\nok 8 c241610263826281\n1\nnone\n",
             0,
         ),
+        // Keys of any bytes.
+        (
+            b"kind hash\n+ 1 foo\n+ 2 b\xC3\xA5r\n+ 3 b\xC3\xA5zz\xC3\xB8\xC3\xB8\nbuild\n? b\xC3\xA5r\n",
+            b"ok 22 c262660fa2c3a5c2727a01827aa4c3b8c3b8836f6f81\n2\n",
+            0,
+        ),
+        (
+            b"kind ext\n+ 1 \xC3\xA5\n+ 2 \xC3\xB8\nbuild\n? \xC3\xB8\n+ 3 \xC3\xB8\nbuild\n? \xC3\xB8\n",
+            b"ok 8 a1c3c2a5b8018182\n2\nrefused DuplicateKey\nnone\n",
+            1,
+        ),
+        // The kind goes by the pairs, in each build anew.
+        (
+            b"kind auto\n?\n+ 1 ab\nbuild\n? ab\n? AB\n+ 2 \xC3\xA9\nbuild\n? \xC3\xA9\nkind auto\nbuild\n",
+            b"none\nok 3 616281\n1\nnone\nok 9 c261c3026281a1a982\n2\nok 0 -\n",
+            0,
+        ),
         // A bad line counts for more than a refusal, and stops the run.
         (
             b"kind simple\n+ 1\n+ 1\nbuild\nlist\nbuild\n",
@@ -109,7 +126,7 @@ fn bad_lines(rt: HostRuntime) -> Result<(), Fail> {
         b"kind simple ",
         b"KIND simple",
         b"kind Ignore",
-        b"kind hash",
+        b"kind hashed",
         b"+",
         b"+ ",
         b"+ x a",

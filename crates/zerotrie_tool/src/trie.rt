@@ -5,13 +5,16 @@ ghost use Rattle.zerotrie.specs.Items.{pairs_of};
 ghost use Rattle.zerotrie.specs.Maps.{Map, look};
 ghost use Rattle.zerotrie.specs.Texts.{Means};
 ghost use Rattle.zerotrie.specs.Routes.{any_order, IsBuild};
+ghost use Rattle.zerotrie.specs.Auto.{auto_kind};
+ghost use Rattle.zerotrie.specs.Flavors.{flavor_kind};
 ghost use Rattle.zerotrie_tool.specs.Commands.{kind_of};
 ghost use Rattle.zerotrie_tool.specs.answer.Tries.{trie_kind, trie_bytes};
 
 use crate::command::Choice;
 use std::alloc::Global;
 use zerotrie::{
-    AsciiKind, AsciiTrie, ZeroAsciiIgnoreCaseTrie, ZeroTrieBuildError, ZeroTrieSimpleAscii,
+    AsciiKind, AsciiTrie, HashedKind, HashedTrie, Simple, ZeroAsciiIgnoreCaseTrie, ZeroTrie,
+    ZeroTrieBuildError, ZeroTrieExtendedCapacity, ZeroTriePerfectHash, ZeroTrieSimpleAscii,
 };
 
 /// A trie of one of the kinds.
@@ -19,6 +22,9 @@ use zerotrie::{
 pub enum Trie {
     Simple(ZeroTrieSimpleAscii<Vec<u8>>),
     Ignore(ZeroAsciiIgnoreCaseTrie<Vec<u8>>),
+    Hash(ZeroTriePerfectHash<Vec<u8>>),
+    Ext(ZeroTrieExtendedCapacity<Vec<u8>>),
+    Auto(ZeroTrie<Vec<u8>>),
 }
 
 /// The trie over ASCII keys of the pairs.
@@ -31,6 +37,28 @@ fn build_ascii<K: AsciiKind>(
     AsciiTrie::try_from_iter(alloc, pairs.iter().copied())
 }
 
+/// The trie over keys of any bytes of the pairs.
+fn build_hashed<K: HashedKind>(
+    alloc: Global,
+    pairs: &[(&[u8], usize)],
+) -> Result<HashedTrie<K, Vec<u8>>, ZeroTrieBuildError>
+    ensures { IsBuild any_order K.kind (λ trie. trie.store.items) (pairs_of pairs.now) result }
+{
+    HashedTrie::try_from_iter(alloc, pairs.iter().copied())
+}
+
+/// The trie of the pairs, of the kind that is taken for them.
+fn build_auto(
+    alloc: Global,
+    pairs: &[(&[u8], usize)],
+) -> Result<ZeroTrie<Vec<u8>>, ZeroTrieBuildError>
+    ensures kind { IfOk result (λ trie. flavor_kind trie.flavor ≡ auto_kind (pairs_of pairs.now)) }
+    ensures build { let added = pairs_of pairs.now in
+        IsBuild any_order (auto_kind added) (λ trie. trie.store.items) added result }
+{
+    ZeroTrie::try_from_iter(alloc, pairs.iter().copied())
+}
+
 impl Trie {
     /// The trie without pairs.
     pub fn empty(alloc: Global, choice: Choice) -> Self
@@ -41,6 +69,9 @@ impl Trie {
         match choice {
             Choice::Simple => Trie::Simple(ZeroTrieSimpleAscii::from_store(store)),
             Choice::Ignore => Trie::Ignore(ZeroAsciiIgnoreCaseTrie::from_store(store)),
+            Choice::Hash => Trie::Hash(ZeroTriePerfectHash::from_store(store)),
+            Choice::Ext => Trie::Ext(ZeroTrieExtendedCapacity::from_store(store)),
+            Choice::Auto => Trie::Auto(ZeroTrie::of_kind::<Simple>(store)),
         }
     }
 
@@ -57,6 +88,9 @@ impl Trie {
         match choice {
             Choice::Simple => build_ascii(alloc, pairs).map(Trie::Simple),
             Choice::Ignore => build_ascii(alloc, pairs).map(Trie::Ignore),
+            Choice::Hash => build_hashed(alloc, pairs).map(Trie::Hash),
+            Choice::Ext => build_hashed(alloc, pairs).map(Trie::Ext),
+            Choice::Auto => build_auto(alloc, pairs).map(Trie::Auto),
         }
     }
 
@@ -67,6 +101,9 @@ impl Trie {
         match self {
             Trie::Simple(trie) => trie.as_bytes(),
             Trie::Ignore(trie) => trie.as_bytes(),
+            Trie::Hash(trie) => trie.as_bytes(),
+            Trie::Ext(trie) => trie.as_bytes(),
+            Trie::Auto(trie) => trie.store.as_slice(),
         }
     }
 
@@ -78,6 +115,9 @@ impl Trie {
         match self {
             Trie::Simple(trie) => trie.get(key),
             Trie::Ignore(trie) => trie.get(key),
+            Trie::Hash(trie) => trie.get(key),
+            Trie::Ext(trie) => trie.get(key),
+            Trie::Auto(trie) => trie.get(key),
         }
     }
 }

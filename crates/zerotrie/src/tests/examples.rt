@@ -5,17 +5,26 @@ use std::collections::VecDeque;
 use zerotrie_any::{bytes_from_iter, bytes_from_slice};
 use zerotrie_build::{ByteSliceWithIndices, ZeroTrieBuilder};
 
+/// The example that the library's page opens with.
 #[test]
-fn bytes_are_looked_up_where_they_lie(rt: HostRuntime) -> Result<(), Fail> {
-    let trie = ZeroTrieSimpleAscii::from_bytes(b"abc\x85");
-    assert_eq!(rt; trie.get(b"abc"), Some(5));
-    assert_eq!(rt; trie.get(b"ab"), None);
-    let trie = ZeroTrieSimpleAscii::from_bytes(b"in\x83to\x84");
-    assert_eq!(rt; trie.get(b"into"), Some(4));
-    let trie = ZeroAsciiIgnoreCaseTrie::from_bytes(b"aBc\x85");
-    assert_eq!(rt; trie.get(b"abc"), Some(5));
-    assert_eq!(rt; trie.get(b"ABC"), Some(5));
-    assert_eq!(rt; trie.get(b"ab"), None);
+fn the_first_example_answers(rt: HostRuntime) -> Result<(), Fail> {
+    let pairs = [("foo", 1), ("bar", 2), ("bazzoo", 3)];
+    let trie = ZeroTrieSimpleAscii::try_from_iter(rt.alloc(), pairs)?;
+    assert_eq!(rt; trie.get(b"bar"), Some(2));
+    assert_eq!(rt; trie.get(b"unknown"), None);
+    assert_eq!(rt; trie.byte_len(), 17);
+    let bytes = trie.into_store();
+    let again = ZeroTrieSimpleAscii::from_bytes(bytes.as_slice());
+    assert_eq!(rt; again.get(b"bazzoo"), Some(3));
+    Ok(())
+}
+
+/// The example of header names, which are found in either case.
+#[test]
+fn header_names_are_found_in_either_case(rt: HostRuntime) -> Result<(), Fail> {
+    let headers = [("Accept", 1), ("Content-Type", 2), ("Content-Length", 3)];
+    let trie = ZeroAsciiIgnoreCaseTrie::try_from_iter(rt.alloc(), headers)?;
+    assert!(rt; trie.get(b"content-type") == Some(2) && trie.get(b"ACCEPT") == Some(1));
     Ok(())
 }
 
@@ -29,24 +38,7 @@ fn stores_are_converted_and_copied(rt: HostRuntime) -> Result<(), Fail> {
 }
 
 #[test]
-fn tries_are_built_by_each_route(rt: HostRuntime) -> Result<(), Fail> {
-    let items: [(&[u8], usize); 2] = [(b"ad", 22), (b"adef", 33)];
-    let trie = ZeroTrieSimpleAscii::try_from_sorted_slice(rt.alloc(), &items)?;
-    assert_eq!(rt; trie.get(b"adef"), Some(33));
-    let trie = ZeroTrieSimpleAscii::try_from_iter(rt.alloc(), [("xyz", 22), ("abc", 11)])?;
-    assert_eq!(rt; trie.get(b"abc"), Some(11));
-    let mut map: BTreeMap<&str, usize> = BTreeMap::new(rt.alloc());
-    map.insert("ad", 22)?;
-    let trie = ZeroTrieSimpleAscii::try_from_btree_map_str(rt.alloc(), &map)?;
-    assert_eq!(rt; trie.get(b"ad"), Some(22));
-    Ok(())
-}
-
-#[test]
 fn keys_that_part_in_case_alone_are_put_in_lower_case(rt: HostRuntime) -> Result<(), Fail> {
-    let names = [("Accept-CH", 1), ("Accept-Charset", 2)];
-    let refused = ZeroAsciiIgnoreCaseTrie::try_from_iter(rt.alloc(), names).err();
-    assert!(rt; refused == Some(ZeroTrieBuildError::MixedCase));
     let mut names = Vec::new(rt.alloc());
     for (name, number) in [
         ("Accept-CH", 1),
@@ -57,8 +49,7 @@ fn keys_that_part_in_case_alone_are_put_in_lower_case(rt: HostRuntime) -> Result
         names.push((name.to_ascii_lowercase(rt.alloc())?, number))?;
     }
     let trie = ZeroAsciiIgnoreCaseTrie::try_from_iter(rt.alloc(), names)?;
-    assert_eq!(rt; trie.get(b"Accept-CH"), Some(1));
-    assert_eq!(rt; trie.get(b"DATE"), Some(4));
+    assert!(rt; trie.get(b"Accept-CH") == Some(1) && trie.get(b"DATE") == Some(4));
     Ok(())
 }
 

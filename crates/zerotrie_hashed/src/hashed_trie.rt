@@ -1,0 +1,294 @@
+//! The tries over keys of any bytes: one type, of which each kind is an alias.
+
+ghost use Rattle.std.specs.Prelude.{◌≡◌, ◌==◌, ◌↔◌, IsTrue, IfOk, length, []};
+ghost use Rattle.std.specs.Cmp.{on_equiv, on_per};
+ghost use Rattle.std.specs.Cmp as cmp;
+ghost use Rattle.std.specs.Cmp.Lexicographic.{pointwise, nat_list_eq_equiv};
+ghost use Rattle.std.specs.Iterator.{IsFiniteIterable};
+ghost use Rattle.zerotrie_core.specs.Maps.{Map, look};
+ghost use Rattle.zerotrie_core.specs.Texts.{Means};
+ghost use Rattle.zerotrie_core.specs.Items.{pairs_of, keyed};
+ghost use Rattle.zerotrie_core.specs.Routes.{ascending, in_order, IsBuild, OfAllGiven, IsBuildOfAll};
+ghost use Rattle.zerotrie_any.specs.Flavors.{flavor_kind};
+ghost use Rattle.zerotrie_any.specs.Order.{IsByBytes};
+
+use crate::options::HashedKind;
+use std::alloc::{AllocError, Global};
+use std::collections::BTreeMap;
+use std::marker::PhantomData;
+use zerotrie_any::{TextKey, ZeroTrie, bytes_from_iter, bytes_from_map, bytes_from_slice};
+use zerotrie_core::{
+    ConvertStore, Ext, Hash, TrieKey, TrieStore, ZeroTrieBuildError, get_counted, laws,
+};
+
+/// A map from keys of any bytes to numbers, as a flat list of bytes that is read where it lies. `K` is its
+/// kind.
+///
+/// Use it by the name of a kind, `ZeroTriePerfectHash` or `ZeroTrieExtendedCapacity`.
+///
+/// Any store of bytes is a trie: nothing is tested and no call panics. On bytes that mean a map, as those
+/// of every build do, each call answers as that map. A branch of 16 edges or more has a perfect hash, whose
+/// parameters are searched, so a map may have several texts of a kind: tries with equal bytes have equal maps,
+/// and tries of one map may differ in their bytes.
+#[derive(Debug, Drop)]
+pub struct HashedTrie<K, S> {
+    /// The bytes of the trie.
+    pub store: S,
+    kind: PhantomData<K>,
+}
+
+/// A map from keys of any bytes to numbers.
+///
+/// ```
+/// let trie = ZeroTriePerfectHash::try_from_iter(rt.alloc(), [("foo", 1), ("bår", 2)])?;
+/// assert_eq!(rt; trie.get("bår".as_bytes()), Some(2));
+/// assert_eq!(rt; trie.get(b"bar"), None);
+/// ```
+///
+/// A build is refused where the targets of a branch would have 2^32 bytes or more together.
+pub type ZeroTriePerfectHash<S> = HashedTrie<Hash, S>;
+
+/// A map from keys of any bytes to numbers, whose branches may have targets of any length.
+///
+/// ```
+/// let trie = ZeroTrieExtendedCapacity::try_from_iter(rt.alloc(), [("foo", 1), ("bår", 2)])?;
+/// assert_eq!(rt; trie.get("bår".as_bytes()), Some(2));
+/// assert_eq!(rt; trie.get(b"bar"), None);
+/// ```
+///
+/// Below 2^32 bytes its texts are those of `ZeroTriePerfectHash`.
+pub type ZeroTrieExtendedCapacity<S> = HashedTrie<Ext, S>;
+
+impl<K, S> HashedTrie<K, S> {
+    /// The trie whose bytes the store holds.
+    pub fn from_store(store: S) -> Self
+        ensures { result.store ≡ store }
+    {
+        HashedTrie {
+            store,
+            kind: PhantomData,
+        }
+    }
+
+    /// The store of the trie.
+    pub fn into_store(self) -> S
+        ensures { result ≡ self.store }
+    {
+        let HashedTrie { store, kind: _ } = self;
+        store
+    }
+}
+
+impl<K, S: TrieStore> HashedTrie<K, S> {
+    /// The trie of the same bytes over another store. It takes no memory.
+    ///
+    /// ```
+    /// let trie = ZeroTriePerfectHash::from_bytes(b"abc\x85");
+    /// let shared: ZeroTriePerfectHash<CowSlice<'_, u8>> = trie.convert_store();
+    /// assert_eq!(rt; shared.get(b"abc"), Some(5));
+    /// ```
+    pub fn convert_store<X: ConvertStore<S>>(self) -> HashedTrie<K, X>
+        ensures { X.stored result.store ≡ S.stored self.store }
+    {
+        HashedTrie::from_store(X::convert(self.into_store()))
+    }
+
+    /// Whether there are no bytes, as of a trie with no keys.
+    pub fn is_empty(&self) -> bool
+        ensures { IsTrue result ↔ (S.stored self.now.store ≡ []) }
+    {
+        self.as_bytes().is_empty()
+    }
+
+    /// How many bytes there are.
+    pub fn byte_len(&self) -> usize
+        ensures { result ≡ length (S.stored self.now.store) }
+    {
+        self.as_bytes().len()
+    }
+
+    /// The bytes of the trie.
+    pub fn as_bytes(&self) -> &[u8]
+        ensures { result.now ≡ S.stored self.now.store }
+    {
+        self.store.bytes()
+    }
+
+    /// The same trie over these bytes where they lie.
+    pub fn as_borrowed(&self) -> HashedTrie<K, &[u8]>
+        ensures { result.store.now ≡ S.stored self.now.store }
+    {
+        HashedTrie::from_bytes(self.as_bytes())
+    }
+
+    /// The same trie over these bytes where they lie, as `as_borrowed`.
+    pub fn as_borrowed_slice(&self) -> HashedTrie<K, &[u8]>
+        ensures { result.store.now ≡ S.stored self.now.store }
+    {
+        self.as_borrowed()
+    }
+
+    /// The same trie over a copy of its bytes.
+    ///
+    /// ```
+    /// let trie = ZeroTriePerfectHash::from_bytes(b"abc\x85");
+    /// assert_eq!(rt; trie.to_owned(rt.alloc())?.get(b"abc"), Some(5));
+    /// ```
+    ///
+    /// The only error is want of memory.
+    pub fn to_owned(&self, alloc: Global) -> Result<HashedTrie<K, Vec<u8>>, AllocError>
+        ensures { IfOk result (λ trie. trie.store.items ≡ S.stored self.now.store) }
+    {
+        let store = Vec::from_slice(alloc, self.as_bytes())?;
+        Ok(HashedTrie::from_store(store))
+    }
+}
+
+impl<K: HashedKind, S> HashedTrie<K, S> {
+    /// The same trie as a `ZeroTrie`.
+    pub fn into_zerotrie(self) -> ZeroTrie<S>
+        ensures kind { flavor_kind result.flavor ≡ K.kind }
+        ensures store { result.store ≡ self.store }
+    {
+        ZeroTrie::of_kind::<K>(self.into_store())
+    }
+}
+
+impl<K: HashedKind, S: TrieStore> HashedTrie<K, S> {
+    /// The value of the key, or `None` where the trie has no such key.
+    ///
+    /// The call takes no memory. On bytes that mean no map it gives some answer.
+    pub fn get(&self, key: &[u8]) -> Option<usize>
+        ensures { (m : Map) → Means K.kind (S.stored self.now.store) m → result ≡ look K.kind m key.now }
+    {
+        let (value, _nodes) = get_counted::<K>(self.as_bytes(), key);
+        value
+    }
+}
+
+impl<'a, K> HashedTrie<K, &'a [u8]> {
+    /// The trie of these bytes.
+    ///
+    /// ```
+    /// let trie = ZeroTriePerfectHash::from_bytes(b"in\x83to\x84");
+    /// assert_eq!(rt; trie.get(b"into"), Some(4));
+    /// ```
+    pub fn from_bytes(bytes: &'a [u8]) -> Self
+        ensures { result.store.now ≡ bytes.now }
+    {
+        HashedTrie::from_store(bytes)
+    }
+}
+
+impl<K: HashedKind> HashedTrie<K, Vec<u8>> {
+    /// Builds the trie of a map whose keys are text, `&str` or `String`. An empty map gives an empty trie.
+    ///
+    /// ```
+    /// let mut map: BTreeMap<&str, usize> = BTreeMap::new(rt.alloc());
+    /// map.insert("ad", 22)?;
+    /// let trie = ZeroTriePerfectHash::try_from_btree_map_str(rt.alloc(), &map)?;
+    /// assert_eq!(rt; trie.get(b"ad"), Some(22));
+    /// ```
+    ///
+    /// A build is refused with `CapacityExceeded`, `CouldNotSolvePerfectHash` or `OutOfMemory`, each for the
+    /// reason that `ZeroTrieBuildError` gives.
+    pub fn try_from_btree_map_str<Key: TextKey>(
+        alloc: Global,
+        entries: &BTreeMap<Key, usize>,
+    ) -> Result<Self, ZeroTrieBuildError>
+        ensures { IsBuild in_order K.kind (λ trie. trie.store.items) (keyed Key.key entries.now.entries) result }
+    {
+        Self::try_from_btree_map(alloc, entries)
+    }
+
+    /// Builds the trie of a map. An empty map gives an empty trie.
+    ///
+    /// A build is refused with `CapacityExceeded`, `CouldNotSolvePerfectHash` or `OutOfMemory`, each for the
+    /// reason that `ZeroTrieBuildError` gives, or with `Unsorted` where the map's keys are not in the order
+    /// of their bytes, as keys of bytes and of text are.
+    pub fn try_from_btree_map<Key: TrieKey + Ord>(
+        alloc: Global,
+        entries: &BTreeMap<Key, usize>,
+    ) -> Result<Self, ZeroTrieBuildError>
+        ensures build { IsBuild ascending K.kind (λ trie. trie.store.items) (keyed Key.key entries.now.entries) result }
+        ensures by_bytes { IsByBytes Key.cmp Key.key
+            → IsBuild in_order K.kind (λ trie. trie.store.items) (keyed Key.key entries.now.entries) result }
+    {
+        let store = bytes_from_map::<K, Key>(alloc, entries)?;
+        Ok(HashedTrie::from_store(store))
+    }
+
+    /// Builds the trie of a slice, whose keys ascend strictly by their bytes. An empty input gives an empty
+    /// trie.
+    ///
+    /// ```
+    /// let items: [(&[u8], usize); 2] = [(b"ad", 22), (b"adef", 33)];
+    /// let trie = ZeroTriePerfectHash::try_from_sorted_slice(rt.alloc(), &items)?;
+    /// assert_eq!(rt; trie.get(b"adef"), Some(33));
+    /// ```
+    ///
+    /// A build is refused with `Unsorted`, `CapacityExceeded`, `CouldNotSolvePerfectHash` or `OutOfMemory`,
+    /// each for the reason that `ZeroTrieBuildError` gives.
+    pub fn try_from_sorted_slice(
+        alloc: Global,
+        items: &[(&[u8], usize)],
+    ) -> Result<Self, ZeroTrieBuildError>
+        ensures { IsBuild ascending K.kind (λ trie. trie.store.items) (pairs_of items.now) result }
+    {
+        let store = bytes_from_slice::<K>(alloc, items)?;
+        Ok(HashedTrie::from_store(store))
+    }
+
+    /// Builds the trie of all pairs that an iterator gives, in any order. An empty input gives an empty
+    /// trie.
+    ///
+    /// ```
+    /// let trie = ZeroTriePerfectHash::try_from_iter(rt.alloc(), [("xyz", 22), ("abc", 11)])?;
+    /// assert_eq!(rt; trie.get(b"abc"), Some(11));
+    /// ```
+    ///
+    /// A build is refused with `DuplicateKey`, `CapacityExceeded`, `CouldNotSolvePerfectHash` or
+    /// `OutOfMemory`, each for the reason that `ZeroTrieBuildError` gives.
+    pub fn try_from_iter<Key: TrieKey + Drop, U: IntoIterator<Item = (Key, usize)>>(
+        alloc: Global,
+        iter: U,
+    ) -> Result<Self, ZeroTrieBuildError>
+    where
+        U::IntoIter: Drop,
+        requires { IsFiniteIterable U.into_iter_gives U.IntoIter.can_next U.IntoIter.remaining iter }
+        ensures { IsBuildOfAll (OfAllGiven U.into_iter_gives U.IntoIter.next_gives Key.key iter)
+            K.kind (λ trie. trie.store.items) result }
+    {
+        let store = bytes_from_iter::<K, Key, U>(alloc, iter)?;
+        Ok(HashedTrie::from_store(store))
+    }
+}
+
+impl<K, S: Copy> Clone for HashedTrie<K, S> {
+    fn clone(&self) -> Result<Self, AllocError>
+        ensures { result ≡ Ok self.now }
+    {
+        Ok(HashedTrie::from_store(self.store))
+    }
+}
+
+impl<K, S: Copy> Copy for HashedTrie<K, S> {}
+
+impl<K: HashedKind, S: TrieStore> PartialEq for HashedTrie<K, S> {
+    ghost eq = { λ x y. pointwise ◌==◌ (S.stored x.store) (S.stored y.store) };
+
+    ghost laws = { on_per (λ x. S.stored x.store) (cmp.partial_equiv_from_equiv nat_list_eq_equiv) };
+
+    fn eq(&self, other: &Self) -> bool
+        ensures bytes { IsTrue result ↔ (S.stored self.now.store ≡ S.stored other.now.store) }
+        ensures maps { (m n : Map) → Means K.kind (S.stored self.now.store) m
+            → Means K.kind (S.stored other.now.store) n → IsTrue result → m ≡ n }
+    {
+        laws::one_meaning();
+        self.as_bytes() == other.as_bytes()
+    }
+}
+
+impl<K: HashedKind, S: TrieStore> Eq for HashedTrie<K, S> {
+    ghost laws = { on_equiv (λ x. S.stored x.store) nat_list_eq_equiv };
+}
