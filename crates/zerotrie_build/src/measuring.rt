@@ -267,10 +267,8 @@ pub(crate) fn measure_all<K: ZeroTrieWithOptions>(
     for index in (0..measured.targets.len()).rev() {
         let target = measured.targets[index];
         if target.first < target.end {
-            measured.targets[index].len = with_branch::<K>(
-                target.len,
-                &measured.targets[target.first..target.end],
-            )?;
+            measured.targets[index].len =
+                with_branch::<K>(target.len, &measured.targets[target.first..target.end])?;
         }
     }
     Ok(measured)

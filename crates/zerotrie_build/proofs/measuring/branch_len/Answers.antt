@@ -9,37 +9,31 @@ use Rattle.zerotrie_build.proofs.measuring.branch_len.Goals as goal
 use Rattle.zerotrie_build.proofs.measuring.branch_len.Goals.{then-is_hashed, else-is_hashed}
 
 pub overflow_mul-width : goal.overflow_mul-width
-overflow_mul-width g c = record {
-  fits = (
-      let f = c.ranges.total.fits in
-      let p : 256 ^ (7 + 1) ≡ 2 ^ 64 = refl in
-      let w = c.width_of-width.ensures.least 7 (omega arith) in omega arith);
-}
+overflow_mul-width g c = record { fits = (
+  let f = c.ranges.total.fits in
+  let p : 256 ^ (7 + 1) ≡ 2 ^ 64 = refl in
+  let w = c.width_of-width.ensures.least 7 (omega arith) in omega arith) }
 
 pub overflow_add-width : goal.overflow_add-width
-overflow_add-width g c = record {
-  fits = (
-      let f = c.ranges.total.fits in
-      let p : 256 ^ (7 + 1) ≡ 2 ^ 64 = refl in
-      let w = c.width_of-width.ensures.least 7 (omega arith) in
-      let few = c.requires.few in omega arith);
-}
+overflow_add-width g c = record { fits = (
+  let f = c.ranges.total.fits in
+  let p : 256 ^ (7 + 1) ≡ 2 ^ 64 = refl in
+  let w = c.width_of-width.ensures.least 7 (omega arith) in
+  let few = c.requires.few in omega arith) }
 
 pub overflow_add-result-3 : goal.overflow_add-result-3
-overflow_add-result-3 g c = record {
-  fits = (
-      let f = c.ranges.total.fits in
-      let p : 256 ^ (7 + 1) ≡ 2 ^ 64 = refl in
-      let w = c.width_of-width.ensures.least 7 (omega arith) in
-      let few = c.requires.few in
-      let head = c.len.ensures.fits in
-      let offsets : (c.width_of-width.result + 1) * (c.args.edges - 1) ≤ 8 * 255 = mul-le-mul {n₂ = 8} {m₂ = 255} (omega arith) (omega arith) in
-      let table : c.if-is_hashed.table ≤ 2 * 256 + 1 = elim c.if-is_hashed.branch [
-        | then-is_hashed w ↦ let is = w.table-is in omega arith
-        | else-is_hashed w ↦ let is = w.table-is in omega arith
-      ] in
-      omega arith);
-}
+overflow_add-result-3 g c = record { fits = (
+  let f = c.ranges.total.fits in
+  let p : 256 ^ (7 + 1) ≡ 2 ^ 64 = refl in
+  let w = c.width_of-width.ensures.least 7 (omega arith) in
+  let few = c.requires.few in
+  let head = c.len.ensures.fits in
+  let offsets : (c.width_of-width.result + 1) * (c.args.edges - 1) ≤ 8 * 255 = mul-le-mul {n₂ = 8} {m₂ = 255} (omega arith) (omega arith) in
+  let table : c.if-is_hashed.table ≤ 2 * 256 + 1 = elim c.if-is_hashed.branch [
+    | then-is_hashed w ↦ let is = w.table-is in omega arith
+    | else-is_hashed w ↦ let is = w.table-is in omega arith
+  ] in
+  omega arith) }
 
 pub returns : goal.returns
 returns g c lengths count sum =

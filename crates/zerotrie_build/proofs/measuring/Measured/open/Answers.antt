@@ -24,16 +24,14 @@ loop-rest-init g c = record {
 }
 
 pub overflow_add-rest : goal.overflow_add-rest
-overflow_add-rest g c = record {
-  fits = (
-      let v = c.loop-rest.invariant in
-      let d = v.depth in
-      let from = v.from in
-      let to = v.to in
-      let t = c.loop-rest-test.true in
-      let branch = stopped g.K.ZeroTrieWithOptions.kind (pairs c.args.items) c.args.start c.requires.stops (omega arith) in
-      let r = c.requires.room branch in omega arith);
-}
+overflow_add-rest g c = record { fits = (
+  let v = c.loop-rest.invariant in
+  let d = v.depth in
+  let from = v.from in
+  let to = v.to in
+  let t = c.loop-rest-test.true in
+  let branch = stopped g.K.ZeroTrieWithOptions.kind (pairs c.args.items) c.args.start c.requires.stops (omega arith) in
+  let r = c.requires.room branch in omega arith) }
 
 pub loop-rest-preserved : goal.loop-rest-preserved
 loop-rest-preserved g c =
@@ -69,11 +67,8 @@ returns-clause-windows g c =
     let v = c.loop-rest.invariant in
     let t = c.loop-rest-test.false in
     let order = v.order in
-    let to = v.to in (
-      v.added,
-      v.windows,
-      record {
-        groups = subst (Groups (pairs c.args.items) c.args.start.depth c.args.start.from c.args.start.to) (append-nil v.added) (v.groups [] (omega arith));
-        rises = rises_increasing g.K.ZeroTrieWithOptions.kind _ v.rising.up;
-      },
-    )
+    let to = v.to in
+    (v.added, v.windows, record {
+      groups = subst (Groups (pairs c.args.items) c.args.start.depth c.args.start.from c.args.start.to) (append-nil v.added) (v.groups [] (omega arith));
+      rises = rises_increasing g.K.ZeroTrieWithOptions.kind _ v.rising.up;
+    })
