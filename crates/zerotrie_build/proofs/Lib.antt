@@ -12,5 +12,10 @@ mod StepLemmas
 mod PutLemmas
 mod RunLemmas
 mod OpenLemmas
+mod ListedLemmas
+mod FrontLemmas
+mod BranchLemmas
+mod LayLemmas
+mod WriteLemmas
 mod PlacedLemmas
 mod MeasureLemmas

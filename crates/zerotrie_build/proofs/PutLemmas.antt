@@ -7,11 +7,13 @@ use Rattle.std.proofs.lemmas.List.Sums.{sum_by-cons}
 use Rattle.std.proofs.lemmas.List.FromFn.{length-map-range_with_len}
 use Rattle.std.specs.List.{range_with_len}
 use Rattle.std.specs.Int.Bits.{or_zero_l}
-use Rattle.zerotrie_core.specs.Numbers.{Form, Spells, SpellsAs, spelled_as}
-use Rattle.zerotrie_core.specs.Branches.{blocks, total, ends}
-use Rattle.zerotrie_core.proofs.CallerLemmas.{below_metadata, spelling_is, length-blocks}
+use Rattle.zerotrie_core.specs.Numbers.{Form, Spells, spelled_as, branch_form}
+use Rattle.zerotrie_core.specs.Branches.{IsWidth, blocks, total, ends, branch_front}
+use Rattle.zerotrie_core.proofs.CallerLemmas.{below_metadata, spelling_is, length-blocks, width_is, length-branch_front}
 use Rattle.zerotrie_build.specs.passes.Puts.{Puts}
-use Rattle.zerotrie_build.specs.passes.Writing.{with_bits}
+use Rattle.zerotrie_build.specs.declared.measuring.Target.{Target}
+use Rattle.zerotrie_build.specs.passes.Measured.{target_at}
+use Rattle.zerotrie_build.specs.passes.Writing.{with_bits, lens_of}
 
 pub puts_nothing : (list : List ℕ) (at : ℕ) → Puts list at list at []
 puts_nothing list at = record { at_is = omega arith; same = refl; puts = λ written left a l. l ∙ ap (λ n. written ++ replicate n 0) (let e : 0 + left ≡ left = omega arith in e) ∙ ap (λ w. w ++ replicate left 0) (sym (append-nil written)) }
@@ -107,3 +109,31 @@ pub total_take : (xs : List ℕ) (n : ℕ) → total (take n xs) ≤ total xs
 total_take xs zero = omega arith
 total_take [] (suc n) = omega arith
 total_take (x ∷ xs) (suc n) = let a = sum_by-cons (λ n. n) x (take n xs) in let b = sum_by-cons (λ n. n) x xs in let r = total_take xs n in omega arith
+
+-- the length of one of the targets
+pub lens_at : (ts : List Target) (ns : List ℕ) (i : ℕ) → i < length ns → get_or (lens_of ts ns) i 0 ≡ (target_at ts (get_or ns i 0)).len
+lens_at ts ns i h = get_or-map (λ j. (target_at ts j).len) ns i 0 0 h
+
+pub count_lens : (ts : List Target) (ns : List ℕ) → length (lens_of ts ns) ≡ length ns
+count_lens ts ns = count_map (λ j. (target_at ts j).len) ns
+
+pub lens_take : (ts : List Target) (n : ℕ) (ns : List ℕ) → take n (lens_of ts ns) ≡ lens_of ts (take n ns)
+lens_take ts zero ns = refl
+lens_take ts (suc n) [] = refl
+lens_take ts (suc n) (j ∷ ns) = ap (λ x. (target_at ts j).len ∷ x) (lens_take ts n ns)
+
+-- the bytes of a branch in front of its targets, by the width and the number of these
+pub front_is : (table lens : List ℕ) (w n : ℕ) → IsWidth (total lens) w → length lens ≡ n
+    → spelled_as branch_form (256 * w + n % 256) ++ (table ++ blocks (w + 1) (ends lens)) ≡ branch_front table lens
+front_is table lens w n is count =
+    ap (λ k. spelled_as branch_form (256 * w + k % 256) ++ (table ++ blocks (w + 1) (ends lens))) (sym count)
+    ∙ ap (λ x. spelled_as branch_form (256 * x + length lens % 256) ++ (table ++ blocks (x + 1) (ends lens))) (width_is (total lens) w is)
+
+pub front_long : (table lens : List ℕ) (w n : ℕ) → IsWidth (total lens) w → length lens ≡ n
+    → length (branch_front table lens) ≡ length (spelled_as branch_form (256 * w + n % 256)) + (length table + (w + 1) * (n - 1))
+front_long table lens w n is count =
+    let whole = ap length (sym (front_is table lens w n is count)) in
+    let a = length-append (spelled_as branch_form (256 * w + n % 256)) (table ++ blocks (w + 1) (ends lens)) in
+    let b = length-append table (blocks (w + 1) (ends lens)) in
+    let c = length-blocks (w + 1) (ends lens) ∙ ap (λ k. (w + 1) * k) (length-ends lens ∙ ap (λ k. k - 1) count) in
+    omega arith

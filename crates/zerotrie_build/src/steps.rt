@@ -76,10 +76,7 @@ fn common_step<K: ZeroTrieWithOptions>(
     let (first, _) = items.get(window.from);
     let (last, _) = items.get(window.to - 1);
     let _len = first.len();
-    Step::Span(high_front_len(
-        &first[window.depth..],
-        &last[window.depth..],
-    ))
+    Step::Span(high_front_len(&first[window.depth..], &last[window.depth..]))
 }
 
 /// What stands first in the text of the window.

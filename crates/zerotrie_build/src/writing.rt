@@ -51,7 +51,6 @@ impl<S: TrieBuilderStore + Drop> Writing<S> {
     }
 
     /// Writes bytes.
-    #[tactic(auto, using(crate::proofs::PutLemmas::puts_more))]
     fn put_all(&mut self, bytes: &[u8])
         requires { self.old.at + length bytes.now ≤ length (S.list self.old.data) }
         ensures { Puts (S.list self.old.data) self.old.at (S.list self.new.data) self.new.at bytes.now }
@@ -174,9 +173,9 @@ impl<S: TrieBuilderStore + Drop> Writing<S> {
                     self.put(byte);
                     rest.depth += 1;
                 }
-                Step::Span(run) => {
-                    self.put_span(items, rest, run);
-                    rest.depth += run;
+                Step::Span(count) => {
+                    self.put_span(items, rest, count);
+                    rest.depth += count;
                 }
                 Step::Branch => {
                     layout.set::<K>(items, measured, measured.targets[index])?;
@@ -209,8 +208,8 @@ fn total(targets: &[Target], numbers: &[usize]) -> usize
 fn push_numbers(pending: &mut Vec<usize>, numbers: &[usize]) -> Result<(), AllocError>
     ensures { OnOk result (reverse pending.new.items ≡ numbers.now ++ reverse pending.old.items) }
 {
-    for number in numbers.iter().rev() {
-        pending.push(*number)?;
+    for index in (0..numbers.len()).rev() {
+        pending.push(numbers[index])?;
     }
     Ok(())
 }
@@ -245,5 +244,7 @@ pub(crate) fn write<K: ZeroTrieWithOptions, S: TrieBuilderStore + Drop>(
         push_numbers(&mut pending, layout.numbers.as_slice())?;
     }
     let Writing { data, at: _ } = writing;
+    // That a length is below 2^64 tells the proof that so is that of the text.
+    let _len = data.atbs_len();
     Ok(data)
 }

@@ -42,7 +42,7 @@ place_in [] b = 0
 place_in (e ∷ es) b = if e == b then 0 else 1 + place_in es b
 
 -- A perfect table of these edges, and the numbers from the first on in the order of the table.
-pub record IsPlaced (first : ℕ) (edges table numbers : List ℕ) : Type 0 where
+pub record IsSearched (first : ℕ) (edges table numbers : List ℕ) : Type 0 where
   pub p : ℕ
   pub qs : List ℕ
   pub placed : List ℕ

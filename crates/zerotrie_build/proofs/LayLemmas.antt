@@ -1,0 +1,219 @@
+-- Search tables, and the order that they give the targets.
+use Rattle.std.proofs.Common.{◌≡◌, ◌≢◌, ℕ, zero, suc, ◌+◌, ◌-◌, ◌*◌, ◌/◌, ◌<◌, ◌≤◌, List, [], ◌∷◌, ◌++◌, length, refl, sym, ◌∙◌, ap, subst, arith, get_or, take, drop, map, true, false, ◌⊎◌, inl, inr, length-append, Result, Ok, Err}
+use Rattle.std.specs.Prelude.{nat_eq, Contains, MatchResult}
+use Rattle.std.specs.List.{AllByRecursion, IsDistinct, range_with_len}
+use Rattle.std.specs.List.Sorted.{IsPermutation, IsStrictlyIncreasing}
+use Rattle.std.proofs.lemmas.Bool.{eq-eqb, ne_eqb, cases_lt}
+use Rattle.std.proofs.lemmas.List.{take_more, map-append, drop_at, get_or_default}
+use Rattle.std.proofs.lemmas.List.FromFn.{map-range_with_len_more, length-map-range_with_len, get_or-map-range_with_len}
+use Rattle.std.specs.Ordering.{nat_cmp}
+use Rattle.std.specs.List.Sorted.{IsBinarySearchResult}
+use Rattle.std.proofs.lemmas.List.Sorted.{searched, IsPermutation-refl, IsPermutation-map, length_permutation, Contains-permutation, IsPermutation-sym}
+use Rattle.zerotrie_base.specs.Hashes.{IsPerfectTable}
+use Rattle.zerotrie_base.specs.Refusals.{IsTableRefusal}
+use Rattle.zerotrie_core.specs.Kind.{Kind, fold_byte, is_hashed}
+use Rattle.zerotrie_core.specs.Branches.IsTable.{sorted, hashed}
+use Rattle.zerotrie_core.specs.Branches.{IsTable}
+use Rattle.zerotrie_core.specs.Causes.{AreCrooked, ZeroTrieBuildError, NonAsciiError, CapacityExceeded, CouldNotSolvePerfectHash, MixedCase, IllegalDelimiter, DuplicateKey, Unsorted, BufferTooSmall, BufferTooLarge, StackExceeded, OutOfMemory}
+use Rattle.zerotrie_core.proofs.CallerLemmas.{hashed_spans, spans_fold}
+use Rattle.zerotrie_build.specs.passes.Writing.{place_in, IsSearched, IsLaid}
+
+-- each is below all behind it
+abbrev pub Up : List ℕ → Type 0
+Up [] = Unit {0}
+Up (x ∷ xs) = AllByRecursion (λ y. x < y) xs × Up xs
+
+lower : (x y : ℕ) (xs : List ℕ) → x < y → AllByRecursion (λ z. y < z) xs → AllByRecursion (λ z. x < z) xs
+lower x y [] h a = tt
+lower x y (z ∷ xs) h a = (let f = a.0 in omega arith, lower x y xs h a.1)
+
+tail_up : (x : ℕ) (xs : List ℕ) → IsStrictlyIncreasing (x ∷ xs) → IsStrictlyIncreasing xs
+tail_up x xs up k h =
+    let s : suc k + 1 ≡ suc (k + 1) = omega arith in
+    subst (λ j. get_or (x ∷ xs) (suc k) 0 < get_or (x ∷ xs) j 0) s (up (suc k) (omega arith))
+
+above : (x : ℕ) (xs : List ℕ) → IsStrictlyIncreasing (x ∷ xs) → Up xs → AllByRecursion (λ z. x < z) xs
+above x [] up r = tt
+above x (y ∷ ys) up r = let next : x < y = up 0 (omega arith) in (next, lower x y ys next r.0)
+
+pub up_of : (xs : List ℕ) → IsStrictlyIncreasing xs → Up xs
+up_of [] up = tt
+up_of (x ∷ xs) up = let r = up_of xs (tail_up x xs up) in (above x xs up r, r)
+
+all_at : (x : ℕ) (xs : List ℕ) → AllByRecursion (λ z. x < z) xs → (i : ℕ) → i < length xs → x < get_or xs i 0
+all_at x [] a i h = absurd (omega arith)
+all_at x (y ∷ xs) a zero h = a.0
+all_at x (y ∷ xs) a (suc i) h = all_at x xs a.1 i (omega arith)
+
+pub up_order : (xs : List ℕ) → Up xs → (i j : ℕ) → i ≤ j → j < length xs → get_or xs i 0 ≤ get_or xs j 0
+up_order [] up i j le h = absurd (omega arith)
+up_order (x ∷ xs) up zero zero le h = omega arith
+up_order (x ∷ xs) up zero (suc j) le h = let a = all_at x xs up.0 j (omega arith) in omega arith
+up_order (x ∷ xs) up (suc i) zero le h = absurd (omega arith)
+up_order (x ∷ xs) up (suc i) (suc j) le h = up_order xs up.1 i j (omega arith) (omega arith)
+
+differ_all : (x : ℕ) (xs : List ℕ) → AllByRecursion (λ z. x < z) xs → AllByRecursion (λ z. nat_eq x z ≡ false) xs
+differ_all x [] a = tt
+differ_all x (y ∷ xs) a = (ne_eqb x y (λ e. let f = a.0 in omega arith), differ_all x xs a.1)
+
+pub up_distinct : (xs : List ℕ) → Up xs → IsDistinct nat_eq xs
+unfolding IsDistinct
+up_distinct [] up = tt
+up_distinct (x ∷ xs) up = (differ_all x xs up.0, up_distinct xs up.1)
+
+-- numbers that rise and are below a limit are no more than it
+pub up_count : (low high : ℕ) (xs : List ℕ) → Up xs → AllByRecursion (λ x. low ≤ x) xs → AllByRecursion (λ x. x < high) xs → length xs ≤ high - low
+up_count low high [] up from to = omega arith
+up_count low high (x ∷ xs) up from to = let n = up_count (suc x) high xs up.1 up.0 to.1 in let a = from.0 in let b = to.0 in omega arith
+
+pub place_there : (es : List ℕ) → Up es → (i : ℕ) → i < length es → place_in es (get_or es i 0) ≡ i
+place_there [] up i h = absurd (omega arith)
+place_there (e ∷ es) up zero h = rw (eq-eqb e e refl) refl
+place_there (e ∷ es) up (suc i) h =
+    let a = all_at e es up.0 i (omega arith) in
+    rw (ne_eqb e (get_or es i 0) (λ s. omega arith), place_there es up.1 i (omega arith)) (let n : 1 + i ≡ suc i = omega arith in n)
+
+-- the numbers of the edges in their own order
+range_of : (place : ℕ → ℕ) (first k : ℕ) (xs : List ℕ) → ((i : ℕ) → i < length xs → place (get_or xs i 0) ≡ k + i) → map (λ b. first + place b) xs ≡ range_with_len (first + k) (length xs)
+range_of place first k [] h = refl
+range_of place first k (x ∷ xs) h =
+    let here : first + place x ≡ first + k = (let e = h 0 (omega arith) in omega arith) in
+    let next : first + suc k ≡ (first + k) + 1 = omega arith in
+    ap (λ y. y ∷ map (λ b. first + place b) xs) here
+    ∙ ap (λ r. (first + k) ∷ r) (range_of place first (suc k) xs (λ i l. let e = h (suc i) (omega arith) in omega arith) ∙ ap (λ s. range_with_len s (length xs)) next)
+
+pub numbers_range : (first : ℕ) (es : List ℕ) → Up es → map (λ b. first + place_in es b) es ≡ range_with_len first (length es)
+numbers_range first es up = range_of (place_in es) first 0 es (λ i h. let at = place_there es up i h in omega arith) ∙ ap (λ s. range_with_len s (length es)) (let e : first + 0 ≡ first = omega arith in e)
+
+back_each : (f : ℕ → ℕ) (xs : List ℕ) → ((k : ℕ) → k < length xs → f (get_or xs k 0) ≡ get_or xs k 0) → map f xs ≡ xs
+back_each f [] h = refl
+back_each f (x ∷ xs) h = ap (λ y. y ∷ map f xs) (h 0 (omega arith)) ∙ ap (λ r. x ∷ r) (back_each f xs (λ k l. h (suc k) (omega arith)))
+
+pub map_both : {A B C : Type 0} (f : B → C) (h : A → B) (xs : List A) → map f (map h xs) ≡ map (λ x. f (h x)) xs
+map_both f h [] = refl
+map_both f h (x ∷ xs) = ap (λ r. f (h x) ∷ r) (map_both f h xs)
+
+contains_at : (xs : List ℕ) (k : ℕ) → k < length xs → Contains xs (get_or xs k 0)
+contains_at xs k h = (k, h, get_or_default xs k (get_or xs k 0) 0 h)
+
+-- the edges of the placed numbers are the placed edges
+pub edges_back : (edge : ℕ → ℕ) (first n : ℕ) (placed : List ℕ) → Up (map edge (range_with_len first n)) → IsPermutation (map edge (range_with_len first n)) placed
+    → map edge (map (λ b. first + place_in (map edge (range_with_len first n)) b) placed) ≡ placed
+edges_back edge first n placed up perm =
+    let es = map edge (range_with_len first n) in
+    map_both edge (λ b. first + place_in es b) placed
+    ∙ back_each (λ b. edge (first + place_in es b)) placed (λ k h.
+    let c : Contains es (get_or placed k 0) = Contains-permutation placed es (get_or placed k 0) (IsPermutation-sym es placed perm) (contains_at placed k h) in
+    let i = c.0 in
+    let at : get_or es i 0 ≡ get_or placed k 0 = get_or_default es i 0 (get_or placed k 0) c.1 ∙ c.2 in
+    let within : i < n = (let l = length-map-range_with_len edge first n in let b = c.1 in omega arith) in
+    ap (λ b. edge (first + place_in es b)) (sym at) ∙ ap (λ j. edge (first + j)) (place_there es up i c.1)
+    ∙ sym (get_or-map-range_with_len edge first n i (first + i) 0 within refl) ∙ at)
+
+pub laid_sorted : (kind : Kind) (edge : ℕ → ℕ) (first n : ℕ) (table numbers : List ℕ) → is_hashed kind n ≡ false → IsStrictlyIncreasing (map (fold_byte kind) (map edge (range_with_len first n)))
+    → table ≡ map edge (range_with_len first n) → numbers ≡ range_with_len first n → IsLaid kind edge first n table numbers
+laid_sorted kind edge first n table numbers plain up t ns =
+    let range = range_with_len first n in
+    let count = length-map-range_with_len edge first n in
+    subst (λ x. IsLaid kind edge first n x numbers) (sym t) (subst (λ x. IsLaid kind edge first n (map edge range) x) (sym ns) (record {
+      is_table = sorted (ap (is_hashed kind) count ∙ plain) up;
+      permutation = IsPermutation-refl range;
+    }))
+
+-- a kind with hashed tables keeps case
+pub hashed_up : (kind : Kind) (n : ℕ) (es : List ℕ) → is_hashed kind n ≡ true → IsStrictlyIncreasing (map (fold_byte kind) es) → IsStrictlyIncreasing es
+hashed_up kind n es h up = subst IsStrictlyIncreasing (back_each (fold_byte kind) es (λ k l. spans_fold kind (hashed_spans kind n h) (get_or es k 0))) up
+
+pub laid_hashed : (kind : Kind) (edge : ℕ → ℕ) (first n : ℕ) (edges table numbers : List ℕ) → is_hashed kind n ≡ true → IsStrictlyIncreasing (map (fold_byte kind) (map edge (range_with_len first n)))
+    → edges ≡ map edge (range_with_len first n) → IsSearched first edges table numbers → IsLaid kind edge first n table numbers
+laid_hashed kind edge first n edges table numbers wide rises same placing =
+    let es = map edge (range_with_len first n) in
+    let l : IsSearched first es table numbers = subst (λ x. IsSearched first x table numbers) same placing in
+    let up = up_of es (hashed_up kind n es wide rises) in
+    let count = length-map-range_with_len edge first n in
+    let back = edges_back edge first n l.placed up l.permutation in
+    let edges_are : map edge numbers ≡ l.placed = ap (map edge) l.numbers_are ∙ back in
+    let many = ap length edges_are ∙ length_permutation es l.placed l.permutation ∙ count in
+    let range = numbers_range first es up ∙ ap (range_with_len first) count in
+    record {
+      is_table = subst (λ x. IsTable kind (map edge numbers) x) (ap (λ x. l.p ∷ (l.qs ++ x)) edges_are ∙ sym l.table_is)
+          (hashed (ap (is_hashed kind) many ∙ wide) (subst (λ x. Rattle.zerotrie_base.specs.Hashes.IsPerfect l.p l.qs x) (sym edges_are) l.perfect));
+      permutation = subst (λ x. IsPermutation x numbers) range (subst (λ x. IsPermutation (map (λ b. first + place_in es b) es) x) (sym l.numbers_are) (IsPermutation-map (λ b. first + place_in es b) es l.placed l.permutation));
+    }
+
+-- why no table was made
+pub crooked : (kind : Kind) (n : ℕ) (es : List ℕ) (e : ZeroTrieBuildError) → is_hashed kind n ≡ true → length es ≡ n → IsTableRefusal es e → e ≢ OutOfMemory → (e ≡ CouldNotSolvePerfectHash) × AreCrooked kind es
+crooked kind n es CouldNotSolvePerfectHash wide count r some = (refl, (ap (is_hashed kind) count ∙ wide, r.2, r.0))
+crooked kind n es OutOfMemory wide count r some = absurd (some refl)
+crooked kind n es NonAsciiError wide count r some = absurd r
+crooked kind n es CapacityExceeded wide count r some = absurd r
+crooked kind n es MixedCase wide count r some = absurd r
+crooked kind n es IllegalDelimiter wide count r some = absurd r
+crooked kind n es DuplicateKey wide count r some = absurd r
+crooked kind n es Unsorted wide count r some = absurd r
+crooked kind n es BufferTooSmall wide count r some = absurd r
+crooked kind n es (BufferTooLarge needed) wide count r some = absurd r
+crooked kind n es StackExceeded wide count r some = absurd r
+
+-- the keys of a table stand behind its parameters
+keys_behind : (p : ℕ) (qs placed : List ℕ) → length qs ≡ length placed → drop (1 + length (p ∷ (qs ++ placed)) / 2) (p ∷ (qs ++ placed)) ≡ placed
+keys_behind p qs placed same =
+    let all = length-append qs placed in
+    let half : length (p ∷ (qs ++ placed)) / 2 ≡ length qs = omega arith in
+    let skip : 1 + length (p ∷ (qs ++ placed)) / 2 ≡ suc (length qs) = omega arith in
+    ap (λ n. drop n (p ∷ (qs ++ placed))) skip ∙ drop_at qs placed (length qs) refl
+
+pub table_keys : (keys bytes shown : List ℕ) → (t : IsPerfectTable keys bytes) → shown ≡ drop (1 + length bytes / 2) bytes → shown ≡ t.placed
+table_keys keys bytes shown t is = is ∙ ap (λ b. drop (1 + length b / 2) b) t.bytes_are ∙ keys_behind t.p t.qs t.placed t.perfect.a_q_each
+
+pub placed : (first : ℕ) (edges keys bytes shown table numbers : List ℕ) → (t : IsPerfectTable keys bytes) → keys ≡ edges → shown ≡ drop (1 + length bytes / 2) bytes → table ≡ bytes
+    → numbers ≡ map (λ b. first + place_in edges b) shown → IsSearched first edges table numbers
+placed first edges keys bytes shown table numbers t same shows is ns = record {
+  p = t.p;
+  qs = t.qs;
+  placed = t.placed;
+  table_is = is ∙ t.bytes_are;
+  perfect = t.perfect;
+  permutation = subst (λ x. IsPermutation x t.placed) same t.permutation;
+  numbers_are = ns ∙ ap (map (λ b. first + place_in edges b)) (table_keys keys bytes shown t shows);
+}
+
+-- the place of one more
+pub place_more : (f : ℕ → ℕ) (ys ys' xs : List ℕ) (i y : ℕ) → ys' ≡ ys ++ y ∷ [] → ys ≡ map f (take i xs) → i < length xs → y ≡ f (get_or xs i 0) → ys' ≡ map f (take (i + 1) xs)
+place_more f ys ys' xs i y pushed is h e =
+    pushed ∙ ap (λ x. x ++ y ∷ []) is ∙ ap (λ x. map f (take i xs) ++ x ∷ []) e ∙ sym (map-append f (take i xs) (get_or xs i 0 ∷ [])) ∙ ap (map f) (sym (take_more xs i 0 h))
+
+-- one more of a range
+pub range_more : (f : ℕ → ℕ) (first k : ℕ) (ys ys' : List ℕ) (y : ℕ) → first ≤ k → ys' ≡ ys ++ y ∷ [] → ys ≡ map f (range_with_len first (k - first)) → y ≡ f k
+    → ys' ≡ map f (range_with_len first (k + 1 - first))
+range_more f first k ys ys' y le pushed is e =
+    let next : (k - first) + 1 ≡ k + 1 - first = omega arith in
+    let at : first + (k - first) ≡ k = omega arith in
+    pushed ∙ ap (λ x. x ++ y ∷ []) is ∙ ap (λ x. map f (range_with_len first (k - first)) ++ x ∷ []) e
+    ∙ sym (map-range_with_len_more f first (k - first) k at) ∙ ap (λ n. map f (range_with_len first n)) next
+
+pub same_range : (xs : List ℕ) → map (λ x. x) xs ≡ xs
+same_range xs = back_each (λ x. x) xs (λ k h. refl)
+
+-- a search among edges that rise finds each that is placed
+pub found : (edges placed : List ℕ) (i x : ℕ) (r : Result ℕ ℕ) → IsStrictlyIncreasing edges → IsPermutation edges placed → i < length placed → x ≡ get_or placed i 0 → IsBinarySearchResult (λ y. nat_cmp y x) edges r
+    → MatchResult r (λ k. (k < length edges) × (k ≡ place_in edges x)) (λ k. ⊥)
+found edges placed i x r up perm h e search = told r (searched edges x r search (up_order edges rises))
+  where
+    rises : Up edges
+    rises = up_of edges up
+
+    c : Contains edges x
+    c = Contains-permutation placed edges x (IsPermutation-sym edges placed perm) (subst (Contains placed) (sym e) (contains_at placed i h))
+
+    at : get_or edges c.0 0 ≡ x
+    at = get_or_default edges c.0 0 x c.1 ∙ c.2
+
+    apart : (k : ℕ) → ((j : ℕ) → j < k → get_or edges j 0 < x) → ((j : ℕ) → k ≤ j → j < length edges → x < get_or edges j 0) → (c.0 < k) ⊎ (k ≤ c.0) → ⊥
+    apart k low high (inl below) = let l = low c.0 below in let a = at in omega arith
+    apart k low high (inr from) = let l = high c.0 from c.1 in let a = at in omega arith
+
+    told : (r : Result ℕ ℕ) → MatchResult r (λ k. (k < length edges) × (get_or edges k 0 ≡ x)) (λ k. (k ≤ length edges) × ((j : ℕ) → j < k → get_or edges j 0 < x) × ((j : ℕ) → k ≤ j → j < length edges → x < get_or edges j 0))
+        → MatchResult r (λ k. (k < length edges) × (k ≡ place_in edges x)) (λ k. ⊥)
+    told (Ok k) t = (t.0, sym (ap (place_in edges) (sym t.1) ∙ place_there edges rises k t.0))
+    told (Err k) t = apart k t.1 t.2 (cases_lt c.0 k)
