@@ -19,7 +19,7 @@ use Rattle.zerotrie_core.specs.Texts.Lists.{branch}
 use Rattle.zerotrie_core.specs.Texts.ListEach.{no_edge, edge}
 use Rattle.zerotrie_core.specs.Canonical.{size_of, branch_size}
 use Rattle.zerotrie_core.specs.Causes.{AreCrooked, Cause, ZeroTrieBuildError, CouldNotSolvePerfectHash, OutOfMemory}
-use Rattle.zerotrie_core.proofs.CallerLemmas.{Distinct, NoneLike, table_distinct, length-table, value_at-no_key, value_at-front, value_at-other, value_at-append, value_at-some, behind_none, spells_spelled, IsWidth-width, front_targets, front_len, length-branch_front, total-lengths, fold_ascii, greatest_width_most, same-entries, same-behind, same-edges}
+use Rattle.zerotrie_core.proofs.CallerLemmas.{Distinct, NoneLike, table_distinct, length-table, value_at-no_key, value_at-front, value_at-other, value_at-append, value_at-some, spells_spelled, IsWidth-width, front_targets, front_len, length-branch_front, total-lengths, fold_ascii, greatest_width_most, same-entries, same-behind, same-edges}
 use Rattle.zerotrie_build.specs.Order.{Ordered}
 use Rattle.zerotrie_build.specs.declared.steps.Window.{Window}
 use Rattle.zerotrie_build.specs.declared.steps.Step.TheVariants.{End, Branch}

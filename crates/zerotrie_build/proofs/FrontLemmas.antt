@@ -1,13 +1,13 @@
 -- A window is written up to its first branch.
-use Rattle.std.proofs.Common.{◌≡◌, ℕ, zero, suc, ◌+◌, ◌-◌, ◌<◌, ◌≤◌, ◌⊎◌, inl, inr, List, [], ◌∷◌, ◌++◌, length, refl, sym, ◌∙◌, ap, subst, arith, take, drop, append_assoc, length-append, length-drop, None}
+use Rattle.std.proofs.Common.{◌≡◌, ℕ, ◌+◌, ◌<◌, ◌≤◌, inl, inr, List, [], ◌∷◌, ◌++◌, length, refl, sym, ◌∙◌, ap, subst, arith, take, drop, append_assoc, length-append, length-drop, None}
 use Rattle.std.proofs.lemmas.Bool.{cases_lt}
 use Rattle.std.proofs.lemmas.List.{take_all}
 use Rattle.zerotrie_core.specs.Kind.{Kind, simple_ascii}
 use Rattle.zerotrie_core.specs.Numbers.{value_form, span_form, SpellsAs, spelled_as}
-use Rattle.zerotrie_core.specs.Maps.{Pairs, with_front, value_at}
+use Rattle.zerotrie_core.specs.Maps.{Pairs, value_at}
 use Rattle.zerotrie_build.specs.Order.{Ordered, AreKeys}
 use Rattle.zerotrie_build.specs.declared.steps.Window.{Window}
-use Rattle.zerotrie_build.specs.declared.steps.Step.TheVariants.{End, Value, Literal, Span, Branch}
+use Rattle.zerotrie_build.specs.declared.steps.Step.TheVariants.{Value, Literal, Span}
 use Rattle.zerotrie_build.specs.declared.measuring.Target.{Target}
 use Rattle.zerotrie_build.specs.passes.Windows.{cut, window, item_of, high_front, step_of}
 use Rattle.zerotrie_build.specs.passes.Measured.{Run, Stops, IsOpen}

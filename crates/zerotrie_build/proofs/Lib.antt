@@ -4,6 +4,7 @@ mod NodeLemmas
 mod Runs
 mod Overflow
 mod Building
+mod Parting
 mod Sorting
 mod Permuted
 mod Parting

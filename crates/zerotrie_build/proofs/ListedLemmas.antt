@@ -1,9 +1,8 @@
 -- Texts of pairs, in whatever order they list them, by what stands first.
-use Rattle.std.proofs.Common.{◌≡◌, ℕ, zero, suc, ◌+◌, ◌*◌, ◌/◌, ◌<◌, ◌≤◌, ◌⊎◌, inl, inr, List, [], ◌∷◌, ◌++◌, length, refl, sym, ◌∙◌, ap, subst, arith, Option, Some, None, true, false, cond, eqb, leb, Bool}
-use Rattle.std.specs.Prelude.{◌&&◌}
+use Rattle.std.proofs.Common.{◌≡◌, ℕ, ◌+◌, ◌*◌, ◌/◌, ◌<◌, ◌≤◌, ◌⊎◌, inl, inr, List, [], ◌∷◌, ◌++◌, length, refl, sym, ◌∙◌, ap, subst, arith, Option, Some, None, true, false, cond, Bool}
 use Rattle.std.proofs.lemmas.Bool.{cases_eq, eq-eqb, ne_eqb, le-leb}
 use Rattle.zerotrie_core.specs.Kind.{Kind, simple_ascii, has_spans}
-use Rattle.zerotrie_core.specs.Numbers.{value_form, span_form, branch_form, Spells, SpellsAs}
+use Rattle.zerotrie_core.specs.Numbers.{value_form, span_form, Spells, SpellsAs}
 use Rattle.zerotrie_core.specs.Maps.{Pairs, with_front, with_run, value_at, same_key}
 use Rattle.zerotrie_core.specs.Texts.{Lists, NoValueFirst, NoSpanFirst, AreHigh}
 use Rattle.zerotrie_core.specs.Texts.Lists.{nothing, value, literal, span, branch}

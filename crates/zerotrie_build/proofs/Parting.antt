@@ -1,5 +1,5 @@
 -- Where a key parts from the key before it.
-use Rattle.std.proofs.Common.{◌≡◌, ℕ, zero, suc, ◌+◌, ◌<◌, ◌≤◌, ◌⊎◌, inl, inr, List, [], ◌∷◌, ◌++◌, length, refl, ◌∙◌, ap, arith, take, drop, get_or}
+use Rattle.std.proofs.Common.{◌≡◌, ℕ, zero, suc, ◌+◌, ◌<◌, ◌≤◌, inl, inr, List, [], ◌∷◌, length, refl, ◌∙◌, ap, arith, drop, get_or}
 use Rattle.std.specs.Prelude.{◌==◌}
 use Rattle.std.proofs.lemmas.Bool.{eq-eqb, ne_eqb, cases_eq}
 use Rattle.zerotrie_core.specs.Kind.{Kind, fold_byte}
@@ -10,57 +10,37 @@ abbrev pub common : List ℕ → List ℕ → ℕ
 common before key = common_front (λ a b. a == b) before key
 
 -- bytes that the kind tells apart
-pub apart : (kind : Kind) (a b : ℕ) → fold_byte kind a < fold_byte kind b → a ≡ b → ⊥
+apart : (kind : Kind) (a b : ℕ) → fold_byte kind a < fold_byte kind b → a ≡ b → ⊥
 apart kind a b h e = let f = ap (fold_byte kind) e in omega arith
 
 -- after c common bytes the key before ends, or has a byte that is lower to the kind
 pub record Parts (kind : Kind) (before key : List ℕ) (c : ℕ) : Type 0 where
-  pub upto : c ≤ length before
   pub room : c < length key
-  pub same : (j : ℕ) → j ≤ c → take j before ≡ take j key
-  pub equal : (j : ℕ) → j < c → get_or before j 0 ≡ get_or key j 0
   pub less : c < length before → fold_byte kind (get_or before c 0) < fold_byte kind (get_or key c 0)
 
 parts_at_once : (kind : Kind) (x y : ℕ) (before key : List ℕ) → fold_byte kind x < fold_byte kind y → Parts kind (x ∷ before) (y ∷ key) 0
 parts_at_once kind x y before key h = record {
-  upto = omega arith;
   room = omega arith;
-  same = λ j l. let e : j ≡ 0 = omega arith in rw e refl;
-  equal = λ j l. absurd (omega arith);
   less = λ l. h;
 }
 
-parts_later : (kind : Kind) (x y c : ℕ) (before key : List ℕ) → x ≡ y → Parts kind before key c → Parts kind (x ∷ before) (y ∷ key) (1 + c)
-parts_later kind x y c before key e p = record {
-  upto = let u = p.upto in omega arith;
+parts_later : (kind : Kind) (x y c : ℕ) (before key : List ℕ) → Parts kind before key c → Parts kind (x ∷ before) (y ∷ key) (1 + c)
+parts_later kind x y c before key p = record {
   room = let u = p.room in omega arith;
-  same = later_same;
-  equal = later_equal;
   less = λ l. let n : 1 + c ≡ suc c = omega arith in rw n (p.less (omega arith));
 }
-  where
-    later_same : (j : ℕ) → j ≤ 1 + c → take j (x ∷ before) ≡ take j (y ∷ key)
-    later_same zero l = refl
-    later_same (suc j) l = ap (λ b. b ∷ take j before) e ∙ ap (λ k. y ∷ k) (p.same j (omega arith))
-
-    later_equal : (j : ℕ) → j < 1 + c → get_or (x ∷ before) j 0 ≡ get_or (y ∷ key) j 0
-    later_equal zero l = e
-    later_equal (suc j) l = p.equal j (omega arith)
 
 pub parts : (kind : Kind) (before key : List ℕ) → Before kind before key → Parts kind before key (common before key)
 parts kind [] [] h = absurd h
 parts kind [] (y ∷ key) h = record {
-  upto = omega arith;
   room = omega arith;
-  same = λ j l. let e : j ≡ 0 = omega arith in rw e refl;
-  equal = λ j l. absurd (omega arith);
   less = λ l. absurd (let g : 0 < 0 = l in omega arith);
 }
 parts kind (x ∷ before) [] h = absurd h
 parts kind (x ∷ before) (y ∷ key) h =
     elim h [
       | inl less ↦ rw (ne_eqb x y (apart kind x y less)) (parts_at_once kind x y before key less)
-      | inr same ↦ rw (eq-eqb x y same.0) (parts_later kind x y (common before key) before key same.0 (parts kind before key same.1))
+      | inr same ↦ rw (eq-eqb x y same.0) (parts_later kind x y (common before key) before key (parts kind before key same.1))
     ]
 
 drop_nil : (m : ℕ) → drop m (let none : List ℕ = [] in none) ≡ []

@@ -1,15 +1,13 @@
 -- Bytes written over zeros.
 use Rattle.std.proofs.Common.{◌≡◌, ℕ, zero, suc, ◌+◌, ◌<◌, ◌≤◌, List, [], ◌∷◌, ◌++◌, length, refl, sym, ◌∙◌, ap, subst, arith, append_assoc, length-append, replicate, take, get_or}
-use Rattle.std.specs.Prelude.{slice_set, slice_index, bit_or}
 use Rattle.std.proofs.Common.{◌-◌, ◌*◌, ◌/◌, ◌%◌, ◌^◌, ◌⊎◌, map}
-use Rattle.std.proofs.lemmas.List.{append-nil, length-set, take_more, map-append, get_or-map}
+use Rattle.std.proofs.lemmas.List.{append-nil, take_more, get_or-map}
 use Rattle.std.proofs.lemmas.List.Sums.{sum_by-cons}
 use Rattle.std.proofs.lemmas.List.FromFn.{length-map-range_with_len}
 use Rattle.std.specs.List.{range_with_len}
-use Rattle.std.specs.Int.Bits.{or_zero_l}
 use Rattle.zerotrie_core.specs.Numbers.{Form, Spells, spelled_as, branch_form}
 use Rattle.zerotrie_core.specs.Branches.{IsWidth, blocks, total, ends, branch_front}
-use Rattle.zerotrie_core.proofs.CallerLemmas.{below_metadata, spelling_is, length-blocks, width_is, length-branch_front}
+use Rattle.zerotrie_core.proofs.CallerLemmas.{below_metadata, spelling_is, length-blocks, width_is}
 use Rattle.zerotrie_build.specs.passes.Puts.{Puts}
 use Rattle.zerotrie_build.specs.declared.measuring.Target.{Target}
 use Rattle.zerotrie_build.specs.passes.Measured.{target_at}
@@ -29,33 +27,12 @@ puts_then l a l' a' l'' a'' xs ys p q = record {
       q.puts (written ++ xs) left here first ∙ ap (λ w. w ++ replicate left 0) (append_assoc written xs ys));
 }
 
-set_at : (written : List ℕ) (b : ℕ) (more : List ℕ) → slice_set (written ++ 0 ∷ more) (length written) (bit_or (slice_index (written ++ 0 ∷ more) (length written)) b) ≡ (written ++ b ∷ []) ++ more
-set_at [] b more = ap (λ x. x ∷ more) (or_zero_l b)
-set_at (x ∷ written) b more = ap (λ r. x ∷ r) (set_at written b more)
-
-pub puts_byte : (list : List ℕ) (at b : ℕ) (list' : List ℕ) (at' : ℕ) → list' ≡ slice_set list at (bit_or (slice_index list at) b) → at' ≡ at + 1 → Puts list at list' at' (b ∷ [])
-puts_byte list at b list' at' set next = record {
-  at_is = next;
-  same = ap length set ∙ length-set list at (bit_or (slice_index list at) b);
-  puts = λ written left at_is is.
-      set ∙ ap (λ n. slice_set list n (bit_or (slice_index list n) b)) at_is ∙ ap (λ l. slice_set l (length written) (bit_or (slice_index l (length written)) b)) (is ∙ ap (λ n. written ++ replicate n 0) (let e : 1 + left ≡ suc left = omega arith in e)) ∙ set_at written b (replicate left 0);
-}
-
 -- the next of the bytes
 pub puts_more : (l : List ℕ) (a : ℕ) (l' : List ℕ) (a' : ℕ) (l'' : List ℕ) (a'' : ℕ) (xs : List ℕ) (i b : ℕ) → i < length xs → b ≡ get_or xs i 0 → Puts l a l' a' (take i xs) → Puts l' a' l'' a'' (b ∷ []) → Puts l a l'' a'' (take (i + 1) xs)
 puts_more l a l' a' l'' a'' xs i b h e p q = subst (Puts l a l'' a'') (ap (λ x. take i xs ++ x ∷ []) e ∙ sym (take_more xs i 0 h)) (puts_then l a l' a' l'' a'' (take i xs) (b ∷ []) p q)
 
 pub puts_same : (l : List ℕ) (a : ℕ) (l' : List ℕ) (a' : ℕ) (xs ys : List ℕ) → xs ≡ ys → Puts l a l' a' xs → Puts l a l' a' ys
 puts_same l a l' a' xs ys e = subst (Puts l a l' a') e
-
--- a place that was reached is within, where there is room for more
-pub room_for : {l : List ℕ} {a : ℕ} {l' : List ℕ} {a' : ℕ} {xs : List ℕ} (n : ℕ) → Puts l a l' a' xs → a + (length xs + n) ≤ length l → a' + n ≤ length l'
-room_for n p h = let e = p.at_is in let s = p.same in omega arith
-
-pub puts_map : {A : Type 0} (f : A → ℕ) (l : List ℕ) (a : ℕ) (l' : List ℕ) (a' : ℕ) (l'' : List ℕ) (a'' : ℕ) (xs : List A) (i : ℕ) (d : A) (b : ℕ) → i < length xs → b ≡ f (get_or xs i d) → Puts l a l' a' (map f (take i xs)) → Puts l' a' l'' a'' (b ∷ []) → Puts l a l'' a'' (map f (take (i + 1) xs))
-puts_map f l a l' a' l'' a'' xs i d b h e p q =
-    subst (Puts l a l'' a'') (ap (λ x. map f (take i xs) ++ x ∷ []) e ∙ sym (map-append f (take i xs) (get_or xs i d ∷ [])) ∙ ap (map f) (sym (take_more xs i d h)))
-    (puts_then l a l' a' l'' a'' (map f (take i xs)) (b ∷ []) p q)
 
 -- a number with bits of metadata is its spelling
 pub number_is : (form : Form) (v bits : ℕ) (bytes : List ℕ) → (form.latent_value ≡ 16) ⊎ (form.latent_value ≡ 32) → bits ≡ form.metadata * (2 * form.latent_value)

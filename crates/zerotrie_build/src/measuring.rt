@@ -11,7 +11,7 @@ ghost use Rattle.zerotrie_build.specs.Items.{pairs};
 ghost use Rattle.zerotrie_build.specs.Order.{Ordered, AreKeys};
 ghost use Rattle.zerotrie_build.specs.passes.Windows.{window, step_of};
 ghost use Rattle.zerotrie_build.specs.passes.Measured.{Run, Stops, IsMeasured};
-ghost use Rattle.zerotrie_build.specs.passes.Walking.{IsOpened, Walking};
+ghost use Rattle.zerotrie_build.specs.passes.Walking.{lens, IsOpened, Walking};
 
 use crate::slice_indices::ByteSliceWithIndices;
 use crate::steps::{Step, Window, first_step, group_end};
@@ -69,7 +69,8 @@ fn behind_run<K: ZeroTrieWithOptions>(
     requires ordered { Ordered K.kind (window (pairs items) start) }
     ensures run { IfOk result (λ r. Run K.kind (pairs items.entry) start r.0 r.1) }
     ensures stops { IfOk result (λ r. Stops K.kind (pairs items.entry) r.0) }
-    ensures room { IfOk result (λ r. step_of K.kind (pairs items.entry) r.0 ≡ Step.Branch → r.0.depth + 1 < 2 ^ 64) }
+    ensures room { IfOk result (λ r. step_of K.kind (pairs items.entry) r.0 ≡ Step.Branch
+        → r.0.depth + 1 < 2 ^ 64) }
     ensures refused { IfErr result (λ e. (e ≡ ZeroTrieBuildError.CapacityExceeded)
         × (2 ^ 64 ≤ size_of K.kind (window (pairs items.entry) start))) }
 {
@@ -107,7 +108,8 @@ impl Measured {
         requires ordered { Ordered K.kind (window (pairs items) start) }
         requires stops { Stops K.kind (pairs items) start }
         requires room { step_of K.kind (pairs items) start ≡ Step.Branch → start.depth + 1 < 2 ^ 64 }
-        ensures windows { OnOk result ((added : List Window) × (self.new.windows.items ≡ self.old.windows.items ++ added)
+        ensures windows { OnOk result ((added : List Window)
+            × (self.new.windows.items ≡ self.old.windows.items ++ added)
             × IsOpened K.kind (pairs items.entry) start added) }
         ensures targets { self.new.targets.items ≡ self.old.targets.items }
     {
@@ -132,7 +134,8 @@ impl Measured {
         requires keys { AreKeys K.kind (pairs items) }
         requires walking { Walking K.kind (pairs items) self.old.windows.items self.old.targets.items }
         requires some { length self.old.targets.items < length self.old.windows.items }
-        ensures walking { OnOk result (Walking K.kind (pairs items.entry) self.new.windows.items self.new.targets.items) }
+        ensures walking { OnOk result
+            (Walking K.kind (pairs items.entry) self.new.windows.items self.new.targets.items) }
         ensures one { OnOk result (length self.new.targets.items ≡ length self.old.targets.items + 1) }
         ensures refused { IfErr result (λ e. e ≢ ZeroTrieBuildError.OutOfMemory
             → (e ≡ ZeroTrieBuildError.CapacityExceeded) × (2 ^ 64 ≤ size_of K.kind (pairs items.entry))) }
@@ -178,9 +181,9 @@ impl Measured {
 
 /// The sum of the lengths of these targets.
 fn total(targets: &[Target]) -> Result<usize, ZeroTrieBuildError>
-    ensures sum { IfOk result (λ n. n ≡ sum (map (λ t. t.len) targets.now)) }
+    ensures sum { IfOk result (λ n. n ≡ sum (lens targets.now)) }
     ensures refused { IfErr result (λ e. (e ≡ ZeroTrieBuildError.CapacityExceeded)
-        × (2 ^ 64 ≤ sum (map (λ t. t.len) targets.now))) }
+        × (2 ^ 64 ≤ sum (lens targets.now))) }
 {
     let mut total = 0;
     for target in targets {
@@ -203,11 +206,11 @@ fn with_branch<K: ZeroTrieWithOptions>(
 ) -> Result<usize, ZeroTrieBuildError>
     requires two { 2 ≤ length targets.now }
     requires few { length targets.now ≤ 256 }
-    ensures len { IfOk result (λ n. n ≡ len + (branch_size K.kind (map (λ t. t.len) targets.now) + sum (map (λ t. t.len) targets.now))) }
-    ensures narrow { IfOk result (λ _. sum (map (λ t. t.len) targets.now) < 256 ^ (greatest_width K.kind + 1)) }
+    ensures len { IfOk result (λ n. n ≡ len + (branch_size K.kind (lens targets.now) + sum (lens targets.now))) }
+    ensures narrow { IfOk result (λ _. sum (lens targets.now) < 256 ^ (greatest_width K.kind + 1)) }
     ensures refused { IfErr result (λ e. (e ≡ ZeroTrieBuildError.CapacityExceeded)
-        × ((256 ^ (greatest_width K.kind + 1) ≤ sum (map (λ t. t.len) targets.now))
-        ⊎ (2 ^ 64 ≤ len + (branch_size K.kind (map (λ t. t.len) targets.now) + sum (map (λ t. t.len) targets.now))))) }
+        × ((256 ^ (greatest_width K.kind + 1) ≤ sum (lens targets.now))
+        ⊎ (2 ^ 64 ≤ len + (branch_size K.kind (lens targets.now) + sum (lens targets.now))))) }
 {
     let sum = total(targets)?;
     if is_too_wide::<K>(sum) {
@@ -241,7 +244,8 @@ pub(crate) fn is_hashed<K: ZeroTrieWithOptions>(edges: usize) -> bool
 fn branch_len<K: ZeroTrieWithOptions>(edges: usize, total: usize) -> usize
     requires some { 1 ≤ edges }
     requires few { edges ≤ 256 }
-    ensures { (lengths : List ℕ) → length lengths ≡ edges → sum lengths ≡ total → result ≡ branch_size K.kind lengths }
+    ensures { (lengths : List ℕ) → length lengths ≡ edges → sum lengths ≡ total
+        → result ≡ branch_size K.kind lengths }
 {
     let width = width_of(total);
     let table = if is_hashed::<K>(edges) {

@@ -10,6 +10,10 @@ use Rattle.zerotrie_build.specs.declared.measuring.Target.{Target}
 use Rattle.zerotrie_build.specs.passes.Windows.{window, edge_of}
 use Rattle.zerotrie_build.specs.passes.Measured.{Run, Stops, Groups, part, window_at, target_at, IsOpen}
 
+-- the lengths of targets
+abbrev pub lens : List Target → List ℕ
+lens targets = map (λ t. t.len) targets
+
 -- behind some front stand the pairs of the window, but for the value of the empty key
 abbrev pub IsBehind : Pairs → Window → Type 0
 IsBehind all w = (front : List ℕ) × ((b : ℕ) → residual b (behind_all front all) ≡ residual b (window all w))

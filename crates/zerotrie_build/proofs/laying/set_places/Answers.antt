@@ -1,4 +1,4 @@
-use Rattle.std.proofs.Common.{◌≡◌, ◌+◌, ap, refl, get_or, Ok, Err}
+use Rattle.std.proofs.Common.{◌+◌, ap, refl, get_or, Ok, Err}
 use Rattle.zerotrie_build.specs.passes.Writing.{place_in}
 use Rattle.zerotrie_build.proofs.LayLemmas.{place_more, found}
 use Rattle.zerotrie_build.proofs.laying.set_places.Goals as goal

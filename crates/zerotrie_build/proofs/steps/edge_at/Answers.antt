@@ -1,4 +1,4 @@
-use Rattle.std.proofs.Common.{◌≡◌, ◌∙◌, ap, sym, arith, slice_get, get_or, ◌-◌, []}
+use Rattle.std.proofs.Common.{◌∙◌, ap, get_or, ◌-◌, []}
 use Rattle.std.proofs.lemmas.Option.{unwrap_or-slice_get}
 use Rattle.std.specs.Option.{unwrap_or}
 use Rattle.zerotrie_build.specs.Items.{pairs}

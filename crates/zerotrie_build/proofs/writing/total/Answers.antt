@@ -1,4 +1,4 @@
-use Rattle.std.proofs.Common.{◌≡◌, ◌+◌, ◌∙◌, [], ◌∷◌, take, suc, get_or, arith, ap, sym}
+use Rattle.std.proofs.Common.{◌+◌, [], ◌∷◌, take, get_or, arith, ap}
 use Rattle.std.proofs.lemmas.List.{take_more, map-append}
 use Rattle.zerotrie_core.specs.Branches.{total as total_of}
 use Rattle.zerotrie_build.specs.passes.Measured.{target_at}

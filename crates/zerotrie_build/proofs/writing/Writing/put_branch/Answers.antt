@@ -1,5 +1,5 @@
 use Rattle.std.proofs.Common.{◌≡◌, ◌≤◌, ◌+◌, ◌*◌, ◌%◌, ◌^◌, refl, ap, inr, ◌∙◌, arith, subst, length}
-use Rattle.zerotrie_core.specs.Numbers.{branch_form, Spells}
+use Rattle.zerotrie_core.specs.Numbers.{branch_form}
 use Rattle.zerotrie_core.specs.Branches.{IsWidth}
 use Rattle.zerotrie_build.specs.passes.Writing.{with_bits, lens_of}
 use Rattle.zerotrie_build.proofs.PutLemmas.{puts_same, puts_then, number_len, number_is, count_lens, front_is, front_long}

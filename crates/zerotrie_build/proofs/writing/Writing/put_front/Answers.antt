@@ -1,6 +1,6 @@
-use Rattle.std.proofs.Common.{rules, ◌≡◌, ℕ, ◌-◌, ◌<◌, ◌≤◌, map, ap, subst, sym, ◌∙◌, arith, length, ◌+◌, get_or, [], ◌++◌, length-append, take, drop}
+use Rattle.std.proofs.Common.{rules, ◌≡◌, ℕ, ◌-◌, ◌<◌, ◌≤◌, ap, subst, sym, ◌∙◌, arith, length, length-append, take, drop}
 use Rattle.std.proofs.lemmas.List.{get_or_read}
-use Rattle.zerotrie_core.specs.Numbers.{value_form, span_form, spelled_as}
+use Rattle.zerotrie_core.specs.Numbers.{span_form, spelled_as}
 use Rattle.zerotrie_build.specs.Items.{pairs}
 use Rattle.zerotrie_build.specs.passes.Windows.{item_of}
 use Rattle.zerotrie_build.specs.passes.Measured.{IsOpen, no_window, no_target, window_at, target_at}

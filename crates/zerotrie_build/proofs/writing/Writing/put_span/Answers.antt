@@ -1,4 +1,4 @@
-use Rattle.std.proofs.Common.{◌≡◌, ℕ, refl, ap, inl, sym, ◌∙◌, ◌+◌, ◌-◌, ◌++◌, [], arith, length, take, drop, length-drop}
+use Rattle.std.proofs.Common.{◌≡◌, refl, ap, inl, sym, ◌∙◌, ◌+◌, ◌-◌, ◌++◌, [], arith, length, take, drop, length-drop}
 use Rattle.std.proofs.lemmas.List.{length-take-le}
 use Rattle.std.proofs.lemmas.Option.{get_or_from_slice_get}
 use Rattle.zerotrie_core.specs.Numbers.{span_form, spelled_as}
