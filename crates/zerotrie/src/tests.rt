@@ -41,6 +41,17 @@ const MIXED: [(&str, usize); 6] = [
     ("aBcghi", 5),
 ];
 
+/// Names whose spellings part in case alone, put in lower case, and their text.
+const LOWERED: (&[(&str, usize)], &[u8]) = (
+    &[
+        ("accept-ch", 1),
+        ("accept-charset", 2),
+        ("date", 4),
+        ("dav", 3),
+    ],
+    b"\xC2ad\x0Fccept-ch\x81arset\x82a\xC2tv\x02e\x84\x83",
+);
+
 /// Fourteen locales, which take 71 bytes.
 const LOCALES: [(&str, usize); 14] = [
     ("ar/FR", 0),

@@ -1,9 +1,7 @@
 //! The examples of the documentation.
 
 use super::*;
-use std::collections::VecDeque;
-use zerotrie_any::{bytes_from_iter, bytes_from_slice};
-use zerotrie_build::{ByteSliceWithIndices, ZeroTrieBuilder};
+use zerotrie_build::ByteSliceWithIndices;
 
 /// The example that the library's page opens with.
 #[test]
@@ -28,52 +26,11 @@ fn header_names_are_found_in_either_case(rt: HostRuntime) -> Result<(), Fail> {
     Ok(())
 }
 
+/// Items and keys as they are lent to the builder.
 #[test]
-fn stores_are_converted_and_copied(rt: HostRuntime) -> Result<(), Fail> {
-    let trie = ZeroTrieSimpleAscii::from_bytes(b"abc\x85");
-    assert_eq!(rt; trie.to_owned(rt.alloc())?.get(b"abc"), Some(5));
-    let shared: ZeroTrieSimpleAscii<CowSlice<'_, u8>> = trie.convert_store();
-    assert_eq!(rt; shared.get(b"abc"), Some(5));
-    Ok(())
-}
-
-#[test]
-fn keys_that_part_in_case_alone_are_put_in_lower_case(rt: HostRuntime) -> Result<(), Fail> {
-    let mut names = Vec::new(rt.alloc());
-    for (name, number) in [
-        ("Accept-CH", 1),
-        ("Accept-Charset", 2),
-        ("DAV", 3),
-        ("Date", 4),
-    ] {
-        names.push((name.to_ascii_lowercase(rt.alloc())?, number))?;
-    }
-    let trie = ZeroAsciiIgnoreCaseTrie::try_from_iter(rt.alloc(), names)?;
-    assert!(rt; trie.get(b"Accept-CH") == Some(1) && trie.get(b"DATE") == Some(4));
-    Ok(())
-}
-
-#[test]
-fn bytes_are_built_by_each_route(rt: HostRuntime) -> Result<(), Fail> {
-    let bytes = bytes_from_slice::<Simple>(rt.alloc(), &[(b"ad", 22), (b"adef", 33)])?;
-    assert_eq!(rt; bytes.as_slice(), b"ad\x90\x06ef\x90\x11".as_slice());
-    let bytes = bytes_from_iter::<Simple, _, _>(rt.alloc(), [("adef", 33), ("ad", 22)])?;
-    assert_eq!(rt; bytes.as_slice(), b"ad\x90\x06ef\x90\x11".as_slice());
-    assert_eq!(rt; "ad".key_text(), "ad");
-    Ok(())
-}
-
-#[test]
-fn items_go_to_the_builder(rt: HostRuntime) -> Result<(), Fail> {
+fn items_go_to_the_builder(rt: HostRuntime) {
     let items = [("ad", 22), ("adef", 33)];
-    let builder: ZeroTrieBuilder<VecDeque<u8>> = ZeroTrieBuilder::from_sorted_tuple_slice(
-        rt.alloc(),
-        ByteSliceWithIndices::from_str_slice(&items),
-        ZeroTrieBuilderOptions::of::<Simple>(),
-    )?;
-    let bytes = builder.to_bytes(rt.alloc())?;
-    assert_eq!(rt; bytes.as_slice(), b"ad\x90\x06ef\x90\x11".as_slice());
-    let items = ByteSliceWithIndices::from_str_slice(&items);
-    assert_eq!(rt; items.get(1), (b"adef".as_slice(), 33));
-    Ok(())
+    let lent = ByteSliceWithIndices::from_str_slice(&items);
+    assert_eq!(rt; lent.get(1), (b"adef".as_slice(), 33));
+    assert_eq!(rt; "ad".key_text(), "ad");
 }

@@ -77,18 +77,20 @@ fn refused_without_case(rt: HostRuntime) {
 /// Keys that agree with another in front up to case alone.
 #[test]
 fn refused_beside_mixed_keys(rt: HostRuntime) {
-    for key in ["A", "ab", "abc", "aBcd", "aBcgHi"] {
-        let items = [
+    for key in [b"A".as_slice(), b"ab", b"abc", b"aBcd", b"aBcgHi"] {
+        let items: [(&[u8], usize); 7] = [
             (key, 6),
-            MIXED[0],
-            MIXED[1],
-            MIXED[2],
-            MIXED[3],
-            MIXED[4],
-            MIXED[5],
+            (b"", 0),
+            (b"aBc", 1),
+            (b"aBcD", 2),
+            (b"aBcF", 4),
+            (b"aBce", 3),
+            (b"aBcghi", 5),
         ];
-        let build = ZeroAsciiIgnoreCaseTrie::try_from_iter(rt.alloc(), items);
-        assert!(rt; build.is_err_and(|e| e == ZeroTrieBuildError::MixedCase));
+        refused_in_any_order::<Ignore, HostRuntime>(
+            &rt,
+            &[(items.as_slice(), ZeroTrieBuildError::MixedCase)],
+        );
     }
 }
 
