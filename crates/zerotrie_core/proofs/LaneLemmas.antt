@@ -1,5 +1,5 @@
 -- The lowest bit of two masks of lanes.
-use Rattle.std.proofs.Common.{◌≡◌, ℕ, zero, suc, ◌+◌, ◌*◌, ◌/◌, ◌%◌, ◌^◌, ◌<◌, ◌≤◌, List, [], ◌∷◌, Bool, true, false, cond, eqb, length, take, get_or, map, refl, sym, ap, subst, ◌∙◌, arith, w64, ◌⊎◌, inl, inr}
+use Rattle.std.proofs.Common.{◌≡◌, ℕ, zero, suc, ◌^◌, ◌<◌, ◌≤◌, List, [], ◌∷◌, false, cond, eqb, length, take, get_or, map, refl, sym, ap, subst, ◌∙◌, arith, w64, ◌⊎◌, inl, inr}
 use Rattle.std.specs.Int.Bits.{bit_or}
 use Rattle.std.specs.Int.{bit_at, trailing_zeros}
 use Rattle.std.specs.Int.Count.{count_trailing_zeros}
@@ -8,8 +8,8 @@ use Rattle.std.proofs.Math.Nat.{pow-le-pow_right}
 use Rattle.std.proofs.lemmas.List.{get_or-take, length-take-le}
 use Rattle.std.proofs.lemmas.Nat.{or_lt}
 use Rattle.std.proofs.lemmas.Simd.{bit_mask_l, mask_l-lt}
-use Rattle.std.proofs.lemmas.Bool.{eqb-true, eq-eqb, cases_lt, cases_eq, ne_eqb}
-use Rattle.std.proofs.lemmas.Nat.Bits.{bit_at-trailing_zeros, bit_at_or, bit_at-zero, bit_at-lt}
+use Rattle.std.proofs.lemmas.Bool.{eq-eqb, cases_lt, cases_eq, ne_eqb}
+use Rattle.std.proofs.lemmas.Nat.Bits.{bit_at-trailing_zeros, bit_at_or, bit_at-zero}
 
 -- the lanes that are a byte
 abbrev pub mask_of : List ℕ → ℕ → ℕ

@@ -149,7 +149,7 @@ impl<'a> Branch<'a> {
 
     /// The place of the edge that is the byte to the kind.
     ///
-    /// Up to 64 edges are all looked at at once, whatever their order, with what bytes stand behind them.
+    /// Up to 64 edges are looked at all at once, whatever their order, with what bytes stand behind them.
     /// Where there are more, or too few bytes are left, a table of more bytes than edges is hashed, in the
     /// kinds that have hashed tables, and any other is halved.
     #[inline(always)]
@@ -160,14 +160,16 @@ impl<'a> Branch<'a> {
             → HasNoPlace K.kind self.now.edges self.now.behind.now byte) }
     {
         let (low, high) = both_cases::<K>(byte);
-        if self.edges <= 16 && self.behind.len() >= 16 {
-            return before_end(first_in_16(self.behind, low, high), self.edges);
-        }
-        if self.edges <= 32 && self.behind.len() >= 32 {
-            return before_end(first_in_32(self.behind, low, high), self.edges);
-        }
-        if self.edges <= 64 && self.behind.len() >= 64 {
-            return before_end(first_in_64(self.behind, low, high), self.edges);
+        if !K::USE_PHF || self.edges <= 64 {
+            if self.edges <= 16 && self.behind.len() >= 16 {
+                return before_end(first_in_16(self.behind, low, high), self.edges);
+            }
+            if self.edges <= 32 && self.behind.len() >= 32 {
+                return before_end(first_in_32(self.behind, low, high), self.edges);
+            }
+            if self.edges <= 64 && self.behind.len() >= 64 {
+                return before_end(first_in_64(self.behind, low, high), self.edges);
+            }
         }
         if K::USE_PHF && self.table.len() > self.edges {
             return PerfectByteHashMap::from_bytes(self.table).get(byte);
