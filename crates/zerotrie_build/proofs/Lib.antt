@@ -7,7 +7,6 @@ mod Building
 mod Parting
 mod Sorting
 mod Permuted
-mod Parting
 mod WindowLemmas
 mod GroupLemmas
 mod StepLemmas

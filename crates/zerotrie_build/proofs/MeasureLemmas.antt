@@ -243,29 +243,6 @@ open_branch kind all windows targets targets' j n keys m within w next t' is len
       narrow = subst (λ ls. total ls < 256 ^ (greatest_width kind + 1)) lens narrow;
     })
 
--- all windows walked, and none measured
-pub measuring_none : (kind : Kind) (all : Pairs) (windows : List Window) (targets : List Target) (index : ℕ) → Walking kind all windows targets → length targets ≡ length windows → index ≡ length targets → Measuring kind all windows targets index
-measuring_none kind all windows targets index walking count at = record {
-  within = omega arith;
-  count = count;
-  some = walking.some;
-  whole = walking.whole;
-  placed = walking.placed;
-  walked = λ i h. walking.walked i (omega arith);
-  later = λ i l h. absurd (omega arith);
-  each = λ i l h. absurd (omega arith);
-}
-
--- all measured
-pub measured_all : (kind : Kind) (all : Pairs) (windows : List Window) (targets : List Target) → AreKeys kind all → Measuring kind all windows targets 0 → IsMeasured kind all windows targets
-measured_all kind all windows targets keys m = record {
-  count = m.count;
-  some = m.some;
-  keys = keys;
-  whole = m.whole;
-  each = λ i h. m.each i (omega arith) h;
-}
-
 -- a text of 2^64 bytes or more
 pub exceeds_size : (kind : Kind) (all : Pairs) → 2 ^ 64 ≤ size_of kind all → ExceedsCapacity kind (map_of all)
 unfolding size

@@ -7,10 +7,6 @@ pub with_run-nil : (pairs : Pairs) → with_run [] pairs ≡ pairs
 with_run-nil [] = refl
 with_run-nil (e ∷ pairs) = ap (λ x. e ∷ x) (with_run-nil pairs)
 
-pub with_run-append : (run : List ℕ) (xs ys : Pairs) → with_run run (xs ++ ys) ≡ with_run run xs ++ with_run run ys
-with_run-append run [] ys = refl
-with_run-append run (e ∷ xs) ys = ap (λ x. (run ++ e.0, e.1) ∷ x) (with_run-append run xs ys)
-
 -- a byte behind the run is a byte in front of the keys
 pub with_run-push : (run : List ℕ) (b : ℕ) (pairs : Pairs) → with_run (run ++ b ∷ []) pairs ≡ with_run run (with_front b pairs)
 with_run-push run b [] = refl
@@ -26,14 +22,6 @@ pub take_one_more : (key : List ℕ) (d : ℕ) → d < length key → take (suc 
 take_one_more [] d h = let g : d < 0 = h in absurd (omega arith)
 take_one_more (x ∷ key) zero h = refl
 take_one_more (x ∷ key) (suc d) h = ap (λ y. x ∷ y) (take_one_more key d (let g : suc d < suc (length key) = h in omega arith))
-
--- what is under one byte more
-pub run_step : (key : List ℕ) (d : ℕ) (pairs : Pairs) → d < length key → with_run (take (suc d) key) pairs ≡ with_run (take d key) (with_front (get_or key d 0) pairs)
-run_step key d pairs h = ap (λ run. with_run run pairs) (take_one_more key d h) ∙ with_run-push (take d key) (get_or key d 0) pairs
-
-pub behind_all-append : (front : List ℕ) (xs ys : Pairs) → behind_all front (xs ++ ys) ≡ behind_all front xs ++ behind_all front ys
-behind_all-append [] xs ys = refl
-behind_all-append (b ∷ front) xs ys = ap (behind_all front) (residual-append b xs ys) ∙ behind_all-append front (residual b xs) (residual b ys)
 
 pub behind_all-run : (run : List ℕ) (pairs : Pairs) → behind_all run (with_run run pairs) ≡ pairs
 behind_all-run [] pairs = with_run-nil pairs

@@ -1,10 +1,7 @@
-use Rattle.std.proofs.Common.{◌≡◌, ◌∙◌, subst, sym, ap, true, false}
-use Rattle.std.specs.List.Sorted.{IsPermutation}
+use Rattle.std.proofs.Common.{◌∙◌, subst, sym, ap}
 use Rattle.std.proofs.lemmas.List.Sorted.{IsPermutation-map}
 use Rattle.zerotrie_core.specs.Items.{pairs_of}
-use Rattle.zerotrie_core.specs.Kind.{flags}
-use Rattle.zerotrie_core.specs.Maps.{IsCaseConsistent}
-use Rattle.zerotrie_core.specs.declared.ZeroTrieBuildError.TheVariants.{DuplicateKey, NonAsciiError, MixedCase}
+use Rattle.zerotrie_core.specs.declared.ZeroTrieBuildError.TheVariants.{DuplicateKey, NonAsciiError}
 use Rattle.zerotrie_build.specs.Order.{AreKeys, AreValues, Ordered, RepeatsNext}
 use Rattle.zerotrie_build.proofs.Building.{some_foreign}
 use Rattle.zerotrie_build.proofs.Permuted.{consistent_permuted, has_cause_permuted}
