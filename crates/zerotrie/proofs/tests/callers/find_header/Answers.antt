@@ -1,4 +1,4 @@
-use Rattle.std.proofs.Common.{◌≡◌, ◌∙◌, Ok, sym}
+use Rattle.std.proofs.Common.{◌∙◌, Ok, sym}
 use Rattle.std.specs.Prelude.{slice_index_or}
 use Rattle.zerotrie_core.specs.Items.{pairs_of}
 use Rattle.zerotrie_core.specs.Kind.{ignore_case}

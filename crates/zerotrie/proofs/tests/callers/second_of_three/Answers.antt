@@ -1,4 +1,4 @@
-use Rattle.std.proofs.Common.{◌≡◌, ◌∙◌, Ok}
+use Rattle.std.proofs.Common.{◌∙◌, Ok}
 use Rattle.std.specs.Array.Iter.{array_into_iter_items}
 use Rattle.zerotrie_core.specs.Items.{keyed}
 use Rattle.zerotrie_core.specs.Kind.{simple_ascii}
