@@ -15,8 +15,8 @@ use Rattle.zerotrie_build.specs.declared.steps.Window.{Window}
 use Rattle.zerotrie_build.specs.declared.steps.Step.TheVariants.{End, Branch}
 use Rattle.zerotrie_build.specs.declared.measuring.Target.{Target}
 use Rattle.zerotrie_build.specs.passes.Windows.{window, edge_of, step_of}
-use Rattle.zerotrie_build.specs.passes.Measured.{Stops, part, edges_of, lengths_of, no_window, no_target, window_at, target_at, IsOpen, IsMeasured}
-use Rattle.zerotrie_build.specs.passes.Walking.{IsBehind, IsPlaced, IsOpened, IsWalked, Walking, Measuring}
+use Rattle.zerotrie_build.specs.passes.Measured.{Stops, part, edges_of, lengths_of, no_window, no_target, window_at, target_at, IsOpen}
+use Rattle.zerotrie_build.specs.passes.Walking.{IsBehind, IsPlaced, IsOpened, IsWalked, Measuring}
 use Rattle.zerotrie_build.proofs.NodeLemmas.{power_some}
 use Rattle.zerotrie_build.proofs.Overflow.{same_edges, same_targets_size, exceeds}
 use Rattle.zerotrie_build.proofs.WindowLemmas.{cut_none, step_end}

@@ -1,5 +1,5 @@
 -- What is known of pairs that were measured: they fit, and how long their text is.
-use Rattle.std.proofs.Common.{◌≡◌, ℕ, zero, suc, ◌+◌, ◌-◌, ◌^◌, ◌<◌, ◌≤◌, List, [], ◌∷◌, ◌++◌, length, refl, sym, ◌∙◌, ap, subst, arith, get_or, map, take, drop, inl, inr, Some}
+use Rattle.std.proofs.Common.{◌≡◌, ℕ, zero, suc, ◌+◌, ◌-◌, ◌^◌, ◌<◌, ◌≤◌, List, [], ◌∷◌, ◌++◌, length, refl, sym, ◌∙◌, ap, subst, arith, map, take, drop, inl, inr, Some}
 use Rattle.std.proofs.lemmas.Bool.Decides.{eqb_tells}
 use Rattle.std.proofs.lemmas.List.{take-map, drop-map, drop_more}
 use Rattle.std.proofs.lemmas.Simd.{map-map}
@@ -8,20 +8,20 @@ use Rattle.std.proofs.Math.Nat.{le-max_left, le-max_right}
 use Rattle.std.specs.FinMap.{entries}
 use Rattle.std.specs.Prelude.{All}
 use Rattle.zerotrie_core.specs.Kind.{Kind, greatest_width, edge_limit}
-use Rattle.zerotrie_core.specs.Maps.{Pairs, map_of, with_front, edges, residual, behind_all, longest}
+use Rattle.zerotrie_core.specs.Maps.{Pairs, map_of, with_front, residual, longest}
 use Rattle.zerotrie_core.specs.Branches.{total}
 use Rattle.zerotrie_core.specs.Canonical.{size_of, size}
 use Rattle.zerotrie_core.specs.Fits.{Fits, targets_size}
-use Rattle.zerotrie_core.proofs.CallerLemmas.{Rises, NarrowBehind, narrow_none, narrow_value, narrow_at, narrow_front, narrow-same, all_entries, by_fronts, increasing_rises, consistent_entries, same-entries, same-size_of, residual-append, residual-front, residual-other, not_first, edge_once}
+use Rattle.zerotrie_core.proofs.CallerLemmas.{Rises, NarrowBehind, narrow_none, narrow_value, narrow_at, narrow_front, narrow-same, all_entries, by_fronts, increasing_rises, consistent_entries, same-entries, same-size_of, residual-append, residual-other}
 use Rattle.zerotrie_build.specs.Order.{Ordered, AreKeys, AreValues}
 use Rattle.zerotrie_build.specs.declared.steps.Window.{Window}
 use Rattle.zerotrie_build.specs.declared.measuring.Target.{Target}
 use Rattle.zerotrie_build.specs.declared.steps.Step.TheVariants.{Branch}
 use Rattle.zerotrie_build.specs.passes.Windows.{window, item_of, byte_of, edge_of, step_of}
-use Rattle.zerotrie_build.specs.passes.Measured.{Run, Groups, part, edges_of, lengths_of, IsOpen, IsMeasured, window_at, target_at, no_window, no_target}
+use Rattle.zerotrie_build.specs.passes.Measured.{Run, Groups, part, edges_of, lengths_of, IsOpen, IsMeasured, window_at, target_at, no_window}
 use Rattle.zerotrie_build.specs.passes.Measured.Run.{here, value, literal, span}
 use Rattle.zerotrie_build.proofs.AgreeLemmas.{ordered_consistent}
-use Rattle.zerotrie_build.proofs.GroupLemmas.{grouped, SomeEach, Sized, residual_group}
+use Rattle.zerotrie_build.proofs.GroupLemmas.{grouped, SomeEach, residual_group}
 use Rattle.zerotrie_build.proofs.RunLemmas.{step_branch, some_items, along}
 use Rattle.zerotrie_build.proofs.OpenLemmas.{groups_grouped, some_each, branching}
 use Rattle.zerotrie_build.proofs.WindowLemmas.{step_value, step_literal, step_span, step_end, ordered_front, cut_none, cut_whole}

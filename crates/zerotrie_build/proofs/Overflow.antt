@@ -1,17 +1,15 @@
 -- A branch whose targets no offset reaches.
-use Rattle.std.proofs.Common.{◌≡◌, ℕ, ◌+◌, ◌^◌, ◌<◌, ◌≤◌, inr, List, [], ◌++◌, length, get_or, sym, ◌∙◌, ap, subst, arith, map, Bool}
+use Rattle.std.proofs.Common.{◌≡◌, ℕ, inr, List, length, sym, ◌∙◌, ap, arith, map, Bool}
 use Rattle.std.specs.Prelude.{filter}
-use Rattle.std.specs.List.{concat, range_with_len}
+use Rattle.std.specs.List.{range_with_len}
 use Rattle.std.specs.FinMap.{entries}
 use Rattle.std.proofs.Math.Path.{fun_ext}
-use Rattle.std.proofs.lemmas.List.{append-nil}
-use Rattle.zerotrie_core.specs.Kind.{Kind, IsAscii}
-use Rattle.zerotrie_core.specs.Maps.{Pairs, map_of, with_run, begins_some, edges, residual, behind_all}
-use Rattle.zerotrie_core.specs.Texts.{ListEach}
+use Rattle.zerotrie_core.specs.Kind.{Kind}
+use Rattle.zerotrie_core.specs.Maps.{Pairs, map_of, begins_some, edges, residual, behind_all}
 use Rattle.zerotrie_core.specs.Branches.{total}
 use Rattle.zerotrie_core.specs.Canonical.{size_of}
 use Rattle.zerotrie_core.specs.Fits.{targets_size, OverflowsAt, ExceedsCapacity}
-use Rattle.zerotrie_core.proofs.CallerLemmas.{residual-append, Rises, rises_distinct, bytes_all, targets_each, edges_count, greatest_width_is, same-entries, same-sym, same-behind, same-edges, same-targets, some_pair, begins_behind, map_agree}
+use Rattle.zerotrie_core.proofs.CallerLemmas.{same-entries, same-sym, same-behind, same-edges, same-targets, some_pair, begins_behind, map_agree}
 
 
 filter_agree : (p q : ℕ → Bool) (zs : List ℕ) → ((b : ℕ) → p b ≡ q b) → filter p zs ≡ filter q zs
