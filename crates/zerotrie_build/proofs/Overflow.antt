@@ -11,7 +11,6 @@ use Rattle.zerotrie_core.specs.Canonical.{size_of}
 use Rattle.zerotrie_core.specs.Fits.{targets_size, OverflowsAt, ExceedsCapacity}
 use Rattle.zerotrie_core.proofs.CallerLemmas.{same-entries, same-sym, same-behind, same-edges, same-targets, some_pair, begins_behind, map_agree}
 
-
 filter_agree : (p q : ℕ → Bool) (zs : List ℕ) → ((b : ℕ) → p b ≡ q b) → filter p zs ≡ filter q zs
 filter_agree p q zs h = ap (λ t. filter t zs) (fun_ext h)
 
