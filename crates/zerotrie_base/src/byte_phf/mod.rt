@@ -6,6 +6,7 @@
 mod builder;
 mod cached_owned;
 mod groups;
+mod reciprocals;
 mod remainders;
 
 ghost use Rattle.std.specs.Prelude.{◌≡◌, ◌≢◌, ◌==◌, ◌+◌, ◌-◌, ◌/◌, ◌%◌, ◌<◌, ◌↔◌, ◌⊎◌, ℕ, List, [], ◌∷◌, ◌++◌, length, drop, slice_index, replicate, nat_eq, bit_xor, IfOk, IfErr, IsTrue};
@@ -20,6 +21,7 @@ use crate::error::ZeroTrieBuildError;
 use crate::store::TrieStore;
 use builder::{find, placed_keys};
 pub use cached_owned::PerfectByteHashMapCacheOwned;
+use reciprocals::remainder;
 use std::alloc::{AllocError, Global};
 
 /// From the next `q` on, [`f2`] turns its result.
@@ -37,7 +39,7 @@ const Q_FAST_MAX: u8 = 95;
 pub fn f1(byte: u8, p: u8, n: u8) -> u8
     ensures { result ≡ f1 byte p n }
 {
-    if n == 0 { byte } else { mixed(byte, p) % n }
+    if n == 0 { byte } else { remainder(mixed(byte, p), n) }
 }
 
 /// The number whose remainder is the bucket of the byte, by the parameter `p`.
@@ -65,7 +67,7 @@ fn mixed(byte: u8, p: u8) -> u8
 pub fn f2(byte: u8, q: u8, n: u8) -> u8
     ensures { result ≡ f2 byte q n }
 {
-    if n == 0 { byte } else { turned(byte, q) % n }
+    if n == 0 { byte } else { remainder(turned(byte, q), n) }
 }
 
 /// The number whose remainder is the place of the byte, by the parameter `q`.
