@@ -5,6 +5,7 @@ mod TableReads
 mod FillLemmas
 mod OrderLemmas
 mod GroupLemmas
+mod ReciprocalLemmas
 mod PlacedLemmas
 mod SolveLemmas
 mod CacheLemmas

@@ -6,6 +6,7 @@
 mod builder;
 mod cached_owned;
 mod groups;
+mod reciprocals;
 mod remainders;
 
 ghost use Rattle.std.specs.Prelude.{◌≡◌, ◌≢◌, ◌==◌, ◌+◌, ◌-◌, ◌/◌, ◌%◌, ◌<◌, ◌↔◌, ◌⊎◌, ℕ, List, [], ◌∷◌, ◌++◌, length, drop, slice_index, replicate, nat_eq, bit_xor, IfOk, IfErr, IsTrue};
@@ -20,6 +21,7 @@ use crate::error::ZeroTrieBuildError;
 use crate::store::TrieStore;
 use builder::{find, placed_keys};
 pub use cached_owned::PerfectByteHashMapCacheOwned;
+use reciprocals::remainder;
 use std::alloc::{AllocError, Global};
 
 /// From the next `q` on, [`f2`] turns its result.
@@ -37,7 +39,11 @@ const Q_FAST_MAX: u8 = 95;
 pub fn f1(byte: u8, p: u8, n: u8) -> u8
     ensures { result ≡ f1 byte p n }
 {
-    if n == 0 { byte } else { mixed(byte, p) % n }
+    if n == 0 {
+        byte
+    } else {
+        remainder(mixed(byte, p), n)
+    }
 }
 
 /// The number whose remainder is the bucket of the byte, by the parameter `p`.
@@ -65,7 +71,11 @@ fn mixed(byte: u8, p: u8) -> u8
 pub fn f2(byte: u8, q: u8, n: u8) -> u8
     ensures { result ≡ f2 byte q n }
 {
-    if n == 0 { byte } else { turned(byte, q) % n }
+    if n == 0 {
+        byte
+    } else {
+        remainder(turned(byte, q), n)
+    }
 }
 
 /// The number whose remainder is the place of the byte, by the parameter `q`.
@@ -102,20 +112,6 @@ pub fn are_distinct(keys: &[u8]) -> bool
     true
 }
 
-/// The place of a byte in its bucket. With zeros for both parameters, as many tables have them, it is the
-/// bucket itself, and no second remainder is taken.
-#[inline]
-fn place_in_bucket(byte: u8, p: u8, q: u8, n: u8, bucket: u8) -> u8
-    requires { bucket ≡ f1 byte p n }
-    ensures { result ≡ f2 byte q n }
-{
-    if p == 0 && q == 0 {
-        bucket
-    } else {
-        f2(byte, q, n)
-    }
-}
-
 /// What the bytes of a table answer for the key.
 fn number_of(bytes: &[u8], key: u8) -> Option<usize>
     ensures { result ≡ number_of bytes.now key }
@@ -127,9 +123,8 @@ fn number_of(bytes: &[u8], key: u8) -> Option<usize>
     }
     let n = (count % 256) as u8;
     let (qs, keys) = rest.split_at(count);
-    let bucket = f1(key, *p, n);
-    let q = qs[bucket as usize];
-    let place = place_in_bucket(key, *p, q, n, bucket) as usize;
+    let q = qs[f1(key, *p, n) as usize];
+    let place = f2(key, q, n) as usize;
     if keys[place] == key {
         Some(place)
     } else {
