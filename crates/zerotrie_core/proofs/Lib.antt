@@ -36,3 +36,4 @@ mod GroupLemmas
 mod CutLemmas
 mod RefusalLemmas
 mod MeansLaws
+mod LowerLemmas
