@@ -242,7 +242,7 @@ fn items_of<K: TrieKey>(
     Ok(items)
 }
 
-/// A builder of tries, which grows their bytes backwards in a store.
+/// A builder of tries, which measures their bytes and then writes them into a store that grows once.
 ///
 /// ```
 /// let items = [("ad", 22), ("adef", 33)];
@@ -267,8 +267,9 @@ impl<S: TrieBuilderStore + Drop> ZeroTrieBuilder<S> {
     /// The bytes mean the map of the items, and for a kind whose tables are all sorted they are the map's
     /// one text.
     ///
-    /// A build is refused with `Unsorted`, `NonAsciiError`, `MixedCase`, `CapacityExceeded` or
-    /// `OutOfMemory`, each for the reason that `ZeroTrieBuildError` gives.
+    /// A build of any kind is refused with `Unsorted`, `CapacityExceeded` or `OutOfMemory`. The kinds over
+    /// ASCII refuse with `NonAsciiError` too, the kind without case with `MixedCase`, and the hashed kinds
+    /// with `CouldNotSolvePerfectHash`. Each has the reason that `ZeroTrieBuildError` gives.
     pub fn from_sorted_tuple_slice(
         alloc: Global,
         items: ByteSliceWithIndices<'_>,
@@ -286,8 +287,8 @@ impl<S: TrieBuilderStore + Drop> ZeroTrieBuilder<S> {
     /// Builds the trie of all pairs that the iterator gives, in any order. An empty input gives an empty
     /// trie.
     ///
-    /// A build is refused with `DuplicateKey`, `NonAsciiError`, `MixedCase`, `CapacityExceeded` or
-    /// `OutOfMemory`, each for the reason that `ZeroTrieBuildError` gives.
+    /// A build is refused as one of a slice is, each time for the reason that `ZeroTrieBuildError` gives, but
+    /// with `DuplicateKey` in place of `Unsorted`.
     pub fn from_bytes_iter<K: TrieKey + Drop, U: IntoIterator<Item = (K, usize)>>(
         alloc: Global,
         iter: U,
