@@ -1,14 +1,14 @@
 -- The lowest bit of two masks of lanes.
-use Rattle.std.proofs.Common.{◌≡◌, ℕ, zero, suc, ◌^◌, ◌<◌, ◌≤◌, List, [], ◌∷◌, false, cond, eqb, length, take, get_or, map, refl, sym, ap, subst, ◌∙◌, arith, w64, ◌⊎◌, inl, inr}
+use Rattle.std.proofs.Common.{◌≡◌, ℕ, zero, suc, ◌^◌, ◌<◌, ◌≤◌, List, [], ◌∷◌, Bool, true, false, cond, not, eqb, leb, length, take, get_or, map, refl, sym, ap, subst, ◌∙◌, arith, w64, ◌⊎◌, inl, inr}
 use Rattle.std.specs.Int.Bits.{bit_or}
 use Rattle.std.specs.Int.{bit_at, trailing_zeros}
 use Rattle.std.specs.Int.Count.{count_trailing_zeros}
-use Rattle.std.specs.Simd.Lanes.{mask_l}
+use Rattle.std.specs.Simd.Lanes.{mask_l, zip2}
 use Rattle.std.proofs.Math.Nat.{pow-le-pow_right}
-use Rattle.std.proofs.lemmas.List.{get_or-take, length-take-le}
+use Rattle.std.proofs.lemmas.List.{get_or-take, get_or-map, length-map, length-take-le}
 use Rattle.std.proofs.lemmas.Nat.{or_lt}
-use Rattle.std.proofs.lemmas.Simd.{bit_mask_l, mask_l-lt}
-use Rattle.std.proofs.lemmas.Bool.{eq-eqb, cases_lt, cases_eq, ne_eqb}
+use Rattle.std.proofs.lemmas.Simd.{bit_mask_l, mask_l-lt, get_or-zip2, length-zip2}
+use Rattle.std.proofs.lemmas.Bool.{eq-eqb, eqb-true, leb-false, cases_lt, cases_eq, ne_eqb}
 use Rattle.std.proofs.lemmas.Nat.Bits.{bit_at-trailing_zeros, bit_at_or, bit_at-zero}
 
 -- the lanes that are a byte
@@ -104,3 +104,65 @@ module _ (n : ℕ) (bytes : List ℕ) (y z : ℕ) (short : n ≤ 64) (long : n �
       let same = get_or-take n bytes k 0 h in
       let missed = first_missed (take n bytes) y z (omega (arith, lanes_len, short)) k (omega (arith, lanes_len, h)) (subst (λ j. k < j) e before) in
       (λ f. missed.0 (same ∙ f), λ f. missed.1 (same ∙ f))
+
+-- two masks of lanes that tests give: below the lowest bit of both, no test holds
+module _ (ms ns : List Bool) (n : ℕ) (short : n ≤ 64) (ms_len : length ms ≡ n) (ns_len : length ns ≡ n) where
+  abbrev either : ℕ
+  either = bit_or (mask_l ms) (mask_l ns)
+
+  mask_fits : (xs : List Bool) → length xs ≡ n → mask_l xs < 2 ^ 64
+  mask_fits xs e =
+      let s = subst (λ m. mask_l xs < 2 ^ m) e (mask_l-lt xs) in
+      let more : 2 ^ n ≤ 2 ^ 64 = pow-le-pow_right (omega arith) short in
+      omega arith
+
+  either_fits : either < 2 ^ 64
+  either_fits = or_lt 64 (mask_l ms) (mask_l ns) (mask_fits ms ms_len) (mask_fits ns ns_len)
+
+  unset : (xs : List Bool) (k : ℕ) → bit_at (mask_l xs) k ≡ 0 → get_or xs k false ≡ false
+  unset xs k e = by (get_or xs k false) (sym (bit_mask_l xs k) ∙ e)
+    where
+      by : (b : Bool) → cond {A = ℕ} b 1 0 ≡ 0 → b ≡ false
+      by true e = absurd (omega (arith, e))
+      by false e = refl
+
+  none_set : (k : ℕ) → k < n → k < trailing_zeros w64 either → (get_or ms k false ≡ false) × (get_or ns k false ≡ false)
+  none_set k h before =
+      let clear : bit_at either k ≡ 0 = elim (cases_lt 0 either) [
+        | inl some ↦ (bit_at-trailing_zeros w64 either some either_fits).2 k before
+        | inr none ↦ let e : either ≡ 0 = omega arith in ap (λ n. bit_at n k) e ∙ bit_at-zero k
+      ] in
+      let o = bit_at_or (mask_l ms) (mask_l ns) k in
+      (unset ms k (omega (arith, o, clear)), unset ns k (omega (arith, o, clear)))
+
+-- two vectors of sixteen lanes: below the lowest lane that differs or is from 128 on
+module _ (bytes others : List ℕ) (long : 16 ≤ length bytes) (other_long : 16 ≤ length others) where
+  abbrev differ : List Bool
+  differ = zip2 (λ a b. not (eqb a b)) (take 16 bytes) (take 16 others)
+
+  abbrev high : List Bool
+  high = map (λ a. leb 128 a) (take 16 bytes)
+
+  pub differ_len : length differ ≡ 16
+  differ_len = length-zip2 (λ a b. not (eqb a b)) (take 16 bytes) (take 16 others) (length-take-le 16 bytes long ∙ sym (length-take-le 16 others other_long)) ∙ length-take-le 16 bytes long
+
+  pub high_len : length high ≡ 16
+  high_len = length-map (take 16 bytes) (λ a. leb 128 a) ∙ length-take-le 16 bytes long
+
+  pub lowest_other : (a b : ℕ) → a ≡ mask_l differ → b ≡ mask_l high → (k : ℕ) → k < 16 → k < trailing_zeros w64 (bit_or a b)
+      → (get_or bytes k 0 < 128) × (get_or bytes k 0 ≡ get_or others k 0)
+  lowest_other a b is_a is_b k h before =
+      let e : trailing_zeros w64 (bit_or a b) ≡ trailing_zeros w64 (bit_or (mask_l differ) (mask_l high)) = rw (is_a, is_b) refl in
+      let clear = none_set differ high 16 (omega arith) differ_len high_len k h (subst (λ j. k < j) e before) in
+      let same = get_or-take 16 bytes k 0 h in
+      let other = get_or-take 16 others k 0 h in
+      let there = length-take-le 16 bytes long in
+      let other_there = length-take-le 16 others other_long in
+      let low : leb 128 (get_or bytes k 0) ≡ false = ap (leb 128) (sym same) ∙ sym (get_or-map (λ a. leb 128 a) (take 16 bytes) k 0 false (omega (arith, there, h))) ∙ clear.1 in
+      let equal : not (eqb (get_or bytes k 0) (get_or others k 0)) ≡ false =
+      (λ i. not (eqb (sym same i) (sym other i))) ∙ sym (get_or-zip2 (λ a b. not (eqb a b)) (take 16 bytes) (take 16 others) k 0 0 false (omega (arith, there, h)) (omega (arith, other_there, h))) ∙ clear.0 in
+      (leb-false 128 (get_or bytes k 0) low, eqb-true _ _ (sym (twice _) ∙ ap not equal))
+    where
+      twice : (b : Bool) → not (not b) ≡ b
+      twice true = refl
+      twice false = refl

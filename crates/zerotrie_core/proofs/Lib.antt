@@ -14,6 +14,7 @@ mod GoingLemmas
 mod LaneLemmas
 mod PlaceLemmas
 mod ReaderLemmas
+mod LiteralLemmas
 mod CaseLemmas
 mod MapLemmas
 mod NumberLaws

@@ -33,10 +33,11 @@ pub branch_ends : (kind : Kind) (n w : ℕ) (table behind key : List ℕ) → ke
 branch_ends kind n w table behind key e bytes begins pairs text = subst (λ k. Finds text k None 1) (sym e) (opens_ends text (branch_opens text n w table behind begins).opens)
 
 -- a key that goes on passes over a value
-pub value_goes : (kind : Kind) (v : ℕ) (rest key : List ℕ) → (length key ≡ 0 → ⊥) → NodeGoes kind (value v rest) key rest key
+pub value_goes : (kind : Kind) (v : ℕ) (rest key : List ℕ) → (length key ≡ 0 → ⊥) → NodeGoes kind (value v rest) key rest key 1
 value_goes kind v rest [] some bytes begins = absurd (some refl)
 value_goes kind v rest (c ∷ key) some bytes begins = (
   after_shorter 16 4 v bytes rest begins,
+  omega (arith, after_shorter 16 4 v bytes rest begins),
   λ pairs text. (
       let h = value_opens text v rest begins in
       record { below = h.below; inner = h.inner; answers = ap (λ p. value_at kind p (c ∷ key)) h.is; counts = h.counts c key }
@@ -66,9 +67,10 @@ module _ {kind : Kind} {bytes : List ℕ} {pairs : Pairs} (text : Lists kind byt
   span_counts : nodes text key ≡ 1 + option_map_or (λ after. nodes h.inner after) o 0
   span_counts = h.counts key ∙ ap (λ x. 1 + option_map_or (λ after. nodes h.inner after) x 0) e
 
-pub span_goes : (kind : Kind) (run rest key after : List ℕ) → key ≡ run ++ after → NodeGoes kind (span run rest) key rest after
+pub span_goes : (kind : Kind) (run rest key after : List ℕ) → key ≡ run ++ after → NodeGoes kind (span run rest) key rest after 1
 span_goes kind run rest key after e bytes begins = (
   span_shorter kind run rest bytes begins,
+  omega (arith, span_shorter kind run rest bytes begins),
   λ pairs text. (
       let h = span_opens text run rest begins.1 in
       let there = ap (after_run run) e ∙ after_run-append run after in
@@ -88,9 +90,10 @@ node_ends kind s c key after e stops bytes begins pairs text =
     let f = stops bytes pairs text begins in
     subst (λ k. Finds text k None 1) (sym e) (record { answers = f.answers after; counts = f.counts after })
 
-pub node_goes : (kind : Kind) (s : Shape) (c b : ℕ) (key after rest : List ℕ) → key ≡ c ∷ after → AlwaysGoes kind s c b rest → ((bytes : List ℕ) → Begins kind bytes s → length rest < length bytes) → NodeGoes kind s key rest after
+pub node_goes : (kind : Kind) (s : Shape) (c b : ℕ) (key after rest : List ℕ) → key ≡ c ∷ after → AlwaysGoes kind s c b rest → ((bytes : List ℕ) → Begins kind bytes s → length rest < length bytes) → NodeGoes kind s key rest after 1
 node_goes kind s c b key after rest e goes short bytes begins = (
   short bytes begins,
+  omega (arith, short bytes begins),
   λ pairs text. (
       let g = goes bytes pairs text begins in
       subst (λ k. Comes text k rest after 1) (sym e) (record { below = g.below; inner = g.inner; answers = g.answers after; counts = g.counts after })
@@ -101,11 +104,12 @@ node_goes kind s c b key after rest e goes short bytes begins = (
 pub comes_nowhere : (kind : Kind) (bytes key : List ℕ) → AlwaysComes kind bytes key bytes key 0
 comes_nowhere kind bytes key pairs text = record { below = pairs; inner = text; answers = refl; counts = omega arith }
 
-pub comes_more : (kind : Kind) (bytes key trie rest more after : List ℕ) (count : ℕ) → AlwaysComes kind bytes key trie rest count → AlwaysComes kind trie rest more after 1 → AlwaysComes kind bytes key more after (count + 1)
-comes_more kind bytes key trie rest more after count came goes pairs text =
+pub comes_more : (kind : Kind) (bytes key trie rest more after : List ℕ) (count further : ℕ)
+    → AlwaysComes kind bytes key trie rest count → AlwaysComes kind trie rest more after further → AlwaysComes kind bytes key more after (count + further)
+comes_more kind bytes key trie rest more after count further came goes pairs text =
     let c = came pairs text in
     let g = goes c.below c.inner in
-    let one = g.counts in
+    let on = g.counts in
     let all = c.counts in
     record { below = g.below; inner = g.inner; answers = c.answers ∙ g.answers; counts = omega arith }
 

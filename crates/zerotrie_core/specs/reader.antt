@@ -2,3 +2,4 @@
 pub mod Going
 pub mod Reading
 pub mod Descending
+pub mod Literals

@@ -48,3 +48,17 @@ pub fn first_in_64(bytes: &[u8], one: u8, other: u8) -> usize
     let others = lanes.simd_eq(u8x64::splat(other)).to_bitmask();
     (ones | others).trailing_zeros() as usize
 }
+
+/// The first place among sixteen where a byte is no literal, or not the other byte there, or 64.
+#[inline(always)]
+pub fn first_other_in_16(bytes: &[u8], others: &[u8]) -> usize
+    requires bytes { 16 ≤ length bytes.now }
+    requires others { 16 ≤ length others.now }
+    ensures { (k : ℕ) → k < 16 → k < result → (slice_index bytes.now k < 128)
+        × (slice_index bytes.now k ≡ slice_index others.now k) }
+{
+    let lanes = u8x16::from_slice(bytes);
+    let differ = lanes.simd_ne(u8x16::from_slice(others)).to_bitmask();
+    let high = lanes.simd_ge(u8x16::splat(128)).to_bitmask();
+    (differ | high).trailing_zeros() as usize
+}

@@ -10,8 +10,10 @@ ghost use Rattle.zerotrie_core.specs.Maps.{Map, look};
 ghost use Rattle.zerotrie_core.specs.Texts.{Means, nodes};
 ghost use Rattle.zerotrie_core.specs.Shapes.{shape};
 ghost use Rattle.zerotrie_core.specs.reader.Descending.{Descends};
+ghost use Rattle.zerotrie_core.specs.reader.Literals.{AreCommon};
 
 use crate::branch::folded;
+use crate::lanes::first_other_in_16;
 use crate::node::{Node, first_node};
 use crate::options::ZeroTrieWithOptions;
 
@@ -19,8 +21,34 @@ use crate::options::ZeroTrieWithOptions;
 enum Descent<'a> {
     /// The look-up ends with this answer.
     Answer(Option<usize>),
-    /// It goes on in these bytes, with this rest of the key.
-    Down(&'a [u8], &'a [u8]),
+    /// It goes on in these bytes, with this rest of the key, so many nodes further.
+    Down(&'a [u8], &'a [u8], usize),
+}
+
+/// How many literals it takes until a run of them is compared at once.
+const FEW: usize = 3;
+
+/// How many literals the bytes begin with that the key goes on with: not always all of them.
+///
+/// The first ones are compared one by one. Where these agree, the run is as a rule a long one.
+#[inline(always)]
+fn common_literals<K: ZeroTrieWithOptions>(bytes: &[u8], key: &[u8]) -> usize
+    ensures { AreCommon K.kind bytes.now key.now result }
+{
+    let most = bytes.len().min(key.len());
+    let mut passed = 0;
+    while passed < most
+        && bytes[passed] < 128
+        && folded::<K>(bytes[passed]) == folded::<K>(key[passed])
+    {
+        passed += 1;
+        if passed == FEW && most >= FEW + 16 {
+            let (_, bytes) = bytes.split_at(FEW);
+            let (_, key) = key.split_at(FEW);
+            return FEW + first_other_in_16(bytes, key).min(16);
+        }
+    }
+    passed
 }
 
 /// Goes behind one node.
@@ -33,14 +61,17 @@ fn descend<'a, K: ZeroTrieWithOptions>(node: Node<'a>, key: &'a [u8]) -> Descent
             if key.is_empty() {
                 Descent::Answer(Some(value))
             } else {
-                Descent::Down(rest, key)
+                Descent::Down(rest, key, 1)
             }
         }
         Node::Literal(edge, rest) => match key.split_first() {
             None => Descent::Answer(None),
             Some((byte, after)) => {
                 if folded::<K>(*byte) == folded::<K>(edge) {
-                    Descent::Down(rest, after)
+                    let more = common_literals::<K>(rest, after);
+                    let (_, rest) = rest.split_at(more);
+                    let (_, after) = after.split_at(more);
+                    Descent::Down(rest, after, 1 + more)
                 } else {
                     Descent::Answer(None)
                 }
@@ -48,13 +79,13 @@ fn descend<'a, K: ZeroTrieWithOptions>(node: Node<'a>, key: &'a [u8]) -> Descent
         },
         Node::Span(run, rest) => match key.strip_prefix(run) {
             None => Descent::Answer(None),
-            Some(after) => Descent::Down(rest, after),
+            Some(after) => Descent::Down(rest, after, 1),
         },
         Node::Branch(branch) => match key.split_first() {
             None => Descent::Answer(None),
             Some((byte, after)) => match branch.follow::<K>(*byte) {
                 None => Descent::Answer(None),
-                Some((_edge, target)) => Descent::Down(target, after),
+                Some((_edge, target)) => Descent::Down(target, after, 1),
             },
         },
     }
@@ -87,12 +118,12 @@ pub fn get_counted<K: ZeroTrieWithOptions>(bytes: &[u8], key: &[u8]) -> (Option<
     let mut key = key;
     let mut count = 0;
     while let Some(node) = first_node::<K>(trie) {
-        count += 1;
         match descend::<K>(node, key) {
-            Descent::Answer(answer) => return (answer, count),
-            Descent::Down(below, after) => {
+            Descent::Answer(answer) => return (answer, count + 1),
+            Descent::Down(below, after, nodes) => {
                 trie = below;
                 key = after;
+                count += nodes;
             }
         }
     }

@@ -1,5 +1,5 @@
 -- What a look-up does at a node.
-use Rattle.std.specs.Prelude.{ℕ, ◌<◌, List, length, Option}
+use Rattle.std.specs.Prelude.{ℕ, ◌+◌, ◌<◌, ◌≤◌, List, length, Option}
 use Rattle.zerotrie_core.specs.Kind.{Kind}
 use Rattle.zerotrie_core.specs.Nodes.{Shape, Begins}
 use Rattle.zerotrie_core.specs.reader.Reading.{AlwaysFinds, AlwaysComes}
@@ -10,11 +10,13 @@ use Rattle.zerotrie_core.specs.declared.reader.Descent.TheVariants.{Answer, Down
 abbrev pub NodeEnds : Kind → Shape → List ℕ → Option ℕ → Type 0
 NodeEnds kind node key answer = (bytes : List ℕ) → Begins kind bytes node → AlwaysFinds kind bytes key answer 1
 
--- it goes on behind the node
-abbrev pub NodeGoes : Kind → Shape → List ℕ → List ℕ → List ℕ → Type 0
-NodeGoes kind node key rest after = (bytes : List ℕ) → Begins kind bytes node → (length rest < length bytes) × AlwaysComes kind bytes key rest after 1
+-- it goes on behind the node, so many nodes further
+abbrev pub NodeGoes : Kind → Shape → List ℕ → List ℕ → List ℕ → ℕ → Type 0
+NodeGoes kind node key rest after count =
+    (bytes : List ℕ) → Begins kind bytes node
+    → (length rest < length bytes) × (length rest + count ≤ length bytes) × AlwaysComes kind bytes key rest after count
 
 -- An answer ends the look-up, and else it goes on in fewer bytes.
 abbrev pub Descends : Kind → Shape → List ℕ → Descent → Type 0
 Descends kind node key (Answer answer) = NodeEnds kind node key answer
-Descends kind node key (Down rest after) = NodeGoes kind node key rest.now after.now
+Descends kind node key (Down rest after count) = NodeGoes kind node key rest.now after.now count

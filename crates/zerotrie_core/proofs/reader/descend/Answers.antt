@@ -4,8 +4,9 @@ use Rattle.std.proofs.lemmas.Bool.{eqb-true, eqb-false}
 use Rattle.std.proofs.lemmas.Bool.Decides.{Decides-eqb}
 use Rattle.std.proofs.lemmas.Slice.Eq.{strip_prefix_is}
 use Rattle.zerotrie_core.specs.Nodes.Shape.{literal, branch}
-use Rattle.zerotrie_core.proofs.NodeLemmas.{literal_shorter, branch_shorter}
-use Rattle.zerotrie_core.proofs.GoingLemmas.{literal_along, literal_past}
+use Rattle.zerotrie_core.proofs.NodeLemmas.{branch_shorter}
+use Rattle.zerotrie_core.proofs.GoingLemmas.{literal_past}
+use Rattle.zerotrie_core.proofs.LiteralLemmas.{literal_run}
 use Rattle.zerotrie_core.proofs.ReaderLemmas.{value_ends, value_goes, literal_ends, span_ends, span_goes, branch_ends, node_ends, node_goes}
 use Rattle.zerotrie_core.proofs.reader.descend.Goals as goal
 
@@ -24,10 +25,9 @@ returns-in-None g c =
 pub returns-then-folded : goal.returns-then-folded
 returns-then-folded g c =
     let kind = g.K.ZeroTrieWithOptions.kind in
-    rw c.in-Literal.is
-    (node_goes kind (literal c.in-Literal.edge c.in-Literal.rest.now) c.in-Some.byte.now c.in-Literal.edge c.args.key.now c.in-Some.after.now c.in-Literal.rest.now c.in-Some.ensures.cases.0
-    (literal_along kind c.in-Literal.edge c.in-Some.byte.now c.in-Literal.rest.now (sym c.folded-in-Some.ensures ∙ sym c.if-folded.true ∙ c.folded.ensures))
-    (literal_shorter kind c.in-Literal.edge c.in-Literal.rest.now))
+    rw (c.in-Literal.is, c.split_at.ensures.back, c.split_at-then-folded.ensures.back)
+    (literal_run kind c.in-Literal.edge c.in-Some.byte.now c.in-Literal.rest.now c.args.key.now c.in-Some.after.now c.common_literals-more.result c.in-Some.ensures.cases.0
+    (sym c.folded-in-Some.ensures ∙ sym c.if-folded.true ∙ c.folded.ensures) c.common_literals-more.ensures)
 
 pub returns-else-folded : goal.returns-else-folded
 returns-else-folded g c =

@@ -22,8 +22,8 @@ pub loop-node-preserved : goal.loop-node-preserved
 loop-node-preserved g c =
     let down = c.in-Down.ensures c.loop-node.trie.now c.in-Some.ensures.some in
     record {
-      bound = omega (arith, down.0);
-      came = comes_more g.K.ZeroTrieWithOptions.kind c.args.bytes.now c.args.key.now c.loop-node.trie.now c.loop-node.key.now c.in-Down.below.now c.in-Down.after.now c.loop-node.count c.loop-node.invariant.came down.1;
+      bound = omega (arith, down.1);
+      came = comes_more g.K.ZeroTrieWithOptions.kind c.args.bytes.now c.args.key.now c.loop-node.trie.now c.loop-node.key.now c.in-Down.below.now c.in-Down.after.now c.loop-node.count c.in-Down.nodes c.loop-node.invariant.came down.2;
     }
 
 ended : (g : _) (c : goal.In_default g) → AlwaysFinds g.K.ZeroTrieWithOptions.kind c.args.bytes.now c.args.key.now None c.loop-node.count

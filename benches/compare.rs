@@ -1,0 +1,145 @@
+//! Times the library beside std's `BTreeMap` and `HashMap`, and beside the original where it was compiled.
+
+mod calls;
+mod sets;
+
+use calls::Kind;
+use sets::{Random, Set};
+use std::collections::{BTreeMap, HashMap};
+use std::hint::black_box;
+use std::time::Instant;
+
+/// How many nanoseconds a round of the work takes for each of so many items, at best of so many rounds. The contestants take
+/// turns, so that what disturbs the machine disturbs all of them.
+fn best(rounds: usize, items: usize, contestants: &mut [(&str, Box<dyn FnMut() -> usize + '_>)]) -> Vec<f64> {
+    let mut times = vec![f64::INFINITY; contestants.len()];
+    for round in 0..rounds + 1 {
+        for (number, (_, work)) in contestants.iter_mut().enumerate() {
+            let start = Instant::now();
+            black_box(work());
+            let taken = start.elapsed().as_nanos() as f64 / items as f64;
+            if round > 0 {
+                times[number] = times[number].min(taken);
+            }
+        }
+    }
+    times
+}
+
+/// A line of the table: our time, and its share of each other's.
+fn print_line(name: &str, names: &[&str], times: &[f64]) {
+    print!("{name:<46} {:>9.1} ns", times[0]);
+    for (other, time) in names.iter().zip(times).skip(1) {
+        print!("   {:.2} of {other}", times[0] / time);
+    }
+    println!();
+}
+
+fn run_line(name: &str, rounds: usize, items: usize, mut contestants: Vec<(&str, Box<dyn FnMut() -> usize + '_>)>) {
+    let times = best(rounds, items, &mut contestants);
+    let names: Vec<&str> = contestants.iter().map(|(name, _)| *name).collect();
+    print_line(name, &names, &times);
+}
+
+/// Asks for each key and adds up what is found.
+fn asked(keys: &[&[u8]], get: impl Fn(&[u8]) -> Option<usize>) -> usize {
+    keys.iter().map(|key| get(key).unwrap_or(1)).fold(0, usize::wrapping_add)
+}
+
+fn look_ups(set: &Set, kind: Kind, rounds: usize) {
+    let bytes = calls::built(kind, 0, &set.keys);
+    let ordered: BTreeMap<&[u8], usize> = pairs(set).collect();
+    let hashed: HashMap<&[u8], usize> = pairs(set).collect();
+    let missing = sets::misses(set);
+    let mut orders: Vec<(&str, Vec<&[u8]>)> = vec![
+        ("hits, in order", set.keys.iter().map(Vec::as_slice).collect()),
+        ("hits, shuffled", set.keys.iter().map(Vec::as_slice).collect()),
+        ("misses", missing.iter().map(Vec::as_slice).collect()),
+    ];
+    Random::new(43).shuffle(&mut orders[1].1);
+    for (what, keys) in &orders {
+        let turns = (20_000 / keys.len()).max(1);
+        let mut contestants: Vec<(&str, Box<dyn FnMut() -> usize + '_>)> = Vec::new();
+        let bytes = bytes.as_slice();
+        contestants.push(("ours", Box::new(move || (0..turns).map(|_| calls::asked(kind, bytes, keys)).sum())));
+        let ordered = &ordered;
+        contestants.push(("BTreeMap", Box::new(move || (0..turns).map(|_| asked(keys, |key| ordered.get(key).copied())).sum())));
+        let hashed = &hashed;
+        contestants.push(("HashMap", Box::new(move || (0..turns).map(|_| asked(keys, |key| hashed.get(key).copied())).sum())));
+        #[cfg(original)]
+        contestants.push(("the crate", Box::new(move || (0..turns).map(|_| calls::original::asked(kind, bytes, keys)).sum())));
+        run_line(&format!("{}, {}, {what}", set.name, kind.name()), rounds, turns * keys.len(), contestants);
+    }
+}
+
+fn pairs(set: &Set) -> impl Iterator<Item = (&[u8], usize)> {
+    set.keys.iter().enumerate().map(|(number, key)| (key.as_slice(), number))
+}
+
+fn builds(set: &Set, kind: Kind, rounds: usize) {
+    let mut shuffled = set.keys.clone();
+    Random::new(47).shuffle(&mut shuffled);
+    for (what, route, keys) in [("sorted", 0, &set.keys), ("shuffled", 1, &shuffled)] {
+        let turns = (5_000 / keys.len()).max(1);
+        let flat = calls::Flat::of(keys);
+        let mut out = vec![0; 64 * flat.bytes() + 64];
+        let mut contestants: Vec<(&str, Box<dyn FnMut() -> usize + '_>)> = Vec::new();
+        contestants.push(("ours", Box::new(move || calls::build_many(kind, route, &flat, turns, &mut out))));
+        let items: Vec<(&[u8], usize)> = keys.iter().enumerate().map(|(number, key)| (key.as_slice(), number)).collect();
+        if route == 0 {
+            let items = items.clone();
+            contestants.push(("BTreeMap", Box::new(move || (0..turns).map(|_| items.iter().copied().collect::<BTreeMap<_, _>>().len()).sum())));
+        }
+        #[cfg(original)]
+        {
+            let ordered: BTreeMap<&[u8], usize> = items.iter().copied().collect();
+            contestants.push(("the crate", Box::new(move || {
+                (0..turns)
+                    .map(|_| match route {
+                        0 => calls::original::built_from_map(kind, &ordered),
+                        _ => calls::original::built_from_items(kind, &items),
+                    })
+                    .sum()
+            })));
+        }
+        run_line(&format!("{}, {}, {what}", set.name, kind.name()), rounds, turns * keys.len(), contestants);
+    }
+}
+
+fn hash_search(count: usize, rounds: usize) {
+    let mut keys: Vec<u8> = (0..=255).collect();
+    Random::new(53).shuffle(&mut keys);
+    keys.truncate(count);
+    let turns = 20;
+    let mut contestants: Vec<(&str, Box<dyn FnMut() -> usize + '_>)> = Vec::new();
+    let keys = keys.as_slice();
+    contestants.push(("ours", Box::new(move || calls::hash_many(keys, turns))));
+    #[cfg(original)]
+    contestants.push(("the crate", Box::new(move || (0..turns).map(|_| calls::original::hash(keys)).sum())));
+    run_line(&format!("perfect hash of {count} keys"), rounds, turns, contestants);
+}
+
+fn main() {
+    let rounds = std::env::args().nth(1).and_then(|word| word.parse().ok()).unwrap_or(9);
+    let wanted = std::env::args().nth(2).unwrap_or_default();
+    let mut last = None;
+    println!("A key: the best of {rounds} rounds, and its share of the others' time.\n\nLook-ups");
+    for set in sets::all().iter().filter(|set| set.name.contains(&wanted)) {
+        for kind in Kind::of(&set.keys) {
+            look_ups(set, kind, rounds);
+        }
+        last = Some(set.name);
+    }
+    println!("\nBuilds");
+    for set in sets::all().iter().filter(|set| set.name.contains(&wanted)) {
+        for kind in Kind::of(&set.keys) {
+            builds(set, kind, rounds);
+        }
+    }
+    if last.is_some() && wanted.is_empty() {
+        println!("\nTables of hashed branches, each");
+        for count in [16, 32, 64, 128, 240, 255] {
+            hash_search(count, rounds);
+        }
+    }
+}

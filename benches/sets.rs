@@ -1,0 +1,170 @@
+//! The sets of keys that are measured, the same in every run.
+
+use std::collections::{BTreeMap, BTreeSet};
+
+/// A set of keys, each with its number in the order of bytes as its value.
+pub struct Set {
+    pub name: &'static str,
+    pub keys: Vec<Vec<u8>>,
+}
+
+/// Numbers that look random and are the same in every run.
+pub struct Random(u64);
+
+impl Random {
+    pub fn new(seed: u64) -> Self {
+        Random(seed)
+    }
+
+    pub fn below(&mut self, limit: usize) -> usize {
+        self.0 ^= self.0 << 13;
+        self.0 ^= self.0 >> 7;
+        self.0 ^= self.0 << 17;
+        ((self.0 >> 11) % limit as u64) as usize
+    }
+
+    fn pick<'a>(&mut self, words: &[&'a str]) -> &'a str {
+        words[self.below(words.len())]
+    }
+
+    pub fn shuffle<T>(&mut self, items: &mut [T]) {
+        for last in (1..items.len()).rev() {
+            items.swap(last, self.below(last + 1));
+        }
+    }
+}
+
+/// So many distinct keys, as they come from `next`.
+fn collected(count: usize, mut next: impl FnMut() -> String) -> Vec<Vec<u8>> {
+    let mut keys = BTreeSet::new();
+    while keys.len() < count {
+        keys.insert(next().into_bytes());
+    }
+    keys.into_iter().collect()
+}
+
+const LANGUAGES: &[&str] = &[
+    "af", "am", "ar", "as", "az", "be", "bg", "bn", "bs", "ca", "cs", "cy", "da", "de", "el", "en",
+    "es", "et", "eu", "fa", "ff", "fi", "fil", "fr", "ga", "gl", "gu", "ha", "he", "hi", "hr", "hu",
+    "hy", "id", "ig", "is", "it", "ja", "ka", "kk", "km", "kn", "ko", "kok", "ky", "lo", "lt", "lv",
+    "mk", "ml", "mn", "mr", "ms", "my", "nb", "ne", "nl", "or", "pa", "pl", "ps", "pt", "ro", "ru",
+    "sd", "si", "sk", "sl", "so", "sq", "sr", "sv", "sw", "ta", "te", "th", "tk", "tr", "uk", "ur",
+    "uz", "vi", "yo", "yrl", "yue", "zh", "zu",
+];
+
+const SCRIPTS: &[&str] = &["Arab", "Cyrl", "Deva", "Guru", "Hans", "Hant", "Latn", "Adlm"];
+
+const REGIONS: &[&str] = &[
+    "AE", "AR", "AT", "AU", "BA", "BE", "BR", "CA", "CH", "CN", "DE", "DZ", "EG", "ES", "FR", "GB",
+    "GH", "HK", "IE", "IN", "IQ", "IR", "IT", "JP", "KE", "KR", "LU", "MA", "MO", "MX", "NG", "NL",
+    "PK", "PT", "RS", "RU", "SA", "SD", "SE", "SG", "TN", "TR", "TW", "UA", "US", "UZ", "VE", "ZA",
+    "001", "150", "419",
+];
+
+fn tags() -> Vec<Vec<u8>> {
+    let mut random = Random::new(11);
+    collected(500, || {
+        let language = random.pick(LANGUAGES);
+        match random.below(8) {
+            0 => language.to_string(),
+            1 => format!("{language}-{}", random.pick(SCRIPTS)),
+            2 => format!("{language}-{}-{}", random.pick(SCRIPTS), random.pick(REGIONS)),
+            _ => format!("{language}-{}", random.pick(REGIONS)),
+        }
+    })
+}
+
+const HEADERS: &[&str] = &[
+    "accept", "accept-charset", "accept-encoding", "accept-language", "accept-ranges",
+    "access-control-allow-credentials", "access-control-allow-headers",
+    "access-control-allow-methods", "access-control-allow-origin",
+    "access-control-expose-headers", "access-control-max-age", "access-control-request-headers",
+    "access-control-request-method", "age", "allow", "alt-svc", "authorization", "cache-control",
+    "connection", "content-disposition", "content-encoding", "content-language",
+    "content-length", "content-location", "content-range", "content-security-policy",
+    "content-security-policy-report-only", "content-type", "cookie", "date", "dnt", "etag",
+    "expect", "expires", "forwarded", "from", "host", "if-match", "if-modified-since",
+    "if-none-match", "if-range", "if-unmodified-since", "keep-alive", "last-modified", "link",
+    "location", "max-forwards", "origin", "pragma", "proxy-authenticate",
+    "proxy-authorization", "public-key-pins", "range", "referer", "referrer-policy", "refresh",
+    "retry-after", "sec-fetch-dest", "sec-fetch-mode", "sec-fetch-site",
+    "sec-websocket-accept", "sec-websocket-extensions", "sec-websocket-key",
+    "sec-websocket-protocol", "sec-websocket-version", "server", "set-cookie",
+    "strict-transport-security", "te", "trailer", "transfer-encoding", "upgrade",
+    "upgrade-insecure-requests", "user-agent", "vary", "via", "warning", "www-authenticate",
+    "x-content-type-options", "x-forwarded-for", "x-frame-options", "x-request-id",
+    "x-xss-protection",
+];
+
+const ONSETS: &[&str] = &[
+    "b", "bl", "c", "ch", "d", "dr", "f", "fl", "g", "gr", "h", "j", "k", "l", "m", "n", "p", "pl",
+    "pr", "qu", "r", "s", "sh", "st", "str", "t", "th", "tr", "v", "w", "y", "",
+];
+const VOWELS: &[&str] = &["a", "e", "i", "o", "u", "ai", "ea", "ee", "io", "ou"];
+const CODAS: &[&str] = &["", "", "b", "ck", "d", "l", "ll", "m", "n", "nd", "ng", "nt", "r", "s", "st", "t"];
+const ENDINGS: &[&str] = &["", "", "", "ed", "er", "ing", "ion", "ly", "ness", "s"];
+
+fn words(seed: u64, count: usize) -> Vec<Vec<u8>> {
+    let mut random = Random::new(seed);
+    collected(count, || {
+        let mut word = String::new();
+        for _ in 0..1 + random.below(3) {
+            word += random.pick(ONSETS);
+            word += random.pick(VOWELS);
+            word += random.pick(CODAS);
+        }
+        word + random.pick(ENDINGS)
+    })
+}
+
+const SYLLABLES: &[&str] = &[
+    "ба", "во", "ге", "ди", "жу", "за", "ки", "ло", "ми", "но", "пра", "ро", "сте", "ты", "фу", "че",
+    "ές", "λό", "γος", "μα", "να", "πο", "ρι", "τα", "år", "bø", "né", "ü", "ße", "ço", "ña", "über",
+];
+
+fn beyond_ascii(count: usize) -> Vec<Vec<u8>> {
+    let mut random = Random::new(23);
+    collected(count, || (0..2 + random.below(4)).map(|_| random.pick(SYLLABLES)).collect())
+}
+
+fn paths() -> Vec<Vec<u8>> {
+    let mut random = Random::new(31);
+    let folders = words(37, 300);
+    collected(1000, || {
+        let mut path = String::from("/usr/share/applications/configuration/");
+        for _ in 0..3 + random.below(4) {
+            path += std::str::from_utf8(&folders[random.below(folders.len())]).unwrap();
+            path += if random.below(3) == 0 { "-resources/" } else { "/" };
+        }
+        path + ["index.html", "settings.json", "main.css", "readme.txt"][random.below(4)]
+    })
+}
+
+/// All sets. Those of other bytes than ASCII are for the hashed kinds alone.
+pub fn all() -> Vec<Set> {
+    let headers = HEADERS.iter().map(|name| name.as_bytes().to_vec()).collect();
+    vec![
+        Set { name: "500 locale tags", keys: tags() },
+        Set { name: "83 header names", keys: headers },
+        Set { name: "5,000 words", keys: words(17, 5_000) },
+        Set { name: "1,000 long paths", keys: paths() },
+        Set { name: "200,000 words", keys: words(19, 200_000) },
+        Set { name: "2,000 UTF-8 words", keys: beyond_ascii(2_000) },
+    ]
+}
+
+/// Keys that are not in the set: each is a key of it with one byte changed.
+pub fn misses(set: &Set) -> Vec<Vec<u8>> {
+    let mut random = Random::new(41);
+    let held: BTreeMap<&[u8], ()> = set.keys.iter().map(|key| (key.as_slice(), ())).collect();
+    let mut missing = Vec::new();
+    while missing.len() < set.keys.len() {
+        let mut key = set.keys[random.below(set.keys.len())].clone();
+        let place = random.below(key.len());
+        key[place] = b'a' + random.below(26) as u8;
+        if !held.contains_key(key.as_slice()) {
+            missing.push(key);
+        }
+    }
+    missing
+}

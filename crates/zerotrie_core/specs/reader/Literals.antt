@@ -1,0 +1,10 @@
+-- A run of literals that a key goes on with.
+use Rattle.std.specs.Prelude.{◌≡◌, ℕ, ◌<◌, ◌≤◌, List, length, slice_index}
+use Rattle.zerotrie_core.specs.Kind.{Kind, fold_byte}
+
+-- the first n bytes are literals, and each is the byte of the key to the kind
+pub record AreCommon (kind : Kind) (bytes key : List ℕ) (n : ℕ) : Type 0 where
+  pub within : n ≤ length bytes
+  pub short : n ≤ length key
+  pub literal : (k : ℕ) → k < n → slice_index bytes k < 128
+  pub same : (k : ℕ) → k < n → fold_byte kind (slice_index bytes k) ≡ fold_byte kind (slice_index key k)
