@@ -3,11 +3,12 @@
 //! A listing goes over the nodes in the order in which they stand. It keeps what stands in front of the rest,
 //! and the branches that still have targets to come; it never calls itself, so texts of any depth are listed.
 
-ghost use Rattle.std.specs.Prelude.{◌≡◌, ℕ, ◌≤◌, ◌<◌, List, length, reverse, IfOk, IfSome, IfNone, false, []};
+ghost use Rattle.std.specs.Prelude.{◌≡◌, ℕ, ◌≤◌, ◌<◌, List, length, reverse, IfOk, IfSome, IfNone, true, false, []};
 ghost use Rattle.std.specs.Iterator.{at_most};
-ghost use Rattle.zerotrie_core.specs.Kind.{kind_with};
+ghost use Rattle.zerotrie_core.specs.Kind.{Kind, kind_with};
 ghost use Rattle.zerotrie_core.specs.Maps.{Pairs};
 ghost use Rattle.zerotrie_core.specs.Texts.{Lists};
+ghost use Rattle.zerotrie_core.specs.listing.Opened.{Nested, pairs_left, pairs_open, work_open, work_left, IsFound};
 ghost use Rattle.zerotrie_core.specs.declared.listing.ListError.TheVariants.{OutOfMemory};
 
 use crate::branch::Branch;
@@ -75,7 +76,7 @@ pub struct ZeroTrieIterator<'a> {
 }
 
 impl<'a> Model for ZeroTrieIterator<'a> {
-    ghost use Rattle.std.specs.Prelude.{reverse, length};
+    ghost use Rattle.std.specs.Prelude.{◌≡◌, false, reverse, length};
     ghost use Rattle.zerotrie_core.specs.Kind.{kind_with};
     ghost use Rattle.zerotrie_core.specs.Listings.{Left};
     ghost use Rattle.zerotrie_core.specs.listing.Opened.{left_in, Nested};
@@ -84,7 +85,7 @@ impl<'a> Model for ZeroTrieIterator<'a> {
 
     ghost view = { λ s. left_in s.ended (kind_with s.options) s.prefix.items s.rest.now s.branches.items };
 
-    ghost invariant = { λ s. Nested (length s.prefix.items) (reverse s.branches.items) };
+    ghost invariant = { λ s. s.ended ≡ false → Nested (length s.prefix.items) (reverse s.branches.items) };
 }
 
 impl<'a> ZeroTrieIterator<'a> {
@@ -106,6 +107,120 @@ impl<'a> ZeroTrieIterator<'a> {
     }
 }
 
+/// Goes into the next target of the innermost open branch, and tells whether there was one.
+///
+/// Where its offsets fall, nothing more of the branch is listed. So no byte is gone over twice.
+fn next_target<'a>(
+    rest: &mut &'a [u8],
+    prefix: &mut Vec<u8>,
+    branches: &mut Vec<OpenBranch<'a>>,
+) -> Result<bool, AllocError>
+    requires nested { Nested (length prefix.old.items) (reverse branches.old.items) }
+    ensures nested { IfOk result (λ _. Nested (length prefix.new.items) (reverse branches.new.items)) }
+    ensures same { (kind : Kind) → IfOk result (λ _.
+        pairs_left kind prefix.new.items rest.new.now branches.new.items
+        ≡ pairs_open kind prefix.old.items (reverse branches.old.items)) }
+    ensures none { IfOk result (λ more. more ≡ false → (kind : Kind)
+        → pairs_left kind prefix.new.items rest.new.now branches.new.items ≡ []) }
+    ensures less { IfOk result (λ more. more ≡ true
+        → work_left rest.new.now branches.new.items < work_open (reverse branches.old.items)) }
+{
+    *rest = &[];
+    let Some(top) = branches.pop() else {
+        return Ok(false);
+    };
+    prefix.truncate(top.depth);
+    let Some(target) = top.branch.target_at(top.next) else {
+        return Ok(true);
+    };
+    prefix.push(top.branch.edge_at(top.next))?;
+    let next = top.next + 1;
+    if next < top.branch.edges {
+        branches.push(OpenBranch {
+            branch: top.branch,
+            next,
+            depth: top.depth,
+        })?;
+    }
+    *rest = target;
+    Ok(true)
+}
+
+/// Goes on to the next value, and answers it, or `None` at the end. What stands in front of it is its key.
+fn next_value<'a, K: ZeroTrieWithOptions>(
+    rest: &mut &'a [u8],
+    prefix: &mut Vec<u8>,
+    branches: &mut Vec<OpenBranch<'a>>,
+) -> Result<Option<usize>, AllocError>
+    requires nested { Nested (length prefix.old.items) (reverse branches.old.items) }
+    ensures nested { IfOk result (λ _. Nested (length prefix.new.items) (reverse branches.new.items)) }
+    ensures found { IfOk result (IsFound
+        (pairs_left K.kind prefix.old.items rest.old.now branches.old.items) prefix.new.items
+        (pairs_left K.kind prefix.new.items rest.new.now branches.new.items)) }
+{
+    loop {
+        match first_node::<K>(*rest) {
+            None => {
+                if !next_target(rest, prefix, branches)? {
+                    return Ok(None);
+                }
+            }
+            Some(Node::Value(value, after)) => {
+                *rest = after;
+                return Ok(Some(value));
+            }
+            Some(Node::Literal(byte, after)) => {
+                prefix.push(byte)?;
+                *rest = after;
+            }
+            Some(Node::Span(run, after)) => {
+                prefix.extend_from_slice(run)?;
+                *rest = after;
+            }
+            Some(Node::Branch(branch)) => {
+                let depth = prefix.len();
+                branches.push(OpenBranch {
+                    branch,
+                    next: 0,
+                    depth,
+                })?;
+                *rest = &[];
+            }
+        }
+    }
+}
+
+/// Goes on to the next value, by the kind that the options are of.
+fn next_value_of<'a>(
+    options: ZeroTrieBuilderOptions,
+    rest: &mut &'a [u8],
+    prefix: &mut Vec<u8>,
+    branches: &mut Vec<OpenBranch<'a>>,
+) -> Result<Option<usize>, AllocError>
+    requires nested { Nested (length prefix.old.items) (reverse branches.old.items) }
+    ensures nested { IfOk result (λ _. Nested (length prefix.new.items) (reverse branches.new.items)) }
+    ensures found { IfOk result (IsFound
+        (pairs_left (kind_with options) prefix.old.items rest.old.now branches.old.items) prefix.new.items
+        (pairs_left (kind_with options) prefix.new.items rest.new.now branches.new.items)) }
+{
+    if options.ignore_case() {
+        next_value::<Ignore>(rest, prefix, branches)
+    } else if options.extended() {
+        next_value::<Ext>(rest, prefix, branches)
+    } else if options.use_phf() {
+        next_value::<Hash>(rest, prefix, branches)
+    } else {
+        next_value::<Simple>(rest, prefix, branches)
+    }
+}
+
+/// The key that stands in the prefix.
+fn key_of(prefix: &Vec<u8>) -> Result<Vec<u8>, AllocError>
+    ensures { IfOk result (λ key. key.items ≡ prefix.now.items) }
+{
+    Vec::from_slice(*prefix.allocator(), prefix.as_slice())
+}
+
 impl<'a> Iterator for ZeroTrieIterator<'a> {
     type Item = Result<(Vec<u8>, usize), ListError>;
 
@@ -116,7 +231,46 @@ impl<'a> Iterator for ZeroTrieIterator<'a> {
     ghost remaining = { λ s. at_most (turns_left s) };
 
     fn next(&mut self) -> Option<Result<(Vec<u8>, usize), ListError>> {
-        self.ended = true;
-        None
+        if self.ended {
+            return None;
+        }
+        let found = next_value_of(
+            self.options,
+            &mut self.rest,
+            &mut self.prefix,
+            &mut self.branches,
+        );
+        let Ok(found) = found else {
+            self.ended = true;
+            return Some(Err(ListError::OutOfMemory));
+        };
+        let Some(value) = found else {
+            self.ended = true;
+            return None;
+        };
+        let Ok(key) = key_of(&self.prefix) else {
+            self.ended = true;
+            return Some(Err(ListError::OutOfMemory));
+        };
+        Some(Ok((key, value)))
+    }
+}
+
+#[cfg(test)]
+mod tests {
+    use super::*;
+    use std::test::Fail;
+
+    #[test]
+    fn lists(rt: HostRuntime) -> Result<(), Fail> {
+        let bytes = [
+            0x80, 0xC2, 0x61, 0x62, 0x0D, 0xC3, 0x78, 0x79, 0x7A, 0x03, 0x05, 0x62, 0x90, 0x54, 0x63, 0x82, 0x64, 0x83,
+            0x78, 0x65, 0x84, 0xC2, 0x66, 0x69, 0x07, 0xC2, 0x67, 0x68, 0x02, 0x93, 0x64, 0x86, 0x87, 0x6B, 0x6C, 0x88,
+        ];
+        for item in ZeroTrieIterator::new::<Simple>(rt.alloc(), &bytes) {
+            let (key, value) = item?;
+            println!(rt; "{key:?} {value}")?;
+        }
+        Ok(())
     }
 }

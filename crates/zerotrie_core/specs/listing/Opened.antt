@@ -1,6 +1,6 @@
 -- The state of a listing: the text that it stands in, and the branches that are open.
 use Rattle.std.proofs.Common.{zero, suc}
-use Rattle.std.specs.Prelude.{ℕ, ◌+◌, ◌-◌, ◌<◌, ◌≤◌, List, [], ◌∷◌, ◌++◌, length, take, drop, reverse, Bool, if◌then◌else◌}
+use Rattle.std.specs.Prelude.{◌≡◌, ℕ, Option, Some, None, ◌+◌, ◌-◌, ◌<◌, ◌≤◌, List, [], ◌∷◌, ◌++◌, length, take, drop, reverse, Bool, if◌then◌else◌}
 use Rattle.zerotrie_core.specs.Kind.{Kind}
 use Rattle.zerotrie_core.specs.Maps.{Pairs, with_run}
 use Rattle.zerotrie_core.specs.Nodes.{targets_behind, begin_of}
@@ -37,3 +37,8 @@ work_open (o ∷ branches) = length (targets_behind o.branch.edges o.branch.widt
 
 abbrev pub work_left : List ℕ → List OpenBranch → ℕ
 work_left rest branches = length rest + work_open (reverse branches)
+
+-- What going on to the next value comes to: the first pair with the key in hand, or the end.
+abbrev pub IsFound : Pairs → List ℕ → Pairs → Option ℕ → Type 0
+IsFound before key after None = before ≡ []
+IsFound before key after (Some v) = before ≡ (key, v) ∷ after
