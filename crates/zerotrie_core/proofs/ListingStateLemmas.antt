@@ -1,0 +1,97 @@
+-- What is left of a listing, as it goes from node to node.
+use Rattle.std.proofs.Common.{◌≡◌, ℕ, zero, suc, ◌+◌, ◌-◌, ◌*◌, ◌<◌, ◌≤◌, List, [], ◌∷◌, ◌++◌, length, refl, sym, ◌∙◌, ap, subst, arith, Option, Some, None, Bool, true, false, get_or, take, drop, reverse, inl, inr, ◌⊎◌, length-append, append_assoc}
+use Rattle.std.specs.Prelude.{slice_index, if◌then◌else◌, option_to_list}
+use Rattle.std.specs.Borrow.{Bor}
+use Rattle.std.proofs.lemmas.List.{append-nil, map-append, reverse-append, take-append-le, take_all, length-take-le}
+use Rattle.std.proofs.lemmas.Bool.{cases_lt}
+use Rattle.zerotrie_core.specs.Kind.{Kind}
+use Rattle.zerotrie_core.specs.Maps.{Pairs, with_front, with_run}
+use Rattle.zerotrie_core.specs.Nodes.{Shape, Begins, targets_behind, begin_of, end_of, IsTargetResult}
+use Rattle.zerotrie_core.specs.Nodes as shapes
+use Rattle.zerotrie_core.specs.listing.Listed.{listed, of_node, of_targets, node_of, is_in_order, target_of}
+use Rattle.zerotrie_core.specs.listing.Opened.{pairs_behind, pairs_open, pairs_left, Nested, work_open, work_left}
+use Rattle.zerotrie_core.specs.declared.listing.OpenBranch.{OpenBranch}
+use Rattle.zerotrie_core.specs.declared.branch.Branch as declared
+use Rattle.zerotrie_core.proofs.SpanLemmas.{with_run-none}
+use Rattle.zerotrie_core.proofs.ListingLemmas.{listed_node, listed_behind, next_begin, order_is, is_order}
+use Rattle.zerotrie_core.proofs.NodeOfLemmas.{by_test}
+
+-- at the start everything is left
+pub fresh_left : (kind : Kind) (bytes : List ℕ) → pairs_left kind [] bytes [] ≡ listed kind bytes
+fresh_left kind bytes = append-nil (with_run [] (listed kind bytes)) ∙ with_run-none (listed kind bytes)
+
+-- runs in front, one behind another
+pub run_run : (front run : List ℕ) (pairs : Pairs) → with_run front (with_run run pairs) ≡ with_run (front ++ run) pairs
+run_run front run [] = refl
+run_run front run (e ∷ pairs) = ap (λ k. (k, e.1) ∷ with_run front (with_run run pairs)) (sym (append_assoc front run e.0)) ∙ ap (λ ps. ((front ++ run) ++ e.0, e.1) ∷ ps) (run_run front run pairs)
+
+pub run_front : (front : List ℕ) (b : ℕ) (pairs : Pairs) → with_run front (with_front b pairs) ≡ with_run (front ++ b ∷ []) pairs
+run_front front b pairs = ap (with_run front) (sym (one_byte b pairs)) ∙ run_run front (b ∷ []) pairs
+  where
+    one_byte : (b : ℕ) (pairs : Pairs) → with_run (b ∷ []) pairs ≡ with_front b pairs
+    one_byte b [] = refl
+    one_byte b (e ∷ pairs) = ap (λ ps. (b ∷ e.0, e.1) ∷ ps) (one_byte b pairs)
+
+pub run_append : (front : List ℕ) (xs ys : Pairs) → with_run front (xs ++ ys) ≡ with_run front xs ++ with_run front ys
+run_append front [] ys = refl
+run_append front (e ∷ xs) ys = ap (λ ps. (front ++ e.0, e.1) ∷ ps) (run_append front xs ys)
+
+-- what stands behind the beginnings that open branches stand behind does not matter to them
+pub open_longer : (kind : Kind) (prefix more : List ℕ) (branches : List OpenBranch) → Nested (length prefix) branches → pairs_open kind (prefix ++ more) branches ≡ pairs_open kind prefix branches
+open_longer kind prefix more [] nested = refl
+open_longer kind prefix more (o ∷ branches) nested =
+    ap (λ front. with_run front (pairs_behind kind o) ++ pairs_open kind front branches) (take-append-le o.depth prefix more nested.0)
+
+pub nested_longer : (d e : ℕ) (branches : List OpenBranch) → d ≤ e → Nested d branches → Nested e branches
+nested_longer d e [] h nested = tt
+nested_longer d e (o ∷ branches) h nested = let low = nested.0 in (omega arith, nested.1, nested.2)
+
+pub at_value : (kind : Kind) (prefix bytes rest : List ℕ) (v : ℕ) (branches : List OpenBranch) → Begins kind bytes (shapes.Shape.value v rest)
+    → pairs_left kind prefix bytes branches ≡ (prefix, v) ∷ pairs_left kind prefix rest branches
+at_value kind prefix bytes rest v branches b =
+    ap (λ ps. with_run prefix ps ++ pairs_open kind prefix (reverse branches)) (listed_behind kind bytes (shapes.Shape.value v rest) b)
+    ∙ ap (λ k. (k, v) ∷ pairs_left kind prefix rest branches) (append-nil prefix)
+
+-- a run goes into the prefix
+at_run : (kind : Kind) (prefix run rest : List ℕ) (branches : List OpenBranch) → Nested (length prefix) (reverse branches)
+    → with_run prefix (with_run run (listed kind rest)) ++ pairs_open kind prefix (reverse branches) ≡ pairs_left kind (prefix ++ run) rest branches
+at_run kind prefix run rest branches nested =
+    ap (λ ps. ps ++ pairs_open kind prefix (reverse branches)) (run_run prefix run (listed kind rest))
+    ∙ ap (λ ps. with_run (prefix ++ run) (listed kind rest) ++ ps) (sym (open_longer kind prefix run (reverse branches) nested))
+
+pub at_span : (kind : Kind) (prefix bytes run rest : List ℕ) (branches : List OpenBranch) → Nested (length prefix) (reverse branches) → Begins kind bytes (shapes.Shape.span run rest)
+    → pairs_left kind prefix bytes branches ≡ pairs_left kind (prefix ++ run) rest branches
+at_span kind prefix bytes run rest branches nested b =
+    ap (λ ps. with_run prefix ps ++ pairs_open kind prefix (reverse branches)) (listed_behind kind bytes (shapes.Shape.span run rest) b) ∙ at_run kind prefix run rest branches nested
+
+pub at_literal : (kind : Kind) (prefix bytes rest : List ℕ) (c : ℕ) (branches : List OpenBranch) → Nested (length prefix) (reverse branches) → Begins kind bytes (shapes.Shape.literal c rest)
+    → pairs_left kind prefix bytes branches ≡ pairs_left kind (prefix ++ c ∷ []) rest branches
+at_literal kind prefix bytes rest c branches nested b =
+    ap (λ ps. with_run prefix ps ++ pairs_open kind prefix (reverse branches)) (listed_behind kind bytes (shapes.Shape.literal c rest) b)
+    ∙ ap (λ ps. ps ++ pairs_open kind prefix (reverse branches)) (run_front prefix c (listed kind rest))
+    ∙ ap (λ ps. with_run (prefix ++ c ∷ []) (listed kind rest) ++ ps) (sym (open_longer kind prefix (c ∷ []) (reverse branches) nested))
+
+pub listed_none : (kind : Kind) → listed kind [] ≡ []
+listed_none kind = listed_node kind []
+
+pub at_end : (kind : Kind) (prefix bytes : List ℕ) (branches : List OpenBranch) → node_of kind bytes ≡ None → pairs_left kind prefix bytes branches ≡ pairs_open kind prefix (reverse branches)
+at_end kind prefix bytes branches e = ap (λ ps. with_run prefix ps ++ pairs_open kind prefix (reverse branches)) (listed_node kind bytes ∙ ap (of_node (listed kind)) e)
+
+pub reverse_push : (branches : List OpenBranch) (o : OpenBranch) → reverse (branches ++ o ∷ []) ≡ o ∷ reverse branches
+reverse_push branches o = reverse-append branches (o ∷ [])
+
+-- a branch that begins is opened
+pub at_branch : (kind : Kind) (prefix bytes : List ℕ) (n w : ℕ) (table behind : List ℕ) (branches : List OpenBranch) (o : OpenBranch) → Begins kind bytes (shapes.Shape.branch n w table behind)
+    → o.branch.edges ≡ n → o.branch.width ≡ w → o.branch.behind.now ≡ behind → o.next ≡ 0 → o.depth ≡ length prefix
+    → pairs_left kind prefix bytes branches ≡ pairs_left kind prefix [] (branches ++ o ∷ [])
+at_branch kind prefix bytes n w table behind branches o b edges width same next depth =
+    let own : pairs_behind kind o ≡ of_targets (listed kind) n w behind n = rw (edges, width, same, next) (ap (of_targets (listed kind) n w behind) (all_left n)) in
+    let front : take o.depth prefix ≡ prefix = take_all o.depth prefix (omega arith) in
+    ap (λ ps. with_run prefix ps ++ pairs_open kind prefix (reverse branches)) (listed_behind kind bytes (shapes.Shape.branch n w table behind) b)
+    ∙ ap (λ ps. with_run prefix ps ++ pairs_open kind prefix (reverse branches)) (sym own)
+    ∙ ap (λ front. with_run front (pairs_behind kind o) ++ pairs_open kind front (reverse branches)) (sym front)
+    ∙ ap (pairs_open kind prefix) (sym (reverse_push branches o))
+    ∙ ap (λ ps. with_run prefix ps ++ pairs_open kind prefix (reverse (branches ++ o ∷ []))) (sym (listed_none kind))
+  where
+    all_left : (n : ℕ) → n - 0 ≡ n
+    all_left n = omega arith
