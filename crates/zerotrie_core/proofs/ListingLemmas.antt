@@ -67,8 +67,11 @@ listed_node kind (b ∷ bytes) =
     nodes_agree (listed_to (length bytes) kind) (λ x. listed_to (length x) kind x) (suc (length bytes)) (node_of kind (b ∷ bytes)) (node_within kind (b ∷ bytes))
     (λ x l. enough (length bytes) (length x) kind x (omega arith) (omega arith))
 
+pub listed_read : (kind : Kind) (bytes : List ℕ) (s : Shape) → node_of kind bytes ≡ Some s → listed kind bytes ≡ of_node (listed kind) (Some s)
+listed_read kind bytes s e = listed_node kind bytes ∙ ap (of_node (listed kind)) e
+
 pub listed_behind : (kind : Kind) (bytes : List ℕ) (s : Shape) → Begins kind bytes s → listed kind bytes ≡ of_node (listed kind) (Some s)
-listed_behind kind bytes s b = listed_node kind bytes ∙ ap (of_node (listed kind)) (node_begun kind bytes s b)
+listed_behind kind bytes s b = listed_read kind bytes s (node_begun kind bytes s b)
 
 -- a target begins where the one before it ends
 pub next_begin : (n w : ℕ) (behind : List ℕ) (i : ℕ) → i + 1 < n → begin_of n w behind (suc i) ≡ end_of n w behind i

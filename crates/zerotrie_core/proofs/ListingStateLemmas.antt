@@ -13,8 +13,8 @@ use Rattle.zerotrie_core.specs.listing.Opened.{pairs_behind, pairs_open, pairs_l
 use Rattle.zerotrie_core.specs.declared.listing.OpenBranch.{OpenBranch}
 use Rattle.zerotrie_core.specs.declared.branch.Branch as declared
 use Rattle.zerotrie_core.proofs.SpanLemmas.{with_run-none}
-use Rattle.zerotrie_core.proofs.ListingLemmas.{listed_node, listed_behind, next_begin, order_is, is_order}
-use Rattle.zerotrie_core.proofs.NodeOfLemmas.{by_test}
+use Rattle.zerotrie_core.proofs.ListingLemmas.{listed_node, listed_read, next_begin, order_is, is_order}
+use Rattle.zerotrie_core.proofs.NodeOfLemmas.{by_test, InSome, Within, node_within}
 
 -- at the start everything is left
 pub fresh_left : (kind : Kind) (bytes : List ℕ) → pairs_left kind [] bytes [] ≡ listed kind bytes
@@ -46,10 +46,10 @@ pub nested_longer : (d e : ℕ) (branches : List OpenBranch) → d ≤ e → Nes
 nested_longer d e [] h nested = tt
 nested_longer d e (o ∷ branches) h nested = let low = nested.0 in (omega arith, nested.1, nested.2)
 
-pub at_value : (kind : Kind) (prefix bytes rest : List ℕ) (v : ℕ) (branches : List OpenBranch) → Begins kind bytes (shapes.Shape.value v rest)
+pub at_value : (kind : Kind) (prefix bytes rest : List ℕ) (v : ℕ) (branches : List OpenBranch) → node_of kind bytes ≡ Some (shapes.Shape.value v rest)
     → pairs_left kind prefix bytes branches ≡ (prefix, v) ∷ pairs_left kind prefix rest branches
 at_value kind prefix bytes rest v branches b =
-    ap (λ ps. with_run prefix ps ++ pairs_open kind prefix (reverse branches)) (listed_behind kind bytes (shapes.Shape.value v rest) b)
+    ap (λ ps. with_run prefix ps ++ pairs_open kind prefix (reverse branches)) (listed_read kind bytes _ b)
     ∙ ap (λ k. (k, v) ∷ pairs_left kind prefix rest branches) (append-nil prefix)
 
 -- a run goes into the prefix
@@ -59,15 +59,15 @@ at_run kind prefix run rest branches nested =
     ap (λ ps. ps ++ pairs_open kind prefix (reverse branches)) (run_run prefix run (listed kind rest))
     ∙ ap (λ ps. with_run (prefix ++ run) (listed kind rest) ++ ps) (sym (open_longer kind prefix run (reverse branches) nested))
 
-pub at_span : (kind : Kind) (prefix bytes run rest : List ℕ) (branches : List OpenBranch) → Nested (length prefix) (reverse branches) → Begins kind bytes (shapes.Shape.span run rest)
+pub at_span : (kind : Kind) (prefix bytes run rest : List ℕ) (branches : List OpenBranch) → Nested (length prefix) (reverse branches) → node_of kind bytes ≡ Some (shapes.Shape.span run rest)
     → pairs_left kind prefix bytes branches ≡ pairs_left kind (prefix ++ run) rest branches
 at_span kind prefix bytes run rest branches nested b =
-    ap (λ ps. with_run prefix ps ++ pairs_open kind prefix (reverse branches)) (listed_behind kind bytes (shapes.Shape.span run rest) b) ∙ at_run kind prefix run rest branches nested
+    ap (λ ps. with_run prefix ps ++ pairs_open kind prefix (reverse branches)) (listed_read kind bytes _ b) ∙ at_run kind prefix run rest branches nested
 
-pub at_literal : (kind : Kind) (prefix bytes rest : List ℕ) (c : ℕ) (branches : List OpenBranch) → Nested (length prefix) (reverse branches) → Begins kind bytes (shapes.Shape.literal c rest)
+pub at_literal : (kind : Kind) (prefix bytes rest : List ℕ) (c : ℕ) (branches : List OpenBranch) → Nested (length prefix) (reverse branches) → node_of kind bytes ≡ Some (shapes.Shape.literal c rest)
     → pairs_left kind prefix bytes branches ≡ pairs_left kind (prefix ++ c ∷ []) rest branches
 at_literal kind prefix bytes rest c branches nested b =
-    ap (λ ps. with_run prefix ps ++ pairs_open kind prefix (reverse branches)) (listed_behind kind bytes (shapes.Shape.literal c rest) b)
+    ap (λ ps. with_run prefix ps ++ pairs_open kind prefix (reverse branches)) (listed_read kind bytes _ b)
     ∙ ap (λ ps. ps ++ pairs_open kind prefix (reverse branches)) (run_front prefix c (listed kind rest))
     ∙ ap (λ ps. with_run (prefix ++ c ∷ []) (listed kind rest) ++ ps) (sym (open_longer kind prefix (c ∷ []) (reverse branches) nested))
 
@@ -84,13 +84,13 @@ pub reverse_push : (branches : List OpenBranch) (o : OpenBranch) → reverse (br
 reverse_push branches o = reverse-append branches (o ∷ [])
 
 -- a branch that begins is opened
-pub at_branch : (kind : Kind) (prefix bytes : List ℕ) (n w : ℕ) (table behind : List ℕ) (branches : List OpenBranch) (o : OpenBranch) → Begins kind bytes (shapes.Shape.branch n w table behind)
+pub at_branch : (kind : Kind) (prefix bytes : List ℕ) (n w : ℕ) (table behind : List ℕ) (branches : List OpenBranch) (o : OpenBranch) → node_of kind bytes ≡ Some (shapes.Shape.branch n w table behind)
     → o.branch.edges ≡ n → o.branch.width ≡ w → o.branch.behind.now ≡ behind → o.next ≡ 0 → o.depth ≡ length prefix
     → pairs_left kind prefix bytes branches ≡ pairs_left kind prefix [] (branches ++ o ∷ [])
 at_branch kind prefix bytes n w table behind branches o b edges width same next depth =
     let own : pairs_behind kind o ≡ of_targets (listed kind) n w behind n = rw (edges, width, same, next) (ap (of_targets (listed kind) n w behind) (all_left n)) in
     let front : take o.depth prefix ≡ prefix = take_all o.depth prefix (omega arith) in
-    ap (λ ps. with_run prefix ps ++ pairs_open kind prefix (reverse branches)) (listed_behind kind bytes (shapes.Shape.branch n w table behind) b)
+    ap (λ ps. with_run prefix ps ++ pairs_open kind prefix (reverse branches)) (listed_read kind bytes _ b)
     ∙ ap (λ ps. with_run prefix ps ++ pairs_open kind prefix (reverse branches)) (sym own)
     ∙ ap (λ front. with_run front (pairs_behind kind o) ++ pairs_open kind front (reverse branches)) (sym front)
     ∙ ap (pairs_open kind prefix) (sym (reverse_push branches o))
@@ -203,3 +203,23 @@ module _ (kind : Kind) (prefix : List ℕ) (before after : List OpenBranch) (o :
       ∙ ap (λ ps. with_run (front ++ edge ∷ []) (listed kind target) ++ (with_run front ps ++ pairs_open kind front (reverse after))) (sym own)
       ∙ ap (λ fs. with_run (front ++ edge ∷ []) (listed kind target) ++ (with_run fs (pairs_behind kind p) ++ pairs_open kind fs (reverse after))) (sym same)
       ∙ ap (λ ps. with_run (front ++ edge ∷ []) (listed kind target) ++ ps) (sym (at_top kind (front ++ edge ∷ []) (after ++ p ∷ []) after p refl)))
+
+-- what stands behind a node that was read is shorter
+pub read_shorter : (kind : Kind) (bytes : List ℕ) (s : Shape) → node_of kind bytes ≡ Some s → Within (length bytes) s
+read_shorter kind bytes s e = subst (InSome (Within (length bytes))) e (node_within kind bytes)
+
+-- a branch that was opened is to be gone over in place of its bytes
+pub branch_less : (kind : Kind) (bytes : List ℕ) (n w : ℕ) (table behind : List ℕ) (branches : List OpenBranch) (o : OpenBranch) → node_of kind bytes ≡ Some (shapes.Shape.branch n w table behind)
+    → o.branch.edges ≡ n → o.branch.width ≡ w → o.branch.behind.now ≡ behind → o.next ≡ 0 → work_left [] (branches ++ o ∷ []) < work_left bytes branches
+branch_less kind bytes n w table behind branches o e edges width same next =
+    let short = read_shorter kind bytes (shapes.Shape.branch n w table behind) e in
+    let own : work_open (o ∷ reverse branches) ≡ length (targets_behind n w behind) + n + 1 + work_open (reverse branches) = rw (edges, width, same, next) (omega arith) in
+    let all : work_open (reverse (branches ++ o ∷ [])) ≡ work_open (o ∷ reverse branches) = ap work_open (reverse_push branches o) in
+    omega arith
+
+pub nested_push : (depth : ℕ) (branches : List OpenBranch) (o : OpenBranch) → o.depth ≡ depth → o.next < o.branch.edges → Nested depth (reverse branches) → Nested depth (reverse (branches ++ o ∷ []))
+nested_push depth branches o same inside nested =
+    subst (Nested depth) (sym (reverse_push branches o)) (omega arith, inside, subst (λ d. Nested d (reverse branches)) (sym same) nested)
+
+pub nested_more : (prefix more : List ℕ) (branches : List OpenBranch) → Nested (length prefix) branches → Nested (length (prefix ++ more)) branches
+nested_more prefix more branches nested = nested_longer (length prefix) (length (prefix ++ more)) branches (let n = length-append prefix more in omega arith) nested
