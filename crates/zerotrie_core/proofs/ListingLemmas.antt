@@ -1,8 +1,8 @@
 -- What bytes list, by the node that they begin with.
-use Rattle.std.proofs.Common.{◌≡◌, ℕ, zero, suc, ◌+◌, ◌-◌, ◌*◌, ◌<◌, ◌≤◌, List, [], ◌∷◌, ◌++◌, length, refl, sym, ◌∙◌, ap, subst, arith, Option, Some, None, Bool, true, false, get_or, take, drop, inl, inr, length-append}
-use Rattle.std.specs.Prelude.{◌&&◌, nat_le, slice_index, if◌then◌else◌}
+use Rattle.std.proofs.Common.{◌≡◌, ℕ, zero, suc, ◌+◌, ◌-◌, ◌<◌, ◌≤◌, List, [], ◌∷◌, ◌++◌, length, refl, sym, ◌∙◌, ap, subst, arith, Option, Some, None, Bool, true, false, get_or, drop, length-append}
+use Rattle.std.specs.Prelude.{◌&&◌, slice_index, if◌then◌else◌}
 use Rattle.std.proofs.lemmas.List.{length-take, length-drop}
-use Rattle.std.proofs.lemmas.Bool.{le-leb, leb-true, eq-eqb, ne_eqb, cases_eq}
+use Rattle.std.proofs.lemmas.Bool.{le-leb, leb-true, ne_eqb}
 use Rattle.zerotrie_core.specs.Kind.{Kind}
 use Rattle.zerotrie_core.specs.Maps.{Pairs, with_front, with_run}
 use Rattle.zerotrie_core.specs.Texts.{Lists, ListEach}
@@ -12,7 +12,7 @@ use Rattle.zerotrie_core.specs.Nodes.{Shape, Begins, targets_behind, begin_of, e
 use Rattle.zerotrie_core.specs.Nodes as shapes
 use Rattle.zerotrie_core.specs.listing.Listed.{listed, listed_to, of_node, of_targets, node_of, is_in_order, target_of}
 use Rattle.zerotrie_core.proofs.NodeOfLemmas.{node_begun, node_within, InSome, Within, by_test}
-use Rattle.zerotrie_core.proofs.BranchLemmas.{HasTargets, target_between, in_order}
+use Rattle.zerotrie_core.proofs.BranchLemmas.{target_between, in_order}
 use Rattle.zerotrie_core.proofs.OpenLemmas.{is_begun, is_held, held_edge}
 
 length-target : (n w : ℕ) (behind : List ℕ) (i : ℕ) → length (target_of n w behind i) ≤ length (targets_behind n w behind)

@@ -1,9 +1,8 @@
 -- What is left of a listing, as it goes from node to node.
-use Rattle.std.proofs.Common.{◌≡◌, ℕ, zero, suc, ◌+◌, ◌-◌, ◌*◌, ◌<◌, ◌≤◌, List, [], ◌∷◌, ◌++◌, length, refl, sym, ◌∙◌, ap, subst, arith, Option, Some, None, Bool, true, false, get_or, take, drop, reverse, inl, inr, ◌⊎◌, length-append, append_assoc}
-use Rattle.std.specs.Prelude.{slice_index, if◌then◌else◌, option_to_list}
+use Rattle.std.proofs.Common.{◌≡◌, ℕ, suc, ◌+◌, ◌-◌, ◌<◌, ◌≤◌, List, [], ◌∷◌, ◌++◌, length, refl, sym, ◌∙◌, ap, subst, arith, Option, Some, None, Bool, true, false, take, reverse, inl, inr, ◌⊎◌, length-append, append_assoc}
+use Rattle.std.specs.Prelude.{slice_index, if◌then◌else◌}
 use Rattle.std.specs.Borrow.{Bor}
-use Rattle.std.proofs.lemmas.List.{append-nil, map-append, reverse-append, take-append-le, take_all, length-take-le}
-use Rattle.std.proofs.lemmas.Bool.{cases_lt}
+use Rattle.std.proofs.lemmas.List.{append-nil, reverse-append, take-append-le, take_all, length-take-le}
 use Rattle.zerotrie_core.specs.Kind.{Kind}
 use Rattle.zerotrie_core.specs.Maps.{Pairs, with_front, with_run}
 use Rattle.zerotrie_core.specs.Nodes.{Shape, Begins, targets_behind, begin_of, end_of, IsTargetResult}
@@ -11,10 +10,9 @@ use Rattle.zerotrie_core.specs.Nodes as shapes
 use Rattle.zerotrie_core.specs.listing.Listed.{listed, of_node, of_targets, node_of, is_in_order, target_of}
 use Rattle.zerotrie_core.specs.listing.Opened.{pairs_behind, pairs_open, pairs_left, Nested, work_open, work_left}
 use Rattle.zerotrie_core.specs.declared.listing.OpenBranch.{OpenBranch}
-use Rattle.zerotrie_core.specs.declared.branch.Branch as declared
 use Rattle.zerotrie_core.proofs.SpanLemmas.{with_run-none}
-use Rattle.zerotrie_core.proofs.ListingLemmas.{listed_node, listed_read, next_begin, order_is, is_order}
-use Rattle.zerotrie_core.proofs.NodeOfLemmas.{by_test, InSome, Within, node_within}
+use Rattle.zerotrie_core.proofs.ListingLemmas.{listed_node, listed_read, order_is, is_order}
+use Rattle.zerotrie_core.proofs.NodeOfLemmas.{InSome, Within, node_within}
 
 -- at the start everything is left
 pub fresh_left : (kind : Kind) (bytes : List ℕ) → pairs_left kind [] bytes [] ≡ listed kind bytes

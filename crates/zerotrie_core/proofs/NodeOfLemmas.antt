@@ -1,18 +1,18 @@
 -- The node that bytes begin with, as a function.
-use Rattle.std.proofs.Common.{◌≡◌, ℕ, zero, suc, ◌+◌, ◌-◌, ◌*◌, ◌/◌, ◌%◌, ◌^◌, ◌<◌, ◌≤◌, List, [], ◌∷◌, ◌++◌, length, refl, sym, ◌∙◌, ap, subst, arith, Option, Some, None, cond, ltb, leb, eqb, Bool, true, false, get_or, take, drop, inl, inr, ◌⊎◌, length-append}
+use Rattle.std.proofs.Common.{◌≡◌, ℕ, suc, ◌+◌, ◌-◌, ◌*◌, ◌/◌, ◌%◌, ◌^◌, ◌<◌, ◌≤◌, List, [], ◌∷◌, ◌++◌, length, refl, sym, ◌∙◌, ap, subst, arith, Option, Some, None, cond, ltb, Bool, true, false, take, drop, inl, inr, length-append}
 use Rattle.std.specs.Prelude.{◌&&◌, nat_lt, nat_le, ◌==◌, if◌then◌else◌, IfSome, IfNone}
 use Rattle.std.specs.Option.{option_map}
 use Rattle.std.proofs.lemmas.List.{take_at, drop_at, length-drop, length-take-le, take-append-drop}
-use Rattle.std.proofs.lemmas.Bool.{ltb-true, ltb-false, lt-ltb, le-ltb, le-leb, leb-true, eqb-true, eqb-false, eq-eqb, ne_eqb, cases_lt, cases_eq}
+use Rattle.std.proofs.lemmas.Bool.{ltb-true, ltb-false, lt-ltb, le-ltb, le-leb, leb-true, eq-eqb, ne_eqb, cases_lt, cases_eq}
 use Rattle.zerotrie_core.specs.Kind.{Kind, has_spans, greatest_width}
 use Rattle.zerotrie_core.specs.Numbers.{BeginsWith}
 use Rattle.zerotrie_core.specs.Branches.{table_size, before_edges}
-use Rattle.zerotrie_core.specs.Nodes.{Shape, Begins, BeginsSpan, BeginsBranch, targets_behind}
+use Rattle.zerotrie_core.specs.Nodes.{Shape, Begins, targets_behind}
 use Rattle.zerotrie_core.specs.Nodes.Shape.{value, literal, span, branch}
 use Rattle.zerotrie_core.specs.Shapes.{shape}
 use Rattle.zerotrie_core.specs.declared.node.Node.{Node}
 use Rattle.zerotrie_core.specs.listing.Listed.{trail_read, number_read, as_value, as_span, as_branch, is_whole, node_of}
-use Rattle.zerotrie_core.proofs.NumberLemmas.{IsBytes, read_from, read, read_alone, read_on, read_is, is_read, chosen, pair_of, some_bytes, cons_parts}
+use Rattle.zerotrie_core.proofs.NumberLemmas.{IsBytes, read_from, read, read_alone, read_on, read_is, is_read, some_bytes, cons_parts}
 use Rattle.zerotrie_core.proofs.KindLemmas.{greatest_width_most}
 use Rattle.zerotrie_core.proofs.TableLemmas.{table_parts}
 use Rattle.zerotrie_core.proofs.NodeLemmas.{value_begins, span_begins, branch_begins}

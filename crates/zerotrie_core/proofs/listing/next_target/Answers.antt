@@ -1,8 +1,7 @@
-use Rattle.std.proofs.Common.{arith, ◌≡◌, ◌++◌, ◌∷◌, [], refl, sym, ap, ◌∙◌, length, add-one}
+use Rattle.std.proofs.Common.{arith, ◌≡◌, [], refl, ◌∙◌, length, add-one}
 use Rattle.std.proofs.lemmas.Grind.{common_steps}
 use Rattle.std.proofs.lemmas.List.{append-nil}
 use Rattle.zerotrie_core.specs.Kind.{simple_ascii}
-use Rattle.zerotrie_core.specs.listing.Opened.{pairs_left, pairs_open}
 use Rattle.zerotrie_core.proofs.ListingStateLemmas.{target_says, at_end, no_bytes, after_fall, nested_top, nested_in, at_last, at_next}
 use Rattle.zerotrie_core.proofs.listing.next_target.Goals as goal
 

@@ -1,6 +1,5 @@
-use Rattle.std.proofs.Common.{arith, ◌≡◌, ◌++◌, ◌∷◌, [], refl, sym, ap, ◌∙◌, length}
+use Rattle.std.proofs.Common.{arith, refl, sym, ◌∙◌, length}
 use Rattle.std.proofs.lemmas.Grind.{common_steps}
-use Rattle.zerotrie_core.specs.Nodes.Shape.{value, literal, span, branch}
 use Rattle.zerotrie_core.proofs.ListingStateLemmas.{at_end, at_value, at_literal, at_span, at_branch, read_shorter, branch_less, nested_more, nested_push}
 use Rattle.zerotrie_core.proofs.listing.next_value.Goals as goal
 
