@@ -2,9 +2,11 @@
 #![tactic(auto)]
 
 mod keys;
+mod listed;
 mod routes;
 mod zerotrie;
 
 pub use keys::TextKey;
+pub use listed::map_of;
 pub use routes::{bytes_from_iter, bytes_from_map, bytes_from_slice};
 pub use zerotrie::{HasFlavor, ZeroTrie, ZeroTrieFlavor};

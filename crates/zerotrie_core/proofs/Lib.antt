@@ -32,6 +32,10 @@ mod OrderLaws
 mod NodeLaws
 mod ItemLemmas
 mod ListedLemmas
+mod NodeOfLemmas
+mod ListingLemmas
+mod ListingStateLemmas
+mod ListedMapLemmas
 mod FitsLaws
 mod GroupLemmas
 mod CutLemmas
