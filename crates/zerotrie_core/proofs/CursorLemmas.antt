@@ -1,10 +1,10 @@
 -- What the calls of a cursor answer and leave.
-use Rattle.std.proofs.Common.{◌≡◌, ℕ, zero, suc, ◌+◌, ◌<◌, ◌≤◌, List, [], ◌∷◌, ◌++◌, length, refl, sym, ◌∙◌, ap, subst, arith, Option, Some, None, get_or, true, false}
-use Rattle.std.specs.Prelude.{min, slice_get, filter, not, ◌==◌, IfSome, IfNone}
+use Rattle.std.proofs.Common.{Bool, ◌≡◌, ℕ, zero, suc, ◌<◌, ◌≤◌, List, [], ◌∷◌, ◌++◌, length, refl, sym, ◌∙◌, ap, subst, arith, Option, Some, None, get_or}
+use Rattle.std.specs.Prelude.{IsTrue, ◌↔◌, min, slice_get, filter, not, ◌==◌, IfNone}
 use Rattle.std.specs.Borrow.{Bor}
 use Rattle.std.specs.Option.{option_map, option_map_or}
 use Rattle.std.proofs.lemmas.Option.{slice_get-get_or, slice_get_past}
-use Rattle.zerotrie_core.specs.Kind.{Kind, IsAscii, fold_byte, has_spans}
+use Rattle.zerotrie_core.specs.Kind.{Kind, IsAscii, fold_byte}
 use Rattle.zerotrie_core.specs.Maps.{Pairs, value_at, residual, with_front, with_run}
 use Rattle.zerotrie_core.specs.Numbers.{BeginsWith}
 use Rattle.zerotrie_core.specs.Texts.{Lists, ListEach, NoValueFirst}
@@ -28,7 +28,7 @@ use Rattle.zerotrie_core.proofs.CanonLaws.{nil_end, lists_some}
 use Rattle.zerotrie_core.proofs.EncodeLaws.{rises_count}
 use Rattle.zerotrie_core.proofs.BranchLemmas.{target_is}
 use Rattle.zerotrie_core.proofs.EachLemmas.{like_none, like_some, each_behind, met_each, met_front}
-use Rattle.zerotrie_core.proofs.OpenLemmas.{Opens, held_edge, value_opens, literal_opens, span_opens, branch_opens, no_node}
+use Rattle.zerotrie_core.proofs.OpenLemmas.{Opens, held_edge, value_opens, literal_opens, span_opens, branch_opens, nothing_listed, no_node}
 
 -- The edges of pairs, and where each leads.
 pub record Parts (kind : Kind) (pairs : Pairs) (edges : List ℕ) (places : ℕ → Place) : Type 0 where
@@ -173,10 +173,11 @@ module _ (kind : Kind) (bytes : List ℕ) (n w : ℕ) (table behind_head : List 
       let o = branch_opens lists.1 n w table behind_head begins in
       let here = held_edge o.holds i h in
       let count = o.holds.count in
-      let f = by_number (opens_parts lists.1 o.opens) i (omega arith) in
-      (ap Some (ap (λ b. (b, n)) (sym here) ∙ ap (λ k. (get_or o.edges i 0, k)) (sym count)) ∙ f.0,
-      subst (λ t. Lists kind t (residual (get_or behind_head i 0) pairs)) (sym (target_is o.holds.has_targets i (Some target) h got))
-      (subst (λ b. Lists kind (get_or o.targets i []) (residual b pairs)) here f.1))
+      let f = by_number (opens_parts lists.1 o.opens) i (omega arith) in (
+        ap Some (ap (λ b. (b, n)) (sym here) ∙ ap (λ k. (get_or o.edges i 0, k)) (sym count)) ∙ f.0,
+        subst (λ t. Lists kind t (residual (get_or behind_head i 0) pairs)) (sym (target_is o.holds.has_targets i (Some target) h got))
+            (subst (λ b. Lists kind (get_or o.targets i []) (residual b pairs)) here f.1),
+      )
 
   pub branch_past_number : (i : ℕ) → n ≤ i → IsProbe (ListsEdges kind bytes) i None (Lists kind [])
   branch_past_number i h pairs lists =
@@ -330,3 +331,13 @@ probe_text kind ascii bytes i b count least run trie is none p pairs text =
     let all = told i b count (met pairs) r.0 in
     let same : least ≡ count = omega arith in
     (ap (λ n. Some (b, n)) same ∙ r.0, place_text kind run trie (residual b pairs) none r.1)
+
+-- a place is empty exactly if neither a run nor a text is left, and it lists nothing exactly then
+pub at_nowhere : (place : Place) → place.run ≡ [] → place.trie ≡ [] → place ≡ nowhere
+at_nowhere place e f = ap (λ run. record { run = run; trie = place.trie }) e ∙ ap (λ trie. record { run = []; trie = trie }) f
+
+pub tells_empty : (kind : Kind) (place : Place) (pairs : Pairs) → ListsAt kind place pairs → (b : Bool) → (IsTrue b → place ≡ nowhere) → (place ≡ nowhere → IsTrue b) → IsTrue b ↔ (pairs ≡ [])
+tells_empty kind place pairs lists b empty is = (
+  λ t. nothing_listed (subst (λ p. ListsAt kind p pairs) (empty t) lists) refl,
+  λ e. (let none = empty_listed kind place.run place.trie pairs lists e in is (at_nowhere place none.0 none.1)),
+)

@@ -106,7 +106,7 @@ pub fn run_edge_numbered<'a>(
     run: &'a [u8],
     trie: &'a [u8],
     index: usize,
-) -> Option<(Along<'a>, usize)> 
+) -> Option<(Along<'a>, usize)>
     ensures probe { (kind : Kind) → IsProbe (ListsInside kind run.now trie.now) index
         (option_map {U = ℕ × ℕ} (λ r. (r.0.edge, r.1)) result)
         (ListsAt kind (place_along (option_map (λ r. r.0) result))) }
@@ -129,7 +129,10 @@ pub fn run_edge_numbered<'a>(
 
 /// The edge of this number, and how many edges there are.
 #[inline(always)]
-pub fn edge_numbered<K: ZeroTrieWithOptions>(bytes: &[u8], index: usize) -> Option<(Along<'_>, usize)>
+pub fn edge_numbered<K: ZeroTrieWithOptions>(
+    bytes: &[u8],
+    index: usize,
+) -> Option<(Along<'_>, usize)>
     ensures probe { IsProbe (ListsEdges K.kind bytes.now) index
         (option_map {U = ℕ × ℕ} (λ r. (r.0.edge, r.1)) result)
         (ListsAt K.kind (place_along (option_map (λ r. r.0) result))) }

@@ -46,11 +46,7 @@ impl<'a> Model for SpanCursor<'a> {
 
 /// The edge that is the byte to the kind, behind a run and a trie.
 #[inline(always)]
-fn like_at<'a, K: ZeroTrieWithOptions>(
-    run: &'a [u8],
-    trie: &'a [u8],
-    byte: u8,
-) -> Option<Along<'a>>
+fn like_at<'a, K: ZeroTrieWithOptions>(run: &'a [u8], trie: &'a [u8], byte: u8) -> Option<Along<'a>>
     ensures { IsStep K.kind (ListsBehind K.kind run.now trie.now) byte
         (option_map (λ a. a.edge) result) (ListsAt K.kind (place_along result)) }
 {
