@@ -19,3 +19,4 @@ pub mod plain
 pub mod reader
 pub mod cursor
 pub mod Laws
+pub mod CursorLaws
