@@ -1,11 +1,13 @@
-//! What every kind of trie shares, over bare bytes: the routes by which one is built.
+//! What every kind of trie shares, over bare bytes: the routes by which one is built, and walks of a cursor.
 #![tactic(auto)]
 
+mod cursor;
 mod keys;
 mod listed;
 mod routes;
 mod zerotrie;
 
+pub use cursor::{CursorAnswer, CursorOp, walk};
 pub use keys::TextKey;
 pub use listed::map_of;
 pub use routes::{bytes_from_iter, bytes_from_map, bytes_from_slice};

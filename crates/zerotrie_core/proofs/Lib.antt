@@ -15,6 +15,7 @@ mod LaneLemmas
 mod PlaceLemmas
 mod ReaderLemmas
 mod LiteralLemmas
+mod CursorLemmas
 mod CaseLemmas
 mod MapLemmas
 mod NumberLaws
@@ -42,3 +43,4 @@ mod CutLemmas
 mod RefusalLemmas
 mod MeansLaws
 mod LowerLemmas
+mod CursorLaws

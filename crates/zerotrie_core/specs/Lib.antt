@@ -7,6 +7,8 @@ pub mod Texts
 pub mod Nodes
 pub mod Shapes
 pub mod Cursors
+pub mod Machine
+pub mod Places
 pub mod Canonical
 pub mod Fits
 pub mod Causes
@@ -17,4 +19,6 @@ pub mod plain
 pub mod reader
 pub mod Listings
 pub mod listing
+pub mod cursor
 pub mod Laws
+pub mod CursorLaws

@@ -1,0 +1,199 @@
+//! The calls of a cursor, which is the bytes that are left of a trie.
+//!
+//! A cursor goes down a trie edge by edge. Where it stands, the bytes that are left are a trie of what all
+//! keys have behind the edges so far, and in the kinds over ASCII keys each of these tries is bytes of the
+//! store. Nothing is copied, and nothing allocated.
+
+ghost use Rattle.std.specs.Prelude.{◌≡◌, ℕ, [], IfNone};
+ghost use Rattle.std.specs.Option.{option_map};
+ghost use Rattle.zerotrie_core.specs.Kind.{Kind, IsAscii};
+ghost use Rattle.zerotrie_core.specs.Texts.{Lists};
+ghost use Rattle.zerotrie_core.specs.Places.{IsStep, IsTake, IsProbe};
+
+use crate::edges::{behind_value, edge_like, edge_numbered, first_value};
+use crate::options::ZeroTrieWithOptions;
+
+/// What a probe of a trie over ASCII keys answers.
+#[derive(Clone, Copy, Debug, PartialEq, Eq)]
+pub struct AsciiProbeResult {
+    /// The byte of the edge.
+    pub byte: u8,
+    /// How many edges there are, itself among them.
+    pub total_siblings: u8,
+}
+
+/// Goes along the edge that is the byte to the kind, and answers its byte.
+///
+/// ```text
+/// let mut trie = &[0x61, 0x42, 0x85][..];      // the key "aB" with value 5
+/// step::<Ignore>(&mut trie, b'A')             // Some(b'a')
+/// step::<Ignore>(&mut trie, b'b')             // Some(b'B'), and the value is left
+/// step::<Ignore>(&mut trie, b'c')             // None, and no byte is left
+/// ```
+///
+/// A value is passed over. Where no edge is the byte, the answer is `None`, and no byte is left. In `Ignore`
+/// an ASCII letter is either case of it, and the answer is the byte as it is stored.
+///
+/// It returns on any bytes, and takes no memory. Only a kind over ASCII keys is stepped so; `SpanCursor` is
+/// the cursor of any kind.
+pub fn step<K: ZeroTrieWithOptions>(bytes: &mut &[u8], byte: u8) -> Option<u8>
+    requires { IsAscii K.kind }
+    ensures meaning { IsStep K.kind (Lists K.kind bytes.old.now) byte result (Lists K.kind bytes.new.now) }
+    ensures empty { IfNone result (bytes.new.now ≡ []) }
+{
+    match edge_like::<K>(behind_value(bytes), byte) {
+        None => {
+            *bytes = &[];
+            None
+        }
+        Some(along) => {
+            *bytes = along.trie;
+            Some(along.edge)
+        }
+    }
+}
+
+/// Takes the value of the empty key off the front of the bytes of a trie of any kind. `None` where there is
+/// none, and then nothing changes.
+///
+/// ```text
+/// let mut trie = &[0x85, 0x61, 0x86][..];      // the keys "" and "a" with values 5 and 6
+/// take_value(&mut trie)                       // Some(5), and 61 86 are left
+/// take_value(&mut trie)                       // None
+/// ```
+///
+/// It returns on any bytes, and takes no memory.
+pub fn take_value(bytes: &mut &[u8]) -> Option<usize>
+    ensures meaning { (kind : Kind) → IsTake kind (Lists kind bytes.old.now) result (Lists kind bytes.new.now) }
+    ensures none { IfNone result (bytes.new ≡ bytes.old) }
+{
+    match first_value(bytes) {
+        None => None,
+        Some((value, rest)) => {
+            *bytes = rest;
+            Some(value)
+        }
+    }
+}
+
+/// Goes along the edge of this number, and answers its byte and how many edges there are.
+///
+/// ```text
+/// let mut trie = &[0xC2, 0x61, 0x62, 0x01, 0x85, 0x86][..];    // "a" and "b" with values 5 and 6
+/// probe::<Simple>(&mut trie, 1)               // Some(AsciiProbeResult { byte: b'b', total_siblings: 2 })
+/// probe::<Simple>(&mut trie, 1)               // None, and no byte is left
+/// ```
+///
+/// A value is passed over. The edges of a branch are numbered as they stand, and a literal is one edge.
+/// Where there is no edge of this number, the answer is `None`, and no byte is left.
+///
+/// It returns on any bytes, and takes no memory.
+pub fn probe<K: ZeroTrieWithOptions>(bytes: &mut &[u8], index: usize) -> Option<AsciiProbeResult>
+    requires { IsAscii K.kind }
+    ensures meaning { IsProbe (Lists K.kind bytes.old.now) index
+        (option_map {U = ℕ × ℕ} (λ r. (r.byte, r.total_siblings)) result) (Lists K.kind bytes.new.now) }
+    ensures empty { IfNone result (bytes.new.now ≡ []) }
+{
+    match edge_numbered::<K>(behind_value(bytes), index) {
+        None => {
+            *bytes = &[];
+            None
+        }
+        Some((along, edges)) => {
+            *bytes = along.trie;
+            Some(AsciiProbeResult {
+                byte: along.edge,
+                total_siblings: edges.min(255) as u8,
+            })
+        }
+    }
+}
+
+#[cfg(test)]
+mod tests {
+    use super::*;
+    use crate::options::{Ignore, Simple};
+    use std::test::Fail;
+
+    #[test]
+    fn a_key_that_begins_another(rt: HostRuntime) -> Result<(), Fail> {
+        let bytes = b"abc\x80def\x81".as_slice();
+        let mut trie = bytes;
+        for byte in *b"abc" {
+            assert_eq!(rt; step::<Simple>(&mut trie, byte), Some(byte));
+        }
+        assert_eq!(rt; trie, b"\x80def\x81".as_slice());
+        let mut passed = trie;
+        assert_eq!(rt; take_value(&mut trie), Some(0));
+        assert_eq!(rt; take_value(&mut trie), None);
+        for cursor in [&mut trie, &mut passed] {
+            assert_eq!(rt; step::<Simple>(cursor, b'd'), Some(b'd'));
+            assert_eq!(rt; step::<Simple>(cursor, b'x'), None);
+            assert!(rt; cursor.is_empty());
+        }
+        let mut fresh = bytes;
+        assert_eq!(rt; probe::<Simple>(&mut fresh, 1), None);
+        assert!(rt; fresh.is_empty());
+        Ok(())
+    }
+
+    #[test]
+    fn edges_by_number(rt: HostRuntime) -> Result<(), Fail> {
+        let bytes = b"a\xC2bf\x0E\x90\x5F\xC2cd\x05xyz\x90\x06e\x92\x3Dg\x90\x1C";
+        let mut trie = bytes.as_slice();
+        let table = [
+            (0, b'a', 1, None),
+            (0, b'b', 2, Some(111)),
+            (1, b'd', 2, None),
+            (0, b'e', 1, Some(333)),
+        ];
+        for (index, byte, total_siblings, value) in table {
+            let edge = AsciiProbeResult {
+                byte,
+                total_siblings,
+            };
+            assert_eq!(rt; probe::<Simple>(&mut trie, index), Some(edge));
+            assert_eq!(rt; take_value(&mut trie), value);
+        }
+        assert_eq!(rt; take_value(&mut trie), None);
+        assert_eq!(rt; probe::<Simple>(&mut trie, 0), None);
+        Ok(())
+    }
+
+    #[test]
+    fn stored_bytes_in_any_case(rt: HostRuntime) -> Result<(), Fail> {
+        let bytes = b"\x80aBc\x81\xC4DeFg\x01\x02\x03\x82\x83\x84hi\x85";
+        for typed in [b"ABCD", b"abcd", b"aBcD"] {
+            let mut trie = bytes.as_slice();
+            for (byte, stored) in typed.iter().zip(b"aBcD") {
+                assert_eq!(rt; step::<Ignore>(&mut trie, *byte), Some(*stored));
+            }
+            assert_eq!(rt; take_value(&mut trie), Some(2));
+        }
+        Ok(())
+    }
+
+    /// No answer is promised on such bytes, but there is one.
+    #[test]
+    fn returns_on_bytes_that_are_no_trie(rt: HostRuntime) {
+        let table: [&[u8]; 8] = [
+            b"a",
+            b"\x80\x80",
+            b"\xC1a\x81",
+            b"\xC2ba\x01\x80\x80",
+            b"\xE1\x62ab\x00\x01\x80\x81",
+            b"\x90",
+            b"\xC0a",
+            b"\xE1\xDF\xDF\xDF\xDF\xDF\xDF\xDF\xDF\x5F",
+        ];
+        for bytes in table {
+            for byte in *b"ab" {
+                let mut trie = bytes;
+                let _ = step::<Simple>(&mut trie, byte);
+                let _ = take_value(&mut trie);
+                let _ = probe::<Ignore>(&mut trie, 0);
+                assert!(rt; trie.len() <= bytes.len());
+            }
+        }
+    }
+}

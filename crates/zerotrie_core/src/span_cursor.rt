@@ -1,0 +1,205 @@
+//! The cursor of any kind, which may stand inside a span.
+
+ghost use Rattle.std.specs.Prelude.{◌≡◌, ◌≢◌, ◌↔◌, ◌≤◌, ℕ, [], IfSome, IfNone, IsTrue};
+ghost use Rattle.std.specs.Option.{option_map};
+ghost use Rattle.zerotrie_core.specs.Kind.{Kind};
+ghost use Rattle.zerotrie_core.specs.Maps.{Pairs};
+ghost use Rattle.zerotrie_core.specs.Texts.{Lists};
+ghost use Rattle.zerotrie_core.specs.Places.{Place, nowhere, ListsBehind, ListsAt, IsStep, IsTake, IsProbe};
+ghost use Rattle.zerotrie_core.specs.cursor.Edges.{place_along};
+
+use crate::cursor::take_value;
+use crate::edges::{
+    Along, behind_value, edge_like, edge_numbered, run_edge_like, run_edge_numbered,
+};
+use crate::options::ZeroTrieWithOptions;
+use std::marker::Model;
+
+/// What a probe of a trie of any kind answers.
+#[derive(Clone, Copy, Debug, PartialEq, Eq)]
+pub struct ByteProbeResult {
+    /// The byte of the edge.
+    pub byte: u8,
+    /// How many edges there are, itself among them.
+    pub total_siblings: u16,
+}
+
+/// A cursor in a trie of any kind.
+///
+/// It stands between two bytes of a key, which may be inside the run of a span. Then the rest of the run is
+/// one edge after another, with no value between them.
+///
+/// It keeps two slices of the store, the rest of the run and the trie behind it, and takes no memory.
+#[derive(Clone, Debug, Drop)]
+pub struct SpanCursor<'a> {
+    run: &'a [u8],
+    trie: &'a [u8],
+}
+
+impl<'a> Model for SpanCursor<'a> {
+    ghost use Rattle.zerotrie_core.specs.Places.{Place};
+
+    ghost Value = { Place };
+
+    ghost view = { λ c. record { run = c.run.now; trie = c.trie.now } };
+}
+
+/// The edge that is the byte to the kind, behind a run and a trie.
+#[inline(always)]
+fn like_at<'a, K: ZeroTrieWithOptions>(run: &'a [u8], trie: &'a [u8], byte: u8) -> Option<Along<'a>>
+    ensures { IsStep K.kind (ListsBehind K.kind run.now trie.now) byte
+        (option_map (λ a. a.edge) result) (ListsAt K.kind (place_along result)) }
+{
+    if run.is_empty() {
+        edge_like::<K>(behind_value(trie), byte)
+    } else {
+        run_edge_like::<K>(run, trie, byte)
+    }
+}
+
+/// The edge of this number, and how many edges there are, behind a run and a trie.
+#[inline(always)]
+fn numbered_at<'a, K: ZeroTrieWithOptions>(
+    run: &'a [u8],
+    trie: &'a [u8],
+    index: usize,
+) -> Option<(Along<'a>, usize)>
+    ensures probe { IsProbe (ListsBehind K.kind run.now trie.now) index
+        (option_map {U = ℕ × ℕ} (λ r. (r.0.edge, r.1)) result)
+        (ListsAt K.kind (place_along (option_map (λ r. r.0) result))) }
+    ensures few { IfSome result (λ r. r.1 ≤ 256) }
+{
+    if run.is_empty() {
+        edge_numbered::<K>(behind_value(trie), index)
+    } else {
+        run_edge_numbered(run, trie, index)
+    }
+}
+
+impl<'a> SpanCursor<'a> {
+    /// A cursor behind an edge.
+    #[inline(always)]
+    fn behind(along: Along<'a>) -> Self
+        ensures { result ≡ record { run = along.entry.run.now; trie = along.entry.trie.now } }
+    {
+        SpanCursor {
+            run: along.run,
+            trie: along.trie,
+        }
+    }
+
+    /// A cursor in front of all keys of a trie.
+    pub fn new(bytes: &'a [u8]) -> Self
+        ensures { result ≡ record { run = []; trie = bytes.now } }
+    {
+        SpanCursor {
+            run: &[],
+            trie: bytes,
+        }
+    }
+
+    /// Whether no key goes on from here. An empty cursor has no value either.
+    pub fn is_empty(&self) -> bool
+        ensures exact { IsTrue result ↔ (self.now ≡ nowhere) }
+        ensures pairs { (kind : Kind) (pairs : Pairs) → ListsAt kind self.now pairs
+            → IsTrue result ↔ (pairs ≡ []) }
+    {
+        self.run.is_empty() && self.trie.is_empty()
+    }
+
+    /// The trie of what all keys have from here on. `None` while a byte of a span is left.
+    pub fn rest(&self) -> Option<&'a [u8]>
+        ensures some { IfSome result (λ trie. (self.now.run ≡ []) × (trie.now ≡ self.now.trie)) }
+        ensures none { IfNone result (self.now.run ≢ []) }
+        ensures lists { IfSome result (λ trie. (kind : Kind) (pairs : Pairs)
+            → ListsAt kind self.now pairs → Lists kind trie.now pairs) }
+    {
+        if self.run.is_empty() {
+            Some(self.trie)
+        } else {
+            None
+        }
+    }
+
+    /// Takes the value of the empty key. `None` where there is none, and then nothing changes.
+    pub fn take_value(&mut self) -> Option<usize>
+        ensures meaning { (kind : Kind) → IsTake kind (ListsAt kind self.old) result (ListsAt kind self.new) }
+        ensures none { IfNone result (self.new ≡ self.old) }
+    {
+        if self.run.is_empty() {
+            take_value(&mut self.trie)
+        } else {
+            None
+        }
+    }
+
+    /// Goes along the edge that is the byte to the kind, and answers its byte.
+    pub fn step<K: ZeroTrieWithOptions>(&mut self, byte: u8) -> Option<u8>
+        ensures meaning { IsStep K.kind (ListsAt K.kind self.old) byte result (ListsAt K.kind self.new) }
+        ensures empty { IfNone result (self.new ≡ nowhere) }
+    {
+        match like_at::<K>(self.run, self.trie, byte) {
+            None => {
+                *self = SpanCursor::new(&[]);
+                None
+            }
+            Some(along) => {
+                *self = SpanCursor::behind(along);
+                Some(along.edge)
+            }
+        }
+    }
+
+    /// Goes along the edge of this number, and answers its byte and how many edges there are.
+    pub fn probe<K: ZeroTrieWithOptions>(&mut self, index: usize) -> Option<ByteProbeResult>
+        ensures meaning { IsProbe (ListsAt K.kind self.old) index
+            (option_map {U = ℕ × ℕ} (λ r. (r.byte, r.total_siblings)) result) (ListsAt K.kind self.new) }
+        ensures empty { IfNone result (self.new ≡ nowhere) }
+    {
+        match numbered_at::<K>(self.run, self.trie, index) {
+            None => {
+                *self = SpanCursor::new(&[]);
+                None
+            }
+            Some((along, edges)) => {
+                *self = SpanCursor::behind(along);
+                Some(ByteProbeResult {
+                    byte: along.edge,
+                    total_siblings: edges as u16,
+                })
+            }
+        }
+    }
+}
+
+#[cfg(test)]
+mod tests {
+    use super::*;
+    use crate::options::{Ext, Hash};
+    use std::test::Fail;
+
+    #[test]
+    fn inside_a_span(rt: HostRuntime) -> Result<(), Fail> {
+        let bytes = [0xA2, 0xC3, 0xA9, 0xC2, 0xA5, 0xB8, 0x01, 0x81, 0x82];
+        let fresh = SpanCursor::new(&bytes);
+        assert_eq!(rt; fresh.rest(), Some(bytes.as_slice()));
+        let mut cursor = fresh.clone()?;
+        assert_eq!(rt; cursor.step::<Hash>(0xC3), Some(0xC3));
+        assert_eq!(rt; cursor.rest(), None);
+        assert!(rt; !cursor.is_empty());
+        assert_eq!(rt; cursor.take_value(), None);
+        let mut gone = cursor.clone()?;
+        assert_eq!(rt; gone.probe::<Hash>(1), None);
+        assert!(rt; gone.is_empty());
+        assert_eq!(rt; cursor.step::<Hash>(0xA9), Some(0xA9));
+        assert_eq!(rt; cursor.rest(), Some(&bytes[3..]));
+        let edge = ByteProbeResult {
+            byte: 0xB8,
+            total_siblings: 2,
+        };
+        assert_eq!(rt; cursor.probe::<Ext>(1), Some(edge));
+        assert_eq!(rt; cursor.take_value(), Some(2));
+        assert!(rt; cursor.is_empty());
+        Ok(())
+    }
+}
