@@ -3,8 +3,10 @@
 
 mod keys;
 mod routes;
+mod tags;
 mod zerotrie;
 
 pub use keys::TextKey;
 pub use routes::{bytes_from_iter, bytes_from_map, bytes_from_slice};
+pub use tags::{TagError, tagged, untagged};
 pub use zerotrie::{HasFlavor, ZeroTrie, ZeroTrieFlavor};
