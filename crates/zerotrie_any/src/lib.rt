@@ -1,11 +1,13 @@
 //! What every kind of trie shares, over bare bytes: the routes by which one is built.
 #![tactic(auto)]
 
+mod json;
 mod keys;
 mod routes;
 mod tags;
 mod zerotrie;
 
+pub use json::{JsonError, bytes_from_json};
 pub use keys::TextKey;
 pub use routes::{bytes_from_iter, bytes_from_map, bytes_from_slice};
 pub use tags::{TagError, tagged, untagged};
