@@ -1,6 +1,7 @@
 //! Tries as JSON values: an object from text to number, or a list of pairs of a key's bytes and its number.
 
 ghost use Rattle.std.specs.Prelude.{◌≡◌};
+ghost use Rattle.zerotrie_any.specs.Json.{JsonKeepsPairs};
 ghost use Rattle.zerotrie_any.specs.JsonCalls.{IsOfBuild};
 ghost use Rattle.zerotrie_any.specs.declared.json.JsonError.TheVariants.{OutOfMemory};
 
@@ -20,10 +21,10 @@ use zerotrie_core::ZeroTrieBuildError;
 /// ```
 #[derive(Clone, PartialEq, Eq, Debug, Drop, Error)]
 pub enum JsonError {
-    /// The value spells no pairs: it is no object of whole numbers and no list of pairs.
+    /// There are no pairs in the value: it is no object from text to number and no list of pairs.
     #[error("Shape")]
     Shape,
-    /// The pairs that the value spells make no trie of the kind, for this reason, which is not want of memory.
+    /// The pairs in the value make no trie of the kind, for this reason, which is never want of memory.
     #[error("Build")]
     Build(ZeroTrieBuildError),
     /// A growth was refused.
@@ -58,3 +59,10 @@ impl From<ZeroTrieBuildError> for JsonError {
         }
     }
 }
+
+/// The pairs in the JSON value of a map are the map's, so a value that was written reads back.
+///
+/// It does nothing: calling it brings the law into a proof.
+pub fn json_keeps_the_pairs()
+    ensures { JsonKeepsPairs }
+{}

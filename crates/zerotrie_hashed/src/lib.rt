@@ -3,6 +3,7 @@
 
 mod hashed_trie;
 mod options;
+mod outer;
 
 pub use hashed_trie::{HashedTrie, ZeroTrieExtendedCapacity, ZeroTriePerfectHash};
 pub use options::HashedKind;
