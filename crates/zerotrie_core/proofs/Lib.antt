@@ -31,6 +31,9 @@ mod OrderLaws
 mod NodeLaws
 mod ItemLemmas
 mod ListedLemmas
+mod NodeOfLemmas
+mod ListingLemmas
+mod ListingStateLemmas
 mod FitsLaws
 mod GroupLemmas
 mod CutLemmas

@@ -4,12 +4,14 @@
 mod branch;
 mod lanes;
 pub mod laws;
+mod listing;
 mod node;
 mod options;
 mod plain;
 mod reader;
 mod varint;
 
+pub use listing::{ListError, ZeroTrieIterator};
 pub use options::{Ext, Hash, Ignore, Simple, ZeroTrieBuilderOptions, ZeroTrieWithOptions};
 pub use plain::plain_encode;
 pub use reader::get_counted;
