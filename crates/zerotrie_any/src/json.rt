@@ -9,6 +9,7 @@ mod reading;
 mod writing;
 
 pub use reading::bytes_from_json;
+pub use writing::json_of;
 use std::alloc::{AllocError, AllocFailed};
 use thiserror::Error;
 use zerotrie_core::ZeroTrieBuildError;
