@@ -34,6 +34,7 @@ mod ListedLemmas
 mod NodeOfLemmas
 mod ListingLemmas
 mod ListingStateLemmas
+mod ListedMapLemmas
 mod FitsLaws
 mod GroupLemmas
 mod CutLemmas

@@ -2,6 +2,7 @@
 #![tactic(auto)]
 
 mod hashed_trie;
+mod listed;
 mod options;
 mod outer;
 
