@@ -16,3 +16,6 @@ pub use Rattle.zerotrie_core.specs.Laws
 pub use Rattle.zerotrie_any.specs.Order
 pub use Rattle.zerotrie_any.specs.Auto
 pub use Rattle.zerotrie_any.specs.Flavors
+pub use Rattle.zerotrie_any.specs.Tagged
+pub use Rattle.zerotrie_any.specs.Json
+pub use Rattle.zerotrie_any.specs.JsonCalls

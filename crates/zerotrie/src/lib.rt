@@ -38,7 +38,9 @@
 #[cfg(test)]
 mod tests;
 
-pub use zerotrie_any::{HasFlavor, TextKey, ZeroTrie, ZeroTrieFlavor};
+pub use zerotrie_any::{
+    HasFlavor, JsonError, TagError, TextKey, ZeroTrie, ZeroTrieFlavor, json_keeps_the_pairs,
+};
 pub use zerotrie_ascii::{AsciiKind, AsciiTrie, ZeroAsciiIgnoreCaseTrie, ZeroTrieSimpleAscii};
 pub use zerotrie_core::{
     ConvertStore, Ext, Hash, Ignore, Simple, TrieKey, TrieStore, ZeroTrieBuildError,

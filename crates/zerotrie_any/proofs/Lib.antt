@@ -2,3 +2,5 @@ pub mod MapOrder
 pub mod Elements
 pub mod AutoLemmas
 mod WalkLemmas
+pub mod JsonLemmas
+pub mod MemberLemmas

@@ -2,13 +2,17 @@
 #![tactic(auto)]
 
 mod cursor;
+mod json;
 mod keys;
 mod listed;
 mod routes;
+mod tags;
 mod zerotrie;
 
 pub use cursor::{CursorAnswer, CursorOp, walk};
+pub use json::{JsonError, bytes_from_json, json_keeps_the_pairs, json_of};
 pub use keys::TextKey;
 pub use listed::map_of;
 pub use routes::{bytes_from_iter, bytes_from_map, bytes_from_slice};
+pub use tags::{TagError, tagged, untagged};
 pub use zerotrie::{HasFlavor, ZeroTrie, ZeroTrieFlavor};

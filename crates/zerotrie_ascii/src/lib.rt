@@ -3,6 +3,7 @@
 
 mod ascii_trie;
 mod options;
+mod outer;
 
 pub use ascii_trie::{AsciiTrie, ZeroAsciiIgnoreCaseTrie, ZeroTrieSimpleAscii};
 pub use options::AsciiKind;

@@ -4,6 +4,7 @@
 mod hashed_trie;
 mod listed;
 mod options;
+mod outer;
 
 pub use hashed_trie::{HashedTrie, ZeroTrieExtendedCapacity, ZeroTriePerfectHash};
 pub use options::HashedKind;

@@ -1,0 +1,191 @@
+//! Tagged bytes and JSON.
+
+use super::*;
+use serde_json::Value;
+
+/// The items of a trie that has 18 bytes, and its text.
+const FEW: [(&str, usize); 3] = [("abc", 11), ("xyz", 22), ("axyb", 33)];
+
+const FEW_TEXT: &[u8] = b"\xC2ax\x0A\xC2bx\x02c\x8Byb\x90\x11yz\x90\x06";
+
+fn ascii_tagged<K: AsciiKind>(
+    alloc: Global,
+    items: &[(&str, usize)],
+) -> Result<Vec<u8>, ZeroTrieBuildError> {
+    let trie: AsciiTrie<K, Vec<u8>> = AsciiTrie::try_from_iter(alloc, items.iter().copied())?;
+    Ok(trie.to_tagged_bytes(alloc)?)
+}
+
+fn hashed_tagged<K: HashedKind>(
+    alloc: Global,
+    items: &[(&str, usize)],
+) -> Result<Vec<u8>, ZeroTrieBuildError> {
+    let trie: HashedTrie<K, Vec<u8>> = HashedTrie::try_from_iter(alloc, items.iter().copied())?;
+    Ok(trie.to_tagged_bytes(alloc)?)
+}
+
+#[test]
+fn tags_stand_in_front(rt: HostRuntime) -> Result<(), Fail> {
+    let alloc = rt.alloc();
+    let auto = ZeroTrie::try_from_iter(alloc, FEW)?.to_tagged_bytes(alloc)?;
+    let rows = [
+        (0, ascii_tagged::<Simple>(alloc, &FEW)?),
+        (8, ascii_tagged::<Ignore>(alloc, &FEW)?),
+        (3, hashed_tagged::<Hash>(alloc, &FEW)?),
+        (7, hashed_tagged::<Ext>(alloc, &FEW)?),
+        (0, auto),
+    ];
+    for (tag, tagged) in &rows {
+        assert!(rt; tagged.split_first() == Some((tag, FEW_TEXT)));
+    }
+    Ok(())
+}
+
+/// 511 keys "k000" and so on make a trie of the kind whose tag is 0, and one more makes one of tag 3.
+#[test]
+fn many_keys_change_the_tag(rt: HostRuntime) -> Result<(), Fail> {
+    let mut keys = [b'k'; 2048];
+    for n in 0..512 {
+        keys[4 * n + 1] = b'0' + (n / 100) as u8;
+        keys[4 * n + 2] = b'0' + (n / 10 % 10) as u8;
+        keys[4 * n + 3] = b'0' + (n % 10) as u8;
+    }
+    for (count, tag) in [(511, 0), (512, 3)] {
+        let pairs = keys[..4 * count].chunks(4).map(|key| (key, 0));
+        let tagged = ZeroTrie::try_from_iter(rt.alloc(), pairs)?.to_tagged_bytes(rt.alloc())?;
+        assert_eq!(rt; tagged[0], tag);
+    }
+    Ok(())
+}
+
+#[test]
+fn tagged_bytes_are_read(rt: HostRuntime) -> Result<(), Fail> {
+    let simple = ZeroTrieSimpleAscii::try_from_tagged_bytes(b"\0a\x85")?;
+    assert_eq!(rt; simple.get(b"a"), Some(5));
+    let mixed = ZeroAsciiIgnoreCaseTrie::try_from_tagged_bytes(b"\x08a\x85")?;
+    assert_eq!(rt; mixed.get(b"A"), Some(5));
+    let hashed = ZeroTriePerfectHash::try_from_tagged_bytes(b"\x03\xA1\xFF\x81")?;
+    assert_eq!(rt; hashed.get(b"\xFF"), Some(1));
+    let extended = ZeroTrie::try_from_tagged_bytes(b"\x07\x81")?;
+    assert!(rt;
+        extended.flavor == ZeroTrieFlavor::ExtendedCapacity && extended.get(b"") == Some(1)
+    );
+    Ok(())
+}
+
+/// Each kind reads its own tag alone, and `ZeroTrie` all but the one without case.
+#[test]
+fn other_tags_are_refused(rt: HostRuntime) {
+    for tag in 0..=255 {
+        let bytes = [tag, 0x81];
+        let read = [
+            (0, ZeroTrieSimpleAscii::try_from_tagged_bytes(&bytes).err()),
+            (
+                8,
+                ZeroAsciiIgnoreCaseTrie::try_from_tagged_bytes(&bytes).err(),
+            ),
+            (3, ZeroTriePerfectHash::try_from_tagged_bytes(&bytes).err()),
+            (
+                7,
+                ZeroTrieExtendedCapacity::try_from_tagged_bytes(&bytes).err(),
+            ),
+        ];
+        for (own, error) in read {
+            assert!(rt; (error == Some(TagError::InvalidTag)) == (tag != own));
+        }
+        let any = ZeroTrie::try_from_tagged_bytes(&bytes).err();
+        assert!(rt; (any == Some(TagError::InvalidTag)) == (tag != 0 && tag != 3 && tag != 7));
+    }
+    assert!(rt; ZeroTrieSimpleAscii::try_from_tagged_bytes(b"").err() == Some(TagError::Empty));
+    assert!(rt; ZeroTrie::try_from_tagged_bytes(b"").err() == Some(TagError::Empty));
+}
+
+fn value_of(alloc: Global, text: &str) -> Result<Value, serde_json::Error> {
+    Value::from_str(alloc, text)
+}
+
+/// What the kinds read a JSON text as: SimpleAscii, and the others where they differ.
+#[test]
+fn json_is_read(rt: HostRuntime) -> Result<(), Fail> {
+    let rows: [(&str, &[u8]); 7] = [
+        ("[]", b""),
+        ("{}", b""),
+        (r#"{"abc":0,"abcdef":1}"#, b"abc\x80def\x81"),
+        (r#"[["adef",33],["ad",22]]"#, b"ad\x90\x06ef\x90\x11"),
+        (r#"[[[97,100],22]]"#, b"ad\x90\x06"),
+        (r#"[[[],1]]"#, b"\x81"),
+        (
+            r#"{"":18446744073709551615}"#,
+            b"\x91\xEF\xEF\xEF\xEF\xEF\xEF\xEF\xEF\x6F",
+        ),
+    ];
+    for (text, bytes) in rows {
+        let value = value_of(rt.alloc(), text)?;
+        let simple = ZeroTrieSimpleAscii::try_from_json_value(rt.alloc(), &value)?;
+        let mixed = ZeroAsciiIgnoreCaseTrie::try_from_json_value(rt.alloc(), &value)?;
+        let hashed = ZeroTriePerfectHash::try_from_json_value(rt.alloc(), &value)?;
+        let extended = ZeroTrieExtendedCapacity::try_from_json_value(rt.alloc(), &value)?;
+        let any = ZeroTrie::try_from_json_value(rt.alloc(), &value)?;
+        assert!(rt; simple.as_bytes() == bytes && mixed.as_bytes() == bytes);
+        assert!(rt; hashed.as_bytes() == bytes && extended.as_bytes() == bytes);
+        assert!(rt; any.flavor == ZeroTrieFlavor::SimpleAscii && any.store.as_slice() == bytes);
+    }
+    let high = value_of(rt.alloc(), "[[[255],3]]")?;
+    let any = ZeroTrie::try_from_json_value(rt.alloc(), &high)?;
+    assert!(rt; any.flavor == ZeroTrieFlavor::PerfectHash && any.get(b"\xFF") == Some(3));
+    Ok(())
+}
+
+#[test]
+fn json_is_refused(rt: HostRuntime) -> Result<(), Fail> {
+    let rows = [
+        (r#"{"a":1.5}"#, JsonError::Shape),
+        (r#"{"a":-1}"#, JsonError::Shape),
+        (r#"{"a":18446744073709551616}"#, JsonError::Shape),
+        (r#"[["a"]]"#, JsonError::Shape),
+        (r#"[["a",1,2]]"#, JsonError::Shape),
+        (r#"[[[256],1]]"#, JsonError::Shape),
+        (r#"[{"a":1}]"#, JsonError::Shape),
+        (r#""a""#, JsonError::Shape),
+        ("null", JsonError::Shape),
+        (
+            r#"[["a",1],[[97],2]]"#,
+            JsonError::Build(ZeroTrieBuildError::DuplicateKey),
+        ),
+        (
+            r#"{"å":1}"#,
+            JsonError::Build(ZeroTrieBuildError::NonAsciiError),
+        ),
+    ];
+    for (text, error) in rows {
+        let value = value_of(rt.alloc(), text)?;
+        assert!(rt;
+            ZeroTrieSimpleAscii::try_from_json_value(rt.alloc(), &value).err() == Some(error)
+        );
+    }
+    let mixed = value_of(rt.alloc(), r#"{"A":1,"a":2}"#)?;
+    let refused = ZeroAsciiIgnoreCaseTrie::try_from_json_value(rt.alloc(), &mixed).err();
+    assert!(rt; refused == Some(JsonError::Build(ZeroTrieBuildError::MixedCase)));
+    Ok(())
+}
+
+#[test]
+fn texts_of_errors(rt: HostRuntime) -> Result<(), Fail> {
+    assert_eq!(rt;
+        format!(in rt.alloc(); "{}", TagError::Empty)?.as_str(),
+        "Empty"
+    );
+    assert_eq!(rt;
+        format!(in rt.alloc(); "{}", TagError::InvalidTag)?.as_str(),
+        "InvalidTag"
+    );
+    let rows = [
+        (JsonError::Shape, "Shape"),
+        (JsonError::Build(ZeroTrieBuildError::Unsorted), "Build"),
+        (JsonError::OutOfMemory, "OutOfMemory"),
+    ];
+    for (error, text) in rows {
+        assert_eq!(rt; format!(in rt.alloc(); "{error}")?.as_str(), text);
+    }
+    Ok(())
+}

@@ -1,0 +1,69 @@
+//! Tries as JSON values: an object from text to number, or a list of pairs of a key's bytes and its number.
+
+ghost use Rattle.std.specs.Prelude.{◌≡◌};
+ghost use Rattle.zerotrie_any.specs.Json.{JsonKeepsPairs};
+ghost use Rattle.zerotrie_any.specs.JsonCalls.{IsOfBuild};
+ghost use Rattle.zerotrie_any.specs.declared.json.JsonError.TheVariants.{OutOfMemory};
+
+mod reading;
+mod writing;
+
+pub use reading::bytes_from_json;
+pub use writing::json_of;
+use std::alloc::{AllocError, AllocFailed};
+use thiserror::Error;
+use zerotrie_core::ZeroTrieBuildError;
+
+/// Why a JSON value is no trie, or a trie no JSON value.
+///
+/// ```
+/// let error = JsonError::Build(ZeroTrieBuildError::DuplicateKey);
+/// assert_eq!(rt; format!(in rt.alloc(); "{error}")?.as_str(), "Build");
+/// ```
+#[derive(Clone, PartialEq, Eq, Debug, Drop, Error)]
+pub enum JsonError {
+    /// There are no pairs in the value: it is no object from text to number and no list of pairs.
+    #[error("Shape")]
+    Shape,
+    /// The pairs in the value make no trie of the kind, for this reason, which is never want of memory.
+    #[error("Build")]
+    Build(ZeroTrieBuildError),
+    /// A growth was refused.
+    #[error("OutOfMemory")]
+    OutOfMemory,
+}
+
+impl From<AllocError> for JsonError {
+    ghost from_gives = { λ _ e. e ≡ OutOfMemory };
+
+    fn from(_: AllocError) -> Self {
+        JsonError::OutOfMemory
+    }
+}
+
+impl<T: Drop> From<AllocFailed<T>> for JsonError {
+    ghost from_gives = { λ _ e. e ≡ OutOfMemory };
+
+    fn from(_: AllocFailed<T>) -> Self {
+        JsonError::OutOfMemory
+    }
+}
+
+impl From<ZeroTrieBuildError> for JsonError {
+    ghost from_gives = { λ e j. IsOfBuild e j };
+
+    fn from(error: ZeroTrieBuildError) -> Self {
+        if error == ZeroTrieBuildError::OutOfMemory {
+            JsonError::OutOfMemory
+        } else {
+            JsonError::Build(error)
+        }
+    }
+}
+
+/// The pairs in the JSON value of a map are the map's, so a value that was written reads back.
+///
+/// It does nothing: calling it brings the law into a proof.
+pub fn json_keeps_the_pairs()
+    ensures { JsonKeepsPairs }
+{}

@@ -1,0 +1,129 @@
+//! The JSON value of a map.
+
+ghost use Rattle.std.specs.Prelude.{◌≡◌, map, if◌then◌else◌, Some, None, IfOk, IfErr, option_map};
+ghost use Rattle.serde_json.specs.View.{view, members_view};
+ghost use Rattle.zerotrie_core.specs.Maps.{Map};
+ghost use Rattle.zerotrie_core.specs.Texts.{Means};
+ghost use Rattle.zerotrie_core.specs.Items.{keyed};
+ghost use Rattle.zerotrie_any.specs.Flavors.{flavor_kind};
+ghost use Rattle.zerotrie_any.specs.declared.json.JsonError.TheVariants.{OutOfMemory};
+ghost use Rattle.zerotrie_any.specs.Json.{json, json_of, members, are_text, list_of, whole, pair_list};
+
+use crate::json::JsonError;
+use crate::listed::map_of;
+use crate::zerotrie::{ZeroTrie, ZeroTrieFlavor};
+use serde_json::{Map, Value};
+use std::alloc::{AllocError, Global};
+use std::collections::BTreeMap;
+use zerotrie_core::{Ext, Hash, Simple, TrieStore, ZeroTrieWithOptions};
+
+/// The members of an object from keys to values, or `None` where some key is not UTF-8.
+fn members_of(
+    alloc: Global,
+    entries: &BTreeMap<Vec<u8>, usize>,
+) -> Result<Option<Map<String, Value>>, AllocError>
+    ensures { let pairs = keyed (λ key. key.items) entries.now.entries in IfOk result (λ answer.
+        option_map (λ ms. members_view ms.entries) answer ≡ if are_text pairs then Some (members pairs) else None) }
+{
+    let mut members = Map::new(alloc);
+    for (key, value) in entries {
+        let Ok(text) = str::from_utf8(key.as_slice()) else {
+            return Ok(None);
+        };
+        serde_json::put(&mut members, alloc, text, Value::from(*value))?;
+    }
+    Ok(Some(members))
+}
+
+/// A list of bytes.
+fn bytes_list(alloc: Global, bytes: &[u8]) -> Result<Value, AllocError>
+    ensures { IfOk result (λ v. view v ≡ list_of (map whole bytes.now)) }
+{
+    let mut items = Vec::new(alloc);
+    for byte in bytes {
+        items.push(Value::from(*byte))?;
+    }
+    Ok(Value::Array(items))
+}
+
+/// A pair as a list of two.
+fn pair_list(alloc: Global, key: &[u8], value: usize) -> Result<Value, AllocError>
+    ensures { IfOk result (λ v. view v ≡ pair_list (key.now, value)) }
+{
+    let mut items = Vec::new(alloc);
+    items.push(bytes_list(alloc, key)?)?;
+    items.push(Value::from(value))?;
+    Ok(Value::Array(items))
+}
+
+/// A list of pairs.
+fn pairs_list(alloc: Global, entries: &BTreeMap<Vec<u8>, usize>) -> Result<Value, AllocError>
+    ensures { IfOk result (λ v. view v ≡ list_of (map pair_list (keyed (λ key. key.items) entries.now.entries))) }
+{
+    let mut items = Vec::new(alloc);
+    for (key, value) in entries {
+        items.push(pair_list(alloc, key.as_slice(), *value)?)?;
+    }
+    Ok(Value::Array(items))
+}
+
+/// The value of a map: an object where each key is UTF-8, and else a list of pairs.
+fn json_of_map(
+    alloc: Global,
+    entries: &BTreeMap<Vec<u8>, usize>,
+) -> Result<Value, AllocError>
+    ensures { IfOk result (λ v. view v ≡ json_of (keyed (λ key. key.items) entries.now.entries)) }
+{
+    match members_of(alloc, entries)? {
+        Some(members) => Ok(Value::Object(members)),
+        None => pairs_list(alloc, entries),
+    }
+}
+
+/// The JSON value of the map that bytes of the kind mean.
+///
+/// ```
+/// let value = json_of::<Simple>(rt.alloc(), b"ad\x90\x06ef\x90\x11")?;
+/// assert_eq!(rt; value.to_string(rt.alloc())?.as_str(), r#"{"ad":22,"adef":33}"#);
+/// ```
+///
+/// Where all keys are UTF-8, it is an object from key to number. Else it is a list of pairs, ascending by the
+/// bytes of their keys, each a list of two: the list of the key's bytes, and the number.
+///
+/// The only error is `OutOfMemory`. On bytes that mean no map some value is answered.
+pub fn json_of<K: ZeroTrieWithOptions>(alloc: Global, bytes: &[u8]) -> Result<Value, JsonError>
+    ensures json { (m : Map) → Means K.kind bytes.now m → IfOk result (λ v. view v ≡ json m) }
+    ensures refused { IfErr result (λ e. e ≡ OutOfMemory) }
+{
+    match map_of::<K>(alloc, bytes) {
+        Ok(entries) => Ok(json_of_map(alloc, &entries)?),
+        Err(_) => Err(JsonError::OutOfMemory),
+    }
+}
+
+impl<S: TrieStore> ZeroTrie<S> {
+    /// The JSON value of the trie's map.
+    ///
+    /// ```
+    /// let trie = ZeroTrie::of_kind::<Hash>(b"\xA1\xFF\x83".as_slice());
+    /// let value = trie.to_json_value(rt.alloc())?;
+    /// assert_eq!(rt; value.to_string(rt.alloc())?.as_str(), "[[[255],3]]");
+    /// ```
+    ///
+    /// Where all keys are UTF-8, it is an object from key to number. Else it is a list of pairs, ascending by
+    /// the bytes of their keys, each a list of two: the list of the key's bytes, and the number.
+    ///
+    /// The only error is `OutOfMemory`. On bytes that mean no map some value is answered.
+    pub fn to_json_value(&self, alloc: Global) -> Result<Value, JsonError>
+        ensures json { (m : Map) → Means (flavor_kind self.now.flavor) (S.stored self.now.store) m
+            → IfOk result (λ v. view v ≡ json m) }
+        ensures refused { IfErr result (λ e. e ≡ OutOfMemory) }
+    {
+        let bytes = self.store.bytes();
+        match self.flavor {
+            ZeroTrieFlavor::SimpleAscii => json_of::<Simple>(alloc, bytes),
+            ZeroTrieFlavor::PerfectHash => json_of::<Hash>(alloc, bytes),
+            ZeroTrieFlavor::ExtendedCapacity => json_of::<Ext>(alloc, bytes),
+        }
+    }
+}

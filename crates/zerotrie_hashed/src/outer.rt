@@ -1,0 +1,72 @@
+//! Tries in other forms: tagged bytes and JSON.
+
+ghost use Rattle.std.specs.Prelude.{◌≡◌, IfOk, IfErr};
+ghost use Rattle.serde_json.specs.View.{view};
+ghost use Rattle.zerotrie_core.specs.Kind.{tag};
+ghost use Rattle.zerotrie_any.specs.Tagged.{tagged, IsTagFault};
+ghost use Rattle.zerotrie_any.specs.JsonCalls.{IsBuildOfJson};
+
+use crate::hashed_trie::HashedTrie;
+use crate::options::HashedKind;
+use serde_json::Value;
+use std::alloc::{AllocError, Global};
+use zerotrie_any::{JsonError, TagError, bytes_from_json, tagged, untagged};
+use zerotrie_core::TrieStore;
+
+impl<K: HashedKind, S: TrieStore> HashedTrie<K, S> {
+    /// The tag of the kind, then the bytes of the trie.
+    ///
+    /// ```
+    /// let trie = ZeroTriePerfectHash::from_bytes(b"a\x85");
+    /// assert_eq!(rt; trie.to_tagged_bytes(rt.alloc())?.as_slice(), b"\x03a\x85".as_slice());
+    /// ```
+    ///
+    /// The only error is want of memory.
+    pub fn to_tagged_bytes(&self, alloc: Global) -> Result<Vec<u8>, AllocError>
+        ensures { IfOk result (λ t. t.items ≡ tagged K.kind (S.stored self.now.store)) }
+    {
+        tagged::<K>(alloc, self.as_bytes())
+    }
+}
+
+impl<'a, K: HashedKind> HashedTrie<K, &'a [u8]> {
+    /// The trie over the bytes behind the tag of its kind, where they lie.
+    ///
+    /// ```
+    /// let trie = ZeroTriePerfectHash::try_from_tagged_bytes(b"\x03a\x85")?;
+    /// assert_eq!(rt; trie.get(b"a"), Some(5));
+    /// ```
+    ///
+    /// It takes no memory. The error is `Empty` where there are no bytes, and `InvalidTag` where the first is
+    /// another than the kind's tag. What stands behind the tag is not tested.
+    pub fn try_from_tagged_bytes(bytes: &'a [u8]) -> Result<Self, TagError>
+        ensures ok { IfOk result (λ trie. bytes.now ≡ tagged K.kind trie.store.now) }
+        ensures err { IfErr result (λ e. IsTagFault (λ t. tag K.kind ≡ t) bytes.now e) }
+    {
+        let behind = untagged::<K>(bytes)?;
+        Ok(HashedTrie::from_bytes(behind))
+    }
+}
+
+impl<K: HashedKind> HashedTrie<K, Vec<u8>> {
+    /// Builds the trie of the pairs in a JSON value.
+    ///
+    /// ```
+    /// let value = Value::from_str(rt.alloc(), r#"{"ad":22,"adef":33}"#)?;
+    /// let trie = ZeroTriePerfectHash::try_from_json_value(rt.alloc(), &value)?;
+    /// assert_eq!(rt; trie.get(b"adef"), Some(33));
+    /// ```
+    ///
+    /// The value is an object from keys to numbers, or a list of pairs in any order. A pair is a list of
+    /// exactly two, a key and a number, and a key is a text or a list of bytes. Numbers are whole, from 0 to
+    /// 2^64 - 1.
+    ///
+    /// The error is `Shape` where the value is anything else, `Build` where `try_from_iter` of its pairs is
+    /// refused, with the reason, and `OutOfMemory`.
+    pub fn try_from_json_value(alloc: Global, value: &Value) -> Result<Self, JsonError>
+        ensures { IsBuildOfJson (λ _. K.kind) (λ trie. trie.store.items) (view value.now) result }
+    {
+        let store = bytes_from_json::<K>(alloc, value)?;
+        Ok(HashedTrie::from_store(store))
+    }
+}
