@@ -17,4 +17,6 @@ pub mod Routes
 pub mod Items
 pub mod plain
 pub mod reader
+pub mod Listings
+pub mod listing
 pub mod Laws

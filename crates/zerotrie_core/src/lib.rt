@@ -5,6 +5,7 @@ mod branch;
 mod cursor;
 mod lanes;
 pub mod laws;
+mod listing;
 mod node;
 mod options;
 mod plain;
@@ -13,6 +14,7 @@ mod span_cursor;
 mod varint;
 
 pub use cursor::{AsciiProbeResult, probe, step, take_value};
+pub use listing::{ListError, ZeroTrieIterator};
 pub use options::{Ext, Hash, Ignore, Simple, ZeroTrieBuilderOptions, ZeroTrieWithOptions};
 pub use plain::plain_encode;
 pub use reader::get_counted;

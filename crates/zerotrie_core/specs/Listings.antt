@@ -1,0 +1,34 @@
+-- Listings: what is left of one, and what a call of `next` gives.
+use Rattle.std.specs.Prelude.{◌≡◌, ℕ, ◌+◌, List, [], ◌∷◌, Bool, true, false, Option, Some, None, Result, Ok, Err, length, if◌then◌else◌}
+use Rattle.zerotrie_core.specs.Maps.{Pairs}
+use Rattle.zerotrie_core.specs.declared.listing.ListError.{ListError}
+use Rattle.zerotrie_core.specs.declared.listing.ListError.TheVariants.{OutOfMemory}
+
+-- What is left of a listing: the pairs that still come, in this order, and whether it has ended.
+pub record Left : Type 0 where
+  pub pairs : Pairs
+  pub ended : Bool
+
+-- these pairs still come
+abbrev pub to_come : Pairs → Left
+to_come pairs = record { pairs = pairs; ended = false }
+
+-- nothing comes any more
+abbrev pub over : Left
+over = record { pairs = []; ended = true }
+
+-- at most how often something still comes: each pair, or an error
+abbrev pub turns_left : Left → ℕ
+turns_left left = if left.ended then 0 else 1 + length left.pairs
+
+-- One call of `next`: the first pair comes and is taken off, or an error that may end the listing here, or nothing was left.
+-- After an error or the end it is over.
+module _ {K E : Type 0} (key : K → List ℕ) (MayEnd : E → Pairs → Type 0) where
+  abbrev pub ListsOne : Left → Option (Result (K × ℕ) E) → Left → Type 0
+  ListsOne before None after = (before.pairs ≡ []) × (after ≡ over)
+  ListsOne before (Some (Ok p)) after = (before ≡ to_come ((key p.0, p.1) ∷ after.pairs)) × (after ≡ to_come after.pairs)
+  ListsOne before (Some (Err e)) after = (before.ended ≡ false) × MayEnd e before.pairs × (after ≡ over)
+
+-- the one error of a listing whose keys are bytes
+abbrev pub MemoryOnly : ListError → Pairs → Type 0
+MemoryOnly e pairs = e ≡ OutOfMemory

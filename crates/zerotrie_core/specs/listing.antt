@@ -1,0 +1,3 @@
+-- words for private functions of the listing
+pub mod Listed
+pub mod Opened

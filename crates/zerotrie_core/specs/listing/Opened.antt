@@ -1,0 +1,44 @@
+-- The state of a listing: the text that it stands in, and the branches that are open.
+use Rattle.std.proofs.Common.{zero, suc}
+use Rattle.std.specs.Prelude.{◌≡◌, ℕ, Option, Some, None, ◌+◌, ◌-◌, ◌<◌, ◌≤◌, List, [], ◌∷◌, ◌++◌, length, take, drop, reverse, Bool, if◌then◌else◌}
+use Rattle.zerotrie_core.specs.Kind.{Kind}
+use Rattle.zerotrie_core.specs.Maps.{Pairs, with_run}
+use Rattle.zerotrie_core.specs.Nodes.{targets_behind, begin_of}
+use Rattle.zerotrie_core.specs.Listings.{Left, to_come, over}
+use Rattle.zerotrie_core.specs.listing.Listed.{listed, of_targets}
+use Rattle.zerotrie_core.specs.declared.listing.OpenBranch.{OpenBranch}
+
+-- the pairs behind an open branch from its next edge on
+abbrev pub pairs_behind : Kind → OpenBranch → Pairs
+pairs_behind kind o = of_targets (listed kind) o.branch.edges o.branch.width o.branch.behind.now (o.branch.edges - o.next)
+
+-- the pairs behind open branches, the innermost first: what is in front of a branch is a beginning of the prefix
+abbrev pub pairs_open : Kind → List ℕ → List OpenBranch → Pairs
+pairs_open kind prefix [] = []
+pairs_open kind prefix (o ∷ branches) = let front = take o.depth prefix in with_run front (pairs_behind kind o) ++ pairs_open kind front branches
+
+-- the pairs that are left
+abbrev pub pairs_left : Kind → List ℕ → List ℕ → List OpenBranch → Pairs
+pairs_left kind prefix rest branches = with_run prefix (listed kind rest) ++ pairs_open kind prefix (reverse branches)
+
+abbrev pub left_in : Bool → Kind → List ℕ → List ℕ → List OpenBranch → Left
+left_in ended kind prefix rest branches = if ended then over else to_come (pairs_left kind prefix rest branches)
+
+-- each open branch stands behind a beginning of the prefix, inner ones behind no shorter one, and has an edge to come
+abbrev pub Nested : ℕ → List OpenBranch → Type 0
+Nested depth [] = Unit {0}
+Nested depth (o ∷ branches) = (o.depth ≤ depth) × (o.next < o.branch.edges) × Nested o.depth branches
+
+-- how many bytes of targets, edges and branches are still to be gone over
+abbrev pub work_open : List OpenBranch → ℕ
+work_open [] = 0
+work_open (o ∷ branches) = length (targets_behind o.branch.edges o.branch.width o.branch.behind.now) - begin_of o.branch.edges o.branch.width o.branch.behind.now o.next
+    + (o.branch.edges - o.next) + 1 + work_open branches
+
+abbrev pub work_left : List ℕ → List OpenBranch → ℕ
+work_left rest branches = length rest + work_open (reverse branches)
+
+-- What going on to the next value comes to: the first pair with the key in hand, or the end.
+abbrev pub IsFound : Pairs → List ℕ → Pairs → Option ℕ → Type 0
+IsFound before key after None = before ≡ []
+IsFound before key after (Some v) = before ≡ (key, v) ∷ after
