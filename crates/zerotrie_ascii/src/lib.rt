@@ -2,7 +2,9 @@
 #![tactic(auto)]
 
 mod ascii_trie;
+mod cursor;
 mod options;
 
 pub use ascii_trie::{AsciiTrie, ZeroAsciiIgnoreCaseTrie, ZeroTrieSimpleAscii};
+pub use cursor::{AsciiCursor, ZeroAsciiIgnoreCaseTrieCursor, ZeroTrieSimpleAsciiCursor};
 pub use options::AsciiKind;
