@@ -19,4 +19,5 @@ pub mod plain
 pub mod reader
 pub mod Listings
 pub mod listing
+pub mod cursor
 pub mod Laws
