@@ -1,8 +1,10 @@
 //! Tries over keys of any bytes, whose wide branches have perfect hashes.
 #![tactic(auto)]
 
+mod cursor;
 mod hashed_trie;
 mod options;
 
+pub use cursor::{HashedCursor, ZeroTrieExtendedCapacityCursor, ZeroTriePerfectHashCursor};
 pub use hashed_trie::{HashedTrie, ZeroTrieExtendedCapacity, ZeroTriePerfectHash};
 pub use options::HashedKind;
