@@ -6,6 +6,10 @@ pub use Rattle.zerotrie_core.specs.Numbers
 pub use Rattle.zerotrie_core.specs.Maps
 pub use Rattle.zerotrie_core.specs.Branches
 pub use Rattle.zerotrie_core.specs.Texts
+pub use Rattle.zerotrie_core.specs.Cursors
+pub use Rattle.zerotrie_core.specs.Machine
+pub use Rattle.zerotrie_core.specs.Places
+pub use Rattle.zerotrie_core.specs.Listings
 pub use Rattle.zerotrie_core.specs.Canonical
 pub use Rattle.zerotrie_core.specs.Fits
 pub use Rattle.zerotrie_core.specs.Causes
@@ -16,3 +20,5 @@ pub use Rattle.zerotrie_core.specs.Laws
 pub use Rattle.zerotrie_any.specs.Order
 pub use Rattle.zerotrie_any.specs.Auto
 pub use Rattle.zerotrie_any.specs.Flavors
+pub use Rattle.zerotrie_any.specs.Walks
+pub use Rattle.zerotrie_ascii.specs.Writing

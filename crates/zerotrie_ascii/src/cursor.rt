@@ -1,15 +1,14 @@
 //! Cursors, which go down a trie over ASCII keys edge by edge.
 
-ghost use Rattle.std.specs.Prelude.{◌≡◌, ◌↔◌, ◌∷◌, [], ℕ, List, None, IsTrue, IfNone, IfOk, IsOk, OnErr, is_ok, MatchResult, nat_lt};
+ghost use Rattle.std.specs.Prelude.{⊤, ◌≡◌, ◌↔◌, ◌∷◌, [], ℕ, List, None, IsTrue, IfNone, IfOk, IsOk, OnErr, is_ok, MatchResult, nat_lt};
 ghost use Rattle.std.specs.Fn.{FnOnceReturnsAtMut};
 ghost use Rattle.std.specs.Option.{option_map};
 ghost use Rattle.zerotrie_core.specs.Kind.{simple_ascii, ignore_case};
 ghost use Rattle.zerotrie_core.specs.Maps.{Pairs};
 ghost use Rattle.zerotrie_core.specs.Texts.{Lists};
-ghost use Rattle.zerotrie_core.specs.Machine.{run};
 ghost use Rattle.zerotrie_core.specs.Places.{IsStep, IsTake, IsProbe};
 ghost use Rattle.zerotrie_any.specs.Auto.{is_ascii};
-ghost use Rattle.zerotrie_any.specs.Walks.{ops_of, answers_of};
+ghost use Rattle.zerotrie_any.specs.Walks.{IsWalk};
 ghost use Rattle.zerotrie_ascii.specs.Writing.{ascii_front, StepsBy, HasValue};
 
 use crate::ascii_trie::AsciiTrie;
@@ -175,9 +174,11 @@ impl<'a> AsciiCursor<'a, Ignore> {
 }
 
 impl<'a, K> Clone for AsciiCursor<'a, K> {
-    fn clone(&self) -> Result<Self, AllocError>
-        ensures { result ≡ Ok self.now }
-    {
+    ghost is_clone = { λ x y. y ≡ x };
+
+    ghost is_infallible = { λ _. ⊤ };
+
+    fn clone(&self) -> Result<Self, AllocError> {
         Ok(AsciiCursor::new(self.trie))
     }
 }
@@ -248,8 +249,7 @@ impl<K: AsciiKind, S: TrieStore> AsciiTrie<K, S> {
     ///
     /// The only error is want of memory.
     pub fn walk(&self, alloc: Global, ops: &[CursorOp]) -> Result<Vec<CursorAnswer>, AllocError>
-        ensures { IfOk result (λ answers. (pairs : Pairs) → Lists K.kind (S.stored self.now.store) pairs
-            → answers_of answers.items ≡ run K.kind (ops_of ops.now) pairs) }
+        ensures { IfOk result (λ answers. IsWalk K.kind (S.stored self.now.store) ops.now answers.items) }
     {
         walk::<K>(alloc, self.as_bytes(), ops)
     }

@@ -1,12 +1,11 @@
 //! Cursors, which go down a trie over keys of any bytes edge by edge.
 
-ghost use Rattle.std.specs.Prelude.{◌≡◌, ◌≢◌, ◌↔◌, [], ℕ, IsTrue, IfSome, IfNone, IfOk};
+ghost use Rattle.std.specs.Prelude.{⊤, ◌≡◌, ◌≢◌, ◌↔◌, [], ℕ, IsTrue, IfSome, IfNone, IfOk};
 ghost use Rattle.std.specs.Option.{option_map};
 ghost use Rattle.zerotrie_core.specs.Maps.{Pairs};
 ghost use Rattle.zerotrie_core.specs.Texts.{Lists};
-ghost use Rattle.zerotrie_core.specs.Machine.{run};
 ghost use Rattle.zerotrie_core.specs.Places.{nowhere, ListsAt, IsStep, IsTake, IsProbe};
-ghost use Rattle.zerotrie_any.specs.Walks.{ops_of, answers_of};
+ghost use Rattle.zerotrie_any.specs.Walks.{IsWalk};
 
 use crate::hashed_trie::HashedTrie;
 use crate::options::HashedKind;
@@ -143,9 +142,11 @@ impl<'a, K: HashedKind> HashedCursor<'a, K> {
 }
 
 impl<'a, K> Clone for HashedCursor<'a, K> {
-    fn clone(&self) -> Result<Self, AllocError>
-        ensures { result ≡ Ok self.now }
-    {
+    ghost is_clone = { λ x y. y ≡ x };
+
+    ghost is_infallible = { λ _. ⊤ };
+
+    fn clone(&self) -> Result<Self, AllocError> {
         Ok(HashedCursor {
             place: self.place.clone()?,
             kind: PhantomData,
@@ -172,8 +173,7 @@ impl<K: HashedKind, S: TrieStore> HashedTrie<K, S> {
     ///
     /// The only error is want of memory.
     pub fn walk(&self, alloc: Global, ops: &[CursorOp]) -> Result<Vec<CursorAnswer>, AllocError>
-        ensures { IfOk result (λ answers. (pairs : Pairs) → Lists K.kind (S.stored self.now.store) pairs
-            → answers_of answers.items ≡ run K.kind (ops_of ops.now) pairs) }
+        ensures { IfOk result (λ answers. IsWalk K.kind (S.stored self.now.store) ops.now answers.items) }
     {
         walk::<K>(alloc, self.as_bytes(), ops)
     }
