@@ -6,6 +6,10 @@ pub use Rattle.zerotrie_core.specs.Numbers
 pub use Rattle.zerotrie_core.specs.Maps
 pub use Rattle.zerotrie_core.specs.Branches
 pub use Rattle.zerotrie_core.specs.Texts
+pub use Rattle.zerotrie_core.specs.Cursors
+pub use Rattle.zerotrie_core.specs.Machine
+pub use Rattle.zerotrie_core.specs.Places
+pub use Rattle.zerotrie_core.specs.Listings
 pub use Rattle.zerotrie_core.specs.Canonical
 pub use Rattle.zerotrie_core.specs.Fits
 pub use Rattle.zerotrie_core.specs.Causes
@@ -19,3 +23,5 @@ pub use Rattle.zerotrie_any.specs.Flavors
 pub use Rattle.zerotrie_any.specs.Tagged
 pub use Rattle.zerotrie_any.specs.Json
 pub use Rattle.zerotrie_any.specs.JsonCalls
+pub use Rattle.zerotrie_any.specs.Walks
+pub use Rattle.zerotrie_ascii.specs.Writing

@@ -41,12 +41,24 @@ mod tests;
 pub use zerotrie_any::{
     HasFlavor, JsonError, TagError, TextKey, ZeroTrie, ZeroTrieFlavor, json_keeps_the_pairs,
 };
+pub use zerotrie_any::{CursorAnswer, CursorOp, HasFlavor, TextKey, ZeroTrie, ZeroTrieFlavor};
 pub use zerotrie_ascii::{AsciiKind, AsciiTrie, ZeroAsciiIgnoreCaseTrie, ZeroTrieSimpleAscii};
 pub use zerotrie_core::{
     ConvertStore, Ext, Hash, Ignore, Simple, TrieKey, TrieStore, ZeroTrieBuildError,
     ZeroTrieBuilderOptions, ZeroTrieWithOptions, laws,
 };
 pub use zerotrie_hashed::{HashedKind, HashedTrie, ZeroTrieExtendedCapacity, ZeroTriePerfectHash};
+
+/// Cursors, which go down a trie edge by edge.
+pub mod cursor {
+    pub use zerotrie_ascii::{
+        AsciiCursor, ZeroAsciiIgnoreCaseTrieCursor, ZeroTrieSimpleAsciiCursor,
+    };
+    pub use zerotrie_core::{AsciiProbeResult, ByteProbeResult};
+    pub use zerotrie_hashed::{
+        HashedCursor, ZeroTrieExtendedCapacityCursor, ZeroTriePerfectHashCursor,
+    };
+}
 
 /// The perfect hash of bytes, on which hashed branches rest.
 pub mod _internal {

@@ -2,8 +2,10 @@
 #![tactic(auto)]
 
 mod ascii_trie;
+mod cursor;
 mod options;
 mod outer;
 
 pub use ascii_trie::{AsciiTrie, ZeroAsciiIgnoreCaseTrie, ZeroTrieSimpleAscii};
+pub use cursor::{AsciiCursor, ZeroAsciiIgnoreCaseTrieCursor, ZeroTrieSimpleAsciiCursor};
 pub use options::AsciiKind;

@@ -18,6 +18,7 @@ pub use Rattle.zerotrie_core.proofs.FrontLemmas.{small_width, wider, width_is, t
 -- edges that rise, and what a node in front of texts lists
 pub use Rattle.zerotrie_core.proofs.TableLemmas.{Rises, AllAbove, rises_distinct, increasing_rises}
 pub use Rattle.zerotrie_core.proofs.CanonLaws.{lists_some, bytes_all}
+pub use Rattle.zerotrie_core.proofs.OpenLemmas.{nothing_listed}
 pub use Rattle.zerotrie_core.proofs.EncodeLaws.{node_lists, not_empty_text}
 -- how many edges and target bytes the pairs of a branch have
 pub use Rattle.zerotrie_core.proofs.SizeLaws.{targets_each, edges_count}

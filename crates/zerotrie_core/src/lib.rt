@@ -14,8 +14,8 @@ mod reader;
 mod span_cursor;
 mod varint;
 
-pub use listing::{ListError, ZeroTrieIterator};
 pub use cursor::{AsciiProbeResult, probe, step, take_value};
+pub use listing::{ListError, ZeroTrieIterator};
 pub use options::{Ext, Hash, Ignore, Simple, ZeroTrieBuilderOptions, ZeroTrieWithOptions};
 pub use plain::plain_encode;
 pub use reader::get_counted;

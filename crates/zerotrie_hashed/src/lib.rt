@@ -1,10 +1,12 @@
 //! Tries over keys of any bytes, whose wide branches have perfect hashes.
 #![tactic(auto)]
 
+mod cursor;
 mod hashed_trie;
 mod listed;
 mod options;
 mod outer;
 
+pub use cursor::{HashedCursor, ZeroTrieExtendedCapacityCursor, ZeroTriePerfectHashCursor};
 pub use hashed_trie::{HashedTrie, ZeroTrieExtendedCapacity, ZeroTriePerfectHash};
 pub use options::HashedKind;
