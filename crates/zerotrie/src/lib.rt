@@ -39,9 +39,9 @@
 mod tests;
 
 pub use zerotrie_any::{
-    HasFlavor, JsonError, TagError, TextKey, ZeroTrie, ZeroTrieFlavor, json_keeps_the_pairs,
+    CursorAnswer, CursorOp, HasFlavor, JsonError, TagError, TextKey, ZeroTrie, ZeroTrieFlavor,
+    json_keeps_the_pairs,
 };
-pub use zerotrie_any::{CursorAnswer, CursorOp, HasFlavor, TextKey, ZeroTrie, ZeroTrieFlavor};
 pub use zerotrie_ascii::{AsciiKind, AsciiTrie, ZeroAsciiIgnoreCaseTrie, ZeroTrieSimpleAscii};
 pub use zerotrie_core::{
     ConvertStore, Ext, Hash, Ignore, Simple, TrieKey, TrieStore, ZeroTrieBuildError,
