@@ -2,7 +2,9 @@
 #![tactic(auto)]
 
 mod ascii_trie;
+mod listed;
 mod options;
 
 pub use ascii_trie::{AsciiTrie, ZeroAsciiIgnoreCaseTrie, ZeroTrieSimpleAscii};
+pub use listed::ZeroTrieStringIterator;
 pub use options::AsciiKind;
