@@ -3,9 +3,11 @@
 
 mod ascii_trie;
 mod cursor;
+mod listed;
 mod options;
 mod outer;
 
 pub use ascii_trie::{AsciiTrie, ZeroAsciiIgnoreCaseTrie, ZeroTrieSimpleAscii};
 pub use cursor::{AsciiCursor, ZeroAsciiIgnoreCaseTrieCursor, ZeroTrieSimpleAsciiCursor};
+pub use listed::ZeroTrieStringIterator;
 pub use options::AsciiKind;
