@@ -37,3 +37,9 @@ mod CutLemmas
 mod RefusalLemmas
 mod MeansLaws
 mod LowerLemmas
+mod DeepLemmas
+mod StepLemmas
+mod PieceLemmas
+mod SoundLemmas
+mod BehindLemmas
+mod TestLemmas

@@ -16,3 +16,5 @@ pub mod Items
 pub mod plain
 pub mod reader
 pub mod Laws
+pub mod WellFormed
+pub mod well_formed

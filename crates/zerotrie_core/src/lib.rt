@@ -9,11 +9,13 @@ mod options;
 mod plain;
 mod reader;
 mod varint;
+mod well_formed;
 
 pub use options::{Ext, Hash, Ignore, Simple, ZeroTrieBuilderOptions, ZeroTrieWithOptions};
 pub use plain::plain_encode;
 pub use reader::get_counted;
 pub use varint::{read_varint_meta2, read_varint_meta3, write_varint_meta2, write_varint_meta3};
+pub use well_formed::{is_well_formed, is_well_formed_counted};
 pub use zerotrie_base::{
     ConvertStore, PerfectByteHashMap, PerfectByteHashMapCacheOwned, TrieKey, TrieStore,
     ZeroTrieBuildError, are_distinct, f1, f2,
