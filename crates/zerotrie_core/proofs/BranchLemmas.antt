@@ -53,7 +53,7 @@ drop-concat [] (suc i) = refl
 drop-concat (t ∷ targets) (suc i) =
     rw (length-append t (concat (take i targets))) (drop-append-add t (concat targets) (length (concat (take i targets))) ∙ drop-concat targets i)
 
-next_end : (targets : List (List ℕ)) (i : ℕ) → i < length targets → length (concat (take (suc i) targets)) ≡ length (concat (take i targets)) + length (get_or targets i [])
+pub next_end : (targets : List (List ℕ)) (i : ℕ) → i < length targets → length (concat (take (suc i) targets)) ≡ length (concat (take i targets)) + length (get_or targets i [])
 next_end [] i h = absurd (omega arith)
 next_end (t ∷ targets) zero h = simp length-append (omega arith)
 next_end (t ∷ targets) (suc i) h = simp length-append (let more = next_end targets i (omega arith) in omega arith)
@@ -69,7 +69,7 @@ between targets i h =
     let end = next_end targets i h in
     rw (drop-concat targets i, rest_of targets i h) (take_at (get_or targets i []) (concat (drop (suc i) targets)) _ (omega arith))
 
-ends_within : (targets : List (List ℕ)) (i : ℕ) → length (concat (take i targets)) ≤ length (concat targets)
+pub ends_within : (targets : List (List ℕ)) (i : ℕ) → length (concat (take i targets)) ≤ length (concat targets)
 ends_within targets zero = omega arith
 ends_within [] (suc i) = omega arith
 ends_within (t ∷ targets) (suc i) = simp length-append (let more = ends_within targets i in omega arith)
@@ -104,7 +104,7 @@ pub none_left : (w b : ℕ) → w ≤ b → w - b ≡ 0
 none_left w b h = omega arith
 
 -- what a slice's `get` gives at a range that is within it
-got : (r : Option (Bor (List ℕ))) (xs : List ℕ) (from to : ℕ) → IsGetRangeResult xs from to r → from ≤ to → to ≤ length xs → IsSomeAnd r (λ x. x.now ≡ take (to - from) (drop from xs))
+pub got : (r : Option (Bor (List ℕ))) (xs : List ℕ) (from to : ℕ) → IsGetRangeResult xs from to r → from ≤ to → to ≤ length xs → IsSomeAnd r (λ x. x.now ≡ take (to - from) (drop from xs))
 got None xs from to g low high = let h = g.1 (low, high) in absurd (cc)
 got (Some x) xs from to g low high = g.0.2
 
@@ -124,7 +124,7 @@ module _ {targets : List (List ℕ)} {n w : ℕ} {behind : List ℕ} (has : HasT
   table_is : take (w * (n - 1)) (drop n behind) ≡ blocks w (offsets targets)
   table_is = ap (take (w * (n - 1))) has.bytes_are ∙ take_at (blocks w (offsets targets)) (concat targets) (w * (n - 1)) table_len
 
-  targets_are : targets_behind n w behind ≡ concat targets
+  pub targets_are : targets_behind n w behind ≡ concat targets
   targets_are = ap (drop (w * (n - 1))) has.bytes_are ∙ drop_at (blocks w (offsets targets)) (concat targets) (w * (n - 1)) table_len
 
   -- each offset is where a target ends
@@ -139,13 +139,13 @@ module _ {targets : List (List ℕ)} {n w : ℕ} {behind : List ℕ} (has : HasT
       ap (number_from 0 w (n - 1) place) table_is
       ∙ ap (λ k. number_from 0 w k place (blocks w (offsets targets))) (sym count_is) ∙ read ∙ add_zero_mod (get_or (offsets targets) place 0) (256 ^ w) small ∙ offset
 
-  begin_is : (place : ℕ) → place < n → begin_of n w behind place ≡ length (concat (take place targets))
+  pub begin_is : (place : ℕ) → place < n → begin_of n w behind place ≡ length (concat (take place targets))
   begin_is zero h = refl
   begin_is (suc p) h =
       let before : suc p - 1 ≡ p = omega arith in
       rw (ne_eqb (suc p) 0 (λ e. omega arith)) (ap (offset_in n w behind) before ∙ offset_is p (omega arith))
 
-  end_is : (place : ℕ) → place < n → end_of n w behind place ≡ length (concat (take (suc place) targets))
+  pub end_is : (place : ℕ) → place < n → end_of n w behind place ≡ length (concat (take (suc place) targets))
   end_is place h = elim (cases_lt (place + 1) n) [
     | inl inside ↦ rw (ne_eqb place (n - 1) (λ e. omega arith)) (offset_is place inside)
     | inr last ↦

@@ -44,3 +44,9 @@ mod RefusalLemmas
 mod MeansLaws
 mod LowerLemmas
 mod CursorLaws
+mod DeepLemmas
+mod StepLemmas
+mod PieceLemmas
+mod SoundLemmas
+mod BehindLemmas
+mod TestLemmas

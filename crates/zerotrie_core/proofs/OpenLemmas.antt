@@ -69,10 +69,10 @@ pub record OpensBranch {kind : Kind} {bytes : List ℕ} {pairs : Pairs} (text : 
   pub holds : Holds kind edges targets n w table behind
 
 -- the bytes behind the head of a branch
-abbrev body_of : {kind : Kind} {edges : List ℕ} {targets : List (List ℕ)} {bytes : List ℕ} → IsBranch kind edges targets bytes → List ℕ
+abbrev pub body_of : {kind : Kind} {edges : List ℕ} {targets : List (List ℕ)} {bytes : List ℕ} → IsBranch kind edges targets bytes → List ℕ
 body_of {targets = targets} b = b.table ++ (blocks (b.width + 1) (offsets targets) ++ concat targets)
 
-head_begins : {kind : Kind} {edges : List ℕ} {targets : List (List ℕ)} {bytes : List ℕ} (b : IsBranch kind edges targets bytes) → BeginsWith 32 3 (256 * b.width + length edges % 256) bytes (body_of b)
+pub head_begins : {kind : Kind} {edges : List ℕ} {targets : List (List ℕ)} {bytes : List ℕ} (b : IsBranch kind edges targets bytes) → BeginsWith 32 3 (256 * b.width + length edges % 256) bytes (body_of b)
 head_begins b = record { spelling = b.head; spells = b.is_head; bytes_are = b.bytes_are }
 
 body_long : {kind : Kind} {edges : List ℕ} {targets : List (List ℕ)} {bytes : List ℕ} (b : IsBranch kind edges targets bytes) → table_size kind (length edges) + (b.width + 1) * (length edges - 1) ≤ length (body_of b)
@@ -83,7 +83,7 @@ body_long {kind = kind} {edges = edges} {targets = targets} b =
     let offsets_len = length-blocks (b.width + 1) (offsets targets) ∙ ap (λ n. (b.width + 1) * n) (length-offsets targets ∙ ap (λ n. n - 1) b.a_target_each) in
     omega arith
 
-width_is : (w x n e : ℕ) → 1 ≤ w → 2 ≤ e → e ≤ 256 → 2 ≤ n → n ≤ 256 → 256 * x + n % 256 ≡ 256 * (w - 1) + e % 256 → (x + 1 ≡ w) × (n ≡ e)
+pub width_is : (w x n e : ℕ) → 1 ≤ w → 2 ≤ e → e ≤ 256 → 2 ≤ n → n ≤ 256 → 256 * x + n % 256 ≡ 256 * (w - 1) + e % 256 → (x + 1 ≡ w) × (n ≡ e)
 width_is w x n e some two most two' most' is = (omega arith, omega arith)
 
 -- from the edges on, the table is in front of the offsets
@@ -181,7 +181,7 @@ branch_opens (branch {edges = edges} {targets = targets} i each) n w table behin
 }
 
 -- two lists of one length in front of others
-same_parts : (xs ys more more' : List ℕ) → length xs ≡ length ys → xs ++ more ≡ ys ++ more' → (xs ≡ ys) × (more ≡ more')
+pub same_parts : (xs ys more more' : List ℕ) → length xs ≡ length ys → xs ++ more ≡ ys ++ more' → (xs ≡ ys) × (more ≡ more')
 same_parts [] [] more more' n e = (refl, e)
 same_parts [] (y ∷ ys) more more' n e = absurd (omega arith)
 same_parts (x ∷ xs) [] more more' n e = absurd (omega arith)

@@ -22,3 +22,5 @@ pub mod listing
 pub mod cursor
 pub mod Laws
 pub mod CursorLaws
+pub mod WellFormed
+pub mod well_formed

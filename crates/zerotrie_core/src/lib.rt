@@ -13,6 +13,7 @@ mod plain;
 mod reader;
 mod span_cursor;
 mod varint;
+mod well_formed;
 
 pub use cursor::{AsciiProbeResult, probe, step, take_value};
 pub use listing::{ListError, ZeroTrieIterator};
@@ -21,6 +22,7 @@ pub use plain::plain_encode;
 pub use reader::get_counted;
 pub use span_cursor::{ByteProbeResult, SpanCursor};
 pub use varint::{read_varint_meta2, read_varint_meta3, write_varint_meta2, write_varint_meta3};
+pub use well_formed::{is_well_formed, is_well_formed_counted};
 pub use zerotrie_base::{
     ConvertStore, PerfectByteHashMap, PerfectByteHashMapCacheOwned, TrieKey, TrieStore,
     ZeroTrieBuildError, are_distinct, f1, f2,

@@ -1,0 +1,3 @@
+-- Words of the private functions of the test of bytes.
+pub mod Branching
+pub mod Testing

@@ -1,0 +1,54 @@
+-- What the test of bytes knows on its way.
+use Rattle.std.specs.Prelude.{◌≡◌, ◌≢◌, ℕ, ◌<◌, List, [], length, max}
+use Rattle.zerotrie_core.specs.Kind.{Kind}
+use Rattle.zerotrie_core.specs.Maps.{Pairs}
+use Rattle.zerotrie_core.specs.Texts.{Lists, NoValueFirst, NoSpanFirst}
+use Rattle.zerotrie_core.specs.Nodes.{Shape, Begins}
+use Rattle.zerotrie_core.specs.Shapes.{branch_shape}
+use Rattle.zerotrie_core.specs.WellFormed.{deep}
+use Rattle.zerotrie_core.specs.declared.well_formed.Expected.{Expected}
+use Rattle.zerotrie_core.specs.declared.well_formed.Expected.TheVariants.{Anything, NoValue, NoSpan, Something}
+use Rattle.zerotrie_core.specs.declared.well_formed.Step.{Step}
+use Rattle.zerotrie_core.specs.declared.well_formed.Step.TheVariants.{Wrong, Over, Behind}
+
+-- the bytes are a text of the kind
+abbrev pub IsText : Kind → List ℕ → Type 0
+IsText kind bytes = (pairs : Pairs) × Lists kind bytes pairs
+
+-- what may stand next in a text
+abbrev pub Suits : Expected → List ℕ → Type 0
+Suits Anything bytes = Unit {0}
+Suits NoValue bytes = NoValueFirst bytes
+Suits NoSpan bytes = (bytes ≢ []) × NoSpanFirst bytes
+Suits Something bytes = bytes ≢ []
+
+-- The rest of a text suits, and of the calls that the text opens at once, those outside the rest are at most so many.
+pub record Leads {kind : Kind} {bytes : List ℕ} {pairs : Pairs} (text : Lists kind bytes pairs) (rest : List ℕ) (expected : Expected) (most : ℕ) : Type 0 where
+  pub suits : Suits expected rest
+  pub below : Pairs
+  pub inner : Lists kind rest below
+  pub counts : deep text ≡ max most (deep inner)
+
+-- The bytes are a text exactly if the rest is one and suits.
+pub record Onward (kind : Kind) (bytes rest : List ℕ) (expected : Expected) (most : ℕ) : Type 0 where
+  pub there : (pairs : Pairs) (text : Lists kind bytes pairs) → Leads text rest expected most
+  pub back : Suits expected rest → IsText kind rest → IsText kind bytes
+
+-- whichever bytes begin with the node
+abbrev pub AlwaysOnward : Kind → Shape → List ℕ → Expected → ℕ → Type 0
+AlwaysOnward kind node rest expected most = (bytes : List ℕ) → Begins kind bytes node → Onward kind bytes rest expected most
+
+abbrev pub AlwaysNoText : Kind → Shape → Type 0
+AlwaysNoText kind node = (bytes : List ℕ) → Begins kind bytes node → IsText kind bytes → ⊥
+
+-- what suits begins with the node
+abbrev pub AlwaysSuits : Kind → Shape → Expected → Type 0
+AlwaysSuits kind node expected = (bytes : List ℕ) → Begins kind bytes node → Suits expected bytes
+
+-- What a node comes to, where so much was expected.
+abbrev pub Steps : Kind → Shape → Expected → Step → Type 0
+Steps kind node expected Wrong = (bytes : List ℕ) → Begins kind bytes node → Suits expected bytes → IsText kind bytes → ⊥
+Steps kind node expected (Over rest next) =
+    ((bytes : List ℕ) → Begins kind bytes node → length rest.now < length bytes)
+    × AlwaysSuits kind node expected × AlwaysOnward kind node rest.now next 1
+Steps kind node expected (Behind b) = (node ≡ branch_shape b) × AlwaysSuits kind node expected

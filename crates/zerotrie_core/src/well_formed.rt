@@ -1,0 +1,331 @@
+//! The test of bytes: whether they are a trie at all.
+//!
+//! It goes over the nodes as a look-up does, in one call for all of a text but the shorter targets of a branch:
+//! each of those has a call of its own, and with the longest one the call itself goes on. A shorter target has
+//! less than half of the bytes, so few calls are open at once, and no memory is taken.
+
+ghost use Rattle.std.specs.Prelude.{◌≡◌, ◌≢◌, ◌↔◌, ℕ, ◌<◌, ◌≤◌, IsTrue, IfSome, IfNone, List, [], length};
+ghost use Rattle.zerotrie_core.specs.Maps.{Map};
+ghost use Rattle.zerotrie_core.specs.Texts.{AreHigh, Means};
+ghost use Rattle.zerotrie_core.specs.Shapes.{shape, branch_shape};
+ghost use Rattle.zerotrie_core.specs.WellFormed.{IsWellFormed, IsShallow, deep};
+ghost use Rattle.zerotrie_core.specs.well_formed.Testing.{Steps, AlwaysOnward, AlwaysNoText};
+
+mod branches;
+
+use crate::branch::Branch;
+use crate::node::{Node, first_node};
+use crate::options::ZeroTrieWithOptions;
+use branches::sound_branch;
+
+/// What may stand next in a text.
+#[derive(Clone, Copy)]
+pub(crate) enum Expected {
+    /// Anything, also the end.
+    Anything,
+    /// No value, since one stands before it.
+    NoValue,
+    /// No span, since one stands before it, and not the end.
+    NoSpan,
+    /// Not the end.
+    Something,
+}
+
+impl Expected {
+    ghost use Rattle.zerotrie_core.specs.declared.well_formed.Expected.TheVariants.{NoValue, NoSpan};
+    ghost use Rattle.zerotrie_core.specs.well_formed.Testing.{Suits};
+
+    /// Whether a value may stand next.
+    fn takes_value(self) -> bool
+        ensures { IsTrue result ↔ (self ≢ NoValue) }
+    {
+        match self {
+            Expected::NoValue => false,
+            Expected::Anything | Expected::NoSpan | Expected::Something => true,
+        }
+    }
+
+    /// Whether a span may stand next.
+    fn takes_span(self) -> bool
+        ensures { IsTrue result ↔ (self ≢ NoSpan) }
+    {
+        match self {
+            Expected::NoSpan => false,
+            Expected::Anything | Expected::NoValue | Expected::Something => true,
+        }
+    }
+
+    /// Whether the end may stand next.
+    fn takes_end(self) -> bool
+        ensures { IsTrue result ↔ Suits self [] }
+    {
+        match self {
+            Expected::Anything | Expected::NoValue => true,
+            Expected::NoSpan | Expected::Something => false,
+        }
+    }
+}
+
+/// What a node of the bytes comes to.
+#[derive(Clone, Copy)]
+pub(crate) enum Step<'a> {
+    /// It may not stand there.
+    Wrong,
+    /// The text goes on in these bytes, where so much may stand.
+    Over(&'a [u8], Expected),
+    /// It goes on behind a branch.
+    Behind(Branch<'a>),
+}
+
+/// Whether the bytes may stand in a span.
+fn is_run(run: &[u8]) -> bool
+    ensures { IsTrue result ↔ ((run.now ≢ []) × AreHigh run.now) }
+{
+    if run.is_empty() {
+        return false;
+    }
+    for byte in run {
+        if *byte < 128 {
+            return false;
+        }
+    }
+    true
+}
+
+/// What a node comes to, where so much may stand.
+#[inline(always)]
+fn next_step<'a, K: ZeroTrieWithOptions>(node: Node<'a>, expected: Expected) -> Step<'a>
+    ensures { Steps K.kind (shape node.entry) expected result }
+{
+    match node {
+        Node::Value(_value, rest) => {
+            if expected.takes_value() {
+                Step::Over(rest, Expected::NoValue)
+            } else {
+                Step::Wrong
+            }
+        }
+        Node::Literal(_edge, rest) => Step::Over(rest, Expected::Something),
+        Node::Span(run, rest) => {
+            if expected.takes_span() && is_run(run) {
+                Step::Over(rest, Expected::NoSpan)
+            } else {
+                Step::Wrong
+            }
+        }
+        Node::Branch(branch) => Step::Behind(branch),
+    }
+}
+
+/// The longest target of a branch, where the branch and all other targets are well-formed, and how many calls
+/// of the test were open at once for these, the one that goes on with the longest counted.
+#[cycle(test)]
+fn go_behind<'a, K: ZeroTrieWithOptions>(branch: Branch<'a>) -> Option<(&'a [u8], u32)>
+    ensures shorter { IfSome result (λ r. length r.0.now < length branch.entry.behind.now) }
+    ensures shallow { IfSome result (λ r. IsShallow branch.entry.behind.now r.1) }
+    ensures some { IfSome result (λ r.
+        AlwaysOnward K.kind (branch_shape branch.entry) r.0.now Expected.Something r.1) }
+    ensures none { IfNone result (AlwaysNoText K.kind (branch_shape branch.entry)) }
+{
+    let longest = sound_branch::<K>(&branch)?;
+    let mut most: u32 = 1;
+    for index in 0..branch.edges {
+        if index != longest {
+            let target = branch.target_at(index)?;
+            let (yes, count) = is_well_formed_counted::<K>(target);
+            if !yes {
+                return None;
+            }
+            most = most.max(count + 1);
+        }
+    }
+    Some((branch.target_at(longest)?, most))
+}
+
+/// Whether the bytes are a trie of the kind, and how many calls of this test were open at once, this one
+/// counted.
+///
+/// ```text
+/// is_well_formed_counted::<Simple>(&[0x61, 0x85])                         // (true, 1)
+/// is_well_formed_counted::<Simple>(&[0xC2, 0x61, 0x62, 1, 0x80, 0x81])    // (true, 2)
+/// is_well_formed_counted::<Simple>(&[0x61]).0                             // false
+/// ```
+///
+/// The test calls itself for every target of a branch but the longest, and goes on with that one; of equal ones
+/// it is the first. On any bytes, fewer than 2^d with d at least 1 give a count from 1 to d, so it is never more
+/// than 64. It returns on any bytes, and takes no memory.
+#[cycle(test)]
+pub fn is_well_formed_counted<K: ZeroTrieWithOptions>(bytes: &[u8]) -> (bool, u32)
+    ensures yes { IsTrue result.0 ↔ IsWellFormed K.kind bytes.now }
+    ensures count { (m : Map) (means : Means K.kind bytes.now m) → result.1 ≡ deep means.lists }
+    ensures shallow { IsShallow bytes.now result.1 }
+{
+    let mut rest = bytes;
+    let mut expected = Expected::Anything;
+    let mut most: u32 = 1;
+    while let Some(node) = first_node::<K>(rest) {
+        match next_step::<K>(node, expected) {
+            Step::Wrong => return (false, most),
+            Step::Over(after, next) => {
+                rest = after;
+                expected = next;
+            }
+            Step::Behind(branch) => match go_behind::<K>(branch) {
+                None => return (false, most),
+                Some((longest, count)) => {
+                    rest = longest;
+                    expected = Expected::Something;
+                    most = most.max(count);
+                }
+            },
+        }
+    }
+    (rest.is_empty() && expected.takes_end(), most)
+}
+
+/// Whether the bytes are a trie of the kind, every rule of the format kept.
+///
+/// ```text
+/// is_well_formed::<Simple>(&[0x61, 0x85])         // true: the key "a" with value 5
+/// is_well_formed::<Simple>(&[0x61])               // false: nothing follows the key's byte
+/// is_well_formed::<Simple>(&[])                   // true: no keys
+/// ```
+///
+/// Yes exactly if the bytes mean some map. It returns on any bytes, and takes no memory.
+pub fn is_well_formed<K: ZeroTrieWithOptions>(bytes: &[u8]) -> bool
+    ensures { IsTrue result ↔ IsWellFormed K.kind bytes.now }
+{
+    let (yes, _) = is_well_formed_counted::<K>(bytes);
+    yes
+}
+
+#[cfg(test)]
+mod tests {
+    use super::*;
+    use crate::options::{Ext, Hash, Ignore, Simple};
+    use std::test::Fail;
+
+    const FOLDS_FALL: [u8; 6] = [0xC2, 0x61, 0x42, 0x01, 0x80, 0x81];
+
+    const ONE_LETTER: [u8; 6] = [0xC2, 0x42, 0x62, 0x01, 0x80, 0x81];
+
+    #[test]
+    fn fronts_and_counts(rt: HostRuntime) {
+        let keys: [u8; 8] = [0x61, 0x62, 0x63, 0x80, 0x64, 0x65, 0x66, 0x81];
+        for len in 0..9 {
+            let (front, _) = keys.split_at(len);
+            let yes = len == 0 || len == 4 || len == 8;
+            assert_eq!(rt; is_well_formed::<Simple>(front), yes);
+            assert_eq!(rt; is_well_formed::<Ext>(front), yes);
+        }
+        let branch = [
+            0x8B, 0x61, 0x64, 0x90, 0x06, 0xC2, 0x65, 0x67, 0x03, 0x66, 0x90, 0x11, 0x68, 0x6B,
+            0x90, 0x1C,
+        ];
+        let branches = [
+            0xC5, 0x41, 0x46, 0x49, 0x53, 0x55, 0x02, 0x04, 0x0A, 0x0C, 0x55, 0x80, 0x52, 0x81,
+            0xC2, 0x52, 0x54, 0x01, 0x82, 0x83, 0x41, 0x84, 0xC2, 0x4B, 0x53, 0x01, 0x85, 0x86,
+        ];
+        assert_eq!(rt; is_well_formed_counted::<Simple>(&keys), (true, 1));
+        assert_eq!(rt; is_well_formed_counted::<Simple>(&branch), (true, 2));
+        assert_eq!(rt; is_well_formed_counted::<Simple>(&branches), (true, 3));
+        assert_eq!(rt; is_well_formed_counted::<Hash>(&branches), (true, 3));
+    }
+
+    #[test]
+    fn edges_by_their_folds(rt: HostRuntime) {
+        assert!(rt; is_well_formed::<Simple>(&ONE_LETTER));
+        assert!(rt; !is_well_formed::<Ignore>(&ONE_LETTER));
+        assert!(rt; !is_well_formed::<Simple>(&FOLDS_FALL));
+        assert!(rt; is_well_formed::<Ignore>(&FOLDS_FALL));
+    }
+
+    #[test]
+    fn wrong_in_every_kind(rt: HostRuntime) {
+        let table: [&[u8]; 10] = [
+            &[0x61],
+            &[0x80, 0x80],
+            &[0xC1, 0x61, 0x81],
+            &[0xC2, 0x62, 0x61, 0x01, 0x80, 0x80],
+            &[0xE1, 0x62, 0x61, 0x62, 0x00, 0x01, 0x80, 0x81],
+            &[0x90],
+            &[0xA1, 0xC3, 0xA1, 0xA5, 0x81],
+            &[0xC3, 0x61, 0x62, 0x63, 0x02, 0x01, 0x80, 0x81, 0x82],
+            &[0xE1, 0xDF, 0xDF, 0xDF, 0xDF, 0xDF, 0xDF, 0xDF, 0xDF, 0x5F],
+            &[0x91, 0xEF, 0xEF, 0xEF, 0xEF, 0xEF, 0xEF, 0xEF, 0xEF, 0x70],
+        ];
+        for bytes in table {
+            assert!(rt; !is_well_formed::<Simple>(bytes));
+            assert!(rt; !is_well_formed::<Ignore>(bytes));
+            assert!(rt; !is_well_formed::<Hash>(bytes));
+            assert!(rt; !is_well_formed::<Ext>(bytes));
+        }
+    }
+
+    #[test]
+    fn spans_and_widths(rt: HostRuntime) {
+        let spans: [&[u8]; 3] = [&[0xA0, 0x81], &[0xA1, 0x61, 0x81], &[0xA3, 0xC3, 0x81]];
+        for bytes in spans {
+            assert!(rt; !is_well_formed::<Hash>(bytes));
+        }
+        let good = [0xA1, 0xC3, 0xC2, 0xA5, 0xB8, 0x01, 0x81, 0x82];
+        assert!(rt; is_well_formed::<Hash>(&good));
+        assert!(rt; is_well_formed::<Ext>(&good));
+        assert!(rt; !is_well_formed::<Simple>(&good));
+        let wide = [
+            0xEF, 0x62, 0x61, 0x62, 0, 0, 0, 0, 0, 0, 0, 0, 0x01, 0x80, 0x81,
+        ];
+        assert!(rt; !is_well_formed::<Ext>(&wide));
+    }
+
+    #[test]
+    fn tables_of_sixteen_and_of_all_bytes(rt: HostRuntime) -> Result<(), Fail> {
+        let mut hashed = Vec::from_array(rt.alloc(), [0xD0])?;
+        hashed.resize(18, 0)?;
+        hashed.push(0x70)?;
+        for byte in 0x61..=0x6F {
+            hashed.push(byte)?;
+        }
+        for offset in 1..=15 {
+            hashed.push(offset)?;
+        }
+        hashed.push(0x8F)?;
+        for value in 0x80..=0x8E {
+            hashed.push(value)?;
+        }
+        let mut sorted = Vec::from_array(rt.alloc(), [0xD0])?;
+        for byte in 0x61..=0x70 {
+            sorted.push(byte)?;
+        }
+        sorted.extend_from_slice(&hashed[34..])?;
+        assert_eq!(rt; (hashed.len(), sorted.len()), (65, 48));
+        assert!(rt; is_well_formed::<Hash>(&hashed));
+        assert!(rt; is_well_formed::<Simple>(&sorted));
+        assert!(rt; !is_well_formed::<Hash>(&sorted));
+        hashed[18] = 0x61;
+        assert!(rt; !is_well_formed::<Hash>(&hashed));
+        let mut bytes = Vec::from_array(rt.alloc(), [0xE1, 0x60])?;
+        bytes.resize(259, 0)?;
+        for byte in 0..=255 {
+            bytes.push(byte)?;
+        }
+        bytes.resize(770, 0)?;
+        for byte in 1..=255 {
+            bytes.push(byte)?;
+        }
+        bytes.resize(1281, 0x80)?;
+        assert_eq!(rt; is_well_formed_counted::<Hash>(&bytes), (true, 2));
+        bytes[2] = 0xFF;
+        assert!(rt; is_well_formed::<Ext>(&bytes));
+        Ok(())
+    }
+
+    #[test]
+    fn a_long_key_takes_one_call(rt: HostRuntime) -> Result<(), Fail> {
+        let mut bytes = Vec::new(rt.alloc());
+        bytes.resize(100_000, 0x61)?;
+        bytes.push(0x80)?;
+        assert_eq!(rt; is_well_formed_counted::<Simple>(&bytes), (true, 1));
+        Ok(())
+    }
+}

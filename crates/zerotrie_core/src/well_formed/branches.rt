@@ -1,0 +1,125 @@
+//! The test of a branch: its search table, the width of its offsets, and where its targets begin and end.
+
+ghost use Rattle.std.specs.Prelude.{◌≡◌, ◌↔◌, ℕ, ◌+◌, ◌-◌, ◌<◌, ◌≤◌, IsTrue, IfSome, IfNone, List, ◌∷◌, ◌++◌, length, map, take, drop};
+ghost use Rattle.zerotrie_base.specs.Hashes.{IsPerfect};
+ghost use Rattle.std.specs.List.Sorted.{IsStrictlyIncreasing};
+ghost use Rattle.zerotrie_core.specs.Kind.{fold_byte};
+ghost use Rattle.zerotrie_core.specs.Branches.{IsWidth, table_size};
+ghost use Rattle.zerotrie_core.specs.Shapes.{branch_shape};
+ghost use Rattle.zerotrie_core.specs.well_formed.Branching.{AreBytes, AnswersEach, HasTable, InOrder, IsLongest, IsSound};
+ghost use Rattle.zerotrie_core.specs.well_formed.Testing.{AlwaysNoText};
+
+use crate::branch::{Branch, folded};
+use crate::options::ZeroTrieWithOptions;
+use zerotrie_base::PerfectByteHashMap;
+
+/// Whether the edges rise by their folds.
+fn rises<K: ZeroTrieWithOptions>(edges: &[u8]) -> bool
+    ensures rises { IsTrue result ↔ IsStrictlyIncreasing (map (fold_byte K.kind) edges.now) }
+    ensures bytes { AreBytes edges.now }
+{
+    for index in 1..edges.len() {
+        if folded::<K>(edges[index - 1]) >= folded::<K>(edges[index]) {
+            return false;
+        }
+    }
+    true
+}
+
+/// Whether a hashed table has each edge at its place.
+fn is_perfect(table: &[u8], edges: &[u8]) -> bool
+    ensures bytes { AreBytes table.now × AreBytes edges.now }
+    ensures yes { IsTrue result → AnswersEach table.now edges.now }
+    ensures no { (p : ℕ) (qs : List ℕ) → table.now ≡ p ∷ (qs ++ edges.now) → IsPerfect p qs edges.now → IsTrue result }
+{
+    for index in 0..edges.len() {
+        if PerfectByteHashMap::from_bytes(table).get(edges[index]) != Some(index) {
+            return false;
+        }
+    }
+    true
+}
+
+/// Whether the search table is one of the kind, and its edges are bytes of the kind.
+fn has_table<K: ZeroTrieWithOptions>(branch: &Branch<'_>) -> bool
+    ensures { length branch.now.table.now ≡ table_size K.kind branch.now.edges
+        → (IsTrue result ↔ HasTable K.kind (take branch.now.edges branch.now.behind.now) branch.now.table.now) }
+{
+    let (edges, _) = branch.behind.split_at(branch.edges);
+    if !K::USE_PHF {
+        edges.is_ascii() && rises::<K>(edges)
+    } else if branch.edges < 16 {
+        rises::<K>(edges)
+    } else {
+        is_perfect(branch.table, edges)
+    }
+}
+
+/// The width field of a branch with so many bytes of targets.
+fn least_width(total: usize) -> usize
+    ensures width { IsWidth total result }
+    ensures small { result ≤ 7 }
+{
+    match total {
+        0..=0xFF => 0,
+        0x100..=0xFFFF => 1,
+        0x1_0000..=0xFF_FFFF => 2,
+        0x100_0000..=0xFFFF_FFFF => 3,
+        0x1_0000_0000..=0xFF_FFFF_FFFF => 4,
+        0x100_0000_0000..=0xFFFF_FFFF_FFFF => 5,
+        0x1_0000_0000_0000..=0xFF_FFFF_FFFF_FFFF => 6,
+        _ => 7,
+    }
+}
+
+/// Whether so many bytes of offsets have the width that the targets behind them need.
+fn has_width(body: &[u8], offsets: usize, width: usize) -> bool
+    requires within { offsets ≤ length body.now }
+    requires some { 1 ≤ width }
+    ensures width { IsTrue result ↔ IsWidth (length (drop offsets body.now)) (width - 1) }
+    ensures bytes { AreBytes body.now }
+{
+    let (_, targets) = body.split_at(offsets);
+    width - 1 == least_width(targets.len())
+}
+
+/// The place of the longest target, of equal ones the first. `None` where the offsets fall, or pass the end,
+/// or a target is empty.
+fn longest_target(branch: &Branch<'_>) -> Option<usize>
+    ensures order { IfSome result (λ place.
+        InOrder branch.now.edges branch.now.width branch.now.behind.now branch.now.edges) }
+    ensures longest { IfSome result (λ place.
+        IsLongest branch.now.edges branch.now.width branch.now.behind.now branch.now.edges place) }
+    ensures none { IfNone result
+        (InOrder branch.now.edges branch.now.width branch.now.behind.now branch.now.edges → ⊥) }
+{
+    let mut place = 0;
+    let mut most = 0;
+    for index in 0..branch.edges {
+        let target = branch.target_at(index)?;
+        if target.is_empty() {
+            return None;
+        }
+        if most < target.len() {
+            most = target.len();
+            place = index;
+        }
+    }
+    Some(place)
+}
+
+/// The place of the longest target of a branch whose table, width and offsets are well-formed.
+pub(super) fn sound_branch<K: ZeroTrieWithOptions>(branch: &Branch<'_>) -> Option<usize>
+    ensures some { IfSome result (λ place. IsSound K.kind branch.now.edges branch.now.width
+        branch.now.table.now branch.now.behind.now place) }
+    ensures none { IfNone result (AlwaysNoText K.kind (branch_shape branch.now)) }
+{
+    let (_, body) = branch.behind.split_at(branch.edges);
+    if !has_width(body, branch.width * (branch.edges - 1), branch.width) {
+        return None;
+    }
+    if !has_table::<K>(branch) {
+        return None;
+    }
+    longest_target(branch)
+}
