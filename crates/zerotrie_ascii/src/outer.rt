@@ -3,14 +3,18 @@
 ghost use Rattle.std.specs.Prelude.{◌≡◌, IfOk, IfErr};
 ghost use Rattle.serde_json.specs.View.{view};
 ghost use Rattle.zerotrie_core.specs.Kind.{tag};
+ghost use Rattle.zerotrie_core.specs.Maps.{Map};
+ghost use Rattle.zerotrie_core.specs.Texts.{Means};
 ghost use Rattle.zerotrie_any.specs.Tagged.{tagged, IsTagFault};
+ghost use Rattle.zerotrie_any.specs.Json.{json};
 ghost use Rattle.zerotrie_any.specs.JsonCalls.{IsBuildOfJson};
+ghost use Rattle.zerotrie_any.specs.declared.json.JsonError.TheVariants.{OutOfMemory};
 
 use crate::ascii_trie::AsciiTrie;
 use crate::options::AsciiKind;
 use serde_json::Value;
 use std::alloc::{AllocError, Global};
-use zerotrie_any::{JsonError, TagError, bytes_from_json, tagged, untagged};
+use zerotrie_any::{JsonError, TagError, bytes_from_json, json_of, tagged, untagged};
 use zerotrie_core::TrieStore;
 
 impl<K: AsciiKind, S: TrieStore> AsciiTrie<K, S> {
@@ -26,6 +30,25 @@ impl<K: AsciiKind, S: TrieStore> AsciiTrie<K, S> {
         ensures { IfOk result (λ t. t.items ≡ tagged K.kind (S.stored self.now.store)) }
     {
         tagged::<K>(alloc, self.as_bytes())
+    }
+
+    /// The JSON value of the trie's map.
+    ///
+    /// ```
+    /// let trie = ZeroTrieSimpleAscii::from_bytes(b"abc\x80def\x81");
+    /// let value = trie.to_json_value(rt.alloc())?;
+    /// assert_eq!(rt; value.to_string(rt.alloc())?.as_str(), r#"{"abc":0,"abcdef":1}"#);
+    /// ```
+    ///
+    /// Where all keys are UTF-8, as in every trie that was built, it is an object from key to number, ascending
+    /// by the bytes of the keys, in the kind without case too.
+    ///
+    /// The only error is `OutOfMemory`. On bytes that mean no map some value is answered.
+    pub fn to_json_value(&self, alloc: Global) -> Result<Value, JsonError>
+        ensures json { (m : Map) → Means K.kind (S.stored self.now.store) m → IfOk result (λ v. view v ≡ json m) }
+        ensures refused { IfErr result (λ e. e ≡ OutOfMemory) }
+    {
+        json_of::<K>(alloc, self.as_bytes())
     }
 }
 
