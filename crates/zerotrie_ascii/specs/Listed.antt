@@ -1,5 +1,5 @@
 -- Listings whose keys are text.
-use Rattle.std.specs.Prelude.{◌≡◌, List, [], ◌∷◌, ⊤, All}
+use Rattle.std.specs.Prelude.{[], ◌∷◌, ⊤, All}
 use Rattle.std.specs.Str.{IsUtf8}
 use Rattle.zerotrie_core.specs.Maps.{Pairs}
 use Rattle.zerotrie_core.specs.declared.listing.ListError.{ListError}

@@ -37,6 +37,7 @@ mod NodeOfLemmas
 mod ListingLemmas
 mod ListingStateLemmas
 mod ListedMapLemmas
+mod AscendLaws
 mod FitsLaws
 mod GroupLemmas
 mod CutLemmas
