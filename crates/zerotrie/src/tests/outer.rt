@@ -104,7 +104,6 @@ fn value_of(alloc: Global, text: &str) -> Result<Value, serde_json::Error> {
     Value::from_str(alloc, text)
 }
 
-/// What the kinds read a JSON text as: SimpleAscii, and the others where they differ.
 #[test]
 fn json_is_read(rt: HostRuntime) -> Result<(), Fail> {
     let rows: [(&str, &[u8]); 7] = [
@@ -133,6 +132,58 @@ fn json_is_read(rt: HostRuntime) -> Result<(), Fail> {
     let high = value_of(rt.alloc(), "[[[255],3]]")?;
     let any = ZeroTrie::try_from_json_value(rt.alloc(), &high)?;
     assert!(rt; any.flavor == ZeroTrieFlavor::PerfectHash && any.get(b"\xFF") == Some(3));
+    Ok(())
+}
+
+fn ascii_json<K: AsciiKind>(alloc: Global, bytes: &[u8]) -> Result<String, JsonError> {
+    let trie: AsciiTrie<K, &[u8]> = AsciiTrie::from_bytes(bytes);
+    Ok(trie.to_json_value(alloc)?.to_string(alloc)?)
+}
+
+fn hashed_json<K: HashedKind>(alloc: Global, bytes: &[u8]) -> Result<String, JsonError> {
+    let trie: HashedTrie<K, &[u8]> = HashedTrie::from_bytes(bytes);
+    Ok(trie.to_json_value(alloc)?.to_string(alloc)?)
+}
+
+/// Texts of all kinds, and their JSON.
+#[test]
+fn json_is_written(rt: HostRuntime) -> Result<(), Fail> {
+    let rows: [(&[u8], &str); 4] = [
+        (b"", "{}"),
+        (b"\x8B", r#"{"":11}"#),
+        (b"abc\x80def\x81", r#"{"abc":0,"abcdef":1}"#),
+        (FEW_TEXT, r#"{"abc":11,"axyb":33,"xyz":22}"#),
+    ];
+    for (bytes, text) in rows {
+        let any = ZeroTrie::of_kind::<Simple>(bytes).to_json_value(rt.alloc())?;
+        assert_eq!(rt; any.to_string(rt.alloc())?.as_str(), text);
+        assert_eq!(rt; ascii_json::<Simple>(rt.alloc(), bytes)?.as_str(), text);
+        assert_eq!(rt; ascii_json::<Ignore>(rt.alloc(), bytes)?.as_str(), text);
+        assert_eq!(rt; hashed_json::<Hash>(rt.alloc(), bytes)?.as_str(), text);
+        assert_eq!(rt; hashed_json::<Ext>(rt.alloc(), bytes)?.as_str(), text);
+    }
+    Ok(())
+}
+
+/// Keys of any bytes: text where all are UTF-8, else lists. A hashed branch lists its edges in another order.
+#[test]
+fn json_of_any_keys(rt: HostRuntime) -> Result<(), Fail> {
+    let text = ZeroTriePerfectHash::try_from_iter(rt.alloc(), [("ø", 2), ("å", 1)])?;
+    assert_eq!(rt;
+        hashed_json::<Hash>(rt.alloc(), text.as_bytes())?.as_str(),
+        r#"{"å":1,"ø":2}"#
+    );
+    let pairs: [(&[u8], usize); 2] = [(b"a", 1), (b"\xFF", 3)];
+    let bytes = ZeroTriePerfectHash::try_from_iter(rt.alloc(), pairs)?;
+    assert_eq!(rt;
+        hashed_json::<Hash>(rt.alloc(), bytes.as_bytes())?.as_str(),
+        "[[[97],1],[[255],3]]"
+    );
+    let letters = ZeroTrieExtendedCapacity::try_from_iter(rt.alloc(), LETTERS)?;
+    let json = hashed_json::<Ext>(rt.alloc(), letters.as_bytes())?;
+    assert!(rt;
+        json.as_str().starts_with(r#"{"a":0,"b":1,"#) && json.as_str().ends_with(r#""p":15}"#)
+    );
     Ok(())
 }
 
