@@ -1,4 +1,5 @@
 mod callers;
+mod cursors;
 mod examples;
 mod outer;
 mod refusals;

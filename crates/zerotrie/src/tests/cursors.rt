@@ -1,0 +1,195 @@
+//! Cursors of the four kinds, walks, and what is written to a cursor.
+
+use super::*;
+use crate::cursor::{AsciiProbeResult, ByteProbeResult};
+use std::fmt;
+use std::fmt::Write;
+
+/// Two keys of which one goes on from the other.
+const NESTED: &[u8] = b"abc\x80def\x81";
+
+/// The keys "foo", "bår" and "båzzøø" with values 1, 2 and 3, in a hashed kind.
+const SPANS: &[u8] = b"\xC2bf\x0F\xA2\xC3\xA5\xC2rz\x01\x82zz\xA4\xC3\xB8\xC3\xB8\x83oo\x81";
+
+#[test]
+fn ascii_cursors(rt: HostRuntime) -> Result<(), Fail> {
+    let trie = ZeroTrieSimpleAscii::from_bytes(NESTED);
+    assert_eq!(rt; trie.byte_len(), 8);
+    let mut cursor = trie.cursor();
+    for byte in b"abc" {
+        cursor.step(*byte);
+    }
+    let mut again = cursor.clone()?;
+    assert_eq!(rt; cursor.take_value(), Some(0));
+    assert_eq!(rt; cursor.take_value(), None);
+    cursor.step(b'd');
+    assert!(rt; !cursor.is_empty());
+    cursor.step(b'x');
+    assert!(rt; cursor.is_empty());
+    // The copy is a place of its own, and a step passes over its value.
+    again.step(b'd');
+    assert_eq!(rt; again.into_suffix_trie().get(b"ef"), Some(1));
+    let mut cursor = trie.cursor();
+    assert_eq!(rt; cursor.probe(1), None);
+    assert!(rt; cursor.is_empty());
+    let mut cursor = trie.into_cursor();
+    cursor.step(b'a');
+    cursor.step(b'b');
+    let suffixes = cursor.into_suffix_trie();
+    assert_eq!(rt; suffixes.get(b"c"), Some(0));
+    assert_eq!(rt; suffixes.get(b"cdef"), Some(1));
+    // Letters in either case, and the bytes as they are stored.
+    let mixed = ZeroAsciiIgnoreCaseTrie::from_bytes(b"aBc\x80dEf\x81");
+    let mut cursor = mixed.cursor();
+    assert_eq!(rt; cursor.step(b'a'), Some(b'a'));
+    assert_eq!(rt; cursor.step(b'b'), Some(b'B'));
+    let suffixes = cursor.into_suffix_trie();
+    assert_eq!(rt; suffixes.get(b"c"), Some(0));
+    assert_eq!(rt; suffixes.get(b"CDEF"), Some(1));
+    Ok(())
+}
+
+#[test]
+fn writing(rt: HostRuntime) -> Result<(), Fail> {
+    let trie = ZeroTrieSimpleAscii::from_bytes(NESTED);
+    let mut cursor = trie.cursor();
+    assert_eq!(rt; cursor.write_str("abé"), Err(fmt::Error));
+    let edge = AsciiProbeResult {
+        byte: b'c',
+        total_siblings: 1,
+    };
+    assert_eq!(rt; cursor.probe(0), Some(edge));
+    // A character that is not ASCII steps nothing.
+    let mut cursor = trie.cursor();
+    assert_eq!(rt; cursor.write_char('é'), Err(fmt::Error));
+    assert_eq!(rt; cursor.write_char('a'), Ok(()));
+    assert_eq!(rt; cursor.probe(0).map(|edge| edge.byte), Some(b'b'));
+    assert_eq!(rt;
+        trie.get_with_write_fn(|cursor| cursor.write_str("abc")),
+        Some(0)
+    );
+    assert_eq!(rt;
+        trie.get_with_write_fn(|cursor| write!(cursor, "{}{}", "abc", "def")),
+        Some(1)
+    );
+    let taken = trie.get_with_write_fn(|cursor| {
+        cursor.write_str("abc")?;
+        cursor.take_value();
+        Ok(())
+    });
+    assert_eq!(rt; taken, None);
+    assert_eq!(rt; trie.get_with_write_fn(|_| Err(fmt::Error)), None);
+    let replaced = trie.get_with_write_fn(|cursor| {
+        *cursor = ZeroTrieSimpleAscii::from_bytes(b"\x85").into_cursor();
+        Ok(())
+    });
+    assert_eq!(rt; replaced, Some(5));
+    Ok(())
+}
+
+#[test]
+fn hashed_cursors(rt: HostRuntime) -> Result<(), Fail> {
+    let trie = ZeroTriePerfectHash::from_bytes(SPANS);
+    let mut cursor = trie.cursor();
+    assert_eq!(rt; cursor.step(b'b'), Some(b'b'));
+    assert_eq!(rt; cursor.step(0xC3), Some(0xC3));
+    // Inside a span nothing has a value, and no trie of its own.
+    assert_eq!(rt; cursor.take_value(), None);
+    assert!(rt; cursor.clone()?.into_suffix_trie().is_none());
+    assert_eq!(rt; cursor.step(0xA5), Some(0xA5));
+    let edge = ByteProbeResult {
+        byte: b'z',
+        total_siblings: 2,
+    };
+    assert_eq!(rt; cursor.clone()?.probe(1), Some(edge));
+    let suffixes = cursor.into_suffix_trie().ok_or("a span")?;
+    assert_eq!(rt; suffixes.get(b"r"), Some(2));
+    let trie = ZeroTrieExtendedCapacity::from_bytes(b"\xA1\xC3\xC2\xA5\xB8\x01\x81\x82");
+    let mut cursor = trie.into_cursor();
+    assert_eq!(rt; cursor.step(0xC3), Some(0xC3));
+    let suffixes = cursor.into_suffix_trie().ok_or("a span")?;
+    assert_eq!(rt; suffixes.get(b"\xA5"), Some(1));
+    Ok(())
+}
+
+#[test]
+fn walks(rt: HostRuntime) -> Result<(), Fail> {
+    // A branch of all 256 bytes: the number of its edges is no byte.
+    let mut bytes = Vec::new(rt.alloc());
+    for byte in 0..=255u8 {
+        bytes.push(byte)?;
+    }
+    let mut items = Vec::new(rt.alloc());
+    for byte in bytes.as_slice().chunks(1) {
+        items.push((byte, 0))?;
+    }
+    let full = ZeroTriePerfectHash::try_from_sorted_slice(rt.alloc(), items.as_slice())?;
+    let ops = [CursorOp::Probe(255), CursorOp::Take];
+    let answers = full.walk(rt.alloc(), &ops)?;
+    let expected = [
+        CursorAnswer::Probed(Some((0xFF, 256))),
+        CursorAnswer::Taken(Some(0)),
+    ];
+    assert_eq!(rt; answers.as_slice(), expected.as_slice());
+    let names = ZeroAsciiIgnoreCaseTrie::try_from_iter(rt.alloc(), MIXED)?;
+    let ops = [
+        CursorOp::Step(b'A'),
+        CursorOp::Step(b'b'),
+        CursorOp::Step(b'C'),
+        CursorOp::Take,
+        CursorOp::Step(b'd'),
+        CursorOp::Step(b'd'),
+    ];
+    let answers = names.walk(rt.alloc(), &ops)?;
+    let expected = [
+        CursorAnswer::Stepped(Some(b'a')),
+        CursorAnswer::Stepped(Some(b'B')),
+        CursorAnswer::Stepped(Some(b'c')),
+        CursorAnswer::Taken(Some(1)),
+        CursorAnswer::Stepped(Some(b'D')),
+        CursorAnswer::Stepped(None),
+    ];
+    assert_eq!(rt; answers.as_slice(), expected.as_slice());
+    Ok(())
+}
+
+/// Every call returns on bytes that mean no map.
+#[test]
+fn ill_formed(rt: HostRuntime) -> Result<(), Fail> {
+    let rows: [&[u8]; 7] = [
+        b"a",
+        b"\x80\x80",
+        b"\xC1a\x81",
+        b"\xC2ba\x01\x80\x80",
+        b"\xE1bab\x00\x01\x80\x81",
+        b"\x90",
+        b"\xA1\xC3\xA1\xA5\x81",
+    ];
+    let ops = [
+        CursorOp::Take,
+        CursorOp::Probe(1),
+        CursorOp::Take,
+        CursorOp::Step(b'a'),
+        CursorOp::Probe(0),
+    ];
+    for bytes in rows {
+        let simple = ZeroTrieSimpleAscii::from_bytes(bytes);
+        let mut cursor = simple.cursor();
+        let _ = cursor.write_str("ab");
+        cursor.take_value();
+        cursor.probe(0);
+        assert_eq!(rt; simple.walk(rt.alloc(), &ops)?.len(), 5);
+        let ignore = ZeroAsciiIgnoreCaseTrie::from_bytes(bytes);
+        ignore.cursor().step(b'A');
+        assert_eq!(rt; ignore.walk(rt.alloc(), &ops)?.len(), 5);
+        let hash = ZeroTriePerfectHash::from_bytes(bytes);
+        let mut cursor = hash.cursor();
+        cursor.step(0xC3);
+        cursor.probe(0);
+        let _ = cursor.into_suffix_trie();
+        assert_eq!(rt; hash.walk(rt.alloc(), &ops)?.len(), 5);
+        let ext = ZeroTrieExtendedCapacity::from_bytes(bytes);
+        assert_eq!(rt; ext.walk(rt.alloc(), &ops)?.len(), 5);
+    }
+    Ok(())
+}
