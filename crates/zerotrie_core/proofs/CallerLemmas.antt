@@ -50,3 +50,6 @@ pub use Rattle.zerotrie_core.proofs.EncodeLaws.{NarrowBehind}
 pub use Rattle.zerotrie_core.proofs.FitsLaws.{AllNarrow, narrow_none, narrow_value, narrow_at, narrow_front, narrow-same, all_entries}
 pub use Rattle.zerotrie_core.proofs.SpanLemmas.{by_fronts}
 pub use Rattle.zerotrie_core.proofs.TableLemmas.{increasing_rises}
+-- the stack need of pairs
+pub use Rattle.zerotrie_core.proofs.StackLemmas.{branch_agree, stack_none, stack_value, stack_literal, stack_branch, above, stack_behind, stack_edges, above_edge, above_edges}
+pub use Rattle.zerotrie_core.proofs.CanonLaws.{residual_first, edges_listed}

@@ -37,3 +37,4 @@ mod CutLemmas
 mod RefusalLemmas
 mod MeansLaws
 mod LowerLemmas
+mod StackLemmas
