@@ -22,3 +22,8 @@ mod LayLemmas
 mod WriteLemmas
 mod PlacedLemmas
 mod MeasureLemmas
+mod ArrayText
+mod ArrayRuns
+mod ArrayParting
+mod ArrayAsides
+mod ArrayClosing
