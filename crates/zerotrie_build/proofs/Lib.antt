@@ -27,3 +27,5 @@ mod ArrayRuns
 mod ArrayParting
 mod ArrayAsides
 mod ArrayClosing
+mod ArraySteps
+mod ArrayAdding

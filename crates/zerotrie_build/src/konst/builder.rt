@@ -1,5 +1,6 @@
 //! The routes of the builder in an array.
 
+ghost use Rattle.std.specs.Prelude.{◌<◌, ◌^◌};
 ghost use Rattle.zerotrie_core.specs.ArrayRoutes.{IsBuildWithin};
 ghost use Rattle.zerotrie_build.specs.Items.{pairs};
 
@@ -31,6 +32,7 @@ impl<const N: usize> ZeroTrieBuilderConst<N> {
     pub fn from_tuple_slice_with_stack<const K: usize>(
         items: ByteSliceWithIndices<'_>,
     ) -> Result<Self, ZeroTrieBuildError>
+        requires { K < 2 ^ 58 }
         ensures { IsBuildWithin N K (λ bytes. bytes) (pairs items.entry) result }
     {
         if !items.is_sorted() {

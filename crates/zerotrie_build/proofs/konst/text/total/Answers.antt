@@ -11,10 +11,10 @@ loop-sibling-preserved c =
     let e = lens_take c.args.siblings.now c.loop-sibling.sibling-index (record { depth = 0; byte = 0; len = 0 }) c.loop-sibling-test.true in
     let v = c.loop-sibling.invariant in
     let s = c.saturating_add-total.ensures in
-    record { 
+    record {
       exact = λ h. let x = v.exact (omega arith) in omega arith;
       capped = λ h. elim (below_or_from (total_of (lens_of (tops (take c.loop-sibling.sibling-index c.args.siblings.now)))) (2 ^ 64)) [
         | inl small ↦ let x = v.exact small in omega arith
         | inr large ↦ let x = v.capped large in omega arith
       ];
-     }
+    }

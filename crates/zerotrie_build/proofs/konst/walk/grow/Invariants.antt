@@ -5,7 +5,7 @@ use Rattle.zerotrie_build.proofs.konst.walk.grow.Given as goal
 
 abbrev pub invariant-loop-index : goal.invariant-loop-index
 invariant-loop-index g l = record {
-  built : BuiltFrom g.row.N g.row.K l.index (pairs l.items) l.growing.text l.growing.siblings.items;
+  built : BuiltFrom g.row.N g.row.K l.index (pairs l.items) l.text l.siblings.items;
   within : l.index ≤ length (pairs l.items);
 }
 
