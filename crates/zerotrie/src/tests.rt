@@ -1,3 +1,4 @@
+mod arrays;
 mod callers;
 mod cursors;
 mod examples;

@@ -1,6 +1,7 @@
 //! Tries over ASCII keys, with the case of letters and without.
 #![tactic(auto)]
 
+mod array;
 mod ascii_trie;
 mod cursor;
 mod listed;

@@ -22,3 +22,10 @@ mod LayLemmas
 mod WriteLemmas
 mod PlacedLemmas
 mod MeasureLemmas
+mod ArrayText
+mod ArrayRuns
+mod ArrayParting
+mod ArrayAsides
+mod ArrayClosing
+mod ArraySteps
+mod ArrayAdding

@@ -2,3 +2,4 @@ pub mod Items
 pub mod Ranges
 pub mod Order
 pub mod passes
+pub mod konst

@@ -2,6 +2,7 @@
 #![tactic(auto)]
 
 mod builder;
+mod konst;
 mod laying;
 mod measuring;
 mod order;
@@ -11,5 +12,6 @@ mod store;
 mod writing;
 
 pub use builder::{ZeroTrieBuilder, encoded_len};
+pub use konst::ZeroTrieBuilderConst;
 pub use slice_indices::ByteSliceWithIndices;
 pub use store::TrieBuilderStore;

@@ -54,3 +54,6 @@ pub use Rattle.zerotrie_core.proofs.TableLemmas.{increasing_rises}
 -- the map of listed pairs, and keys that are text
 pub use Rattle.zerotrie_core.proofs.ListedMapLemmas.{put_all, meant_entries, keyed-insert, listed_texts}
 pub use Rattle.zerotrie_core.proofs.CaseLemmas.{every_all}
+-- the stack need of pairs
+pub use Rattle.zerotrie_core.proofs.StackLemmas.{branch_agree, stack_none, stack_value, stack_literal, stack_branch, above, stack_behind, stack_edges, above_edge, above_edges}
+pub use Rattle.zerotrie_core.proofs.CanonLaws.{residual_first, edges_listed}

@@ -51,3 +51,4 @@ mod PieceLemmas
 mod SoundLemmas
 mod BehindLemmas
 mod TestLemmas
+mod StackLemmas

@@ -182,7 +182,7 @@ member_fold kind (e ∷ es) up b c m n same = elim (or_cases (eqb e b) (member b
   ]
 ]
 
-member_from : (low high : ℕ) (b : ℕ) (es : List ℕ) → Rise low high es → member b es ≡ true → low ≤ b
+pub member_from : (low high : ℕ) (b : ℕ) (es : List ℕ) → Rise low high es → member b es ≡ true → low ≤ b
 member_from low high b [] r m = absurd (cc)
 member_from low high b (e ∷ es) r m = elim (or_cases (eqb e b) (member b es) m) [
   | inl here ↦ (let s = eqb-true e b here in omega (arith, r.0))

@@ -14,6 +14,8 @@ pub mod Fits
 pub mod Causes
 pub mod Built
 pub mod Routes
+pub mod Stack
+pub mod ArrayRoutes
 pub mod Items
 pub mod plain
 pub mod reader

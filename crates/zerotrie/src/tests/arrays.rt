@@ -1,0 +1,118 @@
+//! Tries in arrays.
+
+use super::*;
+
+/// Keys, of which the second and the third part behind the first byte.
+const BAZ: [(&str, usize); 3] = [("bar", 2), ("bazzoo", 3), ("foo", 1)];
+
+/// Their text.
+const BAZ_TEXT: &[u8] = b"\xC2bf\x0Aa\xC2rz\x01\x82zoo\x83oo\x81";
+
+/// Keys of which each but the first begins with one before it, but the last.
+const LITERALS: [(&[u8], usize); 4] = [(b"", 11), (b"ad", 22), (b"adef", 33), (b"adghk", 44)];
+
+/// Their text.
+const LITERALS_TEXT: &[u8] = b"\x8Bad\x90\x06\xC2eg\x03f\x90\x11hk\x90\x1C";
+
+/// A trie in an array, or the error.
+type Built<const N: usize> = Result<ZeroTrieSimpleAscii<[u8; N]>, ZeroTrieBuildError>;
+
+fn is_refused<const N: usize>(build: Built<N>, error: ZeroTrieBuildError) -> bool {
+    build.is_err_and(|e| e == error)
+}
+
+#[test]
+fn arrays_are_filled(rt: HostRuntime) -> Result<(), Fail> {
+    let none: Built<0> = ZeroTrieSimpleAscii::from_sorted_u8_tuples(&[]);
+    assert!(rt; none?.is_empty());
+    let none: Built<0> = ZeroTrieSimpleAscii::from_sorted_u8_tuples_with_stack::<0>(&[]);
+    assert!(rt; none?.is_empty());
+    let larger: Built<1> = ZeroTrieSimpleAscii::from_sorted_u8_tuples(&[]);
+    assert!(rt; is_refused(larger, ZeroTrieBuildError::BufferTooLarge(0)));
+
+    let full: Built<17> = ZeroTrieSimpleAscii::from_sorted_str_tuples(&BAZ);
+    assert_eq!(rt; full?.as_bytes(), BAZ_TEXT);
+    let smaller: Built<15> = ZeroTrieSimpleAscii::from_sorted_str_tuples(&BAZ);
+    assert!(rt; is_refused(smaller, ZeroTrieBuildError::BufferTooSmall));
+    let larger: Built<20> = ZeroTrieSimpleAscii::from_sorted_str_tuples(&BAZ);
+    assert!(rt; is_refused(larger, ZeroTrieBuildError::BufferTooLarge(17)));
+    let unsorted: Built<17> = ZeroTrieSimpleAscii::from_sorted_str_tuples(&[
+        ("foo", 1),
+        ("bar", 2),
+        ("bazzoo", 3),
+    ]);
+    assert!(rt; is_refused(unsorted, ZeroTrieBuildError::Unsorted));
+    let high: Built<100> = ZeroTrieSimpleAscii::from_sorted_str_tuples(&[
+        ("bazzoo", 3),
+        ("bár", 2),
+        ("foo", 1),
+    ]);
+    assert!(rt; is_refused(high, ZeroTrieBuildError::NonAsciiError));
+    Ok(())
+}
+
+#[test]
+fn stacks_are_large_enough(rt: HostRuntime) -> Result<(), Fail> {
+    let enough: Built<17> = ZeroTrieSimpleAscii::from_sorted_str_tuples_with_stack::<3>(&BAZ);
+    assert_eq!(rt; enough?.as_bytes(), BAZ_TEXT);
+    let small: Built<17> = ZeroTrieSimpleAscii::from_sorted_str_tuples_with_stack::<2>(&BAZ);
+    assert!(rt; is_refused(small, ZeroTrieBuildError::StackExceeded));
+    let alone: Built<4> = ZeroTrieSimpleAscii::from_sorted_str_tuples_with_stack::<0>(&[(
+        "abc", 0,
+    )]);
+    assert_eq!(rt; alone?.as_bytes(), b"abc\x80".as_slice());
+    Ok(())
+}
+
+/// The keys of one byte from 0 to 100, with value 0.
+fn bytes_up_to_100(alloc: Global) -> Result<Vec<u8>, std::alloc::AllocError> {
+    let mut bytes = Vec::new(alloc);
+    for byte in 0..101u8 {
+        bytes.push(byte)?;
+    }
+    Ok(bytes)
+}
+
+#[test]
+fn a_hundred_edges_and_one(rt: HostRuntime) -> Result<(), Fail> {
+    let bytes = bytes_up_to_100(rt.alloc())?;
+    let mut items: Vec<(&[u8], usize)> = Vec::new(rt.alloc());
+    for index in 0..bytes.len() {
+        items.push((&bytes.as_slice()[index..index + 1], 0))?;
+    }
+    let all = items.as_slice();
+
+    let hundred: Built<301> = ZeroTrieSimpleAscii::from_sorted_u8_tuples(&all[..100]);
+    assert!(rt; hundred?.as_bytes().starts_with(b"\xE0\x44"));
+    let more: Built<304> = ZeroTrieSimpleAscii::from_sorted_u8_tuples(all);
+    assert!(rt; is_refused(more, ZeroTrieBuildError::StackExceeded));
+    let more: Built<304> = ZeroTrieSimpleAscii::from_sorted_u8_tuples_with_stack::<100>(all);
+    assert!(rt; is_refused(more, ZeroTrieBuildError::StackExceeded));
+    let more: Built<304> = ZeroTrieSimpleAscii::from_sorted_u8_tuples_with_stack::<101>(all);
+    let grown = ZeroTrieSimpleAscii::try_from_sorted_slice(rt.alloc(), all)?;
+    assert!(rt; grown.as_bytes().starts_with(b"\xE0\x45"));
+    assert_eq!(rt; more?.as_bytes(), grown.as_bytes());
+    Ok(())
+}
+
+#[test]
+fn arrays_are_copied(rt: HostRuntime) -> Result<(), Fail> {
+    let alloc = rt.alloc();
+    let copied = ZeroTrieSimpleAscii::try_from_sorted_slice_with_const_builder(alloc, &LITERALS)?;
+    assert_eq!(rt; copied.as_bytes(), LITERALS_TEXT);
+    let copied = ZeroTrieSimpleAscii::try_from_sorted_slice_sized::<20, 2>(alloc, &LITERALS)?;
+    assert_eq!(rt; copied.as_bytes(), LITERALS_TEXT);
+    let small = ZeroTrieSimpleAscii::try_from_sorted_slice_sized::<15, 2>(alloc, &LITERALS);
+    assert!(rt; small.is_err_and(|e| e == ZeroTrieBuildError::BufferTooSmall));
+    let shallow = ZeroTrieSimpleAscii::try_from_sorted_slice_sized::<16, 1>(alloc, &LITERALS);
+    assert!(rt; shallow.is_err_and(|e| e == ZeroTrieBuildError::StackExceeded));
+
+    let key = vec![in alloc; b'a'; 10000]?;
+    let short: [(&[u8], usize); 1] = [(&key.as_slice()[1..], 0)];
+    let copied = ZeroTrieSimpleAscii::try_from_sorted_slice_with_const_builder(alloc, &short)?;
+    assert_eq!(rt; copied.byte_len(), 10000);
+    let long: [(&[u8], usize); 1] = [(key.as_slice(), 0)];
+    let small = ZeroTrieSimpleAscii::try_from_sorted_slice_with_const_builder(alloc, &long);
+    assert!(rt; small.is_err_and(|e| e == ZeroTrieBuildError::BufferTooSmall));
+    Ok(())
+}

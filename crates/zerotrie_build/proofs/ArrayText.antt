@@ -1,0 +1,86 @@
+-- A text that is written from its end into an array.
+use Rattle.std.proofs.Common.{◌≡◌, ℕ, zero, suc, ◌+◌, ◌-◌, ◌<◌, ◌≤◌, ◌/◌, ◌%◌, ◌^◌, List, [], ◌∷◌, ◌++◌, length, refl, sym, ◌∙◌, ap, subst, arith, append_assoc, length-append, take, drop, get_or, map, reverse}
+use Rattle.std.specs.List.{range_with_len}
+use Rattle.std.proofs.lemmas.List.{drop_more, take_more, get_or-reverse, get_or-map, length-reverse, length-map, reverse-append, map-append}
+use Rattle.std.proofs.lemmas.List.Sums.{sum_by-cons}
+use Rattle.zerotrie_core.specs.Branches.{total}
+use Rattle.zerotrie_build.specs.declared.konst.text.Sibling.{Sibling}
+use Rattle.zerotrie_build.specs.declared.konst.text.Text.{Text}
+use Rattle.zerotrie_build.specs.konst.Texts.{Counts, Has, Puts, tops, bytes_of, lens_of}
+use Rattle.zerotrie_build.proofs.NodeLemmas.{total_more}
+use Rattle.zerotrie_build.proofs.PutLemmas.{total_push}
+
+pub puts_nothing : (n : ℕ) (t : Text n) → Puts n t t []
+puts_nothing n t = record { has = λ behind h. h; counts = λ front h. subst (Counts t.front) (let e : front ≡ 0 + front = omega arith in e) h }
+
+-- bytes in front of others
+pub puts_then : (n : ℕ) (a b c : Text n) (xs ys : List ℕ) → Puts n a b ys → Puts n b c xs → Puts n a c (xs ++ ys)
+puts_then n a b c xs ys p q = record {
+  has = λ behind h. subst (Has n c) (sym (append_assoc xs ys behind)) (q.has (ys ++ behind) (p.has behind h));
+  counts = λ front h.
+      subst (Counts c.front) (let e : length xs + (length ys + front) ≡ length (xs ++ ys) + front = (let k = length-append xs ys in omega arith) in e)
+      (q.counts (length ys + front) (p.counts front h));
+}
+
+pub puts_same : (n : ℕ) (a b : Text n) (xs ys : List ℕ) → xs ≡ ys → Puts n a b xs → Puts n a b ys
+puts_same n a b xs ys e = subst (Puts n a b) e
+
+-- the byte in front of those from a place on
+pub puts_more : (n : ℕ) (a b c : Text n) (xs : List ℕ) (i d : ℕ) → 0 < i → i ≤ length xs → d ≡ get_or xs (i - 1) 0 → Puts n a b (drop i xs) → Puts n b c (d ∷ []) → Puts n a c (drop (i - 1) xs)
+puts_more n a b c xs i d some within is p q =
+    let next : i ≡ (i - 1) + 1 = omega arith in
+    puts_same n a c (d ∷ drop i xs) (drop (i - 1) xs)
+    (ap (λ x. x ∷ drop i xs) is ∙ ap (λ k. get_or xs (i - 1) 0 ∷ drop k xs) next ∙ sym (drop_more xs (i - 1) 0 (omega arith)))
+    (puts_then n a b c (d ∷ []) (drop i xs) p q)
+
+pub length-tops : (ss : List Sibling) → length (tops ss) ≡ length ss
+length-tops ss = length-reverse ss
+
+pub length-lens : (ss : List Sibling) → length (lens_of (tops ss)) ≡ length ss
+length-lens ss = length-map (tops ss) (λ s. s.len) ∙ length-reverse ss
+
+-- the length of a sibling, counted from the other end
+pub len_at : (ss : List Sibling) (i : ℕ) (d : Sibling) → 0 < i → i ≤ length ss → get_or (lens_of (tops ss)) (length ss - i) 0 ≡ (get_or ss (i - 1) d).len
+len_at ss i d some within =
+    let far : length ss - 1 - (length ss - i) ≡ i - 1 = omega arith in
+    get_or-map (λ r. r.len) (tops ss) (length ss - i) d 0 (let k = length-reverse ss in omega arith)
+    ∙ ap (λ r. r.len) (get_or-reverse ss (length ss - i) d (omega arith) ∙ ap (λ k. get_or ss k d) far)
+
+-- where the target before ends
+pub end_before : (ss : List Sibling) (i end len : ℕ) → 1 ≤ i → i < length ss → end ≡ total (take (length ss - (i - 1)) (lens_of (tops ss))) → get_or (lens_of (tops ss)) (length ss - i) 0 ≡ len
+    → end ≡ total (take (length ss - i) (lens_of (tops ss))) + len
+end_before ss i end len some within is at =
+    let ls = lens_of (tops ss) in
+    let k = length-lens ss in
+    let next : suc (length ss - i) ≡ length ss - (i - 1) = omega arith in
+    let more : total (take (length ss - i) ls) + get_or ls (length ss - i) 0 ≡ total (take (suc (length ss - i)) ls) = total_more ls (length ss - i) (omega arith) in
+    is ∙ ap (λ j. total (take j ls)) (sym next) ∙ sym more ∙ ap (λ x. total (take (length ss - i) ls) + x) at
+
+-- one offset more in front
+pub block_more : (f g : ℕ → ℕ) (n i : ℕ) → 1 ≤ i → i < n → g (f (n - i)) ∷ map g (map f (range_with_len (n - (i - 1)) (i - 1))) ≡ map g (map f (range_with_len (n - i) i))
+block_more f g n i some within =
+    let first : n - (i - 1) ≡ (n - i) + 1 = omega arith in
+    let count : suc (i - 1) ≡ i = omega arith in
+    ap (λ a. g (f (n - i)) ∷ map g (map f (range_with_len a (i - 1)))) first ∙ ap (λ c. map g (map f (range_with_len (n - i) c))) count
+
+pub all_blocks : (g f : ℕ → ℕ) (n i k : ℕ) → i ≡ k → (0 < i → n ≡ i + 1) → map g (map f (range_with_len (n - i) i)) ≡ map g (map f (range_with_len 1 k))
+all_blocks g f n zero k e h = ap (λ c. map g (map f (range_with_len 1 c))) e
+all_blocks g f n (suc i) k e h =
+    let first : n - suc i ≡ 1 = (let c = h (omega arith) in omega arith) in
+    ap (λ a. map g (map f (range_with_len a (suc i)))) first ∙ ap (λ c. map g (map f (range_with_len 1 c))) e
+
+-- the edges of siblings in their order
+pub bytes_more : (ss : List Sibling) (s : Sibling) → bytes_of (tops (ss ++ s ∷ [])) ≡ s.byte ∷ bytes_of (tops ss)
+bytes_more ss s = ap bytes_of (reverse-append ss (s ∷ []))
+
+pub total_first : (x : ℕ) (xs : List ℕ) → total (x ∷ xs) ≡ x + total xs
+total_first x xs = sum_by-cons (λ n. n) x xs
+
+pub lens_more : (ss : List Sibling) (s : Sibling) → total (lens_of (tops (ss ++ s ∷ []))) ≡ s.len + total (lens_of (tops ss))
+lens_more ss s = ap (λ x. total (lens_of x)) (reverse-append ss (s ∷ [])) ∙ total_first s.len (lens_of (tops ss))
+
+pub edges_take : (ss : List Sibling) (i : ℕ) (d : Sibling) → i < length ss → (get_or ss i d).byte ∷ bytes_of (tops (take i ss)) ≡ bytes_of (tops (take (i + 1) ss))
+edges_take ss i d within = sym (ap (λ x. bytes_of (tops x)) (take_more ss i d within) ∙ bytes_more (take i ss) (get_or ss i d))
+
+pub lens_take : (ss : List Sibling) (i : ℕ) (d : Sibling) → i < length ss → total (lens_of (tops (take (i + 1) ss))) ≡ (get_or ss i d).len + total (lens_of (tops (take i ss)))
+lens_take ss i d within = ap (λ x. total (lens_of (tops x))) (take_more ss i d within) ∙ lens_more (take i ss) (get_or ss i d)

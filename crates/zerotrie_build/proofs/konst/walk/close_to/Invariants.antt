@@ -1,0 +1,15 @@
+use Rattle.std.proofs.Common.{◌≤◌, length}
+use Rattle.zerotrie_core.specs.Maps.{Pairs}
+use Rattle.zerotrie_build.specs.konst.Growing.{Standing}
+use Rattle.zerotrie_build.proofs.konst.walk.close_to.Given as goal
+
+abbrev pub invariant-loop-depth : goal.invariant-loop-depth
+invariant-loop-depth g l = record {
+  closed : (listed : Pairs) → Standing g.row.N g.row.K l.key (length l.key) l.initial.text l.initial.siblings.items listed
+      → Standing g.row.N g.row.K l.key l.depth l.text l.siblings.items listed;
+  stop : l.stop ≤ l.depth;
+  within : l.depth ≤ length l.key;
+}
+
+abbrev pub decreases-loop-depth : goal.decreases-loop-depth
+decreases-loop-depth g l = l.depth

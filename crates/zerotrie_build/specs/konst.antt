@@ -1,0 +1,3 @@
+-- Words of the array builder.
+pub mod Texts
+pub mod Growing

@@ -1,0 +1,146 @@
+//! A text that is written from its last byte to its first.
+
+ghost use Rattle.std.specs.Prelude.{◌≡◌, ℕ, ◌+◌, ◌-◌, ◌/◌, ◌%◌, ◌^◌, ◌<◌, ◌≤◌, [], ◌∷◌, length, map, slice_index};
+ghost use Rattle.zerotrie_core.specs.Numbers.{value_form, spelled_as, SpellsAs};
+ghost use Rattle.zerotrie_core.specs.Branches.{total as total_of, ends, blocks, branch_front};
+ghost use Rattle.zerotrie_build.specs.passes.Writing.{with_bits};
+ghost use Rattle.zerotrie_build.specs.konst.Texts.{Puts, Counts, tops, bytes_of, lens_of};
+
+use crate::konst::array::ZeroTrieBuilderConst;
+use crate::measuring::width_of;
+use zerotrie_core::{write_varint_meta2, write_varint_meta3};
+
+/// The bits of the lead of a value node.
+const VALUE: u8 = 0b1000_0000;
+
+/// The bits of the lead of a branch.
+const BRANCH: u8 = 0b1100_0000;
+
+/// A target of a branch that is not written yet.
+#[derive(Clone, Copy, Debug, Default)]
+pub(crate) struct Sibling {
+    /// How many bytes lead to the branch.
+    pub(crate) depth: usize,
+    /// The edge byte.
+    pub(crate) byte: u8,
+    /// How many bytes the target has.
+    pub(crate) len: usize,
+}
+
+/// A text in an array. Bytes for which the array has no room are counted and lost, so that a text is known
+/// to be too long only once all of it was written.
+#[derive(Drop)]
+pub(crate) struct Text<const N: usize> {
+    pub(crate) array: ZeroTrieBuilderConst<N>,
+    /// Whether bytes were lost.
+    pub(crate) is_too_long: bool,
+    /// How many bytes stand in front of the siblings.
+    pub(crate) front: usize,
+}
+
+impl<const N: usize> Text<N> {
+    /// Puts a byte in front.
+    fn put(&mut self, byte: u8)
+        ensures { Puts N self.old self.new (byte ∷ []) }
+    {
+        if !self.array.push_front(byte) {
+            self.is_too_long = true;
+        }
+        self.front = self.front.saturating_add(1);
+    }
+
+    /// Puts a literal in front.
+    pub(crate) fn put_literal(&mut self, byte: u8)
+        ensures { Puts N self.old self.new (byte ∷ []) }
+    {
+        self.put(byte);
+    }
+
+    /// Puts bytes in front.
+    fn put_all(&mut self, bytes: &[u8])
+        ensures { Puts N self.old self.new bytes.now }
+    {
+        for index in (0..bytes.len()).rev() {
+            self.put(bytes[index]);
+        }
+    }
+
+    /// Puts a number in front, with these bits added to its lead.
+    fn put_number(&mut self, bits: u8, number: &[u8])
+        requires { bits + slice_index number.now 0 < 256 }
+        ensures { Puts N self.old self.new (with_bits bits number.now) }
+    {
+        if let Some((lead, trail)) = number.split_first() {
+            self.put_all(trail);
+            self.put(bits + *lead);
+        }
+    }
+
+    /// Puts a value node in front.
+    pub(crate) fn put_value(&mut self, value: usize)
+        ensures puts { Puts N self.old self.new (spelled_as value_form value) }
+        ensures spells { SpellsAs value_form value (spelled_as value_form value) }
+    {
+        self.put_number(VALUE, &write_varint_meta3(value));
+    }
+
+    /// Puts the bytes of this weight of the offsets of a branch to these targets in front.
+    fn put_block(&mut self, siblings: &[Sibling], total: usize, place: usize)
+        requires place { place < 8 }
+        requires total { total ≡ total_of (lens_of (tops siblings.now)) }
+        ensures { Puts N self.old self.new (map (λ o. o / 256 ^ place % 256) (ends (lens_of (tops siblings.now)))) }
+    {
+        let mut end = total;
+        for index in 1..siblings.len() {
+            end -= siblings[index - 1].len;
+            self.put(((end >> (8 * place)) % 256) as u8);
+        }
+    }
+
+    /// Puts so many bytes of each offset of a branch to these targets in front.
+    fn put_offsets(&mut self, siblings: &[Sibling], total: usize, bytes: usize)
+        requires bytes { bytes ≤ 8 }
+        requires total { total ≡ total_of (lens_of (tops siblings.now)) }
+        ensures { Puts N self.old self.new (blocks bytes (ends (lens_of (tops siblings.now)))) }
+    {
+        for place in 0..bytes {
+            self.put_block(siblings, total, place);
+        }
+    }
+
+    /// Puts the edges of a branch to these targets in front.
+    fn put_edges(&mut self, siblings: &[Sibling])
+        ensures { Puts N self.old self.new (bytes_of (tops siblings.now)) }
+    {
+        for sibling in siblings {
+            self.put(sibling.byte);
+        }
+    }
+
+    /// Puts the head, the edges and the offsets of a branch to these targets in front. Together the targets
+    /// have `total` bytes.
+    pub(crate) fn put_branch(&mut self, siblings: &[Sibling], total: usize)
+        requires total { total ≡ total_of (lens_of (tops siblings.now)) }
+        ensures { Puts N self.old self.new (branch_front (bytes_of (tops siblings.now)) (lens_of (tops siblings.now))) }
+    {
+        let width = width_of(total);
+        self.put_offsets(siblings, total, width + 1);
+        self.put_edges(siblings);
+        self.put_number(
+            BRANCH,
+            &write_varint_meta2(256 * width + siblings.len() % 256),
+        );
+    }
+}
+
+/// How many bytes the targets have together, or the greatest number where they have more.
+pub(crate) fn total(siblings: &[Sibling]) -> usize
+    ensures exact { total_of (lens_of (tops siblings.now)) < 2 ^ 64 → result ≡ total_of (lens_of (tops siblings.now)) }
+    ensures capped { 2 ^ 64 ≤ total_of (lens_of (tops siblings.now)) → 2 ^ 32 ≤ result }
+{
+    let mut total: usize = 0;
+    for sibling in siblings {
+        total = total.saturating_add(sibling.len);
+    }
+    total
+}

@@ -1,0 +1,213 @@
+//! The items, from the last to the first, and the branches where they part.
+//!
+//! In front stands the text of what lies under the first bytes of one key, and behind it the targets of open
+//! branches, the siblings, of which the one that was set aside last stands in front.
+
+ghost use Rattle.std.specs.Prelude.{◌≡◌, ◌≢◌, ℕ, ◌+◌, ◌^◌, ◌<◌, ◌≤◌, ◌∷◌, length, take, drop, All, IfOk, IfErr, OnOk, true, false, suc, List};
+ghost use Rattle.zerotrie_core.specs.Kind.{simple_ascii};
+ghost use Rattle.zerotrie_core.specs.Maps.{Pairs};
+ghost use Rattle.zerotrie_core.specs.Texts.{Lists};
+ghost use Rattle.zerotrie_core.specs.Stack.{stack_of};
+ghost use Rattle.zerotrie_core.specs.Causes.{CapacityExceeded, StackExceeded};
+ghost use Rattle.zerotrie_build.specs.Items.{pairs};
+ghost use Rattle.zerotrie_build.specs.Order.{Before, Ordered};
+ghost use Rattle.zerotrie_build.specs.konst.Texts.{Has, tops};
+ghost use Rattle.zerotrie_build.specs.konst.Growing.{NoneAt, AllAt, Standing, Waiting, BuiltFrom, Joins, TooWide, IsStuckAt, IsStuckFrom, IsStuckBefore, IsStuck};
+
+use crate::konst::array::ZeroTrieBuilderConst;
+use crate::konst::text::{Sibling, Text, total};
+use crate::order::common_front_len;
+use crate::slice_indices::ByteSliceWithIndices;
+use arrayvec::ArrayVec;
+use zerotrie_core::ZeroTrieBuildError;
+
+/// Sets the text in front aside as the target of a branch at this depth.
+fn set_aside<const N: usize, const K: usize>(
+    text: &mut Text<N>,
+    siblings: &mut ArrayVec<Sibling, K>,
+    byte: u8,
+    depth: usize,
+) -> Result<(), ZeroTrieBuildError>
+    ensures aside { OnOk result (tops siblings.new.items
+        ≡ record { depth = depth; byte = byte; len = text.old.front } ∷ tops siblings.old.items) }
+    ensures room { OnOk result (length siblings.old.items < K) }
+    ensures front { OnOk result (text.new.front ≡ 0) }
+    ensures array { OnOk result (text.new.array ≡ text.old.array) }
+    ensures too_long { OnOk result (text.new.is_too_long ≡ text.old.is_too_long) }
+    ensures refused { IfErr result (λ e. (e ≡ StackExceeded) × (K ≤ length siblings.old.items)) }
+{
+    if siblings.is_full() {
+        return Err(ZeroTrieBuildError::StackExceeded);
+    }
+    siblings.push(Sibling {
+        depth,
+        byte,
+        len: text.front,
+    });
+    text.front = 0;
+    Ok(())
+}
+
+/// Where the siblings at this depth begin, which were set aside last.
+fn start_of<const K: usize>(siblings: &ArrayVec<Sibling, K>, depth: usize) -> usize
+    ensures within { result ≤ length siblings.now.items }
+    ensures level { AllAt depth (tops (drop result siblings.now.items)) }
+    ensures no_more { NoneAt depth (tops (take result siblings.now.items)) }
+{
+    let mut start = siblings.len();
+    while start > 0 && siblings[start - 1].depth == depth {
+        start -= 1;
+    }
+    start
+}
+
+/// Makes a branch of the siblings at this depth.
+fn join<const N: usize, const K: usize>(
+    text: &mut Text<N>,
+    siblings: &mut ArrayVec<Sibling, K>,
+    depth: usize,
+) -> Result<(), ZeroTrieBuildError>
+    ensures joins { OnOk result (Joins N depth text.old text.new
+        (tops siblings.old.items) (tops siblings.new.items)) }
+    ensures refused { IfErr result (λ e. (e ≡ CapacityExceeded) × TooWide depth (tops siblings.old.items)) }
+{
+    let start = start_of(siblings, depth);
+    let branch = &siblings.as_slice()[start..];
+    let total = total(branch);
+    if total >= 1 << 32 {
+        return Err(ZeroTrieBuildError::CapacityExceeded);
+    }
+    text.front = total;
+    text.put_branch(branch, total);
+    siblings.truncate(start);
+    Ok(())
+}
+
+/// Whether siblings lie at this depth.
+fn has_siblings_at<const K: usize>(siblings: &ArrayVec<Sibling, K>, depth: usize) -> bool
+    ensures yes { result ≡ true → NoneAt depth (tops siblings.now.items) → ⊥ }
+    ensures no { result ≡ false → NoneAt depth (tops siblings.now.items) }
+{
+    match siblings.last() {
+        Some(top) => top.depth == depth,
+        None => false,
+    }
+}
+
+/// Goes from the text of what lies under `depth + 1` bytes of the key to what lies under `depth`.
+fn close_level<const N: usize, const K: usize>(
+    text: &mut Text<N>,
+    siblings: &mut ArrayVec<Sibling, K>,
+    key: &[u8],
+    depth: usize,
+) -> Result<(), ZeroTrieBuildError>
+    requires within { depth < length key.now }
+    requires ascii { All (λ b. b < 128) key.now }
+    ensures closed { OnOk result ((listed : Pairs) → Standing N K key.now (suc depth) text.old siblings.old.items listed
+        → Standing N K key.now depth text.new siblings.new.items listed) }
+    ensures refused { IfErr result (λ e. (listed : Pairs)
+        → Standing N K key.now (suc depth) text.old siblings.old.items listed → IsStuckAt K key.now depth listed e) }
+{
+    if has_siblings_at(siblings, depth) {
+        set_aside(text, siblings, key[depth], depth)?;
+        return join(text, siblings, depth);
+    }
+    text.put_literal(key[depth]);
+    Ok(())
+}
+
+/// Goes from the text of the whole key to what lies under its first `stop` bytes.
+fn close_to<const N: usize, const K: usize>(
+    text: &mut Text<N>,
+    siblings: &mut ArrayVec<Sibling, K>,
+    key: &[u8],
+    stop: usize,
+) -> Result<(), ZeroTrieBuildError>
+    requires within { stop ≤ length key.now }
+    requires ascii { All (λ b. b < 128) key.now }
+    ensures closed { OnOk result ((listed : Pairs)
+        → Standing N K key.now (length key.now) text.old siblings.old.items listed
+        → Standing N K key.now stop text.new siblings.new.items listed) }
+    ensures refused { IfErr result (λ e. (listed : Pairs)
+        → Standing N K key.now (length key.now) text.old siblings.old.items listed
+        → IsStuckFrom K key.now stop listed e) }
+{
+    let mut depth = key.len();
+    while depth > stop {
+        depth -= 1;
+        close_level(text, siblings, key, depth)?;
+    }
+    Ok(())
+}
+
+/// Goes from the text of the whole key to where the key before it is added.
+fn go_before<const N: usize, const K: usize>(
+    text: &mut Text<N>,
+    siblings: &mut ArrayVec<Sibling, K>,
+    before: &[u8],
+    key: &[u8],
+) -> Result<(), ZeroTrieBuildError>
+    requires sorted { Before simple_ascii before.now key.now }
+    requires ascii { All (λ b. b < 128) key.now }
+    ensures waits { OnOk result ((listed : Pairs)
+        → Standing N K key.now (length key.now) text.old siblings.old.items listed
+        → Waiting N K before.now text.new siblings.new.items listed) }
+    ensures refused { IfErr result (λ e. (listed : Pairs)
+        → Standing N K key.now (length key.now) text.old siblings.old.items listed
+        → IsStuckBefore K before.now listed e) }
+{
+    let common = common_front_len(before, key);
+    if common == before.len() {
+        return close_to(text, siblings, key, common);
+    }
+    close_to(text, siblings, key, common + 1)?;
+    set_aside(text, siblings, key[common], common)
+}
+
+/// Adds the item of this number, behind which all items are added.
+fn add<const N: usize, const K: usize>(
+    text: &mut Text<N>,
+    siblings: &mut ArrayVec<Sibling, K>,
+    items: ByteSliceWithIndices<'_>,
+    index: usize,
+) -> Result<(), ZeroTrieBuildError>
+    requires within { index < length (pairs items) }
+    requires sorted { Ordered simple_ascii (pairs items) }
+    requires ascii { All (λ e. All (λ b. b < 128) e.0) (pairs items) }
+    requires built { BuiltFrom N K (suc index) (pairs items) text.old siblings.old.items }
+    ensures built { OnOk result (BuiltFrom N K index (pairs items.entry) text.new siblings.new.items) }
+    ensures refused { IfErr result (IsStuck K (pairs items.entry)) }
+{
+    let (key, value) = items.get(index);
+    text.put_value(value);
+    if index == 0 {
+        return close_to(text, siblings, key, 0);
+    }
+    let (before, _) = items.get(index - 1);
+    go_before(text, siblings, before, key)
+}
+
+/// The text of the trie of the items.
+pub(crate) fn grow<const N: usize, const K: usize>(
+    items: ByteSliceWithIndices<'_>,
+) -> Result<Text<N>, ZeroTrieBuildError>
+    requires capacity { K < 2 ^ 58 }
+    requires sorted { Ordered simple_ascii (pairs items) }
+    requires ascii { All (λ e. All (λ b. b < 128) e.0) (pairs items) }
+    ensures grown { IfOk result (λ text. (bytes : List ℕ) × Has N text bytes × Lists simple_ascii bytes (pairs items.entry)) }
+    ensures within { IfOk result (λ text. stack_of (pairs items.entry) ≤ K) }
+    ensures refused { IfErr result (IsStuck K (pairs items.entry)) }
+{
+    let mut text = Text {
+        array: ZeroTrieBuilderConst::new(),
+        is_too_long: false,
+        front: 0,
+    };
+    let mut siblings: ArrayVec<Sibling, K> = ArrayVec::new();
+    let mut index = items.len();
+    while index > 0 {
+        index -= 1;
+        add(&mut text, &mut siblings, items, index)?;
+    }
+    Ok(text)
+}

@@ -1,0 +1,31 @@
+-- The stack need of a map: how many targets wait for their branch at once where a text is written from its end, with
+-- those of a branch from the last to the first, and a branch in front of its targets as soon as all of them are there.
+use Rattle.std.proofs.Common.{zero, suc}
+use Rattle.std.specs.Prelude.{ℕ, ◌+◌, List, [], ◌∷◌, length, max}
+use Rattle.std.specs.FinMap.{entries}
+use Rattle.zerotrie_core.specs.Maps.{Pairs, Map, edges, residual, longest}
+
+-- of the edges of a branch: the greatest of their number and, for each of them, how many come after it and the need behind it
+abbrev pub branch_need : (Pairs → ℕ) → Pairs → List ℕ → ℕ
+branch_need need_behind pairs [] = 0
+branch_need need_behind pairs (b ∷ edges) =
+    max (1 + length edges) (max (length edges + need_behind (residual b pairs)) (branch_need need_behind pairs edges))
+
+-- by the edges: none, one with the need behind it, or a branch
+abbrev pub need_by : (Pairs → ℕ) → Pairs → List ℕ → ℕ
+need_by need_behind pairs [] = 0
+need_by need_behind pairs (b ∷ []) = need_behind (residual b pairs)
+need_by need_behind pairs (b ∷ c ∷ more) = branch_need need_behind pairs (b ∷ c ∷ more)
+
+-- the stack need of pairs whose keys are shorter than d
+abbrev pub stack_to : ℕ → Pairs → ℕ
+stack_to zero pairs = 0
+stack_to (suc d) pairs = need_by (stack_to d) pairs (edges pairs)
+
+-- the stack need of pairs
+unfoldable pub stack_of : Pairs → ℕ
+stack_of pairs = stack_to (suc (longest pairs)) pairs
+
+-- the stack need of a map
+unfoldable pub stack : Map → ℕ
+stack m = stack_of (entries m)
