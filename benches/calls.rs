@@ -62,6 +62,19 @@ unsafe extern "C" {
     fn get_ignore(bytes: *const u8, len: usize, key: *const u8, key_len: usize) -> usize;
     fn get_hash(bytes: *const u8, len: usize, key: *const u8, key_len: usize) -> usize;
     fn get_ext(bytes: *const u8, len: usize, key: *const u8, key_len: usize) -> usize;
+    fn step_simple(bytes: *const u8, len: usize, key: *const u8, key_len: usize) -> usize;
+    fn step_ignore(bytes: *const u8, len: usize, key: *const u8, key_len: usize) -> usize;
+    fn step_hash(bytes: *const u8, len: usize, key: *const u8, key_len: usize) -> usize;
+    fn step_ext(bytes: *const u8, len: usize, key: *const u8, key_len: usize) -> usize;
+    fn well_formed(kind: u8, bytes: *const u8, len: usize) -> bool;
+    fn list_into(kind: u8, bytes: *const u8, len: usize, out: *mut u8, out_len: usize) -> usize;
+    fn walk_into(
+        kind: u8, bytes: *const u8, len: usize, calls: *const u8, calls_len: usize, out: *mut u8, out_len: usize,
+    ) -> usize;
+    #[link_name = "list_many"]
+    fn list_many_(kind: u8, bytes: *const u8, len: usize, times: usize) -> usize;
+    #[link_name = "map_many"]
+    fn map_many_(kind: u8, bytes: *const u8, len: usize, times: usize) -> usize;
     #[link_name = "build_many"]
     fn build_many_(
         kind: u8, route: u8, keys: *const u8, keys_len: usize, ends: *const usize, ends_len: usize,
@@ -71,21 +84,93 @@ unsafe extern "C" {
     fn hash_many_(keys: *const u8, keys_len: usize, times: usize) -> usize;
 }
 
-/// Asks for each key and adds up what is found.
-pub fn asked(kind: Kind, bytes: &[u8], keys: &[&[u8]]) -> usize {
-    let call: Get = match kind {
+fn getter(kind: Kind) -> Get {
+    match kind {
         Kind::Simple => get_simple,
         Kind::Ignore => get_ignore,
         Kind::Hash => get_hash,
         Kind::Ext => get_ext,
+    }
+}
+
+fn stepper(kind: Kind) -> Get {
+    match kind {
+        Kind::Simple => step_simple,
+        Kind::Ignore => step_ignore,
+        Kind::Hash => step_hash,
+        Kind::Ext => step_ext,
+    }
+}
+
+fn found_by(call: Get, bytes: &[u8], key: &[u8]) -> Option<usize> {
+    // SAFETY: the function reads the two slices and nothing else.
+    match unsafe { call(bytes.as_ptr(), bytes.len(), key.as_ptr(), key.len()) } {
+        usize::MAX => None,
+        value => Some(value),
+    }
+}
+
+/// The value of a key. A value of 2^64 - 1 can't be told from none here.
+pub fn get(kind: Kind, bytes: &[u8], key: &[u8]) -> Option<usize> {
+    found_by(getter(kind), bytes, key)
+}
+
+/// Asks for each key and adds up what is found.
+pub fn asked(kind: Kind, bytes: &[u8], keys: &[&[u8]]) -> usize {
+    let call = getter(kind);
+    crate::asked(keys, |key| found_by(call, bytes, key))
+}
+
+/// The same, by a cursor's steps.
+pub fn stepped(kind: Kind, bytes: &[u8], keys: &[&[u8]]) -> usize {
+    let call = stepper(kind);
+    crate::asked(keys, |key| found_by(call, bytes, key))
+}
+
+pub fn is_well_formed(kind: Kind, bytes: &[u8]) -> bool {
+    // SAFETY: the function reads the slice.
+    unsafe { well_formed(kind as u8, bytes.as_ptr(), bytes.len()) }
+}
+
+pub fn list_many(kind: Kind, bytes: &[u8], times: usize) -> usize {
+    // SAFETY: the function reads the slice.
+    unsafe { list_many_(kind as u8, bytes.as_ptr(), bytes.len(), times) }
+}
+
+pub fn map_many(kind: Kind, bytes: &[u8], times: usize) -> usize {
+    // SAFETY: the function reads the slice.
+    unsafe { map_many_(kind as u8, bytes.as_ptr(), bytes.len(), times) }
+}
+
+/// The number at a place of eight bytes.
+fn number_at(bytes: &[u8], place: usize) -> usize {
+    usize::from_le_bytes(bytes[place..place + 8].try_into().unwrap())
+}
+
+/// The pairs of a listing.
+pub fn pairs(kind: Kind, bytes: &[u8]) -> Vec<(Vec<u8>, usize)> {
+    let mut out = vec![0; (bytes.len() + 1) * (bytes.len() + 16)];
+    // SAFETY: the function reads the first slice and writes the second.
+    let len = unsafe { list_into(kind as u8, bytes.as_ptr(), bytes.len(), out.as_mut_ptr(), out.len()) };
+    let mut pairs = Vec::new();
+    let mut place = 0;
+    while place < len {
+        let key = number_at(&out, place);
+        let end = place + 8 + key;
+        pairs.push((out[place + 8..end].to_vec(), number_at(&out, end)));
+        place = end + 8;
+    }
+    pairs
+}
+
+/// The answers of a cursor to calls of two bytes each.
+pub fn answers(kind: Kind, bytes: &[u8], calls: &[u8]) -> Vec<(usize, usize)> {
+    let mut out = vec![0; 8 * calls.len()];
+    // SAFETY: the function reads the first two slices and writes the third.
+    let len = unsafe {
+        walk_into(kind as u8, bytes.as_ptr(), bytes.len(), calls.as_ptr(), calls.len(), out.as_mut_ptr(), out.len())
     };
-    crate::asked(keys, |key| {
-        // SAFETY: the function reads the two slices and nothing else.
-        match unsafe { call(bytes.as_ptr(), bytes.len(), key.as_ptr(), key.len()) } {
-            usize::MAX => None,
-            value => Some(value),
-        }
-    })
+    out[..len].chunks_exact(16).map(|answer| (number_at(answer, 0), number_at(answer, 8))).collect()
 }
 
 pub fn build_many(kind: Kind, route: u8, flat: &Flat, times: usize, out: &mut [u8]) -> usize {
@@ -127,6 +212,45 @@ pub mod original {
             Kind::Ignore => crate::asked(keys, |key| ZeroAsciiIgnoreCaseTrie::from_bytes(bytes).get(key)),
             Kind::Hash => crate::asked(keys, |key| ZeroTriePerfectHash::from_bytes(bytes).get(key)),
             Kind::Ext => crate::asked(keys, |key| ZeroTrieExtendedCapacity::from_bytes(bytes).get(key)),
+        }
+    }
+
+    pub fn listed(kind: Kind, bytes: &[u8]) -> usize {
+        match kind {
+            Kind::Simple => ZeroTrieSimpleAscii::from_bytes(bytes).iter().map(|(key, value)| key.len() + value).sum(),
+            Kind::Ignore => ZeroAsciiIgnoreCaseTrie::from_bytes(bytes).iter().map(|(key, value)| key.len() + value).sum(),
+            Kind::Hash => ZeroTriePerfectHash::from_bytes(bytes).iter().map(|(key, value)| key.len() + value).sum(),
+            Kind::Ext => ZeroTrieExtendedCapacity::from_bytes(bytes).iter().map(|(key, value)| key.len() + value).sum(),
+        }
+    }
+
+    pub fn mapped(kind: Kind, bytes: &[u8]) -> usize {
+        match kind {
+            Kind::Simple => ZeroTrieSimpleAscii::from_bytes(bytes).to_btreemap().len(),
+            Kind::Ignore => ZeroAsciiIgnoreCaseTrie::from_bytes(bytes).to_btreemap().len(),
+            Kind::Hash => ZeroTriePerfectHash::from_bytes(bytes).to_btreemap().len(),
+            Kind::Ext => ZeroTrieExtendedCapacity::from_bytes(bytes).to_btreemap().len(),
+        }
+    }
+
+    /// By steps of a cursor, in the kinds that have one.
+    pub fn stepped(kind: Kind, bytes: &[u8], keys: &[&[u8]]) -> Option<usize> {
+        match kind {
+            Kind::Simple => Some(crate::asked(keys, |key| {
+                let mut cursor = ZeroTrieSimpleAscii::from_bytes(bytes).cursor();
+                for byte in key {
+                    cursor.step(*byte);
+                }
+                cursor.take_value()
+            })),
+            Kind::Ignore => Some(crate::asked(keys, |key| {
+                let mut cursor = ZeroAsciiIgnoreCaseTrie::from_bytes(bytes).cursor();
+                for byte in key {
+                    cursor.step(*byte);
+                }
+                cursor.take_value()
+            })),
+            Kind::Hash | Kind::Ext => None,
         }
     }
 

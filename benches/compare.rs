@@ -72,6 +72,48 @@ fn look_ups(set: &Set, kind: Kind, rounds: usize) {
     }
 }
 
+fn listings(set: &Set, kind: Kind, rounds: usize) {
+    let bytes = calls::built(kind, 0, &set.keys);
+    let bytes = bytes.as_slice();
+    let turns = (20_000 / set.keys.len()).max(1);
+    let mut contestants: Vec<(&str, Box<dyn FnMut() -> usize + '_>)> = Vec::new();
+    contestants.push(("ours", Box::new(move || calls::list_many(kind, bytes, turns))));
+    #[cfg(original)]
+    contestants.push(("the crate", Box::new(move || (0..turns).map(|_| calls::original::listed(kind, bytes)).sum())));
+    run_line(&format!("{}, {}, listing", set.name, kind.name()), rounds, turns * set.keys.len(), contestants);
+    let mut contestants: Vec<(&str, Box<dyn FnMut() -> usize + '_>)> = Vec::new();
+    contestants.push(("ours", Box::new(move || calls::map_many(kind, bytes, turns))));
+    #[cfg(original)]
+    contestants.push(("the crate", Box::new(move || (0..turns).map(|_| calls::original::mapped(kind, bytes)).sum())));
+    run_line(&format!("{}, {}, ordered map", set.name, kind.name()), rounds, turns * set.keys.len(), contestants);
+}
+
+fn walks(set: &Set, kind: Kind, rounds: usize) {
+    let bytes = calls::built(kind, 0, &set.keys);
+    let bytes = bytes.as_slice();
+    let mut keys: Vec<&[u8]> = set.keys.iter().map(Vec::as_slice).collect();
+    Random::new(43).shuffle(&mut keys);
+    let keys = keys.as_slice();
+    let turns = (20_000 / keys.len()).max(1);
+    let len: usize = keys.iter().map(|key| key.len()).sum();
+    let mut contestants: Vec<(&str, Box<dyn FnMut() -> usize + '_>)> = Vec::new();
+    contestants.push(("ours", Box::new(move || (0..turns).map(|_| calls::stepped(kind, bytes, keys)).sum())));
+    #[cfg(original)]
+    if calls::original::stepped(kind, bytes, &[]).is_some() {
+        contestants.push(("the crate", Box::new(move || (0..turns).filter_map(|_| calls::original::stepped(kind, bytes, keys)).sum())));
+    }
+    run_line(&format!("{}, {}, a step", set.name, kind.name()), rounds, turns * len, contestants);
+}
+
+fn tests_of_bytes(set: &Set, kind: Kind, rounds: usize) {
+    let bytes = calls::built(kind, 0, &set.keys);
+    let mut contestants: Vec<(&str, Box<dyn FnMut() -> usize + '_>)> = Vec::new();
+    let len = bytes.len();
+    contestants.push(("ours", Box::new(move || calls::is_well_formed(kind, &bytes) as usize)));
+    let times = best(rounds, len, &mut contestants);
+    println!("{:<46} {:>9.0} MB/s", format!("{}, {}, test of bytes", set.name, kind.name()), 1000.0 / times[0]);
+}
+
 fn pairs(set: &Set) -> impl Iterator<Item = (&[u8], usize)> {
     set.keys.iter().enumerate().map(|(number, key)| (key.as_slice(), number))
 }
@@ -129,6 +171,18 @@ fn main() {
             look_ups(set, kind, rounds);
         }
         last = Some(set.name);
+    }
+    for (title, measure) in [
+        ("Listings", listings as fn(&Set, Kind, usize)),
+        ("Cursors, a byte", walks),
+        ("Tests of bytes", tests_of_bytes),
+    ] {
+        println!("\n{title}");
+        for set in sets::all().iter().filter(|set| set.name.contains(&wanted)) {
+            for kind in Kind::of(&set.keys) {
+                measure(set, kind, rounds);
+            }
+        }
     }
     println!("\nBuilds");
     for set in sets::all().iter().filter(|set| set.name.contains(&wanted)) {
