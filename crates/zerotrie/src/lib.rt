@@ -38,7 +38,7 @@
 #[cfg(test)]
 mod tests;
 
-pub use zerotrie_any::{HasFlavor, TextKey, ZeroTrie, ZeroTrieFlavor};
+pub use zerotrie_any::{HasFlavor, NotWellFormed, TextKey, ZeroTrie, ZeroTrieFlavor};
 pub use zerotrie_ascii::{AsciiKind, AsciiTrie, ZeroAsciiIgnoreCaseTrie, ZeroTrieSimpleAscii};
 pub use zerotrie_core::{
     ConvertStore, Ext, Hash, Ignore, Simple, TrieKey, TrieStore, ZeroTrieBuildError,

@@ -3,6 +3,7 @@ mod examples;
 mod refusals;
 mod routes;
 mod views;
+mod well_formed;
 
 use super::*;
 use std::alloc::Global;

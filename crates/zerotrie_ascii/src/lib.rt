@@ -2,6 +2,7 @@
 #![tactic(auto)]
 
 mod ascii_trie;
+mod checked;
 mod options;
 
 pub use ascii_trie::{AsciiTrie, ZeroAsciiIgnoreCaseTrie, ZeroTrieSimpleAscii};

@@ -1,6 +1,7 @@
 //! Tries over keys of any bytes, whose wide branches have perfect hashes.
 #![tactic(auto)]
 
+mod checked;
 mod hashed_trie;
 mod options;
 
