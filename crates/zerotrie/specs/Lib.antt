@@ -17,6 +17,7 @@ pub use Rattle.zerotrie_core.specs.Built
 pub use Rattle.zerotrie_core.specs.Items
 pub use Rattle.zerotrie_core.specs.Routes
 pub use Rattle.zerotrie_core.specs.Laws
+pub use Rattle.zerotrie_core.specs.WellFormed
 pub use Rattle.zerotrie_any.specs.Order
 pub use Rattle.zerotrie_any.specs.Auto
 pub use Rattle.zerotrie_any.specs.Flavors

@@ -42,6 +42,7 @@ pub use zerotrie_any::{
     CursorAnswer, CursorOp, HasFlavor, JsonError, TagError, TextKey, ZeroTrie, ZeroTrieFlavor,
     json_keeps_the_pairs,
 };
+pub use zerotrie_any::{HasFlavor, NotWellFormed, TextKey, ZeroTrie, ZeroTrieFlavor};
 pub use zerotrie_ascii::{AsciiKind, AsciiTrie, ZeroAsciiIgnoreCaseTrie, ZeroTrieSimpleAscii};
 pub use zerotrie_core::{
     ConvertStore, Ext, Hash, Ignore, Simple, TrieKey, TrieStore, ZeroTrieBuildError,

@@ -7,6 +7,7 @@ mod refusals;
 mod routes;
 mod views;
 mod walks;
+mod well_formed;
 
 use super::*;
 use std::alloc::Global;

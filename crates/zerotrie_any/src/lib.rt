@@ -3,6 +3,7 @@
 
 mod cursor;
 mod json;
+mod checked;
 mod keys;
 mod listed;
 mod routes;
@@ -11,6 +12,7 @@ mod zerotrie;
 
 pub use cursor::{CursorAnswer, CursorOp, walk};
 pub use json::{JsonError, bytes_from_json, json_keeps_the_pairs, json_of};
+pub use checked::NotWellFormed;
 pub use keys::TextKey;
 pub use listed::map_of;
 pub use routes::{bytes_from_iter, bytes_from_map, bytes_from_slice};

@@ -5,6 +5,7 @@ mod array;
 mod ascii_trie;
 mod cursor;
 mod listed;
+mod checked;
 mod options;
 mod outer;
 

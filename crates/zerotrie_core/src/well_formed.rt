@@ -279,48 +279,6 @@ mod tests {
     }
 
     #[test]
-    fn tables_of_sixteen_and_of_all_bytes(rt: HostRuntime) -> Result<(), Fail> {
-        let mut hashed = Vec::from_array(rt.alloc(), [0xD0])?;
-        hashed.resize(18, 0)?;
-        hashed.push(0x70)?;
-        for byte in 0x61..=0x6F {
-            hashed.push(byte)?;
-        }
-        for offset in 1..=15 {
-            hashed.push(offset)?;
-        }
-        hashed.push(0x8F)?;
-        for value in 0x80..=0x8E {
-            hashed.push(value)?;
-        }
-        let mut sorted = Vec::from_array(rt.alloc(), [0xD0])?;
-        for byte in 0x61..=0x70 {
-            sorted.push(byte)?;
-        }
-        sorted.extend_from_slice(&hashed[34..])?;
-        assert_eq!(rt; (hashed.len(), sorted.len()), (65, 48));
-        assert!(rt; is_well_formed::<Hash>(&hashed));
-        assert!(rt; is_well_formed::<Simple>(&sorted));
-        assert!(rt; !is_well_formed::<Hash>(&sorted));
-        hashed[18] = 0x61;
-        assert!(rt; !is_well_formed::<Hash>(&hashed));
-        let mut bytes = Vec::from_array(rt.alloc(), [0xE1, 0x60])?;
-        bytes.resize(259, 0)?;
-        for byte in 0..=255 {
-            bytes.push(byte)?;
-        }
-        bytes.resize(770, 0)?;
-        for byte in 1..=255 {
-            bytes.push(byte)?;
-        }
-        bytes.resize(1281, 0x80)?;
-        assert_eq!(rt; is_well_formed_counted::<Hash>(&bytes), (true, 2));
-        bytes[2] = 0xFF;
-        assert!(rt; is_well_formed::<Ext>(&bytes));
-        Ok(())
-    }
-
-    #[test]
     fn a_long_key_takes_one_call(rt: HostRuntime) -> Result<(), Fail> {
         let mut bytes = Vec::new(rt.alloc());
         bytes.resize(100_000, 0x61)?;

@@ -2,6 +2,7 @@
 #![tactic(auto)]
 
 mod cursor;
+mod checked;
 mod hashed_trie;
 mod listed;
 mod options;

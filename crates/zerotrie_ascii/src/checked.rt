@@ -1,0 +1,47 @@
+//! Bytes that are tested.
+
+ghost use Rattle.std.specs.Prelude.{◌≡◌, ◌↔◌, IsTrue, IfOk, IfErr};
+ghost use Rattle.zerotrie_core.specs.WellFormed.{IsWellFormed};
+
+use crate::ascii_trie::AsciiTrie;
+use crate::options::AsciiKind;
+use zerotrie_any::NotWellFormed;
+use zerotrie_core::{TrieStore, is_well_formed};
+
+impl<'a, K: AsciiKind> AsciiTrie<K, &'a [u8]> {
+    /// The trie of these bytes, where they mean a map. It takes no memory.
+    ///
+    /// ```
+    /// let trie = ZeroTrieSimpleAscii::try_from_bytes(b"in\x83to\x84")?;
+    /// assert_eq!(rt; trie.get(b"into"), Some(4));
+    /// assert!(rt; ZeroTrieSimpleAscii::try_from_bytes(b"into").is_err());
+    /// ```
+    ///
+    /// Refused with `NotWellFormed` exactly where the bytes mean no map.
+    pub fn try_from_bytes(bytes: &'a [u8]) -> Result<Self, NotWellFormed>
+        ensures bytes { IfOk result (λ trie. trie.store.now ≡ bytes.now) }
+        ensures ok { IfOk result (λ _. IsWellFormed K.kind bytes.now) }
+        ensures err { IfErr result (λ _. IsWellFormed K.kind bytes.now → ⊥) }
+    {
+        if is_well_formed::<K>(bytes) {
+            Ok(AsciiTrie::from_bytes(bytes))
+        } else {
+            Err(NotWellFormed)
+        }
+    }
+}
+
+impl<K: AsciiKind, S: TrieStore> AsciiTrie<K, S> {
+    /// Whether the bytes are a trie of its kind, every rule of the format kept: yes exactly where they mean a
+    /// map. It takes no memory.
+    ///
+    /// ```
+    /// let trie = ZeroTrieSimpleAscii::from_bytes(b"abc\x85");
+    /// assert!(rt; trie.is_well_formed());
+    /// ```
+    pub fn is_well_formed(&self) -> bool
+        ensures { IsTrue result ↔ IsWellFormed K.kind (S.stored self.now.store) }
+    {
+        is_well_formed::<K>(self.as_bytes())
+    }
+}
