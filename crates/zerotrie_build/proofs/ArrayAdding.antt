@@ -1,14 +1,13 @@
 -- One item after another is added.
-use Rattle.std.proofs.Common.{◌≡◌, ℕ, zero, suc, ◌+◌, ◌-◌, ◌<◌, ◌≤◌, ◌⊎◌, inl, inr, List, [], ◌∷◌, ◌++◌, length, refl, sym, ◌∙◌, ap, subst, arith, take, drop, get_or, All, Some, slice_get, false}
-use Rattle.std.specs.FinMap.{entries}
+use Rattle.std.proofs.Common.{◌≡◌, ℕ, zero, suc, ◌<◌, ◌≤◌, inl, inr, List, [], ◌∷◌, ◌++◌, length, refl, sym, ◌∙◌, ap, subst, arith, take, drop, get_or, All, Some, slice_get, false}
 use Rattle.std.proofs.lemmas.List.{take-append-drop}
 use Rattle.std.proofs.lemmas.Option.{slice_get_within}
 use Rattle.zerotrie_core.specs.Kind.{simple_ascii}
 use Rattle.zerotrie_core.specs.Numbers.{value_form, SpellsAs, spelled_as}
-use Rattle.zerotrie_core.specs.Maps.{Pairs, map_of, residual, behind_all}
+use Rattle.zerotrie_core.specs.Maps.{Pairs, residual, behind_all}
 use Rattle.zerotrie_core.specs.Texts.{Lists}
 use Rattle.zerotrie_core.specs.Texts.Lists.{nothing}
-use Rattle.zerotrie_core.specs.Fits.{OverflowsAt, ExceedsCapacity}
+use Rattle.zerotrie_core.specs.Fits.{OverflowsAt}
 use Rattle.zerotrie_core.specs.Stack.{stack_of}
 use Rattle.zerotrie_core.specs.Causes.{ZeroTrieBuildError}
 use Rattle.zerotrie_core.proofs.CallerLemmas.{residual-append, stack_none}
@@ -16,7 +15,7 @@ use Rattle.zerotrie_build.specs.declared.konst.text.Sibling.{Sibling}
 use Rattle.zerotrie_build.specs.declared.konst.text.Text.{Text}
 use Rattle.zerotrie_build.specs.Order.{Before, Ordered}
 use Rattle.zerotrie_build.specs.konst.Texts.{Counts, Has, Puts, tops}
-use Rattle.zerotrie_build.specs.konst.Growing.{Waits, Standing, Waiting, BuiltFrom, AtMost, AreAmong, IsStuckFrom, IsStuckBefore, IsStuck}
+use Rattle.zerotrie_build.specs.konst.Growing.{Standing, Waiting, BuiltFrom, AtMost, AreAmong, IsStuckFrom, IsStuckBefore, IsStuck}
 use Rattle.zerotrie_build.proofs.Items.{got, each_ordered}
 use Rattle.zerotrie_build.proofs.Overflow.{same_edges, same_targets_size, exceeds}
 use Rattle.zerotrie_build.proofs.ArrayRuns.{behind_all-append, among_right}

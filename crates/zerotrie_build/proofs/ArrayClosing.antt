@@ -1,12 +1,12 @@
 -- One level after another is closed.
-use Rattle.std.proofs.Common.{◌≡◌, ℕ, zero, suc, ◌+◌, ◌-◌, ◌/◌, ◌^◌, ◌<◌, ◌≤◌, ◌⊎◌, inl, inr, List, [], ◌∷◌, ◌++◌, length, refl, sym, ◌∙◌, ap, subst, arith, map, take, drop, get_or, append_assoc, length-append, All, Bool, true, false}
+use Rattle.std.proofs.Common.{◌≡◌, ℕ, zero, suc, ◌+◌, ◌/◌, ◌^◌, ◌<◌, ◌≤◌, inl, inr, List, [], ◌∷◌, ◌++◌, length, refl, sym, ◌∙◌, ap, subst, arith, map, take, get_or, append_assoc, length-append, All}
 use Rattle.std.specs.List.{concat}
 use Rattle.std.proofs.lemmas.List.{append-nil}
 use Rattle.std.proofs.Math.Seq.{take-length}
 use Rattle.std.proofs.Math.Nat.{eq-or-lt_of_le}
-use Rattle.zerotrie_core.specs.Kind.{simple_ascii, greatest_width}
+use Rattle.zerotrie_core.specs.Kind.{simple_ascii}
 use Rattle.zerotrie_core.specs.Numbers.{value_form, SpellsAs}
-use Rattle.zerotrie_core.specs.Maps.{Pairs, with_front, with_run, behind_all, edges, residual}
+use Rattle.zerotrie_core.specs.Maps.{Pairs, with_front, with_run, behind_all, edges}
 use Rattle.zerotrie_core.specs.Texts.{Lists, ListEach}
 use Rattle.zerotrie_core.specs.Texts.Lists.{nothing, value, literal}
 use Rattle.zerotrie_core.specs.Texts.ListEach.{no_edge, edge}
@@ -14,14 +14,13 @@ use Rattle.zerotrie_core.specs.Branches.{total, branch_front}
 use Rattle.zerotrie_core.specs.Canonical.{node}
 use Rattle.zerotrie_core.specs.Fits.{OverflowsAt}
 use Rattle.zerotrie_core.specs.Stack.{branch_need, stack_of}
-use Rattle.zerotrie_core.proofs.CallerLemmas.{Rises, lists_some, node_many, node_lists, not_empty_text, rises_distinct, bytes_all, targets_each, edges_count, edges_listed, stack_none, stack_value, stack_literal, stack_branch, stack_edges, above, above_edge, above_edges, member}
+use Rattle.zerotrie_core.proofs.CallerLemmas.{Rises, lists_some, node_many, node_lists, not_empty_text, rises_distinct, bytes_all, targets_each, edges_count, edges_listed, stack_none, stack_value, stack_literal, stack_branch, stack_edges, above_edge, above_edges}
 use Rattle.zerotrie_build.specs.declared.konst.text.Sibling.{Sibling}
-use Rattle.zerotrie_build.specs.declared.konst.text.Text.{Text}
-use Rattle.zerotrie_build.specs.konst.Texts.{Counts, Has, Puts, tops, bytes_of, lens_of}
-use Rattle.zerotrie_build.specs.konst.Growing.{DepthsBelow, NoneAt, AllAt, ComesBefore, Aside, Holds, Waits, Stands, Standing, Waiting, Joins, TooWide, Leads, AreAmong, NeedMore}
+use Rattle.zerotrie_build.specs.konst.Texts.{Counts, bytes_of, lens_of}
+use Rattle.zerotrie_build.specs.konst.Growing.{DepthsBelow, NoneAt, AllAt, ComesBefore, Aside, Waits, Stands, Leads, AreAmong}
 use Rattle.zerotrie_build.proofs.Runs.{with_run-nil, behind_all-run, take_one_more}
 use Rattle.zerotrie_build.proofs.ArrayText.{total_first}
-use Rattle.zerotrie_build.proofs.ArrayRuns.{run_step, with_run-append, behind_all-append, among_left, among_right, leads_run, leads_edge, leads_key, beside, need_behind}
+use Rattle.zerotrie_build.proofs.ArrayRuns.{run_step, with_run-append, behind_all-append, among_left, among_right, leads_run, leads_edge, leads_key, need_behind}
 use Rattle.zerotrie_build.proofs.ArrayParting.{Parted}
 use Rattle.zerotrie_build.proofs.ArrayAsides.{next_below, below_here, moved, nothing_aside, FirstFrom, counts_more, counts_same, each_low, need_more, gather, waiting, AboveAt}
 

@@ -1,22 +1,20 @@
 -- What the steps of the walk do, by the texts and the siblings.
-use Rattle.std.proofs.Common.{◌≡◌, ◌≢◌, ℕ, zero, suc, ◌+◌, ◌-◌, ◌^◌, ◌<◌, ◌≤◌, ◌⊎◌, inl, inr, List, [], ◌∷◌, ◌++◌, length, refl, sym, ◌∙◌, ap, subst, arith, map, take, drop, get_or, All, Bool, true, false, reverse, Result, Ok, Err}
+use Rattle.std.proofs.Common.{◌≡◌, ℕ, suc, ◌+◌, ◌-◌, ◌^◌, ◌<◌, ◌≤◌, ◌⊎◌, inl, inr, List, [], ◌∷◌, ◌++◌, length, refl, sym, ◌∙◌, ap, subst, arith, take, drop, get_or, All, reverse, Result, Ok, Err}
 use Rattle.std.specs.Prelude.{OnOk}
-use Rattle.std.proofs.lemmas.List.{drop_more, take_more, take-append-drop, reverse-append, length-reverse, length-drop}
+use Rattle.std.proofs.lemmas.List.{drop_more, take-append-drop, reverse-append, length-reverse, length-drop}
 use Rattle.std.proofs.Math.Seq.{take-length}
 use Rattle.zerotrie_core.specs.Kind.{simple_ascii}
-use Rattle.zerotrie_core.specs.Numbers.{value_form, SpellsAs}
 use Rattle.zerotrie_core.specs.Maps.{Pairs}
 use Rattle.zerotrie_core.specs.Branches.{total, branch_front}
 use Rattle.zerotrie_core.specs.Causes.{ZeroTrieBuildError, CapacityExceeded, StackExceeded}
-use Rattle.zerotrie_core.specs.Stack.{stack_of}
 use Rattle.zerotrie_build.specs.declared.konst.text.Sibling.{Sibling}
 use Rattle.zerotrie_build.specs.declared.konst.text.Text.{Text}
 use Rattle.zerotrie_build.specs.Order.{Before}
 use Rattle.zerotrie_build.specs.konst.Texts.{Counts, Has, Puts, tops, bytes_of, lens_of}
-use Rattle.zerotrie_build.specs.konst.Growing.{NoneAt, AllAt, Waits, Stands, Standing, Waiting, Joins, TooWide, AreAmong, NeedMore, IsStuckAt, IsStuckFrom, IsStuckBefore}
+use Rattle.zerotrie_build.specs.konst.Growing.{NoneAt, AllAt, Waits, Standing, Waiting, Joins, TooWide, IsStuckAt, IsStuckFrom, IsStuckBefore}
 use Rattle.zerotrie_build.proofs.Items.{below_or_from}
 use Rattle.zerotrie_build.proofs.Parting.{common}
-use Rattle.zerotrie_build.proofs.ArrayParting.{Parted, parted, at_most_front}
+use Rattle.zerotrie_build.proofs.ArrayParting.{parted, at_most_front}
 use Rattle.zerotrie_build.proofs.ArrayRuns.{among_right}
 use Rattle.zerotrie_build.proofs.ArrayClosing.{with_literal, opens, closed, too_wide, too_many, two_aside, two_before, set_aside, goes_on}
 

@@ -29,3 +29,4 @@ mod ArrayAsides
 mod ArrayClosing
 mod ArraySteps
 mod ArrayAdding
+mod ArrayBuilding

@@ -5,4 +5,4 @@ mod builder;
 mod text;
 mod walk;
 
-pub use array::ZeroTrieBuilderConst;
+pub use builder::ZeroTrieBuilderConst;

@@ -6,22 +6,14 @@ ghost use Rattle.zerotrie_base.specs.declared.error.ZeroTrieBuildError.TheVarian
 use std::marker::Model;
 use zerotrie_core::ZeroTrieBuildError;
 
-/// A builder of a trie over ASCII keys in an array of `N` bytes, which it fills from the end. It takes no
-/// memory.
-///
-/// ```
-/// let items = [("ad", 22), ("adef", 33)];
-/// let items = ByteSliceWithIndices::from_str_slice(&items);
-/// let builder = ZeroTrieBuilderConst::<7>::from_tuple_slice(items)?;
-/// assert_eq!(rt; builder.build()?.as_slice(), b"ad\x90\x06ef\x90\x11".as_slice());
-/// ```
+/// An array of `N` bytes, of which those at its end are filled.
 #[derive(Drop)]
-pub struct ZeroTrieBuilderConst<const N: usize> {
+pub(crate) struct FilledArray<const N: usize> {
     data: [u8; N],
     start: usize,
 }
 
-impl<const N: usize> Model for ZeroTrieBuilderConst<N> {
+impl<const N: usize> Model for FilledArray<N> {
     ghost Value = { List ℕ };
 
     ghost view = { λ b. drop b.start b.«data» };
@@ -29,12 +21,12 @@ impl<const N: usize> Model for ZeroTrieBuilderConst<N> {
     ghost invariant = { λ b. (b.start ≤ N) × (length b.«data» ≡ N) };
 }
 
-impl<const N: usize> ZeroTrieBuilderConst<N> {
+impl<const N: usize> FilledArray<N> {
     /// No bytes yet.
     pub(crate) fn new() -> Self
         ensures { result ≡ [] }
     {
-        ZeroTrieBuilderConst {
+        FilledArray {
             data: [0; N],
             start: N,
         }
@@ -53,8 +45,8 @@ impl<const N: usize> ZeroTrieBuilderConst<N> {
         true
     }
 
-    /// The bytes of the trie, which may be fewer than the array has.
-    pub fn as_bytes(&self) -> &[u8]
+    /// The bytes that are filled.
+    pub(crate) fn as_bytes(&self) -> &[u8]
         ensures value { result.now ≡ self.now }
         ensures within { length self.now ≤ N }
     {
@@ -62,10 +54,8 @@ impl<const N: usize> ZeroTrieBuilderConst<N> {
         &all[self.start..]
     }
 
-    /// The array, which the bytes of the trie have to fill.
-    ///
-    /// It is refused with `BufferTooLarge` where they are fewer, with their number, and for nothing else.
-    pub fn build(self) -> Result<[u8; N], ZeroTrieBuildError>
+    /// The array, if all of it is filled, and else how many bytes are.
+    pub(crate) fn build(self) -> Result<[u8; N], ZeroTrieBuildError>
         ensures full { IsOk result ↔ (length self.entry ≡ N) }
         ensures bytes { IfOk result (λ array. array ≡ self.entry) }
         ensures refused { IfErr result (λ e. e ≡ BufferTooLarge (length self.entry)) }

@@ -6,7 +6,7 @@ ghost use Rattle.zerotrie_core.specs.Branches.{total as total_of, ends, blocks, 
 ghost use Rattle.zerotrie_build.specs.passes.Writing.{with_bits};
 ghost use Rattle.zerotrie_build.specs.konst.Texts.{Puts, Counts, tops, bytes_of, lens_of};
 
-use crate::konst::array::ZeroTrieBuilderConst;
+use crate::konst::array::FilledArray;
 use crate::measuring::width_of;
 use zerotrie_core::{write_varint_meta2, write_varint_meta3};
 
@@ -31,7 +31,7 @@ pub(crate) struct Sibling {
 /// to be too long only once all of it was written.
 #[derive(Drop)]
 pub(crate) struct Text<const N: usize> {
-    pub(crate) array: ZeroTrieBuilderConst<N>,
+    pub(crate) array: FilledArray<N>,
     /// Whether bytes were lost.
     pub(crate) is_too_long: bool,
     /// How many bytes stand in front of the siblings.

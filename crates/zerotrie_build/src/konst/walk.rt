@@ -14,7 +14,7 @@ ghost use Rattle.zerotrie_build.specs.Order.{Before, Ordered};
 ghost use Rattle.zerotrie_build.specs.konst.Texts.{Has, tops};
 ghost use Rattle.zerotrie_build.specs.konst.Growing.{NoneAt, AllAt, Standing, Waiting, BuiltFrom, Joins, TooWide, IsStuckAt, IsStuckFrom, IsStuckBefore, IsStuck};
 
-use crate::konst::array::ZeroTrieBuilderConst;
+use crate::konst::array::FilledArray;
 use crate::konst::text::{Sibling, Text, total};
 use crate::order::common_front_len;
 use crate::slice_indices::ByteSliceWithIndices;
@@ -199,7 +199,7 @@ pub(crate) fn grow<const N: usize, const K: usize>(
     ensures refused { IfErr result (IsStuck K (pairs items.entry)) }
 {
     let mut text = Text {
-        array: ZeroTrieBuilderConst::new(),
+        array: FilledArray::new(),
         is_too_long: false,
         front: 0,
     };

@@ -1,6 +1,4 @@
-use Rattle.std.proofs.Common.{◌∙◌, ap, sym, refl, arith, drop, ◌≡◌}
-use Rattle.zerotrie_core.specs.Branches.{total as total_of}
-use Rattle.zerotrie_build.specs.konst.Texts.{tops, lens_of}
+use Rattle.std.proofs.Common.{◌∙◌, ap, refl, arith, drop}
 use Rattle.zerotrie_build.proofs.ArraySteps.{to_end, joins_at, wide_at, sum_exact, sum_wide}
 use Rattle.zerotrie_build.proofs.konst.walk.join.Goals as goal
 

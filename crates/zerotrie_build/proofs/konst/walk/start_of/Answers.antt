@@ -1,4 +1,4 @@
-use Rattle.std.proofs.Common.{◌∙◌, ap, sym, subst, arith, get_or, ◌-◌, ◌≡◌, length}
+use Rattle.std.proofs.Common.{◌∙◌, ap, sym, arith, get_or, ◌-◌}
 use Rattle.zerotrie_build.specs.declared.konst.text.Sibling.{Sibling}
 use Rattle.zerotrie_build.proofs.ArraySteps.{level_more}
 use Rattle.zerotrie_build.proofs.konst.walk.start_of.Goals as goal

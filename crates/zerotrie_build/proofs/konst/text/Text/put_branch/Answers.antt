@@ -1,6 +1,6 @@
-use Rattle.std.proofs.Common.{◌≡◌, ◌≤◌, ◌+◌, ◌*◌, ◌%◌, ◌^◌, ◌++◌, refl, ap, inr, ◌∙◌, arith, subst, length, rules}
+use Rattle.std.proofs.Common.{◌≡◌, ◌≤◌, ◌+◌, ◌*◌, ◌%◌, ◌^◌, refl, ap, inr, ◌∙◌, arith, subst, length, rules}
 use Rattle.zerotrie_core.specs.Numbers.{branch_form}
-use Rattle.zerotrie_core.specs.Branches.{IsWidth, blocks, ends}
+use Rattle.zerotrie_core.specs.Branches.{IsWidth}
 use Rattle.zerotrie_build.specs.passes.Writing.{with_bits}
 use Rattle.zerotrie_build.specs.konst.Texts.{tops, bytes_of, lens_of}
 use Rattle.zerotrie_build.proofs.PutLemmas.{number_is, front_is}
