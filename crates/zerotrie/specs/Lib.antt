@@ -12,7 +12,10 @@ pub use Rattle.zerotrie_core.specs.Causes
 pub use Rattle.zerotrie_core.specs.Built
 pub use Rattle.zerotrie_core.specs.Items
 pub use Rattle.zerotrie_core.specs.Routes
+pub use Rattle.zerotrie_core.specs.Listings
 pub use Rattle.zerotrie_core.specs.Laws
 pub use Rattle.zerotrie_any.specs.Order
 pub use Rattle.zerotrie_any.specs.Auto
 pub use Rattle.zerotrie_any.specs.Flavors
+pub use Rattle.zerotrie_any.specs.Listed
+pub use Rattle.zerotrie_ascii.specs.ListedTexts
