@@ -16,6 +16,7 @@ pub use Rattle.zerotrie_core.specs.Causes
 pub use Rattle.zerotrie_core.specs.Built
 pub use Rattle.zerotrie_core.specs.Items
 pub use Rattle.zerotrie_core.specs.Routes
+pub use Rattle.zerotrie_core.specs.Listings
 pub use Rattle.zerotrie_core.specs.Laws
 pub use Rattle.zerotrie_core.specs.WellFormed
 pub use Rattle.zerotrie_any.specs.Order
@@ -26,3 +27,5 @@ pub use Rattle.zerotrie_any.specs.Json
 pub use Rattle.zerotrie_any.specs.JsonCalls
 pub use Rattle.zerotrie_any.specs.Walks
 pub use Rattle.zerotrie_ascii.specs.Writing
+pub use Rattle.zerotrie_any.specs.Listed
+pub use Rattle.zerotrie_ascii.specs.ListedTexts

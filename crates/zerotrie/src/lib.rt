@@ -44,9 +44,13 @@ pub use zerotrie_any::{
 };
 pub use zerotrie_any::{HasFlavor, NotWellFormed, TextKey, ZeroTrie, ZeroTrieFlavor};
 pub use zerotrie_ascii::{AsciiKind, AsciiTrie, ZeroAsciiIgnoreCaseTrie, ZeroTrieSimpleAscii};
+pub use zerotrie_any::{HasFlavor, TextKey, ZeroTrie, ZeroTrieFlavor};
+pub use zerotrie_ascii::{
+    AsciiKind, AsciiTrie, ZeroAsciiIgnoreCaseTrie, ZeroTrieSimpleAscii, ZeroTrieStringIterator,
+};
 pub use zerotrie_core::{
-    ConvertStore, Ext, Hash, Ignore, Simple, TrieKey, TrieStore, ZeroTrieBuildError,
-    ZeroTrieBuilderOptions, ZeroTrieWithOptions, laws,
+    ConvertStore, Ext, Hash, Ignore, ListError, Simple, TrieKey, TrieStore, ZeroTrieBuildError,
+    ZeroTrieBuilderOptions, ZeroTrieIterator, ZeroTrieWithOptions, laws,
 };
 pub use zerotrie_hashed::{HashedKind, HashedTrie, ZeroTrieExtendedCapacity, ZeroTriePerfectHash};
 

@@ -3,6 +3,7 @@ mod callers;
 mod cursors;
 mod examples;
 mod outer;
+mod listings;
 mod refusals;
 mod routes;
 mod views;
