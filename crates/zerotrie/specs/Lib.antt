@@ -12,6 +12,7 @@ pub use Rattle.zerotrie_core.specs.Causes
 pub use Rattle.zerotrie_core.specs.Built
 pub use Rattle.zerotrie_core.specs.Items
 pub use Rattle.zerotrie_core.specs.Routes
+pub use Rattle.zerotrie_core.specs.Listings
 pub use Rattle.zerotrie_core.specs.Laws
 pub use Rattle.zerotrie_any.specs.Order
 pub use Rattle.zerotrie_any.specs.Auto
@@ -19,3 +20,5 @@ pub use Rattle.zerotrie_any.specs.Flavors
 pub use Rattle.zerotrie_any.specs.Tagged
 pub use Rattle.zerotrie_any.specs.Json
 pub use Rattle.zerotrie_any.specs.JsonCalls
+pub use Rattle.zerotrie_any.specs.Listed
+pub use Rattle.zerotrie_ascii.specs.ListedTexts

@@ -1,5 +1,6 @@
 mod callers;
 mod examples;
+mod listings;
 mod outer;
 mod refusals;
 mod routes;

@@ -35,6 +35,7 @@ mod NodeOfLemmas
 mod ListingLemmas
 mod ListingStateLemmas
 mod ListedMapLemmas
+mod AscendLaws
 mod FitsLaws
 mod GroupLemmas
 mod CutLemmas

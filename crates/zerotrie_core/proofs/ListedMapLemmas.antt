@@ -1,5 +1,5 @@
 -- The map of listed pairs, put in one after another.
-use Rattle.std.proofs.Common.{◌≡◌, ℕ, List, [], ◌∷◌, ◌++◌, refl, sym, ◌∙◌, ap, subst, map, Bool, true, false, cond, Option, Some, None, Ordering, Less, Equal, Greater}
+use Rattle.std.proofs.Common.{◌≡◌, ℕ, List, [], ◌∷◌, ◌++◌, refl, sym, ◌∙◌, ap, subst, arith, zero, suc, Bool, true, false, cond, Option, Some, None, Ordering, Less, Equal, Greater}
 use Rattle.std.specs.FinMap.{entries, insert, get, put, find, entries-insert, get-insert, get-empty, get-from_entries, same_map, slice_cmp-IsAntisymmetric, nat_cmp-IsAntisymmetric, len-entries, len-empty}
 use Rattle.std.specs.FinMap.Entries.{by_order}
 use Rattle.std.specs.Ordering.{nat_cmp, eq_by_cmp, is_eq, match_ordering}
@@ -7,10 +7,15 @@ use Rattle.std.specs.Cmp.Lexicographic.{slice_cmp, nat_list_cmp_total}
 use Rattle.std.specs.BTreeMap.{insert_entry}
 use Rattle.std.specs.List.{AllByRecursion}
 use Rattle.std.proofs.lemmas.List.{nil_from_length}
+use Rattle.std.specs.Str.{IsUtf8, IsAscii}
+use Rattle.std.proofs.lemmas.Str.{IsUtf8-from_ascii}
 use Rattle.zerotrie_core.specs.Kind.{Kind}
+use Rattle.zerotrie_core.specs.Kind as kinds
 use Rattle.zerotrie_core.specs.Maps.{Pairs, Map, map_of, same_key}
 use Rattle.zerotrie_core.specs.Items.{keyed}
 use Rattle.zerotrie_core.specs.Texts.{Lists, Means}
+use Rattle.zerotrie_core.proofs.KindLemmas.{edge_limit_is}
+use Rattle.zerotrie_core.proofs.FitsLaws.{KeyBelow, KeysBelow, keys_lists}
 use Rattle.zerotrie_core.proofs.CaseLemmas.{OtherKey, Apart, lists_apart, same_equiv}
 
 -- the pairs put into the entries of a map, one after another
@@ -96,3 +101,16 @@ keyed-insert cmp key same [] k v = refl
 keyed-insert cmp key same (e ∷ es) k v =
     keyed-match key (cmp k e.0) ((k, v) ∷ e ∷ es) ((e.0, v) ∷ es) (e ∷ insert_entry cmp es k v)
     ∙ rw (same k e.0, keyed-insert cmp key same es k v) refl
+
+key_ascii : (key : List ℕ) → KeyBelow 128 key → IsAscii key
+key_ascii [] h i = omega arith
+key_ascii (b ∷ key) h zero = h.0
+key_ascii (b ∷ key) h (suc i) = key_ascii key h.1 i
+
+-- the keys of a text over ASCII keys are text
+pub listed_texts : {kind : Kind} {bytes : List ℕ} {pairs : Pairs} → kinds.IsAscii kind → Lists kind bytes pairs → AllByRecursion (λ e. IsUtf8 e.0) pairs
+listed_texts {kind = kind} {pairs = pairs} ascii text = texts pairs (subst (λ n. KeysBelow n pairs) (edge_limit_is kind ascii) (keys_lists text))
+  where
+    texts : (pairs : Pairs) → KeysBelow 128 pairs → AllByRecursion (λ e. IsUtf8 e.0) pairs
+    texts [] h = tt
+    texts (e ∷ pairs) h = (IsUtf8-from_ascii e.0 (key_ascii e.0 h.0), texts pairs h.1)

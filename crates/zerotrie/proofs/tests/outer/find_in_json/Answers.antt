@@ -10,4 +10,4 @@ returns c =
     let m = map_of (pairs_of c.args.pairs.now) in
     let built = c.in_ok-trie.ensures.1 in
     c.get.ensures m (read_back simple_ascii (λ trie. trie.store.items) m (view c.in_ok-value.value) c.in_ok-read.read c.json_keeps_the_pairs.ensures built.fits
-      (c.in_ok-value.ensures.json m built.means) c.in_ok-read.ensures)
+    (c.in_ok-value.ensures.json m built.means) c.in_ok-read.ensures)
