@@ -1,5 +1,5 @@
 -- What is read in JSON values, and what a build of it is.
-use Rattle.std.proofs.Common.{◌≡◌, ◌≢◌, ℕ, ◌<◌, List, [], ◌∷◌, ◌++◌, length, Option, None, Some, Result, Ok, Err, inl, inr, refl, ap, append_assoc, arith, ◌⊎◌}
+use Rattle.std.proofs.Common.{◌≡◌, ◌≢◌, ℕ, ◌<◌, List, [], ◌∷◌, ◌++◌, length, Option, None, Some, Result, Ok, Err, inl, inr, refl, ap, append_assoc, arith}
 use Rattle.std.specs.Prelude.{option_map, map, Bool, true, false, if◌then◌else◌, slice_index_or, All}
 use Rattle.std.specs.FinMap.{entries}
 use Rattle.std.proofs.lemmas.Bool.Decides.{nat_tests}

@@ -9,9 +9,9 @@ mod reading;
 mod writing;
 
 pub use reading::bytes_from_json;
-pub use writing::json_of;
 use std::alloc::{AllocError, AllocFailed};
 use thiserror::Error;
+pub use writing::json_of;
 use zerotrie_core::ZeroTrieBuildError;
 
 /// Why a JSON value is no trie, or a trie no JSON value.

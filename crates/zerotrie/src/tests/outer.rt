@@ -1,7 +1,51 @@
 //! Tagged bytes and JSON.
 
+ghost use Rattle.std.specs.Prelude.{◌≡◌, IfOk};
+ghost use Rattle.zerotrie_core.specs.Items.{pairs_of};
+ghost use Rattle.zerotrie_core.specs.Kind.{simple_ascii, perfect_hash};
+ghost use Rattle.zerotrie_core.specs.Maps.{look, map_of};
+
 use super::*;
 use serde_json::Value;
+
+/// A look-up in a trie that was put behind its tag and read again, which is never refused.
+fn find_tagged(
+    alloc: Global,
+    pairs: &[(&[u8], usize)],
+    word: &[u8],
+) -> Result<Option<usize>, ZeroTrieBuildError>
+    ensures { IfOk result (λ answer. answer ≡ look perfect_hash (map_of (pairs_of pairs.now)) word.now) }
+{
+    let trie = ZeroTriePerfectHash::try_from_sorted_slice(alloc, pairs)?;
+    let tagged = trie.to_tagged_bytes(alloc)?;
+    match ZeroTriePerfectHash::try_from_tagged_bytes(tagged.as_slice()) {
+        Ok(read) => Ok(read.get(word)),
+        Err(_) => unreachable!(),
+    }
+}
+
+/// A look-up in a trie that was written as JSON and read again.
+fn find_in_json(
+    alloc: Global,
+    pairs: &[(&[u8], usize)],
+    word: &[u8],
+) -> Result<Option<usize>, JsonError>
+    ensures { IfOk result (λ answer. answer ≡ look simple_ascii (map_of (pairs_of pairs.now)) word.now) }
+{
+    let trie = ZeroTrieSimpleAscii::try_from_sorted_slice(alloc, pairs)?;
+    let value = trie.to_json_value(alloc)?;
+    json_keeps_the_pairs();
+    let read = ZeroTrieSimpleAscii::try_from_json_value(alloc, &value)?;
+    Ok(read.get(word))
+}
+
+#[test]
+fn what_was_written_reads_back(rt: HostRuntime) -> Result<(), Fail> {
+    let pairs: [(&[u8], usize); 2] = [(b"ad", 22), (b"adef", 33)];
+    assert_eq!(rt; find_tagged(rt.alloc(), &pairs, b"adef")?, Some(33));
+    assert_eq!(rt; find_in_json(rt.alloc(), &pairs, b"adef")?, Some(33));
+    Ok(())
+}
 
 /// The items of a trie that has 18 bytes, and its text.
 const FEW: [(&str, usize); 3] = [("abc", 11), ("xyz", 22), ("axyb", 33)];

@@ -68,10 +68,7 @@ fn pairs_list(alloc: Global, entries: &BTreeMap<Vec<u8>, usize>) -> Result<Value
 }
 
 /// The value of a map: an object where each key is UTF-8, and else a list of pairs.
-fn json_of_map(
-    alloc: Global,
-    entries: &BTreeMap<Vec<u8>, usize>,
-) -> Result<Value, AllocError>
+fn json_of_map(alloc: Global, entries: &BTreeMap<Vec<u8>, usize>) -> Result<Value, AllocError>
     ensures { IfOk result (λ v. view v ≡ json_of (keyed (λ key. key.items) entries.now.entries)) }
 {
     match members_of(alloc, entries)? {

@@ -1,4 +1,4 @@
-use Rattle.std.proofs.Common.{◌⊎◌, inl, inr, ◌≡◌, Ok}
+use Rattle.std.proofs.Common.{inl, inr, Ok}
 use Rattle.std.specs.Vec.Iter.{into_iter_items}
 use Rattle.serde_json.specs.View.{view}
 use Rattle.zerotrie_core.specs.Items.{keyed}

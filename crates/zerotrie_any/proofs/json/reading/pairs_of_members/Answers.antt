@@ -1,4 +1,4 @@
-use Rattle.std.proofs.Common.{rules, arith, ◌≡◌, ◌∙◌, sym, ap, refl}
+use Rattle.std.proofs.Common.{arith}
 use Rattle.std.proofs.lemmas.Grind.{common_steps}
 use Rattle.zerotrie_any.proofs.JsonLemmas.{lift_more}
 use Rattle.zerotrie_any.proofs.json.reading.pairs_of_members.Goals as goal

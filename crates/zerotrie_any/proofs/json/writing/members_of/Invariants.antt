@@ -1,4 +1,4 @@
-use Rattle.std.proofs.Common.{◌≡◌, ◌++◌}
+use Rattle.std.proofs.Common.{◌≡◌}
 use Rattle.serde_json.specs.View.{members_view}
 use Rattle.zerotrie_core.specs.Items.{keyed}
 use Rattle.zerotrie_any.specs.Json.{members, are_text}
