@@ -4,6 +4,7 @@ mod examples;
 mod refusals;
 mod routes;
 mod views;
+mod walks;
 
 use super::*;
 use std::alloc::Global;

@@ -19,15 +19,15 @@ use Rattle.zerotrie_core.specs.reader.Going.{AlwaysGoes, AlwaysStops}
 use Rattle.zerotrie_core.specs.cursor.Edges.{NoValue, ListsEdges, PassesValue, ListsInside}
 use Rattle.zerotrie_core.proofs.NumberLemmas.{some_bytes}
 use Rattle.zerotrie_core.proofs.NodeLemmas.{value_begins}
-use Rattle.zerotrie_core.proofs.KindLemmas.{edge_limit_is, ascii_spanless, ascii_sorted}
-use Rattle.zerotrie_core.proofs.ValueLemmas.{value_at-no_key, behind_none}
+use Rattle.zerotrie_core.proofs.KindLemmas.{one_fold, two_folds, edge_limit_is, ascii_spanless, ascii_sorted}
+use Rattle.zerotrie_core.proofs.ValueLemmas.{value_at-front, value_at-other, value_at-no_key, behind_none}
 use Rattle.zerotrie_core.proofs.TableLemmas.{NoneLike, Distinct, table_distinct, table_rises}
 use Rattle.zerotrie_core.proofs.EdgeLemmas.{residual-front}
 use Rattle.zerotrie_core.proofs.SpanLemmas.{with_run-none, with_run-front, value_at-no_run, run_none}
 use Rattle.zerotrie_core.proofs.CanonLaws.{nil_end, lists_some}
 use Rattle.zerotrie_core.proofs.EncodeLaws.{rises_count}
 use Rattle.zerotrie_core.proofs.BranchLemmas.{target_is}
-use Rattle.zerotrie_core.proofs.EachLemmas.{like_none, like_some, each_behind, met_each, met_front}
+use Rattle.zerotrie_core.proofs.EachLemmas.{like_none, like_some, each_none, each_behind, met_each, met_front}
 use Rattle.zerotrie_core.proofs.OpenLemmas.{Opens, held_edge, value_opens, literal_opens, span_opens, branch_opens, nothing_listed, no_node}
 
 -- The edges of pairs, and where each leads.
@@ -35,6 +35,8 @@ pub record Parts (kind : Kind) (pairs : Pairs) (edges : List ℕ) (places : ℕ 
   pub met_is : met pairs ≡ edges
   pub distinct : Distinct kind edges
   pub leads : (i : ℕ) → i < length edges → ListsAt kind (places i) (residual (get_or edges i 0) pairs)
+  pub answers : (c i : ℕ) → i < length edges → fold_byte kind (get_or edges i 0) ≡ fold_byte kind c → (key : List ℕ) → value_at kind pairs (c ∷ key) ≡ value_at kind (residual (get_or edges i 0) pairs) key
+  pub others : (c : ℕ) → NoneLike kind c edges → (key : List ℕ) → value_at kind pairs (c ∷ key) ≡ None
 
 -- in front of a text, with no run
 abbrev pub before_text : List ℕ → Place
@@ -49,6 +51,11 @@ opens_parts {kind = kind} {edges = edges} {targets = targets} text o = record {
       let f = each_behind o.each o.distinct i h in
       subst (Lists kind (get_or targets i [])) (f.is ∙ ap (residual (get_or edges i 0)) (sym o.same)) f.inner
       );
+  answers = λ c i h same key. (
+      let f = each_behind o.each o.distinct i h in
+      ap (λ p. value_at kind p (c ∷ key)) o.same ∙ f.answers c same key ∙ ap (λ p. value_at kind p key) (f.is ∙ ap (residual (get_or edges i 0)) (sym o.same))
+      );
+  others = λ c none key. ap (λ p. value_at kind p (c ∷ key)) o.same ∙ (each_none o.each c none).0 key;
 }
 
 -- a byte in front of all keys is their one edge
@@ -57,8 +64,17 @@ front_parts kind b pairs below place some is lists = record {
   met_is = ap met (is ∙ sym (nil_end (with_front b below))) ∙ met_front b below [] some;
   distinct = (tt, tt);
   leads = leads;
+  answers = answers;
+  others = λ c none key. ap (λ p. value_at kind p (c ∷ key)) is ∙ value_at-other kind b c key below (two_folds kind b c (λ s. none.0 (sym s)));
 }
   where
+    answers : (c i : ℕ) → i < 1 → fold_byte kind (get_or (b ∷ []) i 0) ≡ fold_byte kind c → (key : List ℕ) → value_at kind pairs (c ∷ key) ≡ value_at kind (residual (get_or (b ∷ []) i 0) pairs) key
+    answers c zero h same key =
+        ap (λ p. value_at kind p (c ∷ key)) is
+        ∙ value_at-front kind b c key below (one_fold kind b c same)
+        ∙ ap (λ p. value_at kind p key) (sym (ap (residual b) is ∙ residual-front b below))
+    answers c (suc i) h same key = absurd (omega arith)
+
     leads : (i : ℕ) → i < 1 → ListsAt kind place (residual (get_or (b ∷ []) i 0) pairs)
     leads zero h = subst (ListsAt kind place) (sym (ap (residual b) is ∙ residual-front b below)) lists
     leads (suc i) h = absurd (omega arith)
@@ -103,7 +119,7 @@ module _ (kind : Kind) (b : ℕ) (run run' trie : List ℕ) (e : run ≡ b ∷ r
   inside_past_number i other pairs lists = past_number (inside_parts kind b run run' trie pairs e lists.1) i (omega arith)
 
 -- a span is entered
-inside_span : (kind : Kind) (run trie : List ℕ) (below : Pairs) → (trie ≡ [] → ⊥) → Lists kind trie below → ListsBehind kind run trie (with_run run below) × (with_run run below ≡ [] → ⊥)
+pub inside_span : (kind : Kind) (run trie : List ℕ) (below : Pairs) → (trie ≡ [] → ⊥) → Lists kind trie below → ListsBehind kind run trie (with_run run below) × (with_run run below ≡ [] → ⊥)
 inside_span kind [] trie below some text =
     let same = sym (with_run-none below) in
     (subst (Lists kind trie) same text, λ none. lists_some text some (same ∙ none))
@@ -220,26 +236,25 @@ without-front : (b : ℕ) (pairs more : Pairs) → without_value (with_front b p
 without-front b [] more = refl
 without-front b (e ∷ pairs) more = ap (λ es. (b ∷ e.0, e.1) ∷ es) (without-front b pairs more)
 
-each_without : {kind : Kind} {edges : List ℕ} {targets : List (List ℕ)} {pairs : Pairs} → ListEach kind edges targets pairs → without_value pairs ≡ pairs
+pub each_without : {kind : Kind} {edges : List ℕ} {targets : List (List ℕ)} {pairs : Pairs} → ListEach kind edges targets pairs → without_value pairs ≡ pairs
 each_without no_edge = refl
 each_without (edge {e = e} {pairs = pairs} {more = more} n text each) = without-front e pairs more ∙ ap (λ es. with_front e pairs ++ es) (each_without each)
 
-front_without : (b : ℕ) (pairs : Pairs) → without_value (with_front b pairs) ≡ with_front b pairs
+pub front_without : (b : ℕ) (pairs : Pairs) → without_value (with_front b pairs) ≡ with_front b pairs
 front_without b [] = refl
 front_without b (e ∷ pairs) = ap (λ es. (b ∷ e.0, e.1) ∷ es) (front_without b pairs)
 
-run_without : (run : List ℕ) (pairs : Pairs) → (run ≡ [] → ⊥) → without_value (with_run run pairs) ≡ with_run run pairs
+pub run_without : (run : List ℕ) (pairs : Pairs) → (run ≡ [] → ⊥) → without_value (with_run run pairs) ≡ with_run run pairs
 run_without [] pairs some = absurd (some refl)
 run_without (b ∷ run) pairs some =
     let is = with_run-front b run pairs in
     ap without_value is ∙ front_without b (with_run run pairs) ∙ sym is
 
 -- where none stands in front, no pair has the empty key
-HasNoValue : Kind → Pairs → Type 0
+abbrev pub HasNoValue : Kind → Pairs → Type 0
 HasNoValue kind pairs = (value_at kind pairs [] ≡ None) × (without_value pairs ≡ pairs)
 
-no_value : {kind : Kind} {bytes : List ℕ} {pairs : Pairs} → Lists kind bytes pairs → NoValue bytes → HasNoValue kind pairs
-unfolding HasNoValue
+pub no_value : {kind : Kind} {bytes : List ℕ} {pairs : Pairs} → Lists kind bytes pairs → NoValue bytes → HasNoValue kind pairs
 no_value nothing n = (refl, refl)
 no_value (value {v = v} {spelling = spelling} {rest = rest} s m text) n = absurd (n v rest (record { spelling = spelling; spells = s; bytes_are = refl }))
 no_value {kind = kind} (literal {b = b} {pairs = pairs} low m text) n = (value_at-no_key kind b pairs, front_without b pairs)
@@ -252,7 +267,6 @@ take_some kind bytes v rest begins pairs text =
     (ap (λ p. value_at kind p []) (sym h.is), subst (Lists kind rest) (ap without_value (sym h.is)) h.inner)
 
 pub take_none : (kind : Kind) (bytes : List ℕ) → NoValue bytes → IsTake kind (Lists kind bytes) None (Lists kind bytes)
-unfolding HasNoValue
 take_none kind bytes none pairs text =
     let n = no_value text none in
     (sym n.0, subst (Lists kind bytes) (sym n.1) text)

@@ -38,3 +38,4 @@ mod CutLemmas
 mod RefusalLemmas
 mod MeansLaws
 mod LowerLemmas
+mod CursorLaws

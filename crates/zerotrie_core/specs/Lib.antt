@@ -21,3 +21,4 @@ pub mod Listings
 pub mod listing
 pub mod cursor
 pub mod Laws
+pub mod CursorLaws

@@ -108,3 +108,92 @@ pub fn probe<K: ZeroTrieWithOptions>(bytes: &mut &[u8], index: usize) -> Option<
         }
     }
 }
+
+#[cfg(test)]
+mod tests {
+    use super::*;
+    use crate::options::{Ignore, Simple};
+    use std::test::Fail;
+
+    #[test]
+    fn a_key_that_begins_another(rt: HostRuntime) -> Result<(), Fail> {
+        let bytes = b"abc\x80def\x81".as_slice();
+        let mut trie = bytes;
+        for byte in *b"abc" {
+            assert_eq!(rt; step::<Simple>(&mut trie, byte), Some(byte));
+        }
+        assert_eq!(rt; trie, b"\x80def\x81".as_slice());
+        let mut passed = trie;
+        assert_eq!(rt; take_value(&mut trie), Some(0));
+        assert_eq!(rt; take_value(&mut trie), None);
+        for cursor in [&mut trie, &mut passed] {
+            assert_eq!(rt; step::<Simple>(cursor, b'd'), Some(b'd'));
+            assert_eq!(rt; step::<Simple>(cursor, b'x'), None);
+            assert!(rt; cursor.is_empty());
+        }
+        let mut fresh = bytes;
+        assert_eq!(rt; probe::<Simple>(&mut fresh, 1), None);
+        assert!(rt; fresh.is_empty());
+        Ok(())
+    }
+
+    #[test]
+    fn edges_by_number(rt: HostRuntime) -> Result<(), Fail> {
+        let bytes = b"a\xC2bf\x0E\x90\x5F\xC2cd\x05xyz\x90\x06e\x92\x3Dg\x90\x1C";
+        let mut trie = bytes.as_slice();
+        let table = [
+            (0, b'a', 1, None),
+            (0, b'b', 2, Some(111)),
+            (1, b'd', 2, None),
+            (0, b'e', 1, Some(333)),
+        ];
+        for (index, byte, total_siblings, value) in table {
+            let edge = AsciiProbeResult {
+                byte,
+                total_siblings,
+            };
+            assert_eq!(rt; probe::<Simple>(&mut trie, index), Some(edge));
+            assert_eq!(rt; take_value(&mut trie), value);
+        }
+        assert_eq!(rt; take_value(&mut trie), None);
+        assert_eq!(rt; probe::<Simple>(&mut trie, 0), None);
+        Ok(())
+    }
+
+    #[test]
+    fn stored_bytes_in_any_case(rt: HostRuntime) -> Result<(), Fail> {
+        let bytes = b"\x80aBc\x81\xC4DeFg\x01\x02\x03\x82\x83\x84hi\x85";
+        for typed in [b"ABCD", b"abcd", b"aBcD"] {
+            let mut trie = bytes.as_slice();
+            for (byte, stored) in typed.iter().zip(b"aBcD") {
+                assert_eq!(rt; step::<Ignore>(&mut trie, *byte), Some(*stored));
+            }
+            assert_eq!(rt; take_value(&mut trie), Some(2));
+        }
+        Ok(())
+    }
+
+    /// No answer is promised on such bytes, but there is one.
+    #[test]
+    fn returns_on_bytes_that_are_no_trie(rt: HostRuntime) {
+        let table: [&[u8]; 8] = [
+            b"a",
+            b"\x80\x80",
+            b"\xC1a\x81",
+            b"\xC2ba\x01\x80\x80",
+            b"\xE1\x62ab\x00\x01\x80\x81",
+            b"\x90",
+            b"\xC0a",
+            b"\xE1\xDF\xDF\xDF\xDF\xDF\xDF\xDF\xDF\x5F",
+        ];
+        for bytes in table {
+            for byte in *b"ab" {
+                let mut trie = bytes;
+                let _ = step::<Simple>(&mut trie, byte);
+                let _ = take_value(&mut trie);
+                let _ = probe::<Ignore>(&mut trie, 0);
+                assert!(rt; trie.len() <= bytes.len());
+            }
+        }
+    }
+}

@@ -4,6 +4,7 @@
 
 ghost use Rattle.zerotrie_core.specs.Kind.{Kind, IsAscii};
 ghost use Rattle.zerotrie_core.specs.Laws.{EachIsSpelled, OneSpelling, MetadataAlone, NoneLonger, OneMeaning, CanonicalMeans, MeansCanonical, MeansFits, EqualExactlyIfMapsAre, LengthIsSize, FewNodes};
+ghost use Rattle.zerotrie_core.specs.CursorLaws.{StepsAnswer, SuffixAnswers, NoSecondValue, StoredBytes};
 
 /// Numbers below 2^64 have exactly one spelling in each form. Other metadata changes these bits alone, and
 /// no spelling is the front of a longer one.
@@ -47,4 +48,21 @@ pub fn length_is_size()
 /// A look-up of a key of n bytes reads at most 2n + 1 nodes.
 pub fn few_nodes()
     ensures { FewNodes }
+{}
+
+/// After steps by the bytes of a front, with no value taken, what is left answers for a key as the whole
+/// does for the front with the key behind it.
+pub fn steps_look_ahead()
+    ensures pairs { StepsAnswer }
+    ensures maps { SuffixAnswers }
+{}
+
+/// A value that was taken is there no more.
+pub fn no_second_value()
+    ensures { NoSecondValue }
+{}
+
+/// Steps by a key, in whatever case where case is ignored, answer the bytes of the key as it is stored.
+pub fn steps_answer_stored_bytes()
+    ensures { StoredBytes }
 {}
