@@ -3,10 +3,12 @@
 
 mod cursor;
 mod keys;
+mod listed;
 mod routes;
 mod zerotrie;
 
 pub use cursor::{CursorAnswer, CursorOp, walk};
 pub use keys::TextKey;
+pub use listed::map_of;
 pub use routes::{bytes_from_iter, bytes_from_map, bytes_from_slice};
 pub use zerotrie::{HasFlavor, ZeroTrie, ZeroTrieFlavor};

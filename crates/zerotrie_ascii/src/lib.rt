@@ -3,8 +3,10 @@
 
 mod ascii_trie;
 mod cursor;
+mod listed;
 mod options;
 
 pub use ascii_trie::{AsciiTrie, ZeroAsciiIgnoreCaseTrie, ZeroTrieSimpleAscii};
 pub use cursor::{AsciiCursor, ZeroAsciiIgnoreCaseTrieCursor, ZeroTrieSimpleAsciiCursor};
+pub use listed::ZeroTrieStringIterator;
 pub use options::AsciiKind;

@@ -153,6 +153,17 @@ module _ {targets : List (List ℕ)} {n w : ℕ} {behind : List ℕ} (has : HasT
         rw (eq-eqb place (n - 1) (omega arith)) (ap length targets_are ∙ ap (λ t. length (concat t)) (sym all))
   ]
 
+  -- offsets rise, and stay within the targets
+  pub in_order : (place : ℕ) → place < n → (begin_of n w behind place ≤ end_of n w behind place) × (end_of n w behind place ≤ length (targets_behind n w behind))
+  in_order place h =
+      let inside : place < length targets = rw has.count h in
+      let next = next_end targets place inside in
+      let within = ends_within targets (suc place) in
+      let all = ap length targets_are in
+      let from = begin_is place h in
+      let to = end_is place h in
+      (omega arith, omega arith)
+
   -- target number i stands between its offset and the next
   pub target_between : (place : ℕ) → place < n → take (end_of n w behind place - begin_of n w behind place) (drop (begin_of n w behind place) (targets_behind n w behind)) ≡ get_or targets place []
   target_between place h = rw (begin_is place h, end_is place h, targets_are) (between targets place (rw has.count h))

@@ -51,3 +51,6 @@ pub use Rattle.zerotrie_core.proofs.EncodeLaws.{NarrowBehind}
 pub use Rattle.zerotrie_core.proofs.FitsLaws.{AllNarrow, narrow_none, narrow_value, narrow_at, narrow_front, narrow-same, all_entries}
 pub use Rattle.zerotrie_core.proofs.SpanLemmas.{by_fronts}
 pub use Rattle.zerotrie_core.proofs.TableLemmas.{increasing_rises}
+-- the map of listed pairs, and keys that are text
+pub use Rattle.zerotrie_core.proofs.ListedMapLemmas.{put_all, meant_entries, keyed-insert, listed_texts}
+pub use Rattle.zerotrie_core.proofs.CaseLemmas.{every_all}

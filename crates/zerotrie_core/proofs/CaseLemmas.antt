@@ -173,7 +173,7 @@ each_keys_some : {kind : Kind} {es : List ℕ} {targets : List (List ℕ)} {pair
 each_keys_some no_edge = tt
 each_keys_some {kind = kind} (edge {e = e} {pairs = p} {more = m} n text each) = every_append (OtherKey kind []) (with_front e p) m (front_some kind e p) (each_keys_some each)
 
-keys_some : {kind : Kind} {bytes : List ℕ} {pairs : Pairs} → Lists kind bytes pairs → NoValueFirst bytes → AllByRecursion (OtherKey kind []) pairs
+pub keys_some : {kind : Kind} {bytes : List ℕ} {pairs : Pairs} → Lists kind bytes pairs → NoValueFirst bytes → AllByRecursion (OtherKey kind []) pairs
 keys_some nothing none = tt
 keys_some (value {v = v} {spelling = sp} {rest = r} s n text) none =
     let digit = s.digit_below in

@@ -83,11 +83,11 @@ mutual
       ]
 
 -- each byte of the key is below the bound
-abbrev KeyBelow : ℕ → List ℕ → Type 0
+abbrev pub KeyBelow : ℕ → List ℕ → Type 0
 KeyBelow bound [] = Unit {0}
 KeyBelow bound (b ∷ key) = (b < bound) × KeyBelow bound key
 
-abbrev KeysBelow : ℕ → Pairs → Type 0
+abbrev pub KeysBelow : ℕ → Pairs → Type 0
 KeysBelow bound pairs = AllByRecursion (λ e. KeyBelow bound e.0) pairs
 
 keys_front : (bound b : ℕ) (pairs : Pairs) → b < bound → KeysBelow bound pairs → KeysBelow bound (with_front b pairs)
@@ -101,7 +101,7 @@ low_byte : (kind : Kind) (b : ℕ) → b < 128 → b < edge_limit kind
 low_byte kind b low = let most = edge_limit_from kind in omega arith
 
 mutual
-  keys_lists : {kind : Kind} {bytes : List ℕ} {pairs : Pairs} → Lists kind bytes pairs → KeysBelow (edge_limit kind) pairs
+  pub keys_lists : {kind : Kind} {bytes : List ℕ} {pairs : Pairs} → Lists kind bytes pairs → KeysBelow (edge_limit kind) pairs
   keys_lists nothing = tt
   keys_lists (value s n text) = (tt, keys_lists text)
   keys_lists {kind = kind} (literal {b = b} {pairs = p} low n text) = keys_front (edge_limit kind) b p (low_byte kind b low) (keys_lists text)

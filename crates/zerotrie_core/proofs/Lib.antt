@@ -32,6 +32,11 @@ mod OrderLaws
 mod NodeLaws
 mod ItemLemmas
 mod ListedLemmas
+mod NodeOfLemmas
+mod ListingLemmas
+mod ListingStateLemmas
+mod ListedMapLemmas
+mod AscendLaws
 mod FitsLaws
 mod GroupLemmas
 mod CutLemmas

@@ -1,9 +1,9 @@
 -- The laws over the definitions alone.
-use Rattle.std.specs.Prelude.{◌≡◌, ◌↔◌, ℕ, ◌+◌, ◌*◌, ◌^◌, ◌<◌, ◌≤◌, ◌⊎◌, List, [], ◌∷◌, ◌++◌, length}
-use Rattle.zerotrie_core.specs.Kind.{Kind}
+use Rattle.std.specs.Prelude.{◌≡◌, ◌↔◌, ℕ, ◌+◌, ◌*◌, ◌^◌, ◌<◌, ◌≤◌, ◌⊎◌, List, [], ◌∷◌, ◌++◌, length, map}
+use Rattle.zerotrie_core.specs.Kind.{Kind, fold_byte}
 use Rattle.zerotrie_core.specs.Numbers.{Spells, spelled}
-use Rattle.zerotrie_core.specs.Maps.{Map}
-use Rattle.zerotrie_core.specs.Texts.{Means, nodes}
+use Rattle.zerotrie_core.specs.Maps.{Pairs, Map, map_of, RepeatsKey, Ascends}
+use Rattle.zerotrie_core.specs.Texts.{Lists, Means, nodes}
 use Rattle.zerotrie_core.specs.Canonical.{enc, size}
 use Rattle.zerotrie_core.specs.Fits.{Fits}
 
@@ -56,3 +56,16 @@ LengthIsSize kind = (bytes : List ℕ) (m : Map) → Means kind bytes m → leng
 -- a look-up of a key of n bytes reads at most 2 * n + 1 nodes
 abbrev pub FewNodes : Type 0
 FewNodes = (kind : Kind) (bytes key : List ℕ) (m : Map) (means : Means kind bytes m) → nodes means.lists key ≤ 2 * length key + 1
+
+-- the pairs, each key by its folds
+abbrev pub folded : Kind → Pairs → Pairs
+folded kind pairs = map {B = List ℕ × ℕ} (λ e. (map (fold_byte kind) e.0, e.1)) pairs
+
+-- what bytes list is the map that they mean, each pair once
+abbrev pub ListsTheMap : Type 0
+ListsTheMap = (kind : Kind) (bytes : List ℕ) (m : Map) (pairs : Pairs) → Means kind bytes m → Lists kind bytes pairs
+    → (RepeatsKey pairs → ⊥) × (m ≡ map_of pairs)
+
+-- bytes of an ASCII kind list their pairs ascending by the folds of the keys
+abbrev pub ListsInOrder : Kind → Type 0
+ListsInOrder kind = (bytes : List ℕ) (pairs : Pairs) → Lists kind bytes pairs → Ascends (folded kind pairs)

@@ -2,8 +2,11 @@
 //!
 //! Each function does nothing: calling one brings its law into a proof.
 
-ghost use Rattle.zerotrie_core.specs.Kind.{Kind, IsAscii};
-ghost use Rattle.zerotrie_core.specs.Laws.{EachIsSpelled, OneSpelling, MetadataAlone, NoneLonger, OneMeaning, CanonicalMeans, MeansCanonical, MeansFits, EqualExactlyIfMapsAre, LengthIsSize, FewNodes};
+ghost use Rattle.std.specs.Prelude.{ℕ, List};
+ghost use Rattle.zerotrie_core.specs.Kind.{Kind, IsAscii, simple_ascii};
+ghost use Rattle.zerotrie_core.specs.Maps.{Pairs, Ascends};
+ghost use Rattle.zerotrie_core.specs.Texts.{Lists};
+ghost use Rattle.zerotrie_core.specs.Laws.{EachIsSpelled, OneSpelling, MetadataAlone, NoneLonger, OneMeaning, CanonicalMeans, MeansCanonical, MeansFits, EqualExactlyIfMapsAre, LengthIsSize, FewNodes, ListsTheMap, ListsInOrder};
 ghost use Rattle.zerotrie_core.specs.CursorLaws.{StepsAnswer, SuffixAnswers, NoSecondValue, StoredBytes};
 
 /// Numbers below 2^64 have exactly one spelling in each form. Other metadata changes these bits alone, and
@@ -65,4 +68,12 @@ pub fn no_second_value()
 /// Steps by a key, in whatever case where case is ignored, answer the bytes of the key as it is stored.
 pub fn steps_answer_stored_bytes()
     ensures { StoredBytes }
+{}
+
+/// What bytes of a kind list is the map that they mean, each pair once. In the kinds over ASCII keys the pairs
+/// ascend by the folds of their keys: by their bytes, or in the kind without case by these in lower case.
+pub fn listing_is_the_map()
+    ensures map { ListsTheMap }
+    ensures in_order { (kind : Kind) → IsAscii kind → ListsInOrder kind }
+    ensures by_bytes { (bytes : List ℕ) (pairs : Pairs) → Lists simple_ascii bytes pairs → Ascends pairs }
 {}

@@ -5,9 +5,12 @@
 
 ghost use Rattle.std.specs.Prelude.{◌≡◌, ℕ, ◌≤◌, ◌<◌, List, length, reverse, IfOk, IfSome, IfNone, true, false, []};
 ghost use Rattle.std.specs.Iterator.{at_most};
+ghost use Rattle.std.specs.Option.{option_map};
 ghost use Rattle.zerotrie_core.specs.Kind.{Kind, kind_with};
 ghost use Rattle.zerotrie_core.specs.Maps.{Pairs};
 ghost use Rattle.zerotrie_core.specs.Texts.{Lists};
+ghost use Rattle.zerotrie_core.specs.Shapes.{shape};
+ghost use Rattle.zerotrie_core.specs.listing.Listed.{node_of};
 ghost use Rattle.zerotrie_core.specs.listing.Opened.{Nested, pairs_left, pairs_open, work_open, work_left, IsFound};
 ghost use Rattle.zerotrie_core.specs.declared.listing.ListError.TheVariants.{OutOfMemory};
 
@@ -146,6 +149,14 @@ fn next_target<'a>(
     Ok(true)
 }
 
+/// The first node of the bytes.
+#[inline(always)]
+fn node_at<K: ZeroTrieWithOptions>(bytes: &[u8]) -> Option<Node<'_>>
+    ensures { node_of K.kind bytes.now ≡ option_map shape result }
+{
+    first_node::<K>(bytes)
+}
+
 /// Goes on to the next value, and answers it, or `None` at the end. What stands in front of it is its key.
 fn next_value<'a, K: ZeroTrieWithOptions>(
     rest: &mut &'a [u8],
@@ -159,7 +170,7 @@ fn next_value<'a, K: ZeroTrieWithOptions>(
         (pairs_left K.kind prefix.new.items rest.new.now branches.new.items)) }
 {
     loop {
-        match first_node::<K>(*rest) {
+        match node_at::<K>(*rest) {
             None => {
                 if !next_target(rest, prefix, branches)? {
                     return Ok(None);

@@ -3,6 +3,7 @@
 
 mod cursor;
 mod hashed_trie;
+mod listed;
 mod options;
 
 pub use cursor::{HashedCursor, ZeroTrieExtendedCapacityCursor, ZeroTriePerfectHashCursor};

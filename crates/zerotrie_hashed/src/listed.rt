@@ -1,0 +1,51 @@
+//! The pairs of a trie over keys of any bytes.
+
+ghost use Rattle.std.specs.Prelude.{◌≡◌, ◌≤◌, IfErr, length};
+ghost use Rattle.zerotrie_core.specs.Maps.{Map, Pairs};
+ghost use Rattle.zerotrie_core.specs.Texts.{Lists, Means};
+ghost use Rattle.zerotrie_core.specs.Listings.{to_come};
+ghost use Rattle.zerotrie_core.specs.declared.listing.ListError.TheVariants.{OutOfMemory};
+ghost use Rattle.zerotrie_any.specs.Listed.{IsListed};
+
+use crate::hashed_trie::HashedTrie;
+use crate::options::HashedKind;
+use std::alloc::Global;
+use std::collections::BTreeMap;
+use zerotrie_any::map_of;
+use zerotrie_core::{ListError, TrieStore, ZeroTrieIterator};
+
+impl<K: HashedKind, S: TrieStore> HashedTrie<K, S> {
+    /// The pairs of the trie, one after another, in the order of its nodes. It takes no memory before the first
+    /// item is asked for.
+    ///
+    /// ```
+    /// let trie = ZeroTriePerfectHash::try_from_iter(rt.alloc(), [("å", 1), ("ø", 2)])?;
+    /// for item in trie.iter(rt.alloc()) {
+    ///     let (key, value) = item?;
+    /// }
+    /// ```
+    ///
+    /// An item is `ListError::OutOfMemory` where a growth was refused, and nothing more comes then. Bytes that
+    /// mean no map list at most as many pairs as there are bytes.
+    pub fn iter(&self, alloc: Global) -> ZeroTrieIterator<'_>
+        ensures lists { (pairs : Pairs) → Lists K.kind (S.stored self.now.store) pairs → result ≡ to_come pairs }
+        ensures most { length result.pairs ≤ length (S.stored self.now.store) }
+    {
+        ZeroTrieIterator::new::<K>(alloc, self.as_bytes())
+    }
+
+    /// The map that the trie is of, in the order of the keys' bytes.
+    ///
+    /// ```
+    /// let trie = ZeroTriePerfectHash::try_from_iter(rt.alloc(), [("ø", 2), ("å", 1)])?;
+    /// assert_eq!(rt; trie.to_btreemap(rt.alloc())?.len(), 2);
+    /// ```
+    ///
+    /// The only error is `OutOfMemory`.
+    pub fn to_btreemap(&self, alloc: Global) -> Result<BTreeMap<Vec<u8>, usize>, ListError>
+        ensures listed { (m : Map) → Means K.kind (S.stored self.now.store) m → IsListed (λ key. key.items) m result }
+        ensures refused { IfErr result (λ e. e ≡ OutOfMemory) }
+    {
+        map_of::<K>(alloc, self.as_bytes())
+    }
+}
