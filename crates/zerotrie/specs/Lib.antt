@@ -22,3 +22,5 @@ pub use Rattle.zerotrie_any.specs.Auto
 pub use Rattle.zerotrie_any.specs.Flavors
 pub use Rattle.zerotrie_any.specs.Walks
 pub use Rattle.zerotrie_ascii.specs.Writing
+pub use Rattle.zerotrie_any.specs.Listed
+pub use Rattle.zerotrie_ascii.specs.ListedTexts

@@ -39,10 +39,12 @@
 mod tests;
 
 pub use zerotrie_any::{CursorAnswer, CursorOp, HasFlavor, TextKey, ZeroTrie, ZeroTrieFlavor};
-pub use zerotrie_ascii::{AsciiKind, AsciiTrie, ZeroAsciiIgnoreCaseTrie, ZeroTrieSimpleAscii};
+pub use zerotrie_ascii::{
+    AsciiKind, AsciiTrie, ZeroAsciiIgnoreCaseTrie, ZeroTrieSimpleAscii, ZeroTrieStringIterator,
+};
 pub use zerotrie_core::{
-    ConvertStore, Ext, Hash, Ignore, Simple, TrieKey, TrieStore, ZeroTrieBuildError,
-    ZeroTrieBuilderOptions, ZeroTrieWithOptions, laws,
+    ConvertStore, Ext, Hash, Ignore, ListError, Simple, TrieKey, TrieStore, ZeroTrieBuildError,
+    ZeroTrieBuilderOptions, ZeroTrieIterator, ZeroTrieWithOptions, laws,
 };
 pub use zerotrie_hashed::{HashedKind, HashedTrie, ZeroTrieExtendedCapacity, ZeroTriePerfectHash};
 

@@ -1,6 +1,7 @@
 mod callers;
 mod cursors;
 mod examples;
+mod listings;
 mod refusals;
 mod routes;
 mod views;

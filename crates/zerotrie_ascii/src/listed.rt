@@ -7,7 +7,7 @@ ghost use Rattle.zerotrie_core.specs.Maps.{Map, Pairs};
 ghost use Rattle.zerotrie_core.specs.Texts.{Lists, Means};
 ghost use Rattle.zerotrie_core.specs.Listings.{to_come, turns_left, ListsOne};
 ghost use Rattle.zerotrie_any.specs.Listed.{IsListed};
-ghost use Rattle.zerotrie_ascii.specs.Listed.{AreTexts, TextError};
+ghost use Rattle.zerotrie_ascii.specs.ListedTexts.{AreTexts, TextError};
 
 use crate::ascii_trie::AsciiTrie;
 use crate::options::AsciiKind;
