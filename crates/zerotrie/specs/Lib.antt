@@ -16,7 +16,6 @@ pub use Rattle.zerotrie_core.specs.Causes
 pub use Rattle.zerotrie_core.specs.Built
 pub use Rattle.zerotrie_core.specs.Items
 pub use Rattle.zerotrie_core.specs.Routes
-pub use Rattle.zerotrie_core.specs.Listings
 pub use Rattle.zerotrie_core.specs.Laws
 pub use Rattle.zerotrie_core.specs.WellFormed
 pub use Rattle.zerotrie_any.specs.Order

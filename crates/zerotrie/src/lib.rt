@@ -45,6 +45,7 @@ pub use zerotrie_any::{
 pub use zerotrie_any::{HasFlavor, NotWellFormed, TextKey, ZeroTrie, ZeroTrieFlavor};
 pub use zerotrie_ascii::{AsciiKind, AsciiTrie, ZeroAsciiIgnoreCaseTrie, ZeroTrieSimpleAscii};
 pub use zerotrie_any::{HasFlavor, TextKey, ZeroTrie, ZeroTrieFlavor};
+pub use zerotrie_any::{CursorAnswer, CursorOp, HasFlavor, TextKey, ZeroTrie, ZeroTrieFlavor};
 pub use zerotrie_ascii::{
     AsciiKind, AsciiTrie, ZeroAsciiIgnoreCaseTrie, ZeroTrieSimpleAscii, ZeroTrieStringIterator,
 };

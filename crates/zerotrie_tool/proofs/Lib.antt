@@ -3,3 +3,4 @@ pub mod LineLemmas
 pub mod SessionLemmas
 pub mod HexLemmas
 pub mod RunLemmas
+pub mod CallLemmas

@@ -15,7 +15,8 @@ use Rattle.std.proofs.lemmas.Bool.Decides.{Decides-eqb}
 use Rattle.std.proofs.lemmas.List.{append-nil, length-drop}
 use Rattle.zerotrie_tool.specs.Numbers.{AreDigits, IsNumber}
 use Rattle.zerotrie_tool.specs.declared.command.Choice.{Choice}
-use Rattle.zerotrie_tool.specs.Commands.{HasKey, IsCommand, Command, choose, add, build, query}
+use Rattle.zerotrie_tool.specs.Commands.{HasKey, IsCommand, Command, choose, add, build, query, list, walk}
+use Rattle.zerotrie_tool.specs.answer.Parsing.{IsWalking}
 
 -- whether a byte is a space
 abbrev pub is_space : ℕ → Bool
@@ -115,9 +116,11 @@ pub no_pair_line : (line : List ℕ) (a b : ℕ) (text word : List ℕ) → line
 no_pair_line line a b text word e w none digits key value number h =
     no_pair text word w none digits key value number (HasKey-tail a b digits key text (let P : List ℕ → Type 0 = λ l. HasKey (a ∷ b ∷ digits) key l in subst P e h))
 
--- a line that is none of the commands
-pub no_command : (line : List ℕ) → ((choice : Choice) → IsCommand line (choose choice) → ⊥) → ((value : ℕ) (key : List ℕ) → IsCommand line (add value key) → ⊥) → (line ≡ codes "build" → ⊥) → ((key : List ℕ) → HasKey (codes "?") key line → ⊥) → (command : Command) → IsCommand line command → ⊥
-no_command line no_choice no_add no_build no_query (choose choice) h = no_choice choice h
-no_command line no_choice no_add no_build no_query (add value key) h = no_add value key h
-no_command line no_choice no_add no_build no_query build h = no_build h
-no_command line no_choice no_add no_build no_query (query key) h = no_query key h
+-- a line that is none of the commands but a walk
+pub no_command : (line : List ℕ) → ((choice : Choice) → IsCommand line (choose choice) → ⊥) → ((value : ℕ) (key : List ℕ) → IsCommand line (add value key) → ⊥) → (line ≡ codes "build" → ⊥) → (line ≡ codes "list" → ⊥) → ((key : List ℕ) → HasKey (codes "?") key line → ⊥) → (command : Command) → IsCommand line command → IsWalking command
+no_command line no_choice no_add no_build no_list no_query (choose choice) h = absurd (no_choice choice h)
+no_command line no_choice no_add no_build no_list no_query (add value key) h = absurd (no_add value key h)
+no_command line no_choice no_add no_build no_list no_query build h = absurd (no_build h)
+no_command line no_choice no_add no_build no_list no_query (query key) h = absurd (no_query key h)
+no_command line no_choice no_add no_build no_list no_query list h = absurd (no_list h)
+no_command line no_choice no_add no_build no_list no_query (walk ops) h = (ops, refl)

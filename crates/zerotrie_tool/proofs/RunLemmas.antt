@@ -38,7 +38,8 @@ no_line = record { ref_ptr = (0, 0); now = [] }
 abbrev pub line_at : List (Bor (List ℕ)) → ℕ → List ℕ
 line_at lines i = (get_or lines i no_line).now
 
-at_line : (lines : List (Bor (List ℕ))) (i : ℕ) → i < length lines → drop i (texts lines) ≡ line_at lines i ∷ drop (i + 1) (texts lines)
+-- the lines from the one at i on
+pub at_line : (lines : List (Bor (List ℕ))) (i : ℕ) → i < length lines → drop i (texts lines) ≡ line_at lines i ∷ drop (i + 1) (texts lines)
 at_line [] i l = absurd (omega arith)
 at_line (x ∷ lines) zero l = refl
 at_line (x ∷ lines) (suc i) l = let past : suc i + 1 ≡ suc (i + 1) = omega arith in rw past (at_line lines i (omega arith))

@@ -1,15 +1,18 @@
 -- Which output and status answer an input.
-use Rattle.std.specs.Prelude.{◌≢◌, ℕ, ◌+◌, List, [], ◌∷◌, ◌++◌, max, Option, Some, None}
+use Rattle.std.specs.Prelude.{◌≡◌, ◌≢◌, ℕ, ◌+◌, List, [], ◌∷◌, ◌++◌, max, Option, Some, None}
 use Rattle.zerotrie.specs.Kind.{Kind}
 use Rattle.zerotrie.specs.Maps.{Pairs, map_of, look}
-use Rattle.zerotrie.specs.Texts.{Means}
+use Rattle.zerotrie.specs.Machine.{Op, run}
+use Rattle.zerotrie.specs.Texts.{Lists, Means}
 use Rattle.zerotrie.specs.Built.{IsBuilt}
 use Rattle.zerotrie.specs.Routes.{any_order, Takes, IsRefusal}
 use Rattle.zerotrie.specs.declared.ZeroTrieBuildError.{ZeroTrieBuildError}
+use Rattle.std.specs.FinMap.{entries}
 use Rattle.zerotrie_tool.specs.declared.command.Choice.{Choice}
+use Rattle.zerotrie_tool.specs.declared.command.Choice.TheVariants.{Simple, Ignore, Hash, Ext, Auto}
 use Rattle.zerotrie_tool.specs.Lines.{lines_of}
-use Rattle.zerotrie_tool.specs.Commands.{Command, choose, add, build, query, IsCommand, kind_of}
-use Rattle.zerotrie_tool.specs.Replies.{ok_line, refused_line, number_line, bad_line}
+use Rattle.zerotrie_tool.specs.Commands.{Command, choose, add, build, query, list, walk, IsCommand, kind_of}
+use Rattle.zerotrie_tool.specs.Replies.{ok_line, refused_line, number_line, list_lines, walk_line, bad_line}
 
 -- What is held between two lines, from the first choice of a kind on.
 pub record State : Type 0 where
@@ -29,13 +32,28 @@ without_trie choice pairs = record { choice = choice; pairs = pairs; kind = kind
 abbrev pub with_trie : Choice → Pairs → List ℕ → State
 with_trie choice pairs text = record { choice = choice; pairs = pairs; kind = kind_of choice pairs; text = text; built = pairs }
 
--- Before the first choice only a choice can be made.
+-- the pairs of a text in the order in which they are printed, which is that of the text, or of the bytes of their keys
+abbrev pub in_order : Choice → Pairs → Pairs
+in_order Simple pairs = pairs
+in_order Ignore pairs = pairs
+in_order Hash pairs = pairs
+in_order Ext pairs = pairs
+in_order Auto pairs = entries (map_of pairs)
+
+-- Before the first choice only a choice can be made, and a walk only where the choice names a kind.
 abbrev pub CanDo : Option State → Command → Type 0
 CanDo None (choose choice) = Unit {0}
 CanDo None (add value key) = ⊥
 CanDo None build = ⊥
 CanDo None (query key) = ⊥
-CanDo (Some s) command = Unit {0}
+CanDo None list = ⊥
+CanDo None (walk ops) = ⊥
+CanDo (Some s) (choose choice) = Unit {0}
+CanDo (Some s) (add value key) = Unit {0}
+CanDo (Some s) build = Unit {0}
+CanDo (Some s) (query key) = Unit {0}
+CanDo (Some s) list = Unit {0}
+CanDo (Some s) (walk ops) = s.choice ≢ Auto
 
 -- What a command does to what is held: what it prints, a status that the run's is not below, and what is held then.
 pub data Does : Option State → Command → List ℕ → ℕ → Option State → Type 0 where
@@ -48,6 +66,10 @@ pub data Does : Option State → Command → List ℕ → ℕ → Option State �
   refused : {s : State} {error : ZeroTrieBuildError} → IsRefusal any_order (kind_of s.choice s.pairs) s.pairs error → Does (Some s) build (refused_line error) 1 (Some (without_trie s.choice s.pairs))
   -- an answer is that of the map that the trie's text means, which is the map of the pairs it was built from
   asked : {s : State} {key : List ℕ} → Means s.kind s.text (map_of s.built) → Does (Some s) (query key) (number_line (look s.kind (map_of s.built) key)) 0 (Some s)
+  -- a listing is of the pairs that the trie's text lists
+  listed : {s : State} {pairs : Pairs} → Lists s.kind s.text pairs → Does (Some s) list (list_lines (in_order s.choice pairs)) 0 (Some s)
+  -- a walk is one of a fresh cursor over the pairs that the trie's text lists
+  walked : {s : State} {ops : List Op} {pairs : Pairs} → s.choice ≢ Auto → Lists s.kind s.text pairs → Does (Some s) (walk ops) (walk_line (run s.kind ops pairs)) 0 (Some s)
 
 -- Lines, the first of them with number n, are answered by an output and a status. An empty line does nothing, and a
 -- line that is no command, or none that can be done, ends the run.

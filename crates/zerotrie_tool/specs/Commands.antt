@@ -3,7 +3,9 @@ use Rattle.std.specs.Prelude.{◌≡◌, ℕ, ◌⊎◌, List, [], ◌∷◌, �
 use Rattle.zerotrie.specs.Kind.{Kind, simple_ascii, ignore_case, perfect_hash, extended_capacity}
 use Rattle.zerotrie.specs.Maps.{Pairs}
 use Rattle.zerotrie.specs.Auto.{auto_kind}
+use Rattle.zerotrie.specs.Machine.{Op}
 use Rattle.zerotrie_tool.specs.Numbers.{IsNumber}
+use Rattle.zerotrie_tool.specs.Calls.{AreOps, words_of}
 use Rattle.zerotrie_tool.specs.declared.command.Choice.{Choice}
 use Rattle.zerotrie_tool.specs.declared.command.Choice.TheVariants.{Simple, Ignore, Hash, Ext, Auto}
 
@@ -28,6 +30,8 @@ pub data Command : Type 0 where
   add : (value : ℕ) (key : List ℕ) → Command
   build : Command
   query : (key : List ℕ) → Command
+  list : Command
+  walk : (ops : List Op) → Command
 
 -- The line is the words, a space and the key. The words alone stand for the empty key too.
 abbrev pub HasKey : List ℕ → List ℕ → List ℕ → Type 0
@@ -39,3 +43,5 @@ IsCommand line (choose choice) = line ≡ codes "kind " ++ name_of choice
 IsCommand line (add value key) = (digits : List ℕ) × IsNumber digits value × HasKey (codes "+ " ++ digits) key line
 IsCommand line build = line ≡ codes "build"
 IsCommand line (query key) = HasKey (codes "?") key line
+IsCommand line list = line ≡ codes "list"
+IsCommand line (walk ops) = (text : List ℕ) × (line ≡ codes "walk " ++ text) × AreOps (words_of text) ops

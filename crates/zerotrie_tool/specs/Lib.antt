@@ -1,5 +1,6 @@
 pub mod Lines
 pub mod Numbers
+pub mod Calls
 pub mod Commands
 pub mod Replies
 pub mod Answers

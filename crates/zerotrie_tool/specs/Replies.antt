@@ -1,6 +1,9 @@
 -- The lines that are printed.
 use Rattle.std.specs.Prelude.{ℕ, ◌+◌, ◌/◌, ◌%◌, List, [], ◌∷◌, ◌++◌, length, codes, Option, Some, None, if◌then◌else◌, nat_lt}
 use Rattle.std.specs.Fmt.{decimal}
+use Rattle.zerotrie.specs.Maps.{Pairs}
+use Rattle.zerotrie.specs.Machine.{Answer}
+use Rattle.zerotrie.specs.Machine.Answer.{stepped, taken, probed}
 use Rattle.zerotrie.specs.declared.ZeroTrieBuildError.{ZeroTrieBuildError}
 use Rattle.zerotrie.specs.declared.ZeroTrieBuildError.TheVariants.{NonAsciiError, CapacityExceeded, CouldNotSolvePerfectHash, MixedCase, IllegalDelimiter, DuplicateKey, Unsorted, BufferTooSmall, BufferTooLarge, StackExceeded, OutOfMemory}
 
@@ -47,6 +50,34 @@ refused_line error = line_of (codes "refused " ++ error_name error)
 abbrev pub number_line : Option ℕ → List ℕ
 number_line None = line_of (codes "none")
 number_line (Some value) = line_of (decimal value)
+
+-- a pair: its value, and its key in hexadecimal
+abbrev pub pair_line : List ℕ × ℕ → List ℕ
+pair_line e = line_of (decimal e.1 ++ codes " " ++ hex e.0)
+
+-- a line for each pair
+abbrev pub list_lines : Pairs → List ℕ
+list_lines [] = []
+list_lines (e ∷ pairs) = pair_line e ++ list_lines pairs
+
+-- an answer of a cursor; a dash stands for none
+abbrev pub answer_word : Answer → List ℕ
+answer_word (stepped None) = codes "s-"
+answer_word (stepped (Some b)) = codes "s" ++ hex (b ∷ [])
+answer_word (taken None) = codes "t-"
+answer_word (taken (Some value)) = codes "t" ++ decimal value
+answer_word (probed None) = codes "p-"
+answer_word (probed (Some e)) = codes "p" ++ hex (e.0 ∷ []) ++ codes "/" ++ decimal e.1
+
+-- each answer with a space in front
+abbrev pub spaced_answers : List Answer → List ℕ
+spaced_answers [] = []
+spaced_answers (answer ∷ answers) = codes " " ++ answer_word answer ++ spaced_answers answers
+
+-- the answers of a walk, with one space between
+abbrev pub walk_line : List Answer → List ℕ
+walk_line [] = line_of []
+walk_line (answer ∷ answers) = line_of (answer_word answer ++ spaced_answers answers)
 
 -- line n is no command
 abbrev pub bad_line : ℕ → List ℕ

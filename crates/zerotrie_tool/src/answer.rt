@@ -3,17 +3,18 @@
 ghost use Rattle.std.specs.Prelude.{◌≡◌, ◌++◌, ◌∷◌, [], map, OnOk, OnErr, IfOk, string_bytes};
 ghost use Rattle.zerotrie.specs.Routes.{any_order, IsBuild};
 ghost use Rattle.zerotrie_tool.specs.Lines.{lines_of};
-ghost use Rattle.zerotrie_tool.specs.Commands.{kind_of, build};
+ghost use Rattle.zerotrie_tool.specs.Commands.{kind_of, build, walk};
+ghost use Rattle.zerotrie.specs.Walks.{ops_of};
 ghost use Rattle.zerotrie_tool.specs.Answers.{Answers, State, without_trie, with_trie};
 ghost use Rattle.zerotrie_tool.specs.answer.Parsing.{meaning};
 ghost use Rattle.zerotrie_tool.specs.answer.Tries.{trie_bytes};
 ghost use Rattle.zerotrie_tool.specs.answer.Sessions.{Holds, AfterLine, AfterRequest};
 
 use crate::command::{Choice, Request, parse};
-use crate::reply::{write_bad, write_number, write_ok, write_refused};
+use crate::reply::{write_bad, write_number, write_ok, write_refused, write_walk};
 use crate::trie::Trie;
 use std::alloc::{AllocError, Global};
-use zerotrie::ZeroTrieBuildError;
+use zerotrie::{CursorOp, ZeroTrieBuildError};
 
 /// What is printed for an input, and the status that the run ends with.
 #[derive(Debug, Drop)]
@@ -86,6 +87,24 @@ impl<'a> Session<'a> {
         }
     }
 
+    fn answer_walk(
+        &self,
+        alloc: Global,
+        ops: &[CursorOp],
+        output: &mut String,
+    ) -> Result<Outcome, AllocError>
+        ensures { IfOk result (AfterRequest (walk (ops_of ops.now)) self.now self.now
+            (string_bytes output.old) (string_bytes output.new)) }
+    {
+        match self.trie.walk(alloc, ops)? {
+            None => Ok(Outcome::Bad),
+            Some(answers) => {
+                write_walk(output, answers.as_slice())?;
+                Ok(Outcome::Done)
+            }
+        }
+    }
+
     fn answer(
         &mut self,
         alloc: Global,
@@ -100,6 +119,8 @@ impl<'a> Session<'a> {
             Request::Add { value, key } => self.add(value, key)?,
             Request::Build => return self.answer_build(alloc, output),
             Request::Query(key) => write_number(output, self.trie.get(key))?,
+            Request::List => return Ok(Outcome::Bad),
+            Request::Walk(ops) => return self.answer_walk(alloc, ops.as_slice(), output),
         }
         Ok(Outcome::Done)
     }
@@ -115,7 +136,7 @@ fn answer_line<'a>(
     ensures { IfOk result (AfterLine line.now held.old held.new
         (string_bytes output.old) (string_bytes output.new)) }
 {
-    let Some(request) = parse(line) else {
+    let Some(request) = parse(alloc, line)? else {
         return Ok(Outcome::Bad);
     };
     match held {

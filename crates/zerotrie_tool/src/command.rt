@@ -1,10 +1,16 @@
 //! The commands that lines are.
 
-ghost use Rattle.std.specs.Prelude.{◌≡◌, ◌==◌, ℕ, List, IfSome, IfNone};
+ghost use Rattle.std.specs.Prelude.{◌≡◌, ◌==◌, ℕ, List, map, IfSome, IfNone, IfOk};
 ghost use Rattle.std.specs.List.{before_first, position};
+ghost use Rattle.zerotrie.specs.Machine.{Op};
+ghost use Rattle.zerotrie.specs.Walks.{op_of, ops_of};
 ghost use Rattle.zerotrie_tool.specs.Numbers.{IsNumber};
+ghost use Rattle.zerotrie_tool.specs.Calls.{IsHexDigit, IsHexByte, IsOp, AreOps, words_of};
 ghost use Rattle.zerotrie_tool.specs.Commands.{Command, name_of, choose, add, HasKey, IsCommand};
-ghost use Rattle.zerotrie_tool.specs.answer.Parsing.{meaning};
+ghost use Rattle.zerotrie_tool.specs.answer.Parsing.{meaning, IsWalking};
+
+use std::alloc::{AllocError, Global};
+use zerotrie::CursorOp;
 
 /// A kind of trie, as a `kind` line names it.
 #[derive(Clone, Copy, PartialEq, Eq, Debug)]
@@ -22,12 +28,14 @@ pub enum Choice {
 }
 
 /// What a line asks for.
-#[derive(Clone, Copy, PartialEq, Eq, Debug)]
+#[derive(PartialEq, Eq, Debug, Drop)]
 pub enum Request<'a> {
     Kind(Choice),
     Add { value: usize, key: &'a [u8] },
     Build,
     Query(&'a [u8]),
+    List,
+    Walk(Vec<CursorOp>),
 }
 
 /// The number that 1 to 20 decimal digits spell.
@@ -79,6 +87,74 @@ fn key_behind<'a>(words: &[u8], line: &'a [u8]) -> Option<&'a [u8]>
     }
 }
 
+/// The number of a hexadecimal digit, in either case.
+fn parse_digit(digit: u8) -> Option<u8>
+    ensures some { IfSome result (IsHexDigit digit) }
+    ensures none { IfNone result ((n : ℕ) → IsHexDigit digit n → ⊥) }
+{
+    match digit {
+        b'0'..=b'9' => Some(digit - b'0'),
+        b'a'..=b'f' => Some(digit - b'a' + 10),
+        b'A'..=b'F' => Some(digit - b'A' + 10),
+        _ => None,
+    }
+}
+
+/// The byte that two hexadecimal digits spell.
+fn parse_byte(digits: &[u8]) -> Option<u8>
+    ensures some { IfSome result (IsHexByte digits.now) }
+    ensures none { IfNone result ((b : ℕ) → IsHexByte digits.now b → ⊥) }
+{
+    let [high, low] = digits else {
+        return None;
+    };
+    let high = parse_digit(*high)?;
+    let low = parse_digit(*low)?;
+    Some(16 * high + low)
+}
+
+/// The call of a cursor that a word is.
+fn parse_op(word: &[u8]) -> Option<CursorOp>
+    ensures some { IfSome result (λ op. IsOp word.now (op_of op)) }
+    ensures none { IfNone result ((op : Op) → IsOp word.now op → ⊥) }
+{
+    let (first, digits) = word.split_first()?;
+    match *first {
+        b's' => {
+            let byte = parse_byte(digits)?;
+            Some(CursorOp::Step(byte))
+        }
+        b't' if digits.is_empty() => Some(CursorOp::Take),
+        b'p' => {
+            let index = parse_number(digits)?;
+            Some(CursorOp::Probe(index))
+        }
+        _ => None,
+    }
+}
+
+fn split_words(alloc: Global, text: &[u8]) -> Result<Vec<&[u8]>, AllocError>
+    ensures { IfOk result (λ words. map (λ word. word.now) words.items ≡ words_of text.now) }
+{
+    text.split(|b| *b == b' ').collect(alloc)
+}
+
+/// The calls that the words of a text are; `None` where one of them is none.
+fn parse_ops(alloc: Global, text: &[u8]) -> Result<Option<Vec<CursorOp>>, AllocError>
+    ensures some { IfOk result (λ r. IfSome r (λ ops. AreOps (words_of text.now) (ops_of ops.items))) }
+    ensures none { IfOk result (λ r. IfNone r ((ops : List Op) → AreOps (words_of text.now) ops → ⊥)) }
+{
+    let words = split_words(alloc, text)?;
+    let mut ops = Vec::new(alloc);
+    for word in &words {
+        let Some(op) = parse_op(word) else {
+            return Ok(None);
+        };
+        ops.push(op)?;
+    }
+    Ok(Some(ops))
+}
+
 /// The choice of this name.
 fn choice_named(name: &[u8]) -> Option<Choice>
     ensures some { IfSome result (λ choice. name.now ≡ name_of choice) }
@@ -115,10 +191,10 @@ fn parse_pair(line: &[u8]) -> Option<(usize, &[u8])>
     Some((value, key))
 }
 
-/// What a line asks for; `None` for a line that is no command.
-pub fn parse(line: &[u8]) -> Option<Request<'_>>
+/// What a line asks for that is no walk; `None` for a line that is no other command.
+fn parse_plain(line: &[u8]) -> Option<Request<'_>>
     ensures some { IfSome result (λ request. IsCommand line.now (meaning request)) }
-    ensures none { IfNone result ((command : Command) → IsCommand line.now command → ⊥) }
+    ensures none { IfNone result ((command : Command) → IsCommand line.now command → IsWalking command) }
 {
     if let Some(choice) = parse_choice(line) {
         Some(Request::Kind(choice))
@@ -126,8 +202,24 @@ pub fn parse(line: &[u8]) -> Option<Request<'_>>
         Some(Request::Add { value, key })
     } else if line == b"build".as_slice() {
         Some(Request::Build)
+    } else if line == b"list".as_slice() {
+        Some(Request::List)
     } else {
         let key = key_behind(b"?", line)?;
         Some(Request::Query(key))
+    }
+}
+
+/// What a line asks for; `None` for a line that is no command.
+pub fn parse(alloc: Global, line: &[u8]) -> Result<Option<Request<'_>>, AllocError>
+    ensures some { IfOk result (λ r. IfSome r (λ request. IsCommand line.now (meaning request))) }
+    ensures none { IfOk result (λ r. IfNone r ((command : Command) → IsCommand line.now command → ⊥)) }
+{
+    match line.strip_prefix(b"walk ") {
+        None => Ok(parse_plain(line)),
+        Some(text) => match parse_ops(alloc, text)? {
+            None => Ok(None),
+            Some(ops) => Ok(Some(Request::Walk(ops))),
+        },
     }
 }

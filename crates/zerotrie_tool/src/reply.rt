@@ -1,10 +1,11 @@
 //! The lines that are printed.
 
 ghost use Rattle.std.specs.Prelude.{◌≡◌, ◌++◌, OnOk, string_bytes};
-ghost use Rattle.zerotrie_tool.specs.Replies.{hex, error_name, ok_line, refused_line, number_line, bad_line};
+ghost use Rattle.zerotrie_tool.specs.Replies.{hex, error_name, ok_line, refused_line, number_line, answer_word, walk_line, bad_line};
+ghost use Rattle.zerotrie.specs.Walks.{answer_of, answers_of};
 
 use std::alloc::AllocError;
-use zerotrie::ZeroTrieBuildError;
+use zerotrie::{CursorAnswer, ZeroTrieBuildError};
 
 /// Writes bytes in hexadecimal, and for none a dash.
 fn write_hex(output: &mut String, bytes: &[u8]) -> Result<(), AllocError>
@@ -64,6 +65,41 @@ pub fn write_number(output: &mut String, number: Option<usize>) -> Result<(), Al
         Some(value) => writeln!(output, "{value}"),
         None => writeln!(output, "none"),
     }
+}
+
+/// Writes an answer of a cursor.
+fn write_answer(output: &mut String, answer: &CursorAnswer) -> Result<(), AllocError>
+    ensures { OnOk result (string_bytes output.new ≡ string_bytes output.old ++ answer_word (answer_of answer.now)) }
+{
+    match answer {
+        CursorAnswer::Stepped(None) => output.push_str("s-"),
+        CursorAnswer::Stepped(Some(byte)) => {
+            output.push_str("s")?;
+            write_hex(output, &[*byte])
+        }
+        CursorAnswer::Taken(None) => output.push_str("t-"),
+        CursorAnswer::Taken(Some(value)) => write!(output, "t{value}"),
+        CursorAnswer::Probed(None) => output.push_str("p-"),
+        CursorAnswer::Probed(Some((byte, edges))) => {
+            output.push_str("p")?;
+            write_hex(output, &[*byte])?;
+            write!(output, "/{edges}")
+        }
+    }
+}
+
+/// Writes the answers of a walk.
+pub fn write_walk(output: &mut String, answers: &[CursorAnswer]) -> Result<(), AllocError>
+    ensures { OnOk result (string_bytes output.new ≡ string_bytes output.old ++ walk_line (answers_of answers.now)) }
+{
+    if let Some((first, rest)) = answers.split_first() {
+        write_answer(output, first)?;
+        for answer in rest {
+            output.push_str(" ")?;
+            write_answer(output, answer)?;
+        }
+    }
+    writeln!(output)
 }
 
 /// Writes that the line with this number is no command.

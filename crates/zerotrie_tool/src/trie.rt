@@ -1,19 +1,21 @@
 //! Tries of the kinds that can be chosen.
 
-ghost use Rattle.std.specs.Prelude.{◌≡◌, [], IfOk};
+ghost use Rattle.std.specs.Prelude.{◌≡◌, ◌≢◌, ◌↔◌, [], IfOk, IfSome, IsSome};
 ghost use Rattle.zerotrie.specs.Items.{pairs_of};
 ghost use Rattle.zerotrie.specs.Maps.{Map, look};
 ghost use Rattle.zerotrie.specs.Texts.{Means};
 ghost use Rattle.zerotrie.specs.Routes.{any_order, IsBuild};
 ghost use Rattle.zerotrie.specs.Auto.{auto_kind};
 ghost use Rattle.zerotrie.specs.Flavors.{flavor_kind};
+ghost use Rattle.zerotrie.specs.Walks.{IsWalk};
 ghost use Rattle.zerotrie_tool.specs.Commands.{kind_of};
-ghost use Rattle.zerotrie_tool.specs.answer.Tries.{trie_kind, trie_bytes};
+ghost use Rattle.zerotrie_tool.specs.answer.Tries.{trie_kind, trie_choice, trie_bytes};
+ghost use Rattle.zerotrie_tool.specs.declared.command.Choice.TheVariants.{Auto};
 
 use crate::command::Choice;
-use std::alloc::Global;
+use std::alloc::{AllocError, Global};
 use zerotrie::{
-    AsciiKind, AsciiTrie, HashedKind, HashedTrie, Simple, ZeroAsciiIgnoreCaseTrie, ZeroTrie,
+    AsciiKind, AsciiTrie, CursorAnswer, CursorOp, HashedKind, HashedTrie, Simple, ZeroAsciiIgnoreCaseTrie, ZeroTrie,
     ZeroTrieBuildError, ZeroTrieExtendedCapacity, ZeroTriePerfectHash, ZeroTrieSimpleAscii,
 };
 
@@ -62,6 +64,7 @@ fn build_auto(
 impl Trie {
     /// The trie without pairs.
     pub fn empty(alloc: Global, choice: Choice) -> Self
+        ensures choice { trie_choice result ≡ choice }
         ensures kind { trie_kind result ≡ kind_of choice [] }
         ensures bytes { trie_bytes result ≡ [] }
     {
@@ -81,6 +84,7 @@ impl Trie {
         choice: Choice,
         pairs: &[(&[u8], usize)],
     ) -> Result<Self, ZeroTrieBuildError>
+        ensures choice { IfOk result (λ trie. trie_choice trie ≡ choice) }
         ensures kind { IfOk result (λ trie. trie_kind trie ≡ kind_of choice (pairs_of pairs.now)) }
         ensures build { let added = pairs_of pairs.now in
             IsBuild any_order (kind_of choice added) trie_bytes added result }
@@ -119,5 +123,25 @@ impl Trie {
             Trie::Ext(trie) => trie.get(key),
             Trie::Auto(trie) => trie.get(key),
         }
+    }
+
+    /// The answers of a walk; `None` where the kind was not chosen.
+    pub fn walk(
+        &self,
+        alloc: Global,
+        ops: &[CursorOp],
+    ) -> Result<Option<Vec<CursorAnswer>>, AllocError>
+        ensures named { IfOk result (λ r. IsSome r ↔ (trie_choice self.now ≢ Auto)) }
+        ensures walk { IfOk result (λ r. IfSome r (λ answers.
+            IsWalk (trie_kind self.now) (trie_bytes self.now) ops.now answers.items)) }
+    {
+        let answers = match self {
+            Trie::Simple(trie) => trie.walk(alloc, ops)?,
+            Trie::Ignore(trie) => trie.walk(alloc, ops)?,
+            Trie::Hash(trie) => trie.walk(alloc, ops)?,
+            Trie::Ext(trie) => trie.walk(alloc, ops)?,
+            Trie::Auto(_) => return Ok(None),
+        };
+        Ok(Some(answers))
     }
 }

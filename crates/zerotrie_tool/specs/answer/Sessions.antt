@@ -5,14 +5,15 @@ use Rattle.zerotrie.specs.Maps.{map_of}
 use Rattle.zerotrie.specs.Texts.{Means}
 use Rattle.zerotrie_tool.specs.Commands.{Command, IsCommand}
 use Rattle.zerotrie_tool.specs.Answers.{State, Does, CanDo}
-use Rattle.zerotrie_tool.specs.answer.Tries.{trie_kind, trie_bytes}
+use Rattle.zerotrie_tool.specs.answer.Tries.{trie_kind, trie_choice, trie_bytes}
 use Rattle.zerotrie_tool.specs.declared.answer.Session.{Session}
 use Rattle.zerotrie_tool.specs.declared.answer.Outcome.{Outcome}
 use Rattle.zerotrie_tool.specs.declared.answer.Outcome.TheVariants.{Done, Refused, Bad}
 
--- The session holds the state: its choice, its pairs, and a trie whose text means the pairs that were built.
+-- The session holds the state: its choice, its pairs, and a trie of that choice whose text means the pairs that were built.
 pub record Holds (session : Session) (s : State) : Type 0 where
   pub choice : session.choice ≡ s.choice
+  pub of : trie_choice session.trie ≡ s.choice
   pub pairs : pairs_of session.pairs.items ≡ s.pairs
   pub kind : trie_kind session.trie ≡ s.kind
   pub text : trie_bytes session.trie ≡ s.text
@@ -33,11 +34,11 @@ pub record Performed (command : Command) (held : Option State) (after : Option S
   pub holds : HoldsSome after state
   pub output : new ≡ old ++ printed
 
--- how a command ended, of those that a session can do
+-- how a command ended; a bad one prints nothing
 abbrev pub AfterRequest : Command → Session → Session → List ℕ → List ℕ → Outcome → Type 0
 AfterRequest command before after old new Done = (s : State) → Holds before s → Performed command (Some s) (Some after) old new 0
 AfterRequest command before after old new Refused = (s : State) → Holds before s → Performed command (Some s) (Some after) old new 1
-AfterRequest command before after old new Bad = ⊥
+AfterRequest command before after old new Bad = (new ≡ old) × ((s : State) → Holds before s → CanDo (Some s) command → ⊥)
 
 -- a line that is a command was done
 abbrev pub AfterCommand : List ℕ → Option Session → Option Session → List ℕ → List ℕ → ℕ → Type 0
