@@ -39,13 +39,9 @@
 mod tests;
 
 pub use zerotrie_any::{
-    CursorAnswer, CursorOp, HasFlavor, JsonError, TagError, TextKey, ZeroTrie, ZeroTrieFlavor,
-    json_keeps_the_pairs,
+    CursorAnswer, CursorOp, HasFlavor, JsonError, NotWellFormed, TagError, TextKey, ZeroTrie,
+    ZeroTrieFlavor, json_keeps_the_pairs,
 };
-pub use zerotrie_any::{HasFlavor, NotWellFormed, TextKey, ZeroTrie, ZeroTrieFlavor};
-pub use zerotrie_ascii::{AsciiKind, AsciiTrie, ZeroAsciiIgnoreCaseTrie, ZeroTrieSimpleAscii};
-pub use zerotrie_any::{HasFlavor, TextKey, ZeroTrie, ZeroTrieFlavor};
-pub use zerotrie_any::{CursorAnswer, CursorOp, HasFlavor, TextKey, ZeroTrie, ZeroTrieFlavor};
 pub use zerotrie_ascii::{
     AsciiKind, AsciiTrie, ZeroAsciiIgnoreCaseTrie, ZeroTrieSimpleAscii, ZeroTrieStringIterator,
 };
