@@ -3,12 +3,11 @@
 
 mod array;
 mod ascii_trie;
+mod checked;
 mod cursor;
 mod listed;
-mod checked;
 mod options;
 mod outer;
-mod options;
 
 pub use ascii_trie::{AsciiTrie, ZeroAsciiIgnoreCaseTrie, ZeroTrieSimpleAscii};
 pub use cursor::{AsciiCursor, ZeroAsciiIgnoreCaseTrieCursor, ZeroTrieSimpleAsciiCursor};

@@ -1,8 +1,8 @@
 //! Tries over keys of any bytes, whose wide branches have perfect hashes.
 #![tactic(auto)]
 
-mod cursor;
 mod checked;
+mod cursor;
 mod hashed_trie;
 mod listed;
 mod options;
