@@ -1,4 +1,5 @@
-//! What every kind of trie shares, over bare bytes: the routes by which one is built.
+//! What every kind of trie shares, over bare bytes: the routes by which one is built, its map, its tagged bytes
+//! and its JSON value.
 #![tactic(auto)]
 
 mod json;
