@@ -31,8 +31,9 @@
 //!
 //! A crate that stands on `zerotrie` alone can state and prove contracts over it. `Rattle.zerotrie.specs`
 //! has the definitions that the library's clauses cite. Of the lemmas, `Rattle.zerotrie.proofs.Builds` says
-//! what a build over an iterator is of the list behind it, and `Rattle.zerotrie.proofs.Lookups` what a
-//! look-up answers by the pairs alone. `laws` has the laws of texts and maps.
+//! what a build over an iterator is of the list behind it, `Rattle.zerotrie.proofs.Lookups` what a look-up
+//! answers by the pairs alone, and `Rattle.zerotrie.proofs.Forms` what was written as JSON and read again.
+//! `laws` has the laws of texts and maps, and `json_keeps_the_pairs` that of JSON.
 #![tactic(auto)]
 
 #[cfg(test)]

@@ -1,5 +1,7 @@
 //! What every kind of trie shares, over bare bytes: the routes by which one is built, ordered maps,
 //! walks of a cursor, tagged bytes and JSON; and `ZeroTrie`.
+//! What every kind of trie shares, over bare bytes: the routes by which one is built, its map, its tagged bytes
+//! and its JSON value.
 #![tactic(auto)]
 
 mod checked;
