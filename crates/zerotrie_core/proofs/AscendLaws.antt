@@ -1,16 +1,14 @@
 -- The order in which a text over ASCII keys lists its pairs.
-use Rattle.std.proofs.Common.{◌≡◌, ℕ, ◌<◌, List, [], ◌∷◌, ◌++◌, length, refl, sym, ◌∙◌, ap, subst, arith, map, Ordering, Less, Equal, Greater}
+use Rattle.std.proofs.Common.{◌≡◌, ℕ, ◌<◌, List, [], ◌∷◌, ◌++◌, length, refl, sym, ◌∙◌, ap, subst, map, Less}
 use Rattle.std.specs.Cmp.{nat_cmp_total, nat_cmp_is, tied_itself}
 use Rattle.std.specs.Cmp.Lexicographic.{slice_cmp}
 use Rattle.std.specs.Ordering.{nat_cmp, ordering_then}
 use Rattle.std.specs.List.{AllByRecursion}
-use Rattle.zerotrie_core.specs.Kind.{Kind, simple_ascii, ignore_case, perfect_hash, extended_capacity, IsAscii, fold_byte, has_spans}
+use Rattle.zerotrie_core.specs.Kind.{Kind, simple_ascii, IsAscii, fold_byte}
 use Rattle.zerotrie_core.specs.Maps.{Pairs, Map, map_of, with_front, Ascends, FirstAbove, RepeatsKey}
 use Rattle.zerotrie_core.specs.Texts.{Lists, ListEach, Means, NoValueFirst}
 use Rattle.zerotrie_core.specs.Texts.Lists.{nothing, value, literal, span, branch}
 use Rattle.zerotrie_core.specs.Texts.ListEach.{no_edge, edge}
-use Rattle.zerotrie_core.specs.Branches.{IsTable}
-use Rattle.zerotrie_core.specs.Branches.IsTable.{sorted, hashed}
 use Rattle.zerotrie_core.specs.Laws.{folded}
 use Rattle.zerotrie_core.proofs.KindLemmas.{ascii_spanless, ascii_sorted}
 use Rattle.zerotrie_core.proofs.CaseLemmas.{OtherKey, keys_some, lists_apart, apart_distinct}

@@ -122,12 +122,12 @@ targets_most f most n w behind (suc k) h =
     let more = later_most f n w behind k h (targets_most f most n w behind k (omega arith)) in
     by_test (λ ps. length ps ≤ all - begin_of n w behind i) (is_in_order n w behind i) (with_front b (f t) ++ of_targets f n w behind k) []
     (λ ordered.
-        let bounds = order_is n w behind i ordered in
-        let len = length-append (with_front b (f t)) (of_targets f n w behind k) in
-        let front = length-front b (f t) in
-        let own = most t in
-        let part = length-target_to n w behind i in
-        omega arith)
+    let bounds = order_is n w behind i ordered in
+    let len = length-append (with_front b (f t)) (of_targets f n w behind k) in
+    let front = length-front b (f t) in
+    let own = most t in
+    let part = length-target_to n w behind i in
+    omega arith)
     (λ _. omega arith)
 
 node_most : (f : List ℕ → Pairs) → ((x : List ℕ) → length (f x) ≤ length x) → (m : ℕ) (s : Option Shape) → InSome (Within m) s → length (of_node f s) ≤ m

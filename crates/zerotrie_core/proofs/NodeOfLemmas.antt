@@ -149,11 +149,13 @@ as_span_so kind lead rest None spans is h = tt
 as_span_so kind lead rest (Some r) spans is h =
     by_test (InSome (Begins kind (lead ∷ rest))) (nat_lt r.0 (2 ^ 64) && nat_le r.0 (length r.1)) (Some (span (take r.0 r.1) (drop r.0 r.1))) None
     (λ e.
-        let below = ltb-true r.0 (2 ^ 64) (left_of (nat_lt r.0 (2 ^ 64)) _ e) in
-        let fits = leb-true r.0 (length r.1) (right_of (nat_lt r.0 (2 ^ 64)) _ e) in
-        let len : length (take r.0 r.1) ≡ r.0 = length-take-le r.0 r.1 fits in
-        (spans, subst (λ x. BeginsWith 16 5 (length (take r.0 r.1)) (lead ∷ rest) x) (sym (take-append-drop r.0 r.1))
-        (subst (λ n. BeginsWith 16 5 n (lead ∷ rest) r.1) (sym len) (subst (λ m. BeginsWith 16 m r.0 (lead ∷ rest) r.1) is (h below)))))
+    let below = ltb-true r.0 (2 ^ 64) (left_of (nat_lt r.0 (2 ^ 64)) _ e) in
+    let fits = leb-true r.0 (length r.1) (right_of (nat_lt r.0 (2 ^ 64)) _ e) in
+    let len : length (take r.0 r.1) ≡ r.0 = length-take-le r.0 r.1 fits in (
+      spans,
+      subst (λ x. BeginsWith 16 5 (length (take r.0 r.1)) (lead ∷ rest) x) (sym (take-append-drop r.0 r.1))
+          (subst (λ n. BeginsWith 16 5 n (lead ∷ rest) r.1) (sym len) (subst (λ m. BeginsWith 16 m r.0 (lead ∷ rest) r.1) is (h below))),
+    ))
     (λ _. tt)
 
 as_branch_so : (kind : Kind) (lead : ℕ) (rest : List ℕ) (r : Option (ℕ × List ℕ)) → lead / 64 ≡ 3 → IsReadOf 32 lead rest r → InSome (Begins kind (lead ∷ rest)) (as_branch kind r)
@@ -163,22 +165,22 @@ as_branch_so kind lead rest (Some r) is h =
     let w = r.0 / 256 + 1 in
     by_test (InSome (Begins kind (lead ∷ rest))) (is_whole kind n w r.1) (Some (branch n w (take (table_size kind n) r.1) (drop (before_edges kind n) r.1))) None
     (λ e.
-        let whole_is = is_whole_so kind n w r.1 e in
-        let most = greatest_width_most kind in
-        let fits = whole_is.fits in
-        let head = head_is r.0 in
-        let below : r.0 < 2 ^ 64 = omega arith in
-        record {
-          two = whole_is.two;
-          at_most = head.0;
-          some = omega arith;
-          fits = fits;
-          body = r.1;
-          begins = subst (λ v. BeginsWith 32 3 v (lead ∷ rest) r.1) (sym head.1) (subst (λ m. BeginsWith 32 m r.0 (lead ∷ rest) r.1) is (h below));
-          table_is = refl;
-          behind_is = refl;
-          holds = whole_is.holds;
-        })
+    let whole_is = is_whole_so kind n w r.1 e in
+    let most = greatest_width_most kind in
+    let fits = whole_is.fits in
+    let head = head_is r.0 in
+    let below : r.0 < 2 ^ 64 = omega arith in
+    record {
+      two = whole_is.two;
+      at_most = head.0;
+      some = omega arith;
+      fits = fits;
+      body = r.1;
+      begins = subst (λ v. BeginsWith 32 3 v (lead ∷ rest) r.1) (sym head.1) (subst (λ m. BeginsWith 32 m r.0 (lead ∷ rest) r.1) is (h below));
+      table_is = refl;
+      behind_is = refl;
+      holds = whole_is.holds;
+    })
     (λ _. tt)
 
 -- what is read is there
@@ -243,15 +245,15 @@ branch_within kind n (Some r) h =
     let w = r.0 / 256 + 1 in
     by_test (InSome (Within (suc n))) (is_whole kind e w r.1) (Some (branch e w (take (table_size kind e) r.1) (drop (before_edges kind e) r.1))) None
     (λ t.
-        let whole_is = is_whole_so kind e w r.1 t in
-        let holds = whole_is.holds in
-        let behind = drop (before_edges kind e) r.1 in
-        let a = length-drop (before_edges kind e) r.1 in
-        let b = length-drop e behind in
-        let c = length-drop (w * (e - 1)) (drop e behind) in
-        let parts = table_parts kind e in
-        let some = some_offsets (r.0 / 256) e whole_is.two in
-        omega arith)
+    let whole_is = is_whole_so kind e w r.1 t in
+    let holds = whole_is.holds in
+    let behind = drop (before_edges kind e) r.1 in
+    let a = length-drop (before_edges kind e) r.1 in
+    let b = length-drop e behind in
+    let c = length-drop (w * (e - 1)) (drop e behind) in
+    let parts = table_parts kind e in
+    let some = some_offsets (r.0 / 256) e whole_is.two in
+    omega arith)
     (λ _. tt)
 
 pub node_within : (kind : Kind) (bytes : List ℕ) → InSome (Within (length bytes)) (node_of kind bytes)

@@ -266,22 +266,3 @@ impl<'a> Iterator for ZeroTrieIterator<'a> {
         Some(Ok((key, value)))
     }
 }
-
-#[cfg(test)]
-mod tests {
-    use super::*;
-    use std::test::Fail;
-
-    #[test]
-    fn lists(rt: HostRuntime) -> Result<(), Fail> {
-        let bytes = [
-            0x80, 0xC2, 0x61, 0x62, 0x0D, 0xC3, 0x78, 0x79, 0x7A, 0x03, 0x05, 0x62, 0x90, 0x54, 0x63, 0x82, 0x64, 0x83,
-            0x78, 0x65, 0x84, 0xC2, 0x66, 0x69, 0x07, 0xC2, 0x67, 0x68, 0x02, 0x93, 0x64, 0x86, 0x87, 0x6B, 0x6C, 0x88,
-        ];
-        for item in ZeroTrieIterator::new::<Simple>(rt.alloc(), &bytes) {
-            let (key, value) = item?;
-            println!(rt; "{key:?} {value}")?;
-        }
-        Ok(())
-    }
-}
