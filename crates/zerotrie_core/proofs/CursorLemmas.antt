@@ -1,6 +1,6 @@
 -- What the calls of a cursor answer and leave.
 use Rattle.std.proofs.Common.{Bool, ◌≡◌, ℕ, zero, suc, ◌<◌, ◌≤◌, List, [], ◌∷◌, ◌++◌, length, refl, sym, ◌∙◌, ap, subst, arith, Option, Some, None, get_or}
-use Rattle.std.specs.Prelude.{IsTrue, ◌↔◌, min, slice_get, filter, not, ◌==◌, IfNone}
+use Rattle.std.specs.Prelude.{IsTrue, ◌↔◌, min, slice_get, IfNone}
 use Rattle.std.specs.Borrow.{Bor}
 use Rattle.std.specs.Option.{option_map, option_map_or}
 use Rattle.std.proofs.lemmas.Option.{slice_get-get_or, slice_get_past}
@@ -16,7 +16,7 @@ use Rattle.zerotrie_core.specs.Cursors.{met, edge_like}
 use Rattle.zerotrie_core.specs.Machine.{behind, without_value, numbered}
 use Rattle.zerotrie_core.specs.Places.{Place, nowhere, ListsBehind, ListsAt, IsStep, IsTake, IsProbe}
 use Rattle.zerotrie_core.specs.reader.Going.{AlwaysGoes, AlwaysStops}
-use Rattle.zerotrie_core.specs.cursor.Edges.{NoValue, ListsEdges, PassesValue, ListsInside}
+use Rattle.zerotrie_core.specs.cursor.Edges.{NoValue, HasTheEdges, ListsInside}
 use Rattle.zerotrie_core.proofs.NumberLemmas.{some_bytes}
 use Rattle.zerotrie_core.proofs.NodeLemmas.{value_begins}
 use Rattle.zerotrie_core.proofs.KindLemmas.{one_fold, two_folds, edge_limit_is, ascii_spanless, ascii_sorted}
@@ -134,75 +134,69 @@ span_lists {kind = kind} text run rest begins =
 
 -- what a span's run answers, the text answers
 pub span_steps : (kind : Kind) (bytes run rest : List ℕ) (c : ℕ) (answer : Option ℕ) (After : Pairs → Type 0) → Begins kind bytes (shapes.Shape.span run rest)
-    → IsStep kind (ListsInside kind run rest) c answer After → IsStep kind (ListsEdges kind bytes) c answer After
-span_steps kind bytes run rest c answer After begins s pairs lists = s pairs (span_lists lists.1 run rest begins)
+    → IsStep kind (ListsInside kind run rest) c answer After → IsStep kind (Lists kind bytes) c answer After
+span_steps kind bytes run rest c answer After begins s pairs lists = s pairs (span_lists lists run rest begins)
 
 pub span_probes : (kind : Kind) (bytes run rest : List ℕ) (i : ℕ) (answer : Option (ℕ × ℕ)) (After : Pairs → Type 0) → Begins kind bytes (shapes.Shape.span run rest)
-    → IsProbe (ListsInside kind run rest) i answer After → IsProbe (ListsEdges kind bytes) i answer After
-span_probes kind bytes run rest i answer After begins s pairs lists = s pairs (span_lists lists.1 run rest begins)
+    → IsProbe (ListsInside kind run rest) i answer After → IsProbe (Lists kind bytes) i answer After
+span_probes kind bytes run rest i answer After begins s pairs lists = s pairs (span_lists lists run rest begins)
 
--- where no node begins, and where a value stands in front
-pub nothing_steps : (kind : Kind) (bytes : List ℕ) (c : ℕ) → ((s : Shape) → Begins kind bytes s → ⊥) → IsStep kind (ListsEdges kind bytes) c None (Lists kind [])
-nothing_steps kind bytes c none pairs lists = (sym (ap (λ p. edge_like kind c (met p)) (no_node lists.1 none).is), nothing)
+-- where no node begins
+pub nothing_steps : (kind : Kind) (bytes : List ℕ) (c : ℕ) → ((s : Shape) → Begins kind bytes s → ⊥) → IsStep kind (Lists kind bytes) c None (Lists kind [])
+nothing_steps kind bytes c none pairs lists = (sym (ap (λ p. edge_like kind c (met p)) (no_node lists none).is), nothing)
 
-pub nothing_probes : (kind : Kind) (bytes : List ℕ) (i : ℕ) → ((s : Shape) → Begins kind bytes s → ⊥) → IsProbe (ListsEdges kind bytes) i None (Lists kind [])
-nothing_probes kind bytes i none pairs lists = (sym (ap (λ p. numbered i (met p)) (no_node lists.1 none).is), nothing)
-
-pub value_steps : (kind : Kind) (bytes : List ℕ) (c v : ℕ) (rest : List ℕ) → Begins kind bytes (shapes.Shape.value v rest) → IsStep kind (ListsEdges kind bytes) c None (Lists kind [])
-value_steps kind bytes c v rest begins pairs lists = absurd (lists.0 v rest begins)
-
-pub value_probes : (kind : Kind) (bytes : List ℕ) (i v : ℕ) (rest : List ℕ) → Begins kind bytes (shapes.Shape.value v rest) → IsProbe (ListsEdges kind bytes) i None (Lists kind [])
-value_probes kind bytes i v rest begins pairs lists = absurd (lists.0 v rest begins)
+pub nothing_probes : (kind : Kind) (bytes : List ℕ) (i : ℕ) → ((s : Shape) → Begins kind bytes s → ⊥) → IsProbe (Lists kind bytes) i None (Lists kind [])
+nothing_probes kind bytes i none pairs lists = (sym (ap (λ p. numbered i (met p)) (no_node lists none).is), nothing)
 
 -- a literal
 module _ (kind : Kind) (bytes : List ℕ) (b : ℕ) (rest : List ℕ) (begins : Begins kind bytes (shapes.Shape.literal b rest)) where
   literal_parts : (pairs : Pairs) → Lists kind bytes pairs → Parts kind pairs (b ∷ []) (λ i. before_text (get_or (rest ∷ []) i []))
   literal_parts pairs text = opens_parts text (literal_opens text b rest begins.0 begins.1)
 
-  pub literal_along : (c : ℕ) → fold_byte kind b ≡ fold_byte kind c → IsStep kind (ListsEdges kind bytes) c (Some b) (Lists kind rest)
-  literal_along c same pairs lists = along (literal_parts pairs lists.1) c 0 (omega arith) same
+  pub literal_along : (c : ℕ) → fold_byte kind b ≡ fold_byte kind c → IsStep kind (Lists kind bytes) c (Some b) (Lists kind rest)
+  literal_along c same pairs lists = along (literal_parts pairs lists) c 0 (omega arith) same
 
-  pub literal_past : (c : ℕ) → (fold_byte kind b ≡ fold_byte kind c → ⊥) → IsStep kind (ListsEdges kind bytes) c None (Lists kind [])
-  literal_past c other pairs lists = along_none (literal_parts pairs lists.1) c (λ same. other (sym same), tt)
+  pub literal_past : (c : ℕ) → (fold_byte kind b ≡ fold_byte kind c → ⊥) → IsStep kind (Lists kind bytes) c None (Lists kind [])
+  literal_past c other pairs lists = along_none (literal_parts pairs lists) c (λ same. other (sym same), tt)
 
-  pub literal_number : (i : ℕ) → i ≡ 0 → IsProbe (ListsEdges kind bytes) i (Some (b, 1)) (Lists kind rest)
+  pub literal_number : (i : ℕ) → i ≡ 0 → IsProbe (Lists kind bytes) i (Some (b, 1)) (Lists kind rest)
   literal_number i first pairs lists =
-      let n = by_number (literal_parts pairs lists.1) 0 (omega arith) in
+      let n = by_number (literal_parts pairs lists) 0 (omega arith) in
       (n.0 ∙ ap (λ k. numbered k (met pairs)) (sym first), n.1)
 
-  pub literal_past_number : (i : ℕ) → (i ≡ 0 → ⊥) → IsProbe (ListsEdges kind bytes) i None (Lists kind [])
-  literal_past_number i other pairs lists = past_number (literal_parts pairs lists.1) i (omega arith)
+  pub literal_past_number : (i : ℕ) → (i ≡ 0 → ⊥) → IsProbe (Lists kind bytes) i None (Lists kind [])
+  literal_past_number i other pairs lists = past_number (literal_parts pairs lists) i (omega arith)
 
 -- a branch
 module _ (kind : Kind) (bytes : List ℕ) (n w : ℕ) (table behind_head : List ℕ) (begins : Begins kind bytes (shapes.Shape.branch n w table behind_head)) where
-  pub branch_along : (c b : ℕ) (rest : List ℕ) → AlwaysGoes kind (shapes.Shape.branch n w table behind_head) c b rest → IsStep kind (ListsEdges kind bytes) c (Some b) (Lists kind rest)
+  pub branch_along : (c b : ℕ) (rest : List ℕ) → AlwaysGoes kind (shapes.Shape.branch n w table behind_head) c b rest → IsStep kind (Lists kind bytes) c (Some b) (Lists kind rest)
   branch_along c b rest goes pairs lists =
-      let g = goes bytes pairs lists.1 begins in
+      let g = goes bytes pairs lists begins in
       (sym g.edge, subst (Lists kind rest) g.is g.inner)
 
-  pub branch_past : (c : ℕ) → AlwaysStops kind (shapes.Shape.branch n w table behind_head) c → IsStep kind (ListsEdges kind bytes) c None (Lists kind [])
-  branch_past c stops pairs lists = (sym (stops bytes pairs lists.1 begins).edge, nothing)
+  pub branch_past : (c : ℕ) → AlwaysStops kind (shapes.Shape.branch n w table behind_head) c → IsStep kind (Lists kind bytes) c None (Lists kind [])
+  branch_past c stops pairs lists = (sym (stops bytes pairs lists begins).edge, nothing)
 
   pub branch_number : (i : ℕ) (target : Bor (List ℕ)) → i < n → IsTargetResult n w behind_head i (Some target)
-      → IsProbe (ListsEdges kind bytes) i (Some (get_or behind_head i 0, n)) (Lists kind target.now)
+      → IsProbe (Lists kind bytes) i (Some (get_or behind_head i 0, n)) (Lists kind target.now)
   branch_number i target h got pairs lists =
-      let o = branch_opens lists.1 n w table behind_head begins in
+      let o = branch_opens lists n w table behind_head begins in
       let here = held_edge o.holds i h in
       let count = o.holds.count in
-      let f = by_number (opens_parts lists.1 o.opens) i (omega arith) in (
+      let f = by_number (opens_parts lists o.opens) i (omega arith) in (
         ap Some (ap (λ b. (b, n)) (sym here) ∙ ap (λ k. (get_or o.edges i 0, k)) (sym count)) ∙ f.0,
         subst (λ t. Lists kind t (residual (get_or behind_head i 0) pairs)) (sym (target_is o.holds.has_targets i (Some target) h got))
             (subst (λ b. Lists kind (get_or o.targets i []) (residual b pairs)) here f.1),
       )
 
-  pub branch_past_number : (i : ℕ) → n ≤ i → IsProbe (ListsEdges kind bytes) i None (Lists kind [])
+  pub branch_past_number : (i : ℕ) → n ≤ i → IsProbe (Lists kind bytes) i None (Lists kind [])
   branch_past_number i h pairs lists =
-      let o = branch_opens lists.1 n w table behind_head begins in
+      let o = branch_opens lists n w table behind_head begins in
       let count = o.holds.count in
-      past_number (opens_parts lists.1 o.opens) i (omega arith)
+      past_number (opens_parts lists o.opens) i (omega arith)
 
-  pub branch_no_target : (i : ℕ) → i < n → IsTargetResult n w behind_head i None → IsProbe (ListsEdges kind bytes) i None (Lists kind [])
-  branch_no_target i h got pairs lists = absurd (target_is (branch_opens lists.1 n w table behind_head begins).holds.has_targets i None h got)
+  pub branch_no_target : (i : ℕ) → i < n → IsTargetResult n w behind_head i None → IsProbe (Lists kind bytes) i None (Lists kind [])
+  branch_no_target i h got pairs lists = absurd (target_is (branch_opens lists n w table behind_head begins).holds.has_targets i None h got)
 
 -- a number that is not read is no value
 pub not_read : {A : Type 0} (r : Option A) (lead : ℕ) (rest bytes : List ℕ) → bytes ≡ lead ∷ rest
@@ -217,20 +211,6 @@ not_leading lead rest bytes is other v after b = other (value_begins v lead rest
 pub no_value_first : (bytes : List ℕ) → NoValueFirst bytes → NoValue bytes
 no_value_first [] n v rest b = some_bytes 16 4 v rest b
 no_value_first (start ∷ bytes) n v rest b = let lead = value_begins v start bytes rest b in n (omega arith)
-
-pub met-without : (pairs : Pairs) → met (without_value pairs) ≡ met pairs
-met-without [] = refl
-met-without (([], v) ∷ pairs) = refl
-met-without ((b ∷ key, v) ∷ pairs) = ap (λ es. b ∷ filter (λ c. not (c == b)) es) (met-without pairs)
-
-residual-without : (b : ℕ) (pairs : Pairs) → residual b (without_value pairs) ≡ residual b pairs
-residual-without b [] = refl
-residual-without b (([], v) ∷ pairs) = refl
-residual-without b ((c ∷ key, v) ∷ pairs) = rw (residual-without b pairs) refl
-
-pub behind-without : (edge : Option ℕ) (pairs : Pairs) → behind edge (without_value pairs) ≡ behind edge pairs
-behind-without None pairs = refl
-behind-without (Some b) pairs = residual-without b pairs
 
 without-front : (b : ℕ) (pairs more : Pairs) → without_value (with_front b pairs ++ more) ≡ with_front b pairs ++ without_value more
 without-front b [] more = refl
@@ -271,22 +251,31 @@ take_none kind bytes none pairs text =
     let n = no_value text none in
     (sym n.0, subst (Lists kind bytes) (sym n.1) text)
 
--- and where one stands in front it is passed over
-pub passes_some : (bytes : List ℕ) (v : ℕ) (rest : List ℕ) → BeginsWith 16 4 v bytes rest → PassesValue bytes rest
-passes_some bytes v rest begins kind pairs text = (no_value_first rest (value_opens text v rest begins).apart, (take_some kind bytes v rest begins pairs text).1)
+-- past a value the edges are the same
+pub edges_here : (kind : Kind) (bytes : List ℕ) → HasTheEdges kind bytes bytes
+edges_here kind bytes pairs text = (pairs, text, refl, λ edge. refl)
 
-pub passes_none : (bytes : List ℕ) → NoValue bytes → PassesValue bytes bytes
-passes_none bytes none kind pairs text = (none, (take_none kind bytes none pairs text).1)
+behind-value : (edge : Option ℕ) (v : ℕ) (pairs : Pairs) → behind edge (([], v) ∷ pairs) ≡ behind edge pairs
+behind-value None v pairs = refl
+behind-value (Some b) v pairs = refl
 
-pub step_over : (kind : Kind) (bytes rest : List ℕ) (c : ℕ) (answer : Option ℕ) (After : Pairs → Type 0) → PassesValue bytes rest → IsStep kind (ListsEdges kind rest) c answer After → IsStep kind (Lists kind bytes) c answer After
-step_over kind bytes rest c answer After passes s pairs text =
-    let r = s (without_value pairs) (passes kind pairs text) in
-    (r.0 ∙ ap (edge_like kind c) (met-without pairs), subst After (behind-without answer pairs) r.1)
+pub edges_past : (kind : Kind) (bytes rest : List ℕ) (v : ℕ) (after : List ℕ) → Begins kind rest (shapes.Shape.value v after) → HasTheEdges kind bytes rest → HasTheEdges kind bytes after
+edges_past kind bytes rest v after begins has pairs text =
+    let h = has pairs text in
+    let o = value_opens h.1 v after begins in
+    (o.below, o.inner, ap met (sym o.is) ∙ h.2, λ edge. sym (behind-value edge v o.below) ∙ ap (behind edge) (sym o.is) ∙ h.3 edge)
 
-pub probe_over : (kind : Kind) (bytes rest : List ℕ) (i : ℕ) (answer : Option (ℕ × ℕ)) (After : Pairs → Type 0) → PassesValue bytes rest → IsProbe (ListsEdges kind rest) i answer After → IsProbe (Lists kind bytes) i answer After
-probe_over kind bytes rest i answer After passes s pairs text =
-    let r = s (without_value pairs) (passes kind pairs text) in
-    (r.0 ∙ ap (numbered i) (met-without pairs), subst After (behind-without (option_map (λ a. a.0) answer) pairs) r.1)
+pub step_over : (kind : Kind) (bytes rest : List ℕ) (c : ℕ) (answer : Option ℕ) (After : Pairs → Type 0) → HasTheEdges kind bytes rest → IsStep kind (Lists kind rest) c answer After → IsStep kind (Lists kind bytes) c answer After
+step_over kind bytes rest c answer After has s pairs text =
+    let h = has pairs text in
+    let r = s h.0 h.1 in
+    (r.0 ∙ ap (edge_like kind c) h.2, subst After (h.3 answer) r.1)
+
+pub probe_over : (kind : Kind) (bytes rest : List ℕ) (i : ℕ) (answer : Option (ℕ × ℕ)) (After : Pairs → Type 0) → HasTheEdges kind bytes rest → IsProbe (Lists kind rest) i answer After → IsProbe (Lists kind bytes) i answer After
+probe_over kind bytes rest i answer After has s pairs text =
+    let h = has pairs text in
+    let r = s h.0 h.1 in
+    (r.0 ∙ ap (numbered i) h.2, subst After (h.3 (option_map (λ a. a.0) answer)) r.1)
 
 -- inside a run no value stands
 pub inside_take : (kind : Kind) (place : Place) → (place.run ≡ [] → ⊥) → IsTake kind (ListsAt kind place) None (ListsAt kind place)

@@ -4,14 +4,17 @@
 //! keys have behind the edges so far, and in the kinds over ASCII keys each of these tries is bytes of the
 //! store. Nothing is copied, and nothing allocated.
 
-ghost use Rattle.std.specs.Prelude.{◌≡◌, ℕ, [], IfNone};
+ghost use Rattle.std.specs.Prelude.{◌≡◌, ℕ, [], IfSome, IfNone};
 ghost use Rattle.std.specs.Option.{option_map};
 ghost use Rattle.zerotrie_core.specs.Kind.{Kind, IsAscii};
+ghost use Rattle.zerotrie_core.specs.Numbers.{BeginsWith};
 ghost use Rattle.zerotrie_core.specs.Texts.{Lists};
 ghost use Rattle.zerotrie_core.specs.Places.{IsStep, IsTake, IsProbe};
+ghost use Rattle.zerotrie_core.specs.cursor.Edges.{NoValue};
 
-use crate::edges::{behind_value, edge_like, edge_numbered, first_value};
+use crate::edges::{edge_like, edge_numbered};
 use crate::options::ZeroTrieWithOptions;
+use crate::varint::read_varint_meta3;
 
 /// What a probe of a trie over ASCII keys answers.
 #[derive(Clone, Copy, Debug, PartialEq, Eq)]
@@ -20,6 +23,20 @@ pub struct AsciiProbeResult {
     pub byte: u8,
     /// How many edges there are, itself among them.
     pub total_siblings: u8,
+}
+
+/// The value in front of a trie of any kind, and what is left without it.
+#[inline(always)]
+fn first_value(bytes: &[u8]) -> Option<(usize, &[u8])>
+    ensures some { IfSome result (λ r. BeginsWith 16 4 r.0 bytes.now r.1.now) }
+    ensures none { IfNone result (NoValue bytes.now) }
+{
+    let (lead, rest) = bytes.split_first()?;
+    let lead = *lead;
+    if lead < 128 || lead >= 160 {
+        return None;
+    }
+    read_varint_meta3(lead, rest)
 }
 
 /// Goes along the edge that is the byte to the kind, and answers its byte.
@@ -36,12 +53,13 @@ pub struct AsciiProbeResult {
 ///
 /// It returns on any bytes, and takes no memory. Only a kind over ASCII keys is stepped so; `SpanCursor` is
 /// the cursor of any kind.
+#[inline]
 pub fn step<K: ZeroTrieWithOptions>(bytes: &mut &[u8], byte: u8) -> Option<u8>
     requires { IsAscii K.kind }
     ensures meaning { IsStep K.kind (Lists K.kind bytes.old.now) byte result (Lists K.kind bytes.new.now) }
     ensures empty { IfNone result (bytes.new.now ≡ []) }
 {
-    match edge_like::<K>(behind_value(bytes), byte) {
+    match edge_like::<K>(bytes, byte) {
         None => {
             *bytes = &[];
             None
@@ -63,6 +81,7 @@ pub fn step<K: ZeroTrieWithOptions>(bytes: &mut &[u8], byte: u8) -> Option<u8>
 /// ```
 ///
 /// It returns on any bytes, and takes no memory.
+#[inline]
 pub fn take_value(bytes: &mut &[u8]) -> Option<usize>
     ensures meaning { (kind : Kind) → IsTake kind (Lists kind bytes.old.now) result (Lists kind bytes.new.now) }
     ensures none { IfNone result (bytes.new ≡ bytes.old) }
@@ -88,13 +107,14 @@ pub fn take_value(bytes: &mut &[u8]) -> Option<usize>
 /// Where there is no edge of this number, the answer is `None`, and no byte is left.
 ///
 /// It returns on any bytes, and takes no memory.
+#[inline]
 pub fn probe<K: ZeroTrieWithOptions>(bytes: &mut &[u8], index: usize) -> Option<AsciiProbeResult>
     requires { IsAscii K.kind }
     ensures meaning { IsProbe (Lists K.kind bytes.old.now) index
         (option_map {U = ℕ × ℕ} (λ r. (r.byte, r.total_siblings)) result) (Lists K.kind bytes.new.now) }
     ensures empty { IfNone result (bytes.new.now ≡ []) }
 {
-    match edge_numbered::<K>(behind_value(bytes), index) {
+    match edge_numbered::<K>(bytes, index) {
         None => {
             *bytes = &[];
             None

@@ -6,14 +6,13 @@
 ghost use Rattle.std.specs.Prelude.{◌≡◌, ◌≤◌, ℕ, [], IfSome, IfNone, false};
 ghost use Rattle.std.specs.Option.{option_map};
 ghost use Rattle.zerotrie_core.specs.Kind.{Kind, has_spans};
-ghost use Rattle.zerotrie_core.specs.Numbers.{BeginsWith};
+ghost use Rattle.zerotrie_core.specs.Texts.{Lists};
 ghost use Rattle.zerotrie_core.specs.Places.{ListsAt, IsStep, IsProbe};
-ghost use Rattle.zerotrie_core.specs.cursor.Edges.{NoValue, ListsEdges, PassesValue, ListsInside, place_along};
+ghost use Rattle.zerotrie_core.specs.cursor.Edges.{ListsInside, place_along};
 
 use crate::branch::folded;
 use crate::node::{Node, first_node};
 use crate::options::ZeroTrieWithOptions;
-use crate::varint::read_varint_meta3;
 
 /// An edge, and what lies behind it: the rest of a run of bytes that all keys go on with, and a trie.
 #[derive(Clone, Copy)]
@@ -21,31 +20,6 @@ pub struct Along<'a> {
     pub edge: u8,
     pub run: &'a [u8],
     pub trie: &'a [u8],
-}
-
-/// The value in front of a trie of any kind, and what is left without it.
-#[inline(always)]
-pub fn first_value(bytes: &[u8]) -> Option<(usize, &[u8])>
-    ensures some { IfSome result (λ r. BeginsWith 16 4 r.0 bytes.now r.1.now) }
-    ensures none { IfNone result (NoValue bytes.now) }
-{
-    let (lead, rest) = bytes.split_first()?;
-    let lead = *lead;
-    if lead < 128 || lead >= 160 {
-        return None;
-    }
-    read_varint_meta3(lead, rest)
-}
-
-/// The bytes without the value in front.
-#[inline(always)]
-pub fn behind_value(bytes: &[u8]) -> &[u8]
-    ensures { PassesValue bytes.now result.now }
-{
-    match first_value(bytes) {
-        None => bytes,
-        Some((_value, rest)) => rest,
-    }
 }
 
 /// The next byte of a run, if it is the byte to the kind.
@@ -67,37 +41,33 @@ pub fn run_edge_like<'a, K: ZeroTrieWithOptions>(
     }
 }
 
-/// The edge that is the byte to the kind.
+/// The edge that is the byte to the kind, past a value in front.
 #[inline(always)]
 pub fn edge_like<K: ZeroTrieWithOptions>(bytes: &[u8], byte: u8) -> Option<Along<'_>>
-    ensures step { IsStep K.kind (ListsEdges K.kind bytes.now) byte
+    ensures step { IsStep K.kind (Lists K.kind bytes.now) byte
         (option_map (λ a. a.edge) result) (ListsAt K.kind (place_along result)) }
     ensures plain { has_spans K.kind ≡ false → IfSome result (λ a. a.run.now ≡ []) }
 {
-    match first_node::<K>(bytes) {
-        None => None,
-        Some(Node::Value(_value, _rest)) => None,
-        Some(Node::Literal(edge, rest)) => {
-            if folded::<K>(edge) == folded::<K>(byte) {
-                Some(Along {
-                    edge,
-                    run: &[],
-                    trie: rest,
-                })
-            } else {
-                None
+    let mut rest = bytes;
+    while let Some(node) = first_node::<K>(rest) {
+        match node {
+            Node::Value(_value, after) => rest = after,
+            Node::Literal(edge, trie) => {
+                if folded::<K>(edge) != folded::<K>(byte) {
+                    return None;
+                }
+                let run = &[];
+                return Some(Along { edge, run, trie });
+            }
+            Node::Span(run, trie) => return run_edge_like::<K>(run, trie, byte),
+            Node::Branch(branch) => {
+                let (edge, trie) = branch.follow::<K>(byte)?;
+                let run = &[];
+                return Some(Along { edge, run, trie });
             }
         }
-        Some(Node::Span(run, rest)) => run_edge_like::<K>(run, rest, byte),
-        Some(Node::Branch(branch)) => match branch.follow::<K>(byte) {
-            None => None,
-            Some((edge, target)) => Some(Along {
-                edge,
-                run: &[],
-                trie: target,
-            }),
-        },
     }
+    None
 }
 
 /// The next byte of a run, which is edge number 0 of one.
@@ -113,65 +83,48 @@ pub fn run_edge_numbered<'a>(
     ensures few { IfSome result (λ r. r.1 ≤ 256) }
 {
     let (edge, run) = run.split_first()?;
+    let edge = *edge;
     if index == 0 {
-        Some((
-            Along {
-                edge: *edge,
-                run,
-                trie,
-            },
-            1,
-        ))
+        Some((Along { edge, run, trie }, 1))
     } else {
         None
     }
 }
 
-/// The edge of this number, and how many edges there are.
+/// The edge of this number, and how many edges there are, past a value in front.
 #[inline(always)]
 pub fn edge_numbered<K: ZeroTrieWithOptions>(
     bytes: &[u8],
     index: usize,
 ) -> Option<(Along<'_>, usize)>
-    ensures probe { IsProbe (ListsEdges K.kind bytes.now) index
+    ensures probe { IsProbe (Lists K.kind bytes.now) index
         (option_map {U = ℕ × ℕ} (λ r. (r.0.edge, r.1)) result)
         (ListsAt K.kind (place_along (option_map (λ r. r.0) result))) }
     ensures plain { has_spans K.kind ≡ false → IfSome result (λ r. r.0.run.now ≡ []) }
     ensures few { IfSome result (λ r. r.1 ≤ 256) }
 {
-    match first_node::<K>(bytes) {
-        None => None,
-        Some(Node::Value(_value, _rest)) => None,
-        Some(Node::Literal(edge, rest)) => {
-            if index == 0 {
-                Some((
-                    Along {
-                        edge,
-                        run: &[],
-                        trie: rest,
-                    },
-                    1,
-                ))
-            } else {
-                None
+    let mut rest = bytes;
+    while let Some(node) = first_node::<K>(rest) {
+        match node {
+            Node::Value(_value, after) => rest = after,
+            Node::Literal(edge, trie) => {
+                if index > 0 {
+                    return None;
+                }
+                let run = &[];
+                return Some((Along { edge, run, trie }, 1));
             }
-        }
-        Some(Node::Span(run, rest)) => run_edge_numbered(run, rest, index),
-        Some(Node::Branch(branch)) => {
-            if index >= branch.edges {
-                return None;
-            }
-            match branch.target_at(index) {
-                None => None,
-                Some(target) => Some((
-                    Along {
-                        edge: branch.edge_at(index),
-                        run: &[],
-                        trie: target,
-                    },
-                    branch.edges,
-                )),
+            Node::Span(run, trie) => return run_edge_numbered(run, trie, index),
+            Node::Branch(branch) => {
+                if index >= branch.edges {
+                    return None;
+                }
+                let trie = branch.target_at(index)?;
+                let edge = branch.edge_at(index);
+                let run = &[];
+                return Some((Along { edge, run, trie }, branch.edges));
             }
         }
     }
+    None
 }

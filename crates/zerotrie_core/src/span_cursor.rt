@@ -9,9 +9,7 @@ ghost use Rattle.zerotrie_core.specs.Places.{Place, nowhere, ListsBehind, ListsA
 ghost use Rattle.zerotrie_core.specs.cursor.Edges.{place_along};
 
 use crate::cursor::take_value;
-use crate::edges::{
-    Along, behind_value, edge_like, edge_numbered, run_edge_like, run_edge_numbered,
-};
+use crate::edges::{Along, edge_like, edge_numbered, run_edge_like, run_edge_numbered};
 use crate::options::ZeroTrieWithOptions;
 use std::marker::Model;
 
@@ -51,7 +49,7 @@ fn like_at<'a, K: ZeroTrieWithOptions>(run: &'a [u8], trie: &'a [u8], byte: u8) 
         (option_map (λ a. a.edge) result) (ListsAt K.kind (place_along result)) }
 {
     if run.is_empty() {
-        edge_like::<K>(behind_value(trie), byte)
+        edge_like::<K>(trie, byte)
     } else {
         run_edge_like::<K>(run, trie, byte)
     }
@@ -70,7 +68,7 @@ fn numbered_at<'a, K: ZeroTrieWithOptions>(
     ensures few { IfSome result (λ r. r.1 ≤ 256) }
 {
     if run.is_empty() {
-        edge_numbered::<K>(behind_value(trie), index)
+        edge_numbered::<K>(trie, index)
     } else {
         run_edge_numbered(run, trie, index)
     }
@@ -89,6 +87,7 @@ impl<'a> SpanCursor<'a> {
     }
 
     /// A cursor in front of all keys of a trie.
+    #[inline]
     pub fn new(bytes: &'a [u8]) -> Self
         ensures { result ≡ record { run = []; trie = bytes.now } }
     {
@@ -99,6 +98,7 @@ impl<'a> SpanCursor<'a> {
     }
 
     /// Whether no key goes on from here. An empty cursor has no value either.
+    #[inline]
     pub fn is_empty(&self) -> bool
         ensures exact { IsTrue result ↔ (self.now ≡ nowhere) }
         ensures pairs { (kind : Kind) (pairs : Pairs) → ListsAt kind self.now pairs
@@ -108,6 +108,7 @@ impl<'a> SpanCursor<'a> {
     }
 
     /// The trie of what all keys have from here on. `None` while a byte of a span is left.
+    #[inline]
     pub fn rest(&self) -> Option<&'a [u8]>
         ensures some { IfSome result (λ trie. (self.now.run ≡ []) × (trie.now ≡ self.now.trie)) }
         ensures none { IfNone result (self.now.run ≢ []) }
@@ -122,6 +123,7 @@ impl<'a> SpanCursor<'a> {
     }
 
     /// Takes the value of the empty key. `None` where there is none, and then nothing changes.
+    #[inline]
     pub fn take_value(&mut self) -> Option<usize>
         ensures meaning { (kind : Kind) → IsTake kind (ListsAt kind self.old) result (ListsAt kind self.new) }
         ensures none { IfNone result (self.new ≡ self.old) }
@@ -134,6 +136,7 @@ impl<'a> SpanCursor<'a> {
     }
 
     /// Goes along the edge that is the byte to the kind, and answers its byte.
+    #[inline]
     pub fn step<K: ZeroTrieWithOptions>(&mut self, byte: u8) -> Option<u8>
         ensures meaning { IsStep K.kind (ListsAt K.kind self.old) byte result (ListsAt K.kind self.new) }
         ensures empty { IfNone result (self.new ≡ nowhere) }
@@ -151,6 +154,7 @@ impl<'a> SpanCursor<'a> {
     }
 
     /// Goes along the edge of this number, and answers its byte and how many edges there are.
+    #[inline]
     pub fn probe<K: ZeroTrieWithOptions>(&mut self, index: usize) -> Option<ByteProbeResult>
         ensures meaning { IsProbe (ListsAt K.kind self.old) index
             (option_map {U = ℕ × ℕ} (λ r. (r.byte, r.total_siblings)) result) (ListsAt K.kind self.new) }

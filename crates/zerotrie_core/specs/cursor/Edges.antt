@@ -1,10 +1,11 @@
 -- A step or a probe, past the value in front.
-use Rattle.std.specs.Prelude.{◌≢◌, ℕ, List, [], Option, Some, None}
+use Rattle.std.specs.Prelude.{◌≡◌, ◌≢◌, ℕ, List, [], Option, Some, None}
 use Rattle.zerotrie_core.specs.Kind.{Kind}
 use Rattle.zerotrie_core.specs.Maps.{Pairs}
 use Rattle.zerotrie_core.specs.Numbers.{BeginsWith}
 use Rattle.zerotrie_core.specs.Texts.{Lists}
-use Rattle.zerotrie_core.specs.Machine.{without_value}
+use Rattle.zerotrie_core.specs.Machine.{behind}
+use Rattle.zerotrie_core.specs.Cursors.{met}
 use Rattle.zerotrie_core.specs.Places.{Place, nowhere, ListsBehind}
 use Rattle.zerotrie_core.specs.declared.edges.Along as declared
 
@@ -12,13 +13,10 @@ use Rattle.zerotrie_core.specs.declared.edges.Along as declared
 abbrev pub NoValue : List ℕ → Type 0
 NoValue bytes = (v : ℕ) (rest : List ℕ) → BeginsWith 16 4 v bytes rest → ⊥
 
--- the bytes list the pairs, and no value stands in front
-abbrev pub ListsEdges : Kind → List ℕ → Pairs → Type 0
-ListsEdges kind bytes pairs = NoValue bytes × Lists kind bytes pairs
-
--- the rest is the bytes without the value in front
-abbrev pub PassesValue : List ℕ → List ℕ → Type 0
-PassesValue bytes rest = (kind : Kind) (pairs : Pairs) → Lists kind bytes pairs → ListsEdges kind rest (without_value pairs)
+-- Whatever the bytes list, the rest lists pairs with the same edges, and the same behind each.
+abbrev pub HasTheEdges : Kind → List ℕ → List ℕ → Type 0
+HasTheEdges kind bytes rest = (pairs : Pairs) → Lists kind bytes pairs
+    → (below : Pairs) × Lists kind rest below × (met below ≡ met pairs) × ((edge : Option ℕ) → behind edge below ≡ behind edge pairs)
 
 -- a byte of the run is left
 abbrev pub ListsInside : Kind → List ℕ → List ℕ → Pairs → Type 0
