@@ -16,6 +16,8 @@ pub use Rattle.zerotrie_core.specs.Causes
 pub use Rattle.zerotrie_core.specs.Built
 pub use Rattle.zerotrie_core.specs.Items
 pub use Rattle.zerotrie_core.specs.Routes
+pub use Rattle.zerotrie_core.specs.Stack
+pub use Rattle.zerotrie_core.specs.ArrayRoutes
 pub use Rattle.zerotrie_core.specs.Laws
 pub use Rattle.zerotrie_core.specs.WellFormed
 pub use Rattle.zerotrie_any.specs.Order

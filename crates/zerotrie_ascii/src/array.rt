@@ -1,5 +1,6 @@
 //! Tries that are built in an array.
 
+ghost use Rattle.std.specs.Prelude.{◌<◌, ◌^◌};
 ghost use Rattle.zerotrie_core.specs.Items.{pairs_of};
 ghost use Rattle.zerotrie_core.specs.ArrayRoutes.{IsArrayBuild, IsBuildCopied};
 ghost use Rattle.zerotrie_build.specs.Items.{pairs};
@@ -7,7 +8,7 @@ ghost use Rattle.zerotrie_build.specs.Items.{pairs};
 use crate::ascii_trie::{AsciiTrie, ZeroTrieSimpleAscii};
 use std::alloc::Global;
 use zerotrie_build::{ByteSliceWithIndices, ZeroTrieBuilderConst};
-use zerotrie_core::ZeroTrieBuildError;
+use zerotrie_core::{ZeroTrieBuildError, laws};
 
 impl<const N: usize> ZeroTrieSimpleAscii<[u8; N]> {
     /// Builds the trie of a slice, whose keys ascend strictly by their bytes, in an array that it fills, with
@@ -15,6 +16,7 @@ impl<const N: usize> ZeroTrieSimpleAscii<[u8; N]> {
     ///
     /// It is `from_sorted_u8_tuples_with_stack` with room for 100 targets that wait for their branch.
     pub fn from_sorted_u8_tuples(items: &[(&[u8], usize)]) -> Result<Self, ZeroTrieBuildError>
+        requires { N < 2 ^ 62 }
         ensures { IsArrayBuild N 100 (λ trie. trie.store) (pairs_of items.now) result }
     {
         Self::from_sorted_u8_tuples_with_stack::<100>(items)
@@ -36,6 +38,8 @@ impl<const N: usize> ZeroTrieSimpleAscii<[u8; N]> {
     pub fn from_sorted_u8_tuples_with_stack<const K: usize>(
         items: &[(&[u8], usize)],
     ) -> Result<Self, ZeroTrieBuildError>
+        requires array { N < 2 ^ 62 }
+        requires stack { K < 2 ^ 58 }
         ensures { IsArrayBuild N K (λ trie. trie.store) (pairs_of items.now) result }
     {
         fill::<N, K>(ByteSliceWithIndices::from_byte_slice(items))
@@ -43,6 +47,7 @@ impl<const N: usize> ZeroTrieSimpleAscii<[u8; N]> {
 
     /// Builds the trie of a slice as `from_sorted_u8_tuples`, with keys that are text.
     pub fn from_sorted_str_tuples(items: &[(&str, usize)]) -> Result<Self, ZeroTrieBuildError>
+        requires { N < 2 ^ 62 }
         ensures { IsArrayBuild N 100 (λ trie. trie.store) (pairs_of items.now) result }
     {
         Self::from_sorted_str_tuples_with_stack::<100>(items)
@@ -52,6 +57,8 @@ impl<const N: usize> ZeroTrieSimpleAscii<[u8; N]> {
     pub fn from_sorted_str_tuples_with_stack<const K: usize>(
         items: &[(&str, usize)],
     ) -> Result<Self, ZeroTrieBuildError>
+        requires array { N < 2 ^ 62 }
+        requires stack { K < 2 ^ 58 }
         ensures { IsArrayBuild N K (λ trie. trie.store) (pairs_of items.now) result }
     {
         fill::<N, K>(ByteSliceWithIndices::from_str_slice(items))
@@ -87,6 +94,8 @@ impl ZeroTrieSimpleAscii<Vec<u8>> {
         alloc: Global,
         items: &[(&[u8], usize)],
     ) -> Result<Self, ZeroTrieBuildError>
+        requires array { N < 2 ^ 62 }
+        requires stack { K < 2 ^ 58 }
         ensures { IsBuildCopied N K (λ trie. trie.store.items) (pairs_of items.now) result }
     {
         let items = ByteSliceWithIndices::from_byte_slice(items);
@@ -100,8 +109,11 @@ impl ZeroTrieSimpleAscii<Vec<u8>> {
 fn fill<const N: usize, const K: usize>(
     items: ByteSliceWithIndices<'_>,
 ) -> Result<ZeroTrieSimpleAscii<[u8; N]>, ZeroTrieBuildError>
+    requires array { N < 2 ^ 62 }
+    requires stack { K < 2 ^ 58 }
     ensures { IsArrayBuild N K (λ trie. trie.store) (pairs items.entry) result }
 {
+    laws::length_is_size();
     let built = ZeroTrieBuilderConst::<N>::from_tuple_slice_with_stack::<K>(items)?;
     let store = built.build()?;
     Ok(AsciiTrie::from_store(store))

@@ -60,10 +60,9 @@ impl<const N: usize> FilledArray<N> {
         ensures bytes { IfOk result (λ array. array ≡ self.entry) }
         ensures refused { IfErr result (λ e. e ≡ BufferTooLarge (length self.entry)) }
     {
-        if self.start == 0 {
-            Ok(self.data)
-        } else {
-            Err(ZeroTrieBuildError::BufferTooLarge(N - self.start))
+        if self.start > 0 {
+            return Err(ZeroTrieBuildError::BufferTooLarge(N - self.start));
         }
+        Ok(self.data)
     }
 }
