@@ -119,7 +119,7 @@ impl<'a> Session<'a> {
             Request::Add { value, key } => self.add(value, key)?,
             Request::Build => return self.answer_build(alloc, output),
             Request::Query(key) => write_number(output, self.trie.get(key))?,
-            Request::List => return Ok(Outcome::Bad),
+            Request::List => self.trie.write_list(alloc, output)?,
             Request::Walk(ops) => return self.answer_walk(alloc, ops.as_slice(), output),
         }
         Ok(Outcome::Done)
