@@ -22,11 +22,11 @@ use Rattle.zerotrie_tool.specs.Commands.{kind_of, choose, add, build, query, lis
 use Rattle.zerotrie_tool.specs.Answers.{State, CanDo, in_order, without_trie, with_trie}
 use Rattle.zerotrie_tool.specs.Answers.Does.{chosen, added, ok, refused, asked, listed, walked}
 use Rattle.zerotrie_tool.specs.answer.Tries.{trie_kind, trie_choice, trie_bytes}
-use Rattle.zerotrie_tool.specs.answer.Sessions.{Holds, HoldsSome, Performed, AfterRequest, AfterLine}
+use Rattle.zerotrie_tool.specs.answer.Sessions.{Holds, HoldsSome, Performed, AfterRequest, AfterCommand, AfterLine}
 use Rattle.zerotrie_tool.specs.declared.answer.Outcome.{Outcome}
 use Rattle.zerotrie_tool.specs.declared.answer.Outcome.TheVariants.{Done, Refused, Bad}
 use Rattle.zerotrie_tool.proofs.LineLemmas.{walk_alone}
-use Rattle.std.specs.Prelude.{AllocError}
+use Rattle.std.specs.declared.alloc.AllocError.{AllocError}
 
 -- no bytes mean the map of no pairs
 pub no_trie_means : (kind : Kind) → Means kind [] (map_of [])
@@ -135,15 +135,18 @@ can_do line (walk ops) other is reads s can =
     let same = walk_alone line is.0 is.1 other reads in subst (CanDo (Some s)) same.1 can
 
 -- a line that a session acts on, by what it does
+acted : (line : List ℕ) (command : Command) → IsCommand line command → (before after : Session) (old new : List ℕ) (least : ℕ) → ((s : State) → Holds before s → Performed command (Some s) (Some after) old new least) → AfterCommand line (Some before) (Some after) old new least
+acted line command is before after old new least done None h = absurd h
+acted line command is before after old new least done (Some s) h = (command, is, done s h)
+
+not_done : (line : List ℕ) (command : Command) → IsCommand line command → (before : Session) → ((s : State) → Holds before s → CanDo (Some s) command → ⊥) → (held : Option State) → HoldsSome (Some before) held → (other : Command) → IsCommand line other → CanDo held other → ⊥
+not_done line command is before none None h = absurd h
+not_done line command is before none (Some s) h = λ other reads can. none s h (can_do line command other is reads s can)
+
 after_line : (line : List ℕ) (command : Command) → IsCommand line command → (before after : Session) (old new : List ℕ) (outcome : Outcome) → AfterRequest command before after old new outcome → AfterLine line (Some before) (Some after) old new outcome
-after_line line command is before after old new Done done None h = absurd h
-after_line line command is before after old new Done done (Some s) h = (command, is, done s h)
-after_line line command is before after old new Refused done None h = absurd h
-after_line line command is before after old new Refused done (Some s) h = (command, is, done s h)
-after_line line command is before after old new Bad done = (done.0, λ held. elim held as (λ held. HoldsSome (Some before) held → (other : Command) → IsCommand line other → CanDo held other → ⊥) [
-  | None ↦ λ h. absurd h
-  | Some s ↦ λ h other reads can. done.1 s h (can_do line command other is reads s can)
-])
+after_line line command is before after old new Done done = acted line command is before after old new 0 done
+after_line line command is before after old new Refused done = acted line command is before after old new 1 done
+after_line line command is before after old new Bad done = (done.0, not_done line command is before done.1)
 
 pub after_request : (line : List ℕ) (command : Command) → IsCommand line command → (before after : Session) (old new : List ℕ) (result : Result Outcome AllocError) → IfOk result (AfterRequest command before after old new) → IfOk result (AfterLine line (Some before) (Some after) old new)
 after_request line command is before after old new (Ok outcome) done = after_line line command is before after old new outcome done

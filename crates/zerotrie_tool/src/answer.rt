@@ -139,16 +139,14 @@ fn answer_line<'a>(
     let Some(request) = parse(alloc, line)? else {
         return Ok(Outcome::Bad);
     };
-    match held {
-        Some(session) => session.answer(alloc, request, output),
-        None => match request {
-            Request::Kind(choice) => {
-                *held = Some(Session::new(alloc, choice));
-                Ok(Outcome::Done)
-            }
-            _ => Ok(Outcome::Bad),
-        },
+    if let Some(session) = held {
+        return session.answer(alloc, request, output);
     }
+    let Request::Kind(choice) = request else {
+        return Ok(Outcome::Bad);
+    };
+    *held = Some(Session::new(alloc, choice));
+    Ok(Outcome::Done)
 }
 
 fn split_lines(alloc: Global, input: &[u8]) -> Result<Vec<&[u8]>, AllocError>

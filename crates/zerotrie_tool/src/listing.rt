@@ -30,10 +30,7 @@ pub fn write_pairs<K: ZeroTrieWithOptions>(
 }
 
 /// Writes the pairs of a map, in the order of its keys.
-pub fn write_sorted(
-    map: &BTreeMap<Vec<u8>, usize>,
-    output: &mut String,
-) -> Result<(), AllocError>
+pub fn write_sorted(map: &BTreeMap<Vec<u8>, usize>, output: &mut String) -> Result<(), AllocError>
     ensures { OnOk result (string_bytes output.new
         ≡ string_bytes output.old ++ list_lines (keyed (λ key. key.items) map.now.entries)) }
 {

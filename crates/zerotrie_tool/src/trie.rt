@@ -18,8 +18,9 @@ use crate::command::Choice;
 use crate::listing::{write_pairs, write_sorted};
 use std::alloc::{AllocError, Global};
 use zerotrie::{
-    AsciiKind, AsciiTrie, CursorAnswer, CursorOp, Ext, Hash, HashedKind, HashedTrie, Ignore, Simple, ZeroAsciiIgnoreCaseTrie, ZeroTrie,
-    ZeroTrieBuildError, ZeroTrieExtendedCapacity, ZeroTriePerfectHash, ZeroTrieSimpleAscii,
+    AsciiKind, AsciiTrie, CursorAnswer, CursorOp, Ext, Hash, HashedKind, HashedTrie, Ignore,
+    Simple, ZeroAsciiIgnoreCaseTrie, ZeroTrie, ZeroTrieBuildError, ZeroTrieExtendedCapacity,
+    ZeroTriePerfectHash, ZeroTrieSimpleAscii,
 };
 
 /// A trie of one of the kinds.
