@@ -25,7 +25,7 @@ read_more words i ops op l is r = record {
   some = λ rest are.
       let all = r.some (op_of op ∷ rest) (subst (λ ws. AreOps ws (op_of op ∷ rest)) (sym (at_line words i l)) (is, are)) in
       let same : ops_of (ops ++ op ∷ []) ++ rest ≡ ops_of ops ++ op_of op ∷ rest =
-          ap (λ os. os ++ rest) (map-append {B = Op} op_of ops (op ∷ [])) ∙ append_assoc (ops_of ops) (op_of op ∷ []) rest in
+      ap (λ os. os ++ rest) (map-append {B = Op} op_of ops (op ∷ [])) ∙ append_assoc (ops_of ops) (op_of op ∷ []) rest in
       rw same all;
   none = λ all are. let some = r.none all are in behind (line_at words i) (drop (i + 1) (texts words)) some.0 (subst (λ ws. AreOps ws some.0) (at_line words i l) some.1);
 }

@@ -124,3 +124,22 @@ no_command line no_choice no_add no_build no_list no_query build h = absurd (no_
 no_command line no_choice no_add no_build no_list no_query (query key) h = absurd (no_query key h)
 no_command line no_choice no_add no_build no_list no_query list h = absurd (no_list h)
 no_command line no_choice no_add no_build no_list no_query (walk ops) h = (ops, refl)
+
+-- two texts with different first bytes
+apart : (line one other : List ℕ) → line ≡ one → line ≡ other → (get_or one 0 0 ≡ get_or other 0 0 → ⊥) → ⊥
+apart line one other e f different = different (ap (λ l. get_or l 0 0) (sym e ∙ f))
+
+-- a line that begins as a walk does is no other command
+pub walk_alone : (line text : List ℕ) → line ≡ codes "walk " ++ text → (command : Command) → IsCommand line command → IsWalking command
+walk_alone line text e (choose choice) h = absurd (apart line _ _ e h (λ same. let n : 119 ≡ 107 = same in omega arith))
+walk_alone line text e (add value key) h = absurd (elim h.2 [
+  | inl alone ↦ apart line _ _ e alone.0 (λ same. let n : 119 ≡ 43 = same in omega arith)
+  | inr with_key ↦ apart line _ _ e with_key (λ same. let n : 119 ≡ 43 = same in omega arith)
+])
+walk_alone line text e build h = absurd (apart line _ _ e h (λ same. let n : 119 ≡ 98 = same in omega arith))
+walk_alone line text e (query key) h = absurd (elim h [
+  | inl alone ↦ apart line _ _ e alone.0 (λ same. let n : 119 ≡ 63 = same in omega arith)
+  | inr with_key ↦ apart line _ _ e with_key (λ same. let n : 119 ≡ 63 = same in omega arith)
+])
+walk_alone line text e list h = absurd (apart line _ _ e h (λ same. let n : 119 ≡ 108 = same in omega arith))
+walk_alone line text e (walk ops) h = (ops, refl)

@@ -1,23 +1,32 @@
 -- What a session holds.
-use Rattle.std.proofs.Common.{◌≡◌, ℕ, List, [], ◌∷◌, ◌++◌, Option, Some, refl, sym, ◌∙◌, ap, subst, arith}
+use Rattle.std.proofs.Common.{◌≡◌, ◌≢◌, ℕ, List, [], ◌∷◌, ◌++◌, Option, Some, None, Result, Ok, Err, IfOk, refl, sym, ◌∙◌, ap, subst, arith}
 use Rattle.std.specs.Borrow.{Bor}
 use Rattle.std.proofs.lemmas.List.{map-append, append-nil}
 use Rattle.zerotrie.specs.Kind.{Kind}
 use Rattle.zerotrie.specs.Items.{Items, pairs_of}
 use Rattle.zerotrie.specs.Maps.{Pairs, map_of, look}
-use Rattle.zerotrie.specs.Texts.{Means}
+use Rattle.zerotrie.specs.Texts.{Lists, Means}
+use Rattle.zerotrie.specs.Machine.{Op, run}
+use Rattle.zerotrie.specs.Walks.{ops_of, answers_of, IsWalk}
+use Rattle.zerotrie.specs.declared.CursorOp.{CursorOp}
+use Rattle.zerotrie.specs.declared.CursorAnswer.{CursorAnswer}
+use Rattle.zerotrie_tool.specs.declared.command.Choice.TheVariants.{Auto}
 use Rattle.zerotrie.specs.Texts.Lists.{nothing}
 use Rattle.zerotrie.specs.Built.{IsBuilt}
 use Rattle.zerotrie.specs.Routes.{any_order, Takes, IsRefusal}
 use Rattle.zerotrie.specs.declared.ZeroTrieBuildError.{ZeroTrieBuildError}
-use Rattle.zerotrie_tool.specs.Replies.{ok_line, refused_line, number_line}
+use Rattle.zerotrie_tool.specs.Replies.{ok_line, refused_line, number_line, list_lines, walk_line}
 use Rattle.zerotrie_tool.specs.declared.command.Choice.{Choice}
 use Rattle.zerotrie_tool.specs.declared.answer.Session.{Session}
-use Rattle.zerotrie_tool.specs.Commands.{kind_of, choose, add, build, query}
-use Rattle.zerotrie_tool.specs.Answers.{State, without_trie, with_trie}
-use Rattle.zerotrie_tool.specs.Answers.Does.{chosen, added, ok, refused, asked}
-use Rattle.zerotrie_tool.specs.answer.Tries.{trie_kind, trie_bytes}
-use Rattle.zerotrie_tool.specs.answer.Sessions.{Holds, Performed}
+use Rattle.zerotrie_tool.specs.Commands.{kind_of, choose, add, build, query, list, walk, Command, IsCommand}
+use Rattle.zerotrie_tool.specs.Answers.{State, CanDo, in_order, without_trie, with_trie}
+use Rattle.zerotrie_tool.specs.Answers.Does.{chosen, added, ok, refused, asked, listed, walked}
+use Rattle.zerotrie_tool.specs.answer.Tries.{trie_kind, trie_choice, trie_bytes}
+use Rattle.zerotrie_tool.specs.answer.Sessions.{Holds, HoldsSome, Performed, AfterRequest, AfterCommand, AfterLine}
+use Rattle.zerotrie_tool.specs.declared.answer.Outcome.{Outcome}
+use Rattle.zerotrie_tool.specs.declared.answer.Outcome.TheVariants.{Done, Refused, Bad}
+use Rattle.zerotrie_tool.proofs.LineLemmas.{walk_alone}
+use Rattle.std.specs.declared.alloc.AllocError.{AllocError}
 
 -- no bytes mean the map of no pairs
 pub no_trie_means : (kind : Kind) → Means kind [] (map_of [])
@@ -29,9 +38,10 @@ one_more items pairs key value e =
     map-append {B = List ℕ × ℕ} (λ e. (e.0.now, e.1)) items ((key, value) ∷ []) ∙ ap (λ ps. ps ++ (key.now, value) ∷ []) e
 
 -- A session with no trie holds its choice and its pairs.
-pub holds_none : (session : Session) (choice : Choice) (pairs : Pairs) → session.choice ≡ choice → pairs_of session.pairs.items ≡ pairs → trie_kind session.trie ≡ kind_of session.choice [] → trie_bytes session.trie ≡ [] → Holds session (without_trie choice pairs)
-holds_none session choice pairs c p kind text = record {
+pub holds_none : (session : Session) (choice : Choice) (pairs : Pairs) → session.choice ≡ choice → pairs_of session.pairs.items ≡ pairs → trie_choice session.trie ≡ session.choice → trie_kind session.trie ≡ kind_of session.choice [] → trie_bytes session.trie ≡ [] → Holds session (without_trie choice pairs)
+holds_none session choice pairs c p of kind text = record {
   choice = c;
+  of = of ∙ c;
   pairs = p;
   kind = kind ∙ ap (λ choice. kind_of choice []) c;
   text = text;
@@ -87,3 +97,57 @@ performed_asked session s key answer old new h is output = record {
 pub answer_is : (session : Session) (s : State) (key : List ℕ) (answer : Option ℕ) → Holds session s → (Means (trie_kind session.trie) (trie_bytes session.trie) (map_of s.built) → answer ≡ look (trie_kind session.trie) (map_of s.built) key) → answer ≡ look s.kind (map_of s.built) key
 answer_is session s key answer h is =
     is (subst (λ kind. Means kind (trie_bytes session.trie) (map_of s.built)) (sym h.kind) (subst (λ text. Means s.kind text (map_of s.built)) (sym h.text) h.means)) ∙ ap (λ kind. look kind (map_of s.built) key) h.kind
+
+-- what the text of the trie that is held lists
+abbrev pub held_pairs : {session : Session} {s : State} → Holds session s → Pairs
+held_pairs h = h.means.pairs
+
+pub held_lists : (session : Session) (s : State) (h : Holds session s) → Lists (trie_kind session.trie) (trie_bytes session.trie) (held_pairs h)
+held_lists session s h =
+    subst (λ kind. Lists kind (trie_bytes session.trie) (held_pairs h)) (sym h.kind) (subst (λ text. Lists s.kind text (held_pairs h)) (sym h.text) h.means.lists)
+
+pub performed_listed : (session : Session) (s : State) (old new : List ℕ) → Holds session s → ((pairs : Pairs) → Lists (trie_kind session.trie) (trie_bytes session.trie) pairs → new ≡ old ++ list_lines (in_order (trie_choice session.trie) pairs)) → Performed list (Some s) (Some session) old new 0
+performed_listed session s old new h output = record {
+  printed = list_lines (in_order s.choice (held_pairs h));
+  state = Some s;
+  does = listed h.means.lists;
+  holds = h;
+  output = output (held_pairs h) (held_lists session s h) ∙ ap (λ choice. old ++ list_lines (in_order choice (held_pairs h))) h.of;
+}
+
+pub performed_walked : (session : Session) (s : State) (ops : List CursorOp) (answers : List CursorAnswer) (old new : List ℕ) → Holds session s → trie_choice session.trie ≢ Auto → IsWalk (trie_kind session.trie) (trie_bytes session.trie) ops answers → new ≡ old ++ walk_line (answers_of answers) → Performed (walk (ops_of ops)) (Some s) (Some session) old new 0
+performed_walked session s ops answers old new h named is output = record {
+  printed = walk_line (run s.kind (ops_of ops) (held_pairs h));
+  state = Some s;
+  does = walked (λ auto. named (h.of ∙ auto)) h.means.lists;
+  holds = h;
+  output = output ∙ ap (λ a. old ++ walk_line a) (is (held_pairs h) (held_lists session s h) ∙ ap (λ kind. run kind (ops_of ops) (held_pairs h)) h.kind);
+}
+
+-- what can be done by one reading of a line can be done by each
+can_do : (line : List ℕ) (command other : Command) → IsCommand line command → IsCommand line other → (s : State) → CanDo (Some s) other → CanDo (Some s) command
+can_do line (choose choice) other is reads s can = tt
+can_do line (add value key) other is reads s can = tt
+can_do line build other is reads s can = tt
+can_do line (query key) other is reads s can = tt
+can_do line list other is reads s can = tt
+can_do line (walk ops) other is reads s can =
+    let same = walk_alone line is.0 is.1 other reads in subst (CanDo (Some s)) same.1 can
+
+-- a line that a session acts on, by what it does
+acted : (line : List ℕ) (command : Command) → IsCommand line command → (before after : Session) (old new : List ℕ) (least : ℕ) → ((s : State) → Holds before s → Performed command (Some s) (Some after) old new least) → AfterCommand line (Some before) (Some after) old new least
+acted line command is before after old new least done None h = absurd h
+acted line command is before after old new least done (Some s) h = (command, is, done s h)
+
+not_done : (line : List ℕ) (command : Command) → IsCommand line command → (before : Session) → ((s : State) → Holds before s → CanDo (Some s) command → ⊥) → (held : Option State) → HoldsSome (Some before) held → (other : Command) → IsCommand line other → CanDo held other → ⊥
+not_done line command is before none None h = absurd h
+not_done line command is before none (Some s) h = λ other reads can. none s h (can_do line command other is reads s can)
+
+after_line : (line : List ℕ) (command : Command) → IsCommand line command → (before after : Session) (old new : List ℕ) (outcome : Outcome) → AfterRequest command before after old new outcome → AfterLine line (Some before) (Some after) old new outcome
+after_line line command is before after old new Done done = acted line command is before after old new 0 done
+after_line line command is before after old new Refused done = acted line command is before after old new 1 done
+after_line line command is before after old new Bad done = (done.0, not_done line command is before done.1)
+
+pub after_request : (line : List ℕ) (command : Command) → IsCommand line command → (before after : Session) (old new : List ℕ) (result : Result Outcome AllocError) → IfOk result (AfterRequest command before after old new) → IfOk result (AfterLine line (Some before) (Some after) old new)
+after_request line command is before after old new (Ok outcome) done = after_line line command is before after old new outcome done
+after_request line command is before after old new (Err e) done = tt

@@ -119,7 +119,7 @@ impl<'a> Session<'a> {
             Request::Add { value, key } => self.add(value, key)?,
             Request::Build => return self.answer_build(alloc, output),
             Request::Query(key) => write_number(output, self.trie.get(key))?,
-            Request::List => return Ok(Outcome::Bad),
+            Request::List => self.trie.write_list(alloc, output)?,
             Request::Walk(ops) => return self.answer_walk(alloc, ops.as_slice(), output),
         }
         Ok(Outcome::Done)
@@ -139,16 +139,14 @@ fn answer_line<'a>(
     let Some(request) = parse(alloc, line)? else {
         return Ok(Outcome::Bad);
     };
-    match held {
-        Some(session) => session.answer(alloc, request, output),
-        None => match request {
-            Request::Kind(choice) => {
-                *held = Some(Session::new(alloc, choice));
-                Ok(Outcome::Done)
-            }
-            _ => Ok(Outcome::Bad),
-        },
+    if let Some(session) = held {
+        return session.answer(alloc, request, output);
     }
+    let Request::Kind(choice) = request else {
+        return Ok(Outcome::Bad);
+    };
+    *held = Some(Session::new(alloc, choice));
+    Ok(Outcome::Done)
 }
 
 fn split_lines(alloc: Global, input: &[u8]) -> Result<Vec<&[u8]>, AllocError>

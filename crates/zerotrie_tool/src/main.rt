@@ -3,6 +3,7 @@
 
 mod answer;
 mod command;
+mod listing;
 mod noted;
 mod reply;
 mod run;

@@ -1,7 +1,7 @@
 //! The lines that are printed.
 
 ghost use Rattle.std.specs.Prelude.{◌≡◌, ◌++◌, OnOk, string_bytes};
-ghost use Rattle.zerotrie_tool.specs.Replies.{hex, error_name, ok_line, refused_line, number_line, answer_word, walk_line, bad_line};
+ghost use Rattle.zerotrie_tool.specs.Replies.{hex, error_name, ok_line, refused_line, number_line, pair_line, answer_word, walk_line, bad_line};
 ghost use Rattle.zerotrie.specs.Walks.{answer_of, answers_of};
 
 use std::alloc::AllocError;
@@ -65,6 +65,15 @@ pub fn write_number(output: &mut String, number: Option<usize>) -> Result<(), Al
         Some(value) => writeln!(output, "{value}"),
         None => writeln!(output, "none"),
     }
+}
+
+/// Writes a pair.
+pub fn write_pair(output: &mut String, key: &[u8], value: usize) -> Result<(), AllocError>
+    ensures { OnOk result (string_bytes output.new ≡ string_bytes output.old ++ pair_line (key.now, value)) }
+{
+    write!(output, "{value} ")?;
+    write_hex(output, key)?;
+    writeln!(output)
 }
 
 /// Writes an answer of a cursor.

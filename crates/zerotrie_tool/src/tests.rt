@@ -104,8 +104,68 @@ fn builds_and_look_ups(rt: HostRuntime) -> Result<(), Fail> {
         ),
         // A bad line counts for more than a refusal, and stops the run.
         (
-            b"kind simple\n+ 1\n+ 1\nbuild\nlist\nbuild\n",
+            b"kind simple\n+ 1\n+ 1\nbuild\nlists\nbuild\n",
             b"refused DuplicateKey\nbad line 5\n",
+            2,
+        ),
+    ];
+    for (input, output, status) in rows {
+        runs(&rt, input, output, status)?;
+    }
+    Ok(())
+}
+
+#[test]
+fn listings_and_walks(rt: HostRuntime) -> Result<(), Fail> {
+    let rows: [(&[u8], &[u8], u8); 9] = [
+        // Before a build, and after one that was refused, there is nothing to list or to walk.
+        (
+            b"kind simple\nlist\nwalk t p0\n+ 1 a\n+ 1 a\nbuild\nlist\nwalk s61 t\n",
+            b"t- p-\nrefused DuplicateKey\ns- t-\n",
+            1,
+        ),
+        (
+            b"kind simple\n+ 44 adghk\n+ 33 adef\n+ 22 ad\n+ 11\nbuild\n+ 55 b\nlist\n",
+            b"ok 16 8b61649006c2656703669011686b901c\n11 -\n22 6164\n33 61646566\n44 616467686b\n",
+            0,
+        ),
+        (
+            b"kind simple\n+ 0 abc\n+ 1 abcdef\nbuild\nwalk s61 s62 s63 t t s64 s78 p0\nwalk s61\n",
+            b"ok 8 6162638064656681\ns61 s62 s63 t0 t- s64 s- p-\ns61\n",
+            0,
+        ),
+        (
+            b"kind simple\n+ 111 ab\n+ 22 abcxyz\n+ 333 abde\n+ 44 afg\nbuild\nwalk p0 p0 t p1 p0 t t p0\n",
+            b"ok 22 61c262660e905fc263640578797a900665923d67901c\np61/1 p62/2 t111 p64/2 p65/1 t333 t- p-\n",
+            0,
+        ),
+        // Digits in either case, and stored bytes in their own.
+        (
+            b"kind ignore\n+ 0\n+ 1 aBc\n+ 2 aBcD\n+ 3 aBce\n+ 4 aBcF\n+ 5 aBcghi\nbuild\nwalk s41 s62 s43 t s64\nwalk s61 s4B\nlist\n",
+            b"ok 19 8061426381c444654667010203828384686985\ns61 s42 s63 t1 s44\ns61 s-\n0 -\n1 614263\n2 61426344\n3 61426365\n4 61426346\n5 614263676869\n",
+            0,
+        ),
+        // Through a span, byte by byte.
+        (
+            b"kind hash\n+ 1 foo\n+ 2 b\xC3\xA5r\n+ 3 b\xC3\xA5zz\xC3\xB8\xC3\xB8\nbuild\nwalk s62 sC3 t sA5 p1 s7a p0 p0 p0 p0 t\nwalk s62 p0 p1 t\n",
+            b"ok 22 c262660fa2c3a5c2727a01827aa4c3b8c3b8836f6f81\ns62 sc3 t- sa5 p7a/2 s7a pc3/1 pb8/1 pc3/1 pb8/1 t3\ns62 pc3/1 p- t-\n",
+            0,
+        ),
+        // Edges are numbered as a hashed table has them.
+        (
+            b"kind hash\n+ 0 a\n+ 1 b\n+ 2 c\n+ 3 d\n+ 4 e\n+ 5 f\n+ 6 g\n+ 7 h\n+ 8 i\n+ 9 j\n+ 10 k\n+ 11 l\n+ 12 m\n+ 13 n\n+ 14 o\n+ 15 p\nbuild\nwalk p0 t\nwalk p15 t\nwalk p16\n",
+            b"ok 65 d00000000000000000000000000000000000706162636465666768696a6b6c6d6e6f0102030405060708090a0b0c0d0e0f8f808182838485868788898a8b8c8d8e\np70/16 t15\np6f/16 t14\np-\n",
+            0,
+        ),
+        // Where no kind was chosen the keys ascend, and a walk is no command.
+        (
+            b"kind auto\n+ 1 b\n+ 2 \xC3\xA9\n+ 3 a\nbuild\nlist\nwalk t\n",
+            b"ok 11 c36162c301028381a1a982\n3 61\n1 62\n2 c3a9\nbad line 7\n",
+            2,
+        ),
+        (
+            b"kind ext\n+ 2 a\xC3\n+ 1 a\nbuild\nlist\nwalk s61 t pa\n",
+            b"ok 5 6181a1c382\n1 61\n2 61c3\nbad line 6\n",
             2,
         ),
     ];
@@ -118,7 +178,7 @@ fn builds_and_look_ups(rt: HostRuntime) -> Result<(), Fail> {
 /// Lines that are no command, each as the second of an input.
 #[test]
 fn bad_lines(rt: HostRuntime) -> Result<(), Fail> {
-    let lines: [&[u8]; 25] = [
+    let lines: [&[u8]; 39] = [
         b"kind",
         b"kind ",
         b"kind  simple",
@@ -142,7 +202,21 @@ fn bad_lines(rt: HostRuntime) -> Result<(), Fail> {
         b" ?",
         b"build ",
         b"builds",
-        b"list",
+        b"lists",
+        b"list ",
+        b"walk",
+        b"walk ",
+        b"walk  t",
+        b"walk t ",
+        b"walk t  t",
+        b"walk s",
+        b"walk s6",
+        b"walk s6g",
+        b"walk s061",
+        b"walk tt",
+        b"walk p",
+        b"walk p-1",
+        b"walk p18446744073709551616",
         b"\r",
     ];
     for line in lines {
@@ -153,7 +227,15 @@ fn bad_lines(rt: HostRuntime) -> Result<(), Fail> {
         runs(&rt, input.as_slice(), b"bad line 2\n", 2)?;
     }
     // Before the first choice only a choice is none.
-    for line in [b"build".as_slice(), b"?", b"? a", b"+ 1 a", b"kind"] {
+    for line in [
+        b"build".as_slice(),
+        b"?",
+        b"? a",
+        b"+ 1 a",
+        b"list",
+        b"walk t",
+        b"kind",
+    ] {
         runs(&rt, line, b"bad line 1\n", 2)?;
     }
     Ok(())

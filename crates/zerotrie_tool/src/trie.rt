@@ -1,22 +1,26 @@
 //! Tries of the kinds that can be chosen.
 
-ghost use Rattle.std.specs.Prelude.{◌≡◌, ◌≢◌, ◌↔◌, [], IfOk, IfSome, IsSome};
+ghost use Rattle.std.specs.Prelude.{◌≡◌, ◌≢◌, ◌↔◌, ◌++◌, [], IfOk, OnOk, IfSome, IsSome, string_bytes};
 ghost use Rattle.zerotrie.specs.Items.{pairs_of};
-ghost use Rattle.zerotrie.specs.Maps.{Map, look};
-ghost use Rattle.zerotrie.specs.Texts.{Means};
+ghost use Rattle.zerotrie.specs.Maps.{Map, Pairs, look};
+ghost use Rattle.zerotrie.specs.Texts.{Lists, Means};
 ghost use Rattle.zerotrie.specs.Routes.{any_order, IsBuild};
 ghost use Rattle.zerotrie.specs.Auto.{auto_kind};
 ghost use Rattle.zerotrie.specs.Flavors.{flavor_kind};
 ghost use Rattle.zerotrie.specs.Walks.{IsWalk};
 ghost use Rattle.zerotrie_tool.specs.Commands.{kind_of};
+ghost use Rattle.zerotrie_tool.specs.Answers.{in_order};
+ghost use Rattle.zerotrie_tool.specs.Replies.{list_lines};
 ghost use Rattle.zerotrie_tool.specs.answer.Tries.{trie_kind, trie_choice, trie_bytes};
 ghost use Rattle.zerotrie_tool.specs.declared.command.Choice.TheVariants.{Auto};
 
 use crate::command::Choice;
+use crate::listing::{write_pairs, write_sorted};
 use std::alloc::{AllocError, Global};
 use zerotrie::{
-    AsciiKind, AsciiTrie, CursorAnswer, CursorOp, HashedKind, HashedTrie, Simple, ZeroAsciiIgnoreCaseTrie, ZeroTrie,
-    ZeroTrieBuildError, ZeroTrieExtendedCapacity, ZeroTriePerfectHash, ZeroTrieSimpleAscii,
+    AsciiKind, AsciiTrie, CursorAnswer, CursorOp, Ext, Hash, HashedKind, HashedTrie, Ignore,
+    Simple, ZeroAsciiIgnoreCaseTrie, ZeroTrie, ZeroTrieBuildError, ZeroTrieExtendedCapacity,
+    ZeroTriePerfectHash, ZeroTrieSimpleAscii,
 };
 
 /// A trie of one of the kinds.
@@ -143,5 +147,26 @@ impl Trie {
             Trie::Auto(_) => return Ok(None),
         };
         Ok(Some(answers))
+    }
+
+    /// Writes the pairs of the trie: in the order of its nodes, or of the bytes of their keys where the kind
+    /// was not chosen.
+    pub fn write_list(&self, alloc: Global, output: &mut String) -> Result<(), AllocError>
+        ensures { OnOk result ((pairs : Pairs) → Lists (trie_kind self.now) (trie_bytes self.now) pairs
+            → string_bytes output.new
+            ≡ string_bytes output.old ++ list_lines (in_order (trie_choice self.now) pairs)) }
+    {
+        match self {
+            Trie::Simple(trie) => write_pairs::<Simple>(alloc, trie.as_bytes(), output),
+            Trie::Ignore(trie) => write_pairs::<Ignore>(alloc, trie.as_bytes(), output),
+            Trie::Hash(trie) => write_pairs::<Hash>(alloc, trie.as_bytes(), output),
+            Trie::Ext(trie) => write_pairs::<Ext>(alloc, trie.as_bytes(), output),
+            Trie::Auto(trie) => {
+                let Ok(map) = trie.to_btreemap(alloc) else {
+                    return Err(AllocError);
+                };
+                write_sorted(&map, output)
+            }
+        }
     }
 }

@@ -112,50 +112,37 @@ fn hashed_cursors(rt: HostRuntime) -> Result<(), Fail> {
     Ok(())
 }
 
+/// Each type hands its own bytes and kind to a walk.
 #[test]
 fn walks(rt: HostRuntime) -> Result<(), Fail> {
-    // A branch of all 256 bytes: the number of its edges is no byte.
-    let mut bytes = Vec::new(rt.alloc());
-    for byte in 0..=255u8 {
-        bytes.push(byte)?;
-    }
-    let mut items = Vec::new(rt.alloc());
-    for byte in bytes.as_slice().chunks(1) {
-        items.push((byte, 0))?;
-    }
-    let full = ZeroTriePerfectHash::try_from_sorted_slice(rt.alloc(), items.as_slice())?;
-    let ops = [CursorOp::Probe(255), CursorOp::Take];
-    let answers = full.walk(rt.alloc(), &ops)?;
-    let expected = [
-        CursorAnswer::Probed(Some((0xFF, 256))),
-        CursorAnswer::Taken(Some(0)),
-    ];
-    assert_eq!(rt; answers.as_slice(), expected.as_slice());
-    let names = ZeroAsciiIgnoreCaseTrie::try_from_iter(rt.alloc(), MIXED)?;
-    let ops = [
-        CursorOp::Step(b'A'),
-        CursorOp::Step(b'b'),
-        CursorOp::Step(b'C'),
-        CursorOp::Take,
-        CursorOp::Step(b'd'),
-        CursorOp::Step(b'd'),
-    ];
-    let answers = names.walk(rt.alloc(), &ops)?;
-    let expected = [
-        CursorAnswer::Stepped(Some(b'a')),
-        CursorAnswer::Stepped(Some(b'B')),
-        CursorAnswer::Stepped(Some(b'c')),
-        CursorAnswer::Taken(Some(1)),
-        CursorAnswer::Stepped(Some(b'D')),
-        CursorAnswer::Stepped(None),
-    ];
-    assert_eq!(rt; answers.as_slice(), expected.as_slice());
+    let ops = [CursorOp::Step(b'A'), CursorOp::Step(b'B'), CursorOp::Take];
+    let (missed, met) = (
+        [
+            CursorAnswer::Stepped(None),
+            CursorAnswer::Stepped(None),
+            CursorAnswer::Taken(None),
+        ],
+        [
+            CursorAnswer::Stepped(Some(b'a')),
+            CursorAnswer::Stepped(Some(b'B')),
+            CursorAnswer::Taken(Some(5)),
+        ],
+    );
+    let bytes = b"aB\x85".as_slice();
+    let ignore = ZeroAsciiIgnoreCaseTrie::from_bytes(bytes);
+    assert_eq!(rt; ignore.walk(rt.alloc(), &ops)?.as_slice(), met.as_slice());
+    let simple = ZeroTrieSimpleAscii::from_bytes(bytes);
+    assert_eq!(rt; simple.walk(rt.alloc(), &ops)?.as_slice(), missed.as_slice());
+    let hash = ZeroTriePerfectHash::from_bytes(bytes);
+    assert_eq!(rt; hash.walk(rt.alloc(), &ops)?.as_slice(), missed.as_slice());
+    let ext = ZeroTrieExtendedCapacity::from_bytes(bytes);
+    assert_eq!(rt; ext.walk(rt.alloc(), &ops)?.as_slice(), missed.as_slice());
     Ok(())
 }
 
 /// Every call returns on bytes that mean no map.
 #[test]
-fn ill_formed(rt: HostRuntime) -> Result<(), Fail> {
+fn ill_formed() {
     let rows: [&[u8]; 7] = [
         b"a",
         b"\x80\x80",
@@ -165,31 +152,22 @@ fn ill_formed(rt: HostRuntime) -> Result<(), Fail> {
         b"\x90",
         b"\xA1\xC3\xA1\xA5\x81",
     ];
-    let ops = [
-        CursorOp::Take,
-        CursorOp::Probe(1),
-        CursorOp::Take,
-        CursorOp::Step(b'a'),
-        CursorOp::Probe(0),
-    ];
     for bytes in rows {
         let simple = ZeroTrieSimpleAscii::from_bytes(bytes);
         let mut cursor = simple.cursor();
         let _ = cursor.write_str("ab");
         cursor.take_value();
         cursor.probe(0);
-        assert_eq!(rt; simple.walk(rt.alloc(), &ops)?.len(), 5);
         let ignore = ZeroAsciiIgnoreCaseTrie::from_bytes(bytes);
         ignore.cursor().step(b'A');
-        assert_eq!(rt; ignore.walk(rt.alloc(), &ops)?.len(), 5);
         let hash = ZeroTriePerfectHash::from_bytes(bytes);
         let mut cursor = hash.cursor();
         cursor.step(0xC3);
         cursor.probe(0);
         let _ = cursor.into_suffix_trie();
-        assert_eq!(rt; hash.walk(rt.alloc(), &ops)?.len(), 5);
-        let ext = ZeroTrieExtendedCapacity::from_bytes(bytes);
-        assert_eq!(rt; ext.walk(rt.alloc(), &ops)?.len(), 5);
+        let mut cursor = ZeroTrieExtendedCapacity::from_bytes(bytes).into_cursor();
+        cursor.probe(1);
+        cursor.take_value();
+        cursor.probe(0);
     }
-    Ok(())
 }

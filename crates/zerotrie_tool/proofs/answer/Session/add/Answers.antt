@@ -4,6 +4,7 @@ use Rattle.zerotrie_tool.proofs.answer.Session.add.Goals as goal
 pub returns : goal.returns
 returns c = λ s h. record {
   choice = h.choice;
+  of = h.of;
   pairs = rw c.in_ok-push.ensures.items (one_more c.args.self.now.pairs.items s.pairs c.args.key c.args.value h.pairs);
   kind = h.kind;
   text = h.text;

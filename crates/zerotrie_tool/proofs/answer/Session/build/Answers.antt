@@ -12,4 +12,4 @@ returns-in_err-self-clause-answer c =
 pub returns-in_err-self-clause-emptied : goal.returns-in_err-self-clause-emptied
 returns-in_err-self-clause-emptied c =
     let r = err_from_is_err_and c.from_residual.result c.from_residual.ensures.1 in
-    rw r.1 (λ s h. holds_none _ s.choice s.pairs h.choice h.pairs c.empty.ensures.kind c.empty.ensures.bytes)
+    rw r.1 (λ s h. holds_none _ s.choice s.pairs h.choice h.pairs c.empty.ensures.choice c.empty.ensures.kind c.empty.ensures.bytes)

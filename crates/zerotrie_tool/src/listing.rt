@@ -1,0 +1,41 @@
+//! The lines of a listing.
+
+ghost use Rattle.std.specs.Prelude.{◌≡◌, ◌++◌, OnOk, string_bytes};
+ghost use Rattle.zerotrie.specs.Items.{keyed};
+ghost use Rattle.zerotrie.specs.Maps.{Pairs};
+ghost use Rattle.zerotrie.specs.Texts.{Lists};
+ghost use Rattle.zerotrie_tool.specs.Replies.{list_lines};
+
+use crate::reply::write_pair;
+use std::alloc::{AllocError, Global};
+use std::collections::BTreeMap;
+use zerotrie::{ZeroTrieIterator, ZeroTrieWithOptions};
+
+/// Writes the pairs of a text of the kind, in the order of its nodes.
+pub fn write_pairs<K: ZeroTrieWithOptions>(
+    alloc: Global,
+    bytes: &[u8],
+    output: &mut String,
+) -> Result<(), AllocError>
+    ensures { OnOk result ((pairs : Pairs) → Lists K.kind bytes.now pairs
+        → string_bytes output.new ≡ string_bytes output.old ++ list_lines pairs) }
+{
+    for item in ZeroTrieIterator::new::<K>(alloc, bytes) {
+        let Ok((key, value)) = item else {
+            return Err(AllocError);
+        };
+        write_pair(output, key.as_slice(), value)?;
+    }
+    Ok(())
+}
+
+/// Writes the pairs of a map, in the order of its keys.
+pub fn write_sorted(map: &BTreeMap<Vec<u8>, usize>, output: &mut String) -> Result<(), AllocError>
+    ensures { OnOk result (string_bytes output.new
+        ≡ string_bytes output.old ++ list_lines (keyed (λ key. key.items) map.now.entries)) }
+{
+    for (key, value) in map {
+        write_pair(output, key.as_slice(), *value)?;
+    }
+    Ok(())
+}
