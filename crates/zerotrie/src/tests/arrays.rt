@@ -27,9 +27,9 @@ fn is_refused<const N: usize>(build: Built<N>, error: ZeroTrieBuildError) -> boo
 /// The record of a keyword, from keywords that ascend, each with the index of its record.
 fn record_of<const N: usize>(
     keywords: &[(&[u8], usize)],
-    records: &[u32],
+    records: &[u8],
     word: &[u8],
-) -> Result<Option<u32>, ZeroTrieBuildError>
+) -> Result<Option<u8>, ZeroTrieBuildError>
     requires size { N < 2 ^ 62 }
     requires indices { All (λ e. e.1 < length records.now) (pairs_of keywords.now) }
     ensures { IfOk result (λ answer. (index : ℕ) → Contains (pairs_of keywords.now) (word.now, index)
@@ -46,8 +46,8 @@ fn record_of<const N: usize>(
 fn keywords_are_recognised(rt: HostRuntime) -> Result<(), Fail> {
     let keywords: [(&[u8], usize); 3] = [(b"else", 2), (b"if", 0), (b"let", 1)];
     let records = [10, 20, 30];
-    assert_eq!(rt; record_of::<17>(&keywords, &records, b"let")?, Some(20));
-    assert_eq!(rt; record_of::<17>(&keywords, &records, b"le")?, None);
+    assert_eq!(rt; record_of::<15>(&keywords, &records, b"let")?, Some(20));
+    assert_eq!(rt; record_of::<15>(&keywords, &records, b"le")?, None);
     Ok(())
 }
 
@@ -111,8 +111,9 @@ fn a_hundred_edges_and_one(rt: HostRuntime) -> Result<(), Fail> {
         items.push((&bytes.as_slice()[index..index + 1], 0))?;
     }
     let all = items.as_slice();
+    let (_, first) = all.split_last().ok_or("empty")?;
 
-    let hundred: Built<301> = ZeroTrieSimpleAscii::from_sorted_u8_tuples(&all[..100]);
+    let hundred: Built<301> = ZeroTrieSimpleAscii::from_sorted_u8_tuples(first);
     assert!(rt; hundred?.as_bytes().starts_with(b"\xE0\x44"));
     let more: Built<304> = ZeroTrieSimpleAscii::from_sorted_u8_tuples(all);
     assert!(rt; is_refused(more, ZeroTrieBuildError::StackExceeded));
