@@ -1,6 +1,7 @@
 mod callers;
 mod cursors;
 mod examples;
+mod fallback;
 mod listings;
 mod refusals;
 mod routes;
