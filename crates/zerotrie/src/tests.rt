@@ -2,6 +2,7 @@ mod arrays;
 mod callers;
 mod cursors;
 mod examples;
+mod fallback;
 mod listings;
 mod outer;
 mod refusals;

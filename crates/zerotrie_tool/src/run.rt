@@ -75,11 +75,15 @@ fn read_all<R: Read>(alloc: Global, reader: &mut Noted<R>) -> Result<Vec<u8>, Ru
 /// + 22 ad         adds a pair
 /// build           builds the trie of the pairs, and prints ok 4 61649006: its length and its bytes
 /// ? ad            prints 22, the number of the key, or none
+/// list            prints 22 6164, the value of each pair and its key in hexadecimal
+/// walk s61 p0 t   prints s61 p64/1 t22: a step by a byte, a probe of edge 0 of 1, and the value taken
 /// ```
 ///
 /// - An empty line is skipped and counted.
 /// - A second `kind` begins anew: without pairs, and with the empty trie.
 /// - A build takes all pairs since `kind`. A refused one prints its reason, and leaves the empty trie.
+/// - A listing has the order of the trie, or of the bytes of the keys where the kind is `auto`.
+/// - A walk has one or more calls of a cursor with one space between. Where the kind is `auto` there is none.
 /// - Any other line is bad, and before the first `kind` every line but an empty one is. `bad line N`
 ///   ends the run.
 /// - The status is 2 after a bad line, even where a build was refused before. Else it is 1 where a

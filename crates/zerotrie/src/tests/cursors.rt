@@ -38,6 +38,14 @@ fn ascii_cursors(rt: HostRuntime) -> Result<(), Fail> {
     let suffixes = cursor.into_suffix_trie();
     assert_eq!(rt; suffixes.get(b"c"), Some(0));
     assert_eq!(rt; suffixes.get(b"cdef"), Some(1));
+    // A suffix trie may outlive its cursor, and not its store.
+    let store = Vec::from_slice(rt.alloc(), NESTED)?;
+    let suffixes = {
+        let mut inner = ZeroTrieSimpleAscii::from_bytes(store.as_slice()).into_cursor();
+        inner.step(b'a');
+        inner.into_suffix_trie()
+    };
+    assert_eq!(rt; suffixes.get(b"bc"), Some(0));
     // Letters in either case, and the bytes as they are stored.
     let mixed = ZeroAsciiIgnoreCaseTrie::from_bytes(b"aBc\x80dEf\x81");
     let mut cursor = mixed.cursor();
@@ -132,7 +140,10 @@ fn walks(rt: HostRuntime) -> Result<(), Fail> {
     let ignore = ZeroAsciiIgnoreCaseTrie::from_bytes(bytes);
     assert_eq!(rt; ignore.walk(rt.alloc(), &ops)?.as_slice(), met.as_slice());
     let simple = ZeroTrieSimpleAscii::from_bytes(bytes);
-    assert_eq!(rt; simple.walk(rt.alloc(), &ops)?.as_slice(), missed.as_slice());
+    assert_eq!(rt;
+        simple.walk(rt.alloc(), &ops)?.as_slice(),
+        missed.as_slice()
+    );
     let hash = ZeroTriePerfectHash::from_bytes(bytes);
     assert_eq!(rt; hash.walk(rt.alloc(), &ops)?.as_slice(), missed.as_slice());
     let ext = ZeroTrieExtendedCapacity::from_bytes(bytes);
