@@ -16,10 +16,12 @@ trail_read L a (t ∷ ts) = let more = 128 * a + t % 128 + L in if nat_lt t 128 
 abbrev pub number_read : ℕ → ℕ → List ℕ → Option (ℕ × List ℕ)
 number_read L lead rest = if lead / L % 2 == 0 then Some (lead % L, rest) else trail_read L (lead % L) rest
 
+-- a value node of the number that was read, and what follows it
 abbrev pub as_value : Option (ℕ × List ℕ) → Option Shape
 as_value None = None
 as_value (Some r) = if nat_lt r.0 (2 ^ 64) then Some (value r.0 r.1) else None
 
+-- a span of so many bytes, where they are there
 abbrev pub as_span : Option (ℕ × List ℕ) → Option Shape
 as_span None = None
 as_span (Some r) = if nat_lt r.0 (2 ^ 64) && nat_le r.0 (length r.1) then Some (span (take r.0 r.1) (drop r.0 r.1)) else None
@@ -29,6 +31,7 @@ abbrev pub is_whole : Kind → ℕ → ℕ → List ℕ → Bool
 is_whole kind edges width body =
     nat_le 2 edges && nat_le width (greatest_width kind + 1) && nat_le (table_size kind edges + width * (edges - 1)) (length body)
 
+-- a branch whose head is the number that was read
 abbrev pub as_branch : Kind → Option (ℕ × List ℕ) → Option Shape
 as_branch kind None = None
 as_branch kind (Some r) = let edges = if r.0 % 256 == 0 then 256 else r.0 % 256 in let width = r.0 / 256 + 1 in
@@ -65,7 +68,7 @@ of_node listed (Some (literal b rest)) = with_front b (listed rest)
 of_node listed (Some (span run rest)) = with_run run (listed rest)
 of_node listed (Some (branch n w table behind)) = of_targets listed n w behind n
 
--- by at most d nodes, one behind another
+-- by at most d nodes, one below another
 abbrev pub listed_to : ℕ → Kind → List ℕ → Pairs
 listed_to zero kind bytes = []
 listed_to (suc d) kind bytes = of_node (listed_to d kind) (node_of kind bytes)
