@@ -23,7 +23,8 @@ impl<const N: usize> ZeroTrieSimpleAscii<[u8; N]> {
     }
 
     /// Builds the trie of a slice, whose keys ascend strictly by their bytes, in an array that it fills, with
-    /// a stack of `K`. It takes no memory.
+    /// a stack of `K`. It takes no memory. `N` has to be below 2^62 and `K` below 2^58, as an array and a
+    /// stack that fit a machine are.
     ///
     /// ```
     /// let items: [(&[u8], usize); 2] = [(b"ad", 22), (b"adef", 33)];
@@ -80,7 +81,8 @@ impl ZeroTrieSimpleAscii<Vec<u8>> {
     }
 
     /// Builds the trie of a slice, whose keys ascend strictly by their bytes, in an array of `N` bytes, which
-    /// need not be full, and with a stack of `K`, and copies its bytes.
+    /// need not be full, and with a stack of `K`, and copies its bytes. `N` has to be below 2^62 and `K` below
+    /// 2^58, as an array and a stack that fit a machine are.
     ///
     /// ```
     /// let items: [(&[u8], usize); 2] = [(b"ad", 22), (b"adef", 33)];

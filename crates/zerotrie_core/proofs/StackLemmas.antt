@@ -1,5 +1,5 @@
 -- The stack need of pairs, by their edges.
-use Rattle.std.proofs.Common.{◌≡◌, ℕ, zero, suc, ◌+◌, ◌<◌, ◌≤◌, List, [], ◌∷◌, length, refl, sym, ◌∙◌, ap, arith, inl, inr, Bool, true, false, cond, eqb, ltb}
+use Rattle.std.proofs.Common.{◌≡◌, ℕ, zero, suc, ◌+◌, ◌<◌, ◌≤◌, List, [], ◌∷◌, length, refl, sym, ◌∙◌, ap, arith, inl, inr, Bool, true, false, cond, ltb}
 use Rattle.std.specs.Prelude.{max}
 use Rattle.std.proofs.lemmas.Bool.{lt-ltb, le-ltb}
 use Rattle.std.proofs.lemmas.Bool.Decides.{eqb_tells}
@@ -7,7 +7,7 @@ use Rattle.zerotrie_core.specs.Maps.{Pairs, with_front, edges, residual, longest
 use Rattle.zerotrie_core.specs.Stack.{branch_need, need_by, stack_to, stack_of}
 use Rattle.zerotrie_core.proofs.EdgeLemmas.{Rise, member, member_head, member_later, member_other, edges_front, edges_none, edges_value, residual-front}
 use Rattle.zerotrie_core.proofs.OrderedLemmas.{edges_rise, member_from}
-use Rattle.zerotrie_core.proofs.CanonLaws.{Shorter, Shorter-front, shorter_none}
+use Rattle.zerotrie_core.proofs.CanonLaws.{Shorter, shorter_none}
 use Rattle.zerotrie_core.proofs.SizeLemmas.{longest_shorter, Shorter-residual}
 
 -- the need of a branch goes by what is behind its edges

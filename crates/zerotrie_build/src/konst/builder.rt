@@ -46,7 +46,8 @@ impl<const N: usize> ZeroTrieBuilderConst<N> {
     /// are the one text of the map of the items, and need not fill the array. It takes no memory.
     ///
     /// The text is written from its end, with the targets of a branch from the last to the first, so each
-    /// target waits for those before it. As many of them as wait at once the stack has to hold.
+    /// target waits for those before it. As many of them as wait at once the stack has to hold. `K` has to be
+    /// below 2^58, as a stack that fits a machine is.
     ///
     /// A build is refused with `Unsorted`, `NonAsciiError`, `CapacityExceeded`, `BufferTooSmall` or
     /// `StackExceeded`, each for the reason that `ZeroTrieBuildError` gives, and never if there is none.

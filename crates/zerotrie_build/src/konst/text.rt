@@ -88,7 +88,8 @@ impl<const N: usize> Text<N> {
     fn put_block(&mut self, siblings: &[Sibling], total: usize, place: usize)
         requires place { place < 8 }
         requires total { total ≡ total_of (lens_of (tops siblings.now)) }
-        ensures { Puts N self.old self.new (map (λ o. o / 256 ^ place % 256) (ends (lens_of (tops siblings.now)))) }
+        ensures { Puts N self.old self.new
+            (map (λ o. o / 256 ^ place % 256) (ends (lens_of (tops siblings.now)))) }
     {
         let mut end = total;
         for index in 1..siblings.len() {
@@ -121,7 +122,8 @@ impl<const N: usize> Text<N> {
     /// have `total` bytes.
     pub(crate) fn put_branch(&mut self, siblings: &[Sibling], total: usize)
         requires total { total ≡ total_of (lens_of (tops siblings.now)) }
-        ensures { Puts N self.old self.new (branch_front (bytes_of (tops siblings.now)) (lens_of (tops siblings.now))) }
+        ensures { Puts N self.old self.new
+            (branch_front (bytes_of (tops siblings.now)) (lens_of (tops siblings.now))) }
     {
         let width = width_of(total);
         self.put_offsets(siblings, total, width + 1);
@@ -135,7 +137,8 @@ impl<const N: usize> Text<N> {
 
 /// How many bytes the targets have together, or the greatest number where they have more.
 pub(crate) fn total(siblings: &[Sibling]) -> usize
-    ensures exact { total_of (lens_of (tops siblings.now)) < 2 ^ 64 → result ≡ total_of (lens_of (tops siblings.now)) }
+    ensures exact { total_of (lens_of (tops siblings.now)) < 2 ^ 64
+        → result ≡ total_of (lens_of (tops siblings.now)) }
     ensures capped { 2 ^ 64 ≤ total_of (lens_of (tops siblings.now)) → 2 ^ 32 ≤ result }
 {
     let mut total: usize = 0;

@@ -69,7 +69,8 @@ fn join<const N: usize, const K: usize>(
 ) -> Result<(), ZeroTrieBuildError>
     ensures joins { OnOk result (Joins N depth text.old text.new
         (tops siblings.old.items) (tops siblings.new.items)) }
-    ensures refused { IfErr result (λ e. (e ≡ CapacityExceeded) × TooWide depth (tops siblings.old.items)) }
+    ensures refused { IfErr result (λ e. (e ≡ CapacityExceeded)
+        × TooWide depth (tops siblings.old.items)) }
 {
     let start = start_of(siblings, depth);
     let branch = &siblings.as_slice()[start..];
@@ -103,10 +104,12 @@ fn close_level<const N: usize, const K: usize>(
 ) -> Result<(), ZeroTrieBuildError>
     requires within { depth < length key.now }
     requires ascii { All (λ b. b < 128) key.now }
-    ensures closed { OnOk result ((listed : Pairs) → Standing N K key.now (suc depth) text.old siblings.old.items listed
+    ensures closed { OnOk result ((listed : Pairs)
+        → Standing N K key.now (suc depth) text.old siblings.old.items listed
         → Standing N K key.now depth text.new siblings.new.items listed) }
     ensures refused { IfErr result (λ e. (listed : Pairs)
-        → Standing N K key.now (suc depth) text.old siblings.old.items listed → IsStuckAt K key.now depth listed e) }
+        → Standing N K key.now (suc depth) text.old siblings.old.items listed
+        → IsStuckAt K key.now depth listed e) }
 {
     if has_siblings_at(siblings, depth) {
         set_aside(text, siblings, key[depth], depth)?;
@@ -194,7 +197,8 @@ pub(crate) fn grow<const N: usize, const K: usize>(
     requires capacity { K < 2 ^ 58 }
     requires sorted { Ordered simple_ascii (pairs items) }
     requires ascii { All (λ e. All (λ b. b < 128) e.0) (pairs items) }
-    ensures grown { IfOk result (λ text. (bytes : List ℕ) × Has N text bytes × Lists simple_ascii bytes (pairs items.entry)) }
+    ensures grown { IfOk result (λ text. (bytes : List ℕ) × Has N text bytes
+        × Lists simple_ascii bytes (pairs items.entry)) }
     ensures within { IfOk result (λ text. stack_of (pairs items.entry) ≤ K) }
     ensures refused { IfErr result (IsStuck K (pairs items.entry)) }
 {

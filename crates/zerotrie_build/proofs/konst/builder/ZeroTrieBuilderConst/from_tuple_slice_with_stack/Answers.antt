@@ -12,7 +12,7 @@ returns-then-not-is_all_ascii g c =
     not_ascii g.row.N g.row.K (pairs c.args.items) (λ all. let yes = c.is_all_ascii.ensures.1 all in let no = c.if-not-is_all_ascii.true in cc)
 
 pub grow-requires : goal.grow-requires
-grow-requires g c = (search rules, (c.requires, (ascends_ordered simple_ascii (pairs c.args.items) refl (c.is_sorted.ensures.0 c.if-not-is_sorted.false), c.is_all_ascii.ensures.0 c.if-not-is_all_ascii.false)))
+grow-requires g c = (search rules, (search rules, (ascends_ordered simple_ascii (pairs c.args.items) refl (c.is_sorted.ensures.0 c.if-not-is_sorted.false), c.is_all_ascii.ensures.0 c.if-not-is_all_ascii.false)))
 
 pub returns-in_err-text : goal.returns-in_err-text
 returns-in_err-text g c =
