@@ -16,3 +16,8 @@ pub use Rattle.zerotrie_core.specs.Laws
 pub use Rattle.zerotrie_any.specs.Order
 pub use Rattle.zerotrie_any.specs.Auto
 pub use Rattle.zerotrie_any.specs.Flavors
+pub use Rattle.zerotrie_core.specs.Cursors
+pub use Rattle.zerotrie_core.specs.Machine
+pub use Rattle.zerotrie_core.specs.Places
+pub use Rattle.zerotrie_core.specs.CursorLaws
+pub use Rattle.zerotrie_any.specs.Walks

@@ -15,15 +15,15 @@ pub returns-then-folded-clause-step : goal.returns-then-folded-clause-step
 returns-then-folded-clause-step g c =
     let kind = g.K.ZeroTrieWithOptions.kind in
     let begins = rw c.in-Literal.is at c.in-Some.ensures.some in
-    step_over kind c.args.bytes.now c.loop-node.rest.now c.args.byte None (Lists kind []) c.loop-node.invariant
-    (literal_past kind c.loop-node.rest.now c.in-Literal.edge c.in-Literal.trie.now begins c.args.byte (λ e. c.if-folded.true (c.folded.ensures ∙ e ∙ sym c.folded-in-Literal.ensures)))
+    step_over kind c.args.bytes.now c.loop-node.rest.now c.args.byte (Some c.in-Literal.edge) (Lists kind c.in-Literal.trie.now) c.loop-node.invariant
+    (literal_along kind c.loop-node.rest.now c.in-Literal.edge c.in-Literal.trie.now begins c.args.byte (sym c.folded.ensures ∙ c.if-folded.true ∙ c.folded-in-Literal.ensures))
 
-pub returns-in-Literal-clause-step : goal.returns-in-Literal-clause-step
-returns-in-Literal-clause-step g c =
+pub returns-else-folded-clause-step : goal.returns-else-folded-clause-step
+returns-else-folded-clause-step g c =
     let kind = g.K.ZeroTrieWithOptions.kind in
     let begins = rw c.in-Literal.is at c.in-Some.ensures.some in
-    step_over kind c.args.bytes.now c.loop-node.rest.now c.args.byte (Some c.in-Literal.edge) (Lists kind c.in-Literal.trie.now) c.loop-node.invariant
-    (literal_along kind c.loop-node.rest.now c.in-Literal.edge c.in-Literal.trie.now begins c.args.byte (sym c.folded.ensures ∙ c.if-folded.false ∙ c.folded-in-Literal.ensures))
+    step_over kind c.args.bytes.now c.loop-node.rest.now c.args.byte None (Lists kind []) c.loop-node.invariant
+    (literal_past kind c.loop-node.rest.now c.in-Literal.edge c.in-Literal.trie.now begins c.args.byte (λ e. c.if-folded.false (c.folded.ensures ∙ e ∙ sym c.folded-in-Literal.ensures)))
 
 pub returns-in-Span-clause-step : goal.returns-in-Span-clause-step
 returns-in-Span-clause-step g c =
