@@ -143,12 +143,13 @@ mod tests {
             assert_eq!(rt; step::<Simple>(&mut trie, byte), Some(byte));
         }
         assert_eq!(rt; trie, b"\x80def\x81".as_slice());
-        let mut passed = trie;
+        let with_value = trie;
         assert_eq!(rt; take_value(&mut trie), Some(0));
         assert_eq!(rt; take_value(&mut trie), None);
-        for cursor in [&mut trie, &mut passed] {
-            assert_eq!(rt; step::<Simple>(cursor, b'd'), Some(b'd'));
-            assert_eq!(rt; step::<Simple>(cursor, b'x'), None);
+        for bytes in [with_value, trie] {
+            let mut cursor = bytes;
+            assert_eq!(rt; step::<Simple>(&mut cursor, b'd'), Some(b'd'));
+            assert_eq!(rt; step::<Simple>(&mut cursor, b'x'), None);
             assert!(rt; cursor.is_empty());
         }
         let mut fresh = bytes;

@@ -53,17 +53,26 @@ pub fn edge_like<K: ZeroTrieWithOptions>(bytes: &[u8], byte: u8) -> Option<Along
         match node {
             Node::Value(_value, after) => rest = after,
             Node::Literal(edge, trie) => {
-                if folded::<K>(edge) != folded::<K>(byte) {
-                    return None;
-                }
-                let run = &[];
-                return Some(Along { edge, run, trie });
+                return if folded::<K>(edge) == folded::<K>(byte) {
+                    Some(Along {
+                        edge,
+                        run: &[],
+                        trie,
+                    })
+                } else {
+                    None
+                };
             }
             Node::Span(run, trie) => return run_edge_like::<K>(run, trie, byte),
             Node::Branch(branch) => {
-                let (edge, trie) = branch.follow::<K>(byte)?;
-                let run = &[];
-                return Some(Along { edge, run, trie });
+                return match branch.follow::<K>(byte) {
+                    None => None,
+                    Some((edge, trie)) => Some(Along {
+                        edge,
+                        run: &[],
+                        trie,
+                    }),
+                };
             }
         }
     }

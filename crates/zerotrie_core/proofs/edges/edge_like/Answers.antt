@@ -15,15 +15,15 @@ pub returns-then-folded-clause-step : goal.returns-then-folded-clause-step
 returns-then-folded-clause-step g c =
     let kind = g.K.ZeroTrieWithOptions.kind in
     let begins = rw c.in-Literal.is at c.in-Some.ensures.some in
-    step_over kind c.args.bytes.now c.loop-node.rest.now c.args.byte None (Lists kind []) c.loop-node.invariant
-    (literal_past kind c.loop-node.rest.now c.in-Literal.edge c.in-Literal.trie.now begins c.args.byte (λ e. c.if-folded.true (c.folded.ensures ∙ e ∙ sym c.folded-in-Literal.ensures)))
+    step_over kind c.args.bytes.now c.loop-node.rest.now c.args.byte (Some c.in-Literal.edge) (Lists kind c.in-Literal.trie.now) c.loop-node.invariant
+    (literal_along kind c.loop-node.rest.now c.in-Literal.edge c.in-Literal.trie.now begins c.args.byte (sym c.folded.ensures ∙ c.if-folded.true ∙ c.folded-in-Literal.ensures))
 
-pub returns-in-Literal-clause-step : goal.returns-in-Literal-clause-step
-returns-in-Literal-clause-step g c =
+pub returns-else-folded-clause-step : goal.returns-else-folded-clause-step
+returns-else-folded-clause-step g c =
     let kind = g.K.ZeroTrieWithOptions.kind in
     let begins = rw c.in-Literal.is at c.in-Some.ensures.some in
-    step_over kind c.args.bytes.now c.loop-node.rest.now c.args.byte (Some c.in-Literal.edge) (Lists kind c.in-Literal.trie.now) c.loop-node.invariant
-    (literal_along kind c.loop-node.rest.now c.in-Literal.edge c.in-Literal.trie.now begins c.args.byte (sym c.folded.ensures ∙ c.if-folded.false ∙ c.folded-in-Literal.ensures))
+    step_over kind c.args.bytes.now c.loop-node.rest.now c.args.byte None (Lists kind []) c.loop-node.invariant
+    (literal_past kind c.loop-node.rest.now c.in-Literal.edge c.in-Literal.trie.now begins c.args.byte (λ e. c.if-folded.false (c.folded.ensures ∙ e ∙ sym c.folded-in-Literal.ensures)))
 
 pub returns-in-Span-clause-step : goal.returns-in-Span-clause-step
 returns-in-Span-clause-step g c =
@@ -33,21 +33,20 @@ returns-in-Span-clause-step g c =
     step_over kind c.args.bytes.now c.loop-node.rest.now c.args.byte answer (ListsAt kind (place_along c.run_edge_like.result)) c.loop-node.invariant
     (span_steps kind c.loop-node.rest.now c.in-Span.run'.now c.in-Span.trie.now c.args.byte answer (ListsAt kind (place_along c.run_edge_like.result)) begins c.run_edge_like.ensures)
 
-pub returns-in_err-edge-in-Branch-clause-step : goal.returns-in_err-edge-in-Branch-clause-step
-returns-in_err-edge-in-Branch-clause-step g c =
+pub returns-in-None-clause-step : goal.returns-in-None-clause-step
+returns-in-None-clause-step g c =
     let kind = g.K.ZeroTrieWithOptions.kind in
     let begins = rw c.in-Branch.is at c.in-Some.ensures.some in
     let b = c.in-Branch.branch in
-    rw c.from_residual.ensures
-    (step_over kind c.args.bytes.now c.loop-node.rest.now c.args.byte None (Lists kind []) c.loop-node.invariant
-    (branch_past kind c.loop-node.rest.now b.edges b.width b.table.now b.behind.now begins c.args.byte c.in_err-edge-in-Branch.ensures.none))
+    step_over kind c.args.bytes.now c.loop-node.rest.now c.args.byte None (Lists kind []) c.loop-node.invariant
+    (branch_past kind c.loop-node.rest.now b.edges b.width b.table.now b.behind.now begins c.args.byte c.in-None.ensures.none)
 
-pub returns-in-Branch-clause-step : goal.returns-in-Branch-clause-step
-returns-in-Branch-clause-step g c =
+pub returns-in-Some-follow-clause-step : goal.returns-in-Some-follow-clause-step
+returns-in-Some-follow-clause-step g c =
     let kind = g.K.ZeroTrieWithOptions.kind in
     let begins = rw c.in-Branch.is at c.in-Some.ensures.some in
     let b = c.in-Branch.branch in
-    let found = c.in_ok-edge-in-Branch in
+    let found = c.in-Some-follow in
     step_over kind c.args.bytes.now c.loop-node.rest.now c.args.byte (Some found.edge) (Lists kind found.trie.now) c.loop-node.invariant
     (branch_along kind c.loop-node.rest.now b.edges b.width b.table.now b.behind.now begins c.args.byte found.edge found.trie.now found.ensures.some)
 
