@@ -1,6 +1,6 @@
 -- Stepping by text, and cursors that are empty.
 use Rattle.std.proofs.Common.{◌≡◌, ℕ, List, [], ◌∷◌, Bool, true, false, ◌↔◌, IsTrue, length, refl, sym, ◌∙◌, ap}
-use Rattle.std.specs.Prelude.{nat_lt, if◌then◌else◌, ◌==◌}
+use Rattle.std.specs.Prelude.{nat_lt, ◌==◌}
 use Rattle.std.proofs.lemmas.Bool.{eqb-true, eq-eqb}
 use Rattle.std.proofs.lemmas.List.{nil_from_length}
 use Rattle.zerotrie_core.specs.Kind.{Kind}

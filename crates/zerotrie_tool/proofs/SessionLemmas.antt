@@ -6,7 +6,7 @@ use Rattle.zerotrie.specs.Kind.{Kind}
 use Rattle.zerotrie.specs.Items.{Items, pairs_of}
 use Rattle.zerotrie.specs.Maps.{Pairs, map_of, look}
 use Rattle.zerotrie.specs.Texts.{Lists, Means}
-use Rattle.zerotrie.specs.Machine.{Op, run}
+use Rattle.zerotrie.specs.Machine.{run}
 use Rattle.zerotrie.specs.Walks.{ops_of, answers_of, IsWalk}
 use Rattle.zerotrie.specs.declared.CursorOp.{CursorOp}
 use Rattle.zerotrie.specs.declared.CursorAnswer.{CursorAnswer}

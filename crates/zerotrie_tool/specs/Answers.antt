@@ -1,5 +1,5 @@
 -- Which output and status answer an input.
-use Rattle.std.specs.Prelude.{◌≡◌, ◌≢◌, ℕ, ◌+◌, List, [], ◌∷◌, ◌++◌, max, Option, Some, None}
+use Rattle.std.specs.Prelude.{◌≢◌, ℕ, ◌+◌, List, [], ◌∷◌, ◌++◌, max, Option, Some, None}
 use Rattle.zerotrie.specs.Kind.{Kind}
 use Rattle.zerotrie.specs.Maps.{Pairs, map_of, look}
 use Rattle.zerotrie.specs.Machine.{Op, run}

@@ -1,4 +1,4 @@
-use Rattle.std.proofs.Common.{rules, ◌≡◌, refl}
+use Rattle.std.proofs.Common.{rules, refl}
 use Rattle.zerotrie_ascii.proofs.ascii_trie.AsciiTrie.get_with_write_fn.Goals as goal
 
 pub returns-in-Ok : goal.returns-in-Ok
