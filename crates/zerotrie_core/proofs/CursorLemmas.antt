@@ -204,9 +204,6 @@ pub not_read : {A : Type 0} (r : Option A) (lead : ℕ) (rest bytes : List ℕ) 
 not_read None lead rest bytes is none = λ v after b. none 4 v after (subst (λ x. BeginsWith 16 4 v x after) is b)
 not_read (Some x) lead rest bytes is none = tt
 
-pub not_leading : (lead : ℕ) (rest bytes : List ℕ) → bytes ≡ lead ∷ rest → ((128 ≤ lead) × (lead < 160) → ⊥) → NoValue bytes
-not_leading lead rest bytes is other v after b = other (value_begins v lead rest after (subst (λ x. BeginsWith 16 4 v x after) is b))
-
 -- a value in front
 pub no_value_first : (bytes : List ℕ) → NoValueFirst bytes → NoValue bytes
 no_value_first [] n v rest b = some_bytes 16 4 v rest b
@@ -252,9 +249,6 @@ take_none kind bytes none pairs text =
     (sym n.0, subst (Lists kind bytes) (sym n.1) text)
 
 -- past a value the edges are the same
-pub edges_here : (kind : Kind) (bytes : List ℕ) → HasTheEdges kind bytes bytes
-edges_here kind bytes pairs text = (pairs, text, refl, λ edge. refl)
-
 behind-value : (edge : Option ℕ) (v : ℕ) (pairs : Pairs) → behind edge (([], v) ∷ pairs) ≡ behind edge pairs
 behind-value None v pairs = refl
 behind-value (Some b) v pairs = refl
