@@ -1,2 +1,4 @@
 pub mod Builds
 pub mod Lookups
+mod WindowLaws
+mod RecordLemmas

@@ -16,3 +16,4 @@ pub use Rattle.zerotrie_core.specs.Laws
 pub use Rattle.zerotrie_any.specs.Order
 pub use Rattle.zerotrie_any.specs.Auto
 pub use Rattle.zerotrie_any.specs.Flavors
+pub mod dense

@@ -35,6 +35,7 @@
 //! look-up answers by the pairs alone. `laws` has the laws of texts and maps.
 #![tactic(auto)]
 
+pub mod dense;
 #[cfg(test)]
 mod tests;
 

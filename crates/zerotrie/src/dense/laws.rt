@@ -1,0 +1,14 @@
+//! The laws of dense tables over the definitions alone, as contracts that a caller's proof can cite.
+
+ghost use Rattle.zerotrie.specs.dense.Laws.{FullestIsBest, RecordAsks, RecordIsOne};
+
+/// No 65,535 consecutive numbers hold more of a row's values than its window.
+pub fn fullest_window()
+    ensures { FullestIsBest }
+{}
+
+/// A record asks for its own length, and different tables have different records.
+pub fn one_record()
+    ensures asks { RecordAsks }
+    ensures one { RecordIsOne }
+{}
