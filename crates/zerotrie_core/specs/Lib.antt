@@ -7,6 +7,8 @@ pub mod Texts
 pub mod Nodes
 pub mod Shapes
 pub mod Cursors
+pub mod Machine
+pub mod Places
 pub mod Canonical
 pub mod Fits
 pub mod Causes

@@ -2,17 +2,21 @@
 #![tactic(auto)]
 
 mod branch;
+mod cursor;
 mod lanes;
 pub mod laws;
 mod node;
 mod options;
 mod plain;
 mod reader;
+mod span_cursor;
 mod varint;
 
+pub use cursor::{AsciiProbeResult, probe, step, take_value};
 pub use options::{Ext, Hash, Ignore, Simple, ZeroTrieBuilderOptions, ZeroTrieWithOptions};
 pub use plain::plain_encode;
 pub use reader::get_counted;
+pub use span_cursor::{ByteProbeResult, SpanCursor};
 pub use varint::{read_varint_meta2, read_varint_meta3, write_varint_meta2, write_varint_meta3};
 pub use zerotrie_base::{
     ConvertStore, PerfectByteHashMap, PerfectByteHashMapCacheOwned, TrieKey, TrieStore,
