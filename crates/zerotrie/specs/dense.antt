@@ -6,3 +6,5 @@ pub mod Records
 pub mod Tables
 pub mod Laws
 pub mod Views
+pub mod Reading
+pub mod Laid
