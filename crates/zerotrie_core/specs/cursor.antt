@@ -1,2 +1,0 @@
--- Words of the cursors' private functions.
-pub mod Edges
