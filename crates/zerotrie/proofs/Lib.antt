@@ -2,3 +2,6 @@ pub mod Builds
 pub mod Lookups
 mod WindowLaws
 mod RecordLemmas
+mod StepLemmas
+mod CellLemmas
+mod LookLemmas

@@ -8,6 +8,6 @@ mod rows;
 mod table;
 mod window;
 
-pub use laws::{fullest_window, one_record};
+pub use laws::{answer_is_entry, fullest_window, one_record};
 pub use record::RecordError;
 pub use table::{ZeroAsciiDenseSparse2dTrieBorrowed, ZeroAsciiDenseSparse2dTrieOwned};

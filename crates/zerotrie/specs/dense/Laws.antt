@@ -36,11 +36,15 @@ abbrev pub or_else : Option ℕ → Option ℕ → Option ℕ
 or_else None other = other
 or_else (Some v) other = Some v
 
--- what a dense row answers: a value that stands beside the matrix, under a suffix that is not empty, else the matrix's
+-- what stands beside the matrix under a suffix that is not empty
+abbrev pub beside_matrix : Parts → Map → List ℕ → List ℕ → Option ℕ
+beside_matrix t primary prefix [] = None
+beside_matrix t primary prefix (b ∷ suffix) = look simple_ascii primary (prefix ++ (t.delimiter ∷ (b ∷ suffix)))
+
+-- what a dense row answers: a value that stands beside the matrix, else the matrix's
 abbrev pub in_row : Parts → Map → Map → List ℕ → List ℕ → ℕ → Option ℕ
-in_row t primary columns prefix suffix row =
-    let matrix = in_matrix t row (look simple_ascii primary (prefix ++ (t.delimiter ∷ []))) (look simple_ascii columns suffix) in
-    if length suffix == 0 then matrix else or_else (look simple_ascii primary (prefix ++ (t.delimiter ∷ suffix))) matrix
+in_row t primary columns prefix suffix row = or_else (beside_matrix t primary prefix suffix)
+    (in_matrix t row (look simple_ascii primary (prefix ++ (t.delimiter ∷ []))) (look simple_ascii columns suffix))
 
 -- what the maps and the matrix answer for a prefix with this row number, or with none
 abbrev pub by_row : Parts → Map → Map → List ℕ → List ℕ → Option ℕ → Option ℕ

@@ -1,6 +1,6 @@
 //! The laws of dense tables over the definitions alone, as contracts that a caller's proof can cite.
 
-ghost use Rattle.zerotrie.specs.dense.Laws.{FullestIsBest, RecordAsks, RecordIsOne};
+ghost use Rattle.zerotrie.specs.dense.Laws.{AnswerIsEntry, FullestIsBest, RecordAsks, RecordIsOne};
 
 /// No 65,535 consecutive numbers hold more of a row's values than its window.
 pub fn fullest_window()
@@ -11,4 +11,9 @@ pub fn fullest_window()
 pub fn one_record()
     ensures asks { RecordAsks }
     ensures one { RecordIsOne }
+{}
+
+/// What the tries and the matrix of a table answer is the entry of its rows, for every two texts.
+pub fn answer_is_entry()
+    ensures { AnswerIsEntry }
 {}
