@@ -1,3 +1,4 @@
 pub mod MapOrder
 pub mod Elements
 pub mod AutoLemmas
+mod WalkLemmas

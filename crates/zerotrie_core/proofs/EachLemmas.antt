@@ -112,7 +112,7 @@ met_more e (x ∷ pairs) more =
     ∙ filter-filter (differs e) (met (with_front e pairs ++ more))
     ∙ met_more e pairs more
 
-met_front : (e : ℕ) (pairs more : Pairs) → (pairs ≡ [] → ⊥) → met (with_front e pairs ++ more) ≡ e ∷ filter (differs e) (met more)
+pub met_front : (e : ℕ) (pairs more : Pairs) → (pairs ≡ [] → ⊥) → met (with_front e pairs ++ more) ≡ e ∷ filter (differs e) (met more)
 met_front e [] more some = absurd (some refl)
 met_front e (x ∷ pairs) more some = ap (λ es. e ∷ es) (met_more e pairs more)
 

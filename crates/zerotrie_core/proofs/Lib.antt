@@ -14,6 +14,7 @@ mod GoingLemmas
 mod LaneLemmas
 mod PlaceLemmas
 mod ReaderLemmas
+mod CursorLemmas
 mod CaseLemmas
 mod MapLemmas
 mod NumberLaws

@@ -47,6 +47,8 @@ pub record HasSpan {kind : Kind} {bytes : List ℕ} {pairs : Pairs} (text : List
   pub inner : Lists kind rest below
   pub is : pairs ≡ with_run run below
   pub spans : has_spans kind ≡ true
+  pub some : run ≡ [] → ⊥
+  pub more : rest ≡ [] → ⊥
   pub counts : (key : List ℕ) → nodes text key ≡ 1 + option_map_or (λ k. nodes inner k) (after_run run key) 0
 
 -- What a branch has: the edges, their search table, and its targets.
@@ -197,7 +199,7 @@ span_opens (span {spelling = spelling} {rest = after} {pairs = below} front h so
     let one = one_reading 16 5 5 (length front) (length run) (spelling ++ (front ++ after)) (front ++ after) (run ++ rest) (record { spelling = spelling; spells = s; bytes_are = refl }) b in
     let parts = same_parts front run after rest one.0 one.1 in
     subst (λ r. HasSpan (span front h some high s m f text) run r) parts.1
-    (subst (λ r. HasSpan (span front h some high s m f text) r after) parts.0 (record { below = below; inner = text; is = refl; spans = h; counts = λ key. refl }))
+    (subst (λ r. HasSpan (span front h some high s m f text) r after) parts.0 (record { below = below; inner = text; is = refl; spans = h; some = some; more = m; counts = λ key. refl }))
 span_opens (branch {bytes = bytes} i each) run rest b = absurd (span_no_branch (length run) _ bytes (run ++ rest) _ b (head_begins i))
 
 -- no bytes list nothing

@@ -17,4 +17,5 @@ pub mod Routes
 pub mod Items
 pub mod plain
 pub mod reader
+pub mod cursor
 pub mod Laws

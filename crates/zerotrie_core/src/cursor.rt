@@ -10,6 +10,7 @@ ghost use Rattle.zerotrie_core.specs.Kind.{Kind, IsAscii};
 ghost use Rattle.zerotrie_core.specs.Texts.{Lists};
 ghost use Rattle.zerotrie_core.specs.Places.{IsStep, IsTake, IsProbe};
 
+use crate::edges::{behind_value, edge_like, edge_numbered, first_value};
 use crate::options::ZeroTrieWithOptions;
 
 /// What a probe of a trie over ASCII keys answers.
@@ -40,8 +41,16 @@ pub fn step<K: ZeroTrieWithOptions>(bytes: &mut &[u8], byte: u8) -> Option<u8>
     ensures meaning { IsStep K.kind (Lists K.kind bytes.old.now) byte result (Lists K.kind bytes.new.now) }
     ensures empty { IfNone result (bytes.new.now ≡ []) }
 {
-    *bytes = &[];
-    None
+    match edge_like::<K>(behind_value(bytes), byte) {
+        None => {
+            *bytes = &[];
+            None
+        }
+        Some(along) => {
+            *bytes = along.trie;
+            Some(along.edge)
+        }
+    }
 }
 
 /// Takes the value of the empty key off the front of the bytes of a trie of any kind. `None` where there is
@@ -58,7 +67,13 @@ pub fn take_value(bytes: &mut &[u8]) -> Option<usize>
     ensures meaning { (kind : Kind) → IsTake kind (Lists kind bytes.old.now) result (Lists kind bytes.new.now) }
     ensures none { IfNone result (bytes.new ≡ bytes.old) }
 {
-    None
+    match first_value(bytes) {
+        None => None,
+        Some((value, rest)) => {
+            *bytes = rest;
+            Some(value)
+        }
+    }
 }
 
 /// Goes along the edge of this number, and answers its byte and how many edges there are.
@@ -79,6 +94,17 @@ pub fn probe<K: ZeroTrieWithOptions>(bytes: &mut &[u8], index: usize) -> Option<
         (option_map {U = ℕ × ℕ} (λ r. (r.byte, r.total_siblings)) result) (Lists K.kind bytes.new.now) }
     ensures empty { IfNone result (bytes.new.now ≡ []) }
 {
-    *bytes = &[];
-    None
+    match edge_numbered::<K>(behind_value(bytes), index) {
+        None => {
+            *bytes = &[];
+            None
+        }
+        Some((along, edges)) => {
+            *bytes = along.trie;
+            Some(AsciiProbeResult {
+                byte: along.edge,
+                total_siblings: edges.min(255) as u8,
+            })
+        }
+    }
 }

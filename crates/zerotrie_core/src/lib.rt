@@ -3,6 +3,7 @@
 
 mod branch;
 mod cursor;
+mod edges;
 mod lanes;
 pub mod laws;
 mod node;

@@ -1,12 +1,17 @@
 //! The cursor of any kind, which may stand inside a span.
 
-ghost use Rattle.std.specs.Prelude.{◌≡◌, ◌≢◌, ◌↔◌, ℕ, [], IfSome, IfNone, IsTrue};
+ghost use Rattle.std.specs.Prelude.{◌≡◌, ◌≢◌, ◌↔◌, ◌≤◌, ℕ, [], IfSome, IfNone, IsTrue};
 ghost use Rattle.std.specs.Option.{option_map};
 ghost use Rattle.zerotrie_core.specs.Kind.{Kind};
 ghost use Rattle.zerotrie_core.specs.Maps.{Pairs};
 ghost use Rattle.zerotrie_core.specs.Texts.{Lists};
-ghost use Rattle.zerotrie_core.specs.Places.{Place, nowhere, ListsAt, IsStep, IsTake, IsProbe};
+ghost use Rattle.zerotrie_core.specs.Places.{Place, nowhere, ListsBehind, ListsAt, IsStep, IsTake, IsProbe};
+ghost use Rattle.zerotrie_core.specs.cursor.Edges.{place_along};
 
+use crate::cursor::take_value;
+use crate::edges::{
+    Along, behind_value, edge_like, edge_numbered, run_edge_like, run_edge_numbered,
+};
 use crate::options::ZeroTrieWithOptions;
 use std::marker::Model;
 
@@ -39,7 +44,50 @@ impl<'a> Model for SpanCursor<'a> {
     ghost view = { λ c. record { run = c.run.now; trie = c.trie.now } };
 }
 
+/// The edge that is the byte to the kind, behind a run and a trie.
+#[inline(always)]
+fn like_at<'a, K: ZeroTrieWithOptions>(run: &'a [u8], trie: &'a [u8], byte: u8) -> Option<Along<'a>>
+    ensures { IsStep K.kind (ListsBehind K.kind run.now trie.now) byte
+        (option_map (λ a. a.edge) result) (ListsAt K.kind (place_along result)) }
+{
+    if run.is_empty() {
+        edge_like::<K>(behind_value(trie), byte)
+    } else {
+        run_edge_like::<K>(run, trie, byte)
+    }
+}
+
+/// The edge of this number, and how many edges there are, behind a run and a trie.
+#[inline(always)]
+fn numbered_at<'a, K: ZeroTrieWithOptions>(
+    run: &'a [u8],
+    trie: &'a [u8],
+    index: usize,
+) -> Option<(Along<'a>, usize)>
+    ensures probe { IsProbe (ListsBehind K.kind run.now trie.now) index
+        (option_map {U = ℕ × ℕ} (λ r. (r.0.edge, r.1)) result)
+        (ListsAt K.kind (place_along (option_map (λ r. r.0) result))) }
+    ensures few { IfSome result (λ r. r.1 ≤ 256) }
+{
+    if run.is_empty() {
+        edge_numbered::<K>(behind_value(trie), index)
+    } else {
+        run_edge_numbered(run, trie, index)
+    }
+}
+
 impl<'a> SpanCursor<'a> {
+    /// A cursor behind an edge.
+    #[inline(always)]
+    fn behind(along: Along<'a>) -> Self
+        ensures { result ≡ record { run = along.entry.run.now; trie = along.entry.trie.now } }
+    {
+        SpanCursor {
+            run: along.run,
+            trie: along.trie,
+        }
+    }
+
     /// A cursor in front of all keys of a trie.
     pub fn new(bytes: &'a [u8]) -> Self
         ensures { result ≡ record { run = []; trie = bytes.now } }
@@ -78,7 +126,11 @@ impl<'a> SpanCursor<'a> {
         ensures meaning { (kind : Kind) → IsTake kind (ListsAt kind self.old) result (ListsAt kind self.new) }
         ensures none { IfNone result (self.new ≡ self.old) }
     {
-        None
+        if self.run.is_empty() {
+            take_value(&mut self.trie)
+        } else {
+            None
+        }
     }
 
     /// Goes along the edge that is the byte to the kind, and answers its byte.
@@ -86,8 +138,16 @@ impl<'a> SpanCursor<'a> {
         ensures meaning { IsStep K.kind (ListsAt K.kind self.old) byte result (ListsAt K.kind self.new) }
         ensures empty { IfNone result (self.new ≡ nowhere) }
     {
-        *self = SpanCursor::new(&[]);
-        None
+        match like_at::<K>(self.run, self.trie, byte) {
+            None => {
+                *self = SpanCursor::new(&[]);
+                None
+            }
+            Some(along) => {
+                *self = SpanCursor::behind(along);
+                Some(along.edge)
+            }
+        }
     }
 
     /// Goes along the edge of this number, and answers its byte and how many edges there are.
@@ -96,7 +156,18 @@ impl<'a> SpanCursor<'a> {
             (option_map {U = ℕ × ℕ} (λ r. (r.byte, r.total_siblings)) result) (ListsAt K.kind self.new) }
         ensures empty { IfNone result (self.new ≡ nowhere) }
     {
-        *self = SpanCursor::new(&[]);
-        None
+        match numbered_at::<K>(self.run, self.trie, index) {
+            None => {
+                *self = SpanCursor::new(&[]);
+                None
+            }
+            Some((along, edges)) => {
+                *self = SpanCursor::behind(along);
+                Some(ByteProbeResult {
+                    byte: along.edge,
+                    total_siblings: edges as u16,
+                })
+            }
+        }
     }
 }

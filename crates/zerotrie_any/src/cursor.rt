@@ -1,0 +1,73 @@
+//! A cursor taken through a list of calls, in a trie of any kind.
+
+ghost use Rattle.std.specs.Prelude.{IfOk};
+ghost use Rattle.zerotrie_core.specs.Places.{ListsAt};
+ghost use Rattle.zerotrie_any.specs.Walks.{IsTurn, IsWalk};
+
+use std::alloc::{AllocError, Global};
+use zerotrie_core::{SpanCursor, ZeroTrieWithOptions};
+
+/// One call of a cursor.
+#[derive(Clone, Debug, Drop, PartialEq, Eq)]
+pub enum CursorOp {
+    /// Goes along the edge that is this byte to the kind.
+    Step(u8),
+    /// Takes the value of the empty key.
+    Take,
+    /// Goes along the edge of this number.
+    Probe(usize),
+}
+
+/// What one call of a cursor answered.
+#[derive(Clone, Debug, Drop, PartialEq, Eq)]
+pub enum CursorAnswer {
+    /// The byte of the edge, as it is stored.
+    Stepped(Option<u8>),
+    /// The value.
+    Taken(Option<usize>),
+    /// The byte of the edge, and how many edges there are.
+    Probed(Option<(u8, u16)>),
+}
+
+/// One call.
+fn turn<K: ZeroTrieWithOptions>(cursor: &mut SpanCursor<'_>, op: &CursorOp) -> CursorAnswer
+    ensures { IsTurn K.kind (ListsAt K.kind cursor.old) op.now result (ListsAt K.kind cursor.new) }
+{
+    match op {
+        CursorOp::Step(byte) => CursorAnswer::Stepped(cursor.step::<K>(*byte)),
+        CursorOp::Take => CursorAnswer::Taken(cursor.take_value()),
+        CursorOp::Probe(index) => CursorAnswer::Probed(
+            cursor
+                .probe::<K>(*index)
+                .map(|found| (found.byte, found.total_siblings)),
+        ),
+    }
+}
+
+/// What a cursor in front of all keys of a trie answers to a list of calls, each on what the one before it
+/// leaves.
+///
+/// ```
+/// let bytes = [0x61, 0x85];                           // the key "a" with value 5
+/// let ops = [CursorOp::Step(b'a'), CursorOp::Take, CursorOp::Take, CursorOp::Probe(0)];
+/// let answers = walk::<Simple>(rt.alloc(), &bytes, &ops)?;
+/// // Stepped(Some(b'a')), Taken(Some(5)), Taken(None), Probed(None)
+/// ```
+///
+/// On bytes that mean a map the answers are those of the machine over the map's pairs, in the order in which
+/// the bytes list them. It returns on any bytes, and is refused for want of memory alone.
+pub fn walk<K: ZeroTrieWithOptions>(
+    alloc: Global,
+    bytes: &[u8],
+    ops: &[CursorOp],
+) -> Result<Vec<CursorAnswer>, AllocError>
+    ensures { IfOk result (λ answers. IsWalk K.kind bytes.now ops.now answers.items) }
+{
+    let mut cursor = SpanCursor::new(bytes);
+    let mut answers = Vec::new(alloc);
+    for op in ops {
+        let answer = turn::<K>(&mut cursor, op);
+        answers.push(answer)?;
+    }
+    Ok(answers)
+}

@@ -1,0 +1,2 @@
+-- Words of the cursors' private functions.
+pub mod Edges
