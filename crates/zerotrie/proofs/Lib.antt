@@ -5,3 +5,5 @@ mod RecordLemmas
 mod StepLemmas
 mod CellLemmas
 mod LookLemmas
+mod TextLemmas
+mod PlaceLemmas
