@@ -7,3 +7,5 @@ mod CellLemmas
 mod LookLemmas
 mod TextLemmas
 mod PlaceLemmas
+mod RowLemmas
+mod EntryLemmas

@@ -1,5 +1,5 @@
 -- Texts in order, and where each stands.
-use Rattle.std.proofs.Common.{◌≡◌, ℕ, ◌+◌, ◌-◌, ◌*◌, ◌<◌, ◌≤◌, List, [], ◌∷◌, ◌++◌, refl, sym, ap, subst, ◌∙◌, arith, Bool, true, false, cond, inl, inr, Option, Some, None, length, get_or, map, zero, suc, Ordering, length-append, length-map}
+use Rattle.std.proofs.Common.{◌≡◌, ℕ, ◌+◌, ◌-◌, ◌*◌, ◌<◌, ◌≤◌, List, [], ◌∷◌, ◌++◌, refl, sym, ap, subst, ◌∙◌, arith, Bool, true, false, cond, inl, inr, Option, Some, None, length, get_or, map, zero, suc, Ordering}
 use Rattle.std.specs.Prelude.{not, ◌==◌, ◌⊎◌, ◌&&◌, ◌||◌, filter}
 use Rattle.std.specs.List.{flat_map}
 use Rattle.std.specs.Ordering.{nat_cmp, match_ordering, is_eq}
@@ -35,31 +35,30 @@ equal_same : (x t : List ℕ) → slice_cmp nat_cmp x t ≡ Equal → same x t �
 equal_same x t h = sym (is_eq-slice_cmp x t) ∙ ap is_eq h
 
 -- a text that is put is there, and the others stay
-put_kept : (x : List ℕ) (S : List (List ℕ)) (s : List ℕ) → among S s ≡ true → among (put_text x S) s ≡ true
-kept_by : (x t : List ℕ) (S : List (List ℕ)) (s : List ℕ) (o : Ordering) → among (t ∷ S) s ≡ true
+kept_by : (x t : List ℕ) (S : List (List ℕ)) (s : List ℕ) (o : Ordering) → (among S s ≡ true → among (put_text x S) s ≡ true) → among (t ∷ S) s ≡ true
     → among (match_ordering o (x ∷ t ∷ S) (t ∷ S) (t ∷ put_text x S)) s ≡ true
-
-put_kept x [] s h = absurd (cc)
-put_kept x (t ∷ S) s h = kept_by x t S s (slice_cmp nat_cmp x t) h
-
-kept_by x t S s Less h = among_later x (t ∷ S) s h
-kept_by x t S s Equal h = h
-kept_by x t S s Greater h = elim (of_or (same t s) (among S s) h) [
+kept_by x t S s Less later h = among_later x (t ∷ S) s h
+kept_by x t S s Equal later h = h
+kept_by x t S s Greater later h = elim (of_or (same t s) (among S s) h) [
   | inl y ↦ among_first t (put_text x S) s y
-  | inr more ↦ among_later t (put_text x S) s (put_kept x S s more)
+  | inr more ↦ among_later t (put_text x S) s (later more)
 ]
 
-put_there : (x : List ℕ) (S : List (List ℕ)) → among (put_text x S) x ≡ true
-there_by : (x t : List ℕ) (S : List (List ℕ)) (o : Ordering) → slice_cmp nat_cmp x t ≡ o → among (match_ordering o (x ∷ t ∷ S) (t ∷ S) (t ∷ put_text x S)) x ≡ true
+put_kept : (x : List ℕ) (S : List (List ℕ)) (s : List ℕ) → among S s ≡ true → among (put_text x S) s ≡ true
+put_kept x [] s h = absurd (cc)
+put_kept x (t ∷ S) s h = kept_by x t S s (slice_cmp nat_cmp x t) (put_kept x S s) h
 
-put_there x [] = among_first x [] x (exact_itself x)
-put_there x (t ∷ S) = there_by x t S (slice_cmp nat_cmp x t) refl
-
-there_by x t S Less e = among_first x (t ∷ S) x (exact_itself x)
-there_by x t S Equal e =
+there_by : (x t : List ℕ) (S : List (List ℕ)) (o : Ordering) → among (put_text x S) x ≡ true → slice_cmp nat_cmp x t ≡ o
+    → among (match_ordering o (x ∷ t ∷ S) (t ∷ S) (t ∷ put_text x S)) x ≡ true
+there_by x t S Less later e = among_first x (t ∷ S) x (exact_itself x)
+there_by x t S Equal later e =
     let is : x ≡ t = exact_same x t (equal_same x t e) in
     among_first t S x (subst (λ y. same y x ≡ true) is (exact_itself x))
-there_by x t S Greater e = among_later t (put_text x S) x (put_there x S)
+there_by x t S Greater later e = among_later t (put_text x S) x later
+
+put_there : (x : List ℕ) (S : List (List ℕ)) → among (put_text x S) x ≡ true
+put_there x [] = among_first x [] x (exact_itself x)
+put_there x (t ∷ S) = there_by x t S (slice_cmp nat_cmp x t) (put_there x S) refl
 
 puts_kept : (xs S : List (List ℕ)) (s : List ℕ) → among S s ≡ true → among (put_texts xs S) s ≡ true
 puts_kept [] S s h = h
