@@ -1,5 +1,4 @@
 mod callers;
-mod dense;
 mod examples;
 mod refusals;
 mod routes;
