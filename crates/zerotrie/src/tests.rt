@@ -1,4 +1,5 @@
 mod callers;
+mod dense;
 mod examples;
 mod refusals;
 mod routes;
