@@ -1,3 +1,12 @@
 pub mod Builds
 pub mod Forms
 pub mod Lookups
+mod WindowLaws
+mod RecordLemmas
+mod StepLemmas
+mod CellLemmas
+mod LookLemmas
+mod TextLemmas
+mod PlaceLemmas
+mod RowLemmas
+mod EntryLemmas

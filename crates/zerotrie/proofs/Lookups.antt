@@ -47,7 +47,7 @@ chosen : (b : Bool) (v w : ℕ) (o : Option ℕ) → cond b (Some v) o ≡ Some 
 chosen true v w o e = inl (refl, cc)
 chosen false v w o e = inr (refl, e)
 
-one_of : (kind : Kind) (pairs : Pairs) (key : List ℕ) (v : ℕ) → value_at kind pairs key ≡ Some v → (own : List ℕ) × Contains pairs (own, v) × (same_key kind own key ≡ true)
+pub one_of : (kind : Kind) (pairs : Pairs) (key : List ℕ) (v : ℕ) → value_at kind pairs key ≡ Some v → (own : List ℕ) × Contains pairs (own, v) × (same_key kind own key ≡ true)
 one_of kind [] key v found = absurd (cc)
 one_of kind (e ∷ pairs) key v found = elim (chosen (same_key kind e.0 key) e.1 v (value_at kind pairs key) found) [
   | inl here ↦ (e.0, (0, omega arith, ap (λ w. (e.0, w)) here.1), here.0)
@@ -75,7 +75,7 @@ picked P (e ∷ pairs) key v all found = elim (chosen (same_key simple_ascii e.0
   | inr later ↦ picked P pairs key v all.1 later.1
 ]
 
-key_there : (pairs : Pairs) (key : List ℕ) (v i : ℕ) → i < length pairs → slice_index_or pairs i (key, v) ≡ (key, v) → Contains (map {B = List ℕ} (λ f. f.0) pairs) key
+pub key_there : (pairs : Pairs) (key : List ℕ) (v i : ℕ) → i < length pairs → slice_index_or pairs i (key, v) ≡ (key, v) → Contains (map {B = List ℕ} (λ f. f.0) pairs) key
 key_there [] key v i below is = absurd (omega arith)
 key_there (e ∷ pairs) key v zero below is = (0, omega arith, ap (λ f. f.0) is)
 key_there (e ∷ pairs) key v (suc i) below is = let r = key_there pairs key v i (omega arith) is in (suc r.0, omega (arith, r.1), r.2)

@@ -30,8 +30,5 @@ pub use Rattle.zerotrie_any.specs.Walks
 pub use Rattle.zerotrie_ascii.specs.Writing
 pub use Rattle.zerotrie_any.specs.Listed
 pub use Rattle.zerotrie_ascii.specs.ListedTexts
-pub use Rattle.zerotrie_core.specs.Cursors
-pub use Rattle.zerotrie_core.specs.Machine
-pub use Rattle.zerotrie_core.specs.Places
 pub use Rattle.zerotrie_core.specs.CursorLaws
-pub use Rattle.zerotrie_any.specs.Walks
+pub mod dense

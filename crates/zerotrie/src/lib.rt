@@ -36,6 +36,7 @@
 //! `laws` has the laws of texts and maps, and `json_keeps_the_pairs` that of JSON.
 #![tactic(auto)]
 
+pub mod dense;
 #[cfg(test)]
 mod tests;
 

@@ -1,6 +1,7 @@
 mod arrays;
 mod callers;
 mod cursors;
+mod dense;
 mod examples;
 mod fallback;
 mod listings;

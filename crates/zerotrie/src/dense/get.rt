@@ -1,0 +1,134 @@
+//! Look-ups in a dense table.
+
+ghost use Rattle.std.specs.Prelude.{◌≡◌, ◌==◌, ◌+◌, ◌*◌, Some};
+ghost use Rattle.std.specs.List.{list_any};
+ghost use Rattle.zerotrie_core.specs.Kind.{simple_ascii};
+ghost use Rattle.zerotrie_core.specs.Machine.{after_steps};
+ghost use Rattle.zerotrie_core.specs.Maps.{Pairs, Map, value_at};
+ghost use Rattle.zerotrie_core.specs.Texts.{Lists, Means};
+ghost use Rattle.zerotrie.specs.dense.Laws.{Answers, AnswersByMaps, cell_at, in_matrix};
+ghost use Rattle.zerotrie.specs.dense.Reading.{row_answer, beside_value};
+ghost use Rattle.zerotrie.specs.dense.Views.{parts_of};
+
+use crate::dense::laws::answer_is_entry;
+use crate::dense::table::ZeroAsciiDenseSparse2dTrieBorrowed;
+use zerotrie_core::{Simple, laws, step, take_value};
+
+/// Goes along each byte of a key, one after another.
+fn follow(trie: &mut &[u8], key: &[u8])
+    ensures { (pairs : Pairs) → Lists simple_ascii trie.old.now pairs
+        → Lists simple_ascii trie.new.now (after_steps simple_ascii key.now pairs) }
+{
+    for byte in key {
+        let _edge = step::<Simple>(trie, *byte);
+    }
+}
+
+/// The value of a key in the trie that is left.
+fn value_behind(trie: &[u8], key: &[u8]) -> Option<usize>
+    ensures { (pairs : Pairs) → Lists simple_ascii trie.now pairs → result ≡ value_at simple_ascii pairs key.now }
+{
+    let mut left = trie;
+    follow(&mut left, key);
+    take_value(&mut left)
+}
+
+/// The value of a key in the trie that is left, but of the empty key none.
+fn value_beside(trie: &[u8], key: &[u8]) -> Option<usize>
+    ensures { (pairs : Pairs) → Lists simple_ascii trie.now pairs → result ≡ beside_value pairs key.now }
+{
+    if key.is_empty() {
+        return None;
+    }
+    value_behind(trie, key)
+}
+
+/// Whether a text holds the byte.
+fn holds(text: &[u8], byte: u8) -> bool
+    ensures { result ≡ list_any (λ b. b == byte) text.now }
+{
+    text.contains(&byte)
+}
+
+impl<'a> ZeroAsciiDenseSparse2dTrieBorrowed<'a> {
+    /// The value of a suffix in the row of a prefix, or `None` where it is not there.
+    ///
+    /// ```
+    /// assert_eq!(rt; table.get("en", "US"), Some(8));
+    /// assert_eq!(rt; table.get("en", "UK"), None);
+    /// ```
+    ///
+    /// A text that holds the delimiter or is not ASCII is in no table. The call takes no memory, and gives
+    /// some answer on a table that was read from any record.
+    pub fn get(&self, prefix: &str, suffix: &str) -> Option<usize>
+        ensures entry { Answers (parts_of self.now) prefix.now suffix.now result }
+        ensures maps { AnswersByMaps (parts_of self.now) prefix.now suffix.now result }
+    {
+        laws::canonical_exactly();
+        answer_is_entry();
+        self.answer(prefix.as_bytes(), suffix.as_bytes())
+    }
+
+    /// What the two tries and the matrix answer.
+    fn answer(&self, prefix: &[u8], suffix: &[u8]) -> Option<usize>
+        ensures { AnswersByMaps (parts_of self.now) prefix.now suffix.now result }
+    {
+        if holds(prefix, self.delimiter) || holds(suffix, self.delimiter) {
+            return None;
+        }
+        let mut trie = self.primary.as_bytes();
+        follow(&mut trie, prefix);
+        let row = take_value(&mut trie);
+        let _edge = step::<Simple>(&mut trie, self.delimiter);
+        match row {
+            Some(row) => self.answer_in_row(trie, row, suffix),
+            None => value_behind(trie, suffix),
+        }
+    }
+
+    /// What the dense row of a number answers, where `trie` is what the primary trie has behind prefix and
+    /// delimiter.
+    fn answer_in_row(&self, trie: &[u8], row: usize, suffix: &[u8]) -> Option<usize>
+        ensures { (pairs : Pairs) (columns : Map) → Lists simple_ascii trie.now pairs
+            → Means simple_ascii (parts_of self.now).suffixes columns
+            → result ≡ row_answer (parts_of self.now) pairs columns suffix.now row }
+    {
+        let mut left = trie;
+        let offset = take_value(&mut left);
+        match value_beside(left, suffix) {
+            Some(value) => Some(value),
+            None => self.in_matrix(row, offset, self.suffixes.get(suffix)),
+        }
+    }
+
+    /// The value in the matrix of a row with this offset and of a column, if these are there.
+    fn in_matrix(&self, row: usize, offset: Option<usize>, column: Option<usize>) -> Option<usize>
+        ensures { result ≡ in_matrix (parts_of self.now) row offset column }
+    {
+        self.cell_value(row, offset?, column?)
+    }
+
+    /// The value in the matrix of a row with this offset and of a column.
+    fn cell_value(&self, row: usize, offset: usize, column: usize) -> Option<usize>
+        ensures { result ≡ in_matrix (parts_of self.now) row (Some offset) (Some column) }
+    {
+        let cell = self.cell(row, column)?;
+        if cell == u16::MAX {
+            return None;
+        }
+        offset.checked_add(usize::from(cell))
+    }
+
+    /// The cell of a row and a column, if there is one.
+    fn cell(&self, row: usize, column: usize) -> Option<u16>
+        ensures { result ≡ cell_at (parts_of self.now).matrix (row * (parts_of self.now).suffix_count + column) }
+    {
+        let index = row
+            .checked_mul(usize::from(self.suffix_count))?
+            .checked_add(column)?;
+        if index >= self.matrix.len() / 2 {
+            return None;
+        }
+        Some(u16::from_le_bytes([self.matrix[2 * index], self.matrix[2 * index + 1]]))
+    }
+}

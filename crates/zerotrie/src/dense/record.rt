@@ -1,0 +1,105 @@
+//! The record of a dense table: all of it in one list of bytes.
+
+ghost use Rattle.std.specs.Prelude.{◌≡◌, ◌+◌, ◌<◌, ◌≤◌, ◌↔◌, IfOk, IsOkAnd, length};
+ghost use Rattle.std.specs.Result.{IsErrOf};
+ghost use Rattle.zerotrie.specs.dense.Records.{Parts, record_of, asked, number_at};
+ghost use Rattle.zerotrie.specs.dense.Laws.{IsWhole};
+ghost use Rattle.zerotrie.specs.dense.Views.{parts_of};
+
+use crate::dense::table::ZeroAsciiDenseSparse2dTrieBorrowed;
+use std::alloc::{AllocError, Global};
+use thiserror::Error;
+use zerotrie_ascii::ZeroTrieSimpleAscii;
+
+/// Why bytes are no record of a dense table.
+#[derive(Clone, PartialEq, Eq, Debug, Drop, Error)]
+pub enum RecordError {
+    /// There are fewer bytes than the record asks for.
+    #[error("The record ends too early")]
+    Truncated,
+    /// There are more bytes than the record asks for.
+    #[error("There are bytes behind the record")]
+    TrailingBytes,
+}
+
+/// The number in eight bytes from a place on, the lowest first.
+fn number_in(bytes: &[u8], place: usize) -> usize
+    requires { place + 8 ≤ length bytes.now }
+    ensures { result ≡ number_at bytes.now place }
+{
+    let (_, rest) = bytes.split_at(place);
+    usize::from_le_bytes([
+        rest[0], rest[1], rest[2], rest[3], rest[4], rest[5], rest[6], rest[7],
+    ])
+}
+
+impl<'a> ZeroAsciiDenseSparse2dTrieBorrowed<'a> {
+    /// The record of the table, from which `try_from_record_bytes` reads it.
+    ///
+    /// Numbers stand in it with the lowest byte first: the number of suffixes in two bytes, the delimiter,
+    /// the lengths of the two tries and the number of cells in eight bytes each. The tries and the cells of
+    /// the matrix follow, two bytes a cell.
+    ///
+    /// The only error is want of memory.
+    pub fn to_record_bytes(&self, alloc: Global) -> Result<Vec<u8>, AllocError>
+        ensures { IfOk result (λ bytes. bytes.items ≡ record_of (parts_of self.now)) }
+    {
+        let primary = self.primary.as_bytes();
+        let suffixes = self.suffixes.as_bytes();
+        let mut record = Vec::new(alloc);
+        record.extend_from_slice(&self.suffix_count.to_le_bytes())?;
+        record.extend_from_slice(&[self.delimiter])?;
+        record.extend_from_slice(&primary.len().to_le_bytes())?;
+        record.extend_from_slice(&suffixes.len().to_le_bytes())?;
+        record.extend_from_slice(&(self.matrix.len() / 2).to_le_bytes())?;
+        record.extend_from_slice(primary)?;
+        record.extend_from_slice(suffixes)?;
+        record.extend_from_slice(self.matrix)?;
+        Ok(record)
+    }
+
+    /// The table of a record, over its bytes. It takes no memory.
+    ///
+    /// ```
+    /// let record = table.to_record_bytes(rt.alloc())?;
+    /// let again = ZeroAsciiDenseSparse2dTrieBorrowed::try_from_record_bytes(record.as_slice());
+    /// assert!(rt; again.is_ok_and(|read| read == table));
+    /// ```
+    ///
+    /// A record asks for as many bytes as its first 27 say. With fewer the error is `Truncated`, with more
+    /// `TrailingBytes`. The tries and the matrix are not tested: on any table `get` gives some answer.
+    pub fn try_from_record_bytes(bytes: &'a [u8]) -> Result<Self, RecordError>
+        ensures read { IfOk result (λ t. bytes.now ≡ record_of (parts_of t)) }
+        ensures truncated { IsErrOf result RecordError.Truncated ↔ (length bytes.now < asked bytes.now) }
+        ensures written { (parts : Parts) → IsWhole parts → bytes.now ≡ record_of parts
+            → IsOkAnd result (λ t. parts_of t ≡ parts) }
+        ensures trailing { IsErrOf result RecordError.TrailingBytes ↔ (asked bytes.now < length bytes.now) }
+    {
+        if bytes.len() < 27 {
+            return Err(RecordError::Truncated);
+        }
+        let primary_len = number_in(bytes, 3);
+        let suffixes_len = number_in(bytes, 11);
+        let cells = number_in(bytes, 19);
+        let asked = 27 + primary_len as u128 + suffixes_len as u128 + 2 * (cells as u128);
+        let given = bytes.len() as u128;
+        if given < asked {
+            return Err(RecordError::Truncated);
+        }
+        if asked < given {
+            return Err(RecordError::TrailingBytes);
+        }
+        let suffix_count = u16::from_le_bytes([bytes[0], bytes[1]]);
+        let delimiter = bytes[2];
+        let (_, rest) = bytes.split_at(27);
+        let (primary, rest) = rest.split_at(primary_len);
+        let (suffixes, matrix) = rest.split_at(suffixes_len);
+        Ok(ZeroAsciiDenseSparse2dTrieBorrowed {
+            primary: ZeroTrieSimpleAscii::from_bytes(primary),
+            suffixes: ZeroTrieSimpleAscii::from_bytes(suffixes),
+            matrix,
+            suffix_count,
+            delimiter,
+        })
+    }
+}

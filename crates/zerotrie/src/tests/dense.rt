@@ -1,0 +1,166 @@
+//! Dense tables: look-ups in records, and records that are refused.
+
+use super::*;
+use crate::dense::{RecordError, ZeroAsciiDenseSparse2dTrieBorrowed};
+
+/// A prefix, a suffix and a value.
+type Entry<'a> = (&'a str, &'a str, usize);
+
+/// Entries, and the parts of their table: primary trie, trie of the suffixes, number of suffixes, cells.
+type Row<'a> = (&'a [Entry<'a>], &'a [u8], &'a [u8], u16, &'a [u16]);
+
+/// The record with these parts.
+fn record_with(alloc: Global, row: &Row<'_>) -> Result<Vec<u8>, Fail> {
+    let (_, primary, suffixes, count, cells) = *row;
+    let mut record = Vec::new(alloc);
+    record.extend_from_slice(&count.to_le_bytes())?;
+    record.push(b'/')?;
+    for len in [primary.len(), suffixes.len(), cells.len()] {
+        record.extend_from_slice(&len.to_le_bytes())?;
+    }
+    record.extend_from_slice(primary)?;
+    record.extend_from_slice(suffixes)?;
+    for cell in cells {
+        record.extend_from_slice(&cell.to_le_bytes())?;
+    }
+    Ok(record)
+}
+
+/// A record of these parts is read, finds each of the entries, and is written as it was.
+fn is_record_of<H: AllocGlobal + Abort>(rt: &H, row: &Row<'_>) -> Result<(), Fail> {
+    let record = record_with(rt.alloc(), row)?;
+    let table = ZeroAsciiDenseSparse2dTrieBorrowed::try_from_record_bytes(record.as_slice())?;
+    assert_eq!(rt; table.to_record_bytes(rt.alloc())?, record);
+    for (prefix, suffix, value) in row.0 {
+        assert_eq!(rt; table.get(prefix, suffix), Some(*value));
+        assert_eq!(rt; table.get(suffix, prefix), None);
+    }
+    Ok(())
+}
+
+/// The window of the first row is full: it has the numbers from 52 to 65,586.
+const WIDE: &[Entry<'_>] = &[
+    ("p", "a", 50),
+    ("p", "b", 52),
+    ("p", "c", 53),
+    ("p", "c2", 53),
+    ("p", "c3", 53),
+    ("p", "d", 65_582),
+    ("p", "e", 65_583),
+    ("p", "f", 65_584),
+    ("p", "g", 65_585),
+    ("p", "h", 65_586),
+    ("p", "high", 65_685),
+    ("p", "low", 0),
+    ("p", "low2", 0),
+];
+
+#[test]
+fn records_find_their_entries(rt: HostRuntime) -> Result<(), Fail> {
+    let rows: [Row<'_>; 6] = [
+        (
+            &[
+                ("ar", "FR", 0),
+                ("ar", "IR", 1),
+                ("ar", "SA", 2),
+                ("ar", "UK", 3),
+                ("ar", "US", 4),
+                ("en", "AU", 5),
+                ("en", "FR", 6),
+                ("en", "UK", 7),
+                ("en", "US", 8),
+                ("fr", "FR", 9),
+                ("fr", "SA", 10),
+                ("fr", "UK", 11),
+                ("fr", "US", 12),
+                ("it", "IT", 13),
+            ],
+            b"\xC4aefi\x04\x08\x0Cr\x80/\x80n\x81/\x85r\x82/\x89t/IT\x8D",
+            b"\xC5AFISU\x02\x04\x0A\x0CU\x80R\x81\xC2RT\x01\x82\x83A\x84\xC2KS\x01\x85\
+            \x86",
+            7,
+            &[
+                65535, 0, 1, 65535, 2, 3, 4, 0, 1, 65535, 65535, 65535, 2, 3, 65535, 0, 65535,
+                65535, 1, 2, 3,
+            ],
+        ),
+        (
+            &[
+                ("aaa", "BBB", 1),
+                ("aaa", "CCC", 2),
+                ("ddd", "BBB", 3),
+                ("ddd", "EEE", 4),
+                ("fff", "BBB", 5),
+            ],
+            b"\xC3adf\x05\x0Aaa\x80/\x81dd\x81/\x83ff/BBB\x85",
+            b"\xC3BCE\x03\x06BB\x80CC\x81EE\x82",
+            3,
+            &[0, 1, 65535, 0, 65535, 1],
+        ),
+        (
+            &[("aa", "", 100), ("aa", "BBBB", 101)],
+            b"aa\x80/\x90T",
+            b"\x80BBBB\x81",
+            2,
+            &[0, 1],
+        ),
+        (
+            WIDE,
+            b"p\x80/\x90$\xC3ahl\x02\x08\x90\x22igh\x93\xF1\x05ow\x802\x80",
+            b"\xC9abcdefghl\x01\x02\x09\x0A\x0B\x0C\x0D\x12\x80\x81\x82\xC223\x01\x83\
+            \x84\x85\x86\x87\x88\x89igh\x8Aow\x8B2\x8C",
+            13,
+            &[
+                65535, 0, 1, 1, 1, 65530, 65531, 65532, 65533, 65534, 65535, 65535, 65535,
+            ],
+        ),
+        (
+            &[
+                ("de", "AT", 8),
+                ("de", "CH", 9),
+                ("de", "DE", 7),
+                ("de", "rare3", 102),
+                ("en", "CA", 3),
+                ("en", "GB", 2),
+                ("en", "US", 1),
+                ("en", "rare1", 100),
+                ("es", "ES", 104),
+                ("es", "rare4", 103),
+                ("fr", "BE", 6),
+                ("fr", "CA", 5),
+                ("fr", "FR", 4),
+                ("fr", "rare2", 101),
+            ],
+            b"\xC3def\x16=e/\xC4ACDr\x02\x04\x06T\x88H\x89E\x87are3\x90V\xC2ns\x15/\xC4C\
+            GUr\x02\x04\x06A\x83B\x82S\x81are1\x90T/\xC2Er\x03S\x90Xare4\x90Wr/\xC4BCFr\
+            \x02\x04\x06E\x86A\x85R\x84are2\x90U",
+            b"\xC9ABCDEFGUr\x02\x04\x0A\x0C\x0E\x10\x12\x14T\x80E\x81\xC2AH\x01\x82\x83E\
+            \x84S\x85R\x86B\x87S\x88are\xC41234\x01\x02\x03\x89\x8A\x8B\x8C",
+            13,
+            &[],
+        ),
+        (&[], b"", b"", 0, &[]),
+    ];
+    for row in rows {
+        is_record_of::<HostRuntime>(&rt, &row)?;
+    }
+    Ok(())
+}
+
+#[test]
+fn records_have_their_length(rt: HostRuntime) -> Result<(), Fail> {
+    let parts: Row<'_> = (&[], b"aa/\x87", b"\x80", 1, &[]);
+    let mut record = record_with(rt.alloc(), &parts)?;
+    for len in 0..record.len() {
+        let read = ZeroAsciiDenseSparse2dTrieBorrowed::try_from_record_bytes(
+            &record.as_slice()[..len],
+        );
+        assert!(rt; read.is_err_and(|e| e == RecordError::Truncated));
+    }
+    let sparse = ZeroAsciiDenseSparse2dTrieBorrowed::try_from_record_bytes(record.as_slice())?;
+    assert!(rt; sparse.get("aa", "") == Some(7) && sparse.get("aa/", "") == None);
+    record.push(0)?;
+    let read = ZeroAsciiDenseSparse2dTrieBorrowed::try_from_record_bytes(record.as_slice());
+    assert!(rt; read.is_err_and(|e| e == RecordError::TrailingBytes));
+    Ok(())
+}
