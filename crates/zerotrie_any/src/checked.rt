@@ -15,7 +15,7 @@ use zerotrie_core::{Ext, Hash, Simple, TrieStore, is_well_formed};
 /// assert!(rt; refused == Some(NotWellFormed));
 /// ```
 #[derive(Clone, Copy, PartialEq, Eq, Debug, Error)]
-#[error("Bytes are not a well-formed trie")]
+#[error("NotWellFormed")]
 pub struct NotWellFormed;
 
 impl<'a> ZeroTrie<&'a [u8]> {

@@ -15,10 +15,10 @@ use zerotrie_ascii::ZeroTrieSimpleAscii;
 #[derive(Clone, PartialEq, Eq, Debug, Drop, Error)]
 pub enum RecordError {
     /// There are fewer bytes than the record asks for.
-    #[error("The record ends too early")]
+    #[error("Truncated")]
     Truncated,
     /// There are more bytes than the record asks for.
-    #[error("There are bytes behind the record")]
+    #[error("TrailingBytes")]
     TrailingBytes,
 }
 

@@ -101,7 +101,7 @@ fn bytes_are_taken_or_refused(rt: HostRuntime) -> Result<(), Fail> {
         assert!(rt; ZeroTrie::try_from_bytes::<Ext>(wrong).is_err());
     }
     let text = format!(in rt.alloc(); "{}", NotWellFormed)?;
-    assert_eq!(rt; text.as_str(), "Bytes are not a well-formed trie");
+    assert_eq!(rt; text.as_str(), "NotWellFormed");
     Ok(())
 }
 
