@@ -1,3 +1,4 @@
 pub mod Builds
+pub mod Fallbacks
 pub mod Forms
 pub mod Lookups

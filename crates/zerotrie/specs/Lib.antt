@@ -35,3 +35,4 @@ pub use Rattle.zerotrie_core.specs.Machine
 pub use Rattle.zerotrie_core.specs.Places
 pub use Rattle.zerotrie_core.specs.CursorLaws
 pub use Rattle.zerotrie_any.specs.Walks
+pub mod Fallback

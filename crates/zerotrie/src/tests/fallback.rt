@@ -1,10 +1,18 @@
 //! A table of locales with a fallback: the value of the longest key that a given name begins with.
 
-use super::*;
-use crate::cursor::ZeroTrieSimpleAsciiCursor;
+ghost use Rattle.zerotrie.specs.Fallback.{IsFallback};
+ghost use Rattle.zerotrie_core.specs.Kind.{simple_ascii};
+ghost use Rattle.zerotrie_core.specs.Maps.{Map};
+ghost use Rattle.zerotrie_core.specs.Texts.{Means};
 
-/// The value of the longest key that the name begins with.
-fn fallback(mut cursor: ZeroTrieSimpleAsciiCursor<'_>, name: &[u8]) -> Option<usize> {
+use super::*;
+
+/// The value of the longest key that the name begins with. `None` where it begins with no key.
+fn fallback<S: TrieStore>(trie: &ZeroTrieSimpleAscii<S>, name: &[u8]) -> Option<usize>
+    ensures { (m : Map) → Means simple_ascii (S.stored trie.now.store) m → IsFallback simple_ascii m name.now result }
+{
+    laws::steps_look_ahead();
+    let mut cursor = trie.cursor();
     let mut found = cursor.take_value();
     for byte in name {
         cursor.step(*byte);
@@ -33,7 +41,10 @@ fn names_fall_back(rt: HostRuntime) -> Result<(), Fail> {
         (b"", 0),
     ];
     for (name, value) in rows {
-        assert_eq!(rt; fallback(trie.cursor(), name), Some(value));
+        assert_eq!(rt; fallback(&trie, name), Some(value));
     }
+    let english = ZeroTrieSimpleAscii::from_bytes(b"en\x81");
+    assert_eq!(rt; fallback(&english, b"en-GB"), Some(1));
+    assert_eq!(rt; fallback(&english, b"e"), None);
     Ok(())
 }
