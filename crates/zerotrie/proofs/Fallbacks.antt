@@ -33,13 +33,13 @@ pub starts : (kind : Kind) (pairs : Pairs) (name : List ℕ)
 starts kind pairs name = going_same (value_at kind pairs []) (value_at kind (without_value pairs)) (value_at kind pairs) name (others_stay kind pairs)
 
 -- a step and a take go on
-pub goes_on : (kind : Kind) (bytes : List ℕ) (pairs : Pairs) → StepsAnswer → Lists kind bytes pairs → (found : Option ℕ) (c : ℕ) (name : List ℕ)
-    → going (option_or (value_at kind (after_steps kind (c ∷ []) pairs) []) found) (value_at kind (without_value (after_steps kind (c ∷ []) pairs))) name
-    ≡ going found (value_at kind pairs) (c ∷ name)
-goes_on kind bytes pairs law lists found c name =
+pub goes_on : (kind : Kind) (bytes : List ℕ) (pairs : Pairs) → StepsAnswer → Lists kind bytes pairs → (found taken next : Option ℕ) (c : ℕ) (name : List ℕ)
+    → taken ≡ value_at kind (after_steps kind (c ∷ []) pairs) [] → next ≡ option_or taken found
+    → going next (value_at kind (without_value (after_steps kind (c ∷ []) pairs))) name ≡ going found (value_at kind pairs) (c ∷ name)
+goes_on kind bytes pairs law lists found taken next c name takes is =
     let left = after_steps kind (c ∷ []) pairs in
     let behind : (key : List ℕ) → value_at kind left key ≡ value_at kind pairs (c ∷ key) = λ key. law kind (record { run = []; trie = bytes }) pairs lists (c ∷ []) key in
-    ap (λ o. going (option_or o found) (value_at kind (without_value left)) name) (behind [])
+    ap (λ o. going o (value_at kind (without_value left)) name) (is ∙ ap (λ o. option_or o found) (takes ∙ behind []))
     ∙ going_same (option_or (value_at kind pairs (c ∷ [])) found) (value_at kind (without_value left)) (λ key. value_at kind pairs (c ∷ key)) name
     (λ d key. others_stay kind left d key ∙ behind (d ∷ key))
 

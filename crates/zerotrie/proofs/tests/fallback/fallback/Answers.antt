@@ -1,5 +1,4 @@
 use Rattle.std.proofs.Common.{◌≡◌, ◌+◌, ◌∷◌, [], drop, get_or, sym, ◌∙◌, ap, subst, arith}
-use Rattle.std.specs.Option.{option_or}
 use Rattle.std.proofs.lemmas.List.{drop_more}
 use Rattle.std.proofs.Math.ListN.{drop_of_length-le}
 use Rattle.zerotrie_core.specs.Kind.{simple_ascii}
@@ -28,8 +27,7 @@ loop-byte-preserved g c pairs lists =
     let taken = c.take_value.ensures.meaning left (c.step.ensures old.0 old.1) in (
       without_value left,
       taken.1,
-      ap (λ o. going o (value_at simple_ascii (without_value left)) rest) (c.or-found.ensures ∙ ap (λ o. option_or o found) taken.0)
-          ∙ goes_on simple_ascii c.loop-byte.cursor old.0 c.steps_look_ahead.ensures.pairs old.1 found byte rest
+      goes_on simple_ascii c.loop-byte.cursor old.0 c.steps_look_ahead.ensures.pairs old.1 found c.take_value.result c.or-found.result byte rest taken.0 c.or-found.ensures
           ∙ ap (going found (value_at simple_ascii old.0)) (sym (drop_more c.args.name.now i 0 (omega arith)))
           ∙ old.2,
     )
