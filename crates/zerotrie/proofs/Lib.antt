@@ -1,4 +1,5 @@
 pub mod Builds
+pub mod Fallbacks
 pub mod Forms
 pub mod Lookups
 mod WindowLaws
