@@ -1,21 +1,21 @@
 -- The two maps and the matrix of a table answer with the entry of its rows.
-use Rattle.std.proofs.Common.{◌≡◌, ℕ, ◌+◌, ◌-◌, ◌*◌, ◌^◌, ◌<◌, ◌≤◌, List, [], ◌∷◌, ◌++◌, refl, sym, ap, subst, ◌∙◌, arith, Bool, true, false, cond, inl, inr, Option, Some, None, length, get_or, map, zero, suc}
-use Rattle.std.specs.Prelude.{not, ◌==◌, ◌⊎◌, ◌&&◌, ◌||◌, filter, is_some, nat_le, nat_lt, Any, All, Contains}
-use Rattle.std.specs.List.{flat_map, list_any}
+use Rattle.std.proofs.Common.{◌≡◌, ℕ, ◌+◌, ◌-◌, ◌*◌, ◌^◌, ◌<◌, ◌≤◌, List, [], ◌∷◌, ◌++◌, refl, sym, ap, subst, ◌∙◌, arith, Bool, true, false, cond, inl, inr, Option, Some, None, length, get_or, suc}
+use Rattle.std.specs.Prelude.{◌==◌, ◌&&◌, ◌||◌, filter, is_some, nat_le, nat_lt, Any, All, Contains}
+use Rattle.std.specs.List.{list_any}
 use Rattle.std.proofs.lemmas.List.Folds.{Any-from_list_any, list_any-append}
 use Rattle.zerotrie_core.specs.Kind.{simple_ascii}
 use Rattle.zerotrie_core.specs.Maps.{Pairs, Ascends, value_at, look}
 use Rattle.zerotrie_core.specs.Canonical.{size_of}
-use Rattle.zerotrie_core.proofs.CallerLemmas.{exact_same, value_at-append, value_at-some, same-entries}
+use Rattle.zerotrie_core.proofs.CallerLemmas.{value_at-append, value_at-some, same-entries}
 use Rattle.zerotrie.specs.dense.Rows.{Rows, row_of, entry, keys, texts, placed, suffixes, IsInOrder}
 use Rattle.zerotrie.specs.dense.Windows.{in_window, offset, inside, outside}
 use Rattle.zerotrie.specs.dense.Layout.{is_dense, cell_of, primary, primary_pairs, columns, matrix}
 use Rattle.zerotrie.specs.dense.Records.{Parts, matrix_bytes}
-use Rattle.zerotrie.specs.dense.Tables.{IsTable, HoldsDelimiter, table_of}
+use Rattle.zerotrie.specs.dense.Tables.{IsTable}
 use Rattle.zerotrie.specs.dense.Laws.{cell_at, value_of, in_matrix, or_else, beside_matrix, in_row, by_row, answer}
-use Rattle.zerotrie.proofs.TextLemmas.{V, same, either, maybe, Free, NoKey, no_value, from_none, held_other, parted}
-use Rattle.zerotrie.proofs.PlaceLemmas.{among, among_suffixes, Stands, stands, none_stands, of_or}
-use Rattle.zerotrie.proofs.RowLemmas.{firsts, offs, others_at, row_cells, all_cells, AllFree, Sparse, DenseRow, find_row, no_number, no_offset, no_other, offset_ends, cell_of_bytes}
+use Rattle.zerotrie.proofs.TextLemmas.{V, same, either, maybe, Free, held_other, parted}
+use Rattle.zerotrie.proofs.PlaceLemmas.{among_suffixes, Stands, stands, none_stands, of_or}
+use Rattle.zerotrie.proofs.RowLemmas.{firsts, offs, others_at, all_cells, AllFree, Sparse, DenseRow, find_row, no_number, no_offset, no_other, offset_ends, cell_of_bytes}
 
 -- no text of a list holds d
 abbrev FreeTexts : ℕ → List (List ℕ) → Type 0
@@ -97,9 +97,9 @@ picked : (q : ℕ → Bool) (pairs : Pairs) (s : List ℕ) (v : ℕ) → Bounded
 picked q [] s v all h = absurd (cc)
 picked q (e ∷ pairs) s v all h = elim (either (q e.1)) [
   | inl t ↦ elim (either (same e.0 s)) [
-      | inl y ↦ let here = rw (t, y) at h in let is : e.1 ≡ v = cc in (subst (λ w. q w ≡ true) is t, subst (λ w. w < 2 ^ 64) is all.0)
-      | inr n ↦ picked q pairs s v all.1 (rw (t, n) at h)
-    ]
+    | inl y ↦ let here = rw (t, y) at h in let is : e.1 ≡ v = cc in (subst (λ w. q w ≡ true) is t, subst (λ w. w < 2 ^ 64) is all.0)
+    | inr n ↦ picked q pairs s v all.1 (rw (t, n) at h)
+  ]
   | inr f ↦ picked q pairs s v all.1 (rw f at h)
 ]
 
@@ -199,10 +199,10 @@ in_column d rows t p s place j values count bytes r here st =
     let cell : get_or (all_cells S n rows) at 0 ≡ cell_of (offset row) (V (inside row) s) = r.cells st.place 0 st.below ∙ st.at (λ x. cell_of (offset row) (value_at simple_ascii (inside row) x)) 0 in
     let small : get_or (all_cells S n rows) at 0 < 65536 = subst (λ c. c < 65536) (sym cell) (small_cell (offset row) (V (inside row) s) (λ v e. (window_values rows p s v values e).0)) in
     ap (λ o. value_of (offset row) o) (
-      ap (λ m. cell_at m (place * t.suffix_count + j)) (bytes ∙ ap matrix_bytes (matrix_cells rows))
-      ∙ ap (λ i. cell_at (matrix_bytes (all_cells S n rows)) i) index
-      ∙ cell_of_bytes (all_cells S n rows) at (r.below st.place st.below) small
-      ∙ ap Some cell
+    ap (λ m. cell_at m (place * t.suffix_count + j)) (bytes ∙ ap matrix_bytes (matrix_cells rows))
+    ∙ ap (λ i. cell_at (matrix_bytes (all_cells S n rows)) i) index
+    ∙ cell_of_bytes (all_cells S n rows) at (r.below st.place st.below) small
+    ∙ ap Some cell
     ) ∙ told (offset row) (V (inside row) s) (λ v e. window_values rows p s v values e)
 
 else_of : (a b x : Option ℕ) → x ≡ or_else a b → x ≡ None → or_else a None ≡ x
@@ -233,8 +233,8 @@ dense_entry d rows t p s order values free k is count bytes r =
     let place : ℕ = 0 + r.place in
     let row : Pairs = row_of rows p in
     let offset_is : look simple_ascii (primary d rows) (p ++ (t.delimiter ∷ [])) ≡ Some (offset row) =
-      ap (λ e. look simple_ascii (primary d rows) (p ++ (e ∷ []))) is ∙ primary_at d rows (p ++ (d ∷ [])) ∙ at_key d n rows p [] free
-      ∙ value_some (p ++ (d ∷ [])) (offs d n rows) (others_at d n rows) (offset row) r.offset_of in
+    ap (λ e. look simple_ascii (primary d rows) (p ++ (e ∷ []))) is ∙ primary_at d rows (p ++ (d ∷ [])) ∙ at_key d n rows p [] free
+    ∙ value_some (p ++ (d ∷ [])) (offs d n rows) (others_at d n rows) (offset row) r.offset_of in
     let matrix_of : Option ℕ → Option ℕ → Option ℕ = λ o c. in_matrix t place o c in
     ap (λ o. or_else o (matrix_of (look simple_ascii (primary d rows) (p ++ (t.delimiter ∷ []))) (look simple_ascii (columns rows) s))) (beside_is d rows t p s is free k r)
     ∙ ap (λ o. or_else (V (outside row) s) (matrix_of o (look simple_ascii (columns rows) s))) offset_is

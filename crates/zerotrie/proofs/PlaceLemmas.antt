@@ -1,13 +1,12 @@
 -- Texts in order, and where each stands.
-use Rattle.std.proofs.Common.{◌≡◌, ℕ, ◌+◌, ◌-◌, ◌*◌, ◌<◌, ◌≤◌, List, [], ◌∷◌, ◌++◌, refl, sym, ap, subst, ◌∙◌, arith, Bool, true, false, cond, inl, inr, Option, Some, None, length, get_or, map, zero, suc, Ordering}
-use Rattle.std.specs.Prelude.{not, ◌==◌, ◌⊎◌, ◌&&◌, ◌||◌, filter}
+use Rattle.std.proofs.Common.{◌≡◌, ℕ, ◌+◌, ◌<◌, List, [], ◌∷◌, ◌++◌, refl, sym, ap, subst, ◌∙◌, arith, Bool, true, false, inl, inr, Some, None, length, get_or, map, suc, Ordering}
+use Rattle.std.specs.Prelude.{◌⊎◌, ◌||◌}
 use Rattle.std.specs.List.{flat_map}
 use Rattle.std.specs.Ordering.{nat_cmp, match_ordering, is_eq}
 use Rattle.std.specs.Cmp.Lexicographic.{slice_cmp}
 use Rattle.std.specs.declared.cmp.Ordering.TheVariants.{Less, Equal, Greater}
 use Rattle.std.proofs.lemmas.Map.Text.{is_eq-slice_cmp}
-use Rattle.zerotrie_core.specs.Kind.{simple_ascii}
-use Rattle.zerotrie_core.specs.Maps.{Pairs, same_key}
+use Rattle.zerotrie_core.specs.Maps.{Pairs}
 use Rattle.zerotrie_core.proofs.CallerLemmas.{exact_same, exact_itself}
 use Rattle.zerotrie.specs.dense.Rows.{Rows, row_of, keys, placed, put_text, put_texts, suffixes}
 use Rattle.zerotrie.proofs.TextLemmas.{V, same, either}

@@ -1,18 +1,17 @@
 -- What the primary map and the matrix have of one prefix.
-use Rattle.std.proofs.Common.{◌≡◌, ℕ, ◌+◌, ◌-◌, ◌*◌, ◌<◌, ◌≤◌, List, [], ◌∷◌, ◌++◌, refl, sym, ap, subst, ◌∙◌, arith, Bool, true, false, cond, inl, inr, Option, Some, None, length, get_or, map, zero, suc, length-append}
-use Rattle.std.specs.Prelude.{not, ◌==◌, ◌⊎◌, ◌&&◌, ◌||◌, filter, is_some}
+use Rattle.std.proofs.Common.{◌≡◌, ℕ, ◌+◌, ◌-◌, ◌*◌, ◌<◌, List, [], ◌∷◌, ◌++◌, refl, sym, ap, subst, ◌∙◌, arith, Bool, true, false, cond, inl, inr, Some, None, length, get_or, map, zero, suc, length-append}
+use Rattle.std.specs.Prelude.{◌==◌, ◌⊎◌, ◌&&◌, filter}
 use Rattle.std.specs.List.{flat_map}
-use Rattle.std.specs.Int.{w16, to_le_bytes, from_le_bytes}
 use Rattle.std.proofs.lemmas.Nat.{from_le_bytes-to_le_bytes_2}
 use Rattle.zerotrie_core.specs.Kind.{simple_ascii}
-use Rattle.zerotrie_core.specs.Maps.{Pairs, Ascends, value_at, same_key}
+use Rattle.zerotrie_core.specs.Maps.{Pairs, value_at}
 use Rattle.zerotrie_core.proofs.CallerLemmas.{exact_same, value_at-append, value_at-some}
-use Rattle.zerotrie.specs.dense.Rows.{Rows, row_of, keys, placed, IsInOrder}
+use Rattle.zerotrie.specs.dense.Rows.{Rows, row_of, placed, IsInOrder}
 use Rattle.zerotrie.specs.dense.Windows.{offset, inside, outside}
 use Rattle.zerotrie.specs.dense.Layout.{is_dense, beside, cell_of}
 use Rattle.zerotrie.specs.dense.Records.{matrix_bytes}
 use Rattle.zerotrie.specs.dense.Laws.{cell_at}
-use Rattle.zerotrie.proofs.TextLemmas.{V, same, either, Free, NoKey, no_value, from_none, first_once, fronted, value_at-fronted, value_at-no_text, no_text, no_key, split_key}
+use Rattle.zerotrie.proofs.TextLemmas.{V, same, either, Free, NoKey, first_once, fronted, value_at-fronted, value_at-no_text, no_text, no_key, split_key}
 
 -- the dense rows of a table of n suffixes, and the three lists of their primary
 abbrev pub dense : ℕ → Rows → Rows
@@ -176,15 +175,15 @@ ends_sparse d n row rows p free all k own none f = record {
 later_sparse : (d n : ℕ) (row : List ℕ × Pairs) (rows : Rows) (p : List ℕ) → Free d row.0 → Free d p → same row.0 p ≡ false → Sparse d n rows p → Sparse d n (row ∷ rows) p
 later_sparse d n row rows p free k other r = elim (either (is_dense n row.1)) [
   | inl t ↦ record {
-      number = λ m. rw (t, other) (r.number (m + 1));
-      no_offset_of = rw (t, other_key d row.0 p [] free k other) r.no_offset_of;
-      other = λ s. other_adds d n row rows p s free k other ∙ r.other s ∙ rw other refl;
-    }
+    number = λ m. rw (t, other) (r.number (m + 1));
+    no_offset_of = rw (t, other_key d row.0 p [] free k other) r.no_offset_of;
+    other = λ s. other_adds d n row rows p s free k other ∙ r.other s ∙ rw other refl;
+  }
   | inr f ↦ record {
-      number = λ m. rw f (r.number m);
-      no_offset_of = rw f r.no_offset_of;
-      other = λ s. other_adds d n row rows p s free k other ∙ r.other s ∙ rw other refl;
-    }
+    number = λ m. rw f (r.number m);
+    no_offset_of = rw f r.no_offset_of;
+    other = λ s. other_adds d n row rows p s free k other ∙ r.other s ∙ rw other refl;
+  }
 ]
 
 later_dense : (S : List (List ℕ)) (d n : ℕ) (row : List ℕ × Pairs) (rows : Rows) (p : List ℕ) → length S ≡ n → Free d row.0 → Free d p → same row.0 p ≡ false
@@ -200,19 +199,19 @@ later_dense S d n row rows p len free k other r = elim (either (is_dense n row.1
         dense_is = rw other r.dense_is;
         below = λ i h. rw t (let l = length-append (row_cells S row.1) (all_cells S n rows) in let more = one_more r.place n i in let b = r.below i h in omega (arith, cells, len, l, more, b));
         cells = λ i x h. rw (t, other) (
-          ap (λ j. get_or (row_cells S row.1 ++ all_cells S n rows) j x) (one_more r.place n i ∙ ap (λ m. m + (r.place * n + i)) (sym (cells ∙ len)))
-          ∙ get_right (row_cells S row.1) (all_cells S n rows) (r.place * n + i) x ∙ r.cells i x h
-        );
+            ap (λ j. get_or (row_cells S row.1 ++ all_cells S n rows) j x) (one_more r.place n i ∙ ap (λ m. m + (r.place * n + i)) (sym (cells ∙ len)))
+            ∙ get_right (row_cells S row.1) (all_cells S n rows) (r.place * n + i) x ∙ r.cells i x h
+            );
       }
   | inr f ↦ record {
-      place = r.place;
-      number = λ m. rw f (r.number m);
-      offset_of = rw (f, other) r.offset_of;
-      other = λ s. other_adds d n row rows p s free k other ∙ r.other s ∙ rw other refl;
-      dense_is = rw other r.dense_is;
-      below = λ i h. rw f (r.below i h);
-      cells = λ i x h. rw (f, other) (r.cells i x h);
-    }
+    place = r.place;
+    number = λ m. rw f (r.number m);
+    offset_of = rw (f, other) r.offset_of;
+    other = λ s. other_adds d n row rows p s free k other ∙ r.other s ∙ rw other refl;
+    dense_is = rw other r.dense_is;
+    below = λ i h. rw f (r.below i h);
+    cells = λ i x h. rw (f, other) (r.cells i x h);
+  }
 ]
 
 -- a prefix names a dense row, or none
@@ -227,9 +226,9 @@ find_row S d n (row ∷ rows) p len order free k = elim (either (same row.0 p)) 
         | inr f ↦ inl (ends_sparse d n row rows p free.0 free.1 k own none f)
       ]
   | inr other ↦ elim (find_row S d n rows p len order.2 free.1 k) [
-      | inl r ↦ inl (later_sparse d n row rows p free.0 k other r)
-      | inr r ↦ inr (later_dense S d n row rows p len free.0 k other r)
-    ]
+    | inl r ↦ inl (later_sparse d n row rows p free.0 k other r)
+    | inr r ↦ inr (later_dense S d n row rows p len free.0 k other r)
+  ]
 ]
 
 -- the bytes of cells, cell by cell

@@ -1,8 +1,8 @@
 -- What is left of a trie after steps answers as the trie does for keys with these bytes in front.
-use Rattle.std.proofs.Common.{◌≡◌, ℕ, List, [], ◌∷◌, ◌++◌, refl, sym, ap, ◌∙◌, arith, Bool, true, false, cond, inl, inr, Option, Some, None}
+use Rattle.std.proofs.Common.{◌≡◌, ℕ, List, [], ◌∷◌, ◌++◌, refl, sym, ap, ◌∙◌, arith, Bool, true, false, inl, inr, Option, Some, None}
 use Rattle.std.specs.Prelude.{not, ◌==◌, ◌⊎◌, find, filter}
 use Rattle.zerotrie_core.specs.Kind.{simple_ascii, same_byte}
-use Rattle.zerotrie_core.specs.Maps.{Pairs, value_at, residual}
+use Rattle.zerotrie_core.specs.Maps.{Pairs, value_at}
 use Rattle.zerotrie_core.specs.Cursors.{met, edge_like}
 use Rattle.zerotrie_core.specs.Machine.{behind, without_value, after_steps}
 use Rattle.zerotrie_core.proofs.CallerLemmas.{value_at-residual}

@@ -1,12 +1,10 @@
 -- Texts that do not hold a delimiter, and keys of texts with it between them.
-use Rattle.std.proofs.Common.{◌≡◌, ℕ, ◌+◌, ◌*◌, ◌<◌, ◌≤◌, List, [], ◌∷◌, ◌++◌, refl, sym, ap, subst, ◌∙◌, arith, Bool, true, false, cond, inl, inr, Option, Some, None, length, get_or, map, zero, suc}
-use Rattle.std.specs.Prelude.{not, ◌==◌, ◌⊎◌, ◌&&◌, ◌||◌, filter, Any, Contains}
-use Rattle.std.specs.List.{list_any, flat_map}
-use Rattle.std.proofs.lemmas.List.Folds.{Any-from_list_any}
+use Rattle.std.proofs.Common.{◌≡◌, ℕ, List, [], ◌∷◌, ◌++◌, refl, sym, ap, subst, ◌∙◌, arith, Bool, true, false, cond, inl, inr, Option, Some, None, map}
+use Rattle.std.specs.Prelude.{not, ◌==◌, ◌⊎◌, ◌&&◌, filter, Contains}
+use Rattle.std.specs.List.{list_any}
 use Rattle.zerotrie_core.specs.Kind.{simple_ascii}
-use Rattle.zerotrie_core.specs.Maps.{Pairs, Ascends, RepeatsKey, value_at, same_key}
-use Rattle.zerotrie_core.proofs.CallerLemmas.{exact_same, exact_itself, ascends_apart}
-use Rattle.zerotrie.specs.dense.Rows.{Rows, row_of, keys, texts, placed}
+use Rattle.zerotrie_core.specs.Maps.{Pairs, Ascends, value_at, same_key}
+use Rattle.zerotrie_core.proofs.CallerLemmas.{exact_same, ascends_apart}
 use Rattle.zerotrie.specs.dense.Laws.{or_else}
 use Rattle.zerotrie.proofs.Lookups.{one_of, key_there}
 
@@ -148,7 +146,7 @@ parted key q (e ∷ pairs) ascends = elim (either (same e.0 key)) [
         | inr f ↦ rw (f, y) refl
       ]
   | inr n ↦ elim (either (q e.1)) [
-      | inl t ↦ rw (t, n) (parted key q pairs ascends.1)
-      | inr f ↦ rw (f, n) (parted key q pairs ascends.1)
-    ]
+    | inl t ↦ rw (t, n) (parted key q pairs ascends.1)
+    | inr f ↦ rw (f, n) (parted key q pairs ascends.1)
+  ]
 ]

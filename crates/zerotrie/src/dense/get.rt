@@ -10,9 +10,8 @@ ghost use Rattle.zerotrie.specs.dense.Laws.{Answers, AnswersByMaps, cell_at, in_
 ghost use Rattle.zerotrie.specs.dense.Reading.{row_answer, beside_value};
 ghost use Rattle.zerotrie.specs.dense.Views.{parts_of};
 
-use crate::dense::table::ZeroAsciiDenseSparse2dTrieBorrowed;
 use crate::dense::laws::answer_is_entry;
-
+use crate::dense::table::ZeroAsciiDenseSparse2dTrieBorrowed;
 use zerotrie_core::{Simple, laws, step, take_value};
 
 /// Goes along each byte of a key, one after another.
@@ -130,9 +129,6 @@ impl<'a> ZeroAsciiDenseSparse2dTrieBorrowed<'a> {
         if index >= self.matrix.len() / 2 {
             return None;
         }
-        Some(u16::from_le_bytes([
-            self.matrix[2 * index],
-            self.matrix[2 * index + 1],
-        ]))
+        Some(u16::from_le_bytes([self.matrix[2 * index], self.matrix[2 * index + 1]]))
     }
 }

@@ -1,7 +1,7 @@
-use Rattle.std.proofs.Common.{List, ℕ, [], sym, ap, subst, ◌∙◌, false}
+use Rattle.std.proofs.Common.{List, ℕ, [], sym, ap, subst, ◌∙◌}
 use Rattle.zerotrie_core.specs.Kind.{simple_ascii}
-use Rattle.zerotrie_core.specs.Maps.{value_at, look}
-use Rattle.zerotrie_core.specs.Machine.{without_value, after_steps, behind}
+use Rattle.zerotrie_core.specs.Maps.{value_at}
+use Rattle.zerotrie_core.specs.Machine.{without_value, after_steps}
 use Rattle.zerotrie_core.specs.Texts.{Lists}
 use Rattle.zerotrie.specs.dense.Views.{parts_of}
 use Rattle.zerotrie.proofs.StepLemmas.{value_at-steps}
@@ -18,7 +18,7 @@ returns-in-Some c primary columns mp mc =
     ∙ sym (value_at-steps prefix mp.pairs []) ∙ sym took.0 ∙ c.in-Some.is in
     c.answer_in_row.ensures _ columns gone.1 mc
     ∙ dense_answer (parts_of c.args.self.now) primary columns prefix c.args.suffix.now c.in-Some.row _ (sym c.holds.ensures ∙ c.if-holds.false) (sym c.holds-else-holds.ensures ∙ c.if-holds-2.false) row
-      (λ key. behind_delimiter mp.pairs prefix c.args.self.now.delimiter c.step-edge.result key gone.0 ∙ looked c.args.self.now.primary.store.now mp.pairs primary mp.lists mp.is _)
+    (λ key. behind_delimiter mp.pairs prefix c.args.self.now.delimiter c.step-edge.result key gone.0 ∙ looked c.args.self.now.primary.store.now mp.pairs primary mp.lists mp.is _)
 
 pub returns-in-None : goal.returns-in-None
 returns-in-None c primary columns mp mc =

@@ -1,6 +1,6 @@
 use Rattle.std.proofs.Common.{ap, sym, ◌∙◌, []}
 use Rattle.zerotrie_core.specs.Kind.{simple_ascii}
-use Rattle.zerotrie_core.specs.Maps.{value_at, look}
+use Rattle.zerotrie_core.specs.Maps.{value_at}
 use Rattle.zerotrie_core.specs.Machine.{without_value}
 use Rattle.zerotrie.specs.dense.Laws.{in_matrix}
 use Rattle.zerotrie.specs.dense.Views.{parts_of}
