@@ -1,8 +1,11 @@
 -- Rows with what a build finds of each: words for private functions.
-use Rattle.std.specs.Prelude.{ℕ, ◌+◌, List, [], ◌∷◌, ◌++◌, map, filter, not, Bool, cond}
+use Rattle.std.specs.Prelude.{◌≡◌, ℕ, ◌+◌, ◌<◌, ◌≤◌, ◌⊎◌, List, [], ◌∷◌, ◌++◌, map, filter, not, Bool, cond, Any, Contains}
 use Rattle.zerotrie_core.specs.Kind.{simple_ascii}
-use Rattle.zerotrie_core.specs.Maps.{Pairs, value_at}
-use Rattle.zerotrie.specs.dense.Windows.{in_window, offset}
+use Rattle.zerotrie_core.specs.Maps.{Pairs, Ascends, map_of, value_at}
+use Rattle.zerotrie_core.specs.Fits.{ExceedsCapacity}
+use Rattle.zerotrie_core.specs.Causes.{ZeroTrieBuildError, NonAsciiError, IllegalDelimiter, CapacityExceeded, OutOfMemory}
+use Rattle.zerotrie.specs.dense.Rows.{Rows, keys}
+use Rattle.zerotrie.specs.dense.Windows.{in_window, offset, inside}
 use Rattle.zerotrie.specs.dense.Layout.{is_dense, cell_of}
 use Rattle.zerotrie.specs.dense.Views.{pairs_in}
 use Rattle.zerotrie.specs.declared.dense.rows.Row.{Row}
@@ -29,7 +32,7 @@ within start pairs = filter (λ e. in_window start e.1) pairs
 abbrev pub without : ℕ → Pairs → Pairs
 without start pairs = filter (λ e. not (in_window start e.1)) pairs
 
--- the prefixes of the dense rows, numbers_in from n on
+-- the prefixes of the dense rows, numbered from n on
 abbrev pub numbers_in : ℕ → List Laid → Pairs
 numbers_in n [] = []
 numbers_in n (r ∷ rows) = cond r.dense ((r.prefix, n) ∷ numbers_in (n + 1) rows) (numbers_in n rows)
@@ -59,3 +62,41 @@ cells_in suffixes r = map (λ s. cell_of r.offset (value_at simple_ascii (within
 abbrev pub cells_of : List (List ℕ) → List Laid → List ℕ
 cells_of suffixes [] = []
 cells_of suffixes (r ∷ rows) = cond r.dense (cells_in suffixes r ++ cells_of suffixes rows) (cells_of suffixes rows)
+
+-- each row ascends
+abbrev pub AllAscend : List Laid → Type 0
+AllAscend [] = Unit {0}
+AllAscend (r ∷ rows) = Ascends r.pairs × AllAscend rows
+
+-- all bytes of a text are ASCII, and of some texts
+abbrev pub IsPlain : List ℕ → Type 0
+IsPlain text = Any (λ b. 128 ≤ b) text → ⊥
+
+abbrev pub ArePlain : List (List ℕ) → Type 0
+ArePlain [] = Unit {0}
+ArePlain (text ∷ more) = IsPlain text × ArePlain more
+
+-- no text holds the delimiter
+abbrev pub AreApart : ℕ → List (List ℕ) → Type 0
+AreApart delimiter [] = Unit {0}
+AreApart delimiter (text ∷ more) = (Contains text delimiter → ⊥) × AreApart delimiter more
+
+-- why a text is refused, or one of some
+abbrev pub IsFault : ℕ → List ℕ → ZeroTrieBuildError → Type 0
+IsFault delimiter text e = ((e ≡ NonAsciiError) × Any (λ b. 128 ≤ b) text) ⊎ ((e ≡ IllegalDelimiter) × Contains text delimiter)
+
+abbrev pub HasFault : ℕ → List (List ℕ) → ZeroTrieBuildError → Type 0
+HasFault delimiter [] e = ⊥
+HasFault delimiter (text ∷ more) e = IsFault delimiter text e ⊎ HasFault delimiter more e
+
+-- the window of the row has no text
+abbrev pub HasWideWindow : Pairs → Type 0
+HasWideWindow row = ExceedsCapacity simple_ascii (map_of (inside row))
+
+abbrev pub SomeWideWindow : Rows → Type 0
+SomeWideWindow [] = ⊥
+SomeWideWindow (row ∷ rows) = HasWideWindow row.1 ⊎ SomeWideWindow rows
+
+-- why a row is refused
+abbrev pub IsRowRefusal : Pairs → ZeroTrieBuildError → Type 0
+IsRowRefusal row e = (e ≡ OutOfMemory) ⊎ ((e ≡ CapacityExceeded) × HasWideWindow row)

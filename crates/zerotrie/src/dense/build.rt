@@ -1,5 +1,17 @@
 //! Building a dense table.
 
+ghost use Rattle.std.specs.Prelude.{◌≡◌, ◌≤◌, ◌<◌, ◌⊎◌, ◌++◌, ◌∷◌, IfOk, IfErr, OnOk, map, Contains};
+ghost use Rattle.zerotrie_core.specs.Causes.{OutOfMemory, NonAsciiError, CapacityExceeded};
+ghost use Rattle.zerotrie_core.specs.Items.{pairs_of, keyed};
+ghost use Rattle.zerotrie_core.specs.Maps.{Ascends, value_at};
+ghost use Rattle.zerotrie_core.specs.Kind.{simple_ascii};
+ghost use Rattle.zerotrie.specs.dense.Laid.{AllAscend, ArePlain, AreApart, HasFault, IsFault, IsPlain, beside_in, cells_in, cells_of, numbers_in, offsets_in, others_in, shown, under, within};
+ghost use Rattle.zerotrie.specs.dense.Laws.{IsDenseBuild};
+ghost use Rattle.zerotrie.specs.dense.Layout.{cell_of};
+ghost use Rattle.zerotrie.specs.dense.Records.{matrix_bytes};
+ghost use Rattle.zerotrie.specs.dense.Rows.{keys, placed, put_texts, suffixes, texts};
+ghost use Rattle.zerotrie.specs.dense.Views.{owned_parts, pairs_in, rows_in};
+
 use crate::dense::rows::{Row, rows_of};
 use crate::dense::table::ZeroAsciiDenseSparse2dTrieOwned;
 use crate::dense::window::is_in_window;
@@ -12,7 +24,11 @@ use zerotrie_core::ZeroTrieBuildError;
 type Pair = (Vec<u8>, usize);
 
 /// Tests that a text is ASCII and does not hold the delimiter.
-fn check_text(text: &str, delimiter: u8) -> Result<(), ZeroTrieBuildError> {
+fn check_text(text: &str, delimiter: u8) -> Result<(), ZeroTrieBuildError>
+    ensures plain { OnOk result (IsPlain text.now) }
+    ensures apart { OnOk result (Contains text.now delimiter → ⊥) }
+    ensures fault { IfErr result (IsFault delimiter text.now) }
+{
     if !text.is_ascii() {
         return Err(ZeroTrieBuildError::NonAsciiError);
     }
@@ -23,7 +39,11 @@ fn check_text(text: &str, delimiter: u8) -> Result<(), ZeroTrieBuildError> {
 }
 
 /// Tests the suffixes of a row.
-fn check_row(entries: &BTreeMap<&str, usize>, delimiter: u8) -> Result<(), ZeroTrieBuildError> {
+fn check_row(entries: &BTreeMap<&str, usize>, delimiter: u8) -> Result<(), ZeroTrieBuildError>
+    ensures plain { OnOk result (ArePlain (keys (pairs_in entries.now.entries))) }
+    ensures apart { OnOk result (AreApart delimiter (keys (pairs_in entries.now.entries))) }
+    ensures fault { IfErr result (HasFault delimiter (keys (pairs_in entries.now.entries))) }
+{
     for (suffix, _) in entries {
         check_text(suffix, delimiter)?;
     }
@@ -34,7 +54,13 @@ fn check_row(entries: &BTreeMap<&str, usize>, delimiter: u8) -> Result<(), ZeroT
 fn check_texts(
     entries: &BTreeMap<&str, BTreeMap<&str, usize>>,
     delimiter: u8,
-) -> Result<(), ZeroTrieBuildError> {
+) -> Result<(), ZeroTrieBuildError>
+    ensures delimiter { OnOk result (delimiter < 128) }
+    ensures plain { OnOk result (ArePlain (texts (rows_in entries.now.entries))) }
+    ensures apart { OnOk result (AreApart delimiter (texts (rows_in entries.now.entries))) }
+    ensures fault { IfErr result (λ e. ((e ≡ NonAsciiError) × (128 ≤ delimiter))
+        ⊎ HasFault delimiter (texts (rows_in entries.now.entries)) e) }
+{
     if !delimiter.is_ascii() {
         return Err(ZeroTrieBuildError::NonAsciiError);
     }
@@ -49,7 +75,10 @@ fn check_texts(
 fn put_suffixes<'a>(
     entries: &'a BTreeMap<&'a str, usize>,
     suffixes: &mut BTreeSet<&'a str>,
-) -> Result<(), ZeroTrieBuildError> {
+) -> Result<(), AllocError>
+    ensures { OnOk result (map (λ s. s.now) suffixes.new.keys
+        ≡ put_texts (keys (pairs_in entries.now.entries)) (map (λ s. s.now) suffixes.old.keys)) }
+{
     for (suffix, _) in entries {
         suffixes.insert(*suffix)?;
     }
@@ -60,7 +89,9 @@ fn put_suffixes<'a>(
 fn suffixes_of<'a>(
     alloc: Global,
     entries: &'a BTreeMap<&'a str, BTreeMap<&'a str, usize>>,
-) -> Result<BTreeSet<&'a str>, ZeroTrieBuildError> {
+) -> Result<BTreeSet<&'a str>, AllocError>
+    ensures { IfOk result (λ set. map (λ s. s.now) set.keys ≡ suffixes (rows_in entries.now.entries)) }
+{
     let mut suffixes = BTreeSet::new(alloc);
     for (_, row) in entries {
         put_suffixes(row, &mut suffixes)?;
@@ -72,7 +103,10 @@ fn suffixes_of<'a>(
 fn columns_of<'a>(
     alloc: Global,
     suffixes: &BTreeSet<&'a str>,
-) -> Result<Vec<(&'a [u8], usize)>, AllocError> {
+) -> Result<Vec<(&'a [u8], usize)>, AllocError>
+    ensures columns { IfOk result (λ columns. pairs_of columns.items ≡ placed 0 (map (λ s. s.now) suffixes.now.keys)) }
+    ensures ascends { OnOk result (Ascends (placed 0 (map (λ s. s.now) suffixes.now.keys))) }
+{
     let mut columns = Vec::new(alloc);
     for suffix in suffixes {
         let column = columns.len();
@@ -87,7 +121,9 @@ fn key_of(
     prefix: &str,
     delimiter: u8,
     suffix: &str,
-) -> Result<Vec<u8>, AllocError> {
+) -> Result<Vec<u8>, AllocError>
+    ensures { IfOk result (λ key. key.items ≡ prefix.now ++ (delimiter ∷ suffix.now)) }
+{
     let mut key = Vec::from_slice(alloc, prefix.as_bytes())?;
     key.push(delimiter)?;
     key.extend_from_slice(suffix.as_bytes())?;
@@ -99,7 +135,11 @@ fn push_numbers(
     alloc: Global,
     rows: &[Row<'_>],
     pairs: &mut Vec<Pair>,
-) -> Result<(), ZeroTrieBuildError> {
+) -> Result<(), ZeroTrieBuildError>
+    ensures pushed { OnOk result (keyed (λ k. k.items) pairs.new.items
+        ≡ keyed (λ k. k.items) pairs.old.items ++ numbers_in 0 (map shown rows.now)) }
+    ensures refused { IfErr result (λ e. e ≡ OutOfMemory) }
+{
     let mut number = 0;
     for row in rows {
         if row.is_dense {
@@ -116,7 +156,11 @@ fn push_offsets(
     rows: &[Row<'_>],
     delimiter: u8,
     pairs: &mut Vec<Pair>,
-) -> Result<(), ZeroTrieBuildError> {
+) -> Result<(), ZeroTrieBuildError>
+    ensures pushed { OnOk result (keyed (λ k. k.items) pairs.new.items
+        ≡ keyed (λ k. k.items) pairs.old.items ++ offsets_in delimiter (map shown rows.now)) }
+    ensures refused { IfErr result (λ e. e ≡ OutOfMemory) }
+{
     for row in rows {
         if row.is_dense {
             pairs.push((key_of(alloc, row.prefix, delimiter, "")?, row.offset))?;
@@ -131,7 +175,11 @@ fn push_others_of(
     row: &Row<'_>,
     delimiter: u8,
     pairs: &mut Vec<Pair>,
-) -> Result<(), ZeroTrieBuildError> {
+) -> Result<(), ZeroTrieBuildError>
+    ensures pushed { OnOk result (keyed (λ k. k.items) pairs.new.items
+        ≡ keyed (λ k. k.items) pairs.old.items ++ under row.now.prefix.now delimiter (beside_in (shown row.now))) }
+    ensures refused { IfErr result (λ e. e ≡ OutOfMemory) }
+{
     for (suffix, value) in row.entries {
         if !(row.is_dense && is_in_window(row.offset, *value)) {
             pairs.push((key_of(alloc, row.prefix, delimiter, suffix)?, *value))?;
@@ -146,7 +194,11 @@ fn push_others(
     rows: &[Row<'_>],
     delimiter: u8,
     pairs: &mut Vec<Pair>,
-) -> Result<(), ZeroTrieBuildError> {
+) -> Result<(), ZeroTrieBuildError>
+    ensures pushed { OnOk result (keyed (λ k. k.items) pairs.new.items
+        ≡ keyed (λ k. k.items) pairs.old.items ++ others_in delimiter (map shown rows.now)) }
+    ensures refused { IfErr result (λ e. e ≡ OutOfMemory) }
+{
     for row in rows {
         push_others_of(alloc, row, delimiter, pairs)?;
     }
@@ -158,7 +210,11 @@ fn primary_of(
     alloc: Global,
     rows: &[Row<'_>],
     delimiter: u8,
-) -> Result<Vec<Pair>, ZeroTrieBuildError> {
+) -> Result<Vec<Pair>, ZeroTrieBuildError>
+    ensures pairs { IfOk result (λ pairs. keyed (λ k. k.items) pairs.items ≡ numbers_in 0 (map shown rows.now)
+        ++ (offsets_in delimiter (map shown rows.now) ++ others_in delimiter (map shown rows.now))) }
+    ensures refused { IfErr result (λ e. e ≡ OutOfMemory) }
+{
     let mut pairs = Vec::new(alloc);
     push_numbers(alloc, rows, &mut pairs)?;
     push_offsets(alloc, rows, delimiter, &mut pairs)?;
@@ -167,7 +223,10 @@ fn primary_of(
 }
 
 /// The cell of a suffix: the value in the row's window less the row's offset, or 65,535.
-fn cell_of(row: &Row<'_>, suffix: &str) -> u16 {
+fn cell_in(row: &Row<'_>, suffix: &str) -> u16
+    requires { Ascends (shown row.now).pairs }
+    ensures { result ≡ cell_of row.now.offset (value_at simple_ascii (within row.now.offset (shown row.now).pairs) suffix.now) }
+{
     match row.entries.get(suffix) {
         Some(value) => {
             if is_in_window(row.offset, *value) {
@@ -185,9 +244,13 @@ fn push_cells(
     row: &Row<'_>,
     suffixes: &BTreeSet<&str>,
     matrix: &mut Vec<u8>,
-) -> Result<(), AllocError> {
+) -> Result<(), AllocError>
+    requires { Ascends (shown row.now).pairs }
+    ensures { OnOk result (matrix.new.items
+        ≡ matrix.old.items ++ matrix_bytes (cells_in (map (λ s. s.now) suffixes.now.keys) (shown row.now))) }
+{
     for suffix in suffixes {
-        let cell = cell_of(row, suffix);
+        let cell = cell_in(row, suffix);
         matrix.extend_from_slice(&cell.to_le_bytes())?;
     }
     Ok(())
@@ -198,7 +261,11 @@ fn matrix_of(
     alloc: Global,
     rows: &[Row<'_>],
     suffixes: &BTreeSet<&str>,
-) -> Result<Vec<u8>, AllocError> {
+) -> Result<Vec<u8>, AllocError>
+    requires { AllAscend (map shown rows.now) }
+    ensures { IfOk result (λ matrix. matrix.items
+        ≡ matrix_bytes (cells_of (map (λ s. s.now) suffixes.now.keys) (map shown rows.now))) }
+{
     let mut matrix = Vec::new(alloc);
     for row in rows {
         if row.is_dense {
@@ -234,6 +301,7 @@ impl ZeroAsciiDenseSparse2dTrieOwned {
         entries: &BTreeMap<&str, BTreeMap<&str, usize>>,
         delimiter: u8,
     ) -> Result<Self, ZeroTrieBuildError>
+        ensures { IsDenseBuild owned_parts delimiter (rows_in entries.now.entries) result }
     {
         check_texts(entries, delimiter)?;
         let suffixes = suffixes_of(alloc, entries)?;
