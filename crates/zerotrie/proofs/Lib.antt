@@ -9,3 +9,4 @@ mod TextLemmas
 mod PlaceLemmas
 mod RowLemmas
 mod EntryLemmas
+mod FullestLemmas
