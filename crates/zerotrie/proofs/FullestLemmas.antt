@@ -75,7 +75,7 @@ stretch : (vs : List ℕ) (v k : ℕ) → Rising vs → k < held vs v → Stretc
 stretch [] v k rises h = absurd (omega arith)
 stretch (x ∷ vs) v zero rises h = elim (either (in_window v x)) [
   | inl y ↦ let b = in_bounds v x y in record { at = 0; below = omega arith; low = b.0; high = b.1 }
-  | inr n ↦ let s = stretch vs v 0 (rising_tail x vs rises) (rw n at h) in record { at = suc s.at; below = omega (arith, s.below); low = s.low; high = s.high }
+  | inr n ↦ let more = rw n at h in let s = stretch vs v 0 (rising_tail x vs rises) (omega (arith, more)) in record { at = suc s.at; below = omega (arith, s.below); low = s.low; high = s.high }
 ]
 stretch (x ∷ vs) v (suc k) rises h = elim (either (in_window v x)) [
   | inl y ↦
@@ -84,7 +84,8 @@ stretch (x ∷ vs) v (suc k) rises h = elim (either (in_window v x)) [
       let up = rises (suc k) (suc (s.at + k)) (omega arith) (omega (arith, s.below)) in
       record { at = 0; below = omega (arith, s.below); low = b.0; high = omega (arith, up, s.high) }
   | inr n ↦
-      let s = stretch vs v (suc k) (rising_tail x vs rises) (rw n at h) in
+      let more = rw n at h in
+      let s = stretch vs v (suc k) (rising_tail x vs rises) (omega (arith, more)) in
       record { at = suc s.at; below = omega (arith, s.below); low = s.low; high = s.high }
 ]
 
@@ -95,9 +96,12 @@ holds (x ∷ vs) v (suc i) k rises b low high = let r = holds vs v i k (rising_t
 holds (x ∷ vs) v zero zero rises b low high = let y = in_made v x low high in rw y (omega arith)
 holds (x ∷ vs) v zero (suc k) rises b low high =
     let below = rises 0 (suc k) (omega arith) (omega arith) in
-    let y = in_made v x low (omega (arith, below, high)) in
+    let here : 0 + suc k ≡ suc k = omega arith in
+    let top : get_or vs k 0 < v + 65535 = subst (λ j. get_or (x ∷ vs) j 0 < v + 65535) here high in
+    let y = in_made v x low (omega (arith, below, top)) in
     let next = rises 0 1 (omega arith) (omega arith) in
-    let r = holds vs v 0 k (rising_tail x vs rises) (omega arith) (omega (arith, low, next)) high in
+    let there : k ≡ 0 + k = omega arith in
+    let r = holds vs v 0 k (rising_tail x vs rises) (omega arith) (omega (arith, low, next)) (subst (λ j. get_or vs j 0 < v + 65535) there top) in
     rw y (omega (arith, r))
 
 among_at : (vs : List ℕ) (i : ℕ) → i < length vs → Among (get_or vs i 0) vs

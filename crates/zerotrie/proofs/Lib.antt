@@ -10,3 +10,4 @@ mod PlaceLemmas
 mod RowLemmas
 mod EntryLemmas
 mod FullestLemmas
+mod BuildLemmas

@@ -72,6 +72,7 @@ fn check_texts(
 }
 
 /// Puts the suffixes of a row among those of other rows.
+#[tactic(auto, using(crate::proofs::BuildLemmas::insert_put))]
 fn put_suffixes<'a>(
     entries: &'a BTreeMap<&'a str, usize>,
     suffixes: &mut BTreeSet<&'a str>,
@@ -86,6 +87,7 @@ fn put_suffixes<'a>(
 }
 
 /// The suffixes of all rows, each once.
+#[tactic(auto, using(crate::proofs::BuildLemmas::puts_append), unfolding(crate::specs::dense::Rows::suffixes))]
 fn suffixes_of<'a>(
     alloc: Global,
     entries: &'a BTreeMap<&'a str, BTreeMap<&'a str, usize>>,
@@ -296,9 +298,9 @@ impl ZeroAsciiDenseSparse2dTrieOwned {
     /// - `CapacityExceeded` where there are more than 65,535 suffixes, or the primary trie, the trie of the
     ///   suffixes or the trie of a row's window would exceed the capacity of its kind,
     /// - `OutOfMemory` where a growth was refused.
-    pub fn try_from_btree_map_str(
+    pub fn try_from_btree_map_str<'a>(
         alloc: Global,
-        entries: &BTreeMap<&str, BTreeMap<&str, usize>>,
+        entries: &'a BTreeMap<&'a str, BTreeMap<&'a str, usize>>,
         delimiter: u8,
     ) -> Result<Self, ZeroTrieBuildError>
         ensures { IsDenseBuild owned_parts delimiter (rows_in entries.now.entries) result }

@@ -91,9 +91,9 @@ fn trie_len(alloc: Global, pairs: &[(&str, usize)]) -> Result<usize, ZeroTrieBui
 }
 
 /// How long the trie of the window of a row would be.
-fn window_len(
+fn window_len<'a>(
     alloc: Global,
-    entries: &BTreeMap<&str, usize>,
+    entries: &'a BTreeMap<&'a str, usize>,
     start: usize,
 ) -> Result<usize, ZeroTrieBuildError>
     requires start { start ≡ offset (pairs_in entries.now.entries) }
@@ -109,9 +109,9 @@ fn window_len(
 
 /// Whether a row of a table of so many suffixes stands in the matrix: its window would be longer as a trie,
 /// and the empty suffix is not outside the window.
-fn is_dense_row(
+fn is_dense_row<'a>(
     alloc: Global,
-    entries: &BTreeMap<&str, usize>,
+    entries: &'a BTreeMap<&'a str, usize>,
     start: usize,
     columns: usize,
 ) -> Result<bool, ZeroTrieBuildError>
