@@ -12,10 +12,15 @@ use Rattle.std.specs.declared.cmp.Ordering.TheVariants.{Less, Equal, Greater}
 use Rattle.std.proofs.lemmas.Map.Keys.{sorted_head, sorted_tail}
 use Rattle.std.proofs.lemmas.Map.Text.{is_eq-slice_cmp}
 use Rattle.zerotrie_core.specs.Kind.{simple_ascii}
-use Rattle.zerotrie_core.specs.Maps.{Pairs, Ascends, value_at}
+use Rattle.zerotrie_core.specs.Maps.{Pairs, Ascends, FirstAbove, value_at}
 use Rattle.zerotrie_core.proofs.CallerLemmas.{exact_same, same_equiv}
 use Rattle.zerotrie.specs.dense.Layout.{cell_of}
 use Rattle.zerotrie.specs.dense.Rows.{placed, put_text, put_texts}
+use Rattle.std.specs.Int.{w16, to_le_bytes}
+use Rattle.std.specs.Cmp.Lexicographic.{nat_list_cmp_total}
+use Rattle.zerotrie_core.specs.Causes.{ZeroTrieBuildError}
+use Rattle.zerotrie.specs.dense.Laid.{ArePlain, AreApart, HasFault}
+use Rattle.zerotrie.specs.dense.Records.{matrix_bytes}
 use Rattle.zerotrie.specs.dense.Views.{pairs_in}
 use Rattle.zerotrie.specs.dense.Windows.{in_window}
 use Rattle.zerotrie.proofs.TextLemmas.{V, same, either, NoKey, first_once, kept_none, no_value}
@@ -112,3 +117,44 @@ pub no_high : (xs : List ℕ) (k x : ℕ) → ((i : ℕ) → get_or xs i 0 < 128
 no_high [] k x all h e high = omega arith
 no_high (y ∷ xs) zero x all h e high = let low = all 0 in omega (arith, e, low)
 no_high (y ∷ xs) (suc k) x all h e high = no_high xs k x (λ i. all (suc i)) (omega arith) e high
+
+-- the bytes of more cells
+pub matrix_more : (xs ys : List ℕ) → matrix_bytes (xs ++ ys) ≡ matrix_bytes xs ++ matrix_bytes ys
+matrix_more [] ys = refl
+matrix_more (x ∷ xs) ys = ap (λ t. to_le_bytes w16 x ++ t) (matrix_more xs ys)
+
+-- faults and their absence in a row and the rows behind it
+pub plain_append : (xs ys : List (List ℕ)) → ArePlain xs → ArePlain ys → ArePlain (xs ++ ys)
+plain_append [] ys p q = q
+plain_append (x ∷ xs) ys p q = (p.0, plain_append xs ys p.1 q)
+
+pub apart_append : (d : ℕ) (xs ys : List (List ℕ)) → AreApart d xs → AreApart d ys → AreApart d (xs ++ ys)
+apart_append d [] ys p q = q
+apart_append d (x ∷ xs) ys p q = (p.0, apart_append d xs ys p.1 q)
+
+pub fault_left : (d : ℕ) (xs ys : List (List ℕ)) (e : ZeroTrieBuildError) → HasFault d xs e → HasFault d (xs ++ ys) e
+fault_left d [] ys e h = absurd h
+fault_left d (x ∷ xs) ys e h = elim h [ inl f ↦ inl f | inr more ↦ inr (fault_left d xs ys e more) ]
+
+pub fault_right : (d : ℕ) (xs ys : List (List ℕ)) (e : ZeroTrieBuildError) → HasFault d ys e → HasFault d (xs ++ ys) e
+fault_right d [] ys e h = h
+fault_right d (x ∷ xs) ys e h = inr (fault_right d xs ys e h)
+
+-- pairs that a test picks of ascending ones ascend
+above_more : (key : List ℕ) (e : List ℕ × ℕ) (pairs : Pairs) → slice_cmp nat_cmp key e.0 ≡ Less → Ascends (e ∷ pairs) → FirstAbove key pairs
+above_more key e [] above ascends = tt
+above_more key e (f ∷ pairs) above ascends = nat_list_cmp_total.trans key e.0 f.0 above ascends.0
+
+above_kept : (q : ℕ → Bool) (key : List ℕ) (pairs : Pairs) → FirstAbove key pairs → Ascends pairs → FirstAbove key (filter (λ e. q e.1) pairs)
+above_kept q key [] above ascends = tt
+above_kept q key (e ∷ pairs) above ascends = elim (either (q e.1)) [
+  | inl t ↦ rw t above
+  | inr f ↦ rw f (above_kept q key pairs (above_more key e pairs above ascends) ascends.1)
+]
+
+pub kept_ascends : (q : ℕ → Bool) (pairs : Pairs) → Ascends pairs → Ascends (filter (λ e. q e.1) pairs)
+kept_ascends q [] ascends = tt
+kept_ascends q (e ∷ pairs) ascends = elim (either (q e.1)) [
+  | inl t ↦ rw t (above_kept q e.0 pairs ascends.0 ascends.1, kept_ascends q pairs ascends.1)
+  | inr f ↦ rw f (kept_ascends q pairs ascends.1)
+]

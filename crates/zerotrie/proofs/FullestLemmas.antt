@@ -71,28 +71,32 @@ record Stretch (vs : List ℕ) (v k : ℕ) : Type 0 where
   low : v ≤ get_or vs at 0
   high : get_or vs (at + k) 0 < v + 65535
 
+shifted : (x : ℕ) (vs : List ℕ) (a k : ℕ) → get_or (x ∷ vs) (suc a + k) 0 ≡ get_or vs (a + k) 0
+shifted x vs a k = let e : suc a + k ≡ suc (a + k) = omega arith in rw e refl
+
 stretch : (vs : List ℕ) (v k : ℕ) → Rising vs → k < held vs v → Stretch vs v k
 stretch [] v k rises h = absurd (omega arith)
 stretch (x ∷ vs) v zero rises h = elim (either (in_window v x)) [
   | inl y ↦ let b = in_bounds v x y in record { at = 0; below = omega arith; low = b.0; high = b.1 }
-  | inr n ↦ let more = rw n at h in let s = stretch vs v 0 (rising_tail x vs rises) (omega (arith, more)) in record { at = suc s.at; below = omega (arith, s.below); low = s.low; high = s.high }
+  | inr n ↦ let more = rw n at h in let s = stretch vs v 0 (rising_tail x vs rises) (omega (arith, more)) in record { at = suc s.at; below = omega (arith, s.below); low = s.low; high = rw (shifted x vs s.at 0) s.high }
 ]
 stretch (x ∷ vs) v (suc k) rises h = elim (either (in_window v x)) [
   | inl y ↦
       let b = in_bounds v x y in
       let s = stretch vs v k (rising_tail x vs rises) (let more = rw y at h in omega (arith, more)) in
       let up = rises (suc k) (suc (s.at + k)) (omega arith) (omega (arith, s.below)) in
-      record { at = 0; below = omega (arith, s.below); low = b.0; high = omega (arith, up, s.high) }
+      let here : 0 + suc k ≡ suc k = omega arith in
+      record { at = 0; below = omega (arith, s.below); low = b.0; high = rw here (omega (arith, up, s.high)) }
   | inr n ↦
       let more = rw n at h in
       let s = stretch vs v (suc k) (rising_tail x vs rises) (omega (arith, more)) in
-      record { at = suc s.at; below = omega (arith, s.below); low = s.low; high = s.high }
+      record { at = suc s.at; below = omega (arith, s.below); low = s.low; high = rw (shifted x vs s.at (suc k)) s.high }
 ]
 
 -- and a window holds as many as neighbours stand in it
 holds : (vs : List ℕ) (v i k : ℕ) → Rising vs → i + k < length vs → v ≤ get_or vs i 0 → get_or vs (i + k) 0 < v + 65535 → k < held vs v
 holds [] v i k rises b low high = absurd (omega arith)
-holds (x ∷ vs) v (suc i) k rises b low high = let r = holds vs v i k (rising_tail x vs rises) (omega arith) low high in omega arith
+holds (x ∷ vs) v (suc i) k rises b low high = let r = holds vs v i k (rising_tail x vs rises) (omega arith) low (rw (shifted x vs i k) at high) in omega arith
 holds (x ∷ vs) v zero zero rises b low high = let y = in_made v x low high in rw y (omega arith)
 holds (x ∷ vs) v zero (suc k) rises b low high =
     let below = rises 0 (suc k) (omega arith) (omega arith) in

@@ -51,6 +51,7 @@ fn check_row(entries: &BTreeMap<&str, usize>, delimiter: u8) -> Result<(), ZeroT
 }
 
 /// Tests the delimiter and all texts of a table.
+#[tactic(auto, using(crate::proofs::BuildLemmas::plain_append, crate::proofs::BuildLemmas::apart_append, crate::proofs::BuildLemmas::fault_left, crate::proofs::BuildLemmas::fault_right))]
 fn check_texts(
     entries: &BTreeMap<&str, BTreeMap<&str, usize>>,
     delimiter: u8,
@@ -259,6 +260,7 @@ fn push_cells(
 }
 
 /// The cells of the dense rows.
+#[tactic(auto, using(crate::proofs::BuildLemmas::matrix_more))]
 fn matrix_of(
     alloc: Global,
     rows: &[Row<'_>],
