@@ -1,7 +1,9 @@
 -- The fullest window, as a loop over ascending values finds it.
 use Rattle.std.proofs.Common.{◌≡◌, ℕ, ◌+◌, ◌-◌, ◌<◌, ◌≤◌, List, [], ◌∷◌, refl, sym, ap, subst, ◌∙◌, arith, Bool, true, false, cond, inl, inr, length, get_or, map, min, zero, suc}
 use Rattle.std.specs.Prelude.{◌==◌, ◌⊎◌, nat_le, nat_lt}
-use Rattle.std.specs.List.{filter}
+use Rattle.std.specs.List.{filter, sum_by}
+use Rattle.std.specs.Prelude.{Contains}
+use Rattle.std.proofs.lemmas.List.Sorted.{sum_by-IsPermutation, Contains-permutation, length_permutation, IsPermutation-sym}
 use Rattle.std.specs.List.Sorted.{IsPermutation}
 use Rattle.zerotrie.specs.dense.Windows.{held, fullest, in_window, greatest, least}
 use Rattle.zerotrie.proofs.WindowLaws.{Among, either, reached, among_filter, filter_among, least_among, at_greatest, fullest_reaches, in_made, in_bounds}
@@ -221,3 +223,91 @@ longest_stays vs e k r first is l far = record {
         subst (λ j. get_or vs j 0 + 65535 ≤ get_or vs (i + k + 1) 0) (sym here) at
   ];
 }
+
+-- what the loop knows after e values, whose stretch begins at first
+abbrev pub Going : List ℕ → ℕ → ℕ → ℕ → Type 0
+Going vs e first r = ((e ≡ 0) × (first ≡ 0) × (r ≡ 0)) ⊎ ((k : ℕ) × (first + k + 1 ≡ e) × Longest vs e k r)
+
+-- a step of it: the stretch grows, or goes on
+abbrev pub Goes : List ℕ → ℕ → ℕ → ℕ → ℕ → ℕ → Type 0
+Goes vs e first r next more = ((in_window (get_or vs first 0) (get_or vs e 0) ≡ true) × (more ≡ get_or vs first 0) × (next ≡ first))
+    ⊎ ((in_window (get_or vs first 0) (get_or vs e 0) ≡ false) × (more ≡ r) × (next ≡ first + 1))
+
+own_window : (v w : ℕ) → v ≡ w → in_window v w ≡ false → ⊥
+own_window v w same out = let yes = in_made v w (omega arith) (omega arith) in let wrong = sym yes ∙ out in absurd (cc)
+
+far_away : (v w : ℕ) → v ≤ w → in_window v w ≡ false → v + 65535 ≤ w
+far_away v w low out = elim (either (nat_lt w (v + 65535))) [
+  | inl y ↦ let yes = in_made v w low (grind arith) in let wrong = sym yes ∙ out in absurd (cc)
+  | inr n ↦ grind arith
+]
+
+pub going_on : (vs : List ℕ) (e first r next more : ℕ) → Rising vs → e < length vs → Going vs e first r → Goes vs e first r next more → Going vs (e + 1) next more
+going_on vs e first r next more rises below going goes = elim going [
+  | inl z ↦ elim goes [
+      | inl t ↦
+          let value : more ≡ get_or vs 0 0 = t.1 ∙ ap (λ i. get_or vs i 0) z.1 in
+          let one : e + 1 ≡ 1 = omega (arith, z.0) in
+          inr (0, omega (arith, z.0, z.1, t.2), subst (λ x. Longest vs x 0 more) (sym one) (subst (λ x. Longest vs 1 0 x) (sym value) (longest_one vs (omega arith))))
+      | inr f ↦
+          let same : first ≡ e = omega (arith, z.0, z.1) in
+          absurd (own_window (get_or vs first 0) (get_or vs e 0) (ap (λ i. get_or vs i 0) same) f.0)
+    ]
+  | inr l ↦ elim goes [
+      | inl t ↦
+          let bounds = in_bounds (get_or vs first 0) (get_or vs e 0) t.0 in
+          inr (l.0 + 1, omega (arith, l.1, t.2), subst (λ x. Longest vs (e + 1) (l.0 + 1) x) (sym t.1) (longest_grows vs e l.0 r first rises l.1 below l.2 bounds.1))
+      | inr f ↦
+          let far = far_away (get_or vs first 0) (get_or vs e 0) (rises first e (omega (arith, l.1)) below) f.0 in
+          inr (l.0, omega (arith, l.1, f.2), subst (λ x. Longest vs (e + 1) l.0 x) (sym f.1) (longest_stays vs e l.0 r first l.1 l.2 far))
+    ]
+]
+
+none_fullest : (vs : List ℕ) → length vs ≡ 0 → 0 ≡ fullest vs
+unfolding fullest
+none_fullest [] h = refl
+none_fullest (x ∷ vs) h = absurd (omega arith)
+
+pub going_ends : (vs : List ℕ) (e first r : ℕ) → Rising vs → e ≡ length vs → Going vs e first r → r ≡ fullest vs
+going_ends vs e first r rises all going = elim going [
+  | inl z ↦ z.2 ∙ none_fullest vs (sym all ∙ z.0)
+  | inr l ↦ found_fullest vs l.0 r rises (subst (λ x. Longest vs x l.0 r) all l.2)
+]
+
+-- another order of the values changes nothing
+held_sum : (vs : List ℕ) (s : ℕ) → held vs s ≡ sum_by (λ v. cond (in_window s v) 1 0) vs
+held_sum [] s = refl
+held_sum (v ∷ vs) s = ap (λ n. cond (in_window s v) 1 0 + n) (held_sum vs s)
+
+among_contains : (vs : List ℕ) (w : ℕ) → Among w vs → Contains vs w
+among_contains [] w a = absurd a
+among_contains (x ∷ vs) w a = elim a [
+  | inl e ↦ (0, omega arith, sym e)
+  | inr b ↦ let r = among_contains vs w b in (suc r.0, omega (arith, r.1), r.2)
+]
+
+contains_among : (vs : List ℕ) (k w : ℕ) → k < length vs → get_or vs k w ≡ w → Among w vs
+contains_among [] k w h e = absurd (omega arith)
+contains_among (x ∷ vs) zero w h e = inl (sym e)
+contains_among (x ∷ vs) (suc k) w h e = inr (contains_among vs k w (omega arith) e)
+
+same_held : (xs ys : List ℕ) (s : ℕ) → IsPermutation xs ys → held ys s ≡ held xs s
+same_held xs ys s p = held_sum ys s ∙ sum_by-IsPermutation (λ v. cond (in_window s v) 1 0) xs ys p ∙ sym (held_sum xs s)
+
+moved : (xs ys : List ℕ) (w : ℕ) → IsPermutation xs ys → Among w xs → Among w ys
+moved xs ys w p a = let c = among_contains xs w a in let d = Contains-permutation xs ys w p c in contains_among ys d.0 w d.1 d.2
+
+pub permuted_fullest : (xs ys : List ℕ) → IsPermutation xs ys → fullest ys ≡ fullest xs
+permuted_fullest [] [] p = refl
+permuted_fullest [] (y ∷ ys) p = absurd (let l = length_permutation [] (y ∷ ys) p in omega (arith, l))
+permuted_fullest (x ∷ xs) [] p = absurd (let l = length_permutation (x ∷ xs) [] p in omega (arith, l))
+permuted_fullest (x ∷ xs) (y ∷ ys) p =
+    let a = is_fullest x xs in
+    let b = is_fullest y ys in
+    let back = IsPermutation-sym (x ∷ xs) (y ∷ ys) p in
+    one_fullest (x ∷ xs) (fullest (y ∷ ys)) (fullest (x ∷ xs)) (record {
+      among = moved (y ∷ ys) (x ∷ xs) (fullest (y ∷ ys)) back b.among;
+      most = λ w t. let m = b.most w (moved (x ∷ xs) (y ∷ ys) w p t) in
+        omega (arith, m, same_held (x ∷ xs) (y ∷ ys) w p, same_held (x ∷ xs) (y ∷ ys) (fullest (y ∷ ys)) p);
+      first = λ w t h. b.first w (moved (x ∷ xs) (y ∷ ys) w p t) (omega (arith, h, same_held (x ∷ xs) (y ∷ ys) w p, same_held (x ∷ xs) (y ∷ ys) (fullest (y ∷ ys)) p));
+    }) a
