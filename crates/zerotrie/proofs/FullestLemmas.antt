@@ -3,6 +3,7 @@ use Rattle.std.proofs.Common.{◌≡◌, ℕ, ◌+◌, ◌-◌, ◌<◌, ◌≤�
 use Rattle.std.specs.Prelude.{◌==◌, ◌⊎◌, nat_le, nat_lt}
 use Rattle.std.specs.List.{filter, sum_by}
 use Rattle.std.specs.Prelude.{Contains}
+use Rattle.std.proofs.lemmas.List.Sums.{sum_by-cons}
 use Rattle.std.proofs.lemmas.List.Sorted.{sum_by-IsPermutation, Contains-permutation, length_permutation, IsPermutation-sym}
 use Rattle.std.specs.List.Sorted.{IsPermutation}
 use Rattle.zerotrie.specs.dense.Windows.{held, fullest, in_window, greatest, least}
@@ -277,7 +278,7 @@ going_ends vs e first r rises all going = elim going [
 -- another order of the values changes nothing
 held_sum : (vs : List ℕ) (s : ℕ) → held vs s ≡ sum_by (λ v. cond (in_window s v) 1 0) vs
 held_sum [] s = refl
-held_sum (v ∷ vs) s = ap (λ n. cond (in_window s v) 1 0 + n) (held_sum vs s)
+held_sum (v ∷ vs) s = ap (λ n. cond (in_window s v) 1 0 + n) (held_sum vs s) ∙ sym (sum_by-cons (λ w. cond (in_window s w) 1 0) v vs)
 
 among_contains : (vs : List ℕ) (w : ℕ) → Among w vs → Contains vs w
 among_contains [] w a = absurd a

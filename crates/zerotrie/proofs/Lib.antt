@@ -11,3 +11,4 @@ mod RowLemmas
 mod EntryLemmas
 mod FullestLemmas
 mod BuildLemmas
+mod RefusalLemmas
