@@ -1,16 +1,17 @@
 -- Why the length of a window's text is refused, and what it is.
 use Rattle.std.proofs.Common.{◌≡◌, ℕ, ◌<◌, ◌≤◌, List, [], ◌∷◌, refl, sym, ap, subst, ◌∙◌, arith, Bool, true, false, inl, inr, length, get_or, zero, suc}
-use Rattle.std.specs.Prelude.{◌⊎◌, ◌≢◌, filter, Any}
+use Rattle.std.specs.Prelude.{◌⊎◌, ◌≢◌, ◌*◌, ◌&&◌, filter, Any, is_some, not, nat_lt}
 use Rattle.zerotrie_core.specs.Kind.{simple_ascii}
-use Rattle.zerotrie_core.specs.Maps.{Pairs, Ascends, map_of}
+use Rattle.zerotrie_core.specs.Maps.{Pairs, Ascends, map_of, value_at}
 use Rattle.zerotrie_core.specs.Canonical.{size, size_of}
 use Rattle.zerotrie_core.specs.Fits.{ExceedsCapacity}
 use Rattle.zerotrie_core.specs.Routes.{ascending, IsRefusal}
 use Rattle.zerotrie_core.specs.Causes.{ZeroTrieBuildError, NonAsciiError, CapacityExceeded, CouldNotSolvePerfectHash, MixedCase, IllegalDelimiter, DuplicateKey, Unsorted, BufferTooSmall, BufferTooLarge, StackExceeded, OutOfMemory}
 use Rattle.zerotrie_core.proofs.CallerLemmas.{entries-map_of}
-use Rattle.zerotrie.specs.dense.Laid.{ArePlain, IsRowRefusal, within}
+use Rattle.zerotrie.specs.dense.Laid.{ArePlain, IsRowRefusal, within, without}
+use Rattle.zerotrie.specs.dense.Layout.{is_dense}
 use Rattle.zerotrie.specs.dense.Rows.{keys}
-use Rattle.zerotrie.specs.dense.Windows.{in_window, inside, offset}
+use Rattle.zerotrie.specs.dense.Windows.{in_window, inside, outside, offset}
 use Rattle.zerotrie.proofs.TextLemmas.{either}
 use Rattle.zerotrie.proofs.BuildLemmas.{kept_ascends}
 
@@ -58,3 +59,12 @@ pub window_size : (pairs row : Pairs) (start n : ℕ) → pairs ≡ within start
 unfolding size
 window_size pairs row start n is ascends h =
     h ∙ ap (λ p. size simple_ascii (map_of p)) is ∙ ap (size_of simple_ascii) (entries-map_of (within start row) (kept_ascends (in_window start) row ascends))
+
+-- a row is dense by the length of its window's text and the empty suffix
+pub dense_is : (columns len start : ℕ) (row : Pairs) (out : Bool) → start ≡ offset row → len ≡ size_of simple_ascii (within start row) → 2 * columns < len
+    → out ≡ is_some (value_at simple_ascii (without start row) []) → not out ≡ is_dense columns row
+dense_is columns len start row out at size_is below is =
+    let n : len ≡ size_of simple_ascii (inside row) = size_is ∙ ap (λ s. size_of simple_ascii (within s row)) at in
+    let test : nat_lt (2 * columns) (size_of simple_ascii (inside row)) ≡ true = (let wide : 2 * columns < size_of simple_ascii (inside row) = omega (arith, n, below) in grind (arith, wide)) in
+    ap not (is ∙ ap (λ s. is_some (value_at simple_ascii (without s row) [])) at)
+    ∙ sym (ap (λ b. b && not (is_some (value_at simple_ascii (outside row) []))) test)
