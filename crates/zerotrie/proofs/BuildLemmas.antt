@@ -42,15 +42,15 @@ pub filtered : (q : ℕ → Bool) (pairs : Pairs) (s : List ℕ) → Ascends pai
 filtered q [] s ascends = refl
 filtered q (e ∷ pairs) s ascends = elim (either (same e.0 s)) [
   | inl y ↦ elim (either (q e.1)) [
-      | inl t ↦ rw (t, y, t) refl
-      | inr f ↦
-          let is : e.0 ≡ s = exact_same e.0 s y in
-          rw (f, y, f) (ap (λ k. V (filter (λ d. q d.1) pairs) k) (sym is) ∙ kept_none e.0 q pairs (first_once e.0 e.1 pairs ascends))
-    ]
+    | inl t ↦ rw (t, y, t) refl
+    | inr f ↦
+        let is : e.0 ≡ s = exact_same e.0 s y in
+        rw (f, y, f) (ap (λ k. V (filter (λ d. q d.1) pairs) k) (sym is) ∙ kept_none e.0 q pairs (first_once e.0 e.1 pairs ascends))
+  ]
   | inr n ↦ elim (either (q e.1)) [
-      | inl t ↦ rw (t, n) (filtered q pairs s ascends.1)
-      | inr f ↦ rw (f, n) (filtered q pairs s ascends.1)
-    ]
+    | inl t ↦ rw (t, n) (filtered q pairs s ascends.1)
+    | inr f ↦ rw (f, n) (filtered q pairs s ascends.1)
+  ]
 ]
 
 by_test : (b : Bool) (v : ℕ) → is_some (cond b (Some v) None) ≡ b
@@ -59,6 +59,7 @@ by_test false v = refl
 
 pub is_passing : (q : ℕ → Bool) (o : Option ℕ) (v : ℕ) → o ≡ Some v → is_some (passing q o) ≡ q v
 is_passing q o v h = ap (λ x. is_some (passing q x)) h ∙ by_test (q v) v
+
 put_by : (x : Bor (List ℕ)) (ks : List (Bor (List ℕ))) (k : Bor (List ℕ)) (o : Ordering)
     → map {B = List ℕ} (λ s. s.now) (insert_key (λ a b. slice_cmp nat_cmp a.now b.now) ks k) ≡ put_text k.now (map {B = List ℕ} (λ s. s.now) ks)
     → map {B = List ℕ} (λ s. s.now) (match_ordering o (k ∷ x ∷ ks) (x ∷ ks) (x ∷ insert_key (λ a b. slice_cmp nat_cmp a.now b.now) ks k))
@@ -71,6 +72,7 @@ put_by x ks k Greater h = ap (λ t. x.now ∷ t) h
 pub insert_put : (ks : List (Bor (List ℕ))) (k : Bor (List ℕ)) → map {B = List ℕ} (λ s. s.now) (insert_key (λ x y. slice_cmp nat_cmp x.now y.now) ks k) ≡ put_text k.now (map {B = List ℕ} (λ s. s.now) ks)
 insert_put [] k = refl
 insert_put (x ∷ ks) k = put_by x ks k (slice_cmp nat_cmp k.now x.now) (insert_put ks k)
+
 pub puts_append : (xs ys S : List (List ℕ)) → put_texts (xs ++ ys) S ≡ put_texts ys (put_texts xs S)
 puts_append [] ys S = refl
 puts_append (x ∷ xs) ys S = puts_append xs ys (put_text x S)

@@ -25,9 +25,9 @@ kept_among : (p : ℕ → Bool) (vs : List ℕ) (v : ℕ) → Among v (filter p 
 kept_among p [] v a = a
 kept_among p (x ∷ vs) v a = elim (either (p x)) [
   | inl e ↦ elim (let P : Bool → Type 0 = λ b. Among v (cond b (x ∷ filter p vs) (filter p vs)) in subst P e a) [
-      | inl q ↦ inl q
-      | inr b ↦ inr (kept_among p vs v b)
-    ]
+    | inl q ↦ inl q
+    | inr b ↦ inr (kept_among p vs v b)
+  ]
   | inr e ↦ inr (kept_among p vs v (let P : Bool → Type 0 = λ b. Among v (cond b (x ∷ filter p vs) (filter p vs)) in subst P e a))
 ]
 
@@ -54,10 +54,10 @@ is_fullest x xs =
       among = kept_among p all (least (filter p all)) chosen;
       most = λ w a. let g = at_greatest (held all) all w a in omega (arith, g, reaches);
       first = λ w a h.
-        let g = at_greatest (held all) all w a in
-        let e : held all w ≡ top = omega (arith, g, reaches, h) in
-        let passes : p w ≡ true = grind (arith, e) in
-        least_below (filter p all) w (filter_among p all w a passes);
+          let g = at_greatest (held all) all w a in
+          let e : held all w ≡ top = omega (arith, g, reaches, h) in
+          let passes : p w ≡ true = grind (arith, e) in
+          least_below (filter p all) w (filter_among p all w a passes);
     }
 
 -- the values ascend
@@ -197,15 +197,15 @@ longest_grows vs e k r first rises is below l fits = record {
   is = refl;
   fits = (let same : first + (k + 1) ≡ e = omega arith in subst (λ j. get_or vs j 0 < get_or vs first 0 + 65535) (sym same) fits);
   before = λ i b. (
-    let far = l.no_longer i (omega (arith, b, is)) in
-    let same : i + k + 1 ≡ i + (k + 1) = omega arith in
-    subst (λ j. get_or vs i 0 + 65535 ≤ get_or vs j 0) same far
-  );
+      let far = l.no_longer i (omega (arith, b, is)) in
+      let same : i + k + 1 ≡ i + (k + 1) = omega arith in
+      subst (λ j. get_or vs i 0 + 65535 ≤ get_or vs j 0) same far
+      );
   no_longer = λ i b. (
-    let far = l.no_longer i (omega (arith, b)) in
-    let up = rises (i + k + 1) (i + (k + 1) + 1) (omega arith) (omega (arith, b, below)) in
-    omega (arith, far, up)
-  );
+      let far = l.no_longer i (omega (arith, b)) in
+      let up = rises (i + k + 1) (i + (k + 1) + 1) (omega arith) (omega (arith, b, below)) in
+      omega (arith, far, up)
+      );
 }
 
 pub longest_stays : (vs : List ℕ) (e k r first : ℕ) → first + k + 1 ≡ e → Longest vs e k r → get_or vs first 0 + 65535 ≤ get_or vs e 0 → Longest vs (e + 1) k r
@@ -246,22 +246,22 @@ far_away v w low out = elim (either (nat_lt w (v + 65535))) [
 pub going_on : (vs : List ℕ) (e first r next more : ℕ) → Rising vs → e < length vs → Going vs e first r → Goes vs e first r next more → Going vs (e + 1) next more
 going_on vs e first r next more rises below going goes = elim going [
   | inl z ↦ elim goes [
-      | inl t ↦
-          let value : more ≡ get_or vs 0 0 = t.1 ∙ ap (λ i. get_or vs i 0) z.1 in
-          let one : e + 1 ≡ 1 = omega (arith, z.0) in
-          inr (0, omega (arith, z.0, z.1, t.2), subst (λ x. Longest vs x 0 more) (sym one) (subst (λ x. Longest vs 1 0 x) (sym value) (longest_one vs (omega arith))))
-      | inr f ↦
-          let same : first ≡ e = omega (arith, z.0, z.1) in
-          absurd (own_window (get_or vs first 0) (get_or vs e 0) (ap (λ i. get_or vs i 0) same) f.0)
-    ]
+    | inl t ↦
+        let value : more ≡ get_or vs 0 0 = t.1 ∙ ap (λ i. get_or vs i 0) z.1 in
+        let one : e + 1 ≡ 1 = omega (arith, z.0) in
+        inr (0, omega (arith, z.0, z.1, t.2), subst (λ x. Longest vs x 0 more) (sym one) (subst (λ x. Longest vs 1 0 x) (sym value) (longest_one vs (omega arith))))
+    | inr f ↦
+        let same : first ≡ e = omega (arith, z.0, z.1) in
+        absurd (own_window (get_or vs first 0) (get_or vs e 0) (ap (λ i. get_or vs i 0) same) f.0)
+  ]
   | inr l ↦ elim goes [
-      | inl t ↦
-          let bounds = in_bounds (get_or vs first 0) (get_or vs e 0) t.0 in
-          inr (l.0 + 1, omega (arith, l.1, t.2), subst (λ x. Longest vs (e + 1) (l.0 + 1) x) (sym t.1) (longest_grows vs e l.0 r first rises l.1 below l.2 bounds.1))
-      | inr f ↦
-          let far = far_away (get_or vs first 0) (get_or vs e 0) (rises first e (omega (arith, l.1)) below) f.0 in
-          inr (l.0, omega (arith, l.1, f.2), subst (λ x. Longest vs (e + 1) l.0 x) (sym f.1) (longest_stays vs e l.0 r first l.1 l.2 far))
-    ]
+    | inl t ↦
+        let bounds = in_bounds (get_or vs first 0) (get_or vs e 0) t.0 in
+        inr (l.0 + 1, omega (arith, l.1, t.2), subst (λ x. Longest vs (e + 1) (l.0 + 1) x) (sym t.1) (longest_grows vs e l.0 r first rises l.1 below l.2 bounds.1))
+    | inr f ↦
+        let far = far_away (get_or vs first 0) (get_or vs e 0) (rises first e (omega (arith, l.1)) below) f.0 in
+        inr (l.0, omega (arith, l.1, f.2), subst (λ x. Longest vs (e + 1) l.0 x) (sym f.1) (longest_stays vs e l.0 r first l.1 l.2 far))
+  ]
 ]
 
 none_fullest : (vs : List ℕ) → length vs ≡ 0 → 0 ≡ fullest vs
@@ -309,6 +309,6 @@ permuted_fullest (x ∷ xs) (y ∷ ys) p =
     one_fullest (x ∷ xs) (fullest (y ∷ ys)) (fullest (x ∷ xs)) (record {
       among = moved (y ∷ ys) (x ∷ xs) (fullest (y ∷ ys)) back b.among;
       most = λ w t. let m = b.most w (moved (x ∷ xs) (y ∷ ys) w p t) in
-        omega (arith, m, same_held (x ∷ xs) (y ∷ ys) w p, same_held (x ∷ xs) (y ∷ ys) (fullest (y ∷ ys)) p);
+          omega (arith, m, same_held (x ∷ xs) (y ∷ ys) w p, same_held (x ∷ xs) (y ∷ ys) (fullest (y ∷ ys)) p);
       first = λ w t h. b.first w (moved (x ∷ xs) (y ∷ ys) w p t) (omega (arith, h, same_held (x ∷ xs) (y ∷ ys) w p, same_held (x ∷ xs) (y ∷ ys) (fullest (y ∷ ys)) p));
     }) a

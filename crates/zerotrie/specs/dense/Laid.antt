@@ -58,10 +58,13 @@ others_in delimiter (r ∷ rows) = under r.prefix delimiter (beside_in r) ++ oth
 abbrev pub cells_in : List (List ℕ) → Laid → List ℕ
 cells_in suffixes r = map (λ s. cell_of r.offset (value_at simple_ascii (within r.offset r.pairs) s)) suffixes
 
--- the cells of the dense rows
+-- the cells of a row if it is dense, and of all dense rows
+abbrev pub dense_cells : List (List ℕ) → Laid → List ℕ
+dense_cells suffixes r = cond r.dense (cells_in suffixes r) []
+
 abbrev pub cells_of : List (List ℕ) → List Laid → List ℕ
 cells_of suffixes [] = []
-cells_of suffixes (r ∷ rows) = cond r.dense (cells_in suffixes r ++ cells_of suffixes rows) (cells_of suffixes rows)
+cells_of suffixes (r ∷ rows) = dense_cells suffixes r ++ cells_of suffixes rows
 
 -- each row ascends
 abbrev pub AllAscend : List Laid → Type 0

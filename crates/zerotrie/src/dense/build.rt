@@ -5,7 +5,7 @@ ghost use Rattle.zerotrie_core.specs.Causes.{OutOfMemory, NonAsciiError, Capacit
 ghost use Rattle.zerotrie_core.specs.Items.{pairs_of, keyed};
 ghost use Rattle.zerotrie_core.specs.Maps.{Ascends, value_at};
 ghost use Rattle.zerotrie_core.specs.Kind.{simple_ascii};
-ghost use Rattle.zerotrie.specs.dense.Laid.{AllAscend, ArePlain, AreApart, HasFault, IsFault, IsPlain, beside_in, cells_in, cells_of, numbers_in, offsets_in, others_in, shown, under, within};
+ghost use Rattle.zerotrie.specs.dense.Laid.{AllAscend, ArePlain, AreApart, HasFault, IsFault, IsPlain, beside_in, cells_in, cells_of, dense_cells, numbers_in, offsets_in, others_in, shown, under, within};
 ghost use Rattle.zerotrie.specs.dense.Laws.{IsDenseBuild};
 ghost use Rattle.zerotrie.specs.dense.Layout.{cell_of};
 ghost use Rattle.zerotrie.specs.dense.Records.{matrix_bytes};
@@ -119,12 +119,7 @@ fn columns_of<'a>(
 }
 
 /// A prefix, the delimiter and a suffix, one behind another.
-fn key_of(
-    alloc: Global,
-    prefix: &str,
-    delimiter: u8,
-    suffix: &str,
-) -> Result<Vec<u8>, AllocError>
+fn key_of(alloc: Global, prefix: &str, delimiter: u8, suffix: &str) -> Result<Vec<u8>, AllocError>
     ensures { IfOk result (λ key. key.items ≡ prefix.now ++ (delimiter ∷ suffix.now)) }
 {
     let mut key = Vec::from_slice(alloc, prefix.as_bytes())?;
@@ -259,6 +254,22 @@ fn push_cells(
     Ok(())
 }
 
+/// Adds the cells of a row if it is dense.
+fn push_dense_cells(
+    row: &Row<'_>,
+    suffixes: &BTreeSet<&str>,
+    matrix: &mut Vec<u8>,
+) -> Result<(), AllocError>
+    requires { Ascends (shown row.now).pairs }
+    ensures { OnOk result (matrix.new.items
+        ≡ matrix.old.items ++ matrix_bytes (dense_cells (map (λ s. s.now) suffixes.now.keys) (shown row.now))) }
+{
+    if !row.is_dense {
+        return Ok(());
+    }
+    push_cells(row, suffixes, matrix)
+}
+
 /// The cells of the dense rows.
 #[tactic(auto, using(crate::proofs::BuildLemmas::matrix_more))]
 fn matrix_of(
@@ -272,9 +283,7 @@ fn matrix_of(
 {
     let mut matrix = Vec::new(alloc);
     for row in rows {
-        if row.is_dense {
-            push_cells(row, suffixes, &mut matrix)?;
-        }
+        push_dense_cells(row, suffixes, &mut matrix)?;
     }
     Ok(matrix)
 }

@@ -1,7 +1,9 @@
 //! Dense tables: their parts, look-ups, records and refusals.
 
 use super::*;
-use crate::dense::{RecordError, ZeroAsciiDenseSparse2dTrieBorrowed, ZeroAsciiDenseSparse2dTrieOwned};
+use crate::dense::{
+    RecordError, ZeroAsciiDenseSparse2dTrieBorrowed, ZeroAsciiDenseSparse2dTrieOwned,
+};
 
 /// A prefix, a suffix and a value.
 type Entry<'a> = (&'a str, &'a str, usize);
@@ -87,15 +89,39 @@ const WIDE: &[Entry<'_>] = &[
 fn tables_have_their_parts(rt: HostRuntime) -> Result<(), Fail> {
     let rows: [Row<'_>; 6] = [
         (
-            &[("ar", "FR", 0), ("ar", "IR", 1), ("ar", "SA", 2), ("ar", "UK", 3), ("ar", "US", 4), ("en", "AU", 5), ("en", "FR", 6), ("en", "UK", 7), ("en", "US", 8), ("fr", "FR", 9), ("fr", "SA", 10), ("fr", "UK", 11), ("fr", "US", 12), ("it", "IT", 13)],
+            &[
+                ("ar", "FR", 0),
+                ("ar", "IR", 1),
+                ("ar", "SA", 2),
+                ("ar", "UK", 3),
+                ("ar", "US", 4),
+                ("en", "AU", 5),
+                ("en", "FR", 6),
+                ("en", "UK", 7),
+                ("en", "US", 8),
+                ("fr", "FR", 9),
+                ("fr", "SA", 10),
+                ("fr", "UK", 11),
+                ("fr", "US", 12),
+                ("it", "IT", 13),
+            ],
             b"\xC4aefi\x04\x08\x0Cr\x80/\x80n\x81/\x85r\x82/\x89t/IT\x8D",
             b"\xC5AFISU\x02\x04\x0A\x0CU\x80R\x81\xC2RT\x01\x82\x83A\x84\xC2KS\x01\x85\
             \x86",
             7,
-            &[65535, 0, 1, 65535, 2, 3, 4, 0, 1, 65535, 65535, 65535, 2, 3, 65535, 0, 65535, 65535, 1, 2, 3],
+            &[
+                65535, 0, 1, 65535, 2, 3, 4, 0, 1, 65535, 65535, 65535, 2, 3, 65535, 0, 65535,
+                65535, 1, 2, 3,
+            ],
         ),
         (
-            &[("aaa", "BBB", 1), ("aaa", "CCC", 2), ("ddd", "BBB", 3), ("ddd", "EEE", 4), ("fff", "BBB", 5)],
+            &[
+                ("aaa", "BBB", 1),
+                ("aaa", "CCC", 2),
+                ("ddd", "BBB", 3),
+                ("ddd", "EEE", 4),
+                ("fff", "BBB", 5),
+            ],
             b"\xC3adf\x05\x0Aaa\x80/\x81dd\x81/\x83ff/BBB\x85",
             b"\xC3BCE\x03\x06BB\x80CC\x81EE\x82",
             3,
@@ -114,10 +140,27 @@ fn tables_have_their_parts(rt: HostRuntime) -> Result<(), Fail> {
             b"\xC9abcdefghl\x01\x02\x09\x0A\x0B\x0C\x0D\x12\x80\x81\x82\xC223\x01\x83\
             \x84\x85\x86\x87\x88\x89igh\x8Aow\x8B2\x8C",
             13,
-            &[65535, 0, 1, 1, 1, 65530, 65531, 65532, 65533, 65534, 65535, 65535, 65535],
+            &[
+                65535, 0, 1, 1, 1, 65530, 65531, 65532, 65533, 65534, 65535, 65535, 65535,
+            ],
         ),
         (
-            &[("de", "AT", 8), ("de", "CH", 9), ("de", "DE", 7), ("de", "rare3", 102), ("en", "CA", 3), ("en", "GB", 2), ("en", "US", 1), ("en", "rare1", 100), ("es", "ES", 104), ("es", "rare4", 103), ("fr", "BE", 6), ("fr", "CA", 5), ("fr", "FR", 4), ("fr", "rare2", 101)],
+            &[
+                ("de", "AT", 8),
+                ("de", "CH", 9),
+                ("de", "DE", 7),
+                ("de", "rare3", 102),
+                ("en", "CA", 3),
+                ("en", "GB", 2),
+                ("en", "US", 1),
+                ("en", "rare1", 100),
+                ("es", "ES", 104),
+                ("es", "rare4", 103),
+                ("fr", "BE", 6),
+                ("fr", "CA", 5),
+                ("fr", "FR", 4),
+                ("fr", "rare2", 101),
+            ],
             b"\xC3def\x16=e/\xC4ACDr\x02\x04\x06T\x88H\x89E\x87are3\x90V\xC2ns\x15/\xC4C\
             GUr\x02\x04\x06A\x83B\x82S\x81are1\x90T/\xC2Er\x03S\x90Xare4\x90Wr/\xC4BCFr\
             \x02\x04\x06E\x86A\x85R\x84are2\x90U",
@@ -139,7 +182,11 @@ fn the_empty_suffix_is_found(rt: HostRuntime) -> Result<(), Fail> {
     let tops = (usize::MAX - 1, usize::MAX);
     let rows: [&[Entry<'_>]; 3] = [
         &[("aa", "", 7)],
-        &[("aa", "", 0), ("aa", "BBBB", 100_000), ("aa", "CCCC", 100_001)],
+        &[
+            ("aa", "", 0),
+            ("aa", "BBBB", 100_000),
+            ("aa", "CCCC", 100_001),
+        ],
         &[("aa", "", tops.0), ("aa", "BBBB", tops.1)],
     ];
     for (entries, cells) in [(rows[0], 0), (rows[1], 0), (rows[2], 4)] {
@@ -166,7 +213,11 @@ fn a_row_without_suffixes_adds_nothing(rt: HostRuntime) -> Result<(), Fail> {
         ("é", ZeroTrieBuildError::NonAsciiError),
     ] {
         rows.insert(prefix, BTreeMap::new(rt.alloc()))?;
-        let refused = ZeroAsciiDenseSparse2dTrieOwned::try_from_btree_map_str(rt.alloc(), &rows, b'/');
+        let refused = ZeroAsciiDenseSparse2dTrieOwned::try_from_btree_map_str(
+            rt.alloc(),
+            &rows,
+            b'/',
+        );
         assert!(rt; refused.is_err_and(|e| e == error));
         rows.remove(prefix);
     }
@@ -208,11 +259,18 @@ fn too_many_suffixes_are_refused(rt: HostRuntime) -> Result<(), Fail> {
 
 #[test]
 fn records_have_their_length(rt: HostRuntime) -> Result<(), Fail> {
-    let entries = [("aaa", "BBB", 1), ("aaa", "CCC", 2), ("ddd", "BBB", 3), ("ddd", "EEE", 4)];
+    let entries = [
+        ("aaa", "BBB", 1),
+        ("aaa", "CCC", 2),
+        ("ddd", "BBB", 3),
+        ("ddd", "EEE", 4),
+    ];
     let table = table_of(rt.alloc(), &entries)??;
     let mut record = table.as_borrowed().to_record_bytes(rt.alloc())?;
     for len in 0..record.len() {
-        let read = ZeroAsciiDenseSparse2dTrieBorrowed::try_from_record_bytes(&record.as_slice()[..len]);
+        let read = ZeroAsciiDenseSparse2dTrieBorrowed::try_from_record_bytes(
+            &record.as_slice()[..len],
+        );
         assert!(rt; read.is_err_and(|e| e == RecordError::Truncated));
     }
     record.push(0)?;

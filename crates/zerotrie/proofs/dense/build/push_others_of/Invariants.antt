@@ -6,5 +6,5 @@ use Rattle.zerotrie.proofs.dense.build.push_others_of.Given as goal
 
 abbrev pub invariant-loop-suffix : goal.invariant-loop-suffix
 invariant-loop-suffix l = keyed (λ k. k.items) l.pairs.items
-      ++ under l.row.prefix.now l.delimiter (beside_in (record { prefix = l.row.prefix.now; pairs = pairs_in l.suffix-iterator; offset = l.row.offset; dense = l.row.is_dense }))
+    ++ under l.row.prefix.now l.delimiter (beside_in (record { prefix = l.row.prefix.now; pairs = pairs_in l.suffix-iterator; offset = l.row.offset; dense = l.row.is_dense }))
     ≡ keyed (λ k. k.items) l.initial.pairs.items ++ under l.row.prefix.now l.delimiter (beside_in (shown l.row))

@@ -10,7 +10,7 @@ returns-in_err-len-clause-refused c =
     let same = err_from_is_err_and c.from_residual-in_err-len.result c.from_residual-in_err-len.ensures.1 in
     let is = ap pairs_of c.as_slice.ensures.value ∙ c.in_ok-pairs.ensures in
     rw (same.1, same.2) (row_refused (pairs_of c.as_slice.result.now) (pairs_in c.args.entries.now.entries) c.args.start c.in_err-len.field-0.0 is
-      c.requires.start c.requires.ascends c.requires.plain c.in_err-len.ensures.0 c.in_err-len.ensures.1)
+    c.requires.start c.requires.ascends c.requires.plain c.in_err-len.ensures.0 c.in_err-len.ensures.1)
 
 pub returns-clause-len : goal.returns-clause-len
 returns-clause-len c =
