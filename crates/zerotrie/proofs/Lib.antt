@@ -12,3 +12,6 @@ mod EntryLemmas
 mod FullestLemmas
 mod BuildLemmas
 mod RefusalLemmas
+mod OnceLemmas
+mod LaidLemmas
+mod CauseLemmas

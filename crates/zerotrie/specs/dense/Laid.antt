@@ -1,5 +1,5 @@
 -- Rows with what a build finds of each: words for private functions.
-use Rattle.std.specs.Prelude.{◌≡◌, ℕ, ◌+◌, ◌<◌, ◌≤◌, ◌⊎◌, List, [], ◌∷◌, ◌++◌, map, filter, not, Bool, cond, Any, Contains}
+use Rattle.std.specs.Prelude.{◌≡◌, ℕ, ◌+◌, ◌^◌, ◌<◌, ◌≤◌, ◌⊎◌, List, [], ◌∷◌, ◌++◌, map, filter, not, Bool, cond, Any, Contains}
 use Rattle.zerotrie_core.specs.Kind.{simple_ascii}
 use Rattle.zerotrie_core.specs.Maps.{Pairs, Ascends, map_of, value_at}
 use Rattle.zerotrie_core.specs.Fits.{ExceedsCapacity}
@@ -83,6 +83,15 @@ ArePlain (text ∷ more) = IsPlain text × ArePlain more
 abbrev pub AreApart : ℕ → List (List ℕ) → Type 0
 AreApart delimiter [] = Unit {0}
 AreApart delimiter (text ∷ more) = (Contains text delimiter → ⊥) × AreApart delimiter more
+
+-- the values of a row are numbers of eight bytes, and of all rows
+abbrev pub AreInRange : Pairs → Type 0
+AreInRange [] = Unit {0}
+AreInRange (e ∷ pairs) = (e.1 < 2 ^ 64) × AreInRange pairs
+
+abbrev pub AllInRange : Rows → Type 0
+AllInRange [] = Unit {0}
+AllInRange (row ∷ rows) = AreInRange row.1 × AllInRange rows
 
 -- why a text is refused, or one of some
 abbrev pub IsFault : ℕ → List ℕ → ZeroTrieBuildError → Type 0

@@ -5,7 +5,8 @@ ghost use Rattle.zerotrie_core.specs.Causes.{OutOfMemory, NonAsciiError, Capacit
 ghost use Rattle.zerotrie_core.specs.Items.{pairs_of, keyed};
 ghost use Rattle.zerotrie_core.specs.Maps.{Ascends, value_at};
 ghost use Rattle.zerotrie_core.specs.Kind.{simple_ascii};
-ghost use Rattle.zerotrie.specs.dense.Laid.{AllAscend, ArePlain, AreApart, HasFault, IsFault, IsPlain, beside_in, cells_in, cells_of, dense_cells, numbers_in, offsets_in, others_in, shown, under, within};
+ghost use Rattle.zerotrie_core.specs.Routes.{any_order, IsBuild};
+ghost use Rattle.zerotrie.specs.dense.Laid.{AllAscend, AllInRange, ArePlain, AreApart, AreInRange, HasFault, IsFault, IsPlain, beside_in, cells_in, cells_of, dense_cells, numbers_in, offsets_in, others_in, shown, under, within};
 ghost use Rattle.zerotrie.specs.dense.Laws.{IsDenseBuild};
 ghost use Rattle.zerotrie.specs.dense.Layout.{cell_of};
 ghost use Rattle.zerotrie.specs.dense.Records.{matrix_bytes};
@@ -42,6 +43,7 @@ fn check_text(text: &str, delimiter: u8) -> Result<(), ZeroTrieBuildError>
 fn check_row(entries: &BTreeMap<&str, usize>, delimiter: u8) -> Result<(), ZeroTrieBuildError>
     ensures plain { OnOk result (ArePlain (keys (pairs_in entries.now.entries))) }
     ensures apart { OnOk result (AreApart delimiter (keys (pairs_in entries.now.entries))) }
+    ensures values { OnOk result (AreInRange (pairs_in entries.now.entries)) }
     ensures fault { IfErr result (HasFault delimiter (keys (pairs_in entries.now.entries))) }
 {
     for (suffix, _) in entries {
@@ -59,6 +61,7 @@ fn check_texts(
     ensures delimiter { OnOk result (delimiter < 128) }
     ensures plain { OnOk result (ArePlain (texts (rows_in entries.now.entries))) }
     ensures apart { OnOk result (AreApart delimiter (texts (rows_in entries.now.entries))) }
+    ensures values { OnOk result (AllInRange (rows_in entries.now.entries)) }
     ensures fault { IfErr result (λ e. ((e ≡ NonAsciiError) × (128 ≤ delimiter))
         ⊎ HasFault delimiter (texts (rows_in entries.now.entries)) e) }
 {
@@ -220,6 +223,16 @@ fn primary_of(
     Ok(pairs)
 }
 
+/// The primary trie, of its pairs in any order.
+fn primary_trie(
+    alloc: Global,
+    pairs: Vec<Pair>,
+) -> Result<ZeroTrieSimpleAscii<Vec<u8>>, ZeroTrieBuildError>
+    ensures { IsBuild any_order simple_ascii (λ trie. trie.store.items) (keyed (λ k. k.items) pairs.items) result }
+{
+    ZeroTrieSimpleAscii::try_from_iter(alloc, pairs)
+}
+
 /// The cell of a suffix: the value in the row's window less the row's offset, or 65,535.
 fn cell_in(row: &Row<'_>, suffix: &str) -> u16
     requires { Ascends (shown row.now).pairs }
@@ -325,7 +338,7 @@ impl ZeroAsciiDenseSparse2dTrieOwned {
         let rows = rows_of(alloc, entries, columns.len())?;
         let pairs = primary_of(alloc, rows.as_slice(), delimiter)?;
         Ok(ZeroAsciiDenseSparse2dTrieOwned {
-            primary: ZeroTrieSimpleAscii::try_from_iter(alloc, pairs)?,
+            primary: primary_trie(alloc, pairs)?,
             suffixes: ZeroTrieSimpleAscii::try_from_sorted_slice(alloc, columns.as_slice())?,
             matrix: matrix_of(alloc, rows.as_slice(), &suffixes)?,
             suffix_count,
