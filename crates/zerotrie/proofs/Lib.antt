@@ -12,3 +12,4 @@ mod EntryLemmas
 mod FullestLemmas
 mod BuildLemmas
 mod RefusalLemmas
+mod RowsLemmas
