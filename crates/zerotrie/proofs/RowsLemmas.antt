@@ -7,10 +7,10 @@ use Rattle.std.specs.Ordering.{nat_cmp}
 use Rattle.std.specs.Cmp.Lexicographic.{slice_cmp}
 use Rattle.std.proofs.lemmas.Map.Keys.{sorted_head, sorted_tail}
 use Rattle.zerotrie_core.specs.Maps.{Ascends}
-use Rattle.zerotrie.specs.dense.Laid.{AllAscend, ArePlain, cells_of, dense_cells, laid, shown}
+use Rattle.zerotrie.specs.dense.Laid.{Laid, AllAscend, ArePlain, cells_of, dense_cells, laid, shown}
 use Rattle.zerotrie.specs.dense.Records.{matrix_bytes}
 use Rattle.zerotrie.specs.dense.Rows.{IsInOrder, placed}
-use Rattle.zerotrie.specs.dense.Views.{rows_in}
+use Rattle.zerotrie.specs.dense.Views.{pairs_in, rows_in}
 use Rattle.zerotrie.specs.declared.dense.rows.Row.{Row}
 use Rattle.zerotrie.proofs.BuildLemmas.{matrix_more}
 
@@ -62,4 +62,20 @@ cells_step S rows i r old new whole at before is =
     ∙ append_assoc old (matrix_bytes now) (matrix_bytes rest)
     ∙ ap (λ t. old ++ t) (sym (matrix_more now rest))
     ∙ ap (λ d. old ++ matrix_bytes (cells_of S (map shown d))) (sym at)
+    ∙ before
+
+-- one more row in hand
+shown_more : (old : List Row) (r : Row) (more : List Laid) → map shown (old ++ r ∷ []) ++ more ≡ map shown old ++ shown r ∷ more
+shown_more [] r more = refl
+shown_more (x ∷ old) r more = ap (λ t. shown x ∷ t) (shown_more old r more)
+
+pub rows_step : (columns : ℕ) (old new : List Row) (r : Row) (all rest : List (Bor (List ℕ) × BTreeMap (Bor (List ℕ)) ℕ)) (e : Bor (List ℕ) × BTreeMap (Bor (List ℕ)) ℕ) (whole : List Laid)
+    → all ≡ e ∷ rest → map shown old ++ map (laid columns) (rows_in all) ≡ whole → new ≡ old ++ r ∷ [] → shown r ≡ laid columns (e.0.now, pairs_in e.1.entries)
+    → map shown new ++ map (laid columns) (rows_in rest) ≡ whole
+rows_step columns old new r all rest e whole front before is shows =
+    let more : List Laid = map (laid columns) (rows_in rest) in
+    ap (λ rows. map shown rows ++ more) is
+    ∙ shown_more old r more
+    ∙ ap (λ x. map shown old ++ x ∷ more) shows
+    ∙ ap (λ es. map shown old ++ map (laid columns) (rows_in es)) (sym front)
     ∙ before
