@@ -1,5 +1,5 @@
 -- What the rows of a build and their cells rest on.
-use Rattle.std.proofs.Common.{◌≡◌, ℕ, ◌+◌, ◌<◌, List, [], ◌∷◌, ◌++◌, refl, sym, ap, subst, ◌∙◌, arith, map, length, drop, get_or, suc, drop-cons, append_assoc}
+use Rattle.std.proofs.Common.{◌≡◌, ℕ, ◌+◌, ◌<◌, List, [], ◌∷◌, ◌++◌, refl, sym, ap, ◌∙◌, arith, map, length, drop, get_or, suc, drop-cons, append_assoc}
 use Rattle.std.specs.Borrow.{Bor}
 use Rattle.std.specs.BTreeMap.{BTreeMap}
 use Rattle.std.specs.List.Sorted.{IsStrictlySortedBy}
