@@ -1,5 +1,5 @@
 -- The fullest window, as a loop over ascending values finds it.
-use Rattle.std.proofs.Common.{◌≡◌, ℕ, ◌+◌, ◌-◌, ◌<◌, ◌≤◌, List, [], ◌∷◌, refl, sym, ap, subst, ◌∙◌, arith, Bool, true, false, cond, inl, inr, length, get_or, map, min, zero, suc}
+use Rattle.std.proofs.Common.{◌≡◌, ℕ, ◌+◌, ◌<◌, ◌≤◌, List, [], ◌∷◌, refl, sym, ap, subst, ◌∙◌, arith, Bool, true, false, cond, inl, inr, length, get_or, map, zero, suc}
 use Rattle.std.specs.Prelude.{◌==◌, ◌⊎◌, nat_le, nat_lt}
 use Rattle.std.specs.List.{filter, sum_by}
 use Rattle.std.specs.Prelude.{Contains}
@@ -7,7 +7,7 @@ use Rattle.std.proofs.lemmas.List.Sums.{sum_by-cons}
 use Rattle.std.proofs.lemmas.List.Sorted.{sum_by-IsPermutation, Contains-permutation, length_permutation, IsPermutation-sym}
 use Rattle.std.specs.List.Sorted.{IsPermutation}
 use Rattle.zerotrie.specs.dense.Windows.{held, fullest, in_window, greatest, least}
-use Rattle.zerotrie.proofs.WindowLaws.{Among, either, reached, among_filter, filter_among, least_among, at_greatest, fullest_reaches, in_made, in_bounds}
+use Rattle.zerotrie.proofs.WindowLaws.{Among, either, reached, among_filter, filter_among, least_among, at_greatest, in_made, in_bounds}
 
 -- r is the least of the values whose windows hold the most
 pub record IsFullest (vs : List ℕ) (r : ℕ) : Type 0 where

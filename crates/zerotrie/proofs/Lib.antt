@@ -15,3 +15,4 @@ mod RefusalLemmas
 mod OnceLemmas
 mod LaidLemmas
 mod CauseLemmas
+mod RowsLemmas

@@ -150,6 +150,7 @@ fn row_of<'a>(
 }
 
 /// The rows of a table of so many suffixes, in their order.
+#[tactic(auto, using(crate::proofs::RowsLemmas::plain_left, crate::proofs::RowsLemmas::plain_right))]
 pub(crate) fn rows_of<'a>(
     alloc: Global,
     entries: &'a BTreeMap<&'a str, BTreeMap<&'a str, usize>>,
