@@ -16,3 +16,4 @@ mod OnceLemmas
 mod LaidLemmas
 mod CauseLemmas
 mod RowsLemmas
+mod MadeLemmas

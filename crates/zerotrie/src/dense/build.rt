@@ -1,6 +1,6 @@
 //! Building a dense table.
 
-ghost use Rattle.std.specs.Prelude.{◌≡◌, ◌≤◌, ◌<◌, ◌⊎◌, ◌++◌, ◌∷◌, IfOk, IfErr, OnOk, map, Contains};
+ghost use Rattle.std.specs.Prelude.{◌≡◌, ◌≤◌, ◌<◌, ◌^◌, ◌⊎◌, ◌++◌, ◌∷◌, IfOk, IfErr, OnOk, map, Contains};
 ghost use Rattle.zerotrie_core.specs.Causes.{OutOfMemory, NonAsciiError, CapacityExceeded};
 ghost use Rattle.zerotrie_core.specs.Items.{pairs_of, keyed};
 ghost use Rattle.zerotrie_core.specs.Maps.{Ascends, value_at};
@@ -39,6 +39,12 @@ fn check_text(text: &str, delimiter: u8) -> Result<(), ZeroTrieBuildError>
     Ok(())
 }
 
+/// A value is a number of eight bytes. There is nothing to do.
+fn fits_eight_bytes(value: usize)
+    ensures { value < 2 ^ 64 }
+{
+}
+
 /// Tests the suffixes of a row.
 fn check_row(entries: &BTreeMap<&str, usize>, delimiter: u8) -> Result<(), ZeroTrieBuildError>
     ensures plain { OnOk result (ArePlain (keys (pairs_in entries.now.entries))) }
@@ -46,7 +52,8 @@ fn check_row(entries: &BTreeMap<&str, usize>, delimiter: u8) -> Result<(), ZeroT
     ensures values { OnOk result (AreInRange (pairs_in entries.now.entries)) }
     ensures fault { IfErr result (HasFault delimiter (keys (pairs_in entries.now.entries))) }
 {
-    for (suffix, _) in entries {
+    for (suffix, value) in entries {
+        fits_eight_bytes(*value);
         check_text(suffix, delimiter)?;
     }
     Ok(())
