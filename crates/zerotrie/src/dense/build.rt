@@ -42,8 +42,7 @@ fn check_text(text: &str, delimiter: u8) -> Result<(), ZeroTrieBuildError>
 /// A value is a number of eight bytes. There is nothing to do.
 fn fits_eight_bytes(value: usize)
     ensures { value < 2 ^ 64 }
-{
-}
+{}
 
 /// Tests the suffixes of a row.
 fn check_row(entries: &BTreeMap<&str, usize>, delimiter: u8) -> Result<(), ZeroTrieBuildError>

@@ -34,7 +34,6 @@ returns-in_err-rows c =
     rw (same.1, same.2) (row_refused c.args.delimiter (rows_in c.args.entries.now.entries) c.in_err-rows.field-0.0
     (c.in_ok-check_texts.ensures.delimiter, c.in_ok-check_texts.ensures.plain, c.in_ok-check_texts.ensures.apart) c.in_err-rows.ensures.refused)
 
-
 pub returns-in_err-primary_trie : goal.returns-in_err-primary_trie
 returns-in_err-primary_trie c =
     let same = err_from_is_err_and c.from_residual-in_err-primary_trie.result c.from_residual-in_err-primary_trie.ensures.1 in
