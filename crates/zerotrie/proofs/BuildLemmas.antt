@@ -1,6 +1,6 @@
 -- What the parts of a build rest on: entries by their keys, pairs that a test picks, and texts put in order.
 use Rattle.std.proofs.Common.{◌≡◌, ℕ, ◌-◌, ◌+◌, ◌<◌, ◌≤◌, List, [], ◌∷◌, ◌++◌, refl, sym, ap, ◌∙◌, arith, Bool, true, false, cond, inl, inr, Option, Some, None, map, Ordering, get_or, length, zero, suc}
-use Rattle.std.specs.Prelude.{not, ◌⊎◌, filter, is_some, Any}
+use Rattle.std.specs.Prelude.{filter, is_some, Any}
 use Rattle.std.specs.Borrow.{Bor}
 use Rattle.std.specs.BTreeMap.{is_at}
 use Rattle.std.specs.BTreeSet.{insert_key}
@@ -23,7 +23,7 @@ use Rattle.zerotrie.specs.dense.Laid.{ArePlain, AreApart, HasFault}
 use Rattle.zerotrie.specs.dense.Records.{matrix_bytes}
 use Rattle.zerotrie.specs.dense.Views.{pairs_in}
 use Rattle.zerotrie.specs.dense.Windows.{in_window}
-use Rattle.zerotrie.proofs.TextLemmas.{V, same, either, NoKey, first_once, kept_none, no_value}
+use Rattle.zerotrie.proofs.TextLemmas.{V, same, either, first_once, kept_none}
 
 -- a look-up in the entries of a map is one in its pairs
 pub lookup_value : (s : List ℕ) (es : List (Bor (List ℕ) × ℕ)) → lookup (is_at {K = Bor (List ℕ)} (λ k. slice_cmp nat_cmp s k.now)) es ≡ V (pairs_in es) s

@@ -1,5 +1,5 @@
 -- Why a build of a dense table is refused.
-use Rattle.std.proofs.Common.{◌≡◌, ℕ, ◌+◌, ◌<◌, ◌≤◌, List, [], ◌∷◌, ◌++◌, refl, sym, ap, subst, ◌∙◌, arith, Bool, true, false, cond, inl, inr, length, get_or, map, zero, suc, Ordering}
+use Rattle.std.proofs.Common.{◌≡◌, ℕ, ◌+◌, ◌<◌, ◌≤◌, List, [], ◌∷◌, ◌++◌, refl, sym, subst, arith, Bool, inl, inr, length, get_or, zero, suc, Ordering}
 use Rattle.std.specs.Prelude.{◌⊎◌, filter, not, Any, Contains, nat_le}
 use Rattle.std.specs.Ordering.{nat_cmp, match_ordering}
 use Rattle.std.specs.Cmp.Lexicographic.{slice_cmp}
@@ -11,8 +11,8 @@ use Rattle.zerotrie_core.specs.Fits.{ExceedsCapacity}
 use Rattle.zerotrie_core.specs.Routes.{ascending, any_order, IsRefusal}
 use Rattle.zerotrie_core.specs.Causes.{ZeroTrieBuildError, NonAsciiError, CapacityExceeded, CouldNotSolvePerfectHash, MixedCase, IllegalDelimiter, DuplicateKey, Unsorted, BufferTooSmall, BufferTooLarge, StackExceeded, OutOfMemory}
 use Rattle.zerotrie.specs.dense.Laid.{ArePlain, AreApart, HasFault, SomeWideWindow}
-use Rattle.zerotrie.specs.dense.Layout.{is_dense, beside, primary, primary_pairs, columns}
-use Rattle.zerotrie.specs.dense.Rows.{Rows, keys, texts, suffixes, placed, put_text, put_texts, IsInOrder}
+use Rattle.zerotrie.specs.dense.Layout.{is_dense, beside, primary_pairs}
+use Rattle.zerotrie.specs.dense.Rows.{Rows, keys, texts, suffixes, placed, put_text, put_texts}
 use Rattle.zerotrie.specs.dense.Tables.{IsNonAscii, HoldsDelimiter, DenseCause}
 use Rattle.zerotrie.specs.dense.Windows.{in_window, inside, offset}
 use Rattle.zerotrie.proofs.TextLemmas.{either, fronted}

@@ -1,6 +1,5 @@
 -- What a build lays down is the primary and the matrix of the rows.
-use Rattle.std.proofs.Common.{◌≡◌, ℕ, ◌+◌, List, [], ◌∷◌, ◌++◌, refl, sym, ap, subst, ◌∙◌, Bool, true, false, cond, inl, inr, length, map}
-use Rattle.zerotrie_core.specs.Maps.{Pairs, Ascends}
+use Rattle.std.proofs.Common.{◌≡◌, ℕ, ◌+◌, List, [], ◌∷◌, ◌++◌, refl, sym, ap, subst, ◌∙◌, inl, inr, length, map}
 use Rattle.zerotrie.specs.dense.Laid.{AllAscend, laid, numbers_in, offsets_in, others_in, cells_of, under, beside_in, Laid}
 use Rattle.zerotrie.specs.dense.Rows.{Rows, suffixes, IsInOrder}
 use Rattle.zerotrie.specs.dense.Layout.{is_dense, primary_pairs, matrix}

@@ -1,12 +1,12 @@
 -- What a build returns is the table of its rows.
-use Rattle.std.proofs.Common.{◌≡◌, ℕ, ◌+◌, ◌<◌, ◌≤◌, ◌^◌, List, [], ◌∷◌, refl, sym, ap, subst, ◌∙◌, arith, length, get_or, map, zero, suc}
+use Rattle.std.proofs.Common.{◌≡◌, ℕ, ◌+◌, ◌<◌, ◌≤◌, ◌^◌, List, [], ◌∷◌, refl, sym, ap, ◌∙◌, arith, length, zero, suc}
 use Rattle.std.specs.Prelude.{All}
 use Rattle.zerotrie_core.specs.Built.{IsBuilt}
 use Rattle.zerotrie_core.specs.Canonical.{enc}
 use Rattle.zerotrie_core.specs.Items.{Items, pairs_of}
 use Rattle.zerotrie_core.specs.Kind.{simple_ascii}
 use Rattle.zerotrie_core.specs.Maps.{Pairs}
-use Rattle.zerotrie.specs.dense.Laid.{AreApart, AreInRange, AllInRange}
+use Rattle.zerotrie.specs.dense.Laid.{AreInRange, AllInRange}
 use Rattle.zerotrie.specs.dense.Layout.{primary, columns, primary_pairs, matrix}
 use Rattle.zerotrie.specs.dense.Records.{Parts, matrix_bytes}
 use Rattle.zerotrie.specs.dense.Rows.{Rows, placed, suffixes, IsInOrder}

@@ -1,14 +1,13 @@
 -- No key comes twice in the primary of a table.
 use Rattle.std.proofs.Common.{◌≡◌, ℕ, ◌+◌, ◌<◌, List, [], ◌∷◌, ◌++◌, refl, sym, ap, subst, ◌∙◌, arith, Bool, true, false, cond, inl, inr, Option, Some, None, length, get_or, map, zero, suc}
-use Rattle.std.specs.Prelude.{◌&&◌, ◌⊎◌, filter, is_some, not, Contains}
+use Rattle.std.specs.Prelude.{◌&&◌, filter, is_some, not}
 use Rattle.zerotrie_core.specs.Kind.{simple_ascii}
-use Rattle.zerotrie_core.specs.Maps.{Pairs, Ascends, RepeatsKey, value_at}
-use Rattle.zerotrie_core.specs.Canonical.{size_of}
+use Rattle.zerotrie_core.specs.Maps.{Pairs, Ascends, RepeatsKey}
 use Rattle.zerotrie_core.proofs.CallerLemmas.{exact_itself, same_equiv}
 use Rattle.zerotrie.specs.dense.Rows.{Rows, placed, suffixes, IsInOrder}
-use Rattle.zerotrie.specs.dense.Windows.{in_window, offset, inside, outside}
+use Rattle.zerotrie.specs.dense.Windows.{in_window, offset, outside}
 use Rattle.zerotrie.specs.dense.Layout.{is_dense, beside, primary_pairs}
-use Rattle.zerotrie.proofs.TextLemmas.{V, same, either, maybe, Free, NoKey, no_value, from_none, first_once, fronted, value_at-fronted, no_text}
+use Rattle.zerotrie.proofs.TextLemmas.{V, same, either, Free, NoKey, no_value, from_none, first_once, fronted, value_at-fronted}
 use Rattle.zerotrie.proofs.RowLemmas.{firsts, offs, others_at, AllFree, NoneNamed, none_named, no_offset, no_other, absent_number, absent_offset, absent_other}
 use Rattle.zerotrie.proofs.BuildLemmas.{kept_ascends}
 

@@ -1,6 +1,6 @@
 -- Why the length of a window's text is refused, and what it is.
-use Rattle.std.proofs.Common.{◌≡◌, ℕ, ◌<◌, ◌≤◌, List, [], ◌∷◌, refl, sym, ap, subst, ◌∙◌, arith, Bool, true, false, inl, inr, length, get_or, zero, suc}
-use Rattle.std.specs.Prelude.{◌⊎◌, ◌≢◌, ◌*◌, ◌&&◌, filter, Any, is_some, not, nat_lt}
+use Rattle.std.proofs.Common.{◌≡◌, ℕ, ◌<◌, ◌≤◌, List, [], ◌∷◌, refl, sym, ap, subst, ◌∙◌, arith, Bool, true, inl, inr, length, get_or, zero, suc}
+use Rattle.std.specs.Prelude.{◌≢◌, ◌*◌, ◌&&◌, filter, Any, is_some, not, nat_lt}
 use Rattle.zerotrie_core.specs.Kind.{simple_ascii}
 use Rattle.zerotrie_core.specs.Maps.{Pairs, Ascends, map_of, value_at}
 use Rattle.zerotrie_core.specs.Canonical.{size, size_of}

@@ -4,7 +4,7 @@ use Rattle.zerotrie_core.specs.Kind.{simple_ascii}
 use Rattle.zerotrie_core.specs.Maps.{Pairs, Ascends, map_of, value_at}
 use Rattle.zerotrie_core.specs.Fits.{ExceedsCapacity}
 use Rattle.zerotrie_core.specs.Causes.{ZeroTrieBuildError, NonAsciiError, IllegalDelimiter, CapacityExceeded, OutOfMemory}
-use Rattle.zerotrie.specs.dense.Rows.{Rows, keys}
+use Rattle.zerotrie.specs.dense.Rows.{Rows}
 use Rattle.zerotrie.specs.dense.Windows.{in_window, offset, inside}
 use Rattle.zerotrie.specs.dense.Layout.{is_dense, cell_of}
 use Rattle.zerotrie.specs.dense.Views.{pairs_in}

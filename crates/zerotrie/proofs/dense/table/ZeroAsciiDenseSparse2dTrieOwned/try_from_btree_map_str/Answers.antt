@@ -1,4 +1,4 @@
-use Rattle.std.proofs.Common.{◌≡◌, ◌≤◌, ◌<◌, ℕ, List, length, map, ◌∙◌, ap, sym, subst, inl, inr, arith, refl}
+use Rattle.std.proofs.Common.{◌≡◌, ◌≤◌, ◌<◌, length, map, ◌∙◌, ap, subst, inl, inr, arith, refl}
 use Rattle.std.proofs.lemmas.Result.{err_from_is_err_and}
 use Rattle.zerotrie_core.specs.Built.{IsBuilt}
 use Rattle.zerotrie_core.specs.Items.{pairs_of, keyed}
@@ -9,7 +9,7 @@ use Rattle.zerotrie.specs.dense.Laid.{shown, laid, cells_of}
 use Rattle.zerotrie.specs.dense.Layout.{primary_pairs}
 use Rattle.zerotrie.specs.dense.Records.{matrix_bytes}
 use Rattle.zerotrie.specs.dense.Rows.{placed, suffixes}
-use Rattle.zerotrie.specs.dense.Views.{rows_in, owned_parts}
+use Rattle.zerotrie.specs.dense.Views.{rows_in}
 use Rattle.zerotrie.proofs.OnceLemmas.{primary_once, once_apart}
 use Rattle.zerotrie.proofs.LaidLemmas.{primary_is, matrix_is, shown_ascend}
 use Rattle.zerotrie.proofs.CauseLemmas.{text_refused, row_refused, primary_refused, columns_refused, free_rows_of}
