@@ -7,4 +7,4 @@ mod table;
 
 pub use laws::{answer_is_entry, fullest_window, one_record};
 pub use record::RecordError;
-pub use table::{ZeroAsciiDenseSparse2dTrieBorrowed, ZeroAsciiDenseSparse2dTrieOwned};
+pub use table::ZeroAsciiDenseSparse2dTrieBorrowed;
