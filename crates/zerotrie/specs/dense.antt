@@ -7,4 +7,3 @@ pub mod Tables
 pub mod Laws
 pub mod Views
 pub mod Reading
-pub mod Laid
