@@ -83,9 +83,9 @@ fn check_texts(
 
 /// Puts the suffixes of a row among those of other rows.
 #[tactic(auto, using(crate::proofs::BuildLemmas::insert_put))]
-fn put_suffixes<'a>(
-    entries: &'a BTreeMap<&'a str, usize>,
-    suffixes: &mut BTreeSet<&'a str>,
+fn put_suffixes<'s>(
+    entries: &BTreeMap<&'s str, usize>,
+    suffixes: &mut BTreeSet<&'s str>,
 ) -> Result<(), AllocError>
     ensures { OnOk result (map (λ s. s.now) suffixes.new.keys
         ≡ put_texts (keys (pairs_in entries.now.entries)) (map (λ s. s.now) suffixes.old.keys)) }
@@ -98,10 +98,10 @@ fn put_suffixes<'a>(
 
 /// The suffixes of all rows, each once.
 #[tactic(auto, using(crate::proofs::BuildLemmas::puts_append), unfolding(crate::specs::dense::Rows::suffixes))]
-fn suffixes_of<'a>(
+fn suffixes_of<'s>(
     alloc: Global,
-    entries: &'a BTreeMap<&'a str, BTreeMap<&'a str, usize>>,
-) -> Result<BTreeSet<&'a str>, AllocError>
+    entries: &BTreeMap<&str, BTreeMap<&'s str, usize>>,
+) -> Result<BTreeSet<&'s str>, AllocError>
     ensures { IfOk result (λ set. map (λ s. s.now) set.keys ≡ suffixes (rows_in entries.now.entries)) }
 {
     let mut suffixes = BTreeSet::new(alloc);
@@ -112,10 +112,10 @@ fn suffixes_of<'a>(
 }
 
 /// Each suffix with its column.
-fn columns_of<'a>(
+fn columns_of<'s>(
     alloc: Global,
-    suffixes: &BTreeSet<&'a str>,
-) -> Result<Vec<(&'a [u8], usize)>, AllocError>
+    suffixes: &BTreeSet<&'s str>,
+) -> Result<Vec<(&'s [u8], usize)>, AllocError>
     ensures columns { IfOk result (λ columns. pairs_of columns.items ≡ placed 0 (map (λ s. s.now) suffixes.now.keys)) }
     ensures ascends { OnOk result (Ascends (placed 0 (map (λ s. s.now) suffixes.now.keys))) }
 {
@@ -140,7 +140,7 @@ fn key_of(alloc: Global, prefix: &str, delimiter: u8, suffix: &str) -> Result<Ve
 /// Adds the prefix of each dense row, with the row's number.
 fn push_numbers(
     alloc: Global,
-    rows: &[Row<'_>],
+    rows: &[Row<'_, '_>],
     pairs: &mut Vec<Pair>,
 ) -> Result<(), ZeroTrieBuildError>
     ensures pushed { OnOk result (keyed (λ k. k.items) pairs.new.items
@@ -160,7 +160,7 @@ fn push_numbers(
 /// Adds the prefix of each dense row and the delimiter, with the row's offset.
 fn push_offsets(
     alloc: Global,
-    rows: &[Row<'_>],
+    rows: &[Row<'_, '_>],
     delimiter: u8,
     pairs: &mut Vec<Pair>,
 ) -> Result<(), ZeroTrieBuildError>
@@ -179,7 +179,7 @@ fn push_offsets(
 /// Adds the values of a row that stand beside the matrix.
 fn push_others_of(
     alloc: Global,
-    row: &Row<'_>,
+    row: &Row<'_, '_>,
     delimiter: u8,
     pairs: &mut Vec<Pair>,
 ) -> Result<(), ZeroTrieBuildError>
@@ -198,7 +198,7 @@ fn push_others_of(
 /// Adds the values of all rows that stand beside the matrix.
 fn push_others(
     alloc: Global,
-    rows: &[Row<'_>],
+    rows: &[Row<'_, '_>],
     delimiter: u8,
     pairs: &mut Vec<Pair>,
 ) -> Result<(), ZeroTrieBuildError>
@@ -215,7 +215,7 @@ fn push_others(
 /// What the primary trie of the rows has.
 fn primary_of(
     alloc: Global,
-    rows: &[Row<'_>],
+    rows: &[Row<'_, '_>],
     delimiter: u8,
 ) -> Result<Vec<Pair>, ZeroTrieBuildError>
     ensures pairs { IfOk result (λ pairs. keyed (λ k. k.items) pairs.items ≡ numbers_in 0 (map shown rows.now)
@@ -240,7 +240,7 @@ fn primary_trie(
 }
 
 /// The cell of a suffix: the value in the row's window less the row's offset, or 65,535.
-fn cell_in(row: &Row<'_>, suffix: &str) -> u16
+fn cell_in(row: &Row<'_, '_>, suffix: &str) -> u16
     requires { Ascends (shown row.now).pairs }
     ensures { result ≡ cell_of row.now.offset (value_at simple_ascii (within row.now.offset (shown row.now).pairs) suffix.now) }
 {
@@ -258,7 +258,7 @@ fn cell_in(row: &Row<'_>, suffix: &str) -> u16
 
 /// Adds the cells of a row.
 fn push_cells(
-    row: &Row<'_>,
+    row: &Row<'_, '_>,
     suffixes: &BTreeSet<&str>,
     matrix: &mut Vec<u8>,
 ) -> Result<(), AllocError>
@@ -275,7 +275,7 @@ fn push_cells(
 
 /// Adds the cells of a row if it is dense.
 fn push_dense_cells(
-    row: &Row<'_>,
+    row: &Row<'_, '_>,
     suffixes: &BTreeSet<&str>,
     matrix: &mut Vec<u8>,
 ) -> Result<(), AllocError>
@@ -293,7 +293,7 @@ fn push_dense_cells(
 #[tactic(auto, using(crate::proofs::BuildLemmas::matrix_more))]
 fn matrix_of(
     alloc: Global,
-    rows: &[Row<'_>],
+    rows: &[Row<'_, '_>],
     suffixes: &BTreeSet<&str>,
 ) -> Result<Vec<u8>, AllocError>
     requires { AllAscend (map shown rows.now) }
@@ -328,9 +328,9 @@ impl ZeroAsciiDenseSparse2dTrieOwned {
     /// - `CapacityExceeded` where there are more than 65,535 suffixes, or the primary trie, the trie of the
     ///   suffixes or the trie of a row's window would exceed the capacity of its kind,
     /// - `OutOfMemory` where a growth was refused.
-    pub fn try_from_btree_map_str<'a>(
+    pub fn try_from_btree_map_str(
         alloc: Global,
-        entries: &'a BTreeMap<&'a str, BTreeMap<&'a str, usize>>,
+        entries: &BTreeMap<&str, BTreeMap<&str, usize>>,
         delimiter: u8,
     ) -> Result<Self, ZeroTrieBuildError>
         ensures { IsDenseBuild owned_parts delimiter (rows_in entries.now.entries) result }

@@ -21,11 +21,11 @@ use zerotrie_core::{Simple, ZeroTrieBuildError, ZeroTrieBuilderOptions};
 
 /// A row of a table, and how it is kept.
 #[derive(Debug, Drop)]
-pub(crate) struct Row<'a> {
+pub(crate) struct Row<'m, 's> {
     /// The text that names the row.
-    pub(crate) prefix: &'a str,
+    pub(crate) prefix: &'m str,
     /// Its suffixes and their values.
-    pub(crate) entries: &'a BTreeMap<&'a str, usize>,
+    pub(crate) entries: &'m BTreeMap<&'s str, usize>,
     /// The first number of its window.
     pub(crate) offset: usize,
     /// Whether its window stands in the matrix.
@@ -55,11 +55,11 @@ fn offset_of(alloc: Global, entries: &BTreeMap<&str, usize>) -> Result<usize, Al
 }
 
 /// The pairs of a row whose values stand in the window from `start` on.
-fn pairs_inside<'a>(
+fn pairs_inside<'s>(
     alloc: Global,
-    entries: &'a BTreeMap<&'a str, usize>,
+    entries: &BTreeMap<&'s str, usize>,
     start: usize,
-) -> Result<Vec<(&'a str, usize)>, AllocError>
+) -> Result<Vec<(&'s str, usize)>, AllocError>
     ensures { IfOk result (λ pairs. pairs_of pairs.items ≡ within start (pairs_in entries.now.entries)) }
 {
     let mut pairs = Vec::new(alloc);
@@ -91,9 +91,9 @@ fn trie_len(alloc: Global, pairs: &[(&str, usize)]) -> Result<usize, ZeroTrieBui
 }
 
 /// How long the trie of the window of a row would be.
-fn window_len<'a>(
+fn window_len(
     alloc: Global,
-    entries: &'a BTreeMap<&'a str, usize>,
+    entries: &BTreeMap<&str, usize>,
     start: usize,
 ) -> Result<usize, ZeroTrieBuildError>
     requires start { start ≡ offset (pairs_in entries.now.entries) }
@@ -109,9 +109,9 @@ fn window_len<'a>(
 
 /// Whether a row of a table of so many suffixes stands in the matrix: its window would be longer as a trie,
 /// and the empty suffix is not outside the window.
-fn is_dense_row<'a>(
+fn is_dense_row(
     alloc: Global,
-    entries: &'a BTreeMap<&'a str, usize>,
+    entries: &BTreeMap<&str, usize>,
     start: usize,
     columns: usize,
 ) -> Result<bool, ZeroTrieBuildError>
@@ -127,12 +127,12 @@ fn is_dense_row<'a>(
 }
 
 /// A row of a table of so many suffixes.
-fn row_of<'a>(
+fn row_of<'m, 's>(
     alloc: Global,
-    prefix: &'a str,
-    entries: &'a BTreeMap<&'a str, usize>,
+    prefix: &'m str,
+    entries: &'m BTreeMap<&'s str, usize>,
     columns: usize,
-) -> Result<Row<'a>, ZeroTrieBuildError>
+) -> Result<Row<'m, 's>, ZeroTrieBuildError>
     requires plain { ArePlain (keys (pairs_in entries.now.entries)) }
     requires few { columns ≤ 65535 }
     ensures row { IfOk result (λ row. shown row ≡ laid columns (prefix.now, pairs_in entries.now.entries)) }
@@ -151,11 +151,11 @@ fn row_of<'a>(
 
 /// The rows of a table of so many suffixes, in their order.
 #[tactic(auto, using(crate::proofs::RowsLemmas::plain_left, crate::proofs::RowsLemmas::plain_right))]
-pub(crate) fn rows_of<'a>(
+pub(crate) fn rows_of<'m, 's>(
     alloc: Global,
-    entries: &'a BTreeMap<&'a str, BTreeMap<&'a str, usize>>,
+    entries: &'m BTreeMap<&str, BTreeMap<&'s str, usize>>,
     columns: usize,
-) -> Result<Vec<Row<'a>>, ZeroTrieBuildError>
+) -> Result<Vec<Row<'m, 's>>, ZeroTrieBuildError>
     requires plain { ArePlain (texts (rows_in entries.now.entries)) }
     requires few { columns ≤ 65535 }
     ensures rows { IfOk result (λ rows. map shown rows.items ≡ map (laid columns) (rows_in entries.now.entries)) }
