@@ -28,7 +28,7 @@ holds d x h =
     let is : a.1 ≡ d = grind (arith, a.4) in
     subst (λ b. Contains x b) is (a.0, a.2, a.3)
 
-free_text : (d : ℕ) (x : List ℕ) → (Contains x d → ⊥) → Free d x
+pub free_text : (d : ℕ) (x : List ℕ) → (Contains x d → ⊥) → Free d x
 free_text d x none = elim (either (list_any (λ b. b == d) x)) [
   | inl y ↦ absurd (none (holds d x y))
   | inr n ↦ n

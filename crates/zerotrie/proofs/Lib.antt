@@ -11,3 +11,11 @@ mod TextLemmas
 mod PlaceLemmas
 mod RowLemmas
 mod EntryLemmas
+mod FullestLemmas
+mod BuildLemmas
+mod RefusalLemmas
+mod OnceLemmas
+mod LaidLemmas
+mod CauseLemmas
+mod RowsLemmas
+mod MadeLemmas

@@ -47,7 +47,7 @@ abbrev pub NoneNamed : Rows → List ℕ → Type 0
 NoneNamed [] p = Unit {0}
 NoneNamed (row ∷ rows) p = (same row.0 p ≡ false) × NoneNamed rows p
 
-none_named : (k : ℕ) (rows : Rows) (p : List ℕ) → NoKey p (placed k (map (λ r. r.0) rows)) → NoneNamed rows p
+pub none_named : (k : ℕ) (rows : Rows) (p : List ℕ) → NoKey p (placed k (map (λ r. r.0) rows)) → NoneNamed rows p
 none_named k [] p none = tt
 none_named k (row ∷ rows) p none = (none.0, none_named (k + 1) rows p none.1)
 
@@ -97,20 +97,20 @@ pub record DenseRow (S : List (List ℕ)) (d n : ℕ) (rows : Rows) (p : List �
   pub below : (i : ℕ) → i < n → place * n + i < length (all_cells S n rows)
   pub cells : (i x : ℕ) → i < n → get_or (all_cells S n rows) (place * n + i) x ≡ get_or (row_cells S (row_of rows p)) i x
 
-absent_number : (k n : ℕ) (rows : Rows) (p : List ℕ) → NoneNamed rows p → V (firsts k n rows) p ≡ None
+pub absent_number : (k n : ℕ) (rows : Rows) (p : List ℕ) → NoneNamed rows p → V (firsts k n rows) p ≡ None
 absent_number k n [] p none = refl
 absent_number k n (row ∷ rows) p none = elim (either (is_dense n row.1)) [
   | inl y ↦ rw (y, none.0) (absent_number (k + 1) n rows p none.1)
   | inr f ↦ rw f (absent_number k n rows p none.1)
 ]
 
-other_key : (d : ℕ) (q p s : List ℕ) → Free d q → Free d p → same q p ≡ false → same (q ++ (d ∷ [])) (p ++ (d ∷ s)) ≡ false
+pub other_key : (d : ℕ) (q p s : List ℕ) → Free d q → Free d p → same q p ≡ false → same (q ++ (d ∷ [])) (p ++ (d ∷ s)) ≡ false
 other_key d q p s free k other = split_key d q p [] s free k ∙ ap (λ b. b && same [] s) other
 
 own_key : (d : ℕ) (q p : List ℕ) → Free d q → Free d p → same q p ≡ true → same (q ++ (d ∷ [])) (p ++ (d ∷ [])) ≡ true
 own_key d q p free k own = split_key d q p [] [] free k ∙ ap (λ b. b && same [] []) own
 
-absent_offset : (d n : ℕ) (rows : Rows) (p : List ℕ) → AllFree d rows → Free d p → NoneNamed rows p → V (offs d n rows) (p ++ (d ∷ [])) ≡ None
+pub absent_offset : (d n : ℕ) (rows : Rows) (p : List ℕ) → AllFree d rows → Free d p → NoneNamed rows p → V (offs d n rows) (p ++ (d ∷ [])) ≡ None
 absent_offset d n [] p free k none = refl
 absent_offset d n (row ∷ rows) p free k none = elim (either (is_dense n row.1)) [
   | inl y ↦ rw (y, other_key d row.0 p [] free.0 k none.0) (absent_offset d n rows p free.1 k none.1)
@@ -124,7 +124,7 @@ other_adds d n row rows p s free k other =
     value_at-append simple_ascii (p ++ (d ∷ s)) (fronted row.0 d (beside n row.1)) (others_at d n rows)
     (value_at-fronted d row.0 p s (beside n row.1) free k ∙ ap (λ b. cond b (V (beside n row.1) s) None) other)
 
-absent_other : (d n : ℕ) (rows : Rows) (p s : List ℕ) → AllFree d rows → Free d p → NoneNamed rows p → V (others_at d n rows) (p ++ (d ∷ s)) ≡ None
+pub absent_other : (d n : ℕ) (rows : Rows) (p s : List ℕ) → AllFree d rows → Free d p → NoneNamed rows p → V (others_at d n rows) (p ++ (d ∷ s)) ≡ None
 absent_other d n [] p s free k none = refl
 absent_other d n (row ∷ rows) p s free k none = other_adds d n row rows p s free.0 k none.0 ∙ absent_other d n rows p s free.1 k none.1
 

@@ -126,7 +126,7 @@ first_once key v pairs ascends = elim (maybe (V pairs key)) [
       absurd (ascends_apart ((key, v) ∷ pairs) ascends (inl (subst (λ k. Contains (map {B = List ℕ} (λ f. f.0) pairs) k) own there)))
 ]
 
-kept_none : (key : List ℕ) (q : ℕ → Bool) (pairs : Pairs) → NoKey key pairs → V (filter (λ e. q e.1) pairs) key ≡ None
+pub kept_none : (key : List ℕ) (q : ℕ → Bool) (pairs : Pairs) → NoKey key pairs → V (filter (λ e. q e.1) pairs) key ≡ None
 kept_none key q [] none = refl
 kept_none key q (e ∷ pairs) none = elim (either (q e.1)) [
   | inl y ↦ rw (y, none.0) (kept_none key q pairs none.1)

@@ -4,18 +4,18 @@ use Rattle.std.specs.Prelude.{map, min, ◌==◌, ◌⊎◌, nat_le as leb}
 use Rattle.std.specs.List.{filter}
 use Rattle.zerotrie.specs.dense.Windows.{held, fullest, in_window, greatest, least}
 
-abbrev Among : ℕ → List ℕ → Type 0
+abbrev pub Among : ℕ → List ℕ → Type 0
 Among v [] = ⊥
 Among v (x ∷ xs) = (v ≡ x) ⊎ Among v xs
 
-either : (b : Bool) → (b ≡ true) ⊎ (b ≡ false)
+pub either : (b : Bool) → (b ≡ true) ⊎ (b ≡ false)
 either true = inl refl
 either false = inr refl
 
-in_bounds : (s x : ℕ) → in_window s x ≡ true → (s ≤ x) × (x < s + 65535)
+pub in_bounds : (s x : ℕ) → in_window s x ≡ true → (s ≤ x) × (x < s + 65535)
 in_bounds s x h = (grind arith, grind arith)
 
-in_made : (s x : ℕ) → s ≤ x → x < s + 65535 → in_window s x ≡ true
+pub in_made : (s x : ℕ) → s ≤ x → x < s + 65535 → in_window s x ≡ true
 in_made s x h k = grind arith
 
 -- the window of the least value that a window holds, holds as much
@@ -33,8 +33,8 @@ holds_more (x ∷ vs) s v h low =
     ]
 
 record LeastIn (vs : List ℕ) (s : ℕ) : Type 0 where
-  v : ℕ
-  among : Among v vs
+  pub v : ℕ
+  pub among : Among v vs
   held_too : in_window s v ≡ true
   low : (x : ℕ) → Among x vs → in_window s x ≡ true → v ≤ x
 
@@ -61,26 +61,26 @@ held_none (x ∷ vs) s none = elim (either (in_window s x)) [
   | inr e ↦ let rest = held_none vs s (λ y a. none y (inr a)) in rw e (omega arith)
 ]
 
-at_greatest : (f : ℕ → ℕ) (vs : List ℕ) (v : ℕ) → Among v vs → f v ≤ greatest (map f vs)
+pub at_greatest : (f : ℕ → ℕ) (vs : List ℕ) (v : ℕ) → Among v vs → f v ≤ greatest (map f vs)
 at_greatest f [] v a = absurd a
 at_greatest f (x ∷ vs) v a = elim a [
   | inl e ↦ let same = ap f e in omega arith
   | inr b ↦ let rest = at_greatest f vs v b in omega arith
 ]
 
-record Reached (f : ℕ → ℕ) (vs : List ℕ) : Type 0 where
-  v : ℕ
-  among : Among v vs
-  reaches : f v ≡ greatest (map f vs)
+pub record Reached (f : ℕ → ℕ) (vs : List ℕ) : Type 0 where
+  pub v : ℕ
+  pub among : Among v vs
+  pub reaches : f v ≡ greatest (map f vs)
 
-reached : (f : ℕ → ℕ) (x : ℕ) (vs : List ℕ) → Reached f (x ∷ vs)
+pub reached : (f : ℕ → ℕ) (x : ℕ) (vs : List ℕ) → Reached f (x ∷ vs)
 reached f x [] = record { v = x; among = inl refl; reaches = omega arith }
 reached f x (y ∷ vs) = let r = reached f y vs in elim (either (leb (greatest (map f (y ∷ vs))) (f x))) [
   | inl h ↦ record { v = x; among = inl refl; reaches = grind arith }
   | inr h ↦ let m = r.reaches in record { v = r.v; among = inr r.among; reaches = grind arith }
 ]
 
-among_filter : (p : ℕ → Bool) (vs : List ℕ) (v : ℕ) → Among v (filter p vs) → p v ≡ true
+pub among_filter : (p : ℕ → Bool) (vs : List ℕ) (v : ℕ) → Among v (filter p vs) → p v ≡ true
 among_filter p [] v a = absurd a
 among_filter p (x ∷ vs) v a = elim (either (p x)) [
   | inl e ↦ elim (let P : Bool → Type 0 = λ b. Among v (cond b (x ∷ filter p vs) (filter p vs)) in subst P e a) [
@@ -90,14 +90,14 @@ among_filter p (x ∷ vs) v a = elim (either (p x)) [
   | inr e ↦ among_filter p vs v (let P : Bool → Type 0 = λ b. Among v (cond b (x ∷ filter p vs) (filter p vs)) in subst P e a)
 ]
 
-filter_among : (p : ℕ → Bool) (vs : List ℕ) (v : ℕ) → Among v vs → p v ≡ true → Among v (filter p vs)
+pub filter_among : (p : ℕ → Bool) (vs : List ℕ) (v : ℕ) → Among v vs → p v ≡ true → Among v (filter p vs)
 filter_among p [] v a h = absurd a
 filter_among p (x ∷ vs) v a h = elim (either (p x)) [
   | inl e ↦ rw e (elim a [ inl q ↦ inl q | inr b ↦ inr (filter_among p vs v b h) ])
   | inr e ↦ rw e (elim a [ inl q ↦ absurd (let s = ap p q in cc) | inr b ↦ filter_among p vs v b h ])
 ]
 
-least_among : (vs : List ℕ) (v : ℕ) → Among v vs → Among (least vs) vs
+pub least_among : (vs : List ℕ) (v : ℕ) → Among v vs → Among (least vs) vs
 least_among [] v a = a
 least_among (x ∷ []) v a = inl refl
 least_among (x ∷ y ∷ vs) v a = elim (either (leb x (least (y ∷ vs)))) [
@@ -108,7 +108,7 @@ least_among (x ∷ y ∷ vs) v a = elim (either (leb x (least (y ∷ vs)))) [
       inr (subst (λ z. Among z (y ∷ vs)) (sym e) m)
 ]
 
-fullest_reaches : (x : ℕ) (vs : List ℕ) → held (x ∷ vs) (fullest (x ∷ vs)) ≡ greatest (map (held (x ∷ vs)) (x ∷ vs))
+pub fullest_reaches : (x : ℕ) (vs : List ℕ) → held (x ∷ vs) (fullest (x ∷ vs)) ≡ greatest (map (held (x ∷ vs)) (x ∷ vs))
 unfolding fullest
 fullest_reaches x vs =
     let all : List ℕ = x ∷ vs in

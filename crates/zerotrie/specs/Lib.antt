@@ -32,5 +32,4 @@ pub use Rattle.zerotrie_any.specs.Listed
 pub use Rattle.zerotrie_ascii.specs.ListedTexts
 pub use Rattle.zerotrie_core.specs.CursorLaws
 pub mod dense
-pub use Rattle.zerotrie_any.specs.Walks
 pub mod Fallback

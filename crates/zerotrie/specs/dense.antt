@@ -7,3 +7,4 @@ pub mod Tables
 pub mod Laws
 pub mod Views
 pub mod Reading
+pub mod Laid

@@ -1,25 +1,38 @@
-//! Dense tables, over bytes that lie elsewhere.
+//! Dense tables, over memory of their own and over bytes that lie elsewhere.
 
 ghost use Rattle.std.specs.Prelude.{◌≡◌, ◌↔◌, IsTrue};
 ghost use Rattle.std.specs.Ordering.{on};
 ghost use Rattle.std.specs.Cmp.Rules.{comparing};
 ghost use Rattle.std.proofs.Common.{rules};
 ghost use Rattle.zerotrie.specs.dense.Records.{same_parts};
-ghost use Rattle.zerotrie.specs.dense.Views.{parts_of};
+ghost use Rattle.zerotrie.specs.dense.Views.{parts_of, owned_parts};
 
 use zerotrie_ascii::ZeroTrieSimpleAscii;
 
-/// A map from two texts to numbers, over bytes that lie elsewhere.
+/// A map from two texts to numbers, in memory of its own.
 ///
 /// ```
-/// let record = b"\x01\x00/\x06\x00\x00\x00\x00\x00\x00\x00\x02\x00\x00\x00\x00\x00\x00\x00\
-///     \x00\x00\x00\x00\x00\x00\x00\x00bbb/X\x81X\x80";
-/// let table = ZeroAsciiDenseSparse2dTrieBorrowed::try_from_record_bytes(record)?;
-/// assert_eq!(rt; table.get("bbb", "X"), Some(1));
+/// let mut row: BTreeMap<&str, usize> = BTreeMap::new(rt.alloc());
+/// row.insert("US", 8)?;
+/// let mut rows: BTreeMap<&str, BTreeMap<&str, usize>> = BTreeMap::new(rt.alloc());
+/// rows.insert("en", row)?;
+/// let table = ZeroAsciiDenseSparse2dTrieOwned::try_from_btree_map_str(rt.alloc(), &rows, b'/')?;
+/// assert_eq!(rt; table.as_borrowed().get("en", "US"), Some(8));
 /// ```
 ///
 /// The first text, the prefix, names a row, and the second, the suffix, a value in it. The values of a row
 /// that many suffixes share stand in a matrix of two bytes for each suffix, and the others in a trie.
+#[derive(Debug, Drop)]
+pub struct ZeroAsciiDenseSparse2dTrieOwned {
+    pub(crate) primary: ZeroTrieSimpleAscii<Vec<u8>>,
+    pub(crate) suffixes: ZeroTrieSimpleAscii<Vec<u8>>,
+    pub(crate) matrix: Vec<u8>,
+    pub(crate) suffix_count: u16,
+    pub(crate) delimiter: u8,
+}
+
+/// A map from two texts to numbers, over bytes that lie elsewhere, as `ZeroAsciiDenseSparse2dTrieOwned` has
+/// them in memory of its own.
 #[derive(Debug, Drop)]
 pub struct ZeroAsciiDenseSparse2dTrieBorrowed<'a> {
     pub(crate) primary: ZeroTrieSimpleAscii<&'a [u8]>,
@@ -27,6 +40,21 @@ pub struct ZeroAsciiDenseSparse2dTrieBorrowed<'a> {
     pub(crate) matrix: &'a [u8],
     pub(crate) suffix_count: u16,
     pub(crate) delimiter: u8,
+}
+
+impl ZeroAsciiDenseSparse2dTrieOwned {
+    /// The same table over these bytes where they lie. It takes no memory.
+    pub fn as_borrowed(&self) -> ZeroAsciiDenseSparse2dTrieBorrowed<'_>
+        ensures { parts_of result ≡ owned_parts self.now }
+    {
+        ZeroAsciiDenseSparse2dTrieBorrowed {
+            primary: self.primary.as_borrowed(),
+            suffixes: self.suffixes.as_borrowed(),
+            matrix: self.matrix.as_slice(),
+            suffix_count: self.suffix_count,
+            delimiter: self.delimiter,
+        }
+    }
 }
 
 impl PartialEq for ZeroAsciiDenseSparse2dTrieBorrowed<'_> {
@@ -47,5 +75,22 @@ impl PartialEq for ZeroAsciiDenseSparse2dTrieBorrowed<'_> {
 }
 
 impl Eq for ZeroAsciiDenseSparse2dTrieBorrowed<'_> {
+    ghost laws = { Prim.search (comparing, rules) };
+}
+
+impl PartialEq for ZeroAsciiDenseSparse2dTrieOwned {
+    ghost eq = { on owned_parts same_parts };
+
+    ghost laws = { Prim.search (comparing, rules) };
+
+    fn eq(&self, other: &Self) -> bool
+        ensures tells { result ≡ same_parts (owned_parts self.now) (owned_parts other.now) }
+        ensures parts { IsTrue result ↔ (owned_parts self.now ≡ owned_parts other.now) }
+    {
+        self.as_borrowed() == other.as_borrowed()
+    }
+}
+
+impl Eq for ZeroAsciiDenseSparse2dTrieOwned {
     ghost laws = { Prim.search (comparing, rules) };
 }

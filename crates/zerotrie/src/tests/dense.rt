@@ -1,10 +1,38 @@
-//! Dense tables: look-ups in records, and records that are refused.
+//! Dense tables: their parts, look-ups, records and refusals.
 
 use super::*;
-use crate::dense::{RecordError, ZeroAsciiDenseSparse2dTrieBorrowed};
+use crate::dense::{
+    RecordError, ZeroAsciiDenseSparse2dTrieBorrowed, ZeroAsciiDenseSparse2dTrieOwned,
+};
 
 /// A prefix, a suffix and a value.
 type Entry<'a> = (&'a str, &'a str, usize);
+
+/// The rows of entries.
+fn rows_of<'a>(
+    alloc: Global,
+    entries: &[Entry<'a>],
+) -> Result<BTreeMap<&'a str, BTreeMap<&'a str, usize>>, Fail> {
+    let mut rows = BTreeMap::new(alloc);
+    let mut row: BTreeMap<&str, usize> = BTreeMap::new(alloc);
+    for (index, (prefix, suffix, value)) in entries.iter().enumerate() {
+        row.insert(*suffix, *value)?;
+        let next = entries.get(index + 1);
+        if next.is_none_or(|next| next.0 != *prefix) {
+            rows.insert(*prefix, row)?;
+            row = BTreeMap::new(alloc);
+        }
+    }
+    Ok(rows)
+}
+
+fn table_of(
+    alloc: Global,
+    entries: &[Entry<'_>],
+) -> Result<Result<ZeroAsciiDenseSparse2dTrieOwned, ZeroTrieBuildError>, Fail> {
+    let rows = rows_of(alloc, entries)?;
+    Ok(ZeroAsciiDenseSparse2dTrieOwned::try_from_btree_map_str(alloc, &rows, b'/'))
+}
 
 /// Entries, and the parts of their table: primary trie, trie of the suffixes, number of suffixes, cells.
 type Row<'a> = (&'a [Entry<'a>], &'a [u8], &'a [u8], u16, &'a [u16]);
@@ -26,14 +54,16 @@ fn record_with(alloc: Global, row: &Row<'_>) -> Result<Vec<u8>, Fail> {
     Ok(record)
 }
 
-/// A record of these parts is read, finds each of the entries, and is written as it was.
-fn is_record_of<H: AllocGlobal + Abort>(rt: &H, row: &Row<'_>) -> Result<(), Fail> {
-    let record = record_with(rt.alloc(), row)?;
-    let table = ZeroAsciiDenseSparse2dTrieBorrowed::try_from_record_bytes(record.as_slice())?;
-    assert_eq!(rt; table.to_record_bytes(rt.alloc())?, record);
+/// A table has these parts, finds each of its entries, and is read again from its record alone.
+fn is_table_of<H: AllocGlobal + Abort>(rt: &H, row: &Row<'_>) -> Result<(), Fail> {
+    let table = table_of(rt.alloc(), row.0)??;
+    let record = table.as_borrowed().to_record_bytes(rt.alloc())?;
+    assert_eq!(rt; record, record_with(rt.alloc(), row)?);
+    let read = ZeroAsciiDenseSparse2dTrieBorrowed::try_from_record_bytes(record.as_slice())?;
+    assert!(rt; read == table.as_borrowed());
     for (prefix, suffix, value) in row.0 {
-        assert_eq!(rt; table.get(prefix, suffix), Some(*value));
-        assert_eq!(rt; table.get(suffix, prefix), None);
+        assert_eq!(rt; read.get(prefix, suffix), Some(*value));
+        assert_eq!(rt; read.get(suffix, prefix), None);
     }
     Ok(())
 }
@@ -56,7 +86,7 @@ const WIDE: &[Entry<'_>] = &[
 ];
 
 #[test]
-fn records_find_their_entries(rt: HostRuntime) -> Result<(), Fail> {
+fn tables_have_their_parts(rt: HostRuntime) -> Result<(), Fail> {
     let rows: [Row<'_>; 6] = [
         (
             &[
@@ -142,23 +172,107 @@ fn records_find_their_entries(rt: HostRuntime) -> Result<(), Fail> {
         (&[], b"", b"", 0, &[]),
     ];
     for row in rows {
-        is_record_of::<HostRuntime>(&rt, &row)?;
+        is_table_of::<HostRuntime>(&rt, &row)?;
     }
     Ok(())
 }
 
 #[test]
+fn the_empty_suffix_is_found(rt: HostRuntime) -> Result<(), Fail> {
+    let tops = (usize::MAX - 1, usize::MAX);
+    let rows: [&[Entry<'_>]; 3] = [
+        &[("aa", "", 7)],
+        &[
+            ("aa", "", 0),
+            ("aa", "BBBB", 100_000),
+            ("aa", "CCCC", 100_001),
+        ],
+        &[("aa", "", tops.0), ("aa", "BBBB", tops.1)],
+    ];
+    for (entries, cells) in [(rows[0], 0), (rows[1], 0), (rows[2], 4)] {
+        let table = table_of(rt.alloc(), entries)??;
+        for (prefix, suffix, value) in entries {
+            assert_eq!(rt; table.as_borrowed().get(prefix, suffix), Some(*value));
+        }
+        assert_eq!(rt; table.matrix.len(), cells);
+    }
+    Ok(())
+}
+
+#[test]
+fn a_row_without_suffixes_adds_nothing(rt: HostRuntime) -> Result<(), Fail> {
+    let mut rows = rows_of(rt.alloc(), &[("bbb", "X", 1)])?;
+    rows.insert("aaa", BTreeMap::new(rt.alloc()))?;
+    let table = ZeroAsciiDenseSparse2dTrieOwned::try_from_btree_map_str(rt.alloc(), &rows, b'/')?;
+    let parts: Row<'_> = (&[], b"bbb/X\x81", b"X\x80", 1, &[]);
+    let record = table.as_borrowed().to_record_bytes(rt.alloc())?;
+    assert_eq!(rt; record, record_with(rt.alloc(), &parts)?);
+    assert_eq!(rt; record.len(), 35);
+    for (prefix, error) in [
+        ("aa/bb", ZeroTrieBuildError::IllegalDelimiter),
+        ("é", ZeroTrieBuildError::NonAsciiError),
+    ] {
+        rows.insert(prefix, BTreeMap::new(rt.alloc()))?;
+        let refused = ZeroAsciiDenseSparse2dTrieOwned::try_from_btree_map_str(
+            rt.alloc(),
+            &rows,
+            b'/',
+        );
+        assert!(rt; refused.is_err_and(|e| e == error));
+        rows.remove(prefix);
+    }
+    Ok(())
+}
+
+#[test]
+fn texts_and_delimiters_are_tested(rt: HostRuntime) -> Result<(), Fail> {
+    let rows: [(Entry<'_>, ZeroTrieBuildError); 3] = [
+        (("aa/bb", "CCC", 1), ZeroTrieBuildError::IllegalDelimiter),
+        (("aaa", "BB/CC", 1), ZeroTrieBuildError::IllegalDelimiter),
+        (("aaa", "é", 1), ZeroTrieBuildError::NonAsciiError),
+    ];
+    for (entry, error) in rows {
+        assert!(rt; table_of(rt.alloc(), &[entry])?.is_err_and(|e| e == error));
+    }
+    let rows = rows_of(rt.alloc(), &[("aa", "BB", 1)])?;
+    let refused = ZeroAsciiDenseSparse2dTrieOwned::try_from_btree_map_str(rt.alloc(), &rows, 128);
+    assert!(rt; refused.is_err_and(|e| e == ZeroTrieBuildError::NonAsciiError));
+    Ok(())
+}
+
+#[test]
+fn too_many_suffixes_are_refused(rt: HostRuntime) -> Result<(), Fail> {
+    let mut texts = Vec::new(rt.alloc());
+    for number in 0..65_536_usize {
+        texts.push(format!(in rt.alloc(); "{number:05}")?)?;
+    }
+    let mut row: BTreeMap<&str, usize> = BTreeMap::new(rt.alloc());
+    for text in &texts {
+        row.insert(text.as_str(), 0)?;
+    }
+    let mut rows = BTreeMap::new(rt.alloc());
+    rows.insert("p", row)?;
+    let refused = ZeroAsciiDenseSparse2dTrieOwned::try_from_btree_map_str(rt.alloc(), &rows, b'/');
+    assert!(rt; refused.is_err_and(|e| e == ZeroTrieBuildError::CapacityExceeded));
+    Ok(())
+}
+
+#[test]
 fn records_have_their_length(rt: HostRuntime) -> Result<(), Fail> {
-    let parts: Row<'_> = (&[], b"aa/\x87", b"\x80", 1, &[]);
-    let mut record = record_with(rt.alloc(), &parts)?;
+    let entries = [
+        ("aaa", "BBB", 1),
+        ("aaa", "CCC", 2),
+        ("ddd", "BBB", 3),
+        ("ddd", "EEE", 4),
+    ];
+    let table = table_of(rt.alloc(), &entries)??;
+    let mut record = table.as_borrowed().to_record_bytes(rt.alloc())?;
     for len in 0..record.len() {
         let read = ZeroAsciiDenseSparse2dTrieBorrowed::try_from_record_bytes(
             &record.as_slice()[..len],
         );
         assert!(rt; read.is_err_and(|e| e == RecordError::Truncated));
     }
-    let sparse = ZeroAsciiDenseSparse2dTrieBorrowed::try_from_record_bytes(record.as_slice())?;
-    assert!(rt; sparse.get("aa", "") == Some(7) && sparse.get("aa/", "") == None);
     record.push(0)?;
     let read = ZeroAsciiDenseSparse2dTrieBorrowed::try_from_record_bytes(record.as_slice());
     assert!(rt; read.is_err_and(|e| e == RecordError::TrailingBytes));

@@ -1,0 +1,171 @@
+//! The rows of a table that is built, each with what decides how it is kept.
+
+ghost use Rattle.std.specs.Prelude.{◌≡◌, ◌≤◌, ◌⊎◌, IfOk, IfErr, OnOk, map, is_some, []};
+ghost use Rattle.zerotrie_core.specs.Causes.{OutOfMemory, CapacityExceeded};
+ghost use Rattle.zerotrie_core.specs.Canonical.{size_of};
+ghost use Rattle.zerotrie_core.specs.Items.{pairs_of};
+ghost use Rattle.zerotrie_core.specs.Kind.{simple_ascii};
+ghost use Rattle.zerotrie_core.specs.Maps.{Ascends, value_at};
+ghost use Rattle.zerotrie_core.specs.Routes.{ascending, IsLength};
+ghost use Rattle.zerotrie.specs.dense.Laid.{ArePlain, IsRowRefusal, SomeWideWindow, laid, shown, within, without};
+ghost use Rattle.zerotrie.specs.dense.Layout.{is_dense};
+ghost use Rattle.zerotrie.specs.dense.Rows.{IsInOrder, keys, texts};
+ghost use Rattle.zerotrie.specs.dense.Views.{pairs_in, rows_in};
+ghost use Rattle.zerotrie.specs.dense.Windows.{offset, values};
+
+use crate::dense::window::{fullest_in, is_in_window};
+use std::alloc::{AllocError, Global};
+use std::collections::BTreeMap;
+use zerotrie_build::{ByteSliceWithIndices, encoded_len};
+use zerotrie_core::{Simple, ZeroTrieBuildError, ZeroTrieBuilderOptions};
+
+/// A row of a table, and how it is kept.
+#[derive(Debug, Drop)]
+pub(crate) struct Row<'m, 's> {
+    /// The text that names the row.
+    pub(crate) prefix: &'m str,
+    /// Its suffixes and their values.
+    pub(crate) entries: &'m BTreeMap<&'s str, usize>,
+    /// The first number of its window.
+    pub(crate) offset: usize,
+    /// Whether its window stands in the matrix.
+    pub(crate) is_dense: bool,
+}
+
+/// The values of a row.
+fn values_of(alloc: Global, entries: &BTreeMap<&str, usize>) -> Result<Vec<usize>, AllocError>
+    ensures values { IfOk result (λ v. v.items ≡ values (pairs_in entries.now.entries)) }
+    ensures ascends { OnOk result (Ascends (pairs_in entries.now.entries)) }
+{
+    let mut values = Vec::new(alloc);
+    for (_, value) in entries {
+        values.push(*value)?;
+    }
+    Ok(values)
+}
+
+/// The first number of the window that holds the most of the values of a row, the least of those.
+fn offset_of(alloc: Global, entries: &BTreeMap<&str, usize>) -> Result<usize, AllocError>
+    ensures offset { IfOk result (λ start. start ≡ offset (pairs_in entries.now.entries)) }
+    ensures ascends { OnOk result (Ascends (pairs_in entries.now.entries)) }
+{
+    let mut values = values_of(alloc, entries)?;
+    values.sort_unstable();
+    Ok(fullest_in(values.as_slice()))
+}
+
+/// The pairs of a row whose values stand in the window from `start` on.
+fn pairs_inside<'s>(
+    alloc: Global,
+    entries: &BTreeMap<&'s str, usize>,
+    start: usize,
+) -> Result<Vec<(&'s str, usize)>, AllocError>
+    ensures { IfOk result (λ pairs. pairs_of pairs.items ≡ within start (pairs_in entries.now.entries)) }
+{
+    let mut pairs = Vec::new(alloc);
+    for (suffix, value) in entries {
+        if is_in_window(start, *value) {
+            pairs.push((*suffix, *value))?;
+        }
+    }
+    Ok(pairs)
+}
+
+/// Whether the row has the empty suffix with a value outside the window from `start` on.
+fn has_empty_outside(entries: &BTreeMap<&str, usize>, start: usize) -> bool
+    requires { Ascends (pairs_in entries.now.entries) }
+    ensures { result ≡ is_some (value_at simple_ascii (without start (pairs_in entries.now.entries)) []) }
+{
+    match entries.get("") {
+        Some(value) => !is_in_window(start, *value),
+        None => false,
+    }
+}
+
+/// How long the trie of pairs would be, whose suffixes ascend.
+fn trie_len(alloc: Global, pairs: &[(&str, usize)]) -> Result<usize, ZeroTrieBuildError>
+    ensures { IsLength ascending simple_ascii (pairs_of pairs.now) result }
+{
+    let items = ByteSliceWithIndices::from_str_slice(pairs);
+    encoded_len(alloc, items, ZeroTrieBuilderOptions::of::<Simple>())
+}
+
+/// How long the trie of the window of a row would be.
+fn window_len(
+    alloc: Global,
+    entries: &BTreeMap<&str, usize>,
+    start: usize,
+) -> Result<usize, ZeroTrieBuildError>
+    requires start { start ≡ offset (pairs_in entries.now.entries) }
+    requires ascends { Ascends (pairs_in entries.now.entries) }
+    requires plain { ArePlain (keys (pairs_in entries.now.entries)) }
+    ensures len { IfOk result (λ len. len ≡ size_of simple_ascii (within start (pairs_in entries.now.entries))) }
+    ensures refused { IfErr result (IsRowRefusal (pairs_in entries.now.entries)) }
+{
+    let pairs = pairs_inside(alloc, entries, start)?;
+    let len = trie_len(alloc, pairs.as_slice())?;
+    Ok(len)
+}
+
+/// Whether a row of a table of so many suffixes stands in the matrix: its window would be longer as a trie,
+/// and the empty suffix is not outside the window.
+fn is_dense_row(
+    alloc: Global,
+    entries: &BTreeMap<&str, usize>,
+    start: usize,
+    columns: usize,
+) -> Result<bool, ZeroTrieBuildError>
+    requires start { start ≡ offset (pairs_in entries.now.entries) }
+    requires ascends { Ascends (pairs_in entries.now.entries) }
+    requires plain { ArePlain (keys (pairs_in entries.now.entries)) }
+    requires few { columns ≤ 65535 }
+    ensures dense { IfOk result (λ dense. dense ≡ is_dense columns (pairs_in entries.now.entries)) }
+    ensures refused { IfErr result (IsRowRefusal (pairs_in entries.now.entries)) }
+{
+    let len = window_len(alloc, entries, start)?;
+    Ok(len > 2 * columns && !has_empty_outside(entries, start))
+}
+
+/// A row of a table of so many suffixes.
+fn row_of<'m, 's>(
+    alloc: Global,
+    prefix: &'m str,
+    entries: &'m BTreeMap<&'s str, usize>,
+    columns: usize,
+) -> Result<Row<'m, 's>, ZeroTrieBuildError>
+    requires plain { ArePlain (keys (pairs_in entries.now.entries)) }
+    requires few { columns ≤ 65535 }
+    ensures row { IfOk result (λ row. shown row ≡ laid columns (prefix.now, pairs_in entries.now.entries)) }
+    ensures ascends { OnOk result (Ascends (pairs_in entries.now.entries)) }
+    ensures refused { IfErr result (IsRowRefusal (pairs_in entries.now.entries)) }
+{
+    let offset = offset_of(alloc, entries)?;
+    let is_dense = is_dense_row(alloc, entries, offset, columns)?;
+    Ok(Row {
+        prefix,
+        entries,
+        offset,
+        is_dense,
+    })
+}
+
+/// The rows of a table of so many suffixes, in their order.
+#[tactic(auto, using(crate::proofs::RowsLemmas::plain_left, crate::proofs::RowsLemmas::plain_right))]
+pub(crate) fn rows_of<'m, 's>(
+    alloc: Global,
+    entries: &'m BTreeMap<&str, BTreeMap<&'s str, usize>>,
+    columns: usize,
+) -> Result<Vec<Row<'m, 's>>, ZeroTrieBuildError>
+    requires plain { ArePlain (texts (rows_in entries.now.entries)) }
+    requires few { columns ≤ 65535 }
+    ensures rows { IfOk result (λ rows. map shown rows.items ≡ map (laid columns) (rows_in entries.now.entries)) }
+    ensures order { OnOk result (IsInOrder (rows_in entries.now.entries)) }
+    ensures refused { IfErr result (λ e. (e ≡ OutOfMemory)
+        ⊎ ((e ≡ CapacityExceeded) × SomeWideWindow (rows_in entries.now.entries))) }
+{
+    let mut rows = Vec::new(alloc);
+    for (prefix, row) in entries {
+        rows.push(row_of(alloc, prefix, row, columns)?)?;
+    }
+    Ok(rows)
+}
