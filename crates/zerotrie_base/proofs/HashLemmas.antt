@@ -10,11 +10,6 @@ turned_more q i r h =
     let e : q - i ≡ suc (q - (i + 1)) = omega arith in
     ap (λ k. turned k r) e
 
-pub turned_all : (q i r : ℕ) → q ≤ i → turned (q - i) r ≡ r
-turned_all q i r h =
-    let e : q - i ≡ 0 = omega arith in
-    ap (λ k. turned k r) e
-
 pub f1_below : (b p n c : ℕ) → (n ≡ 0 → b < c) → n ≤ c → f1 b p n < c
 f1_below b p zero c whole h = whole refl
 f1_below b zero (suc n) c whole h = omega arith

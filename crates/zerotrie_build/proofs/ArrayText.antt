@@ -32,9 +32,6 @@ puts_more n a b c xs i d some within is p q =
     (ap (λ x. x ∷ drop i xs) is ∙ ap (λ k. get_or xs (i - 1) 0 ∷ drop k xs) next ∙ sym (drop_more xs (i - 1) 0 (omega arith)))
     (puts_then n a b c (d ∷ []) (drop i xs) p q)
 
-pub length-tops : (ss : List Sibling) → length (tops ss) ≡ length ss
-length-tops ss = length-reverse ss
-
 pub length-lens : (ss : List Sibling) → length (lens_of (tops ss)) ≡ length ss
 length-lens ss = length-map (tops ss) (λ s. s.len) ∙ length-reverse ss
 

@@ -57,16 +57,6 @@ only_branch kind lead rest bytes e high none (literal c after) b = let is = (con
 only_branch kind lead rest bytes e high none (span run after) b = let is = span_begins (length run) lead rest (run ++ after) (subst (λ x. BeginsSpan x run after) e b.1) in omega arith
 only_branch kind lead rest bytes e high none (branch edges width table behind) b = none edges width table behind (subst (λ x. BeginsBranch kind x edges width table behind) e b)
 
--- or only a span
-pub only_span : (kind : Kind) (lead : ℕ) (rest bytes : List ℕ) → bytes ≡ lead ∷ rest → 160 ≤ lead → lead < 192
-    → (has_spans kind ≡ true → (run after : List ℕ) → BeginsSpan (lead ∷ rest) run after → ⊥) → (s : Shape) → Begins kind bytes s → ⊥
-only_span kind lead rest bytes e low high none (value v after) b = let is = value_begins v lead rest after (subst (λ x. BeginsWith 16 4 v x after) e b) in omega arith
-only_span kind lead rest bytes e low high none (literal c after) b = let is = (cons_parts lead c rest after (sym e ∙ b.1)).0 in let small = b.0 in omega arith
-only_span kind lead rest bytes e low high none (span run after) b = none b.0 run after (subst (λ x. BeginsSpan x run after) e b.1)
-only_span kind lead rest bytes e low high none (branch edges width table behind) b =
-    let is = branch_begins _ lead rest b.body (subst (λ x. BeginsWith 32 3 (256 * (width - 1) + edges % 256) x b.body) e b.begins) in
-    omega arith
-
 -- what the number of a head says
 head_parts : (head w e : ℕ) → 1 ≤ w → 2 ≤ e → e ≤ 256 → head ≡ 256 * (w - 1) + e % 256 → (head / 256 + 1 ≡ w) × (head % 256 ≡ e % 256)
 head_parts head w e some two most is = (omega arith, omega arith)

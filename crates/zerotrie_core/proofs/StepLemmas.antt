@@ -91,10 +91,6 @@ span_first : (n : ℕ) (bytes rest : List ℕ) → BeginsWith 16 5 n bytes rest 
 span_first n [] rest b = absurd (some_bytes 16 5 n rest b)
 span_first n (lead ∷ more) rest b = let is = span_begins n lead more rest b in (λ e. cc, λ four. omega arith, λ not. not (omega arith))
 
-branch_first : (n : ℕ) (bytes rest : List ℕ) → BeginsWith 32 3 n bytes rest → (bytes ≡ [] → ⊥) × NoValueFirst bytes × NoSpanFirst bytes
-branch_first n [] rest b = absurd (some_bytes 32 3 n rest b)
-branch_first n (lead ∷ more) rest b = let is = branch_begins n lead more rest b in (λ e. cc, λ four. omega arith, λ five. omega arith)
-
 literal_first : (c : ℕ) (bytes rest : List ℕ) → c < 128 → bytes ≡ c ∷ rest → (bytes ≡ [] → ⊥) × NoValueFirst bytes × NoSpanFirst bytes
 literal_first c [] rest low e = absurd (cc)
 literal_first c (lead ∷ more) rest low e = let is = (cons_parts lead c more rest e).0 in (λ f. cc, λ four. omega arith, λ five. omega arith)
@@ -104,12 +100,6 @@ value_suits kind v rest Anything other bytes b = tt
 value_suits kind v rest NoValue other bytes b = absurd (other refl)
 value_suits kind v rest NoSpan other bytes b = let first = value_first v bytes rest b in (first.0, first.1)
 value_suits kind v rest Something other bytes b = (value_first v bytes rest b).0
-
-pub value_unfit : (kind : Kind) (v : ℕ) (rest : List ℕ) (expected : Expected) → ((expected ≡ NoValue → ⊥) → ⊥) → (bytes : List ℕ) → Begins kind bytes (shapes.Shape.value v rest) → Suits expected bytes → ⊥
-value_unfit kind v rest Anything is bytes b suits = is (λ e. cc)
-value_unfit kind v rest NoValue is bytes b suits = (value_first v bytes rest b).2 suits
-value_unfit kind v rest NoSpan is bytes b suits = is (λ e. cc)
-value_unfit kind v rest Something is bytes b suits = is (λ e. cc)
 
 pub literal_suits : (kind : Kind) (c : ℕ) (rest : List ℕ) (expected : Expected) → AlwaysSuits kind (shapes.Shape.literal c rest) expected
 literal_suits kind c rest Anything bytes b = tt
@@ -128,12 +118,6 @@ span_unfit kind run rest Anything is bytes b suits = is (λ e. cc)
 span_unfit kind run rest NoValue is bytes b suits = is (λ e. cc)
 span_unfit kind run rest NoSpan is bytes b suits = (span_first (length run) bytes (run ++ rest) b.1).2 suits.1
 span_unfit kind run rest Something is bytes b suits = is (λ e. cc)
-
-pub branch_suits : (kind : Kind) (n w : ℕ) (table behind : List ℕ) (expected : Expected) → AlwaysSuits kind (shapes.Shape.branch n w table behind) expected
-branch_suits kind n w table behind Anything bytes b = tt
-branch_suits kind n w table behind NoValue bytes b = (branch_first _ bytes b.body b.begins).1
-branch_suits kind n w table behind NoSpan bytes b = let first = branch_first _ bytes b.body b.begins in (first.0, first.2)
-branch_suits kind n w table behind Something bytes b = (branch_first _ bytes b.body b.begins).0
 
 -- one after another
 pub onward_more : {kind : Kind} {bytes rest after : List ℕ} {expected next : Expected} {most count : ℕ}

@@ -154,15 +154,6 @@ pub record LongestOf (n w : ℕ) (behind : List ℕ) (index place most : ℕ) : 
   pub all : (i : ℕ) → i < index → extent n w behind i ≤ most
   pub first : (i : ℕ) → i < place → (i < index) × (extent n w behind i < most)
 
-pub longest_of_none : (n w : ℕ) (behind : List ℕ) → LongestOf n w behind 0 0 0
-longest_of_none n w behind = record {
-  order = λ i h. absurd (omega arith);
-  start = λ e. refl;
-  here = λ h. absurd (omega arith);
-  all = λ i h. absurd (omega arith);
-  first = λ i h. absurd (omega arith);
-}
-
 order_more : (n w : ℕ) (behind : List ℕ) (index : ℕ) → InOrder n w behind index → begin_of n w behind index < end_of n w behind index → end_of n w behind index ≤ length (targets_behind n w behind) → InOrder n w behind (index + 1)
 order_more n w behind index order low high i h = elim (cases_lt i index) [
   | inl less ↦ order i less
@@ -197,16 +188,6 @@ longest_less n w behind index place most low high less so_far = record {
   all = all_more n w behind index most most (omega arith) less so_far.all;
   first = λ i h. (let a = so_far.first i h in let b = a.0 in (omega arith, a.1));
 }
-
-pub longest_all : (n w : ℕ) (behind : List ℕ) (place most : ℕ) → 0 < n → LongestOf n w behind n place most → IsLongest n w behind n place
-longest_all n w behind place most some so_far =
-    let here = so_far.here some in
-    let is = here.1 in
-    record {
-      inside = here.0;
-      most = λ i h. (let a = so_far.all i h in omega arith);
-      first = λ i h. (let a = (so_far.first i h).1 in omega arith);
-    }
 
 pub target_long : (n w : ℕ) (behind : List ℕ) (i : ℕ) (target : List ℕ) → begin_of n w behind i ≤ end_of n w behind i → end_of n w behind i ≤ length (targets_behind n w behind) → target ≡ piece n w behind i → length target ≡ extent n w behind i
 target_long n w behind i target low high is =
