@@ -1,6 +1,6 @@
 -- One item after another is added.
-use Rattle.std.proofs.Common.{◌≡◌, ℕ, zero, suc, ◌<◌, ◌≤◌, inl, inr, List, [], ◌∷◌, ◌++◌, length, refl, sym, ◌∙◌, ap, subst, arith, take, drop, get_or, All, Some, slice_get, false}
-use Rattle.std.proofs.lemmas.List.{take-append-drop}
+use Rattle.std.proofs.Common.{◌≡◌, ℕ, zero, suc, ◌-◌, ◌<◌, ◌≤◌, inl, inr, List, [], ◌∷◌, ◌++◌, length, refl, sym, ◌∙◌, ap, subst, arith, take, drop, get_or, All, Some, slice_get}
+use Rattle.std.proofs.lemmas.List.{take-append-drop, drop_all}
 use Rattle.std.proofs.lemmas.Option.{slice_get_within}
 use Rattle.zerotrie_core.specs.Kind.{simple_ascii}
 use Rattle.zerotrie_core.specs.Numbers.{value_form, SpellsAs, spelled_as}
@@ -28,38 +28,42 @@ drop_at (e ∷ all) zero a h = let g : Some e ≡ Some a = h in cc
 drop_at (e ∷ all) (suc i) a h = drop_at all i a h
 
 -- the value is in front
-pub stands_at : (n k : ℕ) (all : Pairs) (i : ℕ) (key : List ℕ) (v : ℕ) (old new : Text n) (siblings : List Sibling) → slice_get all i ≡ Some (key, v)
-    → SpellsAs value_form v (spelled_as value_form v) → Puts n old new (spelled_as value_form v) → BuiltFrom n k (suc i) all old siblings → Standing n k key (length key) new siblings (drop i all)
-stands_at n k all i key v old new siblings at spells p built =
-    let waiting : Waiting n k key old siblings (drop (suc i) all) = subst (λ e. Waiting n k e.0 old siblings (drop (suc i) all)) (got all i ([], 0) (key, v) at) built in
-    subst (Standing n k key (length key) new siblings) (drop_at all i (key, v) at)
+pub stands_at : (k : ℕ) (all : Pairs) (i : ℕ) (key : List ℕ) (v : ℕ) (old new : Text) (siblings : List Sibling) → slice_get all i ≡ Some (key, v)
+    → SpellsAs value_form v (spelled_as value_form v) → Puts old new (spelled_as value_form v) → BuiltFrom k (suc i) all old siblings → Standing k key (length key) new siblings (drop i all)
+stands_at k all i key v old new siblings at spells p built =
+    let waiting : Waiting k key old siblings (drop (suc i) all) = subst (λ e. Waiting k e.0 old siblings (drop (suc i) all)) (got all i ([], 0) (key, v) at) built in
+    subst (Standing k key (length key) new siblings) (drop_at all i (key, v) at)
     (spelled_as value_form v ++ waiting.0, p.has waiting.0 waiting.1, with_value k key v (spelled_as value_form v) (tops siblings) old.front new.front waiting.0 (drop (suc i) all) spells (λ m c. p.counts m c) waiting.2)
 
-pub built_at_start : (n k : ℕ) (all : Pairs) (i : ℕ) (key : List ℕ) (text : Text n) (siblings : List Sibling) → i ≡ 0 → Standing n k key 0 text siblings (drop i all) → BuiltFrom n k i all text siblings
-built_at_start n k all i key text siblings e standing =
+pub built_at_start : (k : ℕ) (all : Pairs) (i : ℕ) (key : List ℕ) (text : Text) (siblings : List Sibling) → i ≡ 0 → Standing k key 0 text siblings (drop i all) → BuiltFrom k i all text siblings
+built_at_start k all i key text siblings e standing =
     let w = whole k key (tops siblings) text.front standing.0 (drop i all) standing.2 in
     let lists : Lists simple_ascii standing.0 all = subst (λ j. Lists simple_ascii standing.0 (drop j all)) e w.0 in
     let enough : stack_of all ≤ k = subst (λ j. stack_of (drop j all) ≤ k) e w.1 in
-    subst (λ j. BuiltFrom n k j all text siblings) (sym e) (standing.0, standing.1, lists, enough)
+    subst (λ j. BuiltFrom k j all text siblings) (sym e) (standing.0, standing.1, lists, enough)
 
-pub built_before : (n k : ℕ) (all : Pairs) (j i : ℕ) (before : List ℕ) (v : ℕ) (text : Text n) (siblings : List Sibling) → suc j ≡ i → slice_get all j ≡ Some (before, v) → Waiting n k before text siblings (drop i all)
-    → BuiltFrom n k i all text siblings
-built_before n k all j i before v text siblings e at waits =
-    let moved : Waiting n k (get_or all j ([], 0)).0 text siblings (drop i all) = subst (λ a. Waiting n k a.0 text siblings (drop i all)) (sym (got all j ([], 0) (before, v) at)) waits in
-    let next : BuiltFrom n k (suc j) all text siblings = subst (λ m. Waiting n k (get_or all j ([], 0)).0 text siblings (drop m all)) (sym e) moved in
-    subst (λ m. BuiltFrom n k m all text siblings) e next
+pub built_before : (k : ℕ) (all : Pairs) (j i : ℕ) (before : List ℕ) (v : ℕ) (text : Text) (siblings : List Sibling) → suc j ≡ i → slice_get all j ≡ Some (before, v) → Waiting k before text siblings (drop i all)
+    → BuiltFrom k i all text siblings
+built_before k all j i before v text siblings e at waits =
+    let moved : Waiting k (get_or all j ([], 0)).0 text siblings (drop i all) = subst (λ a. Waiting k a.0 text siblings (drop i all)) (sym (got all j ([], 0) (before, v) at)) waits in
+    let next : BuiltFrom k (suc j) all text siblings = subst (λ m. Waiting k (get_or all j ([], 0)).0 text siblings (drop m all)) (sym e) moved in
+    subst (λ m. BuiltFrom k m all text siblings) e next
 
-pub built_nothing : (n k : ℕ) (all : Pairs) (i : ℕ) (text : Text n) → i ≡ length all → text.array ≡ [] → text.is_too_long ≡ false → text.front ≡ 0 → BuiltFrom n k i all text []
-built_nothing n k all i text e array long front = subst (λ j. BuiltFrom n k j all text []) (sym e) (start all)
+pub built_nothing : (k : ℕ) (all : Pairs) (i : ℕ) (text : Text) → i ≡ length all → text.len ≡ 0 → text.front ≡ 0 → BuiltFrom k i all text []
+built_nothing k all i text e len front = subst (λ j. BuiltFrom k j all text []) (sym e) (start all)
   where
     past : (pairs : Pairs) → drop (length pairs) pairs ≡ []
     past [] = refl
     past (f ∷ pairs) = past pairs
 
-    has : Has n text []
-    has = record { whole = λ f. array; long = λ f. absurd (let z = sym long ∙ f in cc) }
+    has : Has text []
+    has = record {
+      exact = λ l. len;
+      capped = λ l. absurd (omega arith);
+      written = λ l. drop_all (length text.buffer.now - 0) text.buffer.now (omega arith);
+    }
 
-    start : (pairs : Pairs) → BuiltFrom n k (length pairs) pairs text []
+    start : (pairs : Pairs) → BuiltFrom k (length pairs) pairs text []
     start [] = ([], has, nothing, let s = stack_none in omega arith)
     start (f ∷ pairs) = (
       [],

@@ -10,7 +10,7 @@ use Rattle.zerotrie_core.specs.Causes.{ZeroTrieBuildError, CapacityExceeded, Sta
 use Rattle.zerotrie_build.specs.declared.konst.text.Sibling.{Sibling}
 use Rattle.zerotrie_build.specs.declared.konst.text.Text.{Text}
 use Rattle.zerotrie_build.specs.Order.{Before}
-use Rattle.zerotrie_build.specs.konst.Texts.{Counts, Has, Puts, tops, bytes_of, lens_of}
+use Rattle.zerotrie_build.specs.konst.Texts.{Counts, EndsIn, Has, Puts, tops, bytes_of, lens_of}
 use Rattle.zerotrie_build.specs.konst.Growing.{NoneAt, AllAt, Waits, Standing, Waiting, Joins, TooWide, IsStuckAt, IsStuckFrom, IsStuckBefore}
 use Rattle.zerotrie_build.proofs.Items.{below_or_from}
 use Rattle.zerotrie_build.proofs.Parting.{common}
@@ -41,8 +41,8 @@ split_at ss start = ap reverse (sym (take-append-drop start ss)) ∙ reverse-app
 pub to_end : (ss : List Sibling) (start : ℕ) → take (length ss - start) (drop start ss) ≡ drop start ss
 to_end ss start = ap (λ n. take n (drop start ss)) (sym (length-drop start ss)) ∙ take-length (drop start ss)
 
-pub has_same : (n : ℕ) (t u : Text n) (bytes : List ℕ) → t.array ≡ u.array → t.is_too_long ≡ u.is_too_long → Has n t bytes → Has n u bytes
-has_same n t u bytes e f h = record { whole = λ z. sym e ∙ h.whole (f ∙ z); long = λ z. h.long (f ∙ z) }
+pub has_same : (t u : Text) (bytes : List ℕ) → t.buffer.now ≡ u.buffer.now → t.len ≡ u.len → Has t bytes → Has u bytes
+has_same t u bytes e f h = subst (λ l. EndsIn u.buffer.now l bytes) f (subst (λ b. EndsIn b t.len bytes) e h)
 
 pub sum_exact : (t r : ℕ) → (t < 2 ^ 64 → r ≡ t) → (2 ^ 64 ≤ t → 2 ^ 32 ≤ r) → r < 2 ^ 32 → r ≡ t
 sum_exact t r exact capped small = elim (below_or_from t (2 ^ 64)) [ inl low ↦ exact low | inr high ↦ absurd (let c = capped high in omega arith) ]
@@ -51,17 +51,17 @@ pub sum_wide : (t r : ℕ) → (t < 2 ^ 64 → r ≡ t) → (2 ^ 64 ≤ t → 2 
 sum_wide t r exact capped large = elim (below_or_from t (2 ^ 64)) [ inl low ↦ let e = exact low in omega arith | inr high ↦ omega arith ]
 
 -- a branch is made of the siblings behind a place
-pub joins_at : (n d : ℕ) (old mid new : Text n) (ss branch left : List Sibling) (start : ℕ) → branch ≡ drop start ss → left ≡ take start ss → AllAt d (tops (drop start ss)) → NoneAt d (tops (take start ss))
-    → mid.array ≡ old.array → mid.is_too_long ≡ old.is_too_long → mid.front ≡ total (lens_of (tops branch)) → total (lens_of (tops branch)) < 2 ^ 32
-    → Puts n mid new (branch_front (bytes_of (tops branch)) (lens_of (tops branch))) → Joins n d old new (tops ss) (tops left)
-joins_at n d old mid new ss branch left start is left_is level none array long front narrow p =
+pub joins_at : (d : ℕ) (old mid new : Text) (ss branch left : List Sibling) (start : ℕ) → branch ≡ drop start ss → left ≡ take start ss → AllAt d (tops (drop start ss)) → NoneAt d (tops (take start ss))
+    → mid.buffer.now ≡ old.buffer.now → mid.len ≡ old.len → mid.front ≡ total (lens_of (tops branch)) → total (lens_of (tops branch)) < 2 ^ 32
+    → Puts mid new (branch_front (bytes_of (tops branch)) (lens_of (tops branch))) → Joins d old new (tops ss) (tops left)
+joins_at d old mid new ss branch left start is left_is level none written len front narrow p =
     let taken = tops branch in record {
       taken = taken;
       split = split_at ss start ∙ ap (λ x. tops x ++ tops (take start ss)) (sym is) ∙ ap (λ x. taken ++ tops x) (sym left_is);
       level = subst (λ x. AllAt d (tops x)) (sym is) level;
       no_more = subst (λ x. NoneAt d (tops x)) (sym left_is) none;
       narrow = narrow;
-      has = λ behind h. p.has behind (has_same n old mid behind (sym array) (sym long) h);
+      has = λ behind h. p.has behind (has_same old mid behind (sym written) (sym len) h);
       counts = p.counts (total (lens_of taken)) (subst (λ c. Counts c (total (lens_of taken))) (sym front) (record { small = λ l. refl; large = λ l. l }));
     }
 
@@ -76,28 +76,28 @@ wide_at d ss branch start is level none wide = record {
 }
 
 -- The text is set aside and a branch is made of it and the siblings at its depth.
-pub closes_branch : (n k : ℕ) (key : List ℕ) (d : ℕ) (old mid new : Text n) (before aside after : List Sibling) (listed : Pairs) → d < length key → All (λ b. b < 128) key
+pub closes_branch : (k : ℕ) (key : List ℕ) (d : ℕ) (old mid new : Text) (before aside after : List Sibling) (listed : Pairs) → d < length key → All (λ b. b < 128) key
     → (NoneAt d (tops before) → ⊥) → length before < k → tops aside ≡ record { depth = d; byte = get_or key d 0; len = old.front } ∷ tops before
-    → mid.array ≡ old.array → mid.is_too_long ≡ old.is_too_long → Joins n d mid new (tops aside) (tops after)
-    → Standing n k key (suc d) old before listed → Standing n k key d new after listed
-closes_branch n k key d old mid new before aside after listed within ascii some room is array long j standing =
+    → mid.buffer.now ≡ old.buffer.now → mid.len ≡ old.len → Joins d mid new (tops aside) (tops after)
+    → Standing k key (suc d) old before listed → Standing k key d new after listed
+closes_branch k key d old mid new before aside after listed within ascii some room is written len j standing =
     let bytes = standing.0 in
-    let h = has_same n old mid bytes (sym array) (sym long) standing.1 in
+    let h = has_same old mid bytes (sym written) (sym len) standing.1 in
     let o = opens k key d old.front (tops before) j.taken (tops after) bytes listed within (ascii d 0 within) some (let l = length-reverse before in omega arith) (sym is ∙ j.split) j.level j.no_more standing.2 in
     (branch_front (bytes_of j.taken) (lens_of j.taken) ++ bytes, j.has bytes h, closed k key d new.front j.taken (tops after) bytes listed o j.narrow j.counts)
 
 -- their texts are too long together
-pub stuck_wide : (n k : ℕ) (key : List ℕ) (d : ℕ) (old : Text n) (before aside : List Sibling) (listed : Pairs) (e : ZeroTrieBuildError) → d < length key → All (λ b. b < 128) key
+pub stuck_wide : (k : ℕ) (key : List ℕ) (d : ℕ) (old : Text) (before aside : List Sibling) (listed : Pairs) (e : ZeroTrieBuildError) → d < length key → All (λ b. b < 128) key
     → (NoneAt d (tops before) → ⊥) → length before < k → tops aside ≡ record { depth = d; byte = get_or key d 0; len = old.front } ∷ tops before
-    → e ≡ CapacityExceeded → TooWide d (tops aside) → Standing n k key (suc d) old before listed → IsStuckAt k key d listed e
-stuck_wide n k key d old before aside listed e within ascii some room is error t standing =
+    → e ≡ CapacityExceeded → TooWide d (tops aside) → Standing k key (suc d) old before listed → IsStuckAt k key d listed e
+stuck_wide k key d old before aside listed e within ascii some room is error t standing =
     let o = opens k key d old.front (tops before) t.taken t.after standing.0 listed within (ascii d 0 within) some (let l = length-reverse before in omega arith) (sym is ∙ t.split) t.level t.no_more standing.2 in
     inl (error, too_wide k key d t.taken t.after standing.0 listed o (omega arith) t.wide)
 
 -- too many siblings wait
-pub stuck_many : (n k : ℕ) (key : List ℕ) (d : ℕ) (old : Text n) (before : List Sibling) (listed : Pairs) (e : ZeroTrieBuildError) → d < length key → All (λ b. b < 128) key
-    → (NoneAt d (tops before) → ⊥) → k ≤ length before → e ≡ StackExceeded → Standing n k key (suc d) old before listed → IsStuckAt k key d listed e
-stuck_many n k key d old before listed e within ascii some full error standing =
+pub stuck_many : (k : ℕ) (key : List ℕ) (d : ℕ) (old : Text) (before : List Sibling) (listed : Pairs) (e : ZeroTrieBuildError) → d < length key → All (λ b. b < 128) key
+    → (NoneAt d (tops before) → ⊥) → k ≤ length before → e ≡ StackExceeded → Standing k key (suc d) old before listed → IsStuckAt k key d listed e
+stuck_many k key d old before listed e within ascii some full error standing =
     inr (
       error,
       λ all among.
@@ -106,9 +106,9 @@ stuck_many n k key d old before listed e within ascii some full error standing =
     )
 
 -- a literal is put in front
-pub closes_literal : (n k : ℕ) (key : List ℕ) (d : ℕ) (old new : Text n) (siblings : List Sibling) (listed : Pairs) → d < length key → All (λ b. b < 128) key → NoneAt d (tops siblings)
-    → Puts n old new (get_or key d 0 ∷ []) → Standing n k key (suc d) old siblings listed → Standing n k key d new siblings listed
-closes_literal n k key d old new siblings listed within ascii none p standing = (
+pub closes_literal : (k : ℕ) (key : List ℕ) (d : ℕ) (old new : Text) (siblings : List Sibling) (listed : Pairs) → d < length key → All (λ b. b < 128) key → NoneAt d (tops siblings)
+    → Puts old new (get_or key d 0 ∷ []) → Standing k key (suc d) old siblings listed → Standing k key d new siblings listed
+closes_literal k key d old new siblings listed within ascii none p standing = (
   get_or key d 0 ∷ standing.0,
   p.has standing.0 standing.1,
   with_literal k key d (get_or key d 0) (tops siblings) old.front new.front standing.0 listed within refl (ascii d 0 within) none
@@ -116,33 +116,33 @@ closes_literal n k key d old new siblings listed within ascii none p standing = 
 )
 
 -- the key before is a front of the key
-pub goes_before : (n k : ℕ) (before key : List ℕ) (text : Text n) (siblings : List Sibling) (listed : Pairs) → Before simple_ascii before key → common before key ≡ length before
-    → Standing n k key (common before key) text siblings listed → Waiting n k before text siblings listed
-goes_before n k before key text siblings listed sorted ends standing = (
+pub goes_before : (k : ℕ) (before key : List ℕ) (text : Text) (siblings : List Sibling) (listed : Pairs) → Before simple_ascii before key → common before key ≡ length before
+    → Standing k key (common before key) text siblings listed → Waiting k before text siblings listed
+goes_before k before key text siblings listed sorted ends standing = (
   standing.0,
   standing.1,
   goes_on k before key (common before key) (tops siblings) text.front standing.0 listed (parted before key sorted) ends standing.2,
 )
 
 -- the text is set aside for the key before
-pub parts_before : (n k : ℕ) (before key : List ℕ) (old new : Text n) (siblings aside : List Sibling) (listed : Pairs) → Before simple_ascii before key → All (λ b. b < 128) key → common before key < length before
+pub parts_before : (k : ℕ) (before key : List ℕ) (old new : Text) (siblings aside : List Sibling) (listed : Pairs) → Before simple_ascii before key → All (λ b. b < 128) key → common before key < length before
     → length siblings < k → tops aside ≡ record { depth = common before key; byte = get_or key (common before key) 0; len = old.front } ∷ tops siblings → new.front ≡ 0
-    → new.array ≡ old.array → new.is_too_long ≡ old.is_too_long
-    → Standing n k key (suc (common before key)) old siblings listed → Waiting n k before new aside listed
-parts_before n k before key old new siblings aside listed sorted ascii longer room is front array long standing =
+    → new.buffer.now ≡ old.buffer.now → new.len ≡ old.len
+    → Standing k key (suc (common before key)) old siblings listed → Waiting k before new aside listed
+parts_before k before key old new siblings aside listed sorted ascii longer room is front written len standing =
     let p = parted before key sorted in
     let c = common before key in
     let w = set_aside k before key c (get_or key c 0) old.front (tops siblings) standing.0 listed p longer refl (ascii c 0 p.room) (let l = length-reverse siblings in omega arith) standing.2 in (
       standing.0,
-      has_same n old new standing.0 (sym array) (sym long) standing.1,
+      has_same old new standing.0 (sym written) (sym len) standing.1,
       subst (λ ss. Waits k before ss new.front standing.0 listed) (sym is)
           (subst (λ f. Waits k before (record { depth = c; byte = get_or key c 0; len = old.front } ∷ tops siblings) f standing.0 listed) (sym front) w),
     )
 
 -- too many siblings wait for the key before
-pub stuck_before : (n k : ℕ) (before key : List ℕ) (text : Text n) (siblings : List Sibling) (listed : Pairs) (e : ZeroTrieBuildError) → Before simple_ascii before key → All (λ b. b < 128) key
-    → common before key < length before → k ≤ length siblings → e ≡ StackExceeded → Standing n k key (suc (common before key)) text siblings listed → IsStuckBefore k before listed e
-stuck_before n k before key text siblings listed e sorted ascii longer full error standing =
+pub stuck_before : (k : ℕ) (before key : List ℕ) (text : Text) (siblings : List Sibling) (listed : Pairs) (e : ZeroTrieBuildError) → Before simple_ascii before key → All (λ b. b < 128) key
+    → common before key < length before → k ≤ length siblings → e ≡ StackExceeded → Standing k key (suc (common before key)) text siblings listed → IsStuckBefore k before listed e
+stuck_before k before key text siblings listed e sorted ascii longer full error standing =
     let p = parted before key sorted in
     let c = common before key in
     inr (

@@ -1,5 +1,5 @@
--- A text that is written from its end into an array.
-use Rattle.std.proofs.Common.{◌≡◌, ℕ, zero, suc, ◌+◌, ◌-◌, ◌<◌, ◌≤◌, List, [], ◌∷◌, ◌++◌, length, sym, ◌∙◌, ap, subst, arith, append_assoc, length-append, take, drop, get_or, map}
+-- A text that is written from its end into a buffer.
+use Rattle.std.proofs.Common.{◌≡◌, ℕ, zero, suc, ◌+◌, ◌-◌, ◌<◌, ◌≤◌, List, [], ◌∷◌, ◌++◌, length, refl, sym, ◌∙◌, ap, subst, arith, append_assoc, length-append, take, drop, get_or, map}
 use Rattle.std.specs.List.{range_with_len}
 use Rattle.std.proofs.lemmas.List.{drop_more, take_more, get_or-reverse, get_or-map, length-reverse, length-map, reverse-append}
 use Rattle.std.proofs.lemmas.List.Sums.{sum_by-cons}
@@ -9,28 +9,29 @@ use Rattle.zerotrie_build.specs.declared.konst.text.Text.{Text}
 use Rattle.zerotrie_build.specs.konst.Texts.{Counts, Has, Puts, tops, bytes_of, lens_of}
 use Rattle.zerotrie_build.proofs.NodeLemmas.{total_more}
 
-pub puts_nothing : (n : ℕ) (t : Text n) → Puts n t t []
-puts_nothing n t = record { has = λ behind h. h; counts = λ front h. subst (Counts t.front) (let e : front ≡ 0 + front = omega arith in e) h }
+pub puts_nothing : (t : Text) → Puts t t []
+puts_nothing t = record { same_reference = refl; has = λ behind h. h; counts = λ front h. subst (Counts t.front) (let e : front ≡ 0 + front = omega arith in e) h }
 
 -- bytes in front of others
-pub puts_then : (n : ℕ) (a b c : Text n) (xs ys : List ℕ) → Puts n a b ys → Puts n b c xs → Puts n a c (xs ++ ys)
-puts_then n a b c xs ys p q = record {
-  has = λ behind h. subst (Has n c) (sym (append_assoc xs ys behind)) (q.has (ys ++ behind) (p.has behind h));
+pub puts_then : (a b c : Text) (xs ys : List ℕ) → Puts a b ys → Puts b c xs → Puts a c (xs ++ ys)
+puts_then a b c xs ys p q = record {
+  same_reference = q.same_reference ∙ p.same_reference;
+  has = λ behind h. subst (Has c) (sym (append_assoc xs ys behind)) (q.has (ys ++ behind) (p.has behind h));
   counts = λ front h.
       subst (Counts c.front) (let e : length xs + (length ys + front) ≡ length (xs ++ ys) + front = (let k = length-append xs ys in omega arith) in e)
       (q.counts (length ys + front) (p.counts front h));
 }
 
-pub puts_same : (n : ℕ) (a b : Text n) (xs ys : List ℕ) → xs ≡ ys → Puts n a b xs → Puts n a b ys
-puts_same n a b xs ys e = subst (Puts n a b) e
+pub puts_same : (a b : Text) (xs ys : List ℕ) → xs ≡ ys → Puts a b xs → Puts a b ys
+puts_same a b xs ys e = subst (Puts a b) e
 
 -- the byte in front of those from a place on
-pub puts_more : (n : ℕ) (a b c : Text n) (xs : List ℕ) (i d : ℕ) → 0 < i → i ≤ length xs → d ≡ get_or xs (i - 1) 0 → Puts n a b (drop i xs) → Puts n b c (d ∷ []) → Puts n a c (drop (i - 1) xs)
-puts_more n a b c xs i d some within is p q =
+pub puts_more : (a b c : Text) (xs : List ℕ) (i d : ℕ) → 0 < i → i ≤ length xs → d ≡ get_or xs (i - 1) 0 → Puts a b (drop i xs) → Puts b c (d ∷ []) → Puts a c (drop (i - 1) xs)
+puts_more a b c xs i d some within is p q =
     let next : i ≡ (i - 1) + 1 = omega arith in
-    puts_same n a c (d ∷ drop i xs) (drop (i - 1) xs)
+    puts_same a c (d ∷ drop i xs) (drop (i - 1) xs)
     (ap (λ x. x ∷ drop i xs) is ∙ ap (λ k. get_or xs (i - 1) 0 ∷ drop k xs) next ∙ sym (drop_more xs (i - 1) 0 (omega arith)))
-    (puts_then n a b c (d ∷ []) (drop i xs) p q)
+    (puts_then a b c (d ∷ []) (drop i xs) p q)
 
 pub length-lens : (ss : List Sibling) → length (lens_of (tops ss)) ≡ length ss
 length-lens ss = length-map (tops ss) (λ s. s.len) ∙ length-reverse ss

@@ -1,8 +1,9 @@
-//! The builder in an array, which writes a text from its end and takes no memory.
+//! The array builder, which writes a text from its end.
 
-mod array;
 mod builder;
+mod fill;
 mod text;
 mod walk;
 
 pub use builder::ZeroTrieBuilderConst;
+pub use fill::{bytes_within, fill_from_end};

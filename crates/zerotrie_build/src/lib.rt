@@ -12,6 +12,6 @@ mod store;
 mod writing;
 
 pub use builder::{ZeroTrieBuilder, encoded_len};
-pub use konst::ZeroTrieBuilderConst;
+pub use konst::{ZeroTrieBuilderConst, bytes_within, fill_from_end};
 pub use slice_indices::ByteSliceWithIndices;
 pub use store::TrieBuilderStore;

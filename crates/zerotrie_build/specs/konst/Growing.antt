@@ -2,7 +2,7 @@
 use Rattle.std.specs.Prelude.{◌≡◌, ◌≢◌, ℕ, ◌+◌, ◌^◌, ◌<◌, ◌≤◌, ◌⊎◌, List, [], ◌∷◌, ◌++◌, length, take, drop, slice_index, slice_index_or, true}
 use Rattle.std.proofs.Common.{suc, zero}
 use Rattle.zerotrie_core.specs.Kind.{simple_ascii}
-use Rattle.zerotrie_core.specs.Maps.{Pairs, map_of, with_run, begins_some, behind_all}
+use Rattle.zerotrie_core.specs.Maps.{Pairs, Ascends, map_of, with_run, begins_some, behind_all}
 use Rattle.zerotrie_core.specs.Branches.{total, branch_front}
 use Rattle.zerotrie_core.specs.Texts.{Lists, NoValueFirst}
 use Rattle.zerotrie_core.specs.Fits.{OverflowsAt, ExceedsCapacity}
@@ -10,7 +10,7 @@ use Rattle.zerotrie_core.specs.Stack.{stack_of}
 use Rattle.zerotrie_core.specs.Causes.{ZeroTrieBuildError, CapacityExceeded, StackExceeded}
 use Rattle.zerotrie_build.specs.declared.konst.text.Sibling.{Sibling}
 use Rattle.zerotrie_build.specs.declared.konst.text.Text.{Text}
-use Rattle.zerotrie_build.specs.konst.Texts.{Counts, Has, tops, bytes_of, lens_of}
+use Rattle.zerotrie_build.specs.konst.Texts.{Counts, EndsIn, Has, tops, bytes_of, lens_of}
 
 -- the first sibling, if there is one, lies at a lower depth
 abbrev pub DepthsBelow : ℕ → List Sibling → Type 0
@@ -80,26 +80,26 @@ Stands k key depth siblings front bytes pairs =
     Holds k (λ text. (text ≢ []) × (depth < length key → NoValueFirst text)) key depth siblings front bytes pairs
 
 -- the text and the siblings, the last that was set aside last, stand so
-abbrev pub Standing : (n : ℕ) → ℕ → List ℕ → ℕ → Text n → List Sibling → Pairs → Type 0
-Standing n k key depth text siblings listed = (bytes : List ℕ) × Has n text bytes × Stands k key depth (tops siblings) text.front bytes listed
+abbrev pub Standing : ℕ → List ℕ → ℕ → Text → List Sibling → Pairs → Type 0
+Standing k key depth text siblings listed = (bytes : List ℕ) × Has text bytes × Stands k key depth (tops siblings) text.front bytes listed
 
 -- they wait so
-abbrev pub Waiting : (n : ℕ) → ℕ → List ℕ → Text n → List Sibling → Pairs → Type 0
-Waiting n k key text siblings listed = (bytes : List ℕ) × Has n text bytes × Waits k key (tops siblings) text.front bytes listed
+abbrev pub Waiting : ℕ → List ℕ → Text → List Sibling → Pairs → Type 0
+Waiting k key text siblings listed = (bytes : List ℕ) × Has text bytes × Waits k key (tops siblings) text.front bytes listed
 
 -- the items from this one on are built
-abbrev pub BuiltFrom : (n : ℕ) → ℕ → ℕ → Pairs → Text n → List Sibling → Type 0
-BuiltFrom n k zero all text siblings = (bytes : List ℕ) × Has n text bytes × Lists simple_ascii bytes all × (stack_of all ≤ k)
-BuiltFrom n k (suc i) all text siblings = Waiting n k (slice_index_or all i ([], 0)).0 text siblings (drop (suc i) all)
+abbrev pub BuiltFrom : ℕ → ℕ → Pairs → Text → List Sibling → Type 0
+BuiltFrom k zero all text siblings = (bytes : List ℕ) × Has text bytes × Lists simple_ascii bytes all × (stack_of all ≤ k)
+BuiltFrom k (suc i) all text siblings = Waiting k (slice_index_or all i ([], 0)).0 text siblings (drop (suc i) all)
 
 -- The siblings at one depth were taken off the others, and made a branch in front of the text.
-pub record Joins (n depth : ℕ) (old new : Text n) (before after : List Sibling) : Type 0 where
+pub record Joins (depth : ℕ) (old new : Text) (before after : List Sibling) : Type 0 where
   pub taken : List Sibling
   pub split : before ≡ taken ++ after
   pub level : AllAt depth taken
   pub no_more : NoneAt depth after
   pub narrow : total (lens_of taken) < 2 ^ 32
-  pub has : (behind : List ℕ) → Has n old behind → Has n new (branch_front (bytes_of taken) (lens_of taken) ++ behind)
+  pub has : (behind : List ℕ) → Has old behind → Has new (branch_front (bytes_of taken) (lens_of taken) ++ behind)
   pub counts : Counts new.front (length (branch_front (bytes_of taken) (lens_of taken)) + total (lens_of taken))
 
 -- the siblings at one depth have texts of 2 ^ 32 bytes or more together
@@ -147,3 +147,11 @@ IsStuckBefore k before listed e =
 -- why the pairs are not all added
 abbrev pub IsStuck : ℕ → Pairs → ZeroTrieBuildError → Type 0
 IsStuck k all e = ((e ≡ CapacityExceeded) × ExceedsCapacity simple_ascii (map_of all)) ⊎ ((e ≡ StackExceeded) × (k < stack_of all))
+
+-- The text of the pairs, which ascend, was written at the end of the buffer, and so many bytes counted; a stack of k was enough.
+pub record IsWritten (k : ℕ) (pairs : Pairs) (buffer : List ℕ) (len : ℕ) : Type 0 where
+  pub bytes : List ℕ
+  pub ascends : Ascends pairs
+  pub lists : Lists simple_ascii bytes pairs
+  pub ends : EndsIn buffer len bytes
+  pub enough : stack_of pairs ≤ k

@@ -1,5 +1,5 @@
--- A text that is written from its last byte to its first into an array, which may be too small for it.
-use Rattle.std.specs.Prelude.{◌≡◌, ℕ, ◌+◌, ◌^◌, ◌<◌, ◌≤◌, List, ◌++◌, length, map, reverse, true, false}
+-- A text that is written from its last byte to its first into a buffer, which may be too small for it.
+use Rattle.std.specs.Prelude.{◌≡◌, ℕ, ◌+◌, ◌-◌, ◌^◌, ◌<◌, ◌≤◌, List, ◌++◌, length, map, drop, reverse}
 use Rattle.zerotrie_build.specs.declared.konst.text.Sibling.{Sibling}
 use Rattle.zerotrie_build.specs.declared.konst.text.Text.{Text}
 
@@ -8,14 +8,20 @@ pub record Counts (count n : ℕ) : Type 0 where
   pub small : count < 2 ^ 32 → count ≡ n
   pub large : 2 ^ 32 ≤ count → 2 ^ 32 ≤ n
 
--- The text has these bytes: the array of n bytes ends in them, or they are more than it holds.
-pub record Has (n : ℕ) (text : Text n) (bytes : List ℕ) : Type 0 where
-  pub whole : text.is_too_long ≡ false → text.array ≡ bytes
-  pub long : text.is_too_long ≡ true → n < length bytes
+-- The buffer ends in the bytes, if it has room for them, and their number is counted, as far as there are numbers.
+pub record EndsIn (buffer : List ℕ) (len : ℕ) (bytes : List ℕ) : Type 0 where
+  pub exact : length bytes < 2 ^ 64 → len ≡ length bytes
+  pub capped : 2 ^ 64 ≤ length bytes → 2 ^ 64 ≤ len + 1
+  pub written : length bytes ≤ length buffer → drop (length buffer - length bytes) buffer ≡ bytes
 
--- The bytes were put in front of a text in an array of n bytes, and counted.
-pub record Puts (n : ℕ) (old new : Text n) (bytes : List ℕ) : Type 0 where
-  pub has : (behind : List ℕ) → Has n old behind → Has n new (bytes ++ behind)
+-- the text has these bytes
+abbrev pub Has : Text → List ℕ → Type 0
+Has text bytes = EndsIn text.buffer.now text.len bytes
+
+-- The bytes were put in front of a text in the same buffer, and counted.
+pub record Puts (old new : Text) (bytes : List ℕ) : Type 0 where
+  pub same_reference : new.buffer.ghost_name ≡ old.buffer.ghost_name
+  pub has : (behind : List ℕ) → Has old behind → Has new (bytes ++ behind)
   pub counts : (front : ℕ) → Counts old.front front → Counts new.front (length bytes + front)
 
 -- the siblings, the last that was set aside first

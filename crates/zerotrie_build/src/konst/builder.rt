@@ -1,15 +1,14 @@
 //! The builder in an array.
 
-ghost use Rattle.std.specs.Prelude.{◌≡◌, ℕ, ◌<◌, ◌≤◌, ◌^◌, ◌↔◌, List, length, IsOk, IfOk, IfErr};
+ghost use Rattle.std.specs.Prelude.{◌≡◌, ℕ, ◌<◌, ◌≤◌, ◌^◌, ◌↔◌, List, length, drop, IsOk, IfOk, IfErr};
 ghost use Rattle.zerotrie_base.specs.declared.error.ZeroTrieBuildError.TheVariants.{BufferTooLarge};
 ghost use Rattle.zerotrie_core.specs.ArrayRoutes.{IsBuildWithin};
 ghost use Rattle.zerotrie_build.specs.Items.{pairs};
 
-use crate::konst::text::Text;
-use crate::konst::walk::grow;
+use crate::konst::fill::fill_from_end;
 use crate::slice_indices::ByteSliceWithIndices;
 use std::marker::Model;
-use zerotrie_core::{ZeroTrieBuildError, laws};
+use zerotrie_core::ZeroTrieBuildError;
 
 /// A builder of a trie over ASCII keys in an array of `N` bytes, which it fills from the end. It takes no
 /// memory.
@@ -22,13 +21,16 @@ use zerotrie_core::{ZeroTrieBuildError, laws};
 /// ```
 #[derive(Drop)]
 pub struct ZeroTrieBuilderConst<const N: usize> {
-    text: Text<N>,
+    data: [u8; N],
+    start: usize,
 }
 
 impl<const N: usize> Model for ZeroTrieBuilderConst<N> {
     ghost Value = { List ℕ };
 
-    ghost view = { λ b. b.text.array };
+    ghost view = { λ b. drop b.start b.«data» };
+
+    ghost invariant = { λ b. (b.start ≤ N) × (length b.«data» ≡ N) };
 }
 
 impl<const N: usize> ZeroTrieBuilderConst<N> {
@@ -43,35 +45,19 @@ impl<const N: usize> ZeroTrieBuilderConst<N> {
     }
 
     /// Builds the trie of the items, whose keys ascend strictly by their bytes, with a stack of `K`. The bytes
-    /// are the one text of the map of the items, and need not fill the array. It takes no memory.
-    ///
-    /// The text is written from its end, with the targets of a branch from the last to the first, so each
-    /// target waits for those before it. As many of them as wait at once the stack has to hold. `K` has to be
+    /// are the one text of the map of the items, and need not fill the array. It takes no memory. `K` has to be
     /// below 2^58, as a stack that fits a machine is.
     ///
-    /// A build is refused with `Unsorted`, `NonAsciiError`, `CapacityExceeded`, `BufferTooSmall` or
-    /// `StackExceeded`, each for the reason that `ZeroTrieBuildError` gives, and never if there is none.
+    /// It is `fill_from_end` over an array, which says how large the stack has to be, and is refused as that is.
     pub fn from_tuple_slice_with_stack<const K: usize>(
         items: ByteSliceWithIndices<'_>,
     ) -> Result<Self, ZeroTrieBuildError>
         requires { K < 2 ^ 58 }
         ensures { IsBuildWithin N K (λ bytes. bytes) (pairs items.entry) result }
     {
-        if !items.is_sorted() {
-            return Err(ZeroTrieBuildError::Unsorted);
-        }
-        if !items.is_all_ascii() {
-            return Err(ZeroTrieBuildError::NonAsciiError);
-        }
-        laws::canonical_exactly();
-        laws::meant_fits();
-        let text = grow::<N, K>(items)?;
-        if text.is_too_long {
-            return Err(ZeroTrieBuildError::BufferTooSmall);
-        }
-        // That the bytes lie in the array tells the proof how many they are at most.
-        let _bytes = text.array.as_bytes();
-        Ok(ZeroTrieBuilderConst { text })
+        let mut data = [0; N];
+        let start = fill_from_end::<K>(&mut data, items)?;
+        Ok(ZeroTrieBuilderConst { data, start })
     }
 
     /// The bytes of the trie, which may be fewer than the array has.
@@ -79,7 +65,8 @@ impl<const N: usize> ZeroTrieBuilderConst<N> {
         ensures value { result.now ≡ self.now }
         ensures within { length self.now ≤ N }
     {
-        self.text.array.as_bytes()
+        let all = &self.data[..];
+        &all[self.start..]
     }
 
     /// The array, which the bytes of the trie have to fill.
@@ -90,12 +77,9 @@ impl<const N: usize> ZeroTrieBuilderConst<N> {
         ensures bytes { IfOk result (λ array. array ≡ self.entry) }
         ensures refused { IfErr result (λ e. e ≡ BufferTooLarge (length self.entry)) }
     {
-        let ZeroTrieBuilderConst { text } = self;
-        let Text {
-            array,
-            is_too_long: _,
-            front: _,
-        } = text;
-        array.build()
+        if self.start > 0 {
+            return Err(ZeroTrieBuildError::BufferTooLarge(N - self.start));
+        }
+        Ok(self.data)
     }
 }

@@ -6,7 +6,6 @@ ghost use Rattle.zerotrie_core.specs.Branches.{total as total_of, ends, blocks, 
 ghost use Rattle.zerotrie_build.specs.passes.Writing.{with_bits};
 ghost use Rattle.zerotrie_build.specs.konst.Texts.{Puts, Counts, tops, bytes_of, lens_of};
 
-use crate::konst::array::FilledArray;
 use crate::measuring::width_of;
 use zerotrie_core::{write_varint_meta2, write_varint_meta3};
 
@@ -27,38 +26,39 @@ pub(crate) struct Sibling {
     pub(crate) len: usize,
 }
 
-/// A text in an array. Bytes for which the array has no room are counted and lost, so that a text is known
-/// to be too long only once all of it was written.
+/// A text at the end of a buffer. Bytes for which the buffer has no room are counted and lost, so that a text
+/// is known to be too long only once all of it was written.
 #[derive(Drop)]
-pub(crate) struct Text<const N: usize> {
-    pub(crate) array: FilledArray<N>,
-    /// Whether bytes were lost.
-    pub(crate) is_too_long: bool,
+pub(crate) struct Text<'a> {
+    pub(crate) buffer: &'a mut [u8],
+    /// How many bytes the text has, those that were lost too.
+    pub(crate) len: usize,
     /// How many bytes stand in front of the siblings.
     pub(crate) front: usize,
 }
 
-impl<const N: usize> Text<N> {
+impl Text<'_> {
     /// Puts a byte in front.
     fn put(&mut self, byte: u8)
-        ensures { Puts N self.old self.new (byte ∷ []) }
+        ensures { Puts self.old self.new (byte ∷ []) }
     {
-        if !self.array.push_front(byte) {
-            self.is_too_long = true;
+        self.len = self.len.saturating_add(1);
+        if let Some(place) = self.buffer.len().checked_sub(self.len) {
+            self.buffer[place] = byte;
         }
         self.front = self.front.saturating_add(1);
     }
 
     /// Puts a literal in front.
     pub(crate) fn put_literal(&mut self, byte: u8)
-        ensures { Puts N self.old self.new (byte ∷ []) }
+        ensures { Puts self.old self.new (byte ∷ []) }
     {
         self.put(byte);
     }
 
     /// Puts bytes in front.
     fn put_all(&mut self, bytes: &[u8])
-        ensures { Puts N self.old self.new bytes.now }
+        ensures { Puts self.old self.new bytes.now }
     {
         for index in (0..bytes.len()).rev() {
             self.put(bytes[index]);
@@ -68,7 +68,7 @@ impl<const N: usize> Text<N> {
     /// Puts a number in front, with these bits added to its lead.
     fn put_number(&mut self, bits: u8, number: &[u8])
         requires { bits + slice_index number.now 0 < 256 }
-        ensures { Puts N self.old self.new (with_bits bits number.now) }
+        ensures { Puts self.old self.new (with_bits bits number.now) }
     {
         if let Some((lead, trail)) = number.split_first() {
             self.put_all(trail);
@@ -78,7 +78,7 @@ impl<const N: usize> Text<N> {
 
     /// Puts a value node in front.
     pub(crate) fn put_value(&mut self, value: usize)
-        ensures puts { Puts N self.old self.new (spelled_as value_form value) }
+        ensures puts { Puts self.old self.new (spelled_as value_form value) }
         ensures spells { SpellsAs value_form value (spelled_as value_form value) }
     {
         self.put_number(VALUE, &write_varint_meta3(value));
@@ -88,7 +88,7 @@ impl<const N: usize> Text<N> {
     fn put_block(&mut self, siblings: &[Sibling], total: usize, place: usize)
         requires place { place < 8 }
         requires total { total ≡ total_of (lens_of (tops siblings.now)) }
-        ensures { Puts N self.old self.new
+        ensures { Puts self.old self.new
             (map (λ o. o / 256 ^ place % 256) (ends (lens_of (tops siblings.now)))) }
     {
         let mut end = total;
@@ -102,7 +102,7 @@ impl<const N: usize> Text<N> {
     fn put_offsets(&mut self, siblings: &[Sibling], total: usize, bytes: usize)
         requires bytes { bytes ≤ 8 }
         requires total { total ≡ total_of (lens_of (tops siblings.now)) }
-        ensures { Puts N self.old self.new (blocks bytes (ends (lens_of (tops siblings.now)))) }
+        ensures { Puts self.old self.new (blocks bytes (ends (lens_of (tops siblings.now)))) }
     {
         for place in 0..bytes {
             self.put_block(siblings, total, place);
@@ -111,7 +111,7 @@ impl<const N: usize> Text<N> {
 
     /// Puts the edges of a branch to these targets in front.
     fn put_edges(&mut self, siblings: &[Sibling])
-        ensures { Puts N self.old self.new (bytes_of (tops siblings.now)) }
+        ensures { Puts self.old self.new (bytes_of (tops siblings.now)) }
     {
         for sibling in siblings {
             self.put(sibling.byte);
@@ -122,7 +122,7 @@ impl<const N: usize> Text<N> {
     /// have `total` bytes.
     pub(crate) fn put_branch(&mut self, siblings: &[Sibling], total: usize)
         requires total { total ≡ total_of (lens_of (tops siblings.now)) }
-        ensures { Puts N self.old self.new
+        ensures { Puts self.old self.new
             (branch_front (bytes_of (tops siblings.now)) (lens_of (tops siblings.now))) }
     {
         let width = width_of(total);

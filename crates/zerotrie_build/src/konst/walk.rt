@@ -11,10 +11,9 @@ ghost use Rattle.zerotrie_core.specs.Stack.{stack_of};
 ghost use Rattle.zerotrie_core.specs.Causes.{CapacityExceeded, StackExceeded};
 ghost use Rattle.zerotrie_build.specs.Items.{pairs};
 ghost use Rattle.zerotrie_build.specs.Order.{Before, Ordered};
-ghost use Rattle.zerotrie_build.specs.konst.Texts.{Has, tops};
+ghost use Rattle.zerotrie_build.specs.konst.Texts.{EndsIn, tops};
 ghost use Rattle.zerotrie_build.specs.konst.Growing.{NoneAt, AllAt, Standing, Waiting, BuiltFrom, Joins, TooWide, IsStuckAt, IsStuckFrom, IsStuckBefore, IsStuck};
 
-use crate::konst::array::FilledArray;
 use crate::konst::text::{Sibling, Text, total};
 use crate::order::common_front_len;
 use crate::slice_indices::ByteSliceWithIndices;
@@ -22,8 +21,8 @@ use arrayvec::ArrayVec;
 use zerotrie_core::ZeroTrieBuildError;
 
 /// Sets the text in front aside as the target of a branch at this depth.
-fn set_aside<const N: usize, const K: usize>(
-    text: &mut Text<N>,
+fn set_aside<const K: usize>(
+    text: &mut Text<'_>,
     siblings: &mut ArrayVec<Sibling, K>,
     byte: u8,
     depth: usize,
@@ -32,8 +31,9 @@ fn set_aside<const N: usize, const K: usize>(
         ≡ record { depth = depth; byte = byte; len = text.old.front } ∷ tops siblings.old.items) }
     ensures room { OnOk result (length siblings.old.items < K) }
     ensures front { OnOk result (text.new.front ≡ 0) }
-    ensures array { OnOk result (text.new.array ≡ text.old.array) }
-    ensures too_long { OnOk result (text.new.is_too_long ≡ text.old.is_too_long) }
+    ensures bytes { OnOk result (text.new.buffer.now ≡ text.old.buffer.now) }
+    ensures len { OnOk result (text.new.len ≡ text.old.len) }
+    ensures same_reference { text.new.buffer.ghost_name ≡ text.old.buffer.ghost_name }
     ensures refused { IfErr result (λ e. (e ≡ StackExceeded) × (K ≤ length siblings.old.items)) }
 {
     if siblings.is_full() {
@@ -62,12 +62,13 @@ fn start_of<const K: usize>(siblings: &ArrayVec<Sibling, K>, depth: usize) -> us
 }
 
 /// Makes a branch of the siblings at this depth.
-fn join<const N: usize, const K: usize>(
-    text: &mut Text<N>,
+fn join<const K: usize>(
+    text: &mut Text<'_>,
     siblings: &mut ArrayVec<Sibling, K>,
     depth: usize,
 ) -> Result<(), ZeroTrieBuildError>
-    ensures joins { OnOk result (Joins N depth text.old text.new
+    ensures same_reference { text.new.buffer.ghost_name ≡ text.old.buffer.ghost_name }
+    ensures joins { OnOk result (Joins depth text.old text.new
         (tops siblings.old.items) (tops siblings.new.items)) }
     ensures refused { IfErr result (λ e. (e ≡ CapacityExceeded)
         × TooWide depth (tops siblings.old.items)) }
@@ -96,19 +97,20 @@ fn has_siblings_at<const K: usize>(siblings: &ArrayVec<Sibling, K>, depth: usize
 }
 
 /// Goes from the text of what lies under `depth + 1` bytes of the key to what lies under `depth`.
-fn close_level<const N: usize, const K: usize>(
-    text: &mut Text<N>,
+fn close_level<const K: usize>(
+    text: &mut Text<'_>,
     siblings: &mut ArrayVec<Sibling, K>,
     key: &[u8],
     depth: usize,
 ) -> Result<(), ZeroTrieBuildError>
     requires within { depth < length key.now }
     requires ascii { All (λ b. b < 128) key.now }
+    ensures same_reference { text.new.buffer.ghost_name ≡ text.old.buffer.ghost_name }
     ensures closed { OnOk result ((listed : Pairs)
-        → Standing N K key.now (suc depth) text.old siblings.old.items listed
-        → Standing N K key.now depth text.new siblings.new.items listed) }
+        → Standing K key.now (suc depth) text.old siblings.old.items listed
+        → Standing K key.now depth text.new siblings.new.items listed) }
     ensures refused { IfErr result (λ e. (listed : Pairs)
-        → Standing N K key.now (suc depth) text.old siblings.old.items listed
+        → Standing K key.now (suc depth) text.old siblings.old.items listed
         → IsStuckAt K key.now depth listed e) }
 {
     if has_siblings_at(siblings, depth) {
@@ -120,19 +122,20 @@ fn close_level<const N: usize, const K: usize>(
 }
 
 /// Goes from the text of the whole key to what lies under its first `stop` bytes.
-fn close_to<const N: usize, const K: usize>(
-    text: &mut Text<N>,
+fn close_to<const K: usize>(
+    text: &mut Text<'_>,
     siblings: &mut ArrayVec<Sibling, K>,
     key: &[u8],
     stop: usize,
 ) -> Result<(), ZeroTrieBuildError>
     requires within { stop ≤ length key.now }
     requires ascii { All (λ b. b < 128) key.now }
+    ensures same_reference { text.new.buffer.ghost_name ≡ text.old.buffer.ghost_name }
     ensures closed { OnOk result ((listed : Pairs)
-        → Standing N K key.now (length key.now) text.old siblings.old.items listed
-        → Standing N K key.now stop text.new siblings.new.items listed) }
+        → Standing K key.now (length key.now) text.old siblings.old.items listed
+        → Standing K key.now stop text.new siblings.new.items listed) }
     ensures refused { IfErr result (λ e. (listed : Pairs)
-        → Standing N K key.now (length key.now) text.old siblings.old.items listed
+        → Standing K key.now (length key.now) text.old siblings.old.items listed
         → IsStuckFrom K key.now stop listed e) }
 {
     let mut depth = key.len();
@@ -144,19 +147,20 @@ fn close_to<const N: usize, const K: usize>(
 }
 
 /// Goes from the text of the whole key to where the key before it is added.
-fn go_before<const N: usize, const K: usize>(
-    text: &mut Text<N>,
+fn go_before<const K: usize>(
+    text: &mut Text<'_>,
     siblings: &mut ArrayVec<Sibling, K>,
     before: &[u8],
     key: &[u8],
 ) -> Result<(), ZeroTrieBuildError>
     requires sorted { Before simple_ascii before.now key.now }
     requires ascii { All (λ b. b < 128) key.now }
+    ensures same_reference { text.new.buffer.ghost_name ≡ text.old.buffer.ghost_name }
     ensures waits { OnOk result ((listed : Pairs)
-        → Standing N K key.now (length key.now) text.old siblings.old.items listed
-        → Waiting N K before.now text.new siblings.new.items listed) }
+        → Standing K key.now (length key.now) text.old siblings.old.items listed
+        → Waiting K before.now text.new siblings.new.items listed) }
     ensures refused { IfErr result (λ e. (listed : Pairs)
-        → Standing N K key.now (length key.now) text.old siblings.old.items listed
+        → Standing K key.now (length key.now) text.old siblings.old.items listed
         → IsStuckBefore K before.now listed e) }
 {
     let common = common_front_len(before, key);
@@ -168,8 +172,8 @@ fn go_before<const N: usize, const K: usize>(
 }
 
 /// Adds the item of this number, behind which all items are added.
-fn add<const N: usize, const K: usize>(
-    text: &mut Text<N>,
+fn add<const K: usize>(
+    text: &mut Text<'_>,
     siblings: &mut ArrayVec<Sibling, K>,
     items: ByteSliceWithIndices<'_>,
     index: usize,
@@ -177,8 +181,9 @@ fn add<const N: usize, const K: usize>(
     requires within { index < length (pairs items) }
     requires sorted { Ordered simple_ascii (pairs items) }
     requires ascii { All (λ e. All (λ b. b < 128) e.0) (pairs items) }
-    requires built { BuiltFrom N K (suc index) (pairs items) text.old siblings.old.items }
-    ensures built { OnOk result (BuiltFrom N K index (pairs items.entry) text.new siblings.new.items) }
+    requires built { BuiltFrom K (suc index) (pairs items) text.old siblings.old.items }
+    ensures same_reference { text.new.buffer.ghost_name ≡ text.old.buffer.ghost_name }
+    ensures built { OnOk result (BuiltFrom K index (pairs items.entry) text.new siblings.new.items) }
     ensures refused { IfErr result (IsStuck K (pairs items.entry)) }
 {
     let (key, value) = items.get(index);
@@ -190,21 +195,23 @@ fn add<const N: usize, const K: usize>(
     go_before(text, siblings, before, key)
 }
 
-/// The text of the trie of the items.
-pub(crate) fn grow<const N: usize, const K: usize>(
+/// Writes the text of the trie of the items at the end of the buffer, if it has room for it, and answers how
+/// many bytes the text has, or the greatest number where it has more.
+pub(crate) fn grow<const K: usize>(
+    buffer: &mut [u8],
     items: ByteSliceWithIndices<'_>,
-) -> Result<Text<N>, ZeroTrieBuildError>
+) -> Result<usize, ZeroTrieBuildError>
     requires capacity { K < 2 ^ 58 }
     requires sorted { Ordered simple_ascii (pairs items) }
     requires ascii { All (λ e. All (λ b. b < 128) e.0) (pairs items) }
-    ensures grown { IfOk result (λ text. (bytes : List ℕ) × Has N text bytes
+    ensures grown { IfOk result (λ len. (bytes : List ℕ) × EndsIn buffer.new len bytes
         × Lists simple_ascii bytes (pairs items.entry)) }
-    ensures within { IfOk result (λ text. stack_of (pairs items.entry) ≤ K) }
+    ensures within { IfOk result (λ len. stack_of (pairs items.entry) ≤ K) }
     ensures refused { IfErr result (IsStuck K (pairs items.entry)) }
 {
     let mut text = Text {
-        array: FilledArray::new(),
-        is_too_long: false,
+        buffer,
+        len: 0,
         front: 0,
     };
     let mut siblings: ArrayVec<Sibling, K> = ArrayVec::new();
@@ -213,5 +220,5 @@ pub(crate) fn grow<const N: usize, const K: usize>(
         index -= 1;
         add(&mut text, &mut siblings, items, index)?;
     }
-    Ok(text)
+    Ok(text.len)
 }

@@ -11,8 +11,8 @@ pub returns-then-common-before-clause-waits : goal.returns-then-common-before-cl
 returns-then-common-before-clause-waits g c =
     let e = c.common_front_len-common.ensures in
     on_ok_weaker c.close_to.result (λ closed. λ listed standing.
-    goes_before g.row.N g.row.K c.args.before.now c.args.key.now c.close_to.new.text c.close_to.new.siblings.items listed c.requires.sorted (sym e ∙ c.if-common-before.true)
-    (subst (λ d. Standing g.row.N g.row.K c.args.key.now d c.close_to.new.text c.close_to.new.siblings.items listed) e (closed listed standing))) c.close_to.ensures.closed
+    goes_before g.row.K c.args.before.now c.args.key.now c.close_to.new.text c.close_to.new.siblings.items listed c.requires.sorted (sym e ∙ c.if-common-before.true)
+    (subst (λ d. Standing g.row.K c.args.key.now d c.close_to.new.text c.close_to.new.siblings.items listed) e (closed listed standing))) c.close_to.ensures.closed
 
 pub returns-then-common-before-clause-refused : goal.returns-then-common-before-clause-refused
 returns-then-common-before-clause-refused g c =
@@ -36,14 +36,14 @@ close_to-requires g c =
     let p = parted c.args.before.now c.args.key.now c.requires.sorted in
     let r = p.room in
     let e = c.common_front_len-common.ensures in
-    (search rules, (search rules, (omega arith, c.requires.ascii)))
+    (search rules, (omega arith, c.requires.ascii))
 
 pub close_to-requires-2 : goal.close_to-requires-2
 close_to-requires-2 g c =
     let p = parted c.args.before.now c.args.key.now c.requires.sorted in
     let r = p.room in
     let e = c.common_front_len-common.ensures in
-    (search rules, (search rules, (omega arith, c.requires.ascii)))
+    (search rules, (omega arith, c.requires.ascii))
 
 pub returns-in_err-close_to-clause-refused : goal.returns-in_err-close_to-clause-refused
 returns-in_err-close_to-clause-refused g c =
@@ -70,11 +70,11 @@ returns-clause-waits g c =
     let r : common c.args.before.now c.args.key.now ≡ c.common_front_len-common.result = sym e in
     let longer : common c.args.before.now c.args.key.now < length c.args.before.now = omega arith in
     let next : c.common_front_len-common.result + 1 ≡ suc (common c.args.before.now c.args.key.now) = omega arith in
-    let six = on_ok_both _ _ c.set_aside.result s.aside (on_ok_both _ _ c.set_aside.result s.room (on_ok_both _ _ c.set_aside.result s.front (on_ok_both _ _ c.set_aside.result s.array s.too_long))) in
+    let six = on_ok_both _ _ c.set_aside.result s.aside (on_ok_both _ _ c.set_aside.result s.room (on_ok_both _ _ c.set_aside.result s.front (on_ok_both _ _ c.set_aside.result s.bytes s.len))) in
     on_ok_weaker c.set_aside.result (λ all. λ listed standing.
-    parts_before g.row.N g.row.K c.args.before.now c.args.key.now c.close_to-2.new.text c.set_aside.new.text c.close_to-2.new.siblings.items c.set_aside.new.siblings.items listed
+    parts_before g.row.K c.args.before.now c.args.key.now c.close_to-2.new.text c.set_aside.new.text c.close_to-2.new.siblings.items c.set_aside.new.siblings.items listed
     c.requires.sorted c.requires.ascii longer all.1.0 (all.0 ∙ ap (λ x. record { depth = x; byte = get_or c.args.key.now x 0; len = c.close_to-2.new.text.front } ∷ tops c.close_to-2.new.siblings.items) e) all.1.1.0 all.1.1.1.0 all.1.1.1.1
-    (subst (λ d. Standing g.row.N g.row.K c.args.key.now d c.close_to-2.new.text c.close_to-2.new.siblings.items listed) next (c.in_ok-close_to.ensures.closed listed standing))) six
+    (subst (λ d. Standing g.row.K c.args.key.now d c.close_to-2.new.text c.close_to-2.new.siblings.items listed) next (c.in_ok-close_to.ensures.closed listed standing))) six
 
 pub returns-clause-refused : goal.returns-clause-refused
 returns-clause-refused g c =
@@ -86,5 +86,5 @@ returns-clause-refused g c =
     let longer : common c.args.before.now c.args.key.now < length c.args.before.now = omega arith in
     let next : c.common_front_len-common.result + 1 ≡ suc (common c.args.before.now c.args.key.now) = omega arith in
     IfErr-weaker c.set_aside.result _ _ (λ error refused. λ listed standing.
-    stuck_before g.row.N g.row.K c.args.before.now c.args.key.now c.close_to-2.new.text c.close_to-2.new.siblings.items listed error c.requires.sorted c.requires.ascii longer refused.1 refused.0
-    (subst (λ d. Standing g.row.N g.row.K c.args.key.now d c.close_to-2.new.text c.close_to-2.new.siblings.items listed) next (c.in_ok-close_to.ensures.closed listed standing))) c.set_aside.ensures.refused
+    stuck_before g.row.K c.args.before.now c.args.key.now c.close_to-2.new.text c.close_to-2.new.siblings.items listed error c.requires.sorted c.requires.ascii longer refused.1 refused.0
+    (subst (λ d. Standing g.row.K c.args.key.now d c.close_to-2.new.text c.close_to-2.new.siblings.items listed) next (c.in_ok-close_to.ensures.closed listed standing))) c.set_aside.ensures.refused

@@ -13,5 +13,5 @@ returns-clause-joins g c =
     let e = c.start_of-start.ensures in
     let t = c.total-total.ensures in
     let exact = sum_exact _ _ t.exact t.capped (let f = c.if-total.false in omega arith) in
-    joins_at g.row.N c.args.depth c.args.text.now _ c.put_branch.new.self c.args.siblings.now.items _ c.truncate.new.self.items c.start_of-start.result (to_end c.as_slice.result.now c.start_of-start.result ∙ ap (drop c.start_of-start.result) c.as_slice.ensures.value) c.truncate.ensures.items e.level e.no_more
+    joins_at c.args.depth c.args.text.now _ c.put_branch.new.self c.args.siblings.now.items _ c.truncate.new.self.items c.start_of-start.result (to_end c.as_slice.result.now c.start_of-start.result ∙ ap (drop c.start_of-start.result) c.as_slice.ensures.value) c.truncate.ensures.items e.level e.no_more
     refl refl exact (let f = c.if-total.false in omega (arith, exact)) c.put_branch.ensures

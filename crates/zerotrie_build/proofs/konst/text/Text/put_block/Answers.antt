@@ -8,18 +8,18 @@ use Rattle.zerotrie_build.proofs.ArrayText.{puts_then, puts_same, puts_nothing, 
 use Rattle.zerotrie_build.proofs.konst.text.Text.put_block.Goals as goal
 
 pub loop-index-init : goal.loop-index-init
-loop-index-init g c =
+loop-index-init c =
     let ss = c.args.siblings.now in
     let ls = lens_of (tops ss) in
     let whole : take (length ss - 0) ls ≡ ls = ap (λ n. take n ls) (let k = length-lens ss in let e : length ss - 0 ≡ length ls = omega arith in e) ∙ take-length ls in
     record {
       end = c.requires.total ∙ ap total_of (sym whole);
-      puts = puts_nothing g.row.N c.args.self.now;
+      puts = puts_nothing c.args.self.now;
       in_range = omega arith;
     }
 
 pub overflow_sub-end-in-loop-index : goal.overflow_sub-end-in-loop-index
-overflow_sub-end-in-loop-index g c =
+overflow_sub-end-in-loop-index c =
     let ss = c.args.siblings.now in
     let i = c.loop-index.index in
     let t = c.loop-index-test.true in
@@ -28,7 +28,7 @@ overflow_sub-end-in-loop-index g c =
     omega arith
 
 pub loop-index-preserved : goal.loop-index-preserved
-loop-index-preserved g c =
+loop-index-preserved c =
     let ss = c.args.siblings.now in
     let ls = lens_of (tops ss) in
     let i = c.loop-index.index in
@@ -41,16 +41,16 @@ loop-index-preserved g c =
     let back : i ≡ i + 1 - 1 = omega arith in
     record {
       end = now ∙ ap (λ k. total_of (take (length ss - k) ls)) back;
-      puts = puts_same g.row.N _ _ _ _
+      puts = puts_same _ _ _ _
           (ap (λ x. x ∷ map f (map (λ j. total_of (take j ls)) (range_with_len (length ss - (i - 1)) (i - 1)))) (ap (λ x. x % 256) (shifted (c.loop-index.end - s.len) c.args.place) ∙ ap f now)
           ∙ block_more (λ j. total_of (take j ls)) f (length ss) i u t
           ∙ ap (λ k. map f (map (λ j. total_of (take j ls)) (range_with_len (length ss - k) k))) back)
-          (puts_then g.row.N _ _ _ _ _ c.loop-index.invariant.puts c.put.ensures);
+          (puts_then _ _ _ _ _ c.loop-index.invariant.puts c.put.ensures);
       in_range = omega arith;
     }
 
 pub returns : goal.returns
-returns g c =
+returns c =
     let ss = c.args.siblings.now in
     let ls = lens_of (tops ss) in
     let i = c.loop-index.index in
@@ -61,4 +61,4 @@ returns g c =
     let t = c.loop-index-test.false in
     let u = c.loop-index.auto.index in
     let count : i - 1 ≡ length ls - 1 = omega arith in
-    puts_same g.row.N _ _ _ _ (all_blocks f (λ j. total_of (take j ls)) (length ss) (i - 1) (length ls - 1) count (omega arith)) v.puts
+    puts_same _ _ _ _ (all_blocks f (λ j. total_of (take j ls)) (length ss) (i - 1) (length ls - 1) count (omega arith)) v.puts

@@ -1,4 +1,4 @@
-use Rattle.std.proofs.Common.{◌≡◌, ◌≤◌, ◌+◌, ◌*◌, ◌%◌, ◌^◌, refl, ap, inr, ◌∙◌, arith, subst, length, rules}
+use Rattle.std.proofs.Common.{◌≡◌, ◌≤◌, ◌+◌, ◌*◌, ◌%◌, ◌^◌, refl, ap, inr, ◌∙◌, arith, subst, length}
 use Rattle.zerotrie_core.specs.Numbers.{branch_form}
 use Rattle.zerotrie_core.specs.Branches.{IsWidth}
 use Rattle.zerotrie_build.specs.passes.Writing.{with_bits}
@@ -8,24 +8,24 @@ use Rattle.zerotrie_build.proofs.ArrayText.{puts_then, puts_same, length-lens}
 use Rattle.zerotrie_build.proofs.konst.text.Text.put_branch.Goals as goal
 
 pub overflow_add-width : goal.overflow_add-width
-overflow_add-width g c = let l : c.width_of-width.result ≤ 7 = c.width_of-width.ensures.least 7 (let p : 256 ^ (7 + 1) ≡ 2 ^ 64 = refl in omega (arith, c.ranges.total)) in record { fits = omega arith }
+overflow_add-width c = let l : c.width_of-width.result ≤ 7 = c.width_of-width.ensures.least 7 (let p : 256 ^ (7 + 1) ≡ 2 ^ 64 = refl in omega (arith, c.ranges.total)) in record { fits = omega arith }
 
 pub put_offsets-requires : goal.put_offsets-requires
-put_offsets-requires g c = let l : c.width_of-width.result ≤ 7 = c.width_of-width.ensures.least 7 (let p : 256 ^ (7 + 1) ≡ 2 ^ 64 = refl in omega (arith, c.ranges.total)) in (search rules, (omega arith, c.requires.total))
+put_offsets-requires c = let l : c.width_of-width.result ≤ 7 = c.width_of-width.ensures.least 7 (let p : 256 ^ (7 + 1) ≡ 2 ^ 64 = refl in omega (arith, c.ranges.total)) in record { bytes = omega arith; total = c.requires.total }
 
 pub overflow_mul-width : goal.overflow_mul-width
-overflow_mul-width g c = let l : c.width_of-width.result ≤ 7 = c.width_of-width.ensures.least 7 (let p : 256 ^ (7 + 1) ≡ 2 ^ 64 = refl in omega (arith, c.ranges.total)) in record { fits = omega arith }
+overflow_mul-width c = let l : c.width_of-width.result ≤ 7 = c.width_of-width.ensures.least 7 (let p : 256 ^ (7 + 1) ≡ 2 ^ 64 = refl in omega (arith, c.ranges.total)) in record { fits = omega arith }
 
 pub overflow_add-width-2 : goal.overflow_add-width-2
-overflow_add-width-2 g c = let l : c.width_of-width.result ≤ 7 = c.width_of-width.ensures.least 7 (let p : 256 ^ (7 + 1) ≡ 2 ^ 64 = refl in omega (arith, c.ranges.total)) in record { fits = omega arith }
+overflow_add-width-2 c = let l : c.width_of-width.result ≤ 7 = c.width_of-width.ensures.least 7 (let p : 256 ^ (7 + 1) ≡ 2 ^ 64 = refl in omega (arith, c.ranges.total)) in record { fits = omega arith }
 
 pub returns : goal.returns
-returns g c =
+returns c =
     let ss = c.args.siblings.now in
     let lens = lens_of (tops ss) in
     let table = bytes_of (tops ss) in
     let w = c.width_of-width.result in
     let n = length ss in
     let x = ap (with_bits 192) c.deref.ensures.0 ∙ number_is branch_form (256 * w + n % 256) 192 c.write_varint_meta2.result.items (inr refl) refl c.write_varint_meta2.ensures in
-    puts_same g.row.N _ _ _ _ (front_is table lens w n (subst (λ t. IsWidth t w) c.requires.total c.width_of-width.ensures) (length-lens ss))
-    (puts_then g.row.N _ _ _ _ _ (puts_then g.row.N _ _ _ _ _ c.put_offsets.ensures c.put_edges.ensures) (puts_same g.row.N _ _ _ _ x c.put_number.ensures))
+    puts_same _ _ _ _ (front_is table lens w n (subst (λ t. IsWidth t w) c.requires.total c.width_of-width.ensures) (length-lens ss))
+    (puts_then _ _ _ _ _ (puts_then _ _ _ _ _ c.put_offsets.ensures c.put_edges.ensures) (puts_same _ _ _ _ x c.put_number.ensures))

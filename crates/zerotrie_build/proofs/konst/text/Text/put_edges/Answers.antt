@@ -2,6 +2,6 @@ use Rattle.zerotrie_build.proofs.ArrayText.{puts_then, puts_same, edges_take}
 use Rattle.zerotrie_build.proofs.konst.text.Text.put_edges.Goals as goal
 
 pub loop-sibling-preserved : goal.loop-sibling-preserved
-loop-sibling-preserved g c =
-    puts_same g.row.N _ _ _ _ (edges_take c.args.siblings.now c.loop-sibling.sibling-index (record { depth = 0; byte = 0; len = 0 }) c.loop-sibling-test.true)
-    (puts_then g.row.N _ _ _ _ _ c.loop-sibling.invariant c.put.ensures)
+loop-sibling-preserved c =
+    puts_same _ _ _ _ (edges_take c.args.siblings.now c.loop-sibling.sibling-index (record { depth = 0; byte = 0; len = 0 }) c.loop-sibling-test.true)
+    (puts_then _ _ _ _ _ c.loop-sibling.invariant c.put.ensures)

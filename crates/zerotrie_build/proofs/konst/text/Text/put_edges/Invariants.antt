@@ -3,4 +3,4 @@ use Rattle.zerotrie_build.specs.konst.Texts.{Puts, tops, bytes_of}
 use Rattle.zerotrie_build.proofs.konst.text.Text.put_edges.Given as goal
 
 abbrev pub invariant-loop-sibling : goal.invariant-loop-sibling
-invariant-loop-sibling g l = Puts g.row.N l.initial.self l.self (bytes_of (tops (take l.sibling-index l.siblings)))
+invariant-loop-sibling l = Puts l.initial.self l.self (bytes_of (tops (take l.sibling-index l.siblings)))

@@ -5,6 +5,6 @@ use Rattle.zerotrie_build.proofs.ArrayText.{puts_then, puts_same}
 use Rattle.zerotrie_build.proofs.konst.text.Text.put_offsets.Goals as goal
 
 pub loop-place-preserved : goal.loop-place-preserved
-loop-place-preserved g c =
+loop-place-preserved c =
     let next : suc c.loop-place.place ≡ c.loop-place.place + 1 = omega arith in
-    puts_same g.row.N _ _ _ _ (ap (λ p. blocks p (ends (lens_of (tops c.args.siblings.now)))) next) (puts_then g.row.N _ _ _ _ _ c.loop-place.invariant c.put_block.ensures)
+    puts_same _ _ _ _ (ap (λ p. blocks p (ends (lens_of (tops c.args.siblings.now)))) next) (puts_then _ _ _ _ _ c.loop-place.invariant c.put_block.ensures)

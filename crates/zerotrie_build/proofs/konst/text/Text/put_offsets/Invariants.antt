@@ -3,4 +3,4 @@ use Rattle.zerotrie_build.specs.konst.Texts.{Puts, tops, lens_of}
 use Rattle.zerotrie_build.proofs.konst.text.Text.put_offsets.Given as goal
 
 abbrev pub invariant-loop-place : goal.invariant-loop-place
-invariant-loop-place g l = Puts g.row.N l.initial.self l.self (blocks l.place (ends (lens_of (tops l.siblings))))
+invariant-loop-place l = Puts l.initial.self l.self (blocks l.place (ends (lens_of (tops l.siblings))))

@@ -7,8 +7,8 @@ use Rattle.zerotrie_build.proofs.ArrayText.{puts_same}
 use Rattle.zerotrie_build.proofs.konst.text.Text.put_value.Goals as goal
 
 pub returns-clause-puts : goal.returns-clause-puts
-returns-clause-puts g c =
-    puts_same g.row.N _ _ _ _ (ap (with_bits 128) c.deref.ensures.0 ∙ number_is value_form c.args.value 128 c.write_varint_meta3.result.items (inl refl) refl c.write_varint_meta3.ensures) c.put_number.ensures
+returns-clause-puts c =
+    puts_same _ _ _ _ (ap (with_bits 128) c.deref.ensures.0 ∙ number_is value_form c.args.value 128 c.write_varint_meta3.result.items (inl refl) refl c.write_varint_meta3.ensures) c.put_number.ensures
 
 pub returns-clause-spells : goal.returns-clause-spells
-returns-clause-spells g c = spells_spelled 16 4 c.args.value c.write_varint_meta3.ensures.below (inl refl)
+returns-clause-spells c = spells_spelled 16 4 c.args.value c.write_varint_meta3.ensures.below (inl refl)
