@@ -7,7 +7,7 @@ ghost use Rattle.zerotrie_build.specs.Items.{pairs};
 
 use crate::ascii_trie::{AsciiTrie, ZeroTrieSimpleAscii};
 use std::alloc::Global;
-use zerotrie_build::{ByteSliceWithIndices, ZeroTrieBuilderConst};
+use zerotrie_build::{ByteSliceWithIndices, bytes_within, fill_from_end};
 use zerotrie_core::{ZeroTrieBuildError, laws};
 
 impl<const N: usize> ZeroTrieSimpleAscii<[u8; N]> {
@@ -16,15 +16,13 @@ impl<const N: usize> ZeroTrieSimpleAscii<[u8; N]> {
     ///
     /// It is `from_sorted_u8_tuples_with_stack` with room for 100 targets that wait for their branch.
     pub fn from_sorted_u8_tuples(items: &[(&[u8], usize)]) -> Result<Self, ZeroTrieBuildError>
-        requires { N < 2 ^ 62 }
         ensures { IsArrayBuild N 100 (λ trie. trie.store) (pairs_of items.now) result }
     {
         Self::from_sorted_u8_tuples_with_stack::<100>(items)
     }
 
     /// Builds the trie of a slice, whose keys ascend strictly by their bytes, in an array that it fills, with
-    /// a stack of `K`. It takes no memory. `N` has to be below 2^62 and `K` below 2^58, as an array and a
-    /// stack that fit a machine are.
+    /// a stack of `K`. It takes no memory. `K` has to be below 2^58, as a stack that fits a machine is.
     ///
     /// ```
     /// let items: [(&[u8], usize); 2] = [(b"ad", 22), (b"adef", 33)];
@@ -39,8 +37,7 @@ impl<const N: usize> ZeroTrieSimpleAscii<[u8; N]> {
     pub fn from_sorted_u8_tuples_with_stack<const K: usize>(
         items: &[(&[u8], usize)],
     ) -> Result<Self, ZeroTrieBuildError>
-        requires array { N < 2 ^ 62 }
-        requires stack { K < 2 ^ 58 }
+        requires { K < 2 ^ 58 }
         ensures { IsArrayBuild N K (λ trie. trie.store) (pairs_of items.now) result }
     {
         fill::<N, K>(ByteSliceWithIndices::from_byte_slice(items))
@@ -48,7 +45,6 @@ impl<const N: usize> ZeroTrieSimpleAscii<[u8; N]> {
 
     /// Builds the trie of a slice as `from_sorted_u8_tuples`, with keys that are text.
     pub fn from_sorted_str_tuples(items: &[(&str, usize)]) -> Result<Self, ZeroTrieBuildError>
-        requires { N < 2 ^ 62 }
         ensures { IsArrayBuild N 100 (λ trie. trie.store) (pairs_of items.now) result }
     {
         Self::from_sorted_str_tuples_with_stack::<100>(items)
@@ -58,8 +54,7 @@ impl<const N: usize> ZeroTrieSimpleAscii<[u8; N]> {
     pub fn from_sorted_str_tuples_with_stack<const K: usize>(
         items: &[(&str, usize)],
     ) -> Result<Self, ZeroTrieBuildError>
-        requires array { N < 2 ^ 62 }
-        requires stack { K < 2 ^ 58 }
+        requires { K < 2 ^ 58 }
         ensures { IsArrayBuild N K (λ trie. trie.store) (pairs_of items.now) result }
     {
         fill::<N, K>(ByteSliceWithIndices::from_str_slice(items))
@@ -67,8 +62,8 @@ impl<const N: usize> ZeroTrieSimpleAscii<[u8; N]> {
 }
 
 impl ZeroTrieSimpleAscii<Vec<u8>> {
-    /// Builds the trie of a slice, whose keys ascend strictly by their bytes, in an array of 10,000 bytes and
-    /// with a stack of 100, and copies its bytes.
+    /// Builds the trie of a slice, whose keys ascend strictly by their bytes, with a stack of 100. It may have
+    /// 10,000 bytes.
     ///
     /// It is `try_from_sorted_slice_sized` with these numbers.
     pub fn try_from_sorted_slice_with_const_builder(
@@ -80,9 +75,9 @@ impl ZeroTrieSimpleAscii<Vec<u8>> {
         Self::try_from_sorted_slice_sized::<10000, 100>(alloc, items)
     }
 
-    /// Builds the trie of a slice, whose keys ascend strictly by their bytes, in an array of `N` bytes, which
-    /// need not be full, and with a stack of `K`, and copies its bytes. `N` has to be below 2^62 and `K` below
-    /// 2^58, as an array and a stack that fit a machine are.
+    /// Builds the trie of a slice, whose keys ascend strictly by their bytes, with a stack of `K`. It may have
+    /// `N` bytes, and takes memory for as many as it has. `K` has to be below 2^58, as a stack that fits a
+    /// machine is.
     ///
     /// ```
     /// let items: [(&[u8], usize); 2] = [(b"ad", 22), (b"adef", 33)];
@@ -96,13 +91,11 @@ impl ZeroTrieSimpleAscii<Vec<u8>> {
         alloc: Global,
         items: &[(&[u8], usize)],
     ) -> Result<Self, ZeroTrieBuildError>
-        requires array { N < 2 ^ 62 }
-        requires stack { K < 2 ^ 58 }
+        requires { K < 2 ^ 58 }
         ensures { IsBuildCopied N K (λ trie. trie.store.items) (pairs_of items.now) result }
     {
         let items = ByteSliceWithIndices::from_byte_slice(items);
-        let built = ZeroTrieBuilderConst::<N>::from_tuple_slice_with_stack::<K>(items)?;
-        let store = Vec::from_slice(alloc, built.as_bytes())?;
+        let store = bytes_within::<K>(alloc, N, items)?;
         Ok(AsciiTrie::from_store(store))
     }
 }
@@ -111,12 +104,14 @@ impl ZeroTrieSimpleAscii<Vec<u8>> {
 fn fill<const N: usize, const K: usize>(
     items: ByteSliceWithIndices<'_>,
 ) -> Result<ZeroTrieSimpleAscii<[u8; N]>, ZeroTrieBuildError>
-    requires array { N < 2 ^ 62 }
-    requires stack { K < 2 ^ 58 }
+    requires { K < 2 ^ 58 }
     ensures { IsArrayBuild N K (λ trie. trie.store) (pairs items.entry) result }
 {
     laws::length_is_size();
-    let built = ZeroTrieBuilderConst::<N>::from_tuple_slice_with_stack::<K>(items)?;
-    let store = built.build()?;
-    Ok(AsciiTrie::from_store(store))
+    let mut bytes = [0; N];
+    let start = fill_from_end::<K>(&mut bytes, items)?;
+    if start > 0 {
+        return Err(ZeroTrieBuildError::BufferTooLarge(N - start));
+    }
+    Ok(AsciiTrie::from_store(bytes))
 }

@@ -1,26 +1,31 @@
-use Rattle.std.proofs.Common.{◌≡◌, ◌∙◌, ◌<◌, ◌^◌, length, arith, refl, sym, ap, subst}
-use Rattle.std.proofs.lemmas.Result.{err_from_is_err_and}
+use Rattle.std.proofs.Common.{◌≡◌, ◌∙◌, ◌-◌, ◌≤◌, drop, length, arith, sym, ap, subst}
+use Rattle.std.proofs.lemmas.List.{length-drop, length-replicate}
 use Rattle.zerotrie_core.specs.Kind.{simple_ascii}
 use Rattle.zerotrie_core.specs.Maps.{map_of}
-use Rattle.zerotrie_core.specs.ArrayRoutes.{ArrayCause, IsArrayBuilt}
+use Rattle.zerotrie_core.specs.Canonical.{size}
+use Rattle.zerotrie_core.specs.ArrayRoutes.{IsArrayBuilt}
 use Rattle.zerotrie_core.proofs.CallerLemmas.{ascends_apart}
 use Rattle.zerotrie_build.specs.Items.{pairs}
 use Rattle.zerotrie_ascii.proofs.array.fill.Goals as goal
 
-pub returns-in_err-store : goal.returns-in_err-store
-returns-in_err-store g c =
+pub returns-then-start-gt0 : goal.returns-then-start-gt0
+returns-then-start-gt0 g c =
     let all = pairs c.args.items in
-    let built = c.in_ok-built.ensures in
-    let size = c.length_is_size.ensures simple_ascii _ (map_of all) built.0.built.means in
-    let other : length c.in_ok-built.built ≡ g.row.N → ⊥ = λ e. let z = c.in_err-store.ensures.full.1 e in cc in
-    let below : length c.in_ok-built.built < g.row.N = let within = built.1 in omega (arith, other) in
-    let q = err_from_is_err_and c.from_residual-in_err-store.result c.from_residual-in_err-store.ensures.1 in
-    rw (q.1, q.2) (subst (ArrayCause g.row.N g.row.K all) (sym c.in_err-store.ensures.refused) (ascends_apart all built.0.ascends, built.0.built.fits, size, below))
+    let bytes = c.fill_from_end.new.buffer in
+    let start = c.in_ok-start.start in
+    let built = c.in_ok-start.ensures.build.0 in
+    let full : length bytes ≡ g.row.N = c.fill_from_end.auto.buffer ∙ length-replicate g.row.N 0 in
+    let within : start ≤ g.row.N = subst (λ n. start ≤ n) (length-replicate g.row.N 0) c.in_ok-start.ensures.within in
+    let left : length (drop start bytes) ≡ g.row.N - start = length-drop start bytes ∙ ap (λ n. n - start) full in
+    let needed : g.row.N - start ≡ size simple_ascii (map_of all) = sym left ∙ c.length_is_size.ensures simple_ascii _ (map_of all) built.built.means in
+    (ascends_apart all built.ascends, built.built.fits, needed, let some = c.if-start-gt0.true in omega (arith, within))
 
 pub returns : goal.returns
 returns g c =
     let all = pairs c.args.items in
-    let built = c.in_ok-built.ensures in
-    let size = c.length_is_size.ensures simple_ascii _ (map_of all) built.0.built.means in
-    let full : length c.in_ok-built.built ≡ g.row.N = c.in_ok-store.ensures.full.0 refl in
-    (subst (IsArrayBuilt g.row.K all) (sym (c.from_store.ensures ∙ c.in_ok-store.ensures.bytes)) built.0, sym size ∙ full)
+    let bytes = c.fill_from_end.new.buffer in
+    let full : length bytes ≡ g.row.N = c.fill_from_end.auto.buffer ∙ length-replicate g.row.N 0 in
+    let none : c.in_ok-start.start ≡ 0 = let first = c.if-start-gt0.false in omega (arith, first) in
+    let built : IsArrayBuilt g.row.K all bytes = subst (λ n. IsArrayBuilt g.row.K all (drop n bytes)) none c.in_ok-start.ensures.build.0 in
+    let size = c.length_is_size.ensures simple_ascii bytes (map_of all) built.built.means in
+    (subst (IsArrayBuilt g.row.K all) (sym c.from_store.ensures) built, sym size ∙ full)
