@@ -4,3 +4,4 @@ pub mod AutoLemmas
 mod WalkLemmas
 pub mod JsonLemmas
 pub mod MemberLemmas
+pub mod CollectedLemmas

@@ -29,12 +29,11 @@ pub fn map_of<K: ZeroTrieWithOptions>(
     ensures listed { (m : Map) → Means K.kind bytes.now m → IsListed (λ key. key.items) m result }
     ensures refused { IfErr result (λ e. e ≡ OutOfMemory) }
 {
-    let mut map = BTreeMap::new(alloc);
+    let mut pairs = Vec::new(alloc);
     for item in ZeroTrieIterator::new::<K>(alloc, bytes) {
-        let (key, value) = item?;
-        map.insert(key, value)?;
+        pairs.push(item?)?;
     }
-    Ok(map)
+    Ok(BTreeMap::from_iter(alloc, pairs)?)
 }
 
 impl<S: TrieStore> ZeroTrie<S> {

@@ -101,11 +101,10 @@ impl<K: AsciiKind, S: TrieStore> AsciiTrie<K, S> {
     pub fn to_btreemap(&self, alloc: Global) -> Result<BTreeMap<String, usize>, ListError>
         ensures { (m : Map) → Means K.kind (S.stored self.now.store) m → IsListed (λ key. string_bytes key) m result }
     {
-        let mut map = BTreeMap::new(alloc);
+        let mut pairs = Vec::new(alloc);
         for item in self.iter(alloc) {
-            let (key, value) = item?;
-            map.insert(key, value)?;
+            pairs.push(item?)?;
         }
-        Ok(map)
+        Ok(BTreeMap::from_iter(alloc, pairs)?)
     }
 }
