@@ -1,8 +1,8 @@
 //! The first node of a text, as a value.
 
-ghost use Rattle.std.specs.Prelude.{◌≡◌, ℕ, ◌+◌, ◌-◌, ◌*◌, ◌/◌, ◌%◌, ◌<◌, ◌≤◌, List, length, IfSome, IfNone, ◌∷◌};
+ghost use Rattle.std.specs.Prelude.{◌≡◌, ℕ, ◌+◌, ◌-◌, ◌*◌, ◌/◌, ◌%◌, ◌<◌, ◌≤◌, List, length, take, drop, IfSome, IfNone, ◌∷◌};
 ghost use Rattle.zerotrie_core.specs.Kind.{greatest_width};
-ghost use Rattle.zerotrie_core.specs.Branches.{before_edges};
+ghost use Rattle.zerotrie_core.specs.Branches.{before_edges, table_size};
 ghost use Rattle.zerotrie_core.specs.Numbers.{BeginsWith};
 ghost use Rattle.zerotrie_core.specs.Nodes.{Shape, Begins, BeginsSpan, BeginsBranch};
 ghost use Rattle.zerotrie_core.specs.Shapes.{shape, branch_shape};
@@ -53,16 +53,38 @@ fn greatest_width<K: ZeroTrieWithOptions>() -> usize
     if K::EXTENDED { 7 } else { 3 }
 }
 
-/// How many bytes of the search table of a branch stand in front of its edges.
+/// The search table of a branch of so many edges, and all bytes from the edges on, where the bytes have all of
+/// the table and so many more.
+///
+/// Each form of a table has a path of its own, so that where the edges lie needs no arithmetic on their number.
 #[inline(always)]
-fn before_edges<K: ZeroTrieWithOptions>(edges: usize) -> usize
-    requires { edges ≤ 256 }
-    ensures { result ≡ before_edges K.kind edges }
+fn table_in<K: ZeroTrieWithOptions>(
+    edges: usize,
+    more: usize,
+    body: &[u8],
+) -> Option<(&[u8], &[u8])>
+    requires { (edges ≤ 256) × (more ≤ 2048) }
+    ensures some { IfSome result (λ r. (table_size K.kind edges + more ≤ length body.now)
+        × (r.0.now ≡ take (table_size K.kind edges) body.now)
+        × (r.1.now ≡ drop (before_edges K.kind edges) body.now)) }
+    ensures whole { IfSome result (λ r. edges + more ≤ length r.1.now) }
+    ensures ends { IfSome result (λ r. drop (length r.0.now - edges) r.0.now ≡ take edges r.1.now) }
+    ensures sized { IfSome result (λ r. edges < length r.0.now → length r.0.now ≡ 2 * edges + 1) }
+    ensures none { IfNone result (length body.now < table_size K.kind edges + more) }
 {
     if K::USE_PHF && edges >= 16 {
-        edges + 1
+        if body.len() < 2 * edges + 1 + more {
+            return None;
+        }
+        let (table, _) = body.split_at(2 * edges + 1);
+        let (_, behind) = body.split_at(edges + 1);
+        Some((table, behind))
     } else {
-        0
+        if body.len() < edges + more {
+            return None;
+        }
+        let (table, _) = body.split_at(edges);
+        Some((table, body))
     }
 }
 
@@ -77,15 +99,10 @@ fn branch_at<K: ZeroTrieWithOptions>(lead: u8, rest: &[u8]) -> Option<Branch<'_>
     let (head, body) = read_head(lead, rest)?;
     let width = head / 256;
     let edges = if head % 256 == 0 { 256 } else { head % 256 };
-    let before = before_edges::<K>(edges);
     if width > greatest_width::<K>() || edges < 2 {
         return None;
     }
-    if body.len() < before + edges + (width + 1) * (edges - 1) {
-        return None;
-    }
-    let (table, _) = body.split_at(before + edges);
-    let (_, behind) = body.split_at(before);
+    let (table, behind) = table_in::<K>(edges, (width + 1) * (edges - 1), body)?;
     Some(Branch {
         edges,
         width: width + 1,

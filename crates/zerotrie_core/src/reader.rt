@@ -25,8 +25,36 @@ enum Descent<'a> {
     Down(&'a [u8], &'a [u8], usize),
 }
 
-/// How many literals it takes until a run of them is compared at once.
+/// How many literals it takes until a run of them is compared 16 at a time.
 const FEW: usize = 3;
+
+/// How many literals the bytes begin with that the key goes on with, where both are long: not always all of them.
+///
+/// Sixteen are compared at a time. Where these are all the same, it goes on behind them and waits for no number;
+/// in the end come the last sixteen, some of which may have been compared before.
+#[inline(always)]
+fn common_in_long<K: ZeroTrieWithOptions>(bytes: &[u8], key: &[u8]) -> usize
+    requires bytes { 16 ≤ length bytes.now }
+    requires key { 16 ≤ length key.now }
+    ensures { AreCommon K.kind bytes.now key.now result }
+{
+    let most = bytes.len().min(key.len());
+    let mut passed = 0;
+    while most - passed >= 16 {
+        let (_, rest) = bytes.split_at(passed);
+        let (_, after) = key.split_at(passed);
+        let more = first_other_in_16(rest, after);
+        if more < 16 {
+            return passed + more;
+        }
+        passed += 16;
+    }
+    let last = most - 16;
+    let (_, rest) = bytes.split_at(last);
+    let (_, after) = key.split_at(last);
+    let more = first_other_in_16(rest, after);
+    if more < 16 { last + more } else { most }
+}
 
 /// How many literals the bytes begin with that the key goes on with: not always all of them.
 ///
@@ -43,9 +71,9 @@ fn common_literals<K: ZeroTrieWithOptions>(bytes: &[u8], key: &[u8]) -> usize
     {
         passed += 1;
         if passed == FEW && most >= FEW + 16 {
-            let (_, bytes) = bytes.split_at(FEW);
-            let (_, key) = key.split_at(FEW);
-            return FEW + first_other_in_16(bytes, key).min(16);
+            let (_, rest) = bytes.split_at(FEW);
+            let (_, after) = key.split_at(FEW);
+            return FEW + common_in_long::<K>(rest, after);
         }
     }
     passed

@@ -1,7 +1,6 @@
-use Rattle.std.proofs.Common.{◌≡◌, ◌+◌, ◌-◌, ◌*◌, ◌/◌, ◌≤◌, length, arith, ap, ◌∙◌}
+use Rattle.std.proofs.Common.{◌≡◌, ◌+◌, ◌-◌, ◌*◌, ◌/◌, ◌≤◌, length, arith}
 use Rattle.zerotrie_core.specs.Branches.{table_size}
 use Rattle.zerotrie_core.proofs.NodeLemmas.{head_read, small_head}
-use Rattle.zerotrie_core.proofs.TableLemmas.{table_parts}
 use Rattle.zerotrie_core.proofs.node.branch_at.Goals as goal
 use Rattle.zerotrie_core.proofs.node.branch_at.Goals.{then-head-eq0, else-head-eq0, then-width-greatest_width-via-then-width-greatest_width, then-width-greatest_width-via-else-width-greatest_width+then-edges-lt2}
 
@@ -29,8 +28,8 @@ returns-then-width-greatest_width-clause-none g c edges width table behind b =
       | then-width-greatest_width-via-else-width-greatest_width+then-edges-lt2 w ↦ let less = w.if-edges-lt2.true in omega arith
     ]
 
-pub returns-then-body-before-clause-none : goal.returns-then-body-before-clause-none
-returns-then-body-before-clause-none g c edges width table behind b =
+pub returns-in_err-table-clause-none : goal.returns-in_err-table-clause-none
+returns-in_err-table-clause-none g c = rw c.from_residual-in_err-table.ensures (λ edges width table behind b. (
     let r = head_read c.args.lead 3 c.in_ok-head.head edges width c.args.rest.now c.in_ok-head.body.now table behind c.in_ok-head.ensures.found b in
     let few = r.0 in
     let count = r.1 in
@@ -40,9 +39,8 @@ returns-then-body-before-clause-none g c edges width table behind b =
       | then-head-eq0 w ↦ let e = w.edges-is in let z = w.if-head-eq0.true in omega arith
       | else-head-eq0 w ↦ let e = w.edges-is in let z = w.if-head-eq0.false in omega arith
     ] in
-    let short = c.if-body-before.true in
-    let parts : c.before_edges-before.result + c.if-head-eq0.edges ≡ table_size g.K.ZeroTrieWithOptions.kind edges =
-    ap (λ k. k + c.if-head-eq0.edges) c.before_edges-before.ensures ∙ table_parts g.K.ZeroTrieWithOptions.kind c.if-head-eq0.edges ∙ ap (table_size g.K.ZeroTrieWithOptions.kind) n in
-    let holds : c.before_edges-before.result + c.if-head-eq0.edges + (c.in_ok-head.head / 256 + 1) * (c.if-head-eq0.edges - 1) ≤ length c.in_ok-head.body.now =
-    rw (parts, n, few, r.2) b.holds in
+    let short = c.in_err-table.ensures.none in
+    let holds : table_size g.K.ZeroTrieWithOptions.kind c.if-head-eq0.edges + (c.in_ok-head.head / 256 + 1) * (c.if-head-eq0.edges - 1) ≤ length c.in_ok-head.body.now =
+    rw (n, few, r.2) b.holds in
     omega arith
+    ))

@@ -1,6 +1,6 @@
 use Rattle.std.proofs.Common.{◌+◌, subst, sym, ◌∙◌, arith}
 use Rattle.zerotrie_core.specs.reader.Literals.{AreCommon}
-use Rattle.zerotrie_core.proofs.LiteralLemmas.{common_one, common_more}
+use Rattle.zerotrie_core.proofs.LiteralLemmas.{common_one, common_behind}
 use Rattle.zerotrie_core.proofs.reader.common_literals.Goals as goal
 
 pub returns-then-most : goal.returns-then-most
@@ -12,5 +12,4 @@ returns-then-most g c =
     common_one kind bytes key c.loop-passed.passed c.loop-passed.invariant (omega (arith, c.min-most.ensures)) (omega (arith, c.min-most.ensures)) c.if-bytes-passed-lt128.true
     (sym c.folded.ensures ∙ c.if-folded.true ∙ c.folded-then-bytes-passed-lt128.ensures) in
     let few : AreCommon kind bytes key 3 = subst (AreCommon kind bytes key) c.if-passed-eq-FEW.true one in
-    common_more kind bytes key 3 c.min.result few (omega arith) (omega arith) (λ k h.
-    rw (sym c.split_at.ensures.back, sym c.split_at-then-most.ensures.back) (c.first_other_in_16.ensures k (omega (arith, c.min.ensures)) (omega (arith, c.min.ensures))))
+    common_behind kind bytes key 3 c.common_in_long.result few (rw (sym c.split_at.ensures.back, sym c.split_at-then-most.ensures.back) c.common_in_long.ensures)
