@@ -241,60 +241,85 @@ fn bad_lines(rt: HostRuntime) -> Result<(), Fail> {
     Ok(())
 }
 
-/// Gives its bytes a few at a time, and then a fault.
+/// Gives its bytes eight at a time, and a fault where it has given its calls.
 #[derive(Drop)]
-struct FailingReader {
+struct FailingReader<'a> {
+    bytes: &'a [u8],
     calls: usize,
 }
 
-impl Read for FailingReader {
+impl Read for FailingReader<'_> {
     fn read(&mut self, buf: &mut [u8]) -> io::Result<usize> {
-        if self.calls == 0 || buf.is_empty() {
+        if self.calls == 0 {
             return Err(io::Error::from(io::ErrorKind::Interrupted));
         }
         self.calls -= 1;
-        buf[0] = b'\n';
-        Ok(1)
-    }
-}
-
-/// Takes so many bytes, and then fails.
-#[derive(Drop)]
-struct FailingWriter {
-    room: usize,
-}
-
-impl Write for FailingWriter {
-    fn write(&mut self, buf: &[u8]) -> io::Result<usize> {
-        let count = self.room.min(buf.len());
-        if count == 0 {
-            return Err(io::Error::from(io::ErrorKind::Other));
-        }
-        self.room -= count;
-        Ok(count)
-    }
-
-    fn flush(&mut self) -> io::Result<()> {
-        Ok(())
+        let room = buf.len().min(8);
+        self.bytes.read(&mut buf[..room])
     }
 }
 
 #[test]
-fn faults(rt: HostRuntime) -> Result<(), Fail> {
-    for calls in 0..3 {
-        let mut reader = Noted::new(FailingReader { calls });
+fn faults_of_readers(rt: HostRuntime) -> Result<(), Fail> {
+    // The third call finds the end of the input, so no fault comes where four are given.
+    for calls in 0..5 {
+        let bytes = b"kind simple\n?\n".as_slice();
+        let mut reader = Noted::new(FailingReader { bytes, calls });
         let mut writer = Noted::new(Vec::new(rt.alloc()));
         let answer = run(rt.alloc(), &mut reader, &mut writer);
-        assert_eq!(rt; answer, Err(RunError::Read));
-        assert!(rt; reader.failed() && !writer.failed());
-        assert!(rt; writer.into_inner().is_empty());
+        let output = writer.into_inner();
+        if calls < 3 {
+            assert!(rt; answer == Err(RunError::Read) && reader.failed());
+            assert!(rt; output.is_empty());
+        } else {
+            assert!(rt; answer == Ok(0) && !reader.failed());
+            assert_eq!(rt; output.as_slice(), b"none\n".as_slice());
+        }
     }
-    for room in [0, 1, 8] {
+    Ok(())
+}
+
+/// Takes four bytes at a time, and fails where it has taken its calls.
+#[derive(Drop)]
+struct FailingWriter {
+    calls: usize,
+}
+
+impl FailingWriter {
+    fn call(&mut self) -> io::Result<()> {
+        if self.calls == 0 {
+            return Err(io::Error::from(io::ErrorKind::Other));
+        }
+        self.calls -= 1;
+        Ok(())
+    }
+}
+
+impl Write for FailingWriter {
+    fn write(&mut self, buf: &[u8]) -> io::Result<usize> {
+        self.call()?;
+        Ok(buf.len().min(4))
+    }
+
+    fn flush(&mut self) -> io::Result<()> {
+        self.call()
+    }
+}
+
+#[test]
+fn faults_of_writers(rt: HostRuntime) -> Result<(), Fail> {
+    // Ten bytes take three calls, and the fourth flushes.
+    for calls in 0..6 {
         let mut reader = Noted::new(b"kind simple\n?\n?\n".as_slice());
-        let mut writer = Noted::new(FailingWriter { room });
+        let mut writer = Noted::new(FailingWriter { calls });
         let answer = run(rt.alloc(), &mut reader, &mut writer);
-        assert_eq!(rt; answer, Err(RunError::Write));
-        assert!(rt; writer.failed() && !reader.failed());
+        let status = if calls < 4 {
+            Err(RunError::Write)
+        } else {
+            Ok(0)
+        };
+        assert_eq!(rt; answer, status);
+        assert!(rt; writer.failed() == (calls < 4) && !reader.failed());
     }
     Ok(())
 }

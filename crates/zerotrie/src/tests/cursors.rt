@@ -95,6 +95,25 @@ fn writing(rt: HostRuntime) -> Result<(), Fail> {
     Ok(())
 }
 
+/// Errors that a closure drops or passes on, and a cursor of no bytes that it leaves.
+#[test]
+fn careless_closures(rt: HostRuntime) {
+    let trie = ZeroTrieSimpleAscii::from_bytes(b"ab\x87");
+    let dropped = trie.get_with_write_fn(|cursor| {
+        let _ = cursor.write_str("abé");
+        Ok(())
+    });
+    assert_eq!(rt; dropped, Some(7));
+    let passed = trie.get_with_write_fn(|cursor| cursor.write_str("abé"));
+    assert_eq!(rt; passed, None);
+    let emptied = trie.get_with_write_fn(|cursor| {
+        cursor.write_str("ab")?;
+        *cursor = ZeroTrieSimpleAscii::from_bytes(b"").into_cursor();
+        Ok(())
+    });
+    assert_eq!(rt; emptied, None);
+}
+
 #[test]
 fn hashed_cursors(rt: HostRuntime) -> Result<(), Fail> {
     let trie = ZeroTriePerfectHash::from_bytes(SPANS);

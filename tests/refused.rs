@@ -1,0 +1,368 @@
+//! Lets every request for memory fail in turn, and looks at what each call answers then: the want of memory of its
+//! type and nothing else, or its full answer.
+
+mod calls;
+mod memory;
+
+use calls::{ASKED, Flat, NAMES, REFUSED, ROUTES, UNREADY};
+use std::process::{Command, ExitCode, Stdio};
+
+/// What was run, and with what outcome.
+#[derive(Default)]
+struct Tally {
+    calls: usize,
+    runs: usize,
+    refused: usize,
+    wrong: usize,
+}
+
+impl Tally {
+    fn wrong(&mut self, name: &str, what: &str) {
+        self.wrong += 1;
+        println!("{name}: {what}");
+    }
+
+    /// Runs the call with each of its requests refused, alone and with all behind it, up to a run in which none is.
+    /// `partly` says of the full answer and another one whether a refusal may be answered so.
+    fn look(
+        &mut self, name: &str, full: &[u8], partly: impl Fn(&[u8], &[u8]) -> bool, call: impl Fn(&mut [u8]) -> usize,
+    ) {
+        self.calls += 1;
+        let mut out = vec![0; 1 << 16];
+        for all in [false, true] {
+            for granted in 0.. {
+                memory::refuse(granted, all);
+                let code = call(&mut out);
+                let met = memory::grant();
+                self.runs += usize::from(code != UNREADY);
+                if memory::blocks() != 0 {
+                    return self.wrong(name, &format!("request {granted} refused, and memory is not given back"));
+                }
+                let answer = out.get(..code);
+                let right = match answer {
+                    None => met && (code == REFUSED || code == UNREADY),
+                    Some(answer) => answer == full || (met && partly(full, answer)),
+                };
+                if !right {
+                    self.wrong(name, &format!("request {granted} refused: {code} {answer:X?}"));
+                }
+                self.refused += usize::from(right && answer != Some(full) && code != UNREADY);
+                if !met {
+                    break;
+                }
+            }
+        }
+    }
+
+    fn plainly(&mut self, name: &str, full: &[u8], call: impl Fn(&mut [u8]) -> usize) {
+        self.look(name, full, |_, _| false, call);
+    }
+}
+
+/// Pairs whose keys ascend, the kinds that they are built in, and their text where it is known.
+struct Set {
+    name: &'static str,
+    pairs: Vec<(Vec<u8>, usize)>,
+    kinds: &'static [u8],
+    text: Option<&'static [u8]>,
+}
+
+fn set(
+    name: &'static str, pairs: &[(&str, usize)], kinds: &'static [u8], text: Option<&'static [u8]>,
+) -> Set {
+    let mut pairs: Vec<_> = pairs.iter().map(|(key, value)| (key.as_bytes().to_vec(), *value)).collect();
+    pairs.sort();
+    Set { name, pairs, kinds, text }
+}
+
+const ALL_KINDS: &[u8] = &[0, 1, 2, 3, 4];
+const ANY_BYTES: &[u8] = &[2, 3, 4];
+const LITERALS: &[u8] = b"\x8Bad\x90\x06\xC2eg\x03f\x90\x11hk\x90\x1C";
+const BRANCHES: &[u8] = b"\xC2ax\x0A\xC2bx\x02c\x8Byb\x90\x11yz\x90\x06";
+const MIXED: &[u8] = b"\x80aBc\x81\xC4DeFg\x01\x02\x03\x82\x83\x84hi\x85";
+const SPANS: &[u8] = b"\xC2bf\x0F\xA2\xC3\xA5\xC2rz\x01\x82z\xA4\xC3\xB8\xC3\xB8\x83oo\x81";
+const LETTERS: &[u8] = b"\xD0\0\0\0\0\0\0\0\0\0\0\0\0\0\0\0\0\0pabcdefghijklmno\
+    \x01\x02\x03\x04\x05\x06\x07\x08\x09\x0A\x0B\x0C\x0D\x0E\x0F\
+    \x8F\x80\x81\x82\x83\x84\x85\x86\x87\x88\x89\x8A\x8B\x8C\x8D\x8E";
+const DEEP: &[u8] = b"a\xC2bf\x0E\x90\x5F\xC2cd\x05xyz\x90\x06e\x92\x3Dg\x90\x1C";
+
+/// The pairs of the sets that are built in each kind that can have them.
+fn sets() -> Vec<Set> {
+    let letters: Vec<(String, usize)> = ('a'..='p').map(String::from).zip(0..).collect();
+    let letters: Vec<(&str, usize)> = letters.iter().map(|(key, value)| (key.as_str(), *value)).collect();
+    let behind = |front| ('a'..='z').map(move |letter| format!("{front}{letter}"));
+    let thrice: Vec<(String, usize)> = ["x", "y", "ø"].into_iter().flat_map(behind).zip(0..).collect();
+    let thrice: Vec<(&str, usize)> = thrice.iter().map(|(key, value)| (key.as_str(), *value)).collect();
+    let long = "a".repeat(300);
+    let bytes = (0..=255).map(|byte| (vec![byte], 0)).collect();
+    vec![
+        set("no pairs", &[], ALL_KINDS, Some(b"")),
+        set("the empty key", &[("", 15)], ALL_KINDS, Some(b"\x8F")),
+        set("literals", &[("", 11), ("ad", 22), ("adef", 33), ("adghk", 44)], ALL_KINDS, Some(LITERALS)),
+        set("branches", &[("abc", 11), ("xyz", 22), ("axyb", 33)], ALL_KINDS, Some(BRANCHES)),
+        set("deep branches", &[("ab", 111), ("abcxyz", 22), ("abde", 333), ("afg", 44)], ALL_KINDS, Some(DEEP)),
+        set("a long key", &[(&long, 1 << 60), ("b", 1)], ALL_KINDS, None),
+        set(
+            "either case",
+            &[("", 0), ("aBc", 1), ("aBcD", 2), ("aBce", 3), ("aBcF", 4), ("aBcghi", 5)],
+            &[1],
+            Some(MIXED),
+        ),
+        set("spans", &[("foo", 1), ("bår", 2), ("båzzøø", 3)], ANY_BYTES, Some(SPANS)),
+        set("sixteen edges", &letters, &[2, 3], Some(LETTERS)),
+        set("sixteen edges over ASCII", &letters, &[0, 1, 4], None),
+        set("edges of one table thrice", &thrice, ANY_BYTES, None),
+        Set { name: "256 edges", pairs: bytes, kinds: ANY_BYTES, text: None },
+    ]
+}
+
+impl Set {
+    fn flat(&self) -> Flat {
+        Flat::of(self.pairs.iter().map(|(key, value)| (key.as_slice(), *value)))
+    }
+
+    fn is_text(&self) -> bool {
+        self.pairs.iter().all(|(key, _)| std::str::from_utf8(key).is_ok())
+    }
+
+    /// The JSON text of the map.
+    fn json(&self) -> String {
+        let texts = self.pairs.iter().map(|(key, value)| match std::str::from_utf8(key) {
+            Ok(key) if self.is_text() => format!("\"{key}\":{value}"),
+            _ => format!("[{key:?},{value}]").replace(' ', ""),
+        });
+        let inner = texts.collect::<Vec<_>>().join(",");
+        if self.is_text() { format!("{{{inner}}}") } else { format!("[{inner}]") }
+    }
+
+    /// The kind whose bytes those of a `ZeroTrie` are, and the number by which it is asked.
+    fn of_auto(&self) -> (u8, u8) {
+        if self.pairs.iter().all(|(key, _)| key.is_ascii()) { (0, 4) } else { (2, 5) }
+    }
+}
+
+/// A pair as it is handed out.
+fn written(key: &[u8], value: usize) -> Vec<u8> {
+    [&[1][..], &key.len().to_le_bytes(), key, &value.to_le_bytes()].concat()
+}
+
+/// What the calls of a listing give: pairs, errors and ends, each by itself.
+fn steps(answer: &[u8]) -> Vec<&[u8]> {
+    let mut rest = answer;
+    let mut steps = Vec::new();
+    while let [first, behind @ ..] = rest {
+        let len = if *first == 1 { 17 + usize::from_le_bytes(behind[..8].try_into().unwrap()) } else { 1 };
+        steps.push(&rest[..len]);
+        rest = &rest[len..];
+    }
+    steps
+}
+
+/// Whether a listing gave a beginning of its pairs, one error, and then nothing for good.
+fn is_cut(full: &[u8], answer: &[u8]) -> bool {
+    let (full, answer) = (steps(full), steps(answer));
+    let pairs = answer.iter().take_while(|step| step[0] == 1).count();
+    answer.len() == full.len()
+        && answer[..pairs] == full[..pairs]
+        && answer[pairs] == [2]
+        && answer[pairs + 1..].iter().all(|step| *step == [0])
+}
+
+/// Builds the set by all routes.
+fn builds(tally: &mut Tally, set: &Set) {
+    let flat = set.flat();
+    let json = set.json();
+    for &kind in set.kinds {
+        let mut out = vec![0; 1 << 16];
+        let own = if kind == 4 { set.of_auto().0 } else { kind };
+        let len = calls::build(own, 0, &flat, &mut out);
+        let bytes = &out[..len];
+        assert!(set.text.is_none_or(|text| text == bytes), "{} in {}", set.name, NAMES[kind as usize]);
+        let name = |by: &str| format!("{}, {} by {by}", set.name, NAMES[kind as usize]);
+        for route in 0..if set.is_text() { 4 } else { 3 } {
+            tally.plainly(&name(ROUTES[route as usize]), bytes, |out| calls::build(kind, route, &flat, out));
+        }
+        tally.plainly(&name("JSON"), bytes, |out| calls::read_json(kind, json.as_bytes(), out));
+        if kind < 4 {
+            tally.plainly(&name("encoded_len"), &len.to_le_bytes(), |out| calls::length(kind, &flat, out));
+        }
+        if kind == 0 {
+            tally.plainly(&name("an array"), bytes, |out| calls::build(5, 0, &flat, out));
+            tally.plainly(&name("an array of a size"), bytes, |out| calls::build(5, 1, &flat, out));
+            tally.plainly(&name("plain_encode"), bytes, |out| calls::build(6, 0, &flat, out));
+        }
+        questions(tally, set, kind, bytes);
+    }
+}
+
+/// Asks the set's trie of a kind for all that takes memory.
+fn questions(tally: &mut Tally, set: &Set, kind: u8, bytes: &[u8]) {
+    let asked = |kind: u8, what: u8, out: &mut [u8]| calls::ask(kind, what, bytes, out);
+    let tag = [0, 8, 3, 7][if kind == 4 { set.of_auto().0 } else { kind } as usize];
+    let pairs: Vec<Vec<u8>> = set.pairs.iter().map(|(key, value)| written(key, *value)).collect();
+    let number = if kind == 4 { set.of_auto().1 } else { kind };
+    let name = |what: usize| format!("{}, {} by {}", set.name, NAMES[kind as usize], ASKED[what]);
+    tally.plainly(&name(0), set.json().as_bytes(), |out| asked(number, 0, out));
+    tally.plainly(&name(1), &[&[tag], bytes].concat(), |out| asked(number, 1, out));
+    if kind < 4 {
+        tally.plainly(&name(2), bytes, |out| asked(kind, 2, out));
+    }
+    tally.plainly(&name(3), &pairs.concat(), |out| asked(number, 3, out));
+    if kind < 4 {
+        let mut out = vec![0; 1 << 16];
+        let len = asked(kind, 4, &mut out);
+        let full = out[..len].to_vec();
+        let mut listed: Vec<&[u8]> = steps(&full).into_iter().filter(|step| step[0] == 1).collect();
+        let mut wanted: Vec<&[u8]> = pairs.iter().map(Vec::as_slice).collect();
+        if kind == 1 {
+            wanted.sort_by_key(|step| step[9..step.len() - 8].to_ascii_lowercase());
+        }
+        if kind > 1 {
+            listed.sort();
+            wanted.sort();
+        }
+        if listed != wanted {
+            tally.wrong(&name(4), "another listing");
+        }
+        tally.look(&name(4), &full, is_cut, |out| asked(kind, 4, out));
+    }
+}
+
+/// A walk through a trie, in the four kinds.
+fn walks(tally: &mut Tally) {
+    let calls = [2, 0, 2, 0, 1, 0, 2, 1, 2, 0, 1, 0, 1, 0, 2, 0];
+    let answers = [(b'a', 1), (b'b', 2), (0, 111), (b'd', 2), (b'e', 1), (0, 333)];
+    let answers = answers.map(|(byte, second)| [1 + byte as usize, second]);
+    let full: Vec<u8> = answers.into_iter().chain([[0; 2]; 2]).flatten().flat_map(usize::to_le_bytes).collect();
+    for kind in 0..4 {
+        tally.plainly(&format!("walk of {}", NAMES[kind as usize]), &full, |out| calls::walk(kind, DEEP, &calls, out));
+    }
+}
+
+const RECORD: &[u8] = b"\x03\0/\x17\0\0\0\0\0\0\0\x0F\0\0\0\0\0\0\0\x06\0\0\0\0\0\0\0\
+    \xC3adf\x05\x0Aaa\x80/\x81dd\x81/\x83ff/BBB\x85\xC3BCE\x03\x06BB\x80CC\x81EE\x82\
+    \0\0\x01\0\xFF\xFF\0\0\xFF\xFF\x01\0";
+
+/// A dense table, and caches that are asked again after a refusal.
+fn tables(tally: &mut Tally) {
+    tally.plainly("a dense table and its record", RECORD, calls::dense);
+    let keys: [(&[u8], &[u8]); 3] = [
+        (b"aceg", b"\x01\0\0\x01\x01eacg"),
+        (b"JFNv", b"\x01b\0\x02\0JFNv"),
+        (b"abcdefghijklmnop", &LETTERS[1..34]),
+    ];
+    for (keys, table) in keys {
+        let name = format!("a cache of {}", String::from_utf8_lossy(keys));
+        let full = [&[0], table].concat();
+        let refused_once = |full: &[u8], answer: &[u8]| answer == [&[1], &full[1..]].concat();
+        tally.look(&name, &full, refused_once, |out| calls::cache(keys, out));
+    }
+}
+
+/// A line for the program, what it prints for it, and what it prints where the last build was refused.
+type Line = (&'static str, &'static str, &'static str);
+
+const SESSION: &[Line] = &[
+    ("kind simple", "", ""),
+    ("+ 11", "", ""),
+    ("+ 22 ad", "", ""),
+    ("+ 33 adef", "", ""),
+    ("+ 44 adghk", "", ""),
+    ("build", "ok 16 8b61649006c2656703669011686b901c\n", "refused OutOfMemory\n"),
+    ("? ad", "22\n", "none\n"),
+    ("? unknown", "none\n", "none\n"),
+];
+
+const LONGER: &[Line] = &[
+    ("kind ignore", "", ""),
+    ("+ 1 Accept", "", ""),
+    ("+ 2 accept-language", "", ""),
+    ("build", "refused MixedCase\n", "refused OutOfMemory\n"),
+    ("kind hash", "", ""),
+    ("+ 1 foo", "", ""),
+    ("+ 2 bår", "", ""),
+    ("+ 3 båzzøø", "", ""),
+    ("build", "ok 22 c262660fa2c3a5c2727a01827aa4c3b8c3b8836f6f81\n", "refused OutOfMemory\n"),
+    ("list", "2 62c3a572\n3 62c3a57a7ac3b8c3b8\n1 666f6f\n", ""),
+    ("walk s62 p0 p1 t", "s62 pc3/1 p- t-\n", "s- p- p- t-\n"),
+    ("build", "ok 22 c262660fa2c3a5c2727a01827aa4c3b8c3b8836f6f81\n", "refused OutOfMemory\n"),
+    ("? bår", "2\n", "none\n"),
+    ("kind auto", "", ""),
+    ("+ 1 b", "", ""),
+    ("+ 3 a", "", ""),
+    ("build", "ok 6 c26162018381\n", "refused OutOfMemory\n"),
+    ("list", "3 61\n1 62\n", ""),
+];
+
+/// All that the program may print, with its status, where so many builds at most are refused.
+fn may_print(session: &[Line], most: usize) -> Vec<(String, i32)> {
+    let builds = session.iter().filter(|line| line.0 == "build").count();
+    let choices = (0..1u32 << builds).filter(|refused| refused.count_ones() as usize <= most);
+    let printed = choices.map(|refused| {
+        let (mut text, mut number, mut is_refused) = (String::new(), 0, false);
+        for (line, full, without) in session {
+            if *line == "build" {
+                is_refused = refused >> number & 1 == 1;
+                number += 1;
+            }
+            text += if is_refused { without } else { full };
+        }
+        let status = i32::from(text.contains("refused"));
+        (text, status)
+    });
+    printed.collect()
+}
+
+/// Runs the program over a session.
+fn sessions(tally: &mut Tally, name: &str, program: &str, preload: &str, session: &[Line]) {
+    tally.calls += 1;
+    let input = format!("{}/session", std::path::Path::new(preload).parent().unwrap().display());
+    std::fs::write(&input, session.iter().map(|line| format!("{}\n", line.0)).collect::<String>()).unwrap();
+    for all in [false, true] {
+        let allowed = may_print(session, if all { usize::MAX } else { 1 });
+        for granted in 0.. {
+            let mut command = Command::new(program);
+            command.stdin(std::fs::File::open(&input).unwrap()).stdout(Stdio::piped()).stderr(Stdio::piped());
+            command.env("LD_PRELOAD", preload).env("GRANTED", granted.to_string());
+            if all {
+                command.env("ALL", "");
+            }
+            let ended = command.output().unwrap();
+            tally.runs += 1;
+            let (printed, told) = (String::from_utf8_lossy(&ended.stdout), String::from_utf8_lossy(&ended.stderr));
+            let (met, told) = match told.strip_prefix("refused\n") {
+                Some(told) => (true, told),
+                None => (false, &*told),
+            };
+            let status = ended.status.code();
+            let goes_on = allowed.iter().any(|(text, end)| *text == printed && Some(*end) == status && told.is_empty());
+            let stops = printed.is_empty() && status == Some(3) && told == "out of memory\n";
+            let full = printed == allowed[0].0 && status == Some(allowed[0].1) && told.is_empty();
+            if !(full || met && (goes_on || stops)) {
+                tally.wrong(name, &format!("request {granted} refused: {status:?} {printed} {told}"));
+            }
+            tally.refused += usize::from(!full);
+            if !met {
+                break;
+            }
+        }
+    }
+}
+
+fn main() -> ExitCode {
+    let arguments: Vec<String> = std::env::args().collect();
+    let [_, program, preload] = arguments.as_slice() else {
+        eprintln!("the program and what is loaded before it are wanted");
+        return ExitCode::from(2);
+    };
+    let mut tally = Tally::default();
+    for set in sets() {
+        builds(&mut tally, &set);
+    }
+    walks(&mut tally);
+    tables(&mut tally);
+    sessions(&mut tally, "the program", program, preload, SESSION);
+    sessions(&mut tally, "the program, longer", program, preload, LONGER);
+    println!("{} calls, {} runs, {} refused, {} wrong", tally.calls, tally.runs, tally.refused, tally.wrong);
+    ExitCode::from(u8::from(tally.wrong > 0))
+}
