@@ -26,7 +26,7 @@ impl<const N: usize> ZeroTrieSimpleAscii<[u8; N]> {
     ///
     /// ```
     /// let items: [(&[u8], usize); 2] = [(b"ad", 22), (b"adef", 33)];
-    /// let trie: ZeroTrieSimpleAscii<[u8; 7]> =
+    /// let trie: ZeroTrieSimpleAscii<[u8; 8]> =
     ///     ZeroTrieSimpleAscii::from_sorted_u8_tuples_with_stack::<0>(&items)?;
     /// assert_eq!(rt; trie.get(b"adef"), Some(33));
     /// ```
@@ -82,7 +82,7 @@ impl ZeroTrieSimpleAscii<Vec<u8>> {
     /// ```
     /// let items: [(&[u8], usize); 2] = [(b"ad", 22), (b"adef", 33)];
     /// let trie = ZeroTrieSimpleAscii::try_from_sorted_slice_sized::<20, 0>(rt.alloc(), &items)?;
-    /// assert_eq!(rt; trie.byte_len(), 7);
+    /// assert_eq!(rt; trie.byte_len(), 8);
     /// ```
     ///
     /// A build is refused with `Unsorted`, `NonAsciiError`, `CapacityExceeded`, `BufferTooSmall`,

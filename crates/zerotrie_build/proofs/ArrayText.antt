@@ -6,16 +6,28 @@ use Rattle.std.proofs.lemmas.List.Sums.{sum_by-cons}
 use Rattle.zerotrie_core.specs.Branches.{total}
 use Rattle.zerotrie_build.specs.declared.konst.text.Sibling.{Sibling}
 use Rattle.zerotrie_build.specs.declared.konst.text.Text.{Text}
-use Rattle.zerotrie_build.specs.konst.Texts.{Counts, Has, Puts, tops, bytes_of, lens_of}
+use Rattle.zerotrie_build.specs.konst.Texts.{Counts, Has, Keeps, Puts, tops, bytes_of, lens_of}
 use Rattle.zerotrie_build.proofs.NodeLemmas.{total_more}
 
+-- nothing but the count in front was changed
+pub keeps_same : (old new : Text) → new.buffer.ghost_name ≡ old.buffer.ghost_name → new.buffer.now ≡ old.buffer.now → new.len ≡ old.len → Keeps old new
+keeps_same old new same e f = record { same_reference = same; room = ap length e; more = omega (arith, f); before = λ n l. ap (take n) e }
+
+pub keeps_then : (a b c : Text) → Keeps a b → Keeps b c → Keeps a c
+keeps_then a b c p q = record {
+  same_reference = q.same_reference ∙ p.same_reference;
+  room = q.room ∙ p.room;
+  more = let m = p.more in let k = q.more in omega arith;
+  before = λ n l. let m = q.more in let r = p.room in q.before n (omega arith) ∙ p.before n (omega arith);
+}
+
 pub puts_nothing : (t : Text) → Puts t t []
-puts_nothing t = record { same_reference = refl; has = λ behind h. h; counts = λ front h. subst (Counts t.front) (let e : front ≡ 0 + front = omega arith in e) h }
+puts_nothing t = record { keeps = keeps_same t t refl refl refl; has = λ behind h. h; counts = λ front h. subst (Counts t.front) (let e : front ≡ 0 + front = omega arith in e) h }
 
 -- bytes in front of others
 pub puts_then : (a b c : Text) (xs ys : List ℕ) → Puts a b ys → Puts b c xs → Puts a c (xs ++ ys)
 puts_then a b c xs ys p q = record {
-  same_reference = q.same_reference ∙ p.same_reference;
+  keeps = keeps_then a b c p.keeps q.keeps;
   has = λ behind h. subst (Has c) (sym (append_assoc xs ys behind)) (q.has (ys ++ behind) (p.has behind h));
   counts = λ front h.
       subst (Counts c.front) (let e : length xs + (length ys + front) ≡ length (xs ++ ys) + front = (let k = length-append xs ys in omega arith) in e)

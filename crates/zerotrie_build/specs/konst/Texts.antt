@@ -1,5 +1,5 @@
 -- A text that is written from its last byte to its first into a buffer, which may be too small for it.
-use Rattle.std.specs.Prelude.{◌≡◌, ℕ, ◌+◌, ◌-◌, ◌^◌, ◌<◌, ◌≤◌, List, ◌++◌, length, map, drop, reverse}
+use Rattle.std.specs.Prelude.{◌≡◌, ℕ, ◌+◌, ◌-◌, ◌^◌, ◌<◌, ◌≤◌, List, ◌++◌, length, map, take, drop, reverse}
 use Rattle.zerotrie_build.specs.declared.konst.text.Sibling.{Sibling}
 use Rattle.zerotrie_build.specs.declared.konst.text.Text.{Text}
 
@@ -18,9 +18,16 @@ pub record EndsIn (buffer : List ℕ) (len : ℕ) (bytes : List ℕ) : Type 0 wh
 abbrev pub Has : Text → List ℕ → Type 0
 Has text bytes = EndsIn text.buffer.now text.len bytes
 
--- The bytes were put in front of a text in the same buffer, and counted.
-pub record Puts (old new : Text) (bytes : List ℕ) : Type 0 where
+-- The text is in the same buffer, where the bytes before those that it has by now are as they were.
+pub record Keeps (old new : Text) : Type 0 where
   pub same_reference : new.buffer.ghost_name ≡ old.buffer.ghost_name
+  pub room : length new.buffer.now ≡ length old.buffer.now
+  pub more : old.len ≤ new.len
+  pub before : (n : ℕ) → n + new.len ≤ length old.buffer.now → take n new.buffer.now ≡ take n old.buffer.now
+
+-- The bytes were put in front of a text, and counted.
+pub record Puts (old new : Text) (bytes : List ℕ) : Type 0 where
+  pub keeps : Keeps old new
   pub has : (behind : List ℕ) → Has old behind → Has new (bytes ++ behind)
   pub counts : (front : ℕ) → Counts old.front front → Counts new.front (length bytes + front)
 

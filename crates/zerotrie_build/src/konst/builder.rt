@@ -16,7 +16,7 @@ use zerotrie_core::ZeroTrieBuildError;
 /// ```
 /// let items = [("ad", 22), ("adef", 33)];
 /// let items = ByteSliceWithIndices::from_str_slice(&items);
-/// let builder = ZeroTrieBuilderConst::<7>::from_tuple_slice(items)?;
+/// let builder = ZeroTrieBuilderConst::<8>::from_tuple_slice(items)?;
 /// assert_eq!(rt; builder.build()?.as_slice(), b"ad\x90\x06ef\x90\x11".as_slice());
 /// ```
 #[derive(Drop)]

@@ -1,6 +1,6 @@
 //! Texts that are written from their end into a buffer, or into memory of their own.
 
-ghost use Rattle.std.specs.Prelude.{ℕ, ◌<◌, ◌≤◌, ◌^◌, length, drop, IfOk, IfErr};
+ghost use Rattle.std.specs.Prelude.{◌≡◌, ℕ, ◌+◌, ◌<◌, ◌≤◌, ◌^◌, length, take, drop, IfOk, IfErr};
 ghost use Rattle.zerotrie_core.specs.ArrayRoutes.{IsBuildWithin, IsBuildCopied, IsTooMuch};
 ghost use Rattle.zerotrie_build.specs.Items.{pairs};
 ghost use Rattle.zerotrie_build.specs.konst.Growing.{IsWritten};
@@ -12,7 +12,7 @@ use zerotrie_core::{ZeroTrieBuildError, laws};
 
 /// Writes the text of the trie of the items, whose keys ascend strictly by their bytes, at the end of a buffer,
 /// with a stack of `K`, and answers where it begins. The bytes from there on are the one text of the map of the
-/// items. It takes no memory.
+/// items, and those before stay. Where it is refused, the buffer may hold bytes of the text. It takes no memory.
 ///
 /// ```
 /// let items = [("ad", 22), ("adef", 33)];
@@ -35,6 +35,7 @@ pub fn fill_from_end<const K: usize>(
     ensures build { IsBuildWithin (length buffer.old) K (λ start. drop start buffer.new)
         (pairs items.entry) result }
     ensures within { IfOk result (λ start. start ≤ length buffer.old) }
+    ensures before { IfOk result (λ start. take start buffer.new ≡ take start buffer.old) }
 {
     laws::canonical_exactly();
     laws::meant_fits();
@@ -45,11 +46,11 @@ pub fn fill_from_end<const K: usize>(
     Ok(buffer.len() - len)
 }
 
-/// Builds the trie of the items as `fill_from_end`, in memory of its own, and answers its bytes. There may be
-/// `most` of them.
+/// Builds the trie of the items as `fill_from_end`, in memory of its own, and answers its bytes, of which there
+/// may be `most`.
 ///
-/// They are counted first, so the memory that it takes is theirs alone. A build is refused as one in a buffer
-/// of `most` bytes, or with `OutOfMemory`.
+/// They are counted first, and then it takes memory for as many. A build is refused as one in a buffer of
+/// `most` bytes is, or with `OutOfMemory`.
 pub fn bytes_within<const K: usize>(
     alloc: Global,
     most: usize,
@@ -77,6 +78,8 @@ fn write<const K: usize>(
 ) -> Result<usize, ZeroTrieBuildError>
     requires { K < 2 ^ 58 }
     ensures written { IfOk result (λ len. IsWritten K (pairs items.entry) buffer.new len) }
+    ensures before { IfOk result (λ len. (n : ℕ) → n + len ≤ length buffer.old
+        → take n buffer.new ≡ take n buffer.old) }
     ensures refused { IfErr result (λ e. (n : ℕ) → IsTooMuch n K (pairs items.entry) e) }
 {
     if !items.is_sorted() {

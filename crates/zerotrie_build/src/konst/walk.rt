@@ -11,7 +11,7 @@ ghost use Rattle.zerotrie_core.specs.Stack.{stack_of};
 ghost use Rattle.zerotrie_core.specs.Causes.{CapacityExceeded, StackExceeded};
 ghost use Rattle.zerotrie_build.specs.Items.{pairs};
 ghost use Rattle.zerotrie_build.specs.Order.{Before, Ordered};
-ghost use Rattle.zerotrie_build.specs.konst.Texts.{EndsIn, tops};
+ghost use Rattle.zerotrie_build.specs.konst.Texts.{EndsIn, Keeps, tops};
 ghost use Rattle.zerotrie_build.specs.konst.Growing.{NoneAt, AllAt, Standing, Waiting, BuiltFrom, Joins, TooWide, IsStuckAt, IsStuckFrom, IsStuckBefore, IsStuck};
 
 use crate::konst::text::{Sibling, Text, total};
@@ -33,7 +33,7 @@ fn set_aside<const K: usize>(
     ensures front { OnOk result (text.new.front ≡ 0) }
     ensures bytes { OnOk result (text.new.buffer.now ≡ text.old.buffer.now) }
     ensures len { OnOk result (text.new.len ≡ text.old.len) }
-    ensures same_reference { text.new.buffer.ghost_name ≡ text.old.buffer.ghost_name }
+    ensures keeps { OnOk result (Keeps text.old text.new) }
     ensures refused { IfErr result (λ e. (e ≡ StackExceeded) × (K ≤ length siblings.old.items)) }
 {
     if siblings.is_full() {
@@ -67,7 +67,7 @@ fn join<const K: usize>(
     siblings: &mut ArrayVec<Sibling, K>,
     depth: usize,
 ) -> Result<(), ZeroTrieBuildError>
-    ensures same_reference { text.new.buffer.ghost_name ≡ text.old.buffer.ghost_name }
+    ensures keeps { OnOk result (Keeps text.old text.new) }
     ensures joins { OnOk result (Joins depth text.old text.new
         (tops siblings.old.items) (tops siblings.new.items)) }
     ensures refused { IfErr result (λ e. (e ≡ CapacityExceeded)
@@ -105,7 +105,7 @@ fn close_level<const K: usize>(
 ) -> Result<(), ZeroTrieBuildError>
     requires within { depth < length key.now }
     requires ascii { All (λ b. b < 128) key.now }
-    ensures same_reference { text.new.buffer.ghost_name ≡ text.old.buffer.ghost_name }
+    ensures keeps { OnOk result (Keeps text.old text.new) }
     ensures closed { OnOk result ((listed : Pairs)
         → Standing K key.now (suc depth) text.old siblings.old.items listed
         → Standing K key.now depth text.new siblings.new.items listed) }
@@ -130,7 +130,7 @@ fn close_to<const K: usize>(
 ) -> Result<(), ZeroTrieBuildError>
     requires within { stop ≤ length key.now }
     requires ascii { All (λ b. b < 128) key.now }
-    ensures same_reference { text.new.buffer.ghost_name ≡ text.old.buffer.ghost_name }
+    ensures keeps { OnOk result (Keeps text.old text.new) }
     ensures closed { OnOk result ((listed : Pairs)
         → Standing K key.now (length key.now) text.old siblings.old.items listed
         → Standing K key.now stop text.new siblings.new.items listed) }
@@ -155,7 +155,7 @@ fn go_before<const K: usize>(
 ) -> Result<(), ZeroTrieBuildError>
     requires sorted { Before simple_ascii before.now key.now }
     requires ascii { All (λ b. b < 128) key.now }
-    ensures same_reference { text.new.buffer.ghost_name ≡ text.old.buffer.ghost_name }
+    ensures keeps { OnOk result (Keeps text.old text.new) }
     ensures waits { OnOk result ((listed : Pairs)
         → Standing K key.now (length key.now) text.old siblings.old.items listed
         → Waiting K before.now text.new siblings.new.items listed) }
@@ -182,7 +182,7 @@ fn add<const K: usize>(
     requires sorted { Ordered simple_ascii (pairs items) }
     requires ascii { All (λ e. All (λ b. b < 128) e.0) (pairs items) }
     requires built { BuiltFrom K (suc index) (pairs items) text.old siblings.old.items }
-    ensures same_reference { text.new.buffer.ghost_name ≡ text.old.buffer.ghost_name }
+    ensures keeps { OnOk result (Keeps text.old text.new) }
     ensures built { OnOk result (BuiltFrom K index (pairs items.entry) text.new siblings.new.items) }
     ensures refused { IfErr result (IsStuck K (pairs items.entry)) }
 {
@@ -196,7 +196,7 @@ fn add<const K: usize>(
 }
 
 /// Writes the text of the trie of the items at the end of the buffer, if it has room for it, and answers how
-/// many bytes the text has, or the greatest number where it has more.
+/// many bytes the text has, or the greatest number where it has more. What stands before the text stays.
 pub(crate) fn grow<const K: usize>(
     buffer: &mut [u8],
     items: ByteSliceWithIndices<'_>,
@@ -206,6 +206,8 @@ pub(crate) fn grow<const K: usize>(
     requires ascii { All (λ e. All (λ b. b < 128) e.0) (pairs items) }
     ensures grown { IfOk result (λ len. (bytes : List ℕ) × EndsIn buffer.new len bytes
         × Lists simple_ascii bytes (pairs items.entry)) }
+    ensures before { IfOk result (λ len. (n : ℕ) → n + len ≤ length buffer.old
+        → take n buffer.new ≡ take n buffer.old) }
     ensures within { IfOk result (λ len. stack_of (pairs items.entry) ≤ K) }
     ensures refused { IfErr result (IsStuck K (pairs items.entry)) }
 {

@@ -1,6 +1,7 @@
-use Rattle.std.proofs.Common.{◌≡◌, ◌-◌, ◌∙◌, suc, arith, subst}
+use Rattle.std.proofs.Common.{◌≡◌, ◌-◌, suc, arith, subst}
 use Rattle.std.proofs.lemmas.Result.{err_from_is_err_and}
 use Rattle.zerotrie_build.specs.konst.Growing.{Standing}
+use Rattle.zerotrie_build.proofs.ArrayText.{keeps_then}
 use Rattle.zerotrie_build.proofs.konst.walk.close_to.Goals as goal
 
 pub loop-depth-preserved : goal.loop-depth-preserved
@@ -12,7 +13,7 @@ loop-depth-preserved g c =
       closed = λ listed standing.
           c.in_ok-close_level.ensures.closed listed
           (subst (λ d. Standing g.row.K c.args.key.now d c.loop-depth.text c.loop-depth.siblings.items listed) next (v.closed listed standing));
-      same_reference = c.in_ok-close_level.ensures.same_reference ∙ v.same_reference;
+      keeps = keeps_then _ _ _ v.keeps c.in_ok-close_level.ensures.keeps;
       stop = omega arith;
       within = let w = v.within in omega arith;
     }

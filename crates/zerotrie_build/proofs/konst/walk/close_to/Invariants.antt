@@ -1,5 +1,6 @@
-use Rattle.std.proofs.Common.{◌≡◌, ◌≤◌, length}
+use Rattle.std.proofs.Common.{◌≤◌, length}
 use Rattle.zerotrie_core.specs.Maps.{Pairs}
+use Rattle.zerotrie_build.specs.konst.Texts.{Keeps}
 use Rattle.zerotrie_build.specs.konst.Growing.{Standing}
 use Rattle.zerotrie_build.proofs.konst.walk.close_to.Given as goal
 
@@ -7,7 +8,7 @@ abbrev pub invariant-loop-depth : goal.invariant-loop-depth
 invariant-loop-depth g l = record {
   closed : (listed : Pairs) → Standing g.row.K l.key (length l.key) l.initial.text l.initial.siblings.items listed
       → Standing g.row.K l.key l.depth l.text l.siblings.items listed;
-  same_reference : l.text.buffer.ghost_name ≡ l.initial.text.buffer.ghost_name;
+  keeps : Keeps l.initial.text l.text;
   stop : l.stop ≤ l.depth;
   within : l.depth ≤ length l.key;
 }

@@ -2,12 +2,13 @@ use Rattle.std.proofs.Common.{◌≡◌, ◌-◌, suc, arith, refl, rules, subst
 use Rattle.zerotrie_build.specs.Items.{pairs}
 use Rattle.zerotrie_build.specs.konst.Growing.{BuiltFrom}
 use Rattle.zerotrie_build.proofs.ArrayAdding.{built_nothing}
+use Rattle.zerotrie_build.proofs.ArrayText.{keeps_same}
 use Rattle.zerotrie_build.proofs.konst.walk.grow.Goals as goal
 
 pub loop-index-init : goal.loop-index-init
 loop-index-init g c = record {
   built = rw c.new-siblings.ensures (built_nothing g.row.K (pairs c.args.items) c.len-index.result _ c.len-index.ensures refl refl);
-  same_reference = refl;
+  keeps = keeps_same _ _ refl refl refl;
   within = let e = c.len-index.ensures in omega arith;
 }
 

@@ -1,12 +1,13 @@
-use Rattle.std.proofs.Common.{◌≡◌, ◌≤◌, length}
+use Rattle.std.proofs.Common.{◌≤◌, length}
 use Rattle.zerotrie_build.specs.Items.{pairs}
+use Rattle.zerotrie_build.specs.konst.Texts.{Keeps}
 use Rattle.zerotrie_build.specs.konst.Growing.{BuiltFrom}
 use Rattle.zerotrie_build.proofs.konst.walk.grow.Given as goal
 
 abbrev pub invariant-loop-index : goal.invariant-loop-index
 invariant-loop-index g l = record {
   built : BuiltFrom g.row.K l.index (pairs l.items) l.text l.siblings.items;
-  same_reference : l.text.buffer.ghost_name ≡ l.initial.text.buffer.ghost_name;
+  keeps : Keeps l.initial.text l.text;
   within : l.index ≤ length (pairs l.items);
 }
 
