@@ -17,7 +17,7 @@ ghost use Rattle.zerotrie_core.specs.declared.listing.ListError.TheVariants.{Out
 use crate::branch::Branch;
 use crate::node::{Node, first_node};
 use crate::options::{Ext, Hash, Ignore, Simple, ZeroTrieBuilderOptions, ZeroTrieWithOptions};
-use std::alloc::{AllocError, AllocFailed, Global};
+use std::alloc::{AllocError, AllocFailed, Allocator, Global};
 use std::marker::Model;
 use thiserror::Error;
 
@@ -56,6 +56,48 @@ struct OpenBranch<'a> {
     depth: usize,
 }
 
+/// A listing whose memory comes from any allocator.
+#[derive(Drop)]
+struct Listing<'a, A: Allocator> {
+    options: ZeroTrieBuilderOptions,
+    rest: &'a [u8],
+    prefix: Vec<u8, A>,
+    branches: Vec<OpenBranch<'a>, A>,
+    ended: bool,
+}
+
+impl<'a, A: Allocator> Model for Listing<'a, A> {
+    ghost use Rattle.std.specs.Prelude.{◌≡◌, false, reverse, length};
+    ghost use Rattle.zerotrie_core.specs.Kind.{kind_with};
+    ghost use Rattle.zerotrie_core.specs.Listings.{Left};
+    ghost use Rattle.zerotrie_core.specs.listing.Opened.{left_in, Nested};
+
+    ghost Value = { Left };
+
+    ghost view = { λ s. left_in s.ended (kind_with s.options) s.prefix.items s.rest.now s.branches.items };
+
+    ghost invariant = { λ s. s.ended ≡ false → Nested (length s.prefix.items) (reverse s.branches.items) };
+}
+
+impl<'a, A: Allocator + Copy> Listing<'a, A> {
+    ghost use Rattle.zerotrie_core.specs.Listings.{to_come};
+
+    /// The pairs of these bytes.
+    fn new<K: ZeroTrieWithOptions>(alloc: A, bytes: &'a [u8]) -> Self
+        ensures lists { (pairs : Pairs) → Lists K.kind bytes.now pairs → result ≡ to_come pairs }
+        ensures most { length result.pairs ≤ length bytes.now }
+        ensures fresh { result.ended ≡ false }
+    {
+        Listing {
+            options: ZeroTrieBuilderOptions::of::<K>(),
+            rest: bytes,
+            prefix: Vec::new(alloc),
+            branches: Vec::new(alloc),
+            ended: false,
+        }
+    }
+}
+
 /// The pairs of a text, one after another: a value comes before what follows it, and the targets of a branch
 /// come in the order of its table.
 ///
@@ -71,24 +113,15 @@ struct OpenBranch<'a> {
 /// begins: of n bytes at most n pairs.
 #[derive(Drop)]
 pub struct ZeroTrieIterator<'a> {
-    options: ZeroTrieBuilderOptions,
-    rest: &'a [u8],
-    prefix: Vec<u8>,
-    branches: Vec<OpenBranch<'a>>,
-    ended: bool,
+    listing: Listing<'a, Global>,
 }
 
 impl<'a> Model for ZeroTrieIterator<'a> {
-    ghost use Rattle.std.specs.Prelude.{◌≡◌, false, reverse, length};
-    ghost use Rattle.zerotrie_core.specs.Kind.{kind_with};
     ghost use Rattle.zerotrie_core.specs.Listings.{Left};
-    ghost use Rattle.zerotrie_core.specs.listing.Opened.{left_in, Nested};
 
     ghost Value = { Left };
 
-    ghost view = { λ s. left_in s.ended (kind_with s.options) s.prefix.items s.rest.now s.branches.items };
-
-    ghost invariant = { λ s. s.ended ≡ false → Nested (length s.prefix.items) (reverse s.branches.items) };
+    ghost view = { λ s. s.listing };
 }
 
 impl<'a> ZeroTrieIterator<'a> {
@@ -101,22 +134,32 @@ impl<'a> ZeroTrieIterator<'a> {
         ensures fresh { result.ended ≡ false }
     {
         ZeroTrieIterator {
-            options: ZeroTrieBuilderOptions::of::<K>(),
-            rest: bytes,
-            prefix: Vec::new(alloc),
-            branches: Vec::new(alloc),
-            ended: false,
+            listing: Listing::new::<K>(alloc, bytes),
         }
+    }
+}
+
+impl<'a> Iterator for ZeroTrieIterator<'a> {
+    type Item = Result<(Vec<u8>, usize), ListError>;
+
+    ghost use Rattle.zerotrie_core.specs.Listings.{ListsOne, MemoryOnly, turns_left};
+
+    ghost next_gives = { ListsOne (λ k. k.items) MemoryOnly };
+
+    ghost remaining = { λ s. at_most (turns_left s) };
+
+    fn next(&mut self) -> Option<Result<(Vec<u8>, usize), ListError>> {
+        self.listing.next()
     }
 }
 
 /// Goes into the next target of the innermost open branch, and tells whether there was one.
 ///
 /// Where its offsets fall, nothing more of the branch is listed. So no byte is gone over twice.
-fn next_target<'a>(
+fn next_target<'a, A: Allocator>(
     rest: &mut &'a [u8],
-    prefix: &mut Vec<u8>,
-    branches: &mut Vec<OpenBranch<'a>>,
+    prefix: &mut Vec<u8, A>,
+    branches: &mut Vec<OpenBranch<'a>, A>,
 ) -> Result<bool, AllocError>
     requires nested { Nested (length prefix.old.items) (reverse branches.old.items) }
     ensures nested { IfOk result (λ _. Nested (length prefix.new.items) (reverse branches.new.items)) }
@@ -158,10 +201,10 @@ fn node_at<K: ZeroTrieWithOptions>(bytes: &[u8]) -> Option<Node<'_>>
 }
 
 /// Goes on to the next value, and answers it, or `None` at the end. What stands in front of it is its key.
-fn next_value<'a, K: ZeroTrieWithOptions>(
+fn next_value<'a, K: ZeroTrieWithOptions, A: Allocator>(
     rest: &mut &'a [u8],
-    prefix: &mut Vec<u8>,
-    branches: &mut Vec<OpenBranch<'a>>,
+    prefix: &mut Vec<u8, A>,
+    branches: &mut Vec<OpenBranch<'a>, A>,
 ) -> Result<Option<usize>, AllocError>
     requires nested { Nested (length prefix.old.items) (reverse branches.old.items) }
     ensures nested { IfOk result (λ _. Nested (length prefix.new.items) (reverse branches.new.items)) }
@@ -202,11 +245,11 @@ fn next_value<'a, K: ZeroTrieWithOptions>(
 }
 
 /// Goes on to the next value, by the kind that the options are of.
-fn next_value_of<'a>(
+fn next_value_of<'a, A: Allocator>(
     options: ZeroTrieBuilderOptions,
     rest: &mut &'a [u8],
-    prefix: &mut Vec<u8>,
-    branches: &mut Vec<OpenBranch<'a>>,
+    prefix: &mut Vec<u8, A>,
+    branches: &mut Vec<OpenBranch<'a>, A>,
 ) -> Result<Option<usize>, AllocError>
     requires nested { Nested (length prefix.old.items) (reverse branches.old.items) }
     ensures nested { IfOk result (λ _. Nested (length prefix.new.items) (reverse branches.new.items)) }
@@ -215,25 +258,25 @@ fn next_value_of<'a>(
         (pairs_left (kind_with options) prefix.new.items rest.new.now branches.new.items)) }
 {
     if options.ignore_case() {
-        next_value::<Ignore>(rest, prefix, branches)
+        next_value::<Ignore, A>(rest, prefix, branches)
     } else if options.extended() {
-        next_value::<Ext>(rest, prefix, branches)
+        next_value::<Ext, A>(rest, prefix, branches)
     } else if options.use_phf() {
-        next_value::<Hash>(rest, prefix, branches)
+        next_value::<Hash, A>(rest, prefix, branches)
     } else {
-        next_value::<Simple>(rest, prefix, branches)
+        next_value::<Simple, A>(rest, prefix, branches)
     }
 }
 
 /// The key that stands in the prefix.
-fn key_of(prefix: &Vec<u8>) -> Result<Vec<u8>, AllocError>
+fn key_of<A: Allocator + Copy>(prefix: &Vec<u8, A>) -> Result<Vec<u8, A>, AllocError>
     ensures { IfOk result (λ key. key.items ≡ prefix.now.items) }
 {
     Vec::from_slice(*prefix.allocator(), prefix.as_slice())
 }
 
-impl<'a> Iterator for ZeroTrieIterator<'a> {
-    type Item = Result<(Vec<u8>, usize), ListError>;
+impl<'a, A: Allocator + Copy> Iterator for Listing<'a, A> {
+    type Item = Result<(Vec<u8, A>, usize), ListError>;
 
     ghost use Rattle.zerotrie_core.specs.Listings.{ListsOne, MemoryOnly, turns_left};
 
@@ -241,7 +284,7 @@ impl<'a> Iterator for ZeroTrieIterator<'a> {
 
     ghost remaining = { λ s. at_most (turns_left s) };
 
-    fn next(&mut self) -> Option<Result<(Vec<u8>, usize), ListError>> {
+    fn next(&mut self) -> Option<Result<(Vec<u8, A>, usize), ListError>> {
         if self.ended {
             return None;
         }
@@ -264,5 +307,44 @@ impl<'a> Iterator for ZeroTrieIterator<'a> {
             return Some(Err(ListError::OutOfMemory));
         };
         Some(Ok((key, value)))
+    }
+}
+
+#[cfg(test)]
+mod tests {
+    use super::*;
+    use linked_list_allocator::LocalHeap;
+    use std::test::Fail;
+
+    /// Over heaps of rising size a listing gives a beginning of the pairs, then one error and nothing more, until it
+    /// gives all of them.
+    #[test]
+    fn every_size_of_heap(rt: HostRuntime) -> Result<(), Fail> {
+        let bytes = b"\x80abcdefghijklmnopqrstuvwxyz\xC2AB\x04\xA2\xC3\xA9\x81\xC2ab\x01\x82\x83";
+        let mut complete = 0_usize;
+        for size in 0..40_usize {
+            let heap = LocalHeap::new(rt.alloc(), size * 16)?;
+            let mut all = ZeroTrieIterator::new::<Hash>(rt.alloc(), bytes);
+            let mut refused = 0_usize;
+            for item in Listing::new::<Hash>(&heap, bytes) {
+                assert_eq!(rt; refused, 0);
+                match item {
+                    Ok((key, value)) => {
+                        let (same, number) = all.next().ok_or("one too many")??;
+                        assert_eq!(rt; key.as_slice(), same.as_slice());
+                        assert_eq!(rt; value, number);
+                    }
+                    Err(why) => {
+                        assert!(rt; why == ListError::OutOfMemory);
+                        refused = refused.saturating_add(1);
+                    }
+                }
+            }
+            assert!(rt; refused == 1 || all.next().is_none());
+            assert_eq!(rt; heap.used(), 0);
+            complete = complete.saturating_add(1 - refused.min(1));
+        }
+        assert!(rt; complete > 5 && complete < 35);
+        Ok(())
     }
 }
