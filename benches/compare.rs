@@ -3,8 +3,8 @@
 mod calls;
 mod sets;
 
-use calls::Kind;
-use sets::{Random, Set};
+use calls::{Flat, Kind};
+use sets::{Random, Set, Table};
 use std::collections::{BTreeMap, HashMap};
 use std::hint::black_box;
 use std::time::Instant;
@@ -148,6 +148,74 @@ fn builds(set: &Set, kind: Kind, rounds: usize) {
     }
 }
 
+/// The rows of a table.
+fn rows_of(table: &Table) -> BTreeMap<&str, BTreeMap<&str, usize>> {
+    let mut rows: BTreeMap<&str, BTreeMap<&str, usize>> = BTreeMap::new();
+    for (prefix, suffix, value) in &table.entries {
+        rows.entry(prefix).or_default().insert(suffix, *value);
+    }
+    rows
+}
+
+/// The texts of pairs by turns, in a row.
+fn texts_of(pairs: &[(&str, &str)]) -> Flat {
+    let texts: Vec<Vec<u8>> = pairs.iter().flat_map(|(prefix, suffix)| [prefix, suffix]).map(|text| text.as_bytes().to_vec()).collect();
+    Flat::of(&texts)
+}
+
+/// Asks for each prefix and suffix, so many times, and adds up what is found.
+fn asked_in_rows(pairs: &[(&str, &str)], turns: usize, get: impl Fn(&str, &str) -> Option<usize>) -> usize {
+    (0..turns).flat_map(|_| pairs).map(|(prefix, suffix)| get(prefix, suffix).unwrap_or(1)).fold(0, usize::wrapping_add)
+}
+
+fn dense_look_ups(table: &Table, rounds: usize) {
+    let rows = rows_of(table);
+    let mut held: Vec<(&str, &str)> = table.entries.iter().map(|(prefix, suffix, _)| (prefix.as_str(), suffix.as_str())).collect();
+    let record = calls::dense_built(&texts_of(&held), &values_of(table));
+    #[cfg(original)]
+    let original = calls::original::dense(&rows);
+    let absent = sets::absent(table);
+    let missing: Vec<(&str, &str)> = absent.iter().map(|(prefix, suffix)| (prefix.as_str(), suffix.as_str())).collect();
+    Random::new(43).shuffle(&mut held);
+    for (what, pairs) in [("hits, shuffled", &held), ("misses", &missing)] {
+        let turns = (20_000 / pairs.len()).max(1);
+        let texts = texts_of(pairs);
+        let mut contestants: Vec<(&str, Box<dyn FnMut() -> usize + '_>)> = Vec::new();
+        let record = record.as_slice();
+        contestants.push(("ours", Box::new(move || calls::dense_ask_many(record, &texts, turns))));
+        let rows = &rows;
+        contestants.push(("BTreeMap", Box::new(move || asked_in_rows(pairs, turns, |prefix, suffix| rows.get(prefix)?.get(suffix).copied()))));
+        #[cfg(original)]
+        {
+            let original = original.as_borrowed();
+            contestants.push(("the crate", Box::new(move || asked_in_rows(pairs, turns, |prefix, suffix| original.get(prefix, suffix)))));
+        }
+        let answers: Vec<usize> = contestants.iter_mut().map(|(_, work)| work()).collect();
+        assert!(answers.iter().all(|answer| *answer == answers[0]), "the answers differ");
+        run_line(&format!("{}, {what}", table.name), rounds, turns * pairs.len(), contestants);
+    }
+}
+
+fn values_of(table: &Table) -> Vec<usize> {
+    table.entries.iter().map(|(_, _, value)| *value).collect()
+}
+
+fn dense_builds(table: &Table, rounds: usize) {
+    let pairs: Vec<(&str, &str)> = table.entries.iter().map(|(prefix, suffix, _)| (prefix.as_str(), suffix.as_str())).collect();
+    let (texts, values) = (texts_of(&pairs), values_of(table));
+    let turns = (500_000 / pairs.len()).max(1);
+    let mut out = vec![0; 64 * texts.bytes() + 64];
+    let mut contestants: Vec<(&str, Box<dyn FnMut() -> usize + '_>)> = Vec::new();
+    contestants.push(("ours", Box::new(move || calls::dense_build_many(&texts, &values, turns, &mut out))));
+    #[cfg(original)]
+    {
+        let rows = rows_of(table);
+        let build = move || calls::original::dense(&rows).as_borrowed().get("", "").unwrap_or(1);
+        contestants.push(("the crate", Box::new(move || (0..turns).map(|_| build()).sum())));
+    }
+    run_line(&format!("{}, build", table.name), rounds, turns, contestants);
+}
+
 fn hash_search(count: usize, rounds: usize) {
     let mut keys: Vec<u8> = (0..=255).collect();
     Random::new(53).shuffle(&mut keys);
@@ -188,6 +256,15 @@ fn main() {
     for set in sets::all().iter().filter(|set| set.name.contains(&wanted)) {
         for kind in Kind::of(&set.keys) {
             builds(set, kind, rounds);
+        }
+    }
+    for (title, measure) in [
+        ("Dense tables, look-ups", dense_look_ups as fn(&Table, usize)),
+        ("Dense tables, each", dense_builds),
+    ] {
+        println!("\n{title}");
+        for table in sets::tables().iter().filter(|table| table.name.contains(&wanted)) {
+            measure(table, rounds);
         }
     }
     if last.is_some() && wanted.is_empty() {

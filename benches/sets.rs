@@ -153,6 +153,77 @@ pub fn all() -> Vec<Set> {
     ]
 }
 
+/// A set of values, each of a prefix and a suffix, in the order of both.
+pub struct Table {
+    pub name: &'static str,
+    pub entries: Vec<(String, String, usize)>,
+}
+
+const OTHER_REGIONS: &[&str] = &["AO", "BD", "BG", "BO", "CL", "CO", "CZ", "DK", "FI"];
+
+/// Values of locales: three rows in four have most regions, with values in a range of 500 but for some, and the others
+/// have a few regions with values from anywhere.
+fn locales() -> Vec<(String, String, usize)> {
+    let mut random = Random::new(59);
+    let scripts = SCRIPTS.iter().flat_map(|script| LANGUAGES.iter().map(move |language| format!("{language}-{script}")));
+    let prefixes: Vec<String> = LANGUAGES.iter().map(|language| language.to_string()).chain(scripts).take(200).collect();
+    let mut entries = BTreeMap::new();
+    for prefix in &prefixes {
+        let is_full = random.below(4) > 0;
+        let base = random.below(100_000);
+        for region in REGIONS.iter().chain(OTHER_REGIONS) {
+            if random.below(60) < if is_full { 45 } else { 3 } {
+                let is_near = is_full && random.below(40) > 0;
+                let value = if is_near { base + random.below(500) } else { random.below(10_000_000) };
+                entries.insert((prefix.clone(), region.to_string()), value);
+            }
+        }
+    }
+    entries.into_iter().map(|((prefix, suffix), value)| (prefix, suffix, value)).collect()
+}
+
+/// So many full rows of so many suffixes, each row with its values in a range of 1,000.
+fn full_rows(prefixes: usize, suffixes: usize) -> Vec<(String, String, usize)> {
+    let mut random = Random::new(61);
+    let text = |word: Vec<u8>| String::from_utf8(word).unwrap();
+    let suffixes: Vec<String> = words(67, suffixes).into_iter().map(text).collect();
+    let mut entries = Vec::new();
+    for prefix in words(71, prefixes).into_iter().map(text) {
+        let base = random.below(100_000);
+        entries.extend(suffixes.iter().map(|suffix| (prefix.clone(), suffix.clone(), base + random.below(1_000))));
+    }
+    entries
+}
+
+/// The tables of prefixes and suffixes.
+pub fn tables() -> Vec<Table> {
+    vec![
+        Table { name: "200 locales by 60 regions", entries: locales() },
+        Table { name: "1,000 rows by 100 suffixes", entries: full_rows(1_000, 100) },
+    ]
+}
+
+/// As many prefixes and suffixes without a value as the table has values: both of them texts of the table, or one with a changed byte.
+pub fn absent(table: &Table) -> Vec<(String, String)> {
+    let mut random = Random::new(73);
+    let held: BTreeSet<(&str, &str)> = table.entries.iter().map(|(prefix, suffix, _)| (prefix.as_str(), suffix.as_str())).collect();
+    let mut missing = Vec::new();
+    while missing.len() < table.entries.len() {
+        let prefix = &table.entries[random.below(table.entries.len())].0;
+        let suffix = &table.entries[random.below(table.entries.len())].1;
+        let mut texts = [prefix.clone().into_bytes(), suffix.clone().into_bytes()];
+        if let Some(changed) = texts.get_mut(random.below(3)) {
+            let place = random.below(changed.len());
+            changed[place] = b'a' + random.below(26) as u8;
+        }
+        let [prefix, suffix] = texts.map(|text| String::from_utf8(text).unwrap());
+        if !held.contains(&(prefix.as_str(), suffix.as_str())) {
+            missing.push((prefix, suffix));
+        }
+    }
+    missing
+}
+
 /// Keys that are not in the set: each is a key of it with one byte changed.
 pub fn misses(set: &Set) -> Vec<Vec<u8>> {
     let mut random = Random::new(41);
