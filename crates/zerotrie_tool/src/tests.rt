@@ -279,7 +279,7 @@ fn faults_of_readers(rt: HostRuntime) -> Result<(), Fail> {
     Ok(())
 }
 
-/// Takes four bytes at a time, and fails where it has taken its calls.
+/// Takes sixteen bytes at a time, and fails where it has taken its calls.
 #[derive(Drop)]
 struct FailingWriter {
     calls: usize,
@@ -298,7 +298,7 @@ impl FailingWriter {
 impl Write for FailingWriter {
     fn write(&mut self, buf: &[u8]) -> io::Result<usize> {
         self.call()?;
-        Ok(buf.len().min(4))
+        Ok(buf.len().min(16))
     }
 
     fn flush(&mut self) -> io::Result<()> {
@@ -308,9 +308,10 @@ impl Write for FailingWriter {
 
 #[test]
 fn faults_of_writers(rt: HostRuntime) -> Result<(), Fail> {
-    // Ten bytes take three calls, and the fourth flushes.
+    let input = b"kind simple\n+ 11\n+ 22 ad\n+ 33 adef\n+ 44 adghk\nbuild\n? ad\n? unknown\n";
+    // The answer's 47 bytes take three calls, and the fourth flushes.
     for calls in 0..6 {
-        let mut reader = Noted::new(b"kind simple\n?\n?\n".as_slice());
+        let mut reader = Noted::new(input.as_slice());
         let mut writer = Noted::new(FailingWriter { calls });
         let answer = run(rt.alloc(), &mut reader, &mut writer);
         let status = if calls < 4 {
