@@ -24,6 +24,7 @@ use zerotrie_core::{
 
 /// Puts the items in the order of the kind.
 fn put_in_order<K: ZeroTrieWithOptions>(
+    alloc: Global,
     items: &mut [(&[u8], usize)],
 ) -> Result<(), ZeroTrieBuildError>
     ensures same { IsPermutation (pairs_of items.old) (pairs_of items.new) }
@@ -33,7 +34,7 @@ fn put_in_order<K: ZeroTrieWithOptions>(
     ensures refused { IfErr result (HasCause any_order K.kind (pairs_of items.old)) }
     ensures no_search { IfErr result (λ e. e ≢ ZeroTrieBuildError.CouldNotSolvePerfectHash) }
 {
-    sort_by_fold::<K>(items);
+    sort_by_fold::<K, Global>(alloc, items);
     if repeats_next(items) {
         return Err(ZeroTrieBuildError::DuplicateKey);
     }
@@ -69,7 +70,7 @@ fn grow_sorted<K: ZeroTrieWithOptions, S: TrieBuilderStore + Drop>(
 ) -> Result<S, ZeroTrieBuildError>
     ensures { IsBuild any_order K.kind S.list (pairs_of items.old) result }
 {
-    put_in_order::<K>(items)?;
+    put_in_order::<K>(alloc, items)?;
     grow_ordered::<K, S>(alloc, ByteSliceWithIndices::from_byte_slice(items))
 }
 
@@ -160,7 +161,7 @@ fn len_sorted<K: ZeroTrieWithOptions>(
 ) -> Result<usize, ZeroTrieBuildError>
     ensures { IsLength any_order K.kind (pairs_of items.old) result }
 {
-    put_in_order::<K>(items)?;
+    put_in_order::<K>(alloc, items)?;
     len_ordered::<K>(alloc, ByteSliceWithIndices::from_byte_slice(items))
 }
 
