@@ -176,9 +176,11 @@ impl<A: Allocator + Copy> Measured<A> {
         ensures refused { IfErr result (λ e. e ≢ ZeroTrieBuildError.OutOfMemory
             → (e ≡ ZeroTrieBuildError.CapacityExceeded) × (2 ^ 64 ≤ size_of K.kind (pairs items.entry))) }
     {
+        // Most sets of keys have fewer windows than this.
+        let room = items.len().saturating_add(items.len() / 2);
         let mut measured = Measured {
-            windows: Vec::new(alloc),
-            targets: Vec::new(alloc),
+            windows: Vec::with_capacity(alloc, room)?,
+            targets: Vec::with_capacity(alloc, room)?,
         };
         measured.windows.push(Window {
             from: 0,
