@@ -14,7 +14,7 @@ ghost use Rattle.zerotrie_build.specs.passes.Measured.{Run, Stops, IsMeasured};
 ghost use Rattle.zerotrie_build.specs.passes.Walking.{lens, IsOpened, Walking};
 
 use crate::slice_indices::ByteSliceWithIndices;
-use crate::steps::{Step, Window, first_step, group_end};
+use crate::steps::{Step, Window, first_step, group_end, literals_end};
 use std::alloc::{AllocError, Allocator};
 use zerotrie_core::{ZeroTrieBuildError, ZeroTrieWithOptions};
 
@@ -96,8 +96,9 @@ fn behind_run<K: ZeroTrieWithOptions>(
                 rest.from += 1;
             }
             Step::Literal(_) => {
-                len = plus(len, 1)?;
-                rest.depth += 1;
+                let end = literals_end(items, rest);
+                len = plus(len, end - rest.depth)?;
+                rest.depth = end;
             }
             Step::Span(count) => {
                 let lead = plus(len, count_len(count))?;
