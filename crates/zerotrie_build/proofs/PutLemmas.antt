@@ -5,9 +5,9 @@ use Rattle.std.proofs.lemmas.List.{append-nil, take_more, get_or-map}
 use Rattle.std.proofs.lemmas.List.Sums.{sum_by-cons}
 use Rattle.std.proofs.lemmas.List.FromFn.{length-map-range_with_len}
 use Rattle.std.specs.List.{range_with_len}
-use Rattle.zerotrie_core.specs.Numbers.{Form, Spells, spelled_as, branch_form}
+use Rattle.zerotrie_core.specs.Numbers.{Form, Spells, extender, spelled_as, branch_form}
 use Rattle.zerotrie_core.specs.Branches.{IsWidth, blocks, total, ends, branch_front}
-use Rattle.zerotrie_core.proofs.CallerLemmas.{below_metadata, spelling_is, length-blocks, width_is}
+use Rattle.zerotrie_core.proofs.CallerLemmas.{below_metadata, spelling_is, Completes, length-blocks, width_is}
 use Rattle.zerotrie_build.specs.passes.Puts.{Puts}
 use Rattle.zerotrie_build.specs.declared.measuring.Target.{Target}
 use Rattle.zerotrie_build.specs.passes.Measured.{target_at}
@@ -49,6 +49,15 @@ length-with_bits bits (b ∷ bytes) = refl
 pub number_len : (form : Form) (v bits : ℕ) (bytes : List ℕ) → (form.latent_value ≡ 16) ⊎ (form.latent_value ≡ 32) → bits ≡ form.metadata * (2 * form.latent_value)
     → Spells form.latent_value 0 v bytes → length bytes ≡ length (spelled_as form v)
 number_len form v bits bytes known e s = sym (length-with_bits bits bytes) ∙ ap length (number_is form v bits bytes known e s)
+
+-- A number has one byte more than its trail.
+pub spelled_len : (form : Form) (L v rest : ℕ) (trail : List ℕ) → (L ≡ 16) ⊎ (L ≡ 32) → form.latent_value ≡ L → v < 2 ^ 64 → rest < L
+    → Completes L v rest trail → length (spelled_as form v) ≡ suc (length trail)
+spelled_len form L v rest trail known is below digit c =
+    let c' : Completes form.latent_value v rest trail = subst (λ x. Completes x v rest trail) (sym is) c in
+    sym (ap length (spelling_is form v ((form.metadata * (2 * form.latent_value) + extender trail * form.latent_value + rest) ∷ trail)
+    (subst (λ x. (x ≡ 16) ⊎ (x ≡ 32)) (sym is) known)
+    (record { digit = rest; trail = trail; below = below; digit_below = omega arith; is_trail = c'.is_trail; bytes_are = refl; value = c'.value })))
 
 pub count_map : {A : Type 0} (f : A → ℕ) (xs : List A) → length (map f xs) ≡ length xs
 count_map f [] = refl

@@ -4,3 +4,4 @@ pub mod Measured
 pub mod Puts
 pub mod Writing
 pub mod Walking
+pub mod Sorts

@@ -2,7 +2,7 @@
 
 ghost use Rattle.std.specs.Prelude.{◌≡◌, ◌≢◌, ◌↔◌, ℕ, List, ◌+◌, ◌-◌, ◌*◌, ◌%◌, ◌^◌, ◌<◌, ◌≤◌, ◌⊎◌, ◌++◌, length, map, IfOk, OnOk, IfErr, IsTrue};
 ghost use Rattle.zerotrie_core.specs.Kind.{is_hashed, greatest_width};
-ghost use Rattle.zerotrie_core.specs.Numbers.{value_form, span_form, spelled_as};
+ghost use Rattle.zerotrie_core.specs.Numbers.{Form, value_form, span_form, spelled_as};
 ghost use Rattle.zerotrie_core.specs.Maps.{map_of};
 ghost use Rattle.zerotrie_core.specs.Branches.{IsWidth, total as sum};
 ghost use Rattle.zerotrie_core.specs.Canonical.{size_of, branch_size};
@@ -14,11 +14,9 @@ ghost use Rattle.zerotrie_build.specs.passes.Measured.{Run, Stops, IsMeasured};
 ghost use Rattle.zerotrie_build.specs.passes.Walking.{lens, IsOpened, Walking};
 
 use crate::slice_indices::ByteSliceWithIndices;
-use crate::steps::{Step, Window, first_step, group_end};
+use crate::steps::{Step, Window, first_step, group_end, literals_end};
 use std::alloc::{AllocError, Allocator};
-use zerotrie_core::{
-    ZeroTrieBuildError, ZeroTrieWithOptions, write_varint_meta2, write_varint_meta3,
-};
+use zerotrie_core::{ZeroTrieBuildError, ZeroTrieWithOptions};
 
 /// Of a window: the numbers of the windows that are the targets of its first branch, from `first` to below
 /// `end`, and how long its text is. Until the targets are measured, that is how long the text in front of the
@@ -45,18 +43,33 @@ fn plus(a: usize, b: usize) -> Result<usize, ZeroTrieBuildError>
     a.checked_add(b).ok_or(ZeroTrieBuildError::CapacityExceeded)
 }
 
+/// How many bytes a number has in the form whose shortest number of two bytes is `latent`.
+fn number_len(latent: usize, number: usize) -> usize
+    requires { (latent ≡ 16) ⊎ (latent ≡ 32) }
+    ensures len { (form : Form) → form.latent_value ≡ latent → result ≡ length (spelled_as form number) }
+    ensures few { result ≤ 10 }
+{
+    let mut len = 1;
+    let mut rest = number;
+    while rest >= latent {
+        rest = (rest - latent) / 128;
+        len += 1;
+    }
+    len
+}
+
 /// How many bytes a value node has.
 fn value_len(value: usize) -> usize
     ensures { result ≡ length (spelled_as value_form value) }
 {
-    write_varint_meta3(value).len()
+    number_len(16, value)
 }
 
 /// How many bytes the length of a span has.
 fn count_len(count: usize) -> usize
     ensures { result ≡ length (spelled_as span_form count) }
 {
-    write_varint_meta3(count).len()
+    number_len(16, count)
 }
 
 /// The window behind the values, literals and spans that stand first, and how many bytes these have.
@@ -83,8 +96,9 @@ fn behind_run<K: ZeroTrieWithOptions>(
                 rest.from += 1;
             }
             Step::Literal(_) => {
-                len = plus(len, 1)?;
-                rest.depth += 1;
+                let end = literals_end(items, rest);
+                len = plus(len, end - rest.depth)?;
+                rest.depth = end;
             }
             Step::Span(count) => {
                 let lead = plus(len, count_len(count))?;
@@ -163,9 +177,11 @@ impl<A: Allocator + Copy> Measured<A> {
         ensures refused { IfErr result (λ e. e ≢ ZeroTrieBuildError.OutOfMemory
             → (e ≡ ZeroTrieBuildError.CapacityExceeded) × (2 ^ 64 ≤ size_of K.kind (pairs items.entry))) }
     {
+        // Most sets of keys have fewer windows than this.
+        let room = items.len().saturating_add(items.len() / 2);
         let mut measured = Measured {
-            windows: Vec::new(alloc),
-            targets: Vec::new(alloc),
+            windows: Vec::with_capacity(alloc, room)?,
+            targets: Vec::with_capacity(alloc, room)?,
         };
         measured.windows.push(Window {
             from: 0,
@@ -253,7 +269,7 @@ fn branch_len<K: ZeroTrieWithOptions>(edges: usize, total: usize) -> usize
     } else {
         edges
     };
-    write_varint_meta2(256 * width + edges % 256).len() + table + (width + 1) * (edges - 1)
+    number_len(32, 256 * width + edges % 256) + table + (width + 1) * (edges - 1)
 }
 
 /// The lengths of the text of the items and of all targets.

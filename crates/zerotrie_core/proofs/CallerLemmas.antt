@@ -14,6 +14,7 @@ pub use Rattle.zerotrie_core.proofs.SameLemmas.{some_pair, begins_behind}
 pub use Rattle.zerotrie_core.proofs.ListedLemmas.{behind_all-nil}
 -- numbers, and the bytes of a branch in front of its targets
 pub use Rattle.zerotrie_core.proofs.NumberLaws.{below_metadata, spelling_is}
+pub use Rattle.zerotrie_core.proofs.WriteLemmas.{Completes, completes_more}
 pub use Rattle.zerotrie_core.proofs.FrontLemmas.{small_width, wider, width_is, total-lengths, node_many}
 -- edges that rise, and what a node in front of texts lists
 pub use Rattle.zerotrie_core.proofs.TableLemmas.{Rises, AllAbove, rises_distinct, increasing_rises}

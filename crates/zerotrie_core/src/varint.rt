@@ -78,12 +78,13 @@ fn write_number(latent: u8, v: usize) -> ArrayVec<u8, 10>
     let mut extended = 0;
     while value >= latent as usize {
         value -= latent as usize;
-        out.insert(0, (value % 128) as u8 + extended);
+        out.push((value % 128) as u8 + extended);
         extended = 128;
         value /= 128;
     }
     let extender = if extended == 0 { 0 } else { latent };
-    out.insert(0, value as u8 + extender);
+    out.push(value as u8 + extender);
+    out.as_mut_slice().reverse();
     out
 }
 

@@ -1,12 +1,12 @@
-use Rattle.std.proofs.Common.{◌≡◌, ◌*◌}
+use Rattle.std.proofs.Common.{◌≡◌, ◌*◌, reverse}
 use Rattle.zerotrie_core.proofs.varint.write_number.Given as goal
 use Rattle.zerotrie_core.specs.Numbers.{extender}
 use Rattle.zerotrie_core.proofs.WriteLemmas.{Completes}
 
 abbrev pub invariant-loop-value : goal.invariant-loop-value
 invariant-loop-value l = record {
-  extended : l.extended ≡ 128 * extender l.out.items;
-  completes : Completes l.latent l.v l.value l.out.items;
+  extended : l.extended ≡ 128 * extender (reverse l.out.items);
+  completes : Completes l.latent l.v l.value (reverse l.out.items);
 }
 
 abbrev pub decreases-loop-value : goal.decreases-loop-value
