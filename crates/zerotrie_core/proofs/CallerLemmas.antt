@@ -53,7 +53,7 @@ pub use Rattle.zerotrie_core.proofs.FitsLaws.{AllNarrow, narrow_none, narrow_val
 pub use Rattle.zerotrie_core.proofs.SpanLemmas.{by_fronts}
 pub use Rattle.zerotrie_core.proofs.TableLemmas.{increasing_rises}
 -- the map of listed pairs, and keys that are text
-pub use Rattle.zerotrie_core.proofs.ListedMapLemmas.{put_all, meant_entries, keyed-insert, listed_texts}
+pub use Rattle.zerotrie_core.proofs.ListedMapLemmas.{put_all, meant_entries, listed_texts}
 pub use Rattle.zerotrie_core.proofs.CaseLemmas.{every_all}
 -- the stack need of pairs
 pub use Rattle.zerotrie_core.proofs.StackLemmas.{branch_agree, stack_none, stack_value, stack_literal, stack_branch, above, stack_behind, stack_edges, above_edge, above_edges}

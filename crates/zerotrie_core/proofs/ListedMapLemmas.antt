@@ -1,10 +1,8 @@
 -- The map of listed pairs, put in one after another.
 use Rattle.std.proofs.Common.{◌≡◌, ℕ, List, [], ◌∷◌, refl, sym, ◌∙◌, ap, subst, arith, zero, suc, Bool, true, false, cond, Option, Some, None, Ordering, Less, Equal, Greater}
 use Rattle.std.specs.FinMap.{entries, insert, get, put, find, entries-insert, get-insert, get-empty, get-from_entries, same_map, slice_cmp-IsAntisymmetric, nat_cmp-IsAntisymmetric, len-entries, len-empty}
-use Rattle.std.specs.FinMap.Entries.{by_order}
-use Rattle.std.specs.Ordering.{nat_cmp, eq_by_cmp, is_eq, match_ordering}
+use Rattle.std.specs.Ordering.{nat_cmp, eq_by_cmp, is_eq}
 use Rattle.std.specs.Cmp.Lexicographic.{slice_cmp, nat_list_cmp_total}
-use Rattle.std.specs.BTreeMap.{insert_entry}
 use Rattle.std.specs.List.{AllByRecursion}
 use Rattle.std.proofs.lemmas.List.{nil_from_length}
 use Rattle.std.specs.Str.{IsUtf8, IsAscii}
@@ -12,7 +10,6 @@ use Rattle.std.proofs.lemmas.Str.{IsUtf8-from_ascii}
 use Rattle.zerotrie_core.specs.Kind.{Kind}
 use Rattle.zerotrie_core.specs.Kind as kinds
 use Rattle.zerotrie_core.specs.Maps.{Pairs, Map, map_of, same_key}
-use Rattle.zerotrie_core.specs.Items.{keyed}
 use Rattle.zerotrie_core.specs.Texts.{Lists, Means}
 use Rattle.zerotrie_core.proofs.KindLemmas.{edge_limit_is}
 use Rattle.zerotrie_core.proofs.FitsLaws.{KeyBelow, KeysBelow, keys_lists}
@@ -88,19 +85,6 @@ listed_entries {kind = kind} {pairs = pairs} text =
 -- and those of the map that the bytes mean
 pub meant_entries : {kind : Kind} {bytes : List ℕ} {m : Map} (means : Means kind bytes m) → put_all means.pairs [] ≡ entries m
 meant_entries means = listed_entries means.lists ∙ ap entries (sym means.is)
-
-keyed-match : {K : Type 0} (key : K → List ℕ) (o : Ordering) (a b c : List (K × ℕ)) → keyed key (match_ordering o a b c) ≡ by_order o (keyed key a) (keyed key b) (keyed key c)
-keyed-match key Less a b c = refl
-keyed-match key Equal a b c = refl
-keyed-match key Greater a b c = refl
-
--- an insert into the entries of a map whose order is that of the keys' bytes
-pub keyed-insert : {K : Type 0} (cmp : K → K → Ordering) (key : K → List ℕ) → ((j k : K) → cmp j k ≡ slice_cmp nat_cmp (key j) (key k)) → (es : List (K × ℕ)) (k : K) (v : ℕ)
-    → keyed key (insert_entry cmp es k v) ≡ put (slice_cmp nat_cmp) (key k) v (keyed key es)
-keyed-insert cmp key same [] k v = refl
-keyed-insert cmp key same (e ∷ es) k v =
-    keyed-match key (cmp k e.0) ((k, v) ∷ e ∷ es) ((e.0, v) ∷ es) (e ∷ insert_entry cmp es k v)
-    ∙ rw (same k e.0, keyed-insert cmp key same es k v) refl
 
 key_ascii : (key : List ℕ) → KeyBelow 128 key → IsAscii key
 key_ascii [] h i = omega arith

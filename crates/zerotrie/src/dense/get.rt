@@ -14,12 +14,15 @@ use crate::dense::laws::answer_is_entry;
 use crate::dense::table::ZeroAsciiDenseSparse2dTrieBorrowed;
 use zerotrie_core::{Simple, laws, step, take_value};
 
-/// Goes along each byte of a key, one after another.
+/// Goes along each byte of a key, one after another, as long as anything is left.
 fn follow(trie: &mut &[u8], key: &[u8])
     ensures { (pairs : Pairs) → Lists simple_ascii trie.old.now pairs
         → Lists simple_ascii trie.new.now (after_steps simple_ascii key.now pairs) }
 {
     for byte in key {
+        if trie.is_empty() {
+            return;
+        }
         let _edge = step::<Simple>(trie, *byte);
     }
 }
