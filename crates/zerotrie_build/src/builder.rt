@@ -16,7 +16,7 @@ use crate::order::{are_keys, is_ordered, repeats_next, sort_by_fold};
 use crate::slice_indices::ByteSliceWithIndices;
 use crate::store::TrieBuilderStore;
 use crate::writing::write;
-use std::alloc::{AllocError, Global};
+use std::alloc::{AllocError, Allocator, Global};
 use zerotrie_core::{
     Ext, Hash, Ignore, Simple, TrieKey, ZeroTrieBuildError, ZeroTrieBuilderOptions,
     ZeroTrieWithOptions, laws,
@@ -48,8 +48,9 @@ fn put_in_order<K: ZeroTrieWithOptions>(
 }
 
 /// The bytes of the trie of items in the order of the kind.
-fn grow_ordered<K: ZeroTrieWithOptions, S: TrieBuilderStore + Drop>(
+fn grow_ordered<K: ZeroTrieWithOptions, S: TrieBuilderStore + Drop, A: Allocator + Copy>(
     alloc: Global,
+    spare: A,
     items: ByteSliceWithIndices<'_>,
 ) -> Result<S, ZeroTrieBuildError>
     requires ordered { Ordered K.kind (pairs items) }
@@ -58,25 +59,27 @@ fn grow_ordered<K: ZeroTrieWithOptions, S: TrieBuilderStore + Drop>(
 {
     laws::canonical_exactly();
     laws::meant_fits();
-    let measured = measure_all::<K>(alloc, items)?;
-    write::<K, S>(alloc, items, &measured)
+    let measured = measure_all::<K, A>(spare, items)?;
+    write::<K, S, A>(alloc, spare, items, &measured)
 }
 
 /// The bytes of the trie of items in any order, which are put in the order of the kind.
-fn grow_sorted<K: ZeroTrieWithOptions, S: TrieBuilderStore + Drop>(
+fn grow_sorted<K: ZeroTrieWithOptions, S: TrieBuilderStore + Drop, A: Allocator + Copy>(
     alloc: Global,
+    spare: A,
     items: &mut [(&[u8], usize)],
 ) -> Result<S, ZeroTrieBuildError>
     ensures { IsBuild any_order K.kind S.list (pairs_of items.old) result }
 {
     put_in_order::<K>(items)?;
-    grow_ordered::<K, S>(alloc, ByteSliceWithIndices::from_byte_slice(items))
+    grow_ordered::<K, S, A>(alloc, spare, ByteSliceWithIndices::from_byte_slice(items))
 }
 
 /// The bytes of the trie of items that ascend by the bytes of their keys. Where the kind has another order,
 /// they are sorted once more, unless they are in that order too.
-fn grow_ascending<K: ZeroTrieWithOptions, S: TrieBuilderStore + Drop>(
+fn grow_ascending<K: ZeroTrieWithOptions, S: TrieBuilderStore + Drop, A: Allocator + Copy>(
     alloc: Global,
+    spare: A,
     items: ByteSliceWithIndices<'_>,
 ) -> Result<S, ZeroTrieBuildError>
     requires { Ascends (pairs items) }
@@ -86,15 +89,16 @@ fn grow_ascending<K: ZeroTrieWithOptions, S: TrieBuilderStore + Drop>(
         return Err(ZeroTrieBuildError::NonAsciiError);
     }
     if !K::IGNORE_CASE || is_ordered::<K>(items) {
-        return grow_ordered::<K, S>(alloc, items);
+        return grow_ordered::<K, S, A>(alloc, spare, items);
     }
-    let mut items = items.to_vec_u8(alloc)?;
-    grow_sorted::<K, S>(alloc, items.as_mut_slice())
+    let mut items = items.to_vec_in(spare)?;
+    grow_sorted::<K, S, A>(alloc, spare, items.as_mut_slice())
 }
 
 /// The bytes of the trie of items that ascend by the bytes of their keys, in the kind of the options.
-fn grow_slice<S: TrieBuilderStore + Drop>(
+fn grow_slice<S: TrieBuilderStore + Drop, A: Allocator + Copy>(
     alloc: Global,
+    spare: A,
     items: ByteSliceWithIndices<'_>,
     options: ZeroTrieBuilderOptions,
 ) -> Result<S, ZeroTrieBuildError>
@@ -102,37 +106,38 @@ fn grow_slice<S: TrieBuilderStore + Drop>(
     ensures { IsBuild any_order (kind_with options) S.list (pairs items.entry) result }
 {
     if options.ignore_case() {
-        grow_ascending::<Ignore, S>(alloc, items)
+        grow_ascending::<Ignore, S, A>(alloc, spare, items)
     } else if options.extended() {
-        grow_ascending::<Ext, S>(alloc, items)
+        grow_ascending::<Ext, S, A>(alloc, spare, items)
     } else if options.use_phf() {
-        grow_ascending::<Hash, S>(alloc, items)
+        grow_ascending::<Hash, S, A>(alloc, spare, items)
     } else {
-        grow_ascending::<Simple, S>(alloc, items)
+        grow_ascending::<Simple, S, A>(alloc, spare, items)
     }
 }
 
 /// The bytes of the trie of items in any order, in the kind of the options.
-fn grow_any<S: TrieBuilderStore + Drop>(
+fn grow_any<S: TrieBuilderStore + Drop, A: Allocator + Copy>(
     alloc: Global,
+    spare: A,
     items: &mut [(&[u8], usize)],
     options: ZeroTrieBuilderOptions,
 ) -> Result<S, ZeroTrieBuildError>
     ensures { IsBuild any_order (kind_with options) S.list (pairs_of items.old) result }
 {
     if options.ignore_case() {
-        grow_sorted::<Ignore, S>(alloc, items)
+        grow_sorted::<Ignore, S, A>(alloc, spare, items)
     } else if options.extended() {
-        grow_sorted::<Ext, S>(alloc, items)
+        grow_sorted::<Ext, S, A>(alloc, spare, items)
     } else if options.use_phf() {
-        grow_sorted::<Hash, S>(alloc, items)
+        grow_sorted::<Hash, S, A>(alloc, spare, items)
     } else {
-        grow_sorted::<Simple, S>(alloc, items)
+        grow_sorted::<Simple, S, A>(alloc, spare, items)
     }
 }
 
 /// How long the text that was measured is.
-fn whole_len(measured: &Measured) -> usize
+fn whole_len<A: Allocator>(measured: &Measured<A>) -> usize
     requires { 0 < length measured.now.targets.items }
     ensures { result ≡ (target_at measured.now.targets.items 0).len }
 {
@@ -140,8 +145,8 @@ fn whole_len(measured: &Measured) -> usize
 }
 
 /// How long the text of items in the order of the kind is.
-fn len_ordered<K: ZeroTrieWithOptions>(
-    alloc: Global,
+fn len_ordered<K: ZeroTrieWithOptions, A: Allocator + Copy>(
+    alloc: A,
     items: ByteSliceWithIndices<'_>,
 ) -> Result<usize, ZeroTrieBuildError>
     requires ordered { Ordered K.kind (pairs items) }
@@ -149,24 +154,24 @@ fn len_ordered<K: ZeroTrieWithOptions>(
     requires values { AreValues (pairs items) }
     ensures { IsLength any_order K.kind (pairs items.entry) result }
 {
-    let measured = measure_all::<K>(alloc, items)?;
+    let measured = measure_all::<K, A>(alloc, items)?;
     Ok(whole_len(&measured))
 }
 
 /// How long the text of items in any order is, which are put in the order of the kind.
-fn len_sorted<K: ZeroTrieWithOptions>(
-    alloc: Global,
+fn len_sorted<K: ZeroTrieWithOptions, A: Allocator + Copy>(
+    alloc: A,
     items: &mut [(&[u8], usize)],
 ) -> Result<usize, ZeroTrieBuildError>
     ensures { IsLength any_order K.kind (pairs_of items.old) result }
 {
     put_in_order::<K>(items)?;
-    len_ordered::<K>(alloc, ByteSliceWithIndices::from_byte_slice(items))
+    len_ordered::<K, A>(alloc, ByteSliceWithIndices::from_byte_slice(items))
 }
 
 /// How long the text of items that ascend by the bytes of their keys is.
-fn len_ascending<K: ZeroTrieWithOptions>(
-    alloc: Global,
+fn len_ascending<K: ZeroTrieWithOptions, A: Allocator + Copy>(
+    alloc: A,
     items: ByteSliceWithIndices<'_>,
 ) -> Result<usize, ZeroTrieBuildError>
     requires { Ascends (pairs items) }
@@ -176,15 +181,15 @@ fn len_ascending<K: ZeroTrieWithOptions>(
         return Err(ZeroTrieBuildError::NonAsciiError);
     }
     if !K::IGNORE_CASE || is_ordered::<K>(items) {
-        return len_ordered::<K>(alloc, items);
+        return len_ordered::<K, A>(alloc, items);
     }
-    let mut items = items.to_vec_u8(alloc)?;
-    len_sorted::<K>(alloc, items.as_mut_slice())
+    let mut items = items.to_vec_in(alloc)?;
+    len_sorted::<K, A>(alloc, items.as_mut_slice())
 }
 
 /// How long the text of items that ascend by the bytes of their keys is, in the kind of the options.
-fn len_slice(
-    alloc: Global,
+fn len_slice<A: Allocator + Copy>(
+    alloc: A,
     items: ByteSliceWithIndices<'_>,
     options: ZeroTrieBuilderOptions,
 ) -> Result<usize, ZeroTrieBuildError>
@@ -192,13 +197,13 @@ fn len_slice(
     ensures { IsLength any_order (kind_with options) (pairs items.entry) result }
 {
     if options.ignore_case() {
-        len_ascending::<Ignore>(alloc, items)
+        len_ascending::<Ignore, A>(alloc, items)
     } else if options.extended() {
-        len_ascending::<Ext>(alloc, items)
+        len_ascending::<Ext, A>(alloc, items)
     } else if options.use_phf() {
-        len_ascending::<Hash>(alloc, items)
+        len_ascending::<Hash, A>(alloc, items)
     } else {
-        len_ascending::<Simple>(alloc, items)
+        len_ascending::<Simple, A>(alloc, items)
     }
 }
 
@@ -229,10 +234,10 @@ pub fn encoded_len(
 }
 
 /// The items, each key by its bytes. The keys' bytes are not copied.
-fn items_of<K: TrieKey>(
-    alloc: Global,
+fn items_of<K: TrieKey, A: Allocator>(
+    alloc: A,
     given: &[(K, usize)],
-) -> Result<Vec<(&[u8], usize)>, AllocError>
+) -> Result<Vec<(&[u8], usize), A>, AllocError>
     ensures { IfOk result (λ items. pairs_of items.items ≡ keyed K.key given.now) }
 {
     let mut items = Vec::new(alloc);
@@ -280,7 +285,7 @@ impl<S: TrieBuilderStore + Drop> ZeroTrieBuilder<S> {
         if !items.is_sorted() {
             return Err(ZeroTrieBuildError::Unsorted);
         }
-        let data = grow_slice(alloc, items, options)?;
+        let data = grow_slice(alloc, alloc, items, options)?;
         Ok(ZeroTrieBuilder { data })
     }
 
@@ -302,7 +307,7 @@ impl<S: TrieBuilderStore + Drop> ZeroTrieBuilder<S> {
     {
         let given: Vec<(K, usize)> = iter.into_iter().collect(alloc)?;
         let mut items = items_of(alloc, given.as_slice())?;
-        let data = grow_any(alloc, items.as_mut_slice(), options)?;
+        let data = grow_any(alloc, alloc, items.as_mut_slice(), options)?;
         Ok(ZeroTrieBuilder { data })
     }
 

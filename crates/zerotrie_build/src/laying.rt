@@ -12,28 +12,28 @@ ghost use Rattle.zerotrie_build.specs.passes.Writing.{numbers_of, edge_no, place
 use crate::measuring::{Measured, Target, is_hashed};
 use crate::slice_indices::ByteSliceWithIndices;
 use crate::steps::edge_at;
-use std::alloc::{AllocError, Global};
+use std::alloc::{AllocError, Allocator, Global};
 use zerotrie_core::{PerfectByteHashMapCacheOwned, ZeroTrieBuildError, ZeroTrieWithOptions};
 
-/// The layout of a branch. Its memory serves one branch after another.
+/// The layout of a branch. Its memory serves one branch after another. Hashed tables have memory of their own.
 #[derive(Drop)]
-pub(crate) struct Layout {
+pub(crate) struct Layout<A: Allocator> {
     alloc: Global,
     cache: PerfectByteHashMapCacheOwned,
     /// The search table.
-    pub(crate) table: Vec<u8>,
+    pub(crate) table: Vec<u8, A>,
     /// The numbers of the targets, in the order of the table.
-    pub(crate) numbers: Vec<usize>,
+    pub(crate) numbers: Vec<usize, A>,
 }
 
-impl Layout {
+impl<A: Allocator + Copy> Layout<A> {
     /// No branch.
-    pub(crate) fn new(alloc: Global) -> Self {
+    pub(crate) fn new(alloc: Global, spare: A) -> Self {
         Layout {
             alloc,
             cache: PerfectByteHashMapCacheOwned::new_empty(alloc),
-            table: Vec::new(alloc),
-            numbers: Vec::new(alloc),
+            table: Vec::new(spare),
+            numbers: Vec::new(spare),
         }
     }
 
@@ -50,7 +50,7 @@ impl Layout {
     fn set_sorted(
         &mut self,
         items: ByteSliceWithIndices<'_>,
-        measured: &Measured,
+        measured: &Measured<A>,
         target: Target,
     ) -> Result<(), AllocError>
         requires order { target.first ≤ target.end }
@@ -93,7 +93,7 @@ impl Layout {
     pub(crate) fn set<K: ZeroTrieWithOptions>(
         &mut self,
         items: ByteSliceWithIndices<'_>,
-        measured: &Measured,
+        measured: &Measured<A>,
         target: Target,
     ) -> Result<(), ZeroTrieBuildError>
         requires order { target.first ≤ target.end }
@@ -117,8 +117,8 @@ impl Layout {
 }
 
 /// Sets the numbers to those of the placed edges, where the number of the first edge is `first`.
-fn set_places(
-    numbers: &mut Vec<usize>,
+fn set_places<A: Allocator>(
+    numbers: &mut Vec<usize, A>,
     first: usize,
     edges: &[u8],
     placed: &[u8],

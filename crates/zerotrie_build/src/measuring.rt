@@ -15,7 +15,7 @@ ghost use Rattle.zerotrie_build.specs.passes.Walking.{lens, IsOpened, Walking};
 
 use crate::slice_indices::ByteSliceWithIndices;
 use crate::steps::{Step, Window, first_step, group_end};
-use std::alloc::{AllocError, Global};
+use std::alloc::{AllocError, Allocator};
 use zerotrie_core::{ZeroTrieBuildError, ZeroTrieWithOptions};
 
 /// Of a window: the numbers of the windows that are the targets of its first branch, from `first` to below
@@ -30,9 +30,9 @@ pub(crate) struct Target {
 
 /// The windows of a text, by their numbers: number 0 is the whole, and the others are the targets of branches.
 #[derive(Drop)]
-pub(crate) struct Measured {
-    pub(crate) windows: Vec<Window>,
-    pub(crate) targets: Vec<Target>,
+pub(crate) struct Measured<A: Allocator> {
+    pub(crate) windows: Vec<Window, A>,
+    pub(crate) targets: Vec<Target, A>,
 }
 
 /// The sum, if it is below 2^64.
@@ -109,7 +109,7 @@ fn behind_run<K: ZeroTrieWithOptions>(
     }
 }
 
-impl Measured {
+impl<A: Allocator + Copy> Measured<A> {
     /// Adds a window for each target of the branch that stands first in this one.
     fn open<K: ZeroTrieWithOptions>(
         &mut self,
@@ -166,9 +166,9 @@ impl Measured {
 
     /// Walks the windows of the items, from the whole on.
     fn walk<K: ZeroTrieWithOptions>(
-        alloc: Global,
+        alloc: A,
         items: ByteSliceWithIndices<'_>,
-    ) -> Result<Measured, ZeroTrieBuildError>
+    ) -> Result<Self, ZeroTrieBuildError>
         requires ordered { Ordered K.kind (pairs items) }
         requires keys { AreKeys K.kind (pairs items) }
         ensures walked { IfOk result (λ m. Walking K.kind (pairs items.entry) m.windows.items m.targets.items
@@ -270,10 +270,10 @@ fn branch_len<K: ZeroTrieWithOptions>(edges: usize, total: usize) -> usize
 }
 
 /// The lengths of the text of the items and of all targets.
-pub(crate) fn measure_all<K: ZeroTrieWithOptions>(
-    alloc: Global,
+pub(crate) fn measure_all<K: ZeroTrieWithOptions, A: Allocator + Copy>(
+    alloc: A,
     items: ByteSliceWithIndices<'_>,
-) -> Result<Measured, ZeroTrieBuildError>
+) -> Result<Measured<A>, ZeroTrieBuildError>
     requires ordered { Ordered K.kind (pairs items) }
     requires keys { AreKeys K.kind (pairs items) }
     ensures measured { IfOk result (λ m. IsMeasured K.kind (pairs items.entry) m.windows.items m.targets.items) }

@@ -17,7 +17,7 @@ use crate::measuring::{Measured, Target, width_of};
 use crate::slice_indices::ByteSliceWithIndices;
 use crate::steps::{Step, Window, first_step};
 use crate::store::TrieBuilderStore;
-use std::alloc::{AllocError, Global};
+use std::alloc::{AllocError, Allocator, Global};
 use zerotrie_core::{
     ZeroTrieBuildError, ZeroTrieWithOptions, write_varint_meta2, write_varint_meta3,
 };
@@ -145,12 +145,12 @@ impl<S: TrieBuilderStore + Drop> Writing<S> {
     }
 
     /// Writes a window up to the targets of its first branch, and lays these out.
-    fn put_front<K: ZeroTrieWithOptions>(
+    fn put_front<K: ZeroTrieWithOptions, A: Allocator + Copy>(
         &mut self,
         items: ByteSliceWithIndices<'_>,
-        measured: &Measured,
+        measured: &Measured<A>,
         index: usize,
-        layout: &mut Layout,
+        layout: &mut Layout<A>,
     ) -> Result<(), ZeroTrieBuildError>
         requires measured { IsMeasured K.kind (pairs items) measured.now.windows.items measured.now.targets.items }
         requires within { index < length measured.now.windows.items }
@@ -205,7 +205,10 @@ fn total(targets: &[Target], numbers: &[usize]) -> usize
 }
 
 /// Puts the numbers on the list of open windows, the first on top.
-fn push_numbers(pending: &mut Vec<usize>, numbers: &[usize]) -> Result<(), AllocError>
+fn push_numbers<A: Allocator>(
+    pending: &mut Vec<usize, A>,
+    numbers: &[usize],
+) -> Result<(), AllocError>
     ensures { OnOk result (reverse pending.new.items ≡ numbers.now ++ reverse pending.old.items) }
 {
     for index in (0..numbers.len()).rev() {
@@ -215,18 +218,19 @@ fn push_numbers(pending: &mut Vec<usize>, numbers: &[usize]) -> Result<(), Alloc
 }
 
 /// Takes the number on top off.
-fn next_number(pending: &mut Vec<usize>) -> Option<usize>
+fn next_number<A: Allocator>(pending: &mut Vec<usize, A>) -> Option<usize>
     ensures some { IfSome result (λ i. reverse pending.old.items ≡ i ∷ reverse pending.new.items) }
     ensures none { IfNone result (reverse pending.old.items ≡ []) }
 {
     pending.pop()
 }
 
-/// Writes the text of the items.
-pub(crate) fn write<K: ZeroTrieWithOptions, S: TrieBuilderStore + Drop>(
+/// Writes the text of the items. The store and hashed tables take their memory from `alloc`.
+pub(crate) fn write<K: ZeroTrieWithOptions, S: TrieBuilderStore + Drop, A: Allocator + Copy>(
     alloc: Global,
+    spare: A,
     items: ByteSliceWithIndices<'_>,
-    measured: &Measured,
+    measured: &Measured<A>,
 ) -> Result<S, ZeroTrieBuildError>
     requires { IsMeasured K.kind (pairs items) measured.now.windows.items measured.now.targets.items }
     ensures means { IfOk result (λ store. Means K.kind (S.list store) (map_of (pairs items.entry))) }
@@ -236,11 +240,11 @@ pub(crate) fn write<K: ZeroTrieWithOptions, S: TrieBuilderStore + Drop>(
     let mut data = S::atbs_new_empty(alloc);
     data.atbs_prepend_n_zeros(measured.targets[0].len)?;
     let mut writing = Writing { data, at: 0 };
-    let mut layout = Layout::new(alloc);
-    let mut pending = Vec::new(alloc);
+    let mut layout = Layout::new(alloc, spare);
+    let mut pending = Vec::new(spare);
     pending.push(0)?;
     while let Some(index) = next_number(&mut pending) {
-        writing.put_front::<K>(items, measured, index, &mut layout)?;
+        writing.put_front::<K, A>(items, measured, index, &mut layout)?;
         push_numbers(&mut pending, layout.numbers.as_slice())?;
     }
     let Writing { data, at: _ } = writing;

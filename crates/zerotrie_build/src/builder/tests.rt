@@ -2,6 +2,7 @@ mod counting;
 
 use super::*;
 use counting::Counting;
+use linked_list_allocator::LocalHeap;
 use std::collections::VecDeque;
 use std::test::Fail;
 use zerotrie_core::{Ext, Hash, Ignore, Simple, ZeroTrieWithOptions};
@@ -365,5 +366,46 @@ fn a_build_grows_once(rt: HostRuntime) -> Result<(), Fail> {
         )?;
         assert!(rt; builder.data.grew == 1 && builder.data.ascends);
     }
+    Ok(())
+}
+
+/// The text, with the memory of both passes from the heap.
+fn over_heap<K: ZeroTrieWithOptions>(
+    alloc: Global,
+    heap: &LocalHeap,
+    items: &[(&[u8], usize)],
+) -> Result<Vec<u8>, ZeroTrieBuildError> {
+    let items = ByteSliceWithIndices::from_byte_slice(items);
+    if !items.is_sorted() {
+        return Err(ZeroTrieBuildError::Unsorted);
+    }
+    let store: VecDeque<u8> = grow_slice(alloc, heap, items, ZeroTrieBuilderOptions::of::<K>())?;
+    Ok(store.atbs_to_bytes(alloc)?)
+}
+
+/// Over heaps of rising size a build is refused for want of memory, at a later request each time, until it has
+/// its text. All memory is given back.
+#[test]
+fn every_size_of_heap(rt: HostRuntime) -> Result<(), Fail> {
+    let alloc = rt.alloc();
+    let bytes: Vec<u8> = (96..112u8).collect(alloc)?;
+    let mut items: Vec<(&[u8], usize)> = Vec::new(alloc);
+    for byte in bytes.as_slice().chunks(1) {
+        items.push((byte, 0))?;
+    }
+    let text = by_slice::<Hash>(alloc, items.as_slice())?;
+    let mut refused = 0usize;
+    for size in 0..200usize {
+        let heap = LocalHeap::new(alloc, size * 16)?;
+        match over_heap::<Hash>(alloc, &heap, items.as_slice()) {
+            Ok(built) => assert_eq!(rt; built.as_slice(), text.as_slice()),
+            Err(why) => {
+                assert!(rt; why == ZeroTrieBuildError::OutOfMemory);
+                refused = refused.saturating_add(1);
+            }
+        }
+        assert_eq!(rt; heap.used(), 0);
+    }
+    assert!(rt; refused > 10 && refused < 190);
     Ok(())
 }

@@ -4,10 +4,10 @@ use Rattle.zerotrie_build.proofs.LayLemmas.{place_more, found}
 use Rattle.zerotrie_build.proofs.laying.set_places.Goals as goal
 
 pub unreachable-requires : goal.unreachable-requires
-unreachable-requires c = found c.args.edges.now c.args.placed.now c.loop-edge.edge-index _ (Err _) c.requires.rises c.requires.same c.loop-edge-test.true refl c.in-Err.ensures.position
+unreachable-requires g c = found c.args.edges.now c.args.placed.now c.loop-edge.edge-index _ (Err _) c.requires.rises c.requires.same c.loop-edge-test.true refl c.in-Err.ensures.position
 
 pub loop-edge-preserved : goal.loop-edge-preserved
-loop-edge-preserved c =
+loop-edge-preserved g c =
     let i = c.loop-edge.edge-index in
     let ps = c.args.placed.now in
     let es = c.args.edges.now in

@@ -10,6 +10,6 @@ pushed new old xs init i some within e is =
     ∙ ap (λ y. y ++ init) (ap (λ n. x ∷ drop n xs) next ∙ sym (drop_more xs (i - 1) 0 (omega arith)))
 
 pub loop-index-preserved : goal.loop-index-preserved
-loop-index-preserved c =
+loop-index-preserved g c =
     let v = c.loop-index.invariant in
     (pushed _ _ c.args.numbers.now _ c.loop-index.index c.loop-index-test.true v.1 c.in_ok-push.ensures.items v.0, (let w = v.1 in omega arith))

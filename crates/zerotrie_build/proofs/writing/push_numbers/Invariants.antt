@@ -2,4 +2,4 @@ use Rattle.std.proofs.Common.{◌≡◌, ◌≤◌, ◌++◌, length, drop, reve
 use Rattle.zerotrie_build.proofs.writing.push_numbers.Given as goal
 
 abbrev pub invariant-loop-index : goal.invariant-loop-index
-invariant-loop-index l = (reverse l.pending.items ≡ drop l.index l.numbers ++ reverse l.initial.pending.items) × (l.index ≤ length l.numbers)
+invariant-loop-index g l = (reverse l.pending.items ≡ drop l.index l.numbers ++ reverse l.initial.pending.items) × (l.index ≤ length l.numbers)

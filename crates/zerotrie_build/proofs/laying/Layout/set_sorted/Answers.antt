@@ -8,7 +8,7 @@ use Rattle.zerotrie_build.proofs.LayLemmas.{range_more, same_range}
 use Rattle.zerotrie_build.proofs.laying.Layout.set_sorted.Goals as goal
 
 pub loop-number-preserved : goal.loop-number-preserved
-loop-number-preserved c =
+loop-number-preserved g c =
     let v = c.loop-number.invariant in
     let ws = c.args.measured.now.windows.items in
     let n = c.loop-number.number in
