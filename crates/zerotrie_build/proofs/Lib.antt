@@ -6,6 +6,7 @@ mod Overflow
 mod Building
 mod Parting
 mod Sorting
+mod Fronts
 mod Permuted
 mod WindowLemmas
 mod GroupLemmas

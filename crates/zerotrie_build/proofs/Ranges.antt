@@ -13,8 +13,8 @@ use Rattle.zerotrie_build.specs.Ranges.{range_at}
 pub total_take_at : (xs : List ℕ) (i d : ℕ) → i < length xs → total (take i xs) + get_or xs i d ≤ total xs
 total_take_at xs i d h = grind (arith, common_steps, sum_by-take-le (λ n. n) xs (i + 1))
 
--- one more byte put over the front
-pub set_front : (xs ys : List ℕ) (i d : ℕ) → i < length xs → length xs ≤ length ys → slice_set (take i xs ++ drop i ys) i (get_or xs i d) ≡ take (i + 1) xs ++ drop (i + 1) ys
+-- one more item put over the front
+pub set_front : {A : Type 0} (xs ys : List A) (i : ℕ) (d : A) → i < length xs → length xs ≤ length ys → slice_set (take i xs ++ drop i ys) i (get_or xs i d) ≡ take (i + 1) xs ++ drop (i + 1) ys
 set_front [] ys i d h k = let j : i < 0 = h in absurd (omega (arith, j))
 set_front (x ∷ xs) [] i d h k = let j : suc (length xs) ≤ 0 = k in absurd (omega (arith, j))
 set_front (x ∷ xs) (y ∷ ys) zero d h k = refl

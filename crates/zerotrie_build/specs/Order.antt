@@ -1,5 +1,6 @@
 -- The order that the keys of a text have.
-use Rattle.std.specs.Prelude.{◌≡◌, ℕ, ◌^◌, ◌<◌, ◌⊎◌, List, [], ◌∷◌, map, All}
+use Rattle.std.specs.Prelude.{◌≡◌, ℕ, ◌+◌, ◌*◌, ◌^◌, ◌<◌, ◌⊎◌, List, [], ◌∷◌, map, All, Option, Some, None}
+use Rattle.std.proofs.Common.{suc, zero}
 use Rattle.std.specs.Cmp.Lexicographic.{slice_cmp}
 use Rattle.std.specs.Ordering.{nat_cmp, ordering_then}
 use Rattle.std.specs.declared.cmp.Ordering.{Ordering}
@@ -29,6 +30,21 @@ fold_cmp kind a b = slice_cmp nat_cmp (map (fold_byte kind) a) (map (fold_byte k
 -- the order by folds, and of keys that have one fold by bytes
 abbrev pub sort_cmp : Kind → List ℕ → List ℕ → Ordering
 sort_cmp kind a b = ordering_then (fold_cmp kind a b) (slice_cmp nat_cmp a b)
+
+-- the folds of the first n bytes of a key as one number, behind the digits that are there; zeros stand where the key has ended
+abbrev pub front_behind : Kind → ℕ → ℕ → List ℕ → ℕ
+front_behind kind zero there key = there
+front_behind kind (suc n) there [] = front_behind kind n (256 * there) []
+front_behind kind (suc n) there (b ∷ key) = front_behind kind n (256 * there + fold_byte kind b) key
+
+-- of the first eight
+abbrev pub front_of : Kind → List ℕ → ℕ
+front_of kind key = front_behind kind 8 0 key
+
+-- the fold of a byte, or zero where there is none
+abbrev pub digit_of : Kind → Option ℕ → ℕ
+digit_of kind None = 0
+digit_of kind (Some b) = fold_byte kind b
 
 -- the key is that of the first pair
 abbrev pub IsFirst : List ℕ → Pairs → Type 0

@@ -1,6 +1,7 @@
--- Words of the two passes.
+-- Words of the sort and of the two passes.
 pub mod Windows
 pub mod Measured
 pub mod Puts
 pub mod Writing
 pub mod Walking
+pub mod Sorts

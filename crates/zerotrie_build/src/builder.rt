@@ -23,7 +23,8 @@ use zerotrie_core::{
 };
 
 /// Puts the items in the order of the kind.
-fn put_in_order<K: ZeroTrieWithOptions>(
+fn put_in_order<K: ZeroTrieWithOptions, A: Allocator>(
+    alloc: A,
     items: &mut [(&[u8], usize)],
 ) -> Result<(), ZeroTrieBuildError>
     ensures same { IsPermutation (pairs_of items.old) (pairs_of items.new) }
@@ -33,7 +34,7 @@ fn put_in_order<K: ZeroTrieWithOptions>(
     ensures refused { IfErr result (HasCause any_order K.kind (pairs_of items.old)) }
     ensures no_search { IfErr result (λ e. e ≢ ZeroTrieBuildError.CouldNotSolvePerfectHash) }
 {
-    sort_by_fold::<K>(items);
+    sort_by_fold::<K, A>(alloc, items);
     if repeats_next(items) {
         return Err(ZeroTrieBuildError::DuplicateKey);
     }
@@ -71,7 +72,7 @@ fn grow_sorted<K: ZeroTrieWithOptions, S: TrieBuilderStore + Drop, A: Allocator 
 ) -> Result<S, ZeroTrieBuildError>
     ensures { IsBuild any_order K.kind S.list (pairs_of items.old) result }
 {
-    put_in_order::<K>(items)?;
+    put_in_order::<K, A>(spare, items)?;
     grow_ordered::<K, S, A>(alloc, spare, ByteSliceWithIndices::from_byte_slice(items))
 }
 
@@ -165,7 +166,7 @@ fn len_sorted<K: ZeroTrieWithOptions, A: Allocator + Copy>(
 ) -> Result<usize, ZeroTrieBuildError>
     ensures { IsLength any_order K.kind (pairs_of items.old) result }
 {
-    put_in_order::<K>(items)?;
+    put_in_order::<K, A>(alloc, items)?;
     len_ordered::<K, A>(alloc, ByteSliceWithIndices::from_byte_slice(items))
 }
 
