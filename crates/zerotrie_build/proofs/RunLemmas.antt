@@ -1,7 +1,7 @@
 -- What the values, literals and spans in front of a window's first branch say of its text.
 use Rattle.std.proofs.Common.{◌≡◌, ℕ, zero, suc, ◌+◌, ◌-◌, ◌^◌, ◌<◌, ◌≤◌, ◌⊎◌, inl, inr, List, [], ◌∷◌, ◌++◌, length, refl, sym, ◌∙◌, ap, subst, arith, take, drop, Option, Some, None, slice_get, true, false, cond, eqb, leb, Bool}
 use Rattle.std.specs.Prelude.{◌&&◌, ◌||◌}
-use Rattle.std.proofs.lemmas.Bool.{eq-eqb}
+use Rattle.std.proofs.lemmas.Bool.{eq-eqb, lt-ltb, lt-leb}
 use Rattle.std.proofs.lemmas.Bool.Decides.{eqb_tells}
 use Rattle.zerotrie_core.specs.Kind.{Kind, has_spans}
 use Rattle.zerotrie_core.specs.Numbers.{span_form, spelled_as}
@@ -12,12 +12,12 @@ use Rattle.zerotrie_build.specs.Order.{Before, BeforeFirst, Ordered, AreKeys}
 use Rattle.zerotrie_build.specs.declared.steps.Window.{Window}
 use Rattle.zerotrie_build.specs.declared.steps.Step.{Step}
 use Rattle.zerotrie_build.specs.declared.steps.Step.TheVariants.{End, Value, Literal, Span, Branch}
-use Rattle.zerotrie_build.specs.passes.Windows.{cut, window, item_of, byte_of, high_front, step_at, step_of}
+use Rattle.zerotrie_build.specs.passes.Windows.{cut, window, item_of, byte_of, high_front, step_at, step_of, IsLow}
 use Rattle.zerotrie_build.specs.passes.Measured.{Run}
 use Rattle.zerotrie_build.specs.passes.Measured.Run.{here, value, literal, span}
 use Rattle.zerotrie_build.specs.passes.Walking.{IsBehind}
 use Rattle.zerotrie_build.proofs.Runs.{behind_all-run}
-use Rattle.zerotrie_build.proofs.WindowLemmas.{cut_first, tests, last_key, last_cut, key_cut, key_byte, step_end, step_value, step_literal, step_span, span_once, none_empty, ordered_front, no_byte}
+use Rattle.zerotrie_build.proofs.WindowLemmas.{literal_byte, cut_first, tests, last_key, last_cut, key_cut, key_byte, step_end, step_value, step_literal, step_span, span_once, none_empty, ordered_front, no_byte}
 
 -- What a branch in front means: the first key goes on with a byte, and the last one does not go on with the same.
 pub record IsParting (all : Pairs) (w : Window) : Type 0 where
@@ -224,3 +224,33 @@ too_long run within keys up large = let size = (along run within keys up).size i
 pub stopped : (kind : Kind) (all : Pairs) (w : Window) → (step_of kind all w ≡ End) ⊎ (step_of kind all w ≡ Branch) → w.from < w.to → step_of kind all w ≡ Branch
 stopped kind all w (inl end) inside = absurd (let past = step_end kind all w end in omega arith)
 stopped kind all w (inr branch) inside = branch
+
+-- a byte below 128 with which the first and the last key go on is a literal
+pub low_literal : (kind : Kind) (all : Pairs) (w : Window) (i : ℕ) → w.from < w.to → (l : IsLow all w i) → step_of kind all (record w { depth = i }) ≡ Literal l.byte
+low_literal kind all w i inside l = rw (lt-ltb w.from w.to inside, l.first, l.last, eq-eqb l.byte l.byte refl, lt-leb 128 l.byte l.low) refl
+
+-- a literal is such a byte
+pub literal_low : (kind : Kind) (all : Pairs) (w : Window) (b : ℕ) → w.to ≤ length all → AreKeys kind all → step_of kind all w ≡ Literal b → (w.from < w.to) × IsLow all w w.depth
+literal_low kind all w b within keys e =
+    let a = literal_byte kind all w b within keys e in
+    (a.inside, record { byte = b; low = a.low; first = a.first; last = a.last })
+
+-- so many such bytes one after another lead on
+pub literals_run : (n : ℕ) {kind : Kind} {all : Pairs} {w last : Window} {m : ℕ} → w.from < w.to → ((i : ℕ) → w.depth ≤ i → i < w.depth + n → IsLow all w i)
+    → Run kind all (record w { depth = w.depth + n }) last m → Run kind all w last (n + m)
+literals_run zero {kind = kind} {all = all} {w = w} {last = last} {m = m} inside low run =
+    let here : w.depth + 0 ≡ w.depth = omega arith in
+    let count : m ≡ 0 + m = omega arith in
+    subst (Run kind all w last) count (subst (λ d. Run kind all (record w { depth = d }) last m) here run)
+literals_run (suc n) {kind = kind} {all = all} {w = w} {last = last} {m = m} inside low run =
+    let l = low (w.depth + n) (omega arith) (omega arith) in
+    let next : w.depth + suc n ≡ w.depth + n + 1 = omega arith in
+    let one = literal l.byte (low_literal kind all w (w.depth + n) inside l) (subst (λ d. Run kind all (record w { depth = d }) last m) next run) in
+    let count : n + (1 + m) ≡ suc n + m = omega arith in
+    subst (Run kind all w last) count (literals_run n inside (λ i from below. low i from (omega arith)) one)
+
+pub literals_to : {kind : Kind} {all : Pairs} {w last : Window} {m : ℕ} (end : ℕ) → w.from < w.to → w.depth ≤ end → ((i : ℕ) → w.depth ≤ i → i < end → IsLow all w i)
+    → Run kind all (record w { depth = end }) last m → Run kind all w last (end - w.depth + m)
+literals_to {kind = kind} {all = all} {w = w} {last = last} {m = m} end inside past low run =
+    let there : end ≡ w.depth + (end - w.depth) = omega arith in
+    literals_run (end - w.depth) inside (λ i from below. low i from (omega arith)) (subst (λ d. Run kind all (record w { depth = d }) last m) there run)

@@ -244,6 +244,25 @@ step_literal kind all w b within keys up e =
       is = cut_shared kind all w.from w.to w.depth b _ _ t.inside within up (key_cut (item_of all w.from).0 w.depth b a.0) (key_cut (item_of all (w.to - 1)).0 w.depth b a.1);
     }
 
+-- What a literal in front says of the first and the last key.
+pub record IsLiteralByte (all : Pairs) (w : Window) (b : ℕ) : Type 0 where
+  pub inside : w.from < w.to
+  pub low : b < 128
+  pub first : byte_of all w.from w.depth ≡ Some b
+  pub last : byte_of all (w.to - 1) w.depth ≡ Some b
+
+pub literal_byte : (kind : Kind) (all : Pairs) (w : Window) (b : ℕ) → w.to ≤ length all → AreKeys kind all → step_of kind all w ≡ Literal b → IsLiteralByte all w b
+literal_byte kind all w b within keys e =
+    let t = tests kind all w (Literal b) (λ h. cc) e in
+    let a = at_literal kind _ _ _ _ b t.is in
+    let inside = t.inside in
+    record {
+      inside = t.inside;
+      low = low_without kind b (key_byte kind all w.from w.depth b keys (omega arith) a.0) a.2;
+      first = a.0;
+      last = a.1;
+    }
+
 -- What is in common begins with this byte.
 record Common (k l : List ℕ) (n : ℕ) : Type 0 where
   pub byte : ℕ

@@ -14,7 +14,7 @@ ghost use Rattle.zerotrie_build.specs.passes.Measured.{Run, Stops, IsMeasured};
 ghost use Rattle.zerotrie_build.specs.passes.Walking.{lens, IsOpened, Walking};
 
 use crate::slice_indices::ByteSliceWithIndices;
-use crate::steps::{Step, Window, first_step, group_end};
+use crate::steps::{Step, Window, first_step, group_end, literals_end};
 use std::alloc::{AllocError, Allocator};
 use zerotrie_core::{ZeroTrieBuildError, ZeroTrieWithOptions};
 
@@ -96,8 +96,9 @@ fn behind_run<K: ZeroTrieWithOptions>(
                 rest.from += 1;
             }
             Step::Literal(_) => {
-                len = plus(len, 1)?;
-                rest.depth += 1;
+                let end = literals_end(items, rest);
+                len = plus(len, end - rest.depth)?;
+                rest.depth = end;
             }
             Step::Span(count) => {
                 let lead = plus(len, count_len(count))?;
@@ -176,9 +177,11 @@ impl<A: Allocator + Copy> Measured<A> {
         ensures refused { IfErr result (λ e. e ≢ ZeroTrieBuildError.OutOfMemory
             → (e ≡ ZeroTrieBuildError.CapacityExceeded) × (2 ^ 64 ≤ size_of K.kind (pairs items.entry))) }
     {
+        // Most sets of keys have fewer windows than this.
+        let room = items.len().saturating_add(items.len() / 2);
         let mut measured = Measured {
-            windows: Vec::new(alloc),
-            targets: Vec::new(alloc),
+            windows: Vec::with_capacity(alloc, room)?,
+            targets: Vec::with_capacity(alloc, room)?,
         };
         measured.windows.push(Window {
             from: 0,

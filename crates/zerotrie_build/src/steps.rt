@@ -1,8 +1,8 @@
 //! What stands first in the text of a window of the items.
 
-ghost use Rattle.std.specs.Prelude.{◌≡◌, ℕ, ◌+◌, ◌-◌, ◌^◌, ◌<◌, ◌≤◌, IfSome, Some, length};
+ghost use Rattle.std.specs.Prelude.{◌≡◌, ℕ, ◌+◌, ◌-◌, ◌^◌, ◌<◌, ◌≤◌, IfSome, Some, slice_index, length};
 ghost use Rattle.zerotrie_build.specs.Items.{pairs};
-ghost use Rattle.zerotrie_build.specs.passes.Windows.{step_of, byte_of, edge_of, high_front, IsGroup};
+ghost use Rattle.zerotrie_build.specs.passes.Windows.{step_of, item_of, byte_of, edge_of, high_front, IsLow, IsGroup};
 
 use crate::slice_indices::ByteSliceWithIndices;
 use zerotrie_core::ZeroTrieWithOptions;
@@ -55,6 +55,40 @@ fn high_front_len(key: &[u8], other: &[u8]) -> usize
         count += 1;
     }
     count
+}
+
+/// Where the bytes below 128 end that two keys have in common from a place on.
+fn low_end(key: &[u8], other: &[u8], from: usize) -> usize
+    requires key { from ≤ length key.now }
+    requires other { from ≤ length other.now }
+    ensures from { from ≤ result }
+    ensures key { result ≤ length key.now }
+    ensures other { result ≤ length other.now }
+    ensures same { (i : ℕ) → from ≤ i → i < result
+        → (slice_index key.now i ≡ slice_index other.now i) × (slice_index key.now i < 128) }
+    ensures stops { result < length key.now → result < length other.now
+        → slice_index key.now result ≡ slice_index other.now result → 128 ≤ slice_index key.now result }
+{
+    let mut end = from;
+    while end < key.len() && end < other.len() && key[end] == other[end] && key[end] < 128 {
+        end += 1;
+    }
+    end
+}
+
+/// At which depth the literals end that stand first in the text of the window, of which there is one.
+pub(crate) fn literals_end(items: ByteSliceWithIndices<'_>, window: Window) -> usize
+    requires some { window.from < window.to }
+    requires items { window.to ≤ length (pairs items) }
+    requires literal { IsLow (pairs items) window window.depth }
+    ensures past { window.depth < result }
+    ensures within { result ≤ length (item_of (pairs items.entry) window.from).0 }
+    ensures low { (i : ℕ) → window.depth ≤ i → i < result → IsLow (pairs items.entry) window i }
+    ensures room { result < 2 ^ 64 }
+{
+    let (first, _) = items.get(window.from);
+    let (last, _) = items.get(window.to - 1);
+    low_end(first, last, window.depth)
 }
 
 /// What stands first in the text of the window, where its first and its last key both go on with this byte.

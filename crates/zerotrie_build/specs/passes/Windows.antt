@@ -46,6 +46,13 @@ step_of kind all w = if nat_lt w.from w.to
     (high_front (drop w.depth (item_of all w.from).0) (drop w.depth (item_of all (w.to - 1)).0))
     else End
 
+-- The first and the last key of the window have one byte at the depth, and it is below 128.
+pub record IsLow (all : Pairs) (w : Window) (depth : ℕ) : Type 0 where
+  pub byte : ℕ
+  pub low : byte < 128
+  pub first : byte_of all w.from depth ≡ Some byte
+  pub last : byte_of all (w.to - 1) depth ≡ Some byte
+
 -- The items up to end, and no others that follow them, have the byte of the first.
 pub record IsGroup (all : Pairs) (w : Window) (end : ℕ) : Type 0 where
   pub some : w.from < end

@@ -1,11 +1,11 @@
-use Rattle.std.proofs.Common.{◌≡◌, ◌+◌, sym, ◌∙◌, subst, length, arith}
+use Rattle.std.proofs.Common.{◌≡◌, ◌+◌, ◌-◌, sym, ◌∙◌, subst, length, arith}
 use Rattle.std.proofs.lemmas.Result.{err_from_is_err_and}
 use Rattle.zerotrie_core.specs.Numbers.{value_form, span_form, spelled_as}
 use Rattle.zerotrie_build.specs.Items.{pairs}
 use Rattle.zerotrie_build.specs.passes.Measured.{Run}
-use Rattle.zerotrie_build.specs.passes.Measured.Run.{here, value, literal, span}
+use Rattle.zerotrie_build.specs.passes.Measured.Run.{here, value, span}
 use Rattle.zerotrie_build.proofs.WindowLemmas.{span_some}
-use Rattle.zerotrie_build.proofs.RunLemmas.{too_long}
+use Rattle.zerotrie_build.proofs.RunLemmas.{too_long, literal_low, literals_to}
 use Rattle.zerotrie_build.proofs.measuring.behind_run.Goals as goal
 
 pub loop-value-preserved-in-Value : goal.loop-value-preserved-in-Value
@@ -17,12 +17,25 @@ loop-value-preserved-in-Value g c =
       to_is = v.to_is;
     }
 
+pub literals_end-end-requires : goal.literals_end-end-requires
+literals_end-end-requires g c =
+    let v = c.loop-value.invariant in
+    let to = v.to_is in
+    let within = c.requires.within in
+    let l = literal_low g.K.ZeroTrieWithOptions.kind (pairs c.args.items) c.loop-value.rest c.in-Literal.field-0 (omega arith) c.requires.keys (sym c.first_step.ensures.is ∙ c.in-Literal.is) in
+    record { some = l.0; items = omega arith; literal = l.1 }
+
 pub loop-value-preserved-in-Literal : goal.loop-value-preserved-in-Literal
 loop-value-preserved-in-Literal g c =
     let v = c.loop-value.invariant in
+    let e = c.literals_end-end.ensures in
+    let past = e.past in
+    let to = v.to_is in
+    let within = c.requires.within in
+    let l = literal_low g.K.ZeroTrieWithOptions.kind (pairs c.args.items) c.loop-value.rest c.in-Literal.field-0 (omega arith) c.requires.keys (sym c.first_step.ensures.is ∙ c.in-Literal.is) in
     record {
       goes_on = λ n last r. subst (Run g.K.ZeroTrieWithOptions.kind (pairs c.args.items) c.args.start last) (let s = c.in_ok-len-in-Literal.ensures.sum in omega arith)
-          (v.goes_on (1 + n) last (literal c.in-Literal.field-0 (sym c.first_step.ensures.is ∙ c.in-Literal.is) r));
+          (v.goes_on (c.literals_end-end.result - c.loop-value.rest.depth + n) last (literals_to c.literals_end-end.result l.0 (omega arith) e.low r));
       to_is = v.to_is;
     }
 
@@ -61,7 +74,13 @@ returns-in_err-len-in-Literal-clause-refused g c =
     let v = c.loop-value.invariant in
     let p = err_from_is_err_and c.from_residual-in_err-len-in-Literal.result c.from_residual-in_err-len-in-Literal.ensures.1 in
     let f = c.in_err-len-in-Literal.ensures.refused in
-    let run = v.goes_on (1 + 0) (record c.loop-value.rest { depth = c.loop-value.rest.depth + 1 }) (literal c.in-Literal.field-0 (sym c.first_step.ensures.is ∙ c.in-Literal.is) here) in
+    let e = c.literals_end-end.ensures in
+    let past = e.past in
+    let end = c.literals_end-end.result in
+    let to = v.to_is in
+    let within = c.requires.within in
+    let l = literal_low g.K.ZeroTrieWithOptions.kind (pairs c.args.items) c.loop-value.rest c.in-Literal.field-0 (omega arith) c.requires.keys (sym c.first_step.ensures.is ∙ c.in-Literal.is) in
+    let run = v.goes_on (end - c.loop-value.rest.depth + 0) (record c.loop-value.rest { depth = end }) (literals_to end l.0 (omega arith) e.low here) in
     rw (p.1, p.2) (f.0, too_long run c.requires.within c.requires.keys c.requires.ordered (omega (arith, f.1)))
 
 pub returns-in_err-lead-in-Span-clause-refused : goal.returns-in_err-lead-in-Span-clause-refused

@@ -1,4 +1,4 @@
-use Rattle.std.proofs.Common.{◌≡◌, ◌+◌, ◌*◌, ◌-◌, ◌%◌, [], ◌∷◌, refl, ◌∙◌, sym, inl, inr, arith}
+use Rattle.std.proofs.Common.{◌+◌, ◌*◌, ◌-◌, ◌%◌, [], ◌∷◌, refl, ◌∙◌, sym, inl, inr, arith}
 use Rattle.zerotrie_core.specs.Numbers.{extender}
 use Rattle.zerotrie_core.proofs.CallerLemmas.{completes_more}
 use Rattle.zerotrie_build.proofs.PutLemmas.{spelled_len}
