@@ -1,4 +1,4 @@
--- Words of the two passes.
+-- Words of the sort and of the two passes.
 pub mod Windows
 pub mod Measured
 pub mod Puts
