@@ -182,16 +182,14 @@ impl<'a> Branch<'a> {
             → HasNoPlace K.kind self.now.edges self.now.behind.now byte) }
     {
         let (low, high) = both_cases::<K>(byte);
-        if !K::USE_PHF || self.edges <= 64 {
-            if self.edges <= 16 && self.behind.len() >= 16 {
-                return before_end(first_in_16(self.behind, low, high), self.edges);
-            }
-            if self.edges <= 32 && self.behind.len() >= 32 {
-                return before_end(first_in_32(self.behind, low, high), self.edges);
-            }
-            if self.edges <= 64 && self.behind.len() >= 64 {
-                return before_end(first_in_64(self.behind, low, high), self.edges);
-            }
+        if self.edges <= 16 && self.behind.len() >= 16 {
+            return before_end(first_in_16(self.behind, low, high), self.edges);
+        }
+        if self.edges <= 32 && self.behind.len() >= 32 {
+            return before_end(first_in_32(self.behind, low, high), self.edges);
+        }
+        if self.edges <= 64 && self.behind.len() >= 64 {
+            return before_end(first_in_64(self.behind, low, high), self.edges);
         }
         if K::USE_PHF && self.table.len() > self.edges {
             return PerfectByteHashMap::from_bytes(self.table).get(byte);

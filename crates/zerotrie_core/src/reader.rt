@@ -105,10 +105,14 @@ fn descend<'a, K: ZeroTrieWithOptions>(node: Node<'a>, key: &'a [u8]) -> Descent
                 }
             }
         },
-        Node::Span(run, rest) => match key.strip_prefix(run) {
-            None => Descent::Answer(None),
-            Some(after) => Descent::Down(rest, after, 1),
-        },
+        Node::Span(run, rest) => {
+            if key.starts_with(run) {
+                let (_, after) = key.split_at(run.len());
+                Descent::Down(rest, after, 1)
+            } else {
+                Descent::Answer(None)
+            }
+        }
         Node::Branch(branch) => match key.split_first() {
             None => Descent::Answer(None),
             Some((byte, after)) => match branch.follow::<K>(*byte) {

@@ -1,8 +1,8 @@
-use Rattle.std.proofs.Common.{arith, sym, ◌∙◌, Some, None}
+use Rattle.std.proofs.Common.{arith, sym, ◌∙◌, length, drop}
 use Rattle.std.proofs.lemmas.List.{nil_from_length}
 use Rattle.std.proofs.lemmas.Bool.{eqb-true, eqb-false}
 use Rattle.std.proofs.lemmas.Bool.Decides.{Decides-eqb}
-use Rattle.std.proofs.lemmas.Slice.Eq.{strip_prefix_is}
+use Rattle.std.proofs.lemmas.Slice.Eq.{starts_is}
 use Rattle.zerotrie_core.specs.Nodes.Shape.{literal, branch}
 use Rattle.zerotrie_core.proofs.NodeLemmas.{branch_shorter}
 use Rattle.zerotrie_core.proofs.GoingLemmas.{literal_past}
@@ -57,14 +57,16 @@ returns-in-Some-follow g c =
     c.in-Some-follow.ensures.some
     (λ bytes begins. (let less = branch_shorter kind b.edges b.width b.table.now b.behind.now bytes begins in omega (arith, less, short))))
 
-pub returns-in-None-strip_prefix : goal.returns-in-None-strip_prefix
-returns-in-None-strip_prefix g c =
+pub returns-else-starts_with : goal.returns-else-starts_with
+returns-else-starts_with g c =
+    let run' = c.in-Span.run'.now in
+    let starts = starts_is Decides-eqb c.args.key.now run' c.starts_with.result c.starts_with.ensures.value in
     rw c.in-Span.is
-    (span_ends g.K.ZeroTrieWithOptions.kind c.in-Span.run'.now c.in-Span.rest.now c.args.key.now
-    (strip_prefix_is Decides-eqb c.args.key.now c.in-Span.run'.now None c.in-None-strip_prefix.ensures.cases))
+    (span_ends g.K.ZeroTrieWithOptions.kind run' c.in-Span.rest.now c.args.key.now (λ after e. (let yes = starts.1 after e in let gone = c.if-starts_with.false in absurd (cc))))
 
-pub returns-in-Some-strip_prefix : goal.returns-in-Some-strip_prefix
-returns-in-Some-strip_prefix g c =
-    rw c.in-Span.is
-    (span_goes g.K.ZeroTrieWithOptions.kind c.in-Span.run'.now c.in-Span.rest.now c.args.key.now c.in-Some-strip_prefix.after.now
-    (strip_prefix_is Decides-eqb c.args.key.now c.in-Span.run'.now (Some c.in-Some-strip_prefix.after) c.in-Some-strip_prefix.ensures.cases))
+pub returns-then-starts_with : goal.returns-then-starts_with
+returns-then-starts_with g c =
+    let run' = c.in-Span.run'.now in
+    let starts = starts_is Decides-eqb c.args.key.now run' c.starts_with.result c.starts_with.ensures.value in
+    rw (c.in-Span.is, c.split_at-then-starts_with.ensures.back)
+    (span_goes g.K.ZeroTrieWithOptions.kind run' c.in-Span.rest.now c.args.key.now (drop (length run') c.args.key.now) (starts.0 c.if-starts_with.true))

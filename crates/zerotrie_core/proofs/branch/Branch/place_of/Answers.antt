@@ -28,7 +28,7 @@ returns-clause-none g c =
       | else-USE_PHF-via-then-USE_PHF+else-self w ↦ let short = w.if-self.false in absurd (omega arith)
       | else-USE_PHF-via-else-USE_PHF w ↦
           let off = w.if-USE_PHF.false in
-          let not : is_hashed g.K.ZeroTrieWithOptions.kind b.edges ≡ false = hashed_by g.K.ZeroTrieWithOptions.kind b.edges ∙ ap (λ f. f.use_phf && leb 16 b.edges) g.K.ZeroTrieWithOptions.flags_are ∙ ap (λ u. u && leb 16 b.edges) (sym c.USE_PHF-2.ensures ∙ off) in
+          let not : is_hashed g.K.ZeroTrieWithOptions.kind b.edges ≡ false = hashed_by g.K.ZeroTrieWithOptions.kind b.edges ∙ ap (λ f. f.use_phf && leb 16 b.edges) g.K.ZeroTrieWithOptions.flags_are ∙ ap (λ u. u && leb 16 b.edges) (sym c.USE_PHF.ensures ∙ off) in
           absurd (cc)
     ])
     c.place_in.ensures.none
