@@ -1,5 +1,5 @@
 -- Tables that a cache holds.
-use Rattle.std.proofs.Common.{◌≡◌, ℕ, List, [], ◌∷◌, Vec, Global, Ordering, Less, Equal, Greater, refl, ap, ◌∙◌, sym, subst, Option, Some, None, option_map, is_some, cond, Bool, true, false, IsSome, Result, Ok, Err}
+use Rattle.std.proofs.Common.{◌≡◌, ℕ, List, [], ◌∷◌, Vec, Ordering, Less, Equal, Greater, refl, ap, ◌∙◌, sym, subst, Option, Some, None, option_map, is_some, cond, Bool, true, false, IsSome, Result, Ok, Err}
 use Rattle.std.specs.Prelude.{MatchOption, IfNone, OnOk}
 use Rattle.std.specs.Ordering.{nat_cmp, match_ordering, is_eq}
 use Rattle.std.specs.Cmp.Lexicographic.{slice_cmp}
@@ -7,32 +7,34 @@ use Rattle.std.specs.FinMap.{slice_cmp-IsAntisymmetric, nat_cmp-IsAntisymmetric}
 use Rattle.std.specs.Map.{lookup}
 use Rattle.std.specs.BTreeMap.{insert_entry, is_at}
 use Rattle.std.proofs.lemmas.Cmp.{tied_itself, nat_list_cmp_total}
-use Rattle.zerotrie_base.specs.declared.byte_phf.PerfectByteHashMap.{PerfectByteHashMap}
 use Rattle.zerotrie_base.specs.Hashes.{IsPerfectTable}
 use Rattle.zerotrie_base.specs.Caches.{Tables, find, put, AllPerfect}
 use Rattle.zerotrie_base.specs.byte_phf.Held.{tables_of}
 
--- a vector of keys with its table
-abbrev pub Entry : Type 0
-Entry = Vec ℕ Global × PerfectByteHashMap (Vec ℕ Global)
+-- In a map of vectors of any allocator.
+module _ {A : Type 0} where
+  option_map-cond : (b : Bool) (t : Vec ℕ A) (rest : Option (Vec ℕ A)) → option_map (λ x. x.items) (cond b (Some t) rest) ≡ cond b (Some t.items) (option_map (λ x. x.items) rest)
+  option_map-cond true t rest = refl
+  option_map-cond false t rest = refl
 
-option_map-cond : (b : Bool) (t : PerfectByteHashMap (Vec ℕ Global)) (rest : Option (PerfectByteHashMap (Vec ℕ Global))) → option_map (λ x. x.store.items) (cond b (Some t) rest) ≡ cond b (Some t.store.items) (option_map (λ x. x.store.items) rest)
-option_map-cond true t rest = refl
-option_map-cond false t rest = refl
+  -- a look-up in the entries is one among the tables
+  pub find_lookup : (q : List ℕ) (es : List (Vec ℕ A × Vec ℕ A)) → option_map (λ x. x.items) (lookup (is_at (λ k. slice_cmp nat_cmp q k.items)) es) ≡ find q (tables_of es)
+  find_lookup q [] = refl
+  find_lookup q (e ∷ es) = option_map-cond (is_eq (slice_cmp nat_cmp q e.0.items)) e.1 _ ∙ rw (find_lookup q es)
 
--- a look-up in the entries is one among the tables
-pub find_lookup : (q : List ℕ) (es : List Entry) → option_map (λ x. x.store.items) (lookup (is_at (λ k. slice_cmp nat_cmp q k.items)) es) ≡ find q (tables_of es)
-find_lookup q [] = refl
-find_lookup q (e ∷ es) = option_map-cond (is_eq (slice_cmp nat_cmp q e.0.items)) e.1 _ ∙ rw (find_lookup q es)
+  tables_of-match_ordering : (o : Ordering) (a b c : List (Vec ℕ A × Vec ℕ A)) → tables_of (match_ordering o a b c) ≡ match_ordering o (tables_of a) (tables_of b) (tables_of c)
+  tables_of-match_ordering Less a b c = refl
+  tables_of-match_ordering Equal a b c = refl
+  tables_of-match_ordering Greater a b c = refl
 
-tables_of-match_ordering : (o : Ordering) (a b c : List Entry) → tables_of (match_ordering o a b c) ≡ match_ordering o (tables_of a) (tables_of b) (tables_of c)
-tables_of-match_ordering Less a b c = refl
-tables_of-match_ordering Equal a b c = refl
-tables_of-match_ordering Greater a b c = refl
+  pub tables_of-insert_entry : (es : List (Vec ℕ A × Vec ℕ A)) (k v : Vec ℕ A) → tables_of (insert_entry (λ x y. slice_cmp nat_cmp x.items y.items) es k v) ≡ put k.items v.items (tables_of es)
+  tables_of-insert_entry [] k v = refl
+  tables_of-insert_entry (e ∷ es) k v = tables_of-match_ordering (slice_cmp nat_cmp k.items e.0.items) _ _ _ ∙ rw (tables_of-insert_entry es k v)
 
-pub tables_of-insert_entry : (es : List Entry) (k : Vec ℕ Global) (v : PerfectByteHashMap (Vec ℕ Global)) → tables_of (insert_entry (λ x y. slice_cmp nat_cmp x.items y.items) es k v) ≡ put k.items v.store.items (tables_of es)
-tables_of-insert_entry [] k v = refl
-tables_of-insert_entry (e ∷ es) k v = tables_of-match_ordering (slice_cmp nat_cmp k.items e.0.items) _ _ _ ∙ rw (tables_of-insert_entry es k v)
+  -- whether a table is there does not depend on how it is seen
+  pub is_some_seen : (r : Option (Vec ℕ A)) → is_some r ≡ is_some (option_map (λ x. x.items) r)
+  is_some_seen None = refl
+  is_some_seen (Some t) = refl
 
 same : (k : List ℕ) → is_eq (slice_cmp nat_cmp k k) ≡ true
 same k = ap is_eq (tied_itself nat_list_cmp_total k)
@@ -50,11 +52,6 @@ find-put k v (p ∷ ps) = find-put_step k v (slice_cmp nat_cmp k p.0) p ps (put 
 pub there_after : {A E : Type 0} (k : List ℕ) (before after : Tables) (r : Result A E) → OnOk r ((table : List ℕ) × (after ≡ put k table before)) → OnOk r (IsSome (find k after))
 there_after k before after (Ok v) h = ap (λ ts. is_some (find k ts)) h.1 ∙ ap is_some (find-put k h.0 before)
 there_after k before after (Err e) h = tt
-
--- whether a table is there does not depend on how it is seen
-pub is_some_seen : (r : Option (PerfectByteHashMap (Vec ℕ Global))) → is_some r ≡ is_some (option_map (λ x. x.store.items) r)
-is_some_seen None = refl
-is_some_seen (Some t) = refl
 
 -- tables that are perfect
 

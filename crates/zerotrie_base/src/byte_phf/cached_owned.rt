@@ -8,66 +8,36 @@ ghost use Rattle.zerotrie_base.specs.Refusals.{IsTableRefusal};
 ghost use Rattle.zerotrie_base.specs.Caches.{Tables, AllPerfect, find, put};
 ghost use Rattle.zerotrie_base.specs.byte_phf.Held.{held};
 
-use super::PerfectByteHashMap;
+use super::{PerfectByteHashMap, table_of};
 use crate::error::ZeroTrieBuildError;
-use std::alloc::Global;
+use std::alloc::{Allocator, Global};
 use std::collections::BTreeMap;
 use std::marker::Model;
 
-/// Tables by the keys that they were made for.
-///
-/// ```
-/// let mut cache = PerfectByteHashMapCacheOwned::new_empty(rt.alloc());
-/// let keys = Vec::from_slice(rt.alloc(), b"aceg")?;
-/// assert!(rt; are_distinct(keys.as_slice()));
-/// assert_eq!(rt; cache.try_get_or_insert(keys)?.get(b'e'), Some(0));
-/// ```
-///
-/// Keys in another order are other keys.
+/// Tables by the keys that they were made for, in memory of any allocator.
 #[derive(Debug, Drop)]
-pub struct PerfectByteHashMapCacheOwned {
-    alloc: Global,
-    tables: BTreeMap<Vec<u8>, PerfectByteHashMap<Vec<u8>>>,
+struct HeldTables<A: Allocator> {
+    alloc: A,
+    tables: BTreeMap<Vec<u8, A>, Vec<u8, A>, A>,
 }
 
-impl Model for PerfectByteHashMapCacheOwned {
+impl<A: Allocator> Model for HeldTables<A> {
     ghost Value = { Tables };
 
-    ghost view = { λ cache. held cache.tables };
+    ghost view = { λ tables. held tables.tables };
 
-    ghost invariant = { λ cache. AllPerfect (held cache.tables) };
+    ghost invariant = { λ tables. AllPerfect (held tables.tables) };
 }
 
-impl PerfectByteHashMapCacheOwned {
-    ghost use Rattle.zerotrie_base.specs.CacheCalls.{ends_with};
-
-    /// A cache that holds no table. It takes no memory.
-    pub fn new_empty(alloc: Global) -> Self
+impl<A: Allocator + Copy> HeldTables<A> {
+    /// No table.
+    fn new_empty(alloc: A) -> Self
         ensures { result ≡ [] }
     {
-        PerfectByteHashMapCacheOwned {
+        HeldTables {
             alloc,
             tables: BTreeMap::new(alloc),
         }
-    }
-
-    /// The table of the keys. Where the cache holds one for just these keys, in this order, that is the
-    /// answer, no memory is taken and nothing changes. Else the table is made and held, beside all others.
-    ///
-    /// The keys have to be distinct, which [`super::are_distinct`] tells. Keys whose table is not held are
-    /// refused as by [`PerfectByteHashMap::try_new`], and then the cache holds what it held.
-    pub fn try_get_or_insert(
-        &mut self,
-        keys: Vec<u8>,
-    ) -> Result<PerfectByteHashMap<&[u8]>, ZeroTrieBuildError>
-        requires { IsDistinct nat_eq keys.items }
-        ensures* after { sem 𝓛 (ends_with self.entry keys.items result) }
-        ensures table { IfOk result (λ table. IsPerfectTable keys.items table.store.now) }
-        ensures succeeds { IsSome (find keys.items self.old) → IsOk result }
-        ensures refused { IfErr result (IsTableRefusal keys.items) }
-    {
-        self.hold(keys.as_slice())?;
-        Ok(self.held_table(keys.as_slice()))
     }
 
     /// Whether there is a table for these keys.
@@ -84,7 +54,7 @@ impl PerfectByteHashMapCacheOwned {
         ensures err { OnErr result (self.new ≡ self.old) }
         ensures refused { IfErr result (IsTableRefusal keys.now) }
     {
-        let table = PerfectByteHashMap::try_new(self.alloc, keys)?;
+        let table = table_of(self.alloc, keys)?;
         let copy = Vec::from_slice(self.alloc, keys)?;
         self.tables.insert(copy, table)?;
         Ok(())
@@ -114,8 +84,119 @@ impl PerfectByteHashMapCacheOwned {
         ensures perfect { IsPerfectTable keys.now result.store.now }
     {
         match self.tables.get(keys) {
-            Some(table) => table.as_borrowed(),
+            Some(table) => PerfectByteHashMap::from_bytes(table.as_slice()),
             None => unreachable!(),
         }
+    }
+}
+
+/// Tables by the keys that they were made for.
+///
+/// ```
+/// let mut cache = PerfectByteHashMapCacheOwned::new_empty(rt.alloc());
+/// let keys = Vec::from_slice(rt.alloc(), b"aceg")?;
+/// assert!(rt; are_distinct(keys.as_slice()));
+/// assert_eq!(rt; cache.try_get_or_insert(keys)?.get(b'e'), Some(0));
+/// ```
+///
+/// Keys in another order are other keys.
+#[derive(Debug, Drop)]
+pub struct PerfectByteHashMapCacheOwned {
+    tables: HeldTables<Global>,
+}
+
+impl Model for PerfectByteHashMapCacheOwned {
+    ghost Value = { Tables };
+
+    ghost view = { λ cache. cache.tables };
+}
+
+impl PerfectByteHashMapCacheOwned {
+    ghost use Rattle.zerotrie_base.specs.CacheCalls.{ends_with};
+
+    /// A cache that holds no table. It takes no memory.
+    pub fn new_empty(alloc: Global) -> Self
+        ensures { result ≡ [] }
+    {
+        PerfectByteHashMapCacheOwned {
+            tables: HeldTables::new_empty(alloc),
+        }
+    }
+
+    /// The table of the keys. Where the cache holds one for just these keys, in this order, that is the
+    /// answer, no memory is taken and nothing changes. Else the table is made and held, beside all others.
+    ///
+    /// The keys have to be distinct, which [`super::are_distinct`] tells. Keys whose table is not held are
+    /// refused as by [`PerfectByteHashMap::try_new`], and then the cache holds what it held.
+    pub fn try_get_or_insert(
+        &mut self,
+        keys: Vec<u8>,
+    ) -> Result<PerfectByteHashMap<&[u8]>, ZeroTrieBuildError>
+        requires { IsDistinct nat_eq keys.items }
+        ensures* after { sem 𝓛 (ends_with self.entry keys.items result) }
+        ensures table { IfOk result (λ table. IsPerfectTable keys.items table.store.now) }
+        ensures succeeds { IsSome (find keys.items self.old) → IsOk result }
+        ensures refused { IfErr result (IsTableRefusal keys.items) }
+    {
+        self.hold(keys.as_slice())?;
+        Ok(self.held_table(keys.as_slice()))
+    }
+
+    /// Makes and holds the table where it is not held.
+    fn hold(&mut self, keys: &[u8]) -> Result<(), ZeroTrieBuildError>
+        requires { IsDistinct nat_eq keys.now }
+        ensures held { IsSome (find keys.now self.old) → IsOk result × (self.new ≡ self.old) }
+        ensures new { IfNone (find keys.now self.old)
+            (OnOk result ((table : List ℕ) × (self.new ≡ put keys.now table self.old))) }
+        ensures err { OnErr result (self.new ≡ self.old) }
+        ensures refused { IfErr result (IsTableRefusal keys.now) }
+        ensures there { OnOk result (IsSome (find keys.now self.new)) }
+    {
+        self.tables.hold(keys)
+    }
+
+    /// The table of keys that are held.
+    fn held_table(&self, keys: &[u8]) -> PerfectByteHashMap<&[u8]>
+        requires { IsSome (find keys.now self.now) }
+        ensures found { find keys.now self.now ≡ Some result.store.now }
+        ensures perfect { IsPerfectTable keys.now result.store.now }
+    {
+        self.tables.held_table(keys)
+    }
+}
+
+#[cfg(test)]
+mod tests {
+    use super::super::are_distinct;
+    use super::*;
+    use linked_list_allocator::LocalHeap;
+    use std::test::Fail;
+
+    /// Over heaps of rising size a table is refused for want of memory, until it is held, and the keys whose table was
+    /// held before are answered as at first.
+    #[test]
+    fn every_size_of_heap(rt: HostRuntime) -> Result<(), Fail> {
+        assert!(rt; are_distinct(b"aceg"));
+        assert!(rt; are_distinct(b"JFNv"));
+        let mut refused = 0usize;
+        for size in 0..200usize {
+            let heap = LocalHeap::new(rt.alloc(), size * 16)?;
+            let mut tables = HeldTables::new_empty(&heap);
+            if tables.hold(b"aceg").is_err() {
+                assert!(rt; !tables.has(b"aceg"));
+                refused = refused.saturating_add(1);
+                continue;
+            }
+            let second = tables.hold(b"JFNv");
+            assert_eq!(rt; second.is_ok(), tables.has(b"JFNv"));
+            if let Err(why) = second {
+                assert!(rt; why == ZeroTrieBuildError::OutOfMemory);
+                refused = refused.saturating_add(1);
+            }
+            assert!(rt; tables.has(b"aceg"));
+            assert_eq!(rt; tables.held_table(b"aceg").get(b'e'), Some(0));
+        }
+        assert!(rt; refused > 3 && refused < 190);
+        Ok(())
     }
 }

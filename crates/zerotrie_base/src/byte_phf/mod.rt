@@ -22,7 +22,7 @@ use crate::store::TrieStore;
 use builder::{find, placed_keys};
 pub use cached_owned::PerfectByteHashMapCacheOwned;
 use reciprocals::remainder;
-use std::alloc::{AllocError, Global};
+use std::alloc::{AllocError, Allocator, Global};
 
 /// From the next `q` on, [`f2`] turns its result.
 const Q_FAST_MAX: u8 = 95;
@@ -132,6 +132,23 @@ fn number_of(bytes: &[u8], key: u8) -> Option<usize>
     }
 }
 
+/// The bytes of a perfect table of the keys, in memory of any allocator.
+fn table_of<A: Allocator + Copy>(alloc: A, keys: &[u8]) -> Result<Vec<u8, A>, ZeroTrieBuildError>
+    requires { IsDistinct nat_eq keys.now }
+    ensures table { IfOk result (λ table. IsPerfectTable keys.now table.items) }
+    ensures plain { IfOk result (λ table. IsPlain keys.now
+        → (placed : List ℕ) × (table.items ≡ replicate (1 + length keys.now) 0 ++ placed)) }
+    ensures refused { IfErr result (IsTableRefusal keys.now) }
+{
+    let parameters = find(alloc, keys)?;
+    let placed = placed_keys(alloc, keys, &parameters)?;
+    let mut table = Vec::with_capacity(alloc, 1 + 2 * keys.len())?;
+    table.push(parameters.p)?;
+    table.extend_from_slice(parameters.qs.as_slice())?;
+    table.extend_from_slice(placed.as_slice())?;
+    Ok(table)
+}
+
 /// A map from bytes to their places, over the bytes of any store.
 ///
 /// ```
@@ -169,12 +186,7 @@ impl PerfectByteHashMap<Vec<u8>> {
             → (placed : List ℕ) × (table.store.items ≡ replicate (1 + length keys.now) 0 ++ placed)) }
         ensures refused { IfErr result (IsTableRefusal keys.now) }
     {
-        let parameters = find(alloc, keys)?;
-        let placed = placed_keys(alloc, keys, &parameters)?;
-        let mut store = Vec::with_capacity(alloc, 1 + 2 * keys.len())?;
-        store.push(parameters.p)?;
-        store.extend_from_slice(parameters.qs.as_slice())?;
-        store.extend_from_slice(placed.as_slice())?;
+        let store = table_of(alloc, keys)?;
         Ok(PerfectByteHashMap { store })
     }
 }
