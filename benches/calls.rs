@@ -35,8 +35,8 @@ impl Kind {
 
 /// Keys in a row, and where each of them ends.
 pub struct Flat {
-    keys: Vec<u8>,
-    ends: Vec<usize>,
+    pub keys: Vec<u8>,
+    pub ends: Vec<usize>,
 }
 
 impl Flat {
@@ -82,16 +82,6 @@ unsafe extern "C" {
     ) -> usize;
     #[link_name = "hash_many"]
     fn hash_many_(keys: *const u8, keys_len: usize, times: usize) -> usize;
-    #[link_name = "dense_build_many"]
-    fn dense_build_many_(
-        texts: *const u8, texts_len: usize, ends: *const usize, ends_len: usize, values: *const usize, values_len: usize,
-        times: usize, out: *mut u8, out_len: usize,
-    ) -> usize;
-    #[link_name = "dense_ask_many"]
-    fn dense_ask_many_(
-        record: *const u8, record_len: usize, texts: *const u8, texts_len: usize, ends: *const usize, ends_len: usize,
-        times: usize,
-    ) -> usize;
 }
 
 fn getter(kind: Kind) -> Get {
@@ -206,36 +196,6 @@ pub fn built(kind: Kind, route: u8, keys: &[Vec<u8>]) -> Vec<u8> {
 pub fn hash_many(keys: &[u8], times: usize) -> usize {
     // SAFETY: the function reads the slice.
     unsafe { hash_many_(keys.as_ptr(), keys.len(), times) }
-}
-
-/// Builds the dense table of the values of prefixes and suffixes, which stand in `texts` by turns.
-pub fn dense_build_many(texts: &Flat, values: &[usize], times: usize, out: &mut [u8]) -> usize {
-    // SAFETY: the function reads the three slices and writes the fourth.
-    unsafe {
-        dense_build_many_(
-            texts.keys.as_ptr(), texts.keys.len(), texts.ends.as_ptr(), texts.ends.len(), values.as_ptr(), values.len(),
-            times, out.as_mut_ptr(), out.len(),
-        )
-    }
-}
-
-/// The record of the dense table of these values.
-pub fn dense_built(texts: &Flat, values: &[usize]) -> Vec<u8> {
-    let mut out = vec![0; 64 * texts.bytes() + 64];
-    let len = dense_build_many(texts, values, 1, &mut out);
-    assert!(len <= out.len(), "the build was refused");
-    out.truncate(len);
-    out
-}
-
-/// Asks the table of a record for each prefix and suffix, which stand in `texts` by turns.
-pub fn dense_ask_many(record: &[u8], texts: &Flat, times: usize) -> usize {
-    // SAFETY: the function reads the three slices.
-    unsafe {
-        dense_ask_many_(
-            record.as_ptr(), record.len(), texts.keys.as_ptr(), texts.keys.len(), texts.ends.as_ptr(), texts.ends.len(), times,
-        )
-    }
 }
 
 /// The same work by the original.

@@ -1,6 +1,7 @@
 //! Times the library beside std's `BTreeMap` and `HashMap`, and beside the original where it was compiled.
 
 mod calls;
+mod dense;
 mod sets;
 
 use calls::{Flat, Kind};
@@ -171,7 +172,7 @@ fn asked_in_rows(pairs: &[(&str, &str)], turns: usize, get: impl Fn(&str, &str) 
 fn dense_look_ups(table: &Table, rounds: usize) {
     let rows = rows_of(table);
     let mut held: Vec<(&str, &str)> = table.entries.iter().map(|(prefix, suffix, _)| (prefix.as_str(), suffix.as_str())).collect();
-    let record = calls::dense_built(&texts_of(&held), &values_of(table));
+    let record = dense::built(&texts_of(&held), &values_of(table));
     #[cfg(original)]
     let original = calls::original::dense(&rows);
     let absent = sets::absent(table);
@@ -182,7 +183,7 @@ fn dense_look_ups(table: &Table, rounds: usize) {
         let texts = texts_of(pairs);
         let mut contestants: Vec<(&str, Box<dyn FnMut() -> usize + '_>)> = Vec::new();
         let record = record.as_slice();
-        contestants.push(("ours", Box::new(move || calls::dense_ask_many(record, &texts, turns))));
+        contestants.push(("ours", Box::new(move || dense::ask_many(record, &texts, turns))));
         let rows = &rows;
         contestants.push(("BTreeMap", Box::new(move || asked_in_rows(pairs, turns, |prefix, suffix| rows.get(prefix)?.get(suffix).copied()))));
         #[cfg(original)]
@@ -206,7 +207,7 @@ fn dense_builds(table: &Table, rounds: usize) {
     let turns = (500_000 / pairs.len()).max(1);
     let mut out = vec![0; 64 * texts.bytes() + 64];
     let mut contestants: Vec<(&str, Box<dyn FnMut() -> usize + '_>)> = Vec::new();
-    contestants.push(("ours", Box::new(move || calls::dense_build_many(&texts, &values, turns, &mut out))));
+    contestants.push(("ours", Box::new(move || dense::build_many(&texts, &values, turns, &mut out))));
     #[cfg(original)]
     {
         let rows = rows_of(table);
