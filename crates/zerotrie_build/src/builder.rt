@@ -8,10 +8,9 @@ ghost use Rattle.zerotrie_core.specs.Kind.{kind_with};
 ghost use Rattle.zerotrie_core.specs.Maps.{Ascends};
 ghost use Rattle.zerotrie_core.specs.Routes.{ascending, any_order, HasCause, IsBuild, IsLength, OfAllGiven, IsBuildOfAll};
 ghost use Rattle.zerotrie_build.specs.Items.{pairs};
-ghost use Rattle.zerotrie_build.specs.passes.Measured.{target_at};
 ghost use Rattle.zerotrie_build.specs.Order.{Ordered, AreKeys, AreValues};
 
-use crate::measuring::{Measured, measure_all};
+use crate::measuring::measure_all;
 use crate::order::{are_keys, is_ordered, repeats_next, sort_by_fold};
 use crate::slice_indices::ByteSliceWithIndices;
 use crate::store::TrieBuilderStore;
@@ -137,14 +136,6 @@ fn grow_any<S: TrieBuilderStore + Drop, A: Allocator + Copy>(
     }
 }
 
-/// How long the text that was measured is.
-fn whole_len<A: Allocator>(measured: &Measured<A>) -> usize
-    requires { 0 < length measured.now.targets.items }
-    ensures { result ≡ (target_at measured.now.targets.items 0).len }
-{
-    measured.targets[0].len
-}
-
 /// How long the text of items in the order of the kind is.
 fn len_ordered<K: ZeroTrieWithOptions, A: Allocator + Copy>(
     alloc: A,
@@ -156,7 +147,7 @@ fn len_ordered<K: ZeroTrieWithOptions, A: Allocator + Copy>(
     ensures { IsLength any_order K.kind (pairs items.entry) result }
 {
     let measured = measure_all::<K, A>(alloc, items)?;
-    Ok(whole_len(&measured))
+    Ok(measured.len)
 }
 
 /// How long the text of items in any order is, which are put in the order of the kind.

@@ -9,21 +9,34 @@ ghost use Rattle.zerotrie_build.specs.Items.{pairs};
 ghost use Rattle.zerotrie_build.specs.passes.Measured.{window_at};
 ghost use Rattle.zerotrie_build.specs.passes.Writing.{numbers_of, edge_no, place_in, IsSearched, IsLaid};
 
-use crate::measuring::{Measured, Target, is_hashed};
+use crate::measuring::is_hashed;
 use crate::slice_indices::ByteSliceWithIndices;
-use crate::steps::edge_at;
+use crate::steps::{Window, edge_at, group_end};
 use std::alloc::{AllocError, Allocator, Global};
 use zerotrie_core::{PerfectByteHashMapCacheOwned, ZeroTrieBuildError, ZeroTrieWithOptions};
+
+/// What is written next.
+#[derive(Clone, Copy, Debug)]
+pub(crate) enum Next {
+    /// The slots go on from this number on.
+    Slot(usize),
+    /// The text of this window.
+    Window(Window),
+}
 
 /// The layout of a branch. Its memory serves one branch after another. Hashed tables have memory of their own.
 #[derive(Drop)]
 pub(crate) struct Layout<A: Allocator> {
     alloc: Global,
     cache: PerfectByteHashMapCacheOwned,
+    /// The windows of the targets, in the order of the edges.
+    windows: Vec<Window, A>,
     /// The search table.
     pub(crate) table: Vec<u8, A>,
-    /// The numbers of the targets, in the order of the table.
+    /// The numbers of the targets among the windows, in the order of the table.
     pub(crate) numbers: Vec<usize, A>,
+    /// What is written behind the branch, in this order.
+    pub(crate) next: Vec<Next, A>,
 }
 
 impl<A: Allocator + Copy> Layout<A> {
@@ -32,106 +45,109 @@ impl<A: Allocator + Copy> Layout<A> {
         Layout {
             alloc,
             cache: PerfectByteHashMapCacheOwned::new_empty(alloc),
+            windows: Vec::new(spare),
             table: Vec::new(spare),
             numbers: Vec::new(spare),
+            next: Vec::new(spare),
         }
     }
 
     /// No branch, as at first.
-    pub(crate) fn clear(&mut self)
-        ensures table { self.new.table.items ≡ [] }
-        ensures numbers { self.new.numbers.items ≡ [] }
-    {
+    pub(crate) fn clear(&mut self) {
+        self.windows.clear();
         self.table.clear();
         self.numbers.clear();
+        self.next.clear();
     }
 
-    /// Lays the targets out in the order of their windows, whose edges ascend.
+    /// Lays the targets of the branch that stands first in the window out in the order of their edges.
     fn set_sorted(
         &mut self,
         items: ByteSliceWithIndices<'_>,
-        measured: &Measured<A>,
-        target: Target,
-    ) -> Result<(), AllocError>
-        requires order { target.first ≤ target.end }
-        requires within { target.end ≤ length measured.now.windows.items }
-        requires items { (i : ℕ) → target.first ≤ i → i < target.end
-            → (window_at measured.now.windows.items i).from < length (pairs items) }
-        ensures table { OnOk result (self.new.table.items
-            ≡ map (edge_no (pairs items.entry) measured.now.windows.items) (numbers_of target)) }
-        ensures numbers { OnOk result (self.new.numbers.items ≡ numbers_of target) }
-    {
+        window: Window,
+    ) -> Result<(), AllocError> {
         self.clear();
-        for number in target.first..target.end {
-            self.table.push(edge_at(items, measured.windows[number]))?;
-            self.numbers.push(number)?;
+        let mut rest = window;
+        while rest.from < rest.to {
+            let target = Window {
+                from: rest.from,
+                to: group_end(items, rest),
+                depth: rest.depth + 1,
+            };
+            self.numbers.push(self.windows.len())?;
+            self.windows.push(target)?;
+            self.table.push(edge_at(items, target))?;
+            rest.from = target.to;
         }
         Ok(())
     }
 
     /// Lays the targets out in the order of a hashed table.
-    fn set_hashed(&mut self, first: usize) -> Result<(), ZeroTrieBuildError>
-        requires rises { IsStrictlyIncreasing self.old.table.items }
-        requires room { first + length self.old.table.items < 2 ^ 64 }
-        ensures ok { OnOk result (IsSearched first self.old.table.items self.new.table.items self.new.numbers.items) }
-        ensures refused { IfErr result (IsTableRefusal self.old.table.items) }
-    {
+    fn set_hashed(&mut self) -> Result<(), ZeroTrieBuildError> {
         let keys = Vec::from_slice(self.alloc, self.table.as_slice())?;
         let table = self.cache.try_get_or_insert(keys)?;
-        set_places(
-            &mut self.numbers,
-            first,
-            self.table.as_slice(),
-            table.keys(),
-        )?;
+        set_places(&mut self.numbers, self.table.as_slice(), table.keys())?;
         self.table.clear();
         self.table.extend_from_slice(table.as_bytes())?;
         Ok(())
     }
 
-    /// Lays the targets of a branch out.
+    /// The targets in their order, the slots of the first from `slot` on.
+    fn push_sorted(&mut self, slot: usize) -> Result<(), AllocError> {
+        self.next.push(Next::Slot(slot))?;
+        for window in self.windows.as_slice() {
+            self.next.push(Next::Window(*window))?;
+        }
+        Ok(())
+    }
+
+    /// The targets in the order of the table, each with its slots, of which those of the first edge begin at `slot`,
+    /// and the slots behind them. `ends` tells how many there are up to each target.
+    fn push_hashed(&mut self, ends: &[usize], slot: usize) -> Result<(), AllocError> {
+        for number in self.numbers.as_slice() {
+            let before = if *number == 0 { 0 } else { ends[*number - 1] };
+            self.next.push(Next::Slot(slot + before))?;
+            self.next.push(Next::Window(self.windows[*number]))?;
+        }
+        self.next.push(Next::Slot(slot + ends[ends.len() - 1]))?;
+        Ok(())
+    }
+
+    /// Lays the targets of the branch out that stands first in the window, whose slots begin at `slot`.
     pub(crate) fn set<K: ZeroTrieWithOptions>(
         &mut self,
         items: ByteSliceWithIndices<'_>,
-        measured: &Measured<A>,
-        target: Target,
-    ) -> Result<(), ZeroTrieBuildError>
-        requires order { target.first ≤ target.end }
-        requires within { target.end ≤ length measured.now.windows.items }
-        requires items { (i : ℕ) → target.first ≤ i → i < target.end
-            → (window_at measured.now.windows.items i).from < length (pairs items) }
-        requires rises { IsStrictlyIncreasing (map (fold_byte K.kind)
-            (map (edge_no (pairs items) measured.now.windows.items) (numbers_of target))) }
-        ensures ok { OnOk result (IsLaid K.kind (edge_no (pairs items.entry) measured.now.windows.items)
-            target.first (target.end - target.first) self.new.table.items self.new.numbers.items) }
-        ensures refused { IfErr result (λ e. e ≢ ZeroTrieBuildError.OutOfMemory
-            → (e ≡ ZeroTrieBuildError.CouldNotSolvePerfectHash)
-            × AreCrooked K.kind (map (edge_no (pairs items.entry) measured.now.windows.items) (numbers_of target))) }
-    {
-        self.set_sorted(items, measured, target)?;
-        if is_hashed::<K>(target.end - target.first) {
-            self.set_hashed(target.first)?;
+        window: Window,
+        slots: &[usize],
+        slot: usize,
+    ) -> Result<(), ZeroTrieBuildError> {
+        self.set_sorted(items, window)?;
+        let edges = self.windows.len();
+        if is_hashed::<K>(edges) {
+            self.set_hashed()?;
+            let end = slot + 2 * edges;
+            self.push_hashed(&slots[slot + edges..end], end)?;
+        } else {
+            self.push_sorted(slot + edges)?;
         }
         Ok(())
     }
 }
 
-/// Sets the numbers to those of the placed edges, where the number of the first edge is `first`.
+/// Sets the numbers to those of the placed edges.
 fn set_places<A: Allocator>(
     numbers: &mut Vec<usize, A>,
-    first: usize,
     edges: &[u8],
     placed: &[u8],
 ) -> Result<(), AllocError>
     requires rises { IsStrictlyIncreasing edges.now }
     requires same { IsPermutation edges.now placed.now }
-    requires room { first + length edges.now < 2 ^ 64 }
-    ensures { OnOk result (numbers.new.items ≡ map (λ b. first + place_in edges.now b) placed.now) }
+    ensures { OnOk result (numbers.new.items ≡ map (λ b. place_in edges.now b) placed.now) }
 {
     numbers.clear();
     for edge in placed {
         match edges.binary_search(edge) {
-            Ok(place) => numbers.push(first + place)?,
+            Ok(place) => numbers.push(place)?,
             Err(_) => unreachable!(),
         }
     }

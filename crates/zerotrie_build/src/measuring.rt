@@ -11,28 +11,41 @@ ghost use Rattle.zerotrie_build.specs.Items.{pairs};
 ghost use Rattle.zerotrie_build.specs.Order.{Ordered, AreKeys};
 ghost use Rattle.zerotrie_build.specs.passes.Windows.{window, step_of};
 ghost use Rattle.zerotrie_build.specs.passes.Measured.{Run, Stops, IsMeasured};
-ghost use Rattle.zerotrie_build.specs.passes.Walking.{lens, IsOpened, Walking};
 
 use crate::slice_indices::ByteSliceWithIndices;
 use crate::steps::{Step, Window, first_step, group_end, literals_end};
 use std::alloc::{AllocError, Allocator};
 use zerotrie_core::{ZeroTrieBuildError, ZeroTrieWithOptions};
 
-/// Of a window: the numbers of the windows that are the targets of its first branch, from `first` to below
-/// `end`, and how long its text is. Until the targets are measured, that is how long the text in front of the
-/// branch is.
-#[derive(Clone, Copy, Debug)]
-pub(crate) struct Target {
-    pub(crate) first: usize,
-    pub(crate) end: usize,
+/// The lengths that are kept for the second pass, in slots. A branch has a slot for each target, in the order of
+/// the edges, with the length of its text. Where its table is hashed, as many follow, with how many slots the
+/// targets up to each have below them. Then come the slots below the first target, the second, and so on.
+#[derive(Drop)]
+pub(crate) struct Measured<A: Allocator> {
+    pub(crate) slots: Vec<usize, A>,
+    /// How long the text is.
     pub(crate) len: usize,
 }
 
-/// The windows of a text, by their numbers: number 0 is the whole, and the others are the targets of branches.
+/// A branch whose targets are measured, one after another.
+#[derive(Clone, Copy, Debug)]
+struct Open {
+    /// Where the items begin of the target that is measured, and how many bytes stand in front of its edge.
+    from: usize,
+    depth: usize,
+    /// How many bytes of the text stand in front of the branch.
+    len: usize,
+    /// The slots of the targets, and that of the target that is measured.
+    first: usize,
+    next: usize,
+    end: usize,
+}
+
+/// The slots, and the branches that the window which is measured stands in, the innermost last.
 #[derive(Drop)]
-pub(crate) struct Measured<A: Allocator> {
-    pub(crate) windows: Vec<Window, A>,
-    pub(crate) targets: Vec<Target, A>,
+struct Measuring<A: Allocator> {
+    slots: Vec<usize, A>,
+    open: Vec<Open, A>,
 }
 
 /// The sum, if it is below 2^64.
@@ -110,100 +123,14 @@ fn behind_run<K: ZeroTrieWithOptions>(
     }
 }
 
-impl<A: Allocator + Copy> Measured<A> {
-    /// Adds a window for each target of the branch that stands first in this one.
-    fn open<K: ZeroTrieWithOptions>(
-        &mut self,
-        items: ByteSliceWithIndices<'_>,
-        start: Window,
-    ) -> Result<(), AllocError>
-        requires within { start.to ≤ length (pairs items) }
-        requires order { start.from ≤ start.to }
-        requires ordered { Ordered K.kind (window (pairs items) start) }
-        requires stops { Stops K.kind (pairs items) start }
-        requires room { step_of K.kind (pairs items) start ≡ Step.Branch → start.depth + 1 < 2 ^ 64 }
-        ensures windows { OnOk result ((added : List Window)
-            × (self.new.windows.items ≡ self.old.windows.items ++ added)
-            × IsOpened K.kind (pairs items.entry) start added) }
-        ensures targets { self.new.targets.items ≡ self.old.targets.items }
-    {
-        let mut rest = start;
-        while rest.from < rest.to {
-            let end = group_end(items, rest);
-            self.windows.push(Window {
-                from: rest.from,
-                to: end,
-                depth: rest.depth + 1,
-            })?;
-            rest.from = end;
-        }
-        Ok(())
-    }
-
-    /// Walks the window that is next.
-    fn walk_next<K: ZeroTrieWithOptions>(
-        &mut self,
-        items: ByteSliceWithIndices<'_>,
-    ) -> Result<(), ZeroTrieBuildError>
-        requires keys { AreKeys K.kind (pairs items) }
-        requires walking { Walking K.kind (pairs items) self.old.windows.items self.old.targets.items }
-        requires some { length self.old.targets.items < length self.old.windows.items }
-        ensures walking { OnOk result
-            (Walking K.kind (pairs items.entry) self.new.windows.items self.new.targets.items) }
-        ensures one { OnOk result (length self.new.targets.items ≡ length self.old.targets.items + 1) }
-        ensures refused { IfErr result (λ e. e ≢ ZeroTrieBuildError.OutOfMemory
-            → (e ≡ ZeroTrieBuildError.CapacityExceeded) × (2 ^ 64 ≤ size_of K.kind (pairs items.entry))) }
-    {
-        let (rest, len) = behind_run::<K>(items, self.windows[self.targets.len()])?;
-        let first = self.windows.len();
-        self.open::<K>(items, rest)?;
-        self.targets.push(Target {
-            first,
-            end: self.windows.len(),
-            len,
-        })?;
-        Ok(())
-    }
-
-    /// Walks the windows of the items, from the whole on.
-    fn walk<K: ZeroTrieWithOptions>(
-        alloc: A,
-        items: ByteSliceWithIndices<'_>,
-    ) -> Result<Self, ZeroTrieBuildError>
-        requires ordered { Ordered K.kind (pairs items) }
-        requires keys { AreKeys K.kind (pairs items) }
-        ensures walked { IfOk result (λ m. Walking K.kind (pairs items.entry) m.windows.items m.targets.items
-            × (length m.targets.items ≡ length m.windows.items)) }
-        ensures refused { IfErr result (λ e. e ≢ ZeroTrieBuildError.OutOfMemory
-            → (e ≡ ZeroTrieBuildError.CapacityExceeded) × (2 ^ 64 ≤ size_of K.kind (pairs items.entry))) }
-    {
-        // Most sets of keys have fewer windows than this.
-        let room = items.len().saturating_add(items.len() / 2);
-        let mut measured = Measured {
-            windows: Vec::with_capacity(alloc, room)?,
-            targets: Vec::with_capacity(alloc, room)?,
-        };
-        measured.windows.push(Window {
-            from: 0,
-            to: items.len(),
-            depth: 0,
-        })?;
-        while measured.targets.len() < measured.windows.len() {
-            measured.walk_next::<K>(items)?;
-        }
-        Ok(measured)
-    }
-}
-
-/// The sum of the lengths of these targets.
-fn total(targets: &[Target]) -> Result<usize, ZeroTrieBuildError>
-    ensures sum { IfOk result (λ n. n ≡ sum (lens targets.now)) }
-    ensures refused { IfErr result (λ e. (e ≡ ZeroTrieBuildError.CapacityExceeded)
-        × (2 ^ 64 ≤ sum (lens targets.now))) }
+/// The sum of these lengths.
+fn total(lens: &[usize]) -> Result<usize, ZeroTrieBuildError>
+    ensures sum { IfOk result (λ n. n ≡ sum lens.now) }
+    ensures refused { IfErr result (λ e. (e ≡ ZeroTrieBuildError.CapacityExceeded) × (2 ^ 64 ≤ sum lens.now)) }
 {
     let mut total = 0;
-    for target in targets {
-        total = plus(total, target.len)?;
+    for len in lens {
+        total = plus(total, *len)?;
     }
     Ok(total)
 }
@@ -215,24 +142,24 @@ fn is_too_wide<K: ZeroTrieWithOptions>(total: usize) -> bool
     !K::EXTENDED && total >= 1 << 32
 }
 
-/// How long a text is that has `len` bytes in front of a branch to these targets.
+/// How long a text is that has `len` bytes in front of a branch to targets of these lengths.
 fn with_branch<K: ZeroTrieWithOptions>(
     len: usize,
-    targets: &[Target],
+    lens: &[usize],
 ) -> Result<usize, ZeroTrieBuildError>
-    requires two { 2 ≤ length targets.now }
-    requires few { length targets.now ≤ 256 }
-    ensures len { IfOk result (λ n. n ≡ len + (branch_size K.kind (lens targets.now) + sum (lens targets.now))) }
-    ensures narrow { IfOk result (λ _. sum (lens targets.now) < 256 ^ (greatest_width K.kind + 1)) }
+    requires two { 2 ≤ length lens.now }
+    requires few { length lens.now ≤ 256 }
+    ensures len { IfOk result (λ n. n ≡ len + (branch_size K.kind lens.now + sum lens.now)) }
+    ensures narrow { IfOk result (λ _. sum lens.now < 256 ^ (greatest_width K.kind + 1)) }
     ensures refused { IfErr result (λ e. (e ≡ ZeroTrieBuildError.CapacityExceeded)
-        × ((256 ^ (greatest_width K.kind + 1) ≤ sum (lens targets.now))
-        ⊎ (2 ^ 64 ≤ len + (branch_size K.kind (lens targets.now) + sum (lens targets.now))))) }
+        × ((256 ^ (greatest_width K.kind + 1) ≤ sum lens.now)
+        ⊎ (2 ^ 64 ≤ len + (branch_size K.kind lens.now + sum lens.now)))) }
 {
-    let sum = total(targets)?;
+    let sum = total(lens)?;
     if is_too_wide::<K>(sum) {
         return Err(ZeroTrieBuildError::CapacityExceeded);
     }
-    let front = plus(len, branch_len::<K>(targets.len(), sum))?;
+    let front = plus(len, branch_len::<K>(lens.len(), sum))?;
     plus(front, sum)
 }
 
@@ -272,6 +199,109 @@ fn branch_len<K: ZeroTrieWithOptions>(edges: usize, total: usize) -> usize
     number_len(32, 256 * width + edges % 256) + table + (width + 1) * (edges - 1)
 }
 
+impl<A: Allocator + Copy> Measuring<A> {
+    /// No branch. Most sets of keys have fewer targets than there is room for.
+    fn new(alloc: A, items: usize) -> Result<Self, AllocError>
+        ensures slots { IfOk result (λ m. m.slots.items ≡ []) }
+        ensures open { IfOk result (λ m. m.open.items ≡ []) }
+    {
+        Ok(Measuring {
+            slots: Vec::with_capacity(alloc, items.saturating_add(items / 2))?,
+            open: Vec::new(alloc),
+        })
+    }
+
+    /// Adds a slot for each target of the branch that stands first in the window. Until the target is measured,
+    /// it tells where its items end.
+    fn push_ends(
+        &mut self,
+        items: ByteSliceWithIndices<'_>,
+        window: Window,
+    ) -> Result<(), AllocError> {
+        let mut rest = window;
+        while rest.from < rest.to {
+            let end = group_end(items, rest);
+            self.slots.push(end)?;
+            rest.from = end;
+        }
+        Ok(())
+    }
+
+    /// Adds so many slots.
+    fn push_slots(&mut self, count: usize) -> Result<(), AllocError> {
+        for _ in 0..count {
+            self.slots.push(0)?;
+        }
+        Ok(())
+    }
+
+    /// Opens the branch that stands first in the window, behind so many bytes.
+    fn push_branch<K: ZeroTrieWithOptions>(
+        &mut self,
+        items: ByteSliceWithIndices<'_>,
+        window: Window,
+        len: usize,
+    ) -> Result<(), AllocError> {
+        let first = self.slots.len();
+        self.push_ends(items, window)?;
+        let end = self.slots.len();
+        if is_hashed::<K>(end - first) {
+            self.push_slots(end - first)?;
+        }
+        self.open.push(Open {
+            from: window.from,
+            depth: window.depth,
+            len,
+            first,
+            next: first,
+            end,
+        })?;
+        Ok(())
+    }
+
+    /// Keeps the length of the target of the branch that was measured.
+    fn keep<K: ZeroTrieWithOptions>(&mut self, branch: Open, len: usize) {
+        self.slots[branch.next] = len;
+        let edges = branch.end - branch.first;
+        if is_hashed::<K>(edges) {
+            self.slots[branch.next + edges] = self.slots.len() - (branch.end + edges);
+        }
+    }
+
+    /// Takes in how long the window is that was measured, and with it the branches whose last targets were. The
+    /// length of the whole, if no branch is open any more.
+    fn close<K: ZeroTrieWithOptions>(
+        &mut self,
+        len: usize,
+    ) -> Result<Option<usize>, ZeroTrieBuildError> {
+        let mut len = len;
+        while let Some(branch) = self.open.pop() {
+            let from = self.slots[branch.next];
+            self.keep::<K>(branch, len);
+            if branch.next + 1 < branch.end {
+                self.open.push(Open {
+                    from,
+                    next: branch.next + 1,
+                    ..branch
+                })?;
+                return Ok(None);
+            }
+            len = with_branch::<K>(branch.len, &self.slots[branch.first..branch.end])?;
+        }
+        Ok(Some(len))
+    }
+
+    /// The window of the target that is measured next.
+    fn next_window(&self) -> Option<Window> {
+        let branch = self.open.last()?;
+        Some(Window {
+            from: branch.from,
+            to: self.slots[branch.next],
+            depth: branch.depth + 1,
+        })
+    }
+}
+
 /// The lengths of the text of the items and of all targets.
 pub(crate) fn measure_all<K: ZeroTrieWithOptions, A: Allocator + Copy>(
     alloc: A,
@@ -279,19 +309,28 @@ pub(crate) fn measure_all<K: ZeroTrieWithOptions, A: Allocator + Copy>(
 ) -> Result<Measured<A>, ZeroTrieBuildError>
     requires ordered { Ordered K.kind (pairs items) }
     requires keys { AreKeys K.kind (pairs items) }
-    ensures measured { IfOk result (λ m. IsMeasured K.kind (pairs items.entry) m.windows.items m.targets.items) }
+    ensures measured { IfOk result (λ m. IsMeasured K.kind (pairs items.entry) m.slots.items m.len) }
     ensures refused { IfErr result (λ e. e ≢ ZeroTrieBuildError.OutOfMemory
         → (e ≡ ZeroTrieBuildError.CapacityExceeded) × ExceedsCapacity K.kind (map_of (pairs items.entry))) }
 {
-    let mut measured = Measured::walk::<K>(alloc, items)?;
-    for index in (0..measured.targets.len()).rev() {
-        let target = measured.targets[index];
-        if target.first < target.end {
-            measured.targets[index].len = with_branch::<K>(
-                target.len,
-                &measured.targets[target.first..target.end],
-            )?;
+    let mut measuring = Measuring::new(alloc, items.len())?;
+    let mut window = Window {
+        from: 0,
+        to: items.len(),
+        depth: 0,
+    };
+    loop {
+        let (rest, len) = behind_run::<K>(items, window)?;
+        if rest.from < rest.to {
+            measuring.push_branch::<K>(items, rest, len)?;
+        } else if let Some(len) = measuring.close::<K>(len)? {
+            let Measuring { mut slots, open: _ } = measuring;
+            slots.shrink_to_fit();
+            return Ok(Measured { slots, len });
+        }
+        match measuring.next_window() {
+            Some(next) => window = next,
+            None => unreachable!(),
         }
     }
-    Ok(measured)
 }

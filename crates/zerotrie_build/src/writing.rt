@@ -12,8 +12,8 @@ ghost use Rattle.zerotrie_build.specs.passes.Measured.{IsMeasured, target_at};
 ghost use Rattle.zerotrie_build.specs.passes.Puts.{Puts};
 ghost use Rattle.zerotrie_build.specs.passes.Writing.{with_bits, lens_of, FrontPut};
 
-use crate::laying::Layout;
-use crate::measuring::{Measured, Target, width_of};
+use crate::laying::{Layout, Next};
+use crate::measuring::{Measured, width_of};
 use crate::slice_indices::ByteSliceWithIndices;
 use crate::steps::{Step, Window, first_step};
 use crate::store::TrieBuilderStore;
@@ -96,72 +96,66 @@ impl<S: TrieBuilderStore + Drop> Writing<S> {
         self.put_all(&key[window.depth..window.depth + run]);
     }
 
-    /// Writes the bytes of this weight of the offsets of a branch to these targets.
-    fn put_block(&mut self, targets: &[Target], numbers: &[usize], place: usize)
+    /// Writes the bytes of this weight of the offsets of a branch to the targets of these numbers.
+    fn put_block(&mut self, lens: &[usize], numbers: &[usize], place: usize)
         requires place { place < 8 }
-        requires within { All (λ i. i < length targets.now) numbers.now }
-        requires small { total_of (lens_of targets.now numbers.now) < 2 ^ 64 }
+        requires within { All (λ i. i < length lens.now) numbers.now }
+        requires small { total_of (lens_of lens.now numbers.now) < 2 ^ 64 }
         requires room { self.old.at + (length numbers.now - 1) ≤ length (S.list self.old.data) }
         ensures { Puts (S.list self.old.data) self.old.at (S.list self.new.data) self.new.at
-            (map (λ o. o / 256 ^ place % 256) (ends (lens_of targets.now numbers.now))) }
+            (map (λ o. o / 256 ^ place % 256) (ends (lens_of lens.now numbers.now))) }
     {
         let mut end = 0;
         for index in 1..numbers.len() {
-            end += targets[numbers[index - 1]].len;
+            end += lens[numbers[index - 1]];
             self.put(((end >> (8 * place)) % 256) as u8);
         }
     }
 
-    /// Writes so many bytes of each offset of a branch to these targets, the highest of them first.
-    fn put_offsets(&mut self, targets: &[Target], numbers: &[usize], bytes: usize)
+    /// Writes so many bytes of each offset of a branch to the targets of these numbers, the highest of them
+    /// first.
+    fn put_offsets(&mut self, lens: &[usize], numbers: &[usize], bytes: usize)
         requires bytes { bytes ≤ 8 }
-        requires within { All (λ i. i < length targets.now) numbers.now }
-        requires small { total_of (lens_of targets.now numbers.now) < 2 ^ 64 }
+        requires within { All (λ i. i < length lens.now) numbers.now }
+        requires small { total_of (lens_of lens.now numbers.now) < 2 ^ 64 }
         requires room { self.old.at + bytes * (length numbers.now - 1) ≤ length (S.list self.old.data) }
         ensures { Puts (S.list self.old.data) self.old.at (S.list self.new.data) self.new.at
-            (blocks bytes (ends (lens_of targets.now numbers.now))) }
+            (blocks bytes (ends (lens_of lens.now numbers.now))) }
     {
         for place in (0..bytes).rev() {
-            self.put_block(targets, numbers, place);
+            self.put_block(lens, numbers, place);
         }
     }
 
-    /// Writes a branch with this search table in front of these targets.
-    fn put_branch(&mut self, table: &[u8], targets: &[Target], numbers: &[usize])
-        requires within { All (λ i. i < length targets.now) numbers.now }
-        requires small { total_of (lens_of targets.now numbers.now) < 2 ^ 64 }
-        requires room { self.old.at + length (branch_front table.now (lens_of targets.now numbers.now))
+    /// Writes a branch with this search table in front of the targets of these numbers, which are so long.
+    fn put_branch(&mut self, table: &[u8], lens: &[usize], numbers: &[usize])
+        requires within { All (λ i. i < length lens.now) numbers.now }
+        requires small { total_of (lens_of lens.now numbers.now) < 2 ^ 64 }
+        requires room { self.old.at + length (branch_front table.now (lens_of lens.now numbers.now))
             ≤ length (S.list self.old.data) }
         ensures { Puts (S.list self.old.data) self.old.at (S.list self.new.data) self.new.at
-            (branch_front table.now (lens_of targets.now numbers.now)) }
+            (branch_front table.now (lens_of lens.now numbers.now)) }
     {
-        let width = width_of(total(targets, numbers));
+        let width = width_of(total(lens, numbers));
         self.put_number(
             BRANCH,
             &write_varint_meta2(256 * width + numbers.len() % 256),
         );
         self.put_all(table);
-        self.put_offsets(targets, numbers, width + 1);
+        self.put_offsets(lens, numbers, width + 1);
     }
 
-    /// Writes a window up to the targets of its first branch, and lays these out.
+    /// Writes a window, whose slots begin at `slot`, up to the targets of its first branch, and lays these out.
     fn put_front<K: ZeroTrieWithOptions, A: Allocator + Copy>(
         &mut self,
         items: ByteSliceWithIndices<'_>,
-        measured: &Measured<A>,
-        index: usize,
+        window: Window,
+        slots: &[usize],
+        slot: usize,
         layout: &mut Layout<A>,
-    ) -> Result<(), ZeroTrieBuildError>
-        requires measured { IsMeasured K.kind (pairs items) measured.now.windows.items measured.now.targets.items }
-        requires within { index < length measured.now.windows.items }
-        requires room { self.old.at + (target_at measured.now.targets.items index).len ≤ length (S.list self.old.data) }
-        ensures put { OnOk result (FrontPut K.kind (pairs items.entry) measured.now.windows.items measured.now.targets.items
-            index layout.new.numbers.items (S.list self.old.data) self.old.at (S.list self.new.data) self.new.at) }
-        ensures refused { IfErr result (λ e. e ≢ ZeroTrieBuildError.OutOfMemory
-            → (e ≡ ZeroTrieBuildError.CouldNotSolvePerfectHash) × Cause K.kind (pairs items.entry) e) }
-    {
+    ) -> Result<(), ZeroTrieBuildError> {
         layout.clear();
-        let mut rest = measured.windows[index];
+        let mut rest = window;
         loop {
             match first_step::<K>(items, rest) {
                 Step::End => return Ok(()),
@@ -178,12 +172,10 @@ impl<S: TrieBuilderStore + Drop> Writing<S> {
                     rest.depth += count;
                 }
                 Step::Branch => {
-                    layout.set::<K>(items, measured, measured.targets[index])?;
-                    self.put_branch(
-                        layout.table.as_slice(),
-                        measured.targets.as_slice(),
-                        layout.numbers.as_slice(),
-                    );
+                    layout.set::<K>(items, rest, slots, slot)?;
+                    let numbers = layout.numbers.as_slice();
+                    let lens = &slots[slot..slot + numbers.len()];
+                    self.put_branch(layout.table.as_slice(), lens, numbers);
                     return Ok(());
                 }
             }
@@ -191,34 +183,31 @@ impl<S: TrieBuilderStore + Drop> Writing<S> {
     }
 }
 
-/// The sum of the lengths of these targets.
-fn total(targets: &[Target], numbers: &[usize]) -> usize
-    requires within { All (λ i. i < length targets.now) numbers.now }
-    requires small { total_of (lens_of targets.now numbers.now) < 2 ^ 64 }
-    ensures { result ≡ total_of (lens_of targets.now numbers.now) }
+/// The sum of the lengths of the targets of these numbers.
+fn total(lens: &[usize], numbers: &[usize]) -> usize
+    requires within { All (λ i. i < length lens.now) numbers.now }
+    requires small { total_of (lens_of lens.now numbers.now) < 2 ^ 64 }
+    ensures { result ≡ total_of (lens_of lens.now numbers.now) }
 {
     let mut total = 0;
     for number in numbers {
-        total += targets[*number].len;
+        total += lens[*number];
     }
     total
 }
 
-/// Puts the numbers on the list of open windows, the first on top.
-fn push_numbers<A: Allocator>(
-    pending: &mut Vec<usize, A>,
-    numbers: &[usize],
-) -> Result<(), AllocError>
-    ensures { OnOk result (reverse pending.new.items ≡ numbers.now ++ reverse pending.old.items) }
+/// Puts what is written next on the list of what is to be written, the first on top.
+fn push_next<A: Allocator>(pending: &mut Vec<Next, A>, next: &[Next]) -> Result<(), AllocError>
+    ensures { OnOk result (reverse pending.new.items ≡ next.now ++ reverse pending.old.items) }
 {
-    for index in (0..numbers.len()).rev() {
-        pending.push(numbers[index])?;
+    for index in (0..next.len()).rev() {
+        pending.push(next[index])?;
     }
     Ok(())
 }
 
-/// Takes the number on top off.
-fn next_number<A: Allocator>(pending: &mut Vec<usize, A>) -> Option<usize>
+/// Takes what is on top off.
+fn take_next<A: Allocator>(pending: &mut Vec<Next, A>) -> Option<Next>
     ensures some { IfSome result (λ i. reverse pending.old.items ≡ i ∷ reverse pending.new.items) }
     ensures none { IfNone result (reverse pending.old.items ≡ []) }
 {
@@ -232,20 +221,31 @@ pub(crate) fn write<K: ZeroTrieWithOptions, S: TrieBuilderStore + Drop, A: Alloc
     items: ByteSliceWithIndices<'_>,
     measured: &Measured<A>,
 ) -> Result<S, ZeroTrieBuildError>
-    requires { IsMeasured K.kind (pairs items) measured.now.windows.items measured.now.targets.items }
+    requires { IsMeasured K.kind (pairs items) measured.now.slots.items measured.now.len }
     ensures means { IfOk result (λ store. Means K.kind (S.list store) (map_of (pairs items.entry))) }
     ensures refused { IfErr result (λ e. e ≢ ZeroTrieBuildError.OutOfMemory
         → (e ≡ ZeroTrieBuildError.CouldNotSolvePerfectHash) × Cause K.kind (pairs items.entry) e) }
 {
     let mut data = S::atbs_new_empty(alloc);
-    data.atbs_prepend_n_zeros(measured.targets[0].len)?;
+    data.atbs_prepend_n_zeros(measured.len)?;
     let mut writing = Writing { data, at: 0 };
     let mut layout = Layout::new(alloc, spare);
     let mut pending = Vec::new(spare);
-    pending.push(0)?;
-    while let Some(index) = next_number(&mut pending) {
-        writing.put_front::<K, A>(items, measured, index, &mut layout)?;
-        push_numbers(&mut pending, layout.numbers.as_slice())?;
+    pending.push(Next::Window(Window {
+        from: 0,
+        to: items.len(),
+        depth: 0,
+    }))?;
+    let mut slot = 0;
+    while let Some(next) = take_next(&mut pending) {
+        match next {
+            Next::Slot(number) => slot = number,
+            Next::Window(window) => {
+                let slots = measured.slots.as_slice();
+                writing.put_front::<K, A>(items, window, slots, slot, &mut layout)?;
+                push_next(&mut pending, layout.next.as_slice())?;
+            }
+        }
     }
     let Writing { data, at: _ } = writing;
     // That a length is below 2^64 tells the proof that so is that of the text.

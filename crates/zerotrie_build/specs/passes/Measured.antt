@@ -1,16 +1,16 @@
 -- What the first pass finds.
-use Rattle.std.specs.Prelude.{◌≡◌, ℕ, ◌+◌, ◌-◌, ◌<◌, ◌≤◌, ◌^◌, ◌⊎◌, List, [], ◌∷◌, length, map, take, drop, slice_index_or, All}
+use Rattle.std.specs.Prelude.{◌≡◌, ℕ, ◌+◌, ◌<◌, ◌≤◌, ◌^◌, ◌⊎◌, List, [], ◌∷◌, ◌++◌, length, map, All, if◌then◌else◌}
+use Rattle.std.specs.List.{concat}
 use Rattle.std.specs.List.Sorted.{IsStrictlyIncreasing}
-use Rattle.zerotrie_core.specs.Kind.{Kind, fold_byte, edge_limit, greatest_width, ordered as in_order}
+use Rattle.zerotrie_core.specs.Kind.{Kind, fold_byte, edge_limit, greatest_width, is_hashed, ordered as in_order}
 use Rattle.zerotrie_core.specs.Numbers.{value_form, span_form, spelled_as}
 use Rattle.zerotrie_core.specs.Maps.{Pairs, with_front, edges, behind_all}
 use Rattle.zerotrie_core.specs.Branches.{total}
 use Rattle.zerotrie_core.specs.Canonical.{size_of, branch_size}
 use Rattle.zerotrie_build.specs.Order.{Ordered, AreKeys}
-use Rattle.zerotrie_build.specs.passes.Windows.{window, cut, edge_of, step_of}
+use Rattle.zerotrie_build.specs.passes.Windows.{window, cut, edge_of, step_of, IsGroup}
 use Rattle.zerotrie_build.specs.declared.steps.Window.{Window}
 use Rattle.zerotrie_build.specs.declared.steps.Step.TheVariants.{End, Value, Literal, Span, Branch}
-use Rattle.zerotrie_build.specs.declared.measuring.Target.{Target}
 
 -- values, literals and spans, of so many bytes together, lead from a window to one behind them
 pub data Run (kind : Kind) (all : Pairs) : Window → Window → ℕ → Type 0 where
@@ -27,61 +27,67 @@ pub data Run (kind : Kind) (all : Pairs) : Window → Window → ℕ → Type 0 
 abbrev pub Stops : Kind → Pairs → Window → Type 0
 Stops kind all w = (step_of kind all w ≡ End) ⊎ (step_of kind all w ≡ Branch)
 
+-- the windows are those of the targets of the branch that stands first in a window, or it is empty
+abbrev pub Parts : Pairs → Window → List Window → Type 0
+Parts all w [] = w.from ≡ w.to
+Parts all w (c ∷ cs) = (c.from ≡ w.from) × (c.depth ≡ w.depth + 1) × IsGroup all w c.to × Parts all (record w { from = c.to }) cs
+
 -- the windows, one after another, are those of the items from one number to below another, by their bytes at the depth
 abbrev pub Groups : Pairs → ℕ → ℕ → ℕ → List Window → Type 0
 Groups all depth from to [] = from ≡ to
 Groups all depth from to (c ∷ cs) = (c.from ≡ from) × (c.depth ≡ depth + 1) × (from < c.to) × (c.to ≤ to)
     × (cut all from c.to depth ≡ with_front (edge_of all c) (window all c)) × Groups all depth c.to to cs
 
--- the part of a list that a target's numbers name
-abbrev pub part : {A : Type 0} → Target → List A → List A
-part t xs = take (t.end - t.first) (drop t.first xs)
+-- the lengths of the texts of windows
+abbrev pub sizes_of : Kind → Pairs → List Window → List ℕ
+sizes_of kind all cs = map (size_of kind) (map (window all) cs)
 
--- the edges of a target's branch
-abbrev pub edges_of : Pairs → List Window → Target → List ℕ
-edges_of all windows t = map (edge_of all) (part t windows)
-
--- the lengths of the targets of its branch
-abbrev pub lengths_of : List Target → Target → List ℕ
-lengths_of targets t = map (λ u. u.len) (part t targets)
-
--- What is known of the window and the target of one number.
-pub record IsOpen (kind : Kind) (all : Pairs) (windows : List Window) (targets : List Target) (w : Window) (t : Target) : Type 0 where
+-- What is known of a window whose first branch has targets of these windows, or which has no branch.
+pub record IsOpen (kind : Kind) (all : Pairs) (w : Window) (cs : List Window) : Type 0 where
   pub within : w.to ≤ length all
   pub ordered : Ordered kind (window all w)
-  pub len : t.len ≡ size_of kind (window all w)
-  pub first_end : t.first ≤ t.end
-  pub end_within : t.end ≤ length windows
   pub behind : Window
   pub bytes : ℕ
   pub run : Run kind all w behind bytes
   pub stops : Stops kind all behind
-  pub groups : Groups all behind.depth behind.from behind.to (part t windows)
-  pub rises : IsStrictlyIncreasing (map (fold_byte kind) (edges_of all windows t))
-  pub low : All (λ b. b < edge_limit kind) (edges_of all windows t)
+  pub parts : Parts all behind cs
+  pub groups : Groups all behind.depth behind.from behind.to cs
+  pub rises : IsStrictlyIncreasing (map (fold_byte kind) (map (edge_of all) cs))
+  pub low : All (λ b. b < edge_limit kind) (map (edge_of all) cs)
   pub front : List ℕ
-  pub edges_are : in_order kind (edges (behind_all front all)) ≡ edges_of all windows t
-  pub none : step_of kind all behind ≡ End → (t.first ≡ t.end) × (t.len ≡ bytes)
-  pub some : step_of kind all behind ≡ Branch → (t.first + 2 ≤ t.end)
-      × (t.len ≡ bytes + (branch_size kind (lengths_of targets t) + total (lengths_of targets t)))
-  pub narrow : total (lengths_of targets t) < 256 ^ (greatest_width kind + 1)
+  pub edges_are : in_order kind (edges (behind_all front all)) ≡ map (edge_of all) cs
+  pub none : step_of kind all behind ≡ End → (cs ≡ []) × (size_of kind (window all w) ≡ bytes)
+  pub some : step_of kind all behind ≡ Branch → (2 ≤ length cs)
+      × (size_of kind (window all w) ≡ bytes + (branch_size kind (sizes_of kind all cs) + total (sizes_of kind all cs)))
+  pub narrow : total (sizes_of kind all cs) < 256 ^ (greatest_width kind + 1)
 
-abbrev pub no_window : Window
-no_window = record { from = 0; to = 0; depth = 0 }
+-- how many there are up to each of these, behind so many
+abbrev pub ends_from : ℕ → List ℕ → List ℕ
+ends_from n [] = []
+ends_from n (m ∷ ms) = (n + m) ∷ ends_from (n + m) ms
 
-abbrev pub no_target : Target
-no_target = record { first = 0; end = 0; len = 0 }
+-- the slots of a branch, by the lengths of its targets and the slots below each
+abbrev pub slots_of : Kind → List ℕ → List (List ℕ) → List ℕ
+slots_of kind lens below = lens ++ ((if is_hashed kind (length lens) then ends_from 0 (map length below) else []) ++ concat below)
 
-abbrev pub window_at : List Window → ℕ → Window
-window_at windows i = slice_index_or windows i no_window
+mutual
+  -- The slots are those of the first branch of a window and of the branches behind it.
+  pub data Kept (kind : Kind) (all : Pairs) : Window → List ℕ → Type 0 where
+    kept : {w : Window} {cs : List Window} {below : List (List ℕ)}
+        → IsOpen kind all w cs → KeptEach kind all cs below → Kept kind all w (slots_of kind (sizes_of kind all cs) below)
 
-abbrev pub target_at : List Target → ℕ → Target
-target_at targets i = slice_index_or targets i no_target
+  -- Each window has these slots.
+  pub data KeptEach (kind : Kind) (all : Pairs) : List Window → List (List ℕ) → Type 0 where
+    none : KeptEach kind all [] []
+    more : {c : Window} {cs : List Window} {slots : List ℕ} {below : List (List ℕ)}
+        → Kept kind all c slots → KeptEach kind all cs below → KeptEach kind all (c ∷ cs) (slots ∷ below)
 
--- The windows and targets are those of the pairs.
-pub record IsMeasured (kind : Kind) (all : Pairs) (windows : List Window) (targets : List Target) : Type 0 where
-  pub count : length targets ≡ length windows
-  pub some : 0 < length windows
+-- the window of all items
+abbrev pub whole : Pairs → Window
+whole all = record { from = 0; to = length all; depth = 0 }
+
+-- The slots are those of the pairs, whose text is so long.
+pub record IsMeasured (kind : Kind) (all : Pairs) (slots : List ℕ) (len : ℕ) : Type 0 where
   pub keys : AreKeys kind all
-  pub whole : window_at windows 0 ≡ record { from = 0; to = length all; depth = 0 }
-  pub each : (i : ℕ) → i < length windows → IsOpen kind all windows targets (window_at windows i) (target_at targets i)
+  pub slots_are : Kept kind all (whole all) slots
+  pub len_is : len ≡ size_of kind all

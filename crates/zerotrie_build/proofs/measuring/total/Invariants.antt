@@ -1,6 +1,6 @@
-use Rattle.std.proofs.Common.{◌≡◌, ◌+◌, map, drop}
+use Rattle.std.proofs.Common.{◌≡◌, ◌+◌, drop}
 use Rattle.zerotrie_core.specs.Branches.{total}
 use Rattle.zerotrie_build.proofs.measuring.total.Given as goal
 
-abbrev pub invariant-loop-target : goal.invariant-loop-target
-invariant-loop-target l = total (map (λ t. t.len) l.targets) ≡ l.total + total (map (λ t. t.len) (drop l.target-index l.targets))
+abbrev pub invariant-loop-len : goal.invariant-loop-len
+invariant-loop-len l = total l.lens ≡ l.total + total (drop l.len-index l.lens)
