@@ -1,6 +1,6 @@
 //! The first pass: the lengths of the text and of the targets of its branches.
 
-ghost use Rattle.std.specs.Prelude.{◌≡◌, ◌≢◌, ◌↔◌, ℕ, List, ◌+◌, ◌-◌, ◌*◌, ◌%◌, ◌^◌, ◌<◌, ◌≤◌, ◌⊎◌, ◌++◌, length, map, IfOk, OnOk, IfErr, IsTrue};
+ghost use Rattle.std.specs.Prelude.{◌≡◌, ◌≢◌, ◌↔◌, ℕ, List, [], ◌∷◌, ◌+◌, ◌-◌, ◌*◌, ◌%◌, ◌^◌, ◌<◌, ◌≤◌, ◌⊎◌, ◌++◌, length, replicate, reverse, slice_index, IfOk, OnOk, IfErr, IsTrue};
 ghost use Rattle.zerotrie_core.specs.Kind.{is_hashed, greatest_width};
 ghost use Rattle.zerotrie_core.specs.Numbers.{Form, value_form, span_form, spelled_as};
 ghost use Rattle.zerotrie_core.specs.Maps.{map_of};
@@ -10,7 +10,8 @@ ghost use Rattle.zerotrie_core.specs.Fits.{ExceedsCapacity};
 ghost use Rattle.zerotrie_build.specs.Items.{pairs};
 ghost use Rattle.zerotrie_build.specs.Order.{Ordered, AreKeys};
 ghost use Rattle.zerotrie_build.specs.passes.Windows.{window, step_of};
-ghost use Rattle.zerotrie_build.specs.passes.Measured.{Run, Stops, IsMeasured};
+ghost use Rattle.zerotrie_build.specs.passes.Measured.{Run, Stops, Parts, IsMeasured};
+ghost use Rattle.zerotrie_build.specs.passes.Walking.{tos, spare_len, with_len, left_open, IsOpened, Closing, IsTurn, IsNext};
 
 use crate::slice_indices::ByteSliceWithIndices;
 use crate::steps::{Step, Window, first_step, group_end, literals_end};
@@ -30,22 +31,34 @@ pub(crate) struct Measured<A: Allocator> {
 /// A branch whose targets are measured, one after another.
 #[derive(Clone, Copy, Debug)]
 struct Open {
-    /// Where the items begin of the target that is measured, and how many bytes stand in front of its edge.
+    /// Where the items of the target that is measured begin, and how many bytes of their keys stand in front
+    /// of its edge.
     from: usize,
     depth: usize,
     /// How many bytes of the text stand in front of the branch.
     len: usize,
-    /// The slots of the targets, and that of the target that is measured.
+    /// The slots of the targets are those from `first` to below `end`, and `next` is that of the target that is
+    /// measured.
     first: usize,
     next: usize,
     end: usize,
 }
 
-/// The slots, and the branches that the window which is measured stands in, the innermost last.
+/// What follows on a window that was measured.
+#[derive(Clone, Copy, Debug)]
+enum Turn {
+    /// This window is measured.
+    Window(Window),
+    /// Nothing: the whole is measured, and so long.
+    Whole(usize),
+}
+
+/// The slots, and the branches that the window stands in which is measured, the innermost last.
 #[derive(Drop)]
-struct Measuring<A: Allocator> {
+struct Measuring<'a, A: Allocator> {
+    items: ByteSliceWithIndices<'a>,
     slots: Vec<usize, A>,
-    open: Vec<Open, A>,
+    branches: Vec<Open, A>,
 }
 
 /// The sum, if it is below 2^64.
@@ -199,68 +212,95 @@ fn branch_len<K: ZeroTrieWithOptions>(edges: usize, total: usize) -> usize
     number_len(32, 256 * width + edges % 256) + table + (width + 1) * (edges - 1)
 }
 
-impl<A: Allocator + Copy> Measuring<A> {
+impl<'a, A: Allocator + Copy> Measuring<'a, A> {
     /// No branch. Most sets of keys have fewer targets than there is room for.
-    fn new(alloc: A, items: usize) -> Result<Self, AllocError>
+    fn new(alloc: A, items: ByteSliceWithIndices<'a>) -> Result<Self, AllocError>
+        ensures items { IfOk result (λ m. m.items ≡ items.entry) }
         ensures slots { IfOk result (λ m. m.slots.items ≡ []) }
-        ensures open { IfOk result (λ m. m.open.items ≡ []) }
+        ensures branches { IfOk result (λ m. m.branches.items ≡ []) }
     {
+        let count = items.len();
         Ok(Measuring {
-            slots: Vec::with_capacity(alloc, items.saturating_add(items / 2))?,
-            open: Vec::new(alloc),
+            items,
+            slots: Vec::with_capacity(alloc, count.saturating_add(count / 2))?,
+            branches: Vec::new(alloc),
         })
     }
 
     /// Adds a slot for each target of the branch that stands first in the window. Until the target is measured,
     /// it tells where its items end.
-    fn push_ends(
-        &mut self,
-        items: ByteSliceWithIndices<'_>,
-        window: Window,
-    ) -> Result<(), AllocError> {
+    fn push_ends(&mut self, window: Window) -> Result<(), AllocError>
+        requires within { window.to ≤ length (pairs self.old.items) }
+        requires order { window.from ≤ window.to }
+        ensures ends { OnOk result ((targets : List Window) × Parts (pairs self.old.items) window targets
+            × (self.new.slots.items ≡ self.old.slots.items ++ tos targets)) }
+        ensures items { self.new.items ≡ self.old.items }
+        ensures branches { self.new.branches.items ≡ self.old.branches.items }
+    {
         let mut rest = window;
         while rest.from < rest.to {
-            let end = group_end(items, rest);
+            let end = group_end(self.items, rest);
             self.slots.push(end)?;
             rest.from = end;
         }
         Ok(())
     }
 
-    /// Adds so many slots.
-    fn push_slots(&mut self, count: usize) -> Result<(), AllocError> {
-        for _ in 0..count {
-            self.slots.push(0)?;
+    /// The window of the target of the branch that is measured next.
+    fn target_of(&self, branch: Open) -> Window
+        requires slot { branch.next < length self.now.slots.items }
+        requires room { branch.depth + 1 < 2 ^ 64 }
+        ensures { result ≡ record { from = branch.from; to = slice_index self.now.slots.items branch.next;
+            depth = branch.depth + 1 } }
+    {
+        Window {
+            from: branch.from,
+            to: self.slots[branch.next],
+            depth: branch.depth + 1,
         }
-        Ok(())
     }
 
-    /// Opens the branch that stands first in the window, behind so many bytes.
+    /// Opens the branch that stands first in the window, behind so many bytes. The window of its first target.
     fn push_branch<K: ZeroTrieWithOptions>(
         &mut self,
-        items: ByteSliceWithIndices<'_>,
         window: Window,
         len: usize,
-    ) -> Result<(), AllocError> {
+    ) -> Result<Window, AllocError>
+        requires within { window.to ≤ length (pairs self.old.items) }
+        requires some { window.from < window.to }
+        requires room { window.depth + 1 < 2 ^ 64 }
+        ensures opened { IfOk result (λ first. IsOpened K.kind (pairs self.old.items) window len first
+            self.old.slots.items self.old.branches.items self.new.slots.items self.new.branches.items) }
+        ensures items { self.new.items ≡ self.old.items }
+    {
         let first = self.slots.len();
-        self.push_ends(items, window)?;
+        self.push_ends(window)?;
         let end = self.slots.len();
         if is_hashed::<K>(end - first) {
-            self.push_slots(end - first)?;
+            self.slots.resize(end + (end - first), 0)?;
         }
-        self.open.push(Open {
+        let branch = Open {
             from: window.from,
             depth: window.depth,
             len,
             first,
             next: first,
             end,
-        })?;
-        Ok(())
+        };
+        self.branches.push(branch)?;
+        Ok(self.target_of(branch))
     }
 
-    /// Keeps the length of the target of the branch that was measured.
-    fn keep<K: ZeroTrieWithOptions>(&mut self, branch: Open, len: usize) {
+    /// Keeps how long the target of the branch is that was measured.
+    fn keep<K: ZeroTrieWithOptions>(&mut self, branch: Open, len: usize)
+        requires order { branch.first ≤ branch.next }
+        requires some { branch.next < branch.end }
+        requires within { branch.end + spare_len K.kind (branch.end - branch.first)
+            ≤ length self.old.slots.items }
+        ensures slots { self.new.slots.items ≡ with_len K.kind branch len self.old.slots.items }
+        ensures items { self.new.items ≡ self.old.items }
+        ensures branches { self.new.branches.items ≡ self.old.branches.items }
+    {
         self.slots[branch.next] = len;
         let edges = branch.end - branch.first;
         if is_hashed::<K>(edges) {
@@ -268,37 +308,51 @@ impl<A: Allocator + Copy> Measuring<A> {
         }
     }
 
-    /// Takes in how long the window is that was measured, and with it the branches whose last targets were. The
-    /// length of the whole, if no branch is open any more.
-    fn close<K: ZeroTrieWithOptions>(
-        &mut self,
-        len: usize,
-    ) -> Result<Option<usize>, ZeroTrieBuildError> {
+    /// The slots, when the whole is measured and so long.
+    fn measured(self, len: usize) -> Measured<A>
+        ensures slots { result.slots.items ≡ self.entry.slots.items }
+        ensures len { result.len ≡ len }
+    {
+        let Measuring {
+            items: _,
+            mut slots,
+            branches: _,
+        } = self;
+        slots.shrink_to_fit();
+        Measured { slots, len }
+    }
+
+    /// Takes in how long the window is that was measured, and the branches whose last target it ends.
+    fn close<K: ZeroTrieWithOptions>(&mut self, len: usize) -> Result<Turn, ZeroTrieBuildError>
+        requires keys { AreKeys K.kind (pairs self.old.items) }
+        requires ordered { Ordered K.kind (pairs self.old.items) }
+        requires closing { Closing K.kind (pairs self.old.items) (reverse self.old.branches.items) self.old.slots.items len }
+        ensures turn { IfOk result (λ t. IsTurn K.kind (pairs self.old.items) t
+            (reverse self.new.branches.items) self.new.slots.items) }
+        ensures less { IfOk result (λ t. IsNext t → left_open (reverse self.new.branches.items)
+            < left_open (reverse self.old.branches.items)) }
+        ensures same { length self.new.slots.items ≡ length self.old.slots.items }
+        ensures items { self.new.items ≡ self.old.items }
+        ensures refused { IfErr result (λ e. e ≢ ZeroTrieBuildError.OutOfMemory
+            → (e ≡ ZeroTrieBuildError.CapacityExceeded)
+            × ExceedsCapacity K.kind (map_of (pairs self.old.items))) }
+    {
         let mut len = len;
-        while let Some(branch) = self.open.pop() {
+        while let Some(branch) = self.branches.pop() {
             let from = self.slots[branch.next];
             self.keep::<K>(branch, len);
             if branch.next + 1 < branch.end {
-                self.open.push(Open {
+                let branch = Open {
                     from,
                     next: branch.next + 1,
                     ..branch
-                })?;
-                return Ok(None);
+                };
+                self.branches.push(branch)?;
+                return Ok(Turn::Window(self.target_of(branch)));
             }
             len = with_branch::<K>(branch.len, &self.slots[branch.first..branch.end])?;
         }
-        Ok(Some(len))
-    }
-
-    /// The window of the target that is measured next.
-    fn next_window(&self) -> Option<Window> {
-        let branch = self.open.last()?;
-        Some(Window {
-            from: branch.from,
-            to: self.slots[branch.next],
-            depth: branch.depth + 1,
-        })
+        Ok(Turn::Whole(len))
     }
 }
 
@@ -313,7 +367,7 @@ pub(crate) fn measure_all<K: ZeroTrieWithOptions, A: Allocator + Copy>(
     ensures refused { IfErr result (λ e. e ≢ ZeroTrieBuildError.OutOfMemory
         → (e ≡ ZeroTrieBuildError.CapacityExceeded) × ExceedsCapacity K.kind (map_of (pairs items.entry))) }
 {
-    let mut measuring = Measuring::new(alloc, items.len())?;
+    let mut measuring = Measuring::new(alloc, items)?;
     let mut window = Window {
         from: 0,
         to: items.len(),
@@ -322,15 +376,12 @@ pub(crate) fn measure_all<K: ZeroTrieWithOptions, A: Allocator + Copy>(
     loop {
         let (rest, len) = behind_run::<K>(items, window)?;
         if rest.from < rest.to {
-            measuring.push_branch::<K>(items, rest, len)?;
-        } else if let Some(len) = measuring.close::<K>(len)? {
-            let Measuring { mut slots, open: _ } = measuring;
-            slots.shrink_to_fit();
-            return Ok(Measured { slots, len });
-        }
-        match measuring.next_window() {
-            Some(next) => window = next,
-            None => unreachable!(),
+            window = measuring.push_branch::<K>(rest, len)?;
+        } else {
+            match measuring.close::<K>(len)? {
+                Turn::Window(next) => window = next,
+                Turn::Whole(len) => return Ok(measuring.measured(len)),
+            }
         }
     }
 }

@@ -1,0 +1,51 @@
+use Rattle.std.proofs.Common.{◌≡◌, ◌≤◌, length, ◌+◌, sym, ◌∙◌, ap, subst, refl, arith, append_assoc, [], ◌∷◌, ◌++◌}
+use Rattle.std.proofs.lemmas.List.{append-nil, map-append}
+use Rattle.zerotrie_build.specs.Items.{pairs}
+use Rattle.zerotrie_build.specs.declared.steps.Window.{Window}
+use Rattle.zerotrie_build.specs.passes.Windows.{IsGroup}
+use Rattle.zerotrie_build.specs.passes.Measured.{Parts}
+use Rattle.zerotrie_build.specs.passes.Walking.{tos}
+use Rattle.zerotrie_build.proofs.measuring.Measuring.push_ends.Goals as goal
+
+pub loop-rest-init : goal.loop-rest-init
+loop-rest-init g c = record {
+  items = refl;
+  branches = refl;
+  added = [];
+  slots = sym (append-nil c.args.self.now.slots.items);
+  parts = λ more rest. rest;
+  order = c.requires.order;
+  to = refl;
+  depth = refl;
+}
+
+pub group_end-end-requires-clause-items : goal.group_end-end-requires-clause-items
+group_end-end-requires-clause-items g c =
+    let v = c.loop-rest.invariant in
+    let to = v.to in let r = c.requires.within in
+    subst (λ x. c.loop-rest.rest.to ≤ length (pairs x)) (sym v.items) (omega arith)
+
+pub loop-rest-preserved : goal.loop-rest-preserved
+loop-rest-preserved g c =
+    let v = c.loop-rest.invariant in
+    let all = pairs c.args.self.now.items in
+    let w = c.loop-rest.rest in
+    let e = c.group_end-end.ensures in
+    let some = e.some in let most = e.within in let to = v.to in
+    let new : Window = record { from = w.from; to = c.group_end-end.result; depth = w.depth + 1 } in
+    record {
+      items = v.items;
+      branches = v.branches;
+      added = v.added ++ new ∷ [];
+      slots = c.in_ok-push.ensures.items ∙ ap (λ x. x ++ new.to ∷ []) v.slots ∙ append_assoc c.args.self.now.slots.items (tos v.added) (new.to ∷ []) ∙ ap (λ x. c.args.self.now.slots.items ++ x) (sym (map-append (λ c. c.to) v.added (new ∷ [])));
+      parts = λ more rest. subst (Parts all c.args.window) (sym (append_assoc v.added (new ∷ []) more)) (v.parts (new ∷ more) (refl, refl, subst (λ x. IsGroup (pairs x) w c.group_end-end.result) v.items e, rest));
+      order = omega arith;
+      to = v.to;
+      depth = v.depth;
+    }
+
+pub returns-clause-ends : goal.returns-clause-ends
+returns-clause-ends g c =
+    let v = c.loop-rest.invariant in
+    let t = c.loop-rest-test.false in let o = v.order in let to = v.to in
+    (v.added, subst (Parts (pairs c.args.self.now.items) c.args.window) (append-nil v.added) (v.parts [] (omega arith)), v.slots)
