@@ -182,17 +182,17 @@ pub place_more : (f : ℕ → ℕ) (ys ys' xs : List ℕ) (i y : ℕ) → ys' �
 place_more f ys ys' xs i y pushed is h e =
     pushed ∙ ap (λ x. x ++ y ∷ []) is ∙ ap (λ x. map f (take i xs) ++ x ∷ []) e ∙ sym (map-append f (take i xs) (get_or xs i 0 ∷ [])) ∙ ap (map f) (sym (take_more xs i 0 h))
 
--- one more of a range
-pub range_more : (f : ℕ → ℕ) (first k : ℕ) (ys ys' : List ℕ) (y : ℕ) → first ≤ k → ys' ≡ ys ++ y ∷ [] → ys ≡ map f (range_with_len first (k - first)) → y ≡ f k
-    → ys' ≡ map f (range_with_len first (k + 1 - first))
-range_more f first k ys ys' y le pushed is e =
-    let next : (k - first) + 1 ≡ k + 1 - first = omega arith in
-    let at : first + (k - first) ≡ k = omega arith in
-    pushed ∙ ap (λ x. x ++ y ∷ []) is ∙ ap (λ x. map f (range_with_len first (k - first)) ++ x ∷ []) e
-    ∙ sym (map-range_with_len_more f first (k - first) k at) ∙ ap (λ n. map f (range_with_len first n)) next
-
-pub same_range : (xs : List ℕ) → map (λ x. x) xs ≡ xs
+same_range : (xs : List ℕ) → map (λ x. x) xs ≡ xs
 same_range xs = back_each (λ x. x) xs (λ k h. refl)
+
+-- one more of a range
+pub range_push : {A : Type 0} (ws : List A) (w : A) (ws' : List A) (n : ℕ) → n ≡ length ws → ws' ≡ ws ++ w ∷ [] → range_with_len 0 (length ws) ++ n ∷ [] ≡ range_with_len 0 (length ws')
+range_push ws w ws' n is pushed =
+    let k = length ws in
+    let more : length ws' ≡ k + 1 = (let a = ap length pushed in let b = length-append ws (w ∷ []) in omega arith) in
+    ap (λ x. range_with_len 0 k ++ x ∷ []) is
+    ∙ ap (λ x. x ++ k ∷ []) (sym (same_range (range_with_len 0 k)))
+    ∙ sym (map-range_with_len_more (λ x. x) 0 k k (omega arith)) ∙ same_range (range_with_len 0 (k + 1)) ∙ ap (range_with_len 0) (sym more)
 
 -- a search among edges that rise finds each that is placed
 pub found : (edges placed : List ℕ) (i x : ℕ) (r : Result ℕ ℕ) → IsStrictlyIncreasing edges → IsPermutation edges placed → i < length placed → x ≡ get_or placed i 0 → IsBinarySearchResult (λ y. nat_cmp y x) edges r

@@ -112,44 +112,6 @@ impl<A: Allocator + Copy> Layout<A> {
         Ok(())
     }
 
-    /// The targets in their order, the slots of the first from `slot` on.
-    fn push_sorted(&mut self, slot: usize) -> Result<(), AllocError>
-        ensures next { OnOk result (self.new.next.items
-            ≡ self.old.next.items ++ Next.Slot slot ∷ map Next.Text self.old.windows.items) }
-        ensures windows { self.new.windows.items ≡ self.old.windows.items }
-        ensures table { self.new.table.items ≡ self.old.table.items }
-        ensures numbers { self.new.numbers.items ≡ self.old.numbers.items }
-    {
-        self.next.push(Next::Slot(slot))?;
-        for window in self.windows.as_slice() {
-            self.next.push(Next::Text(*window))?;
-        }
-        Ok(())
-    }
-
-    /// The targets in the order of the table, each with its slots, of which those of the first edge begin at `slot`,
-    /// and the slots behind them. `ends` tells how many there are up to each target.
-    fn push_hashed(&mut self, ends: &[usize], slot: usize) -> Result<(), AllocError>
-        requires some { 0 < length ends.now }
-        requires each { length ends.now ≡ length self.old.windows.items }
-        requires room { All (λ e. slot + e < 2 ^ 64) ends.now }
-        requires within { All (λ i. i < length self.old.windows.items) self.old.numbers.items }
-        ensures next { OnOk result (self.new.next.items ≡ self.old.next.items
-            ++ (placed_next ends.now slot self.old.windows.items self.old.numbers.items
-            ++ Next.Slot (slot + slice_index_or ends.now (length ends.now - 1) 0) ∷ [])) }
-        ensures windows { self.new.windows.items ≡ self.old.windows.items }
-        ensures table { self.new.table.items ≡ self.old.table.items }
-        ensures numbers { self.new.numbers.items ≡ self.old.numbers.items }
-    {
-        for number in self.numbers.as_slice() {
-            let before = if *number == 0 { 0 } else { ends[*number - 1] };
-            self.next.push(Next::Slot(slot + before))?;
-            self.next.push(Next::Text(self.windows[*number]))?;
-        }
-        self.next.push(Next::Slot(slot + ends[ends.len() - 1]))?;
-        Ok(())
-    }
-
     /// Lays the targets of the branch out that stands first in the window, whose slots begin at `slot`.
     pub(crate) fn set<K: ZeroTrieWithOptions>(
         &mut self,
@@ -176,9 +138,15 @@ impl<A: Allocator + Copy> Layout<A> {
         if is_hashed::<K>(edges) {
             self.set_hashed()?;
             let end = slot + 2 * edges;
-            self.push_hashed(&slots[slot + edges..end], end)?;
+            push_hashed(
+                &mut self.next,
+                self.windows.as_slice(),
+                self.numbers.as_slice(),
+                &slots[slot + edges..end],
+                end,
+            )?;
         } else {
-            self.push_sorted(slot + edges)?;
+            push_sorted(&mut self.next, self.windows.as_slice(), slot + edges)?;
         }
         Ok(())
     }
@@ -201,5 +169,45 @@ fn set_places<A: Allocator>(
             Err(_) => unreachable!(),
         }
     }
+    Ok(())
+}
+
+/// Adds the windows in their order, where the slots of the first begin at `slot`.
+fn push_sorted<A: Allocator>(
+    next: &mut Vec<Next, A>,
+    windows: &[Window],
+    slot: usize,
+) -> Result<(), AllocError>
+    ensures { OnOk result (next.new.items ≡ next.old.items ++ Next.Slot slot ∷ map Next.Text windows.now) }
+{
+    next.push(Next::Slot(slot))?;
+    for window in windows {
+        next.push(Next::Text(*window))?;
+    }
+    Ok(())
+}
+
+/// Adds the windows of these numbers, each with its slots, of which those of the first window begin at `slot`, and
+/// the slots behind them. `ends` tells how many there are up to each window.
+fn push_hashed<A: Allocator>(
+    next: &mut Vec<Next, A>,
+    windows: &[Window],
+    numbers: &[usize],
+    ends: &[usize],
+    slot: usize,
+) -> Result<(), AllocError>
+    requires some { 0 < length ends.now }
+    requires each { length ends.now ≡ length windows.now }
+    requires room { All (λ e. slot + e < 2 ^ 64) ends.now }
+    requires within { All (λ i. i < length windows.now) numbers.now }
+    ensures { OnOk result (next.new.items ≡ next.old.items ++ (placed_next ends.now slot windows.now numbers.now
+        ++ Next.Slot (slot + slice_index_or ends.now (length ends.now - 1) 0) ∷ [])) }
+{
+    for number in numbers {
+        let before = if *number == 0 { 0 } else { ends[*number - 1] };
+        next.push(Next::Slot(slot + before))?;
+        next.push(Next::Text(windows[*number]))?;
+    }
+    next.push(Next::Slot(slot + ends[ends.len() - 1]))?;
     Ok(())
 }
