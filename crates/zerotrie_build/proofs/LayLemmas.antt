@@ -74,16 +74,15 @@ place_there (e ∷ es) up (suc i) h =
     rw (ne_eqb e (get_or es i 0) (λ s. omega arith), place_there es up.1 i (omega arith)) (let n : 1 + i ≡ suc i = omega arith in n)
 
 -- the numbers of the edges in their own order
-range_of : (place : ℕ → ℕ) (first k : ℕ) (xs : List ℕ) → ((i : ℕ) → i < length xs → place (get_or xs i 0) ≡ k + i) → map (λ b. first + place b) xs ≡ range_with_len (first + k) (length xs)
-range_of place first k [] h = refl
-range_of place first k (x ∷ xs) h =
-    let here : first + place x ≡ first + k = (let e = h 0 (omega arith) in omega arith) in
-    let next : first + suc k ≡ (first + k) + 1 = omega arith in
-    ap (λ y. y ∷ map (λ b. first + place b) xs) here
-    ∙ ap (λ r. (first + k) ∷ r) (range_of place first (suc k) xs (λ i l. let e = h (suc i) (omega arith) in omega arith) ∙ ap (λ s. range_with_len s (length xs)) next)
+range_of : (place : ℕ → ℕ) (k : ℕ) (xs : List ℕ) → ((i : ℕ) → i < length xs → place (get_or xs i 0) ≡ k + i) → map (λ b. place b) xs ≡ range_with_len k (length xs)
+range_of place k [] h = refl
+range_of place k (x ∷ xs) h =
+    let here : place x ≡ k = (let e = h 0 (omega arith) in omega arith) in
+    ap (λ y. y ∷ map (λ b. place b) xs) here
+    ∙ ap (λ r. k ∷ r) (range_of place (k + 1) xs (λ i l. let e = h (suc i) (omega arith) in omega arith))
 
-pub numbers_range : (first : ℕ) (es : List ℕ) → Up es → map (λ b. first + place_in es b) es ≡ range_with_len first (length es)
-numbers_range first es up = range_of (place_in es) first 0 es (λ i h. let at = place_there es up i h in omega arith) ∙ ap (λ s. range_with_len s (length es)) (let e : first + 0 ≡ first = omega arith in e)
+pub numbers_range : (es : List ℕ) → Up es → map (λ b. place_in es b) es ≡ range_with_len 0 (length es)
+numbers_range es up = range_of (place_in es) 0 es (λ i h. let at = place_there es up i h in omega arith)
 
 back_each : (f : ℕ → ℕ) (xs : List ℕ) → ((k : ℕ) → k < length xs → f (get_or xs k 0) ≡ get_or xs k 0) → map f xs ≡ xs
 back_each f [] h = refl
@@ -97,25 +96,25 @@ contains_at : (xs : List ℕ) (k : ℕ) → k < length xs → Contains xs (get_o
 contains_at xs k h = (k, h, get_or_default xs k (get_or xs k 0) 0 h)
 
 -- the edges of the placed numbers are the placed edges
-pub edges_back : (edge : ℕ → ℕ) (first n : ℕ) (placed : List ℕ) → Up (map edge (range_with_len first n)) → IsPermutation (map edge (range_with_len first n)) placed
-    → map edge (map (λ b. first + place_in (map edge (range_with_len first n)) b) placed) ≡ placed
-edges_back edge first n placed up perm =
-    let es = map edge (range_with_len first n) in
-    map_both edge (λ b. first + place_in es b) placed
-    ∙ back_each (λ b. edge (first + place_in es b)) placed (λ k h.
+pub edges_back : (edge : ℕ → ℕ) (n : ℕ) (placed : List ℕ) → Up (map edge (range_with_len 0 n)) → IsPermutation (map edge (range_with_len 0 n)) placed
+    → map edge (map (λ b. place_in (map edge (range_with_len 0 n)) b) placed) ≡ placed
+edges_back edge n placed up perm =
+    let es = map edge (range_with_len 0 n) in
+    map_both edge (λ b. place_in es b) placed
+    ∙ back_each (λ b. edge (place_in es b)) placed (λ k h.
     let c : Contains es (get_or placed k 0) = Contains-permutation placed es (get_or placed k 0) (IsPermutation-sym es placed perm) (contains_at placed k h) in
     let i = c.0 in
     let at : get_or es i 0 ≡ get_or placed k 0 = get_or_default es i 0 (get_or placed k 0) c.1 ∙ c.2 in
-    let within : i < n = (let l = length-map-range_with_len edge first n in let b = c.1 in omega arith) in
-    ap (λ b. edge (first + place_in es b)) (sym at) ∙ ap (λ j. edge (first + j)) (place_there es up i c.1)
-    ∙ sym (get_or-map-range_with_len edge first n i (first + i) 0 within refl) ∙ at)
+    let within : i < n = (let l = length-map-range_with_len edge 0 n in let b = c.1 in omega arith) in
+    ap (λ b. edge (place_in es b)) (sym at) ∙ ap edge (place_there es up i c.1)
+    ∙ sym (get_or-map-range_with_len edge 0 n i i 0 within (omega arith)) ∙ at)
 
-pub laid_sorted : (kind : Kind) (edge : ℕ → ℕ) (first n : ℕ) (table numbers : List ℕ) → is_hashed kind n ≡ false → IsStrictlyIncreasing (map (fold_byte kind) (map edge (range_with_len first n)))
-    → table ≡ map edge (range_with_len first n) → numbers ≡ range_with_len first n → IsLaid kind edge first n table numbers
-laid_sorted kind edge first n table numbers plain up t ns =
-    let range = range_with_len first n in
-    let count = length-map-range_with_len edge first n in
-    subst (λ x. IsLaid kind edge first n x numbers) (sym t) (subst (λ x. IsLaid kind edge first n (map edge range) x) (sym ns) (record {
+pub laid_sorted : (kind : Kind) (edge : ℕ → ℕ) (n : ℕ) (table numbers : List ℕ) → is_hashed kind n ≡ false → IsStrictlyIncreasing (map (fold_byte kind) (map edge (range_with_len 0 n)))
+    → table ≡ map edge (range_with_len 0 n) → numbers ≡ range_with_len 0 n → IsLaid kind edge n table numbers
+laid_sorted kind edge n table numbers plain up t ns =
+    let range = range_with_len 0 n in
+    let count = length-map-range_with_len edge 0 n in
+    subst (λ x. IsLaid kind edge n x numbers) (sym t) (subst (λ x. IsLaid kind edge n (map edge range) x) (sym ns) (record {
       is_table = sorted (ap (is_hashed kind) count ∙ plain) up;
       permutation = IsPermutation-refl range;
     }))
@@ -124,21 +123,21 @@ laid_sorted kind edge first n table numbers plain up t ns =
 pub hashed_up : (kind : Kind) (n : ℕ) (es : List ℕ) → is_hashed kind n ≡ true → IsStrictlyIncreasing (map (fold_byte kind) es) → IsStrictlyIncreasing es
 hashed_up kind n es h up = subst IsStrictlyIncreasing (back_each (fold_byte kind) es (λ k l. spans_fold kind (hashed_spans kind n h) (get_or es k 0))) up
 
-pub laid_hashed : (kind : Kind) (edge : ℕ → ℕ) (first n : ℕ) (edges table numbers : List ℕ) → is_hashed kind n ≡ true → IsStrictlyIncreasing (map (fold_byte kind) (map edge (range_with_len first n)))
-    → edges ≡ map edge (range_with_len first n) → IsSearched first edges table numbers → IsLaid kind edge first n table numbers
-laid_hashed kind edge first n edges table numbers wide rises same placing =
-    let es = map edge (range_with_len first n) in
-    let l : IsSearched first es table numbers = subst (λ x. IsSearched first x table numbers) same placing in
+pub laid_hashed : (kind : Kind) (edge : ℕ → ℕ) (n : ℕ) (edges table numbers : List ℕ) → is_hashed kind n ≡ true → IsStrictlyIncreasing (map (fold_byte kind) (map edge (range_with_len 0 n)))
+    → edges ≡ map edge (range_with_len 0 n) → IsSearched edges table numbers → IsLaid kind edge n table numbers
+laid_hashed kind edge n edges table numbers wide rises same placing =
+    let es = map edge (range_with_len 0 n) in
+    let l : IsSearched es table numbers = subst (λ x. IsSearched x table numbers) same placing in
     let up = up_of es (hashed_up kind n es wide rises) in
-    let count = length-map-range_with_len edge first n in
-    let back = edges_back edge first n l.placed up l.permutation in
+    let count = length-map-range_with_len edge 0 n in
+    let back = edges_back edge n l.placed up l.permutation in
     let edges_are : map edge numbers ≡ l.placed = ap (map edge) l.numbers_are ∙ back in
     let many = ap length edges_are ∙ length_permutation es l.placed l.permutation ∙ count in
-    let range = numbers_range first es up ∙ ap (range_with_len first) count in
+    let range = numbers_range es up ∙ ap (range_with_len 0) count in
     record {
       is_table = subst (λ x. IsTable kind (map edge numbers) x) (ap (λ x. l.p ∷ (l.qs ++ x)) edges_are ∙ sym l.table_is)
           (hashed (ap (is_hashed kind) many ∙ wide) (subst (λ x. Rattle.zerotrie_base.specs.Hashes.IsPerfect l.p l.qs x) (sym edges_are) l.perfect));
-      permutation = subst (λ x. IsPermutation x numbers) range (subst (λ x. IsPermutation (map (λ b. first + place_in es b) es) x) (sym l.numbers_are) (IsPermutation-map (λ b. first + place_in es b) es l.placed l.permutation));
+      permutation = subst (λ x. IsPermutation x numbers) range (subst (λ x. IsPermutation (map (λ b. place_in es b) es) x) (sym l.numbers_are) (IsPermutation-map (λ b. place_in es b) es l.placed l.permutation));
     }
 
 -- why no table was made
@@ -166,16 +165,16 @@ keys_behind p qs placed same =
 pub table_keys : (keys bytes shown : List ℕ) → (t : IsPerfectTable keys bytes) → shown ≡ drop (1 + length bytes / 2) bytes → shown ≡ t.placed
 table_keys keys bytes shown t is = is ∙ ap (λ b. drop (1 + length b / 2) b) t.bytes_are ∙ keys_behind t.p t.qs t.placed t.perfect.a_q_each
 
-pub placed : (first : ℕ) (edges keys bytes shown table numbers : List ℕ) → (t : IsPerfectTable keys bytes) → keys ≡ edges → shown ≡ drop (1 + length bytes / 2) bytes → table ≡ bytes
-    → numbers ≡ map (λ b. first + place_in edges b) shown → IsSearched first edges table numbers
-placed first edges keys bytes shown table numbers t same shows is ns = record {
+pub placed : (edges keys bytes shown table numbers : List ℕ) → (t : IsPerfectTable keys bytes) → keys ≡ edges → shown ≡ drop (1 + length bytes / 2) bytes → table ≡ bytes
+    → numbers ≡ map (λ b. place_in edges b) shown → IsSearched edges table numbers
+placed edges keys bytes shown table numbers t same shows is ns = record {
   p = t.p;
   qs = t.qs;
   placed = t.placed;
   table_is = is ∙ t.bytes_are;
   perfect = t.perfect;
   permutation = subst (λ x. IsPermutation x t.placed) same t.permutation;
-  numbers_are = ns ∙ ap (map (λ b. first + place_in edges b)) (table_keys keys bytes shown t shows);
+  numbers_are = ns ∙ ap (map (λ b. place_in edges b)) (table_keys keys bytes shown t shows);
 }
 
 -- the place of one more
@@ -183,17 +182,17 @@ pub place_more : (f : ℕ → ℕ) (ys ys' xs : List ℕ) (i y : ℕ) → ys' �
 place_more f ys ys' xs i y pushed is h e =
     pushed ∙ ap (λ x. x ++ y ∷ []) is ∙ ap (λ x. map f (take i xs) ++ x ∷ []) e ∙ sym (map-append f (take i xs) (get_or xs i 0 ∷ [])) ∙ ap (map f) (sym (take_more xs i 0 h))
 
--- one more of a range
-pub range_more : (f : ℕ → ℕ) (first k : ℕ) (ys ys' : List ℕ) (y : ℕ) → first ≤ k → ys' ≡ ys ++ y ∷ [] → ys ≡ map f (range_with_len first (k - first)) → y ≡ f k
-    → ys' ≡ map f (range_with_len first (k + 1 - first))
-range_more f first k ys ys' y le pushed is e =
-    let next : (k - first) + 1 ≡ k + 1 - first = omega arith in
-    let at : first + (k - first) ≡ k = omega arith in
-    pushed ∙ ap (λ x. x ++ y ∷ []) is ∙ ap (λ x. map f (range_with_len first (k - first)) ++ x ∷ []) e
-    ∙ sym (map-range_with_len_more f first (k - first) k at) ∙ ap (λ n. map f (range_with_len first n)) next
-
-pub same_range : (xs : List ℕ) → map (λ x. x) xs ≡ xs
+same_range : (xs : List ℕ) → map (λ x. x) xs ≡ xs
 same_range xs = back_each (λ x. x) xs (λ k h. refl)
+
+-- one more of a range
+pub range_push : {A : Type 0} (ws : List A) (w : A) (ws' : List A) (n : ℕ) → n ≡ length ws → ws' ≡ ws ++ w ∷ [] → range_with_len 0 (length ws) ++ n ∷ [] ≡ range_with_len 0 (length ws')
+range_push ws w ws' n is pushed =
+    let k = length ws in
+    let more : length ws' ≡ k + 1 = (let a = ap length pushed in let b = length-append ws (w ∷ []) in omega arith) in
+    ap (λ x. range_with_len 0 k ++ x ∷ []) is
+    ∙ ap (λ x. x ++ k ∷ []) (sym (same_range (range_with_len 0 k)))
+    ∙ sym (map-range_with_len_more (λ x. x) 0 k k (omega arith)) ∙ same_range (range_with_len 0 (k + 1)) ∙ ap (range_with_len 0) (sym more)
 
 -- a search among edges that rise finds each that is placed
 pub found : (edges placed : List ℕ) (i x : ℕ) (r : Result ℕ ℕ) → IsStrictlyIncreasing edges → IsPermutation edges placed → i < length placed → x ≡ get_or placed i 0 → IsBinarySearchResult (λ y. nat_cmp y x) edges r

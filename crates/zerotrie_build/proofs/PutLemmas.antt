@@ -9,8 +9,6 @@ use Rattle.zerotrie_core.specs.Numbers.{Form, Spells, extender, spelled_as, bran
 use Rattle.zerotrie_core.specs.Branches.{IsWidth, blocks, total, ends, branch_front}
 use Rattle.zerotrie_core.proofs.CallerLemmas.{below_metadata, spelling_is, Completes, length-blocks, width_is}
 use Rattle.zerotrie_build.specs.passes.Puts.{Puts}
-use Rattle.zerotrie_build.specs.declared.measuring.Target.{Target}
-use Rattle.zerotrie_build.specs.passes.Measured.{target_at}
 use Rattle.zerotrie_build.specs.passes.Writing.{with_bits, lens_of}
 
 pub puts_nothing : (list : List ℕ) (at : ℕ) → Puts list at list at []
@@ -97,16 +95,16 @@ total_take [] (suc n) = omega arith
 total_take (x ∷ xs) (suc n) = let a = sum_by-cons (λ n. n) x (take n xs) in let b = sum_by-cons (λ n. n) x xs in let r = total_take xs n in omega arith
 
 -- the length of one of the targets
-pub lens_at : (ts : List Target) (ns : List ℕ) (i : ℕ) → i < length ns → get_or (lens_of ts ns) i 0 ≡ (target_at ts (get_or ns i 0)).len
-lens_at ts ns i h = get_or-map (λ j. (target_at ts j).len) ns i 0 0 h
+pub lens_at : (ls ns : List ℕ) (i : ℕ) → i < length ns → get_or (lens_of ls ns) i 0 ≡ get_or ls (get_or ns i 0) 0
+lens_at ls ns i h = get_or-map (λ j. get_or ls j 0) ns i 0 0 h
 
-pub count_lens : (ts : List Target) (ns : List ℕ) → length (lens_of ts ns) ≡ length ns
-count_lens ts ns = count_map (λ j. (target_at ts j).len) ns
+pub count_lens : (ls ns : List ℕ) → length (lens_of ls ns) ≡ length ns
+count_lens ls ns = count_map (λ j. get_or ls j 0) ns
 
-pub lens_take : (ts : List Target) (n : ℕ) (ns : List ℕ) → take n (lens_of ts ns) ≡ lens_of ts (take n ns)
-lens_take ts zero ns = refl
-lens_take ts (suc n) [] = refl
-lens_take ts (suc n) (j ∷ ns) = ap (λ x. (target_at ts j).len ∷ x) (lens_take ts n ns)
+pub lens_take : (ls : List ℕ) (n : ℕ) (ns : List ℕ) → take n (lens_of ls ns) ≡ lens_of ls (take n ns)
+lens_take ls zero ns = refl
+lens_take ls (suc n) [] = refl
+lens_take ls (suc n) (j ∷ ns) = ap (λ x. get_or ls j 0 ∷ x) (lens_take ls n ns)
 
 -- the bytes of a branch in front of its targets, by the width and the number of these
 pub front_is : (table lens : List ℕ) (w n : ℕ) → IsWidth (total lens) w → length lens ≡ n

@@ -1,13 +1,14 @@
 //! The search tables of branches, and the order that they give the targets.
 
-ghost use Rattle.std.specs.Prelude.{◌≡◌, ◌≢◌, ℕ, List, [], ◌+◌, ◌-◌, ◌^◌, ◌<◌, ◌≤◌, length, map, OnOk, IfErr};
+ghost use Rattle.std.specs.Prelude.{◌≡◌, ◌≢◌, ℕ, List, [], ◌∷◌, ◌+◌, ◌-◌, ◌^◌, ◌<◌, ◌≤◌, ◌++◌, length, map, slice_index_or, All, OnOk, IfErr};
+ghost use Rattle.std.specs.List.{range_with_len};
 ghost use Rattle.std.specs.List.Sorted.{IsPermutation, IsStrictlyIncreasing};
 ghost use Rattle.zerotrie_base.specs.Refusals.{IsTableRefusal};
-ghost use Rattle.zerotrie_core.specs.Kind.{fold_byte};
 ghost use Rattle.zerotrie_core.specs.Causes.{AreCrooked};
 ghost use Rattle.zerotrie_build.specs.Items.{pairs};
-ghost use Rattle.zerotrie_build.specs.passes.Measured.{window_at};
-ghost use Rattle.zerotrie_build.specs.passes.Writing.{numbers_of, edge_no, place_in, IsSearched, IsLaid};
+ghost use Rattle.zerotrie_build.specs.passes.Windows.{edge_of};
+ghost use Rattle.zerotrie_build.specs.passes.Measured.{Parts};
+ghost use Rattle.zerotrie_build.specs.passes.Writing.{edge_no, place_in, placed_next, next_of, IsSearched, IsLaid, HasSlots};
 
 use crate::measuring::is_hashed;
 use crate::slice_indices::ByteSliceWithIndices;
@@ -21,7 +22,7 @@ pub(crate) enum Next {
     /// The slots go on from this number on.
     Slot(usize),
     /// The text of this window.
-    Window(Window),
+    Text(Window),
 }
 
 /// The layout of a branch. Its memory serves one branch after another. Hashed tables have memory of their own.
@@ -53,7 +54,12 @@ impl<A: Allocator + Copy> Layout<A> {
     }
 
     /// No branch, as at first.
-    pub(crate) fn clear(&mut self) {
+    pub(crate) fn clear(&mut self)
+        ensures windows { self.new.windows.items ≡ [] }
+        ensures table { self.new.table.items ≡ [] }
+        ensures numbers { self.new.numbers.items ≡ [] }
+        ensures next { self.new.next.items ≡ [] }
+    {
         self.windows.clear();
         self.table.clear();
         self.numbers.clear();
@@ -65,7 +71,15 @@ impl<A: Allocator + Copy> Layout<A> {
         &mut self,
         items: ByteSliceWithIndices<'_>,
         window: Window,
-    ) -> Result<(), AllocError> {
+    ) -> Result<(), AllocError>
+        requires order { window.from ≤ window.to }
+        requires items { window.to ≤ length (pairs items) }
+        requires room { window.depth + 1 < 2 ^ 64 }
+        ensures parts { OnOk result (Parts (pairs items.entry) window self.new.windows.items) }
+        ensures table { OnOk result (self.new.table.items ≡ map (edge_of (pairs items.entry)) self.new.windows.items) }
+        ensures numbers { OnOk result (self.new.numbers.items ≡ range_with_len 0 (length self.new.windows.items)) }
+        ensures next { OnOk result (self.new.next.items ≡ []) }
+    {
         self.clear();
         let mut rest = window;
         while rest.from < rest.to {
@@ -83,33 +97,18 @@ impl<A: Allocator + Copy> Layout<A> {
     }
 
     /// Lays the targets out in the order of a hashed table.
-    fn set_hashed(&mut self) -> Result<(), ZeroTrieBuildError> {
+    fn set_hashed(&mut self) -> Result<(), ZeroTrieBuildError>
+        requires { IsStrictlyIncreasing self.old.table.items }
+        ensures ok { OnOk result (IsSearched self.old.table.items self.new.table.items self.new.numbers.items) }
+        ensures refused { IfErr result (IsTableRefusal self.old.table.items) }
+        ensures windows { self.new.windows.items ≡ self.old.windows.items }
+        ensures next { self.new.next.items ≡ self.old.next.items }
+    {
         let keys = Vec::from_slice(self.alloc, self.table.as_slice())?;
         let table = self.cache.try_get_or_insert(keys)?;
         set_places(&mut self.numbers, self.table.as_slice(), table.keys())?;
         self.table.clear();
         self.table.extend_from_slice(table.as_bytes())?;
-        Ok(())
-    }
-
-    /// The targets in their order, the slots of the first from `slot` on.
-    fn push_sorted(&mut self, slot: usize) -> Result<(), AllocError> {
-        self.next.push(Next::Slot(slot))?;
-        for window in self.windows.as_slice() {
-            self.next.push(Next::Window(*window))?;
-        }
-        Ok(())
-    }
-
-    /// The targets in the order of the table, each with its slots, of which those of the first edge begin at `slot`,
-    /// and the slots behind them. `ends` tells how many there are up to each target.
-    fn push_hashed(&mut self, ends: &[usize], slot: usize) -> Result<(), AllocError> {
-        for number in self.numbers.as_slice() {
-            let before = if *number == 0 { 0 } else { ends[*number - 1] };
-            self.next.push(Next::Slot(slot + before))?;
-            self.next.push(Next::Window(self.windows[*number]))?;
-        }
-        self.next.push(Next::Slot(slot + ends[ends.len() - 1]))?;
         Ok(())
     }
 
@@ -120,15 +119,34 @@ impl<A: Allocator + Copy> Layout<A> {
         window: Window,
         slots: &[usize],
         slot: usize,
-    ) -> Result<(), ZeroTrieBuildError> {
+    ) -> Result<(), ZeroTrieBuildError>
+        requires order { window.from ≤ window.to }
+        requires items { window.to ≤ length (pairs items) }
+        requires room { window.depth + 1 < 2 ^ 64 }
+        requires slots { HasSlots K.kind (pairs items) window slots.now slot }
+        ensures parts { OnOk result (Parts (pairs items.entry) window self.new.windows.items) }
+        ensures laid { OnOk result (IsLaid K.kind (edge_no (pairs items.entry) self.new.windows.items)
+            (length self.new.windows.items) self.new.table.items self.new.numbers.items) }
+        ensures next { OnOk result (self.new.next.items
+            ≡ next_of K.kind slots.now slot self.new.windows.items self.new.numbers.items) }
+        ensures refused { IfErr result (λ e. e ≢ ZeroTrieBuildError.OutOfMemory
+            → (e ≡ ZeroTrieBuildError.CouldNotSolvePerfectHash) × ((cs : List Window) → Parts (pairs items.entry) window cs
+            → AreCrooked K.kind (map (edge_of (pairs items.entry)) cs))) }
+    {
         self.set_sorted(items, window)?;
         let edges = self.windows.len();
         if is_hashed::<K>(edges) {
             self.set_hashed()?;
             let end = slot + 2 * edges;
-            self.push_hashed(&slots[slot + edges..end], end)?;
+            push_hashed(
+                &mut self.next,
+                self.windows.as_slice(),
+                self.numbers.as_slice(),
+                &slots[slot + edges..end],
+                end,
+            )?;
         } else {
-            self.push_sorted(slot + edges)?;
+            push_sorted(&mut self.next, self.windows.as_slice(), slot + edges)?;
         }
         Ok(())
     }
@@ -151,5 +169,45 @@ fn set_places<A: Allocator>(
             Err(_) => unreachable!(),
         }
     }
+    Ok(())
+}
+
+/// Adds the windows in their order, where the slots of the first begin at `slot`.
+fn push_sorted<A: Allocator>(
+    next: &mut Vec<Next, A>,
+    windows: &[Window],
+    slot: usize,
+) -> Result<(), AllocError>
+    ensures { OnOk result (next.new.items ≡ next.old.items ++ Next.Slot slot ∷ map Next.Text windows.now) }
+{
+    next.push(Next::Slot(slot))?;
+    for window in windows {
+        next.push(Next::Text(*window))?;
+    }
+    Ok(())
+}
+
+/// Adds the windows of these numbers, each with its slots, of which those of the first window begin at `slot`, and
+/// the slots behind them. `ends` tells how many there are up to each window.
+fn push_hashed<A: Allocator>(
+    next: &mut Vec<Next, A>,
+    windows: &[Window],
+    numbers: &[usize],
+    ends: &[usize],
+    slot: usize,
+) -> Result<(), AllocError>
+    requires some { 0 < length ends.now }
+    requires each { length ends.now ≡ length windows.now }
+    requires room { All (λ e. slot + e < 2 ^ 64) ends.now }
+    requires within { All (λ i. i < length windows.now) numbers.now }
+    ensures { OnOk result (next.new.items ≡ next.old.items ++ (placed_next ends.now slot windows.now numbers.now
+        ++ Next.Slot (slot + slice_index_or ends.now (length ends.now - 1) 0) ∷ [])) }
+{
+    for number in numbers {
+        let before = if *number == 0 { 0 } else { ends[*number - 1] };
+        next.push(Next::Slot(slot + before))?;
+        next.push(Next::Text(windows[*number]))?;
+    }
+    next.push(Next::Slot(slot + ends[ends.len() - 1]))?;
     Ok(())
 }

@@ -4,13 +4,15 @@ ghost use Rattle.std.specs.Prelude.{◌≡◌, ◌≢◌, ℕ, List, [], ◌∷�
 ghost use Rattle.zerotrie_core.specs.Maps.{map_of};
 ghost use Rattle.zerotrie_core.specs.Numbers.{value_form, span_form, SpellsAs, spelled_as};
 ghost use Rattle.zerotrie_core.specs.Branches.{total as total_of, ends, blocks, branch_front};
+ghost use Rattle.zerotrie_core.specs.Canonical.{size_of};
 ghost use Rattle.zerotrie_core.specs.Texts.{Means};
 ghost use Rattle.zerotrie_core.specs.Causes.{Cause};
 ghost use Rattle.zerotrie_build.specs.Items.{pairs};
-ghost use Rattle.zerotrie_build.specs.passes.Windows.{item_of};
-ghost use Rattle.zerotrie_build.specs.passes.Measured.{IsMeasured, target_at};
+ghost use Rattle.zerotrie_build.specs.Order.{Ordered, AreKeys};
+ghost use Rattle.zerotrie_build.specs.passes.Windows.{window as window_of, item_of};
+ghost use Rattle.zerotrie_build.specs.passes.Measured.{IsMeasured};
 ghost use Rattle.zerotrie_build.specs.passes.Puts.{Puts};
-ghost use Rattle.zerotrie_build.specs.passes.Writing.{with_bits, lens_of, FrontPut};
+ghost use Rattle.zerotrie_build.specs.passes.Writing.{with_bits, lens_of, KeptTo, FrontPut};
 
 use crate::laying::{Layout, Next};
 use crate::measuring::{Measured, width_of};
@@ -153,7 +155,16 @@ impl<S: TrieBuilderStore + Drop> Writing<S> {
         slots: &[usize],
         slot: usize,
         layout: &mut Layout<A>,
-    ) -> Result<(), ZeroTrieBuildError> {
+    ) -> Result<(), ZeroTrieBuildError>
+        requires keys { AreKeys K.kind (pairs items) }
+        requires ordered { Ordered K.kind (pairs items) }
+        requires kept { (end : ℕ) × KeptTo K.kind (pairs items) slots.now slot end window }
+        requires room { self.old.at + size_of K.kind (window_of (pairs items) window) ≤ length (S.list self.old.data) }
+        ensures put { OnOk result (FrontPut K.kind (pairs items.entry) slots.now slot window layout.new.next.items
+            (S.list self.old.data) self.old.at (S.list self.new.data) self.new.at) }
+        ensures refused { IfErr result (λ e. e ≢ ZeroTrieBuildError.OutOfMemory
+            → (e ≡ ZeroTrieBuildError.CouldNotSolvePerfectHash) × Cause K.kind (pairs items.entry) e) }
+    {
         layout.clear();
         let mut rest = window;
         loop {
@@ -231,7 +242,7 @@ pub(crate) fn write<K: ZeroTrieWithOptions, S: TrieBuilderStore + Drop, A: Alloc
     let mut writing = Writing { data, at: 0 };
     let mut layout = Layout::new(alloc, spare);
     let mut pending = Vec::new(spare);
-    pending.push(Next::Window(Window {
+    pending.push(Next::Text(Window {
         from: 0,
         to: items.len(),
         depth: 0,
@@ -240,7 +251,7 @@ pub(crate) fn write<K: ZeroTrieWithOptions, S: TrieBuilderStore + Drop, A: Alloc
     while let Some(next) = take_next(&mut pending) {
         match next {
             Next::Slot(number) => slot = number,
-            Next::Window(window) => {
+            Next::Text(window) => {
                 let slots = measured.slots.as_slice();
                 writing.put_front::<K, A>(items, window, slots, slot, &mut layout)?;
                 push_next(&mut pending, layout.next.as_slice())?;

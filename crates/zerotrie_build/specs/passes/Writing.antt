@@ -1,16 +1,18 @@
 -- What the second pass writes.
-use Rattle.std.specs.Prelude.{◌≡◌, ℕ, ◌+◌, ◌-◌, ◌<◌, ◌≤◌, ◌==◌, List, [], ◌∷◌, ◌++◌, length, map, replicate, if◌then◌else◌}
-use Rattle.std.specs.List.{concat, range_with_len, AllByRecursion}
-use Rattle.std.specs.List.Sorted.{IsPermutation}
+use Rattle.std.specs.Prelude.{◌≡◌, ℕ, ◌+◌, ◌-◌, ◌*◌, ◌<◌, ◌≤◌, ◌==◌, List, [], ◌∷◌, ◌++◌, length, map, take, drop, replicate, slice_index_or, if◌then◌else◌}
+use Rattle.std.specs.List.{concat, range_with_len}
+use Rattle.std.specs.List.Sorted.{IsPermutation, IsStrictlyIncreasing}
 use Rattle.zerotrie_base.specs.Hashes.{IsPerfect}
-use Rattle.zerotrie_core.specs.Kind.{Kind, simple_ascii}
+use Rattle.zerotrie_core.specs.Kind.{Kind, simple_ascii, fold_byte, is_hashed}
 use Rattle.zerotrie_core.specs.Maps.{Pairs, value_at}
 use Rattle.zerotrie_core.specs.Branches.{IsTable, total}
+use Rattle.zerotrie_core.specs.Canonical.{size_of}
 use Rattle.zerotrie_core.specs.Texts.{Lists}
 use Rattle.zerotrie_build.specs.declared.steps.Window.{Window}
-use Rattle.zerotrie_build.specs.declared.measuring.Target.{Target}
+use Rattle.zerotrie_build.specs.declared.laying.Next.{Next}
+use Rattle.zerotrie_build.specs.declared.laying.Next.TheVariants.{Slot, Text}
 use Rattle.zerotrie_build.specs.passes.Windows.{window, edge_of}
-use Rattle.zerotrie_build.specs.passes.Measured.{window_at, target_at}
+use Rattle.zerotrie_build.specs.passes.Measured.{Parts, Kept, sizes_of, slots_of}
 use Rattle.zerotrie_build.specs.passes.Puts.{Puts}
 
 -- a number with these bits added to its lead byte
@@ -24,37 +26,82 @@ pub record Listed (kind : Kind) (bytes : List ℕ) (pairs : Pairs) : Type 0 wher
   pub lists : Lists kind bytes listed
   pub same : (key : List ℕ) → value_at simple_ascii listed key ≡ value_at simple_ascii pairs key
 
--- the numbers of the targets of a branch, as the windows have them
-abbrev pub numbers_of : Target → List ℕ
-numbers_of t = range_with_len t.first (t.end - t.first)
+abbrev pub no_window : Window
+no_window = record { from = 0; to = 0; depth = 0 }
+
+abbrev pub window_at : List Window → ℕ → Window
+window_at windows i = slice_index_or windows i no_window
 
 -- the edge of the window of a number
 abbrev pub edge_no : Pairs → List Window → ℕ → ℕ
 edge_no all windows i = edge_of all (window_at windows i)
 
 -- the lengths of the targets of these numbers
-abbrev pub lens_of : List Target → List ℕ → List ℕ
-lens_of targets numbers = map (λ i. (target_at targets i).len) numbers
+abbrev pub lens_of : List ℕ → List ℕ → List ℕ
+lens_of lens numbers = map (λ i. slice_index_or lens i 0) numbers
 
 -- the place of a byte among these
 abbrev pub place_in : List ℕ → ℕ → ℕ
 place_in [] b = 0
 place_in (e ∷ es) b = if e == b then 0 else 1 + place_in es b
 
--- A perfect table of these edges, and the numbers from the first on in the order of the table.
-pub record IsSearched (first : ℕ) (edges table numbers : List ℕ) : Type 0 where
+-- A perfect table of these edges, and their numbers in the order of the table.
+pub record IsSearched (edges table numbers : List ℕ) : Type 0 where
   pub p : ℕ
   pub qs : List ℕ
   pub placed : List ℕ
   pub table_is : table ≡ p ∷ (qs ++ placed)
   pub perfect : IsPerfect p qs placed
   pub permutation : IsPermutation edges placed
-  pub numbers_are : numbers ≡ map (λ b. first + place_in edges b) placed
+  pub numbers_are : numbers ≡ map (λ b. place_in edges b) placed
 
--- The search table of a branch, and the numbers of its targets in the order of the table.
-pub record IsLaid (kind : Kind) (edge : ℕ → ℕ) (first count : ℕ) (table numbers : List ℕ) : Type 0 where
+-- The search table of a branch to so many targets, and their numbers in the order of the table.
+pub record IsLaid (kind : Kind) (edge : ℕ → ℕ) (count : ℕ) (table numbers : List ℕ) : Type 0 where
   pub is_table : IsTable kind (map edge numbers) table
-  pub permutation : IsPermutation (range_with_len first count) numbers
+  pub permutation : IsPermutation (range_with_len 0 count) numbers
+
+-- A branch stands first in the window, and its slots begin at one of these.
+pub record HasSlots (kind : Kind) (all : Pairs) (w : Window) (slots : List ℕ) (slot : ℕ) : Type 0 where
+  pub windows : List Window
+  pub parts : Parts all w windows
+  pub some : 0 < length windows
+  pub rises : IsStrictlyIncreasing (map (fold_byte kind) (map (edge_of all) windows))
+  pub lens : List ℕ
+  pub below : List (List ℕ)
+  pub more : List ℕ
+  pub slots_are : drop slot slots ≡ slots_of kind lens below ++ more
+  pub lens_each : length lens ≡ length windows
+  pub below_each : length below ≡ length windows
+
+-- the windows of these numbers, each behind its first slot, by how many slots there are up to each, from one on
+abbrev pub placed_next : List ℕ → ℕ → List Window → List ℕ → List Next
+placed_next ends slot windows [] = []
+placed_next ends slot windows (i ∷ numbers) = Slot (slot + slice_index_or (0 ∷ ends) i 0) ∷ Text (window_at windows i) ∷ placed_next ends slot windows numbers
+
+-- what is written behind a branch whose slots begin at one of these
+abbrev pub next_of : Kind → List ℕ → ℕ → List Window → List ℕ → List Next
+next_of kind slots slot windows numbers =
+    let count = length windows in
+    let ends = take count (drop (slot + count) slots) in
+    if is_hashed kind count
+    then placed_next ends (slot + 2 * count) windows numbers ++ Slot (slot + 2 * count + slice_index_or ends (count - 1) 0) ∷ []
+    else Slot (slot + count) ∷ map Text windows
+
+-- The window's slots are those from one number to another.
+pub record KeptTo (kind : Kind) (all : Pairs) (slots : List ℕ) (slot end : ℕ) (w : Window) : Type 0 where
+  pub below : List ℕ
+  pub more : List ℕ
+  pub kept : Kept kind all w below
+  pub slots_are : drop slot slots ≡ below ++ more
+  pub end_is : end ≡ slot + length below
+
+-- What is written next are the texts of these windows, where the slots go on from a number.
+pub data Leads (kind : Kind) (all : Pairs) (slots : List ℕ) : ℕ → List Next → List Window → Type 0 where
+  done : {slot : ℕ} → Leads kind all slots slot [] []
+  slot : {from to : ℕ} {next : List Next} {ws : List Window}
+      → Leads kind all slots to next ws → Leads kind all slots from (Slot to ∷ next) ws
+  text : {slot end : ℕ} {w : Window} {next : List Next} {ws : List Window}
+      → KeptTo kind all slots slot end w → Leads kind all slots end next ws → Leads kind all slots slot (Text w ∷ next) (w ∷ ws)
 
 -- texts of windows, one after another
 abbrev pub Texts : Kind → Pairs → List Window → List (List ℕ) → Type 0
@@ -63,21 +110,20 @@ Texts kind all [] (t ∷ ts) = ⊥
 Texts kind all (w ∷ ws) [] = ⊥
 Texts kind all (w ∷ ws) (t ∷ ts) = Listed kind t (window all w) × Texts kind all ws ts
 
--- The bytes of a window in front of the targets of its first branch were written, which have these numbers, in this order.
-pub record FrontPut (kind : Kind) (all : Pairs) (windows : List Window) (targets : List Target) (i : ℕ) (numbers list : List ℕ) (at : ℕ) (list' : List ℕ) (at' : ℕ) : Type 0 where
+-- The bytes of a window in front of the targets of its first branch were written, and then come these windows.
+pub record FrontPut (kind : Kind) (all : Pairs) (slots : List ℕ) (slot : ℕ) (w : Window) (next : List Next) (list : List ℕ) (at : ℕ) (list' : List ℕ) (at' : ℕ) : Type 0 where
+  pub targets : List Window
   pub front : List ℕ
   pub puts : Puts list at list' at' front
-  pub sized : length front + total (lens_of targets numbers) ≡ (target_at targets i).len
-  pub many : length numbers ≤ length front
-  pub within : AllByRecursion (λ j. j < length windows) numbers
-  pub lists : (texts : List (List ℕ)) → Texts kind all (map (window_at windows) numbers) texts
-      → Listed kind (front ++ concat texts) (window all (window_at windows i))
+  pub sized : length front + total (sizes_of kind all targets) ≡ size_of kind (window all w)
+  pub many : length next ≤ length front
+  pub lists : (texts : List (List ℕ)) → Texts kind all targets texts → Listed kind (front ++ concat texts) (window all w)
+  pub leads : (end : ℕ) (more : List Next) (ws : List Window) → KeptTo kind all slots slot end w
+      → Leads kind all slots end more ws → Leads kind all slots slot (next ++ more) (targets ++ ws)
 
--- A text was written as far as the windows of these numbers, in this order, are open.
-pub record Left (kind : Kind) (all : Pairs) (windows : List Window) (targets : List Target) (list : List ℕ) (at : ℕ) (numbers : List ℕ) : Type 0 where
+-- A text was written as far as these windows, in this order.
+pub record Left (kind : Kind) (all : Pairs) (list : List ℕ) (at : ℕ) (ws : List Window) : Type 0 where
   pub written : List ℕ
   pub at_is : at ≡ length written
-  pub list_is : list ≡ written ++ replicate (total (lens_of targets numbers)) 0
-  pub within : AllByRecursion (λ i. i < length windows) numbers
-  pub completes : (texts : List (List ℕ)) → Texts kind all (map (window_at windows) numbers) texts
-      → Listed kind (written ++ concat texts) all
+  pub list_is : list ≡ written ++ replicate (total (sizes_of kind all ws)) 0
+  pub completes : (texts : List (List ℕ)) → Texts kind all ws texts → Listed kind (written ++ concat texts) all

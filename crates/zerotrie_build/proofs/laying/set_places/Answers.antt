@@ -1,4 +1,4 @@
-use Rattle.std.proofs.Common.{◌+◌, ap, refl, get_or, Ok, Err}
+use Rattle.std.proofs.Common.{refl, get_or, Ok, Err}
 use Rattle.zerotrie_build.specs.passes.Writing.{place_in}
 use Rattle.zerotrie_build.proofs.LayLemmas.{place_more, found}
 use Rattle.zerotrie_build.proofs.laying.set_places.Goals as goal
@@ -12,4 +12,4 @@ loop-edge-preserved g c =
     let ps = c.args.placed.now in
     let es = c.args.edges.now in
     let f = found es ps i (get_or ps i 0) (Ok c.in-Ok.place) c.requires.rises c.requires.same c.loop-edge-test.true refl c.in-Ok.ensures.position in
-    place_more (λ b. c.args.first + place_in es b) _ _ ps i _ c.in_ok-push-in-Ok.ensures.items c.loop-edge.invariant c.loop-edge-test.true (ap (λ k. c.args.first + k) f.1)
+    place_more (λ b. place_in es b) _ _ ps i _ c.in_ok-push-in-Ok.ensures.items c.loop-edge.invariant c.loop-edge-test.true f.1

@@ -4,4 +4,4 @@ use Rattle.zerotrie_build.specs.passes.Writing.{lens_of}
 use Rattle.zerotrie_build.proofs.writing.total.Given as goal
 
 abbrev pub invariant-loop-number : goal.invariant-loop-number
-invariant-loop-number l = l.total ≡ total (lens_of l.targets (take l.number-index l.numbers))
+invariant-loop-number l = l.total ≡ total (lens_of l.lens (take l.number-index l.numbers))

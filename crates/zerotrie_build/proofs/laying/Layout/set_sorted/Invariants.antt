@@ -1,13 +1,21 @@
-use Rattle.std.proofs.Common.{◌≡◌, ◌-◌, ◌≤◌, map}
+use Rattle.std.proofs.Common.{◌≡◌, ◌-◌, ◌≤◌, List, [], ◌++◌, map, length}
 use Rattle.std.specs.List.{range_with_len}
 use Rattle.zerotrie_build.specs.Items.{pairs}
-use Rattle.zerotrie_build.specs.passes.Writing.{edge_no}
+use Rattle.zerotrie_build.specs.declared.steps.Window.{Window}
+use Rattle.zerotrie_build.specs.passes.Windows.{edge_of}
+use Rattle.zerotrie_build.specs.passes.Measured.{Parts}
 use Rattle.zerotrie_build.proofs.laying.Layout.set_sorted.Given as goal
 
-abbrev pub invariant-loop-number : goal.invariant-loop-number
-invariant-loop-number g l = record {
-  table : l.self.table.items ≡ map (edge_no (pairs l.items) l.measured.windows.items) (range_with_len l.fn.target.first (l.number - l.fn.target.first));
-  numbers : l.self.numbers.items ≡ range_with_len l.fn.target.first (l.number - l.fn.target.first);
-  from : l.fn.target.first ≤ l.number;
-  to : l.number ≤ l.fn.target.end;
+abbrev pub invariant-loop-rest : goal.invariant-loop-rest
+invariant-loop-rest g l = record {
+  parts : (cs : List Window) → Parts (pairs l.items) l.rest cs → Parts (pairs l.items) l.fn.window (l.self.windows.items ++ cs);
+  table : l.self.table.items ≡ map (edge_of (pairs l.items)) l.self.windows.items;
+  numbers : l.self.numbers.items ≡ range_with_len 0 (length l.self.windows.items);
+  next : l.self.next.items ≡ [];
+  order : l.rest.from ≤ l.rest.to;
+  to_is : l.rest.to ≡ l.fn.window.to;
+  depth_is : l.rest.depth ≡ l.fn.window.depth;
 }
+
+abbrev pub decreases-loop-rest : goal.decreases-loop-rest
+decreases-loop-rest g l = l.rest.to - l.rest.from

@@ -13,10 +13,10 @@ overflow_add-width g c = let l : c.width_of-width.result ≤ 7 = c.width_of-widt
 
 pub put_number-requires-clause-room : goal.put_number-requires-clause-room
 put_number-requires-clause-room g c =
-    let lens = lens_of c.args.targets.now c.args.numbers.now in
+    let lens = lens_of c.args.lens.now c.args.numbers.now in
     let w = c.width_of-width.result in
     let n = length c.args.numbers.now in
-    let f = front_long c.args.table.now lens w n (subst (λ t. IsWidth t w) c.total.ensures c.width_of-width.ensures) (count_lens c.args.targets.now c.args.numbers.now) in
+    let f = front_long c.args.table.now lens w n (subst (λ t. IsWidth t w) c.total.ensures c.width_of-width.ensures) (count_lens c.args.lens.now c.args.numbers.now) in
     let h = number_len branch_form (256 * w + n % 256) 192 c.write_varint_meta2.result.items (inr refl) refl c.write_varint_meta2.ensures in
     let d = ap length c.deref.ensures.0 in
     let r = c.requires.room in
@@ -24,10 +24,10 @@ put_number-requires-clause-room g c =
 
 pub put_all-requires : goal.put_all-requires
 put_all-requires g c =
-    let lens = lens_of c.args.targets.now c.args.numbers.now in
+    let lens = lens_of c.args.lens.now c.args.numbers.now in
     let w = c.width_of-width.result in
     let n = length c.args.numbers.now in
-    let f = front_long c.args.table.now lens w n (subst (λ t. IsWidth t w) c.total.ensures c.width_of-width.ensures) (count_lens c.args.targets.now c.args.numbers.now) in
+    let f = front_long c.args.table.now lens w n (subst (λ t. IsWidth t w) c.total.ensures c.width_of-width.ensures) (count_lens c.args.lens.now c.args.numbers.now) in
     let x = ap length (ap (with_bits 192) c.deref.ensures.0 ∙ number_is branch_form (256 * w + n % 256) 192 c.write_varint_meta2.result.items (inr refl) refl c.write_varint_meta2.ensures) in
     let a = c.put_number.ensures.at_is in let s = c.put_number.ensures.same in
     let r = c.requires.room in
@@ -38,10 +38,10 @@ put_offsets-requires-clause-bytes g c = let l : c.width_of-width.result ≤ 7 = 
 
 pub put_offsets-requires-clause-room : goal.put_offsets-requires-clause-room
 put_offsets-requires-clause-room g c =
-    let lens = lens_of c.args.targets.now c.args.numbers.now in
+    let lens = lens_of c.args.lens.now c.args.numbers.now in
     let w = c.width_of-width.result in
     let n = length c.args.numbers.now in
-    let f = front_long c.args.table.now lens w n (subst (λ t. IsWidth t w) c.total.ensures c.width_of-width.ensures) (count_lens c.args.targets.now c.args.numbers.now) in
+    let f = front_long c.args.table.now lens w n (subst (λ t. IsWidth t w) c.total.ensures c.width_of-width.ensures) (count_lens c.args.lens.now c.args.numbers.now) in
     let x = ap length (ap (with_bits 192) c.deref.ensures.0 ∙ number_is branch_form (256 * w + n % 256) 192 c.write_varint_meta2.result.items (inr refl) refl c.write_varint_meta2.ensures) in
     let a = c.put_number.ensures.at_is in let s = c.put_number.ensures.same in
     let b = c.put_all.ensures.at_is in let t = c.put_all.ensures.same in
@@ -50,9 +50,9 @@ put_offsets-requires-clause-room g c =
 
 pub returns : goal.returns
 returns g c =
-    let lens = lens_of c.args.targets.now c.args.numbers.now in
+    let lens = lens_of c.args.lens.now c.args.numbers.now in
     let w = c.width_of-width.result in
     let n = length c.args.numbers.now in
     let x = ap (with_bits 192) c.deref.ensures.0 ∙ number_is branch_form (256 * w + n % 256) 192 c.write_varint_meta2.result.items (inr refl) refl c.write_varint_meta2.ensures in
-    puts_same _ _ _ _ _ _ (front_is c.args.table.now lens w n (subst (λ t. IsWidth t w) c.total.ensures c.width_of-width.ensures) (count_lens c.args.targets.now c.args.numbers.now))
+    puts_same _ _ _ _ _ _ (front_is c.args.table.now lens w n (subst (λ t. IsWidth t w) c.total.ensures c.width_of-width.ensures) (count_lens c.args.lens.now c.args.numbers.now))
     (puts_then _ _ _ _ _ _ _ _ (puts_same _ _ _ _ _ _ x c.put_number.ensures) (puts_then _ _ _ _ _ _ _ _ c.put_all.ensures c.put_offsets.ensures))

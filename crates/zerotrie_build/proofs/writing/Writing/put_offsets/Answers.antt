@@ -7,16 +7,16 @@ use Rattle.zerotrie_build.proofs.writing.Writing.put_offsets.Goals as goal
 pub put_block-requires-clause-room : goal.put_block-requires-clause-room
 put_block-requires-clause-room g c =
     let v = c.loop-place.invariant in
-    let ls = lens_of c.args.targets.now c.args.numbers.now in
+    let ls = lens_of c.args.lens.now c.args.numbers.now in
     let n = blocks_len v.0 c.loop-place.place c.args.bytes ls c.loop-place-test.true v.1 in
-    let k = count_lens c.args.targets.now c.args.numbers.now in
+    let k = count_lens c.args.lens.now c.args.numbers.now in
     let m = ap (λ x. c.args.bytes * (x - 1)) k in
     let p = v.3 in let a = p.at_is in let s = p.same in let r = c.requires.room in omega arith
 
 pub loop-place-preserved : goal.loop-place-preserved
 loop-place-preserved g c =
     let v = c.loop-place.invariant in
-    let os = ends (lens_of c.args.targets.now c.args.numbers.now) in (
+    let os = ends (lens_of c.args.lens.now c.args.numbers.now) in (
       v.0 ++ map (λ o. o / 256 ^ (c.loop-place.place - 1) % 256) os,
       append_assoc v.0 (map (λ o. o / 256 ^ (c.loop-place.place - 1) % 256) os) (blocks (c.loop-place.place - 1) os) ∙ ap (λ x. v.0 ++ x) (sym (block_first c.loop-place.place os c.loop-place-test.true)) ∙ v.1,
       (let l = v.2 in omega arith),

@@ -6,5 +6,5 @@ use Rattle.zerotrie_build.proofs.writing.Writing.put_offsets.Given as goal
 
 abbrev pub invariant-loop-place : goal.invariant-loop-place
 invariant-loop-place g l = (done : List ℕ)
-    × (done ++ blocks l.place (ends (lens_of l.targets l.numbers)) ≡ blocks l.fn.bytes (ends (lens_of l.targets l.numbers)))
+    × (done ++ blocks l.place (ends (lens_of l.lens l.numbers)) ≡ blocks l.fn.bytes (ends (lens_of l.lens l.numbers)))
     × (l.place ≤ l.fn.bytes) × Puts (g.S.TrieBuilderStore.list l.initial.self.data) l.initial.self.at (g.S.TrieBuilderStore.list l.self.data) l.self.at done
