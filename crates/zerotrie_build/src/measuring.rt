@@ -271,6 +271,7 @@ impl<'a, A: Allocator + Copy> Measuring<'a, A> {
         requires room { window.depth + 1 < 2 ^ 64 }
         ensures opened { IfOk result (λ first. IsOpened K.kind (pairs self.old.items) window len first
             self.old.slots.items self.old.branches.items self.new.slots.items self.new.branches.items) }
+        ensures few { OnOk result (length self.new.slots.items < 2 ^ 64) }
         ensures items { self.new.items ≡ self.old.items }
     {
         let first = self.slots.len();
@@ -323,10 +324,10 @@ impl<'a, A: Allocator + Copy> Measuring<'a, A> {
     }
 
     /// Takes in how long the window is that was measured, and the branches whose last target it ends.
-    fn close<K: ZeroTrieWithOptions>(&mut self, len: usize) -> Result<Turn, ZeroTrieBuildError>
+    fn close<K: ZeroTrieWithOptions>(&mut self, measured: usize) -> Result<Turn, ZeroTrieBuildError>
         requires keys { AreKeys K.kind (pairs self.old.items) }
         requires ordered { Ordered K.kind (pairs self.old.items) }
-        requires closing { Closing K.kind (pairs self.old.items) (reverse self.old.branches.items) self.old.slots.items len }
+        requires closing { Closing K.kind (pairs self.old.items) (reverse self.old.branches.items) self.old.slots.items measured }
         ensures turn { IfOk result (λ t. IsTurn K.kind (pairs self.old.items) t
             (reverse self.new.branches.items) self.new.slots.items) }
         ensures less { IfOk result (λ t. IsNext t → left_open (reverse self.new.branches.items)
@@ -337,7 +338,7 @@ impl<'a, A: Allocator + Copy> Measuring<'a, A> {
             → (e ≡ ZeroTrieBuildError.CapacityExceeded)
             × ExceedsCapacity K.kind (map_of (pairs self.old.items))) }
     {
-        let mut len = len;
+        let mut len = measured;
         while let Some(branch) = self.branches.pop() {
             let from = self.slots[branch.next];
             self.keep::<K>(branch, len);

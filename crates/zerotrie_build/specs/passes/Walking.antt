@@ -57,6 +57,7 @@ pub record IsCounting (kind : Kind) (all : Pairs) (w c : Window) (f : Open) (bef
   pub kept : KeptEach kind all done below
   pub from : f.from ≡ c.from
   pub depth : f.depth ≡ behind.depth
+  pub room : f.depth + 1 < 2 ^ 64
   pub first : f.first ≡ length before
   pub next : f.next ≡ f.first + length done
   pub end : f.end ≡ f.next + 1 + length more
