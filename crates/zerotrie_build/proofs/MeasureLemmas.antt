@@ -198,9 +198,9 @@ with_len_is kind f before lens e ends below own len first next end same = by (is
         let n = length slots - (f.end + (f.end - f.first)) in
         let front = ((before ++ lens) ++ len ∷ ends) ++ es in
         let first_set = set_first kind f before lens e ends below own len first next
-            ∙ ap (λ b. (before ++ lens) ++ len ∷ (ends ++ (((if b then es ++ replicate (length (e ∷ ends)) 0 else []) ++ concat below) ++ own))) old
-            ∙ ap (λ x. (before ++ lens) ++ len ∷ (ends ++ x)) (append_assoc (es ++ 0 ∷ zs) (concat below) own ∙ append_assoc es (0 ∷ zs) (concat below ++ own))
-            ∙ sym (append_assoc (before ++ lens) (len ∷ ends) (es ++ 0 ∷ (zs ++ (concat below ++ own)))) ∙ sym (append_assoc ((before ++ lens) ++ len ∷ ends) es (0 ∷ (zs ++ (concat below ++ own)))) in
+        ∙ ap (λ b. (before ++ lens) ++ len ∷ (ends ++ (((if b then es ++ replicate (length (e ∷ ends)) 0 else []) ++ concat below) ++ own))) old
+        ∙ ap (λ x. (before ++ lens) ++ len ∷ (ends ++ x)) (append_assoc (es ++ 0 ∷ zs) (concat below) own ∙ append_assoc es (0 ∷ zs) (concat below ++ own))
+        ∙ sym (append_assoc (before ++ lens) (len ∷ ends) (es ++ 0 ∷ (zs ++ (concat below ++ own)))) ∙ sym (append_assoc ((before ++ lens) ++ len ∷ ends) es (0 ∷ (zs ++ (concat below ++ own)))) in
         let a = length-append before lens in let b = length-append (before ++ lens) (len ∷ ends) in let c = length-append ((before ++ lens) ++ len ∷ ends) es in
         let d = length-ends_from 0 (map length below) in let d' = length-map below length in
         let at : f.next + (f.end - f.first) ≡ length front = omega arith in

@@ -124,4 +124,3 @@ whole_placed kind all up =
       behind = ([], λ b. ap (residual b) (sym is));
       small = (let s = ap (size_of kind) is in omega arith);
     }
-

@@ -250,8 +250,11 @@ impl<'a, A: Allocator + Copy> Measuring<'a, A> {
     fn target_of(&self, branch: Open) -> Window
         requires slot { branch.next < length self.now.slots.items }
         requires room { branch.depth + 1 < 2 ^ 64 }
-        ensures { result ≡ record { from = branch.from; to = slice_index self.now.slots.items branch.next;
-            depth = branch.depth + 1 } }
+        ensures { result ≡ record {
+          from = branch.from;
+          to = slice_index self.now.slots.items branch.next;
+          depth = branch.depth + 1;
+        } }
     {
         Window {
             from: branch.from,

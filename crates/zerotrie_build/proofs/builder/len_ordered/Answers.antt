@@ -1,7 +1,6 @@
-use Rattle.std.proofs.Common.{◌∙◌, ◌^◌, ◌<◌, arith}
+use Rattle.std.proofs.Common.{rules}
 use Rattle.std.proofs.lemmas.Result.{err_from_is_err_and}
 use Rattle.zerotrie_build.specs.Items.{pairs}
-use Rattle.zerotrie_build.specs.passes.Measured.{target_at}
 use Rattle.zerotrie_build.proofs.Building.{length_refusal}
 use Rattle.zerotrie_build.proofs.MeasuredLemmas.{measured_fits, measured_len}
 use Rattle.zerotrie_build.proofs.Sorting.{ordered_distinct}
@@ -13,15 +12,11 @@ returns-in_err-measured g c =
     let p = err_from_is_err_and c.from_residual.result c.from_residual.ensures.1 in
     rw (p.1, p.2) (length_refusal kind (pairs c.args.items) _ (ordered_distinct kind (pairs c.args.items) c.requires.ordered) c.in_err-measured.ensures.refused)
 
-pub whole_len-requires : goal.whole_len-requires
-whole_len-requires g c = let m = c.in_ok-measured.ensures.measured in let n = m.count in let some = m.some in omega arith
-
 pub returns : goal.returns
 returns g c =
     let kind = g.K.ZeroTrieWithOptions.kind in
     let all = pairs c.args.items in
     let m = c.in_ok-measured.ensures.measured in
-    let windows = c.in_ok-measured.measured.windows.items in
-    let targets = c.in_ok-measured.measured.targets.items in
-    let short : (target_at targets 0).len < 2 ^ 64 = let e = c.whole_len.ensures in let fits = c.whole_len.type_inv in omega arith in
-    (ordered_distinct kind all c.requires.ordered, measured_fits kind all windows targets m c.requires.values short, c.whole_len.ensures ∙ measured_len kind all windows targets m)
+    let slots = c.in_ok-measured.measured.slots.items in
+    let len = c.in_ok-measured.measured.len in
+    (ordered_distinct kind all c.requires.ordered, measured_fits kind all slots len m c.requires.values (search rules), measured_len kind all slots len m)

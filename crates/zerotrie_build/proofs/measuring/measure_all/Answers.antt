@@ -115,7 +115,7 @@ returns-in-Whole-clause-measured g c =
     let kind = g.K.ZeroTrieWithOptions.kind in
     let all = pairs c.args.items in
     let t = subst (λ x. IsTurn kind (pairs x) (Whole c.in-Whole.len) (reverse c.close.new.self.branches.items) c.close.new.self.slots.items) v.items
-        (subst (λ t. IsTurn kind (pairs c.loop-measuring.measuring.items) t (reverse c.close.new.self.branches.items) c.close.new.self.slots.items) c.in-Whole.is c.in_ok-next.ensures.turn) in
+    (subst (λ t. IsTurn kind (pairs c.loop-measuring.measuring.items) t (reverse c.close.new.self.branches.items) c.close.new.self.slots.items) c.in-Whole.is c.in_ok-next.ensures.turn) in
     record {
       keys = c.requires.keys;
       slots_are = subst (Kept kind all (whole all)) (sym c.measured.ensures.slots) t.0;

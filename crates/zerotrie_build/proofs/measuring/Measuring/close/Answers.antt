@@ -18,7 +18,6 @@ index-from-requires g c =
     let w = inner_within i in
     let within = w.2 in let below = w.1 in search rules
 
-
 pub keep-requires-clause-order : goal.keep-requires-clause-order
 keep-requires-clause-order g c =
     let f = c.in-Some.branch in
@@ -47,7 +46,6 @@ overflow_add-branch g c =
     let w = inner_within i in
     let within = w.2 in let below = w.1 in record { fits = search rules }
 
-
 pub target_of-requires-clause-slot : goal.target_of-requires-clause-slot
 target_of-requires-clause-slot g c =
     let f = c.in-Some.branch in
@@ -55,7 +53,6 @@ target_of-requires-clause-slot g c =
     let w = inner_within i in
     let long : length c.keep.new.self.slots.items ≡ length c.loop-branch.self.slots.items = ap length c.keep.ensures.slots ∙ with_len_long _ f c.loop-branch.len c.loop-branch.self.slots.items in
     let t = c.if-branch.true in let within = w.2 in omega arith
-
 
 pub target_of-requires-clause-room : goal.target_of-requires-clause-room
 target_of-requires-clause-room g c =
@@ -77,7 +74,6 @@ returns-then-branch-clause-turn g c =
     (subst (λ w. Waits g.K.ZeroTrieWithOptions.kind (pairs c.args.self.now.items) w (next ∷ reverse c.pop.new.self.items) slots) (sym c.target_of.ensures)
     (waits_next i slots c.index-from.result.now c.keep.ensures.slots (let within = w.2 in let below = w.1 in get_or_read c.loop-branch.self.slots.items f.next c.index-from.result.now (omega arith) (search rules) 0) c.if-branch.true next refl))
 
-
 pub offset_bounds-deref-branch : goal.offset_bounds-deref-branch
 offset_bounds-deref-branch g c =
     let f = c.in-Some.branch in
@@ -85,7 +81,6 @@ offset_bounds-deref-branch g c =
     let w = inner_within i in
     let long : length c.keep.new.self.slots.items ≡ length c.loop-branch.self.slots.items = ap length c.keep.ensures.slots ∙ with_len_long _ f c.loop-branch.len c.loop-branch.self.slots.items in
     let within = w.2 in let below = w.1 in let order = w.0 in record { fits = search rules }
-
 
 pub slice_bounds-with_branch-count : goal.slice_bounds-with_branch-count
 slice_bounds-with_branch-count g c =
@@ -102,7 +97,6 @@ slice_bounds-with_branch-start g c =
     let long : length c.keep.new.self.slots.items ≡ length c.loop-branch.self.slots.items = ap length c.keep.ensures.slots ∙ with_len_long _ f c.loop-branch.len c.loop-branch.self.slots.items in
     let within = w.2 in let below = w.1 in let order = w.0 in search rules
 
-
 pub slice_bounds-with_branch-end : goal.slice_bounds-with_branch-end
 slice_bounds-with_branch-end g c =
     let f = c.in-Some.branch in
@@ -110,7 +104,6 @@ slice_bounds-with_branch-end g c =
     let w = inner_within i in
     let long : length c.keep.new.self.slots.items ≡ length c.loop-branch.self.slots.items = ap length c.keep.ensures.slots ∙ with_len_long _ f c.loop-branch.len c.loop-branch.self.slots.items in
     let within = w.2 in let below = w.1 in let order = w.0 in search rules
-
 
 pub with_branch-requires-clause-two : goal.with_branch-requires-clause-two
 with_branch-requires-clause-two g c =
@@ -122,7 +115,6 @@ with_branch-requires-clause-two g c =
     let l = last i slots keys c.keep.ensures.slots (let t = c.if-branch.false in omega arith) in
     subst (λ x. 2 ≤ length x) (sym (ap (λ x. take (f.end - f.first) (drop f.first x)) c.deref.ensures.value ∙ last_lens l)) (last_count l keys).0
 
-
 pub with_branch-requires-clause-few : goal.with_branch-requires-clause-few
 with_branch-requires-clause-few g c =
     let f = c.in-Some.branch in
@@ -132,7 +124,6 @@ with_branch-requires-clause-few g c =
     let keys = c.requires.keys in
     let l = last i slots keys c.keep.ensures.slots (let t = c.if-branch.false in omega arith) in
     subst (λ x. length x ≤ 256) (sym (ap (λ x. take (f.end - f.first) (drop f.first x)) c.deref.ensures.value ∙ last_lens l)) (last_count l keys).1
-
 
 pub returns-in_err-len-clause-refused : goal.returns-in_err-len-clause-refused
 returns-in_err-len-clause-refused g c =
@@ -146,7 +137,6 @@ returns-in_err-len-clause-refused g c =
     let lens = ap (λ x. take (f.end - f.first) (drop f.first x)) c.deref.ensures.value ∙ last_lens l in
     let r = c.in_err-len.ensures.refused in
     rw (p.1, p.2) (λ memory. (r.0, last_refused l keys (subst (λ x. (256 ^ (greatest_width g.K.ZeroTrieWithOptions.kind + 1) ≤ total x) ⊎ (2 ^ 64 ≤ f.len + (branch_size g.K.ZeroTrieWithOptions.kind x + total x))) lens r.1)))
-
 
 pub loop-branch-preserved : goal.loop-branch-preserved
 loop-branch-preserved g c =
@@ -169,7 +159,6 @@ loop-branch-preserved g c =
       same = long ∙ v.same;
       fewer = (let b = ap (λ x. left_open (reverse x)) c.keep.ensures.branches in omega arith);
     }
-
 
 pub returns-clause-turn : goal.returns-clause-turn
 returns-clause-turn g c = all_closed c.loop-branch.invariant.closing (ap reverse (let none : c.loop-branch.self.branches.items ≡ [] = search rules in none))
