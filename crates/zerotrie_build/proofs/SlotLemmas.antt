@@ -6,10 +6,11 @@ use Rattle.std.proofs.lemmas.Bool.{cases_lt}
 use Rattle.std.proofs.lemmas.List.{drop-drop, drop_at, take_at}
 use Rattle.zerotrie_core.specs.Kind.{Kind, fold_byte, is_hashed}
 use Rattle.zerotrie_core.specs.Maps.{Pairs}
+use Rattle.zerotrie_core.specs.Canonical.{size_of}
 use Rattle.zerotrie_build.specs.declared.steps.Window.{Window}
 use Rattle.zerotrie_build.specs.declared.laying.Next.{Next}
 use Rattle.zerotrie_build.specs.declared.laying.Next.TheVariants.{Slot, Text}
-use Rattle.zerotrie_build.specs.passes.Windows.{edge_of, IsGroup}
+use Rattle.zerotrie_build.specs.passes.Windows.{window, edge_of, IsGroup}
 use Rattle.zerotrie_build.specs.passes.Measured.{Parts, IsOpen, Kept, KeptEach, sizes_of, slots_of, ends_from}
 use Rattle.zerotrie_build.specs.passes.Measured.Kept.{kept}
 use Rattle.zerotrie_build.specs.passes.Measured.KeptEach.{none as none_kept, more as more_kept}
@@ -140,6 +141,10 @@ plain_at kind slots slot count lens below more h lens_each is =
     is ∙ ap (λ x. x ++ more) (slots_plain kind lens below (ap (is_hashed kind) lens_each ∙ h)) ∙ append_assoc lens all_below more in
     record { behind = sym (drop-drop count slot slots) ∙ ap (drop count) whole ∙ drop_at lens (all_below ++ more) count lens_each }
 
+count_of : {A B : Type 0} (f : A → B) (xs : List A) → length (map f xs) ≡ length xs
+count_of f [] = refl
+count_of f (x ∷ xs) = ap suc (count_of f xs)
+
 -- What is known of a window whose slots are these.
 pub record Opened (kind : Kind) (all : Pairs) (slots : List ℕ) (slot end : ℕ) (w : Window) : Type 0 where
   pub cs : List Window
@@ -188,3 +193,80 @@ leads_sorted {kind = kind} {all = all} slots at more (more_kept {slots = s} {bel
     to_text (record { below = s; more = concat below ++ more; kept = k; slots_are = whole; end_is = refl })
     (leads_sorted slots (at + length s) more each (sym (drop-drop (length s) at slots) ∙ ap (drop (length s)) whole ∙ drop_at s (concat below ++ more) (length s) refl) next ws
     (subst (λ n. Leads kind all slots n next ws) long then))
+
+next_hashed : (kind : Kind) (slots : List ℕ) (slot : ℕ) (cs : List Window) (numbers : List ℕ) → is_hashed kind (length cs) ≡ true
+    → next_of kind slots slot cs numbers ≡ placed_next (take (length cs) (drop (slot + length cs) slots)) (slot + 2 * length cs) cs numbers
+    ++ Slot (slot + 2 * length cs + get_or (take (length cs) (drop (slot + length cs) slots)) (length cs - 1) 0) ∷ []
+next_hashed kind slots slot cs numbers h =
+    let ends = take (length cs) (drop (slot + length cs) slots) in
+    ap (λ is. cond is (placed_next ends (slot + 2 * length cs) cs numbers ++ Slot (slot + 2 * length cs + get_or ends (length cs - 1) 0) ∷ []) (Slot (slot + length cs) ∷ map Text cs)) h
+
+next_plain : (kind : Kind) (slots : List ℕ) (slot : ℕ) (cs : List Window) (numbers : List ℕ) → is_hashed kind (length cs) ≡ false → next_of kind slots slot cs numbers ≡ Slot (slot + length cs) ∷ map Text cs
+next_plain kind slots slot cs numbers h =
+    let ends = take (length cs) (drop (slot + length cs) slots) in
+    ap (λ is. cond is (placed_next ends (slot + 2 * length cs) cs numbers ++ Slot (slot + 2 * length cs + get_or ends (length cs - 1) 0) ∷ []) (Slot (slot + length cs) ∷ map Text cs)) h
+
+-- the targets of a branch, in the order of its table
+pub next_leads : {kind : Kind} {all : Pairs} {slots : List ℕ} {slot end : ℕ} {w : Window} (k : Opened kind all slots slot end w) (numbers : List ℕ) → 0 < length k.cs
+    → AllByRecursion (λ j. j < length k.cs) numbers → (is_hashed kind (length k.cs) ≡ false → map (window_at k.cs) numbers ≡ k.cs)
+    → (next : List Next) (ws : List Window) → Leads kind all slots end next ws → Leads kind all slots slot (next_of kind slots slot k.cs numbers ++ next) (map (window_at k.cs) numbers ++ ws)
+next_leads {kind = kind} {all = all} {slots = slots} {slot = slot} {end = end} k numbers some within sorted next ws then = either (is_hashed kind (length k.cs)) refl
+  where
+    count : ℕ
+    count = length k.cs
+
+    lens : List ℕ
+    lens = sizes_of kind all k.cs
+
+    lens_each : length lens ≡ count
+    lens_each = count_of (size_of kind) (map (window all) k.cs) ∙ count_of (window all) k.cs
+
+    either : (b : Bool) → is_hashed kind count ≡ b → Leads kind all slots slot (next_of kind slots slot k.cs numbers ++ next) (map (window_at k.cs) numbers ++ ws)
+    either true is =
+        let h = hashed_at kind slots slot count lens k.below k.more is lens_each (each_count k.each) some k.slots_are in
+        let ends = ends_from 0 (map length k.below) in
+        let from = slot + 2 * count in
+        let last : from + get_or ends (count - 1) 0 ≡ end =
+        (let m = each_count k.each in
+        let l = ends_last 0 k.below (omega arith) in
+        let same = ap (λ n. get_or ends (n - 1) 0) m in
+        let e = k.end_is in
+        let long = ap length (slots_hashed kind lens k.below (ap (is_hashed kind) lens_each ∙ is)) in
+        let a = length-append lens (ends ++ concat k.below) in
+        let b = length-append ends (concat k.below) in
+        let n = length-ends_from 0 (map length k.below) ∙ count_map length k.below in
+        omega (arith, lens_each)) in
+        let start : from + 0 ≡ from = omega arith in
+        let each = kept_at slots from 0 k.more k.each (ap (λ n. drop n slots) start ∙ h.behind) in
+        let tail : Leads kind all slots (from + get_or ends (count - 1) 0) next ws = subst (λ n. Leads kind all slots n next ws) (sym last) then in
+        let there = leads_placed slots from k.cs ends each numbers within (Slot (from + get_or ends (count - 1) 0) ∷ next) ws (λ n. to_slot tail) slot in
+        let items : next_of kind slots slot k.cs numbers ++ next ≡ placed_next ends from k.cs numbers ++ (Slot (from + get_or ends (count - 1) 0) ∷ next) =
+        ap (λ x. x ++ next) (next_hashed kind slots slot k.cs numbers is ∙ ap (λ es. placed_next es from k.cs numbers ++ Slot (from + get_or es (count - 1) 0) ∷ []) h.ends_are)
+        ∙ append_assoc (placed_next ends from k.cs numbers) (Slot (from + get_or ends (count - 1) 0) ∷ []) next in
+        subst (λ x. Leads kind all slots slot x (map (window_at k.cs) numbers ++ ws)) (sym items) there
+    either false is =
+        let p = plain_at kind slots slot count lens k.below k.more is lens_each k.slots_are in
+        let last : end ≡ slot + count + length (concat k.below) =
+        (let e = k.end_is in
+        let long = ap length (slots_plain kind lens k.below (ap (is_hashed kind) lens_each ∙ is)) in
+        let a = length-append lens (concat k.below) in
+        omega (arith, lens_each)) in
+        let there = to_slot (leads_sorted slots (slot + count) k.more k.each p.behind next ws (subst (λ n. Leads kind all slots n next ws) last then)) in
+        subst (λ x. Leads kind all slots slot (x ++ next) (map (window_at k.cs) numbers ++ ws)) (sym (next_plain kind slots slot k.cs numbers is))
+        (subst (λ x. Leads kind all slots slot (Slot (slot + count) ∷ map Text k.cs ++ next) (x ++ ws)) (sym (sorted is)) there)
+
+-- no branch has no slots
+pub none_ends : {kind : Kind} {all : Pairs} {slots : List ℕ} {slot end : ℕ} {w : Window} (k : Opened kind all slots slot end w) → k.cs ≡ [] → end ≡ slot
+none_ends {kind = kind} {all = all} {slot = slot} {end = end} k e = by_none k.cs k.below k.each e k.end_is
+  where
+    nothing : (b : Bool) → length (cond b (ends_from 0 []) []) ≡ 0
+    nothing true = refl
+    nothing false = refl
+
+    by_none : (cs : List Window) (below : List (List ℕ)) → KeptEach kind all cs below → cs ≡ [] → end ≡ slot + length (slots_of kind (sizes_of kind all cs) below) → end ≡ slot
+    by_none [] [] each e is =
+        let n = nothing (is_hashed kind 0) in
+        let a = length-append (cond (is_hashed kind 0) (ends_from 0 []) []) [] in
+        omega (arith, is)
+    by_none (c ∷ cs) below each e is = absurd (let n = ap length e in omega arith)
+    by_none [] (s ∷ below) each e is = absurd (let n = each_count each in omega arith)

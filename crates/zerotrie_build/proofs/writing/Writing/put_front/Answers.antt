@@ -6,7 +6,7 @@ use Rattle.zerotrie_build.specs.passes.Windows.{item_of}
 use Rattle.zerotrie_build.specs.passes.Measured.{IsOpen, no_window, no_target, window_at, target_at}
 use Rattle.zerotrie_build.specs.passes.Writing.{IsLaid, edge_no}
 use Rattle.zerotrie_build.proofs.FrontLemmas.{Going, going_start, going_value, going_literal, going_span, open_bytes, room_value, room_literal, room_span, span_within}
-use Rattle.zerotrie_build.proofs.BranchLemmas.{front_branch, front_end, branch_items, branch_rises, branch_refused, branch_numbers, branch_small, branch_room, branch_put}
+use Rattle.zerotrie_build.proofs.BranchLemmas.{branch_slots}
 use Rattle.zerotrie_build.proofs.writing.Writing.put_front.Goals as goal
 
 pub loop-value-init : goal.loop-value-init
