@@ -3,9 +3,9 @@ use Rattle.std.proofs.Common.{◌≡◌, ◌≢◌, ℕ, zero, suc, ◌+◌, ◌
 use Rattle.std.specs.Prelude.{Contains}
 use Rattle.std.specs.List.{concat, range_with_len, AllByRecursion}
 use Rattle.std.specs.List.Sorted.{IsPermutation, IsStrictlyIncreasing}
-use Rattle.std.proofs.Math.Nat.{pow-le-pow_right}
+use Rattle.std.proofs.Math.Nat.{pow-le-pow_right, mul-le-mul}
 use Rattle.std.proofs.lemmas.Bool.{cases_eq, eq-eqb, ne_eqb}
-use Rattle.std.proofs.lemmas.List.{length-take-le, drop_more, get_or_default}
+use Rattle.std.proofs.lemmas.List.{get_or_default, get_or-map}
 use Rattle.std.specs.FinMap.{entries}
 use Rattle.std.proofs.lemmas.List.FromFn.{get_or-map-range_with_len, length-range_with_len, get_or-range_with_len}
 use Rattle.std.proofs.lemmas.List.Sorted.{IsPermutation-map, IsPermutation-sym, length_permutation, Contains-permutation, sum_by-IsPermutation}
@@ -22,18 +22,20 @@ use Rattle.zerotrie_core.specs.Causes.{AreCrooked, Cause, ZeroTrieBuildError, Co
 use Rattle.zerotrie_core.proofs.CallerLemmas.{Distinct, NoneLike, table_distinct, length-table, value_at-no_key, value_at-front, value_at-other, value_at-append, value_at-some, spells_spelled, IsWidth-width, front_targets, front_len, length-branch_front, total-lengths, fold_ascii, greatest_width_most, same-entries, same-behind, same-edges}
 use Rattle.zerotrie_build.specs.Order.{Ordered}
 use Rattle.zerotrie_build.specs.declared.steps.Window.{Window}
+use Rattle.zerotrie_build.specs.declared.laying.Next.{Next}
+use Rattle.zerotrie_build.specs.declared.laying.Next.TheVariants.{Slot, Text}
 use Rattle.zerotrie_build.specs.declared.steps.Step.TheVariants.{End, Branch}
-use Rattle.zerotrie_build.specs.declared.measuring.Target.{Target}
 use Rattle.zerotrie_build.specs.passes.Windows.{cut, window, edge_of, step_of}
-use Rattle.zerotrie_build.specs.passes.Measured.{IsMeasured, IsOpen, Groups, part, edges_of, lengths_of, no_window, no_target, window_at, target_at}
+use Rattle.zerotrie_build.specs.passes.Measured.{Stops, IsOpen, Groups, Parts, sizes_of}
 use Rattle.zerotrie_build.specs.passes.Puts.{Puts}
-use Rattle.zerotrie_build.specs.passes.Writing.{Listed, Texts, FrontPut, IsLaid, numbers_of, edge_no, lens_of}
+use Rattle.zerotrie_build.specs.passes.Writing.{no_window, window_at, edge_no, lens_of, placed_next, next_of, Listed, Texts, FrontPut, IsLaid, HasSlots, Leads}
 use Rattle.zerotrie_build.proofs.Sorting.{ordered_distinct}
 use Rattle.zerotrie_build.proofs.PutLemmas.{puts_then, count_map, count_lens}
 use Rattle.zerotrie_build.proofs.WindowLemmas.{cut_none, cut_append, cut_whole, step_end}
-use Rattle.zerotrie_build.proofs.LayLemmas.{Up, up_of, up_count, map_both}
+use Rattle.zerotrie_build.proofs.LayLemmas.{Up, up_of, up_count, map_both, named, numbers_within}
+use Rattle.zerotrie_build.proofs.SlotLemmas.{Opened, opened, parts_same, each_count, slots_lens, next_leads, none_ends}
 use Rattle.zerotrie_build.proofs.ListedLemmas.{Same, listed_nothing, listed_some, listed_long}
-use Rattle.zerotrie_build.proofs.FrontLemmas.{Going, on_stop, window_some}
+use Rattle.zerotrie_build.proofs.FrontLemmas.{Going, on_stop, behind_same, window_some}
 
 -- What the pairs of windows answer, each behind its edge.
 record Answers (all : Pairs) (ws : List Window) (pairs : Pairs) : Type 0 where
@@ -162,50 +164,40 @@ groups_within all d from to [] within g i h = absurd (omega arith)
 groups_within all d from to (c ∷ cs) within g zero h = let a = g.0 in let b = g.2 in let m = g.3 in omega arith
 groups_within all d from to (c ∷ cs) within g (suc i) h = groups_within all d c.to to cs within g.5 i (omega arith)
 
+map_count : {A B : Type 0} (f : A → B) (xs : List A) → length (map f xs) ≡ length xs
+map_count f [] = refl
+map_count f (x ∷ xs) = ap suc (map_count f xs)
+
+map_same : {A : Type 0} (xs : List A) → map (λ x. x) xs ≡ xs
+map_same [] = refl
+map_same (x ∷ xs) = ap (λ r. x ∷ r) (map_same xs)
+
 texts_count : (kind : Kind) (all : Pairs) (ws : List Window) (texts : List (List ℕ)) → Texts kind all ws texts → length texts ≡ length ws
 texts_count kind all [] [] h = refl
 texts_count kind all [] (t ∷ ts) h = absurd h
 texts_count kind all (w ∷ ws) [] h = absurd h
 texts_count kind all (w ∷ ws) (t ∷ ts) h = ap suc (texts_count kind all ws ts h.1)
 
--- the numbers of a range name a part of a list
-pub ranged : {A B : Type 0} (f : A → B) (xs : List A) (d : A) (s n : ℕ) → s + n ≤ length xs → map (λ i. f (get_or xs i d)) (range_with_len s n) ≡ map f (take n (drop s xs))
-ranged f xs d s zero h = refl
-ranged f xs d s (suc n) h =
-    ap (λ r. f (get_or xs s d) ∷ r) (ranged f xs d (s + 1) n (omega arith))
-    ∙ sym (ap (λ x. map f (take (suc n) x)) (drop_more xs s d (omega arith)))
-
-map_same : {A : Type 0} (xs : List A) → map (λ x. x) xs ≡ xs
-map_same [] = refl
-map_same (x ∷ xs) = ap (λ r. x ∷ r) (map_same xs)
-
-pub part_len : {A : Type 0} (t : Target) (xs : List A) → t.end ≤ length xs → length (part t xs) ≡ t.end - t.first
-part_len t xs h = length-take-le (t.end - t.first) (drop t.first xs) (let l = length-drop t.first xs in omega arith)
-
--- the numbers of the targets are numbers of windows
-numbers_within : (first count high : ℕ) (numbers : List ℕ) → IsPermutation (range_with_len first count) numbers → first + count ≤ high → (k : ℕ) → k < length numbers → get_or numbers k 0 < high
-numbers_within first count high numbers perm le k h =
-    let x = get_or numbers k 0 in
-    let range = range_with_len first count in
-    let c : Contains range x = Contains-permutation numbers range x (IsPermutation-sym range numbers perm) (k, h, get_or_default numbers k x 0 h) in
-    let l = length-range_with_len first count in
-    let i = c.0 in
-    let below : i < count = (let b = c.1 in omega arith) in
-    let is = get_or-range_with_len first count i x below in
-    let same = c.2 in
-    omega arith
-
 by_recursion : (high : ℕ) (xs : List ℕ) → ((k : ℕ) → k < length xs → get_or xs k 0 < high) → AllByRecursion (λ j. j < high) xs
 by_recursion high [] h = tt
 by_recursion high (x ∷ xs) h = (h 0 (omega arith), by_recursion high xs (λ k l. h (suc k) (omega arith)))
 
-lens_are : (kind : Kind) (all : Pairs) (windows : List Window) (targets : List Target) (numbers : List ℕ) (texts : List (List ℕ)) → ((j : ℕ) → j < length windows → (target_at targets j).len ≡ size_of kind (window all (window_at windows j)))
-    → AllByRecursion (λ j. j < length windows) numbers → Texts kind all (map (window_at windows) numbers) texts → lens_of targets numbers ≡ map length texts
-lens_are kind all windows targets [] [] sized within h = refl
-lens_are kind all windows targets [] (t ∷ ts) sized within h = absurd h
-lens_are kind all windows targets (j ∷ ns) [] sized within h = absurd h
-lens_are kind all windows targets (j ∷ ns) (t ∷ ts) sized within h =
-    ap (λ x. x ∷ lens_of targets ns) (sized j within.0 ∙ sym (listed_long h.0)) ∙ ap (λ r. length t ∷ r) (lens_are kind all windows targets ns ts sized within.1 h.1)
+-- the lengths of the targets in the order of the table
+pub sizes_at : (kind : Kind) (all : Pairs) (cs : List Window) (numbers : List ℕ) → AllByRecursion (λ j. j < length cs) numbers → lens_of (sizes_of kind all cs) numbers ≡ sizes_of kind all (map (window_at cs) numbers)
+sizes_at kind all cs [] within = refl
+sizes_at kind all cs (j ∷ numbers) within =
+    let here : get_or (sizes_of kind all cs) j 0 ≡ size_of kind (window all (window_at cs j)) =
+    get_or-map (size_of kind) (map (window all) cs) j [] 0 (let n = map_count (window all) cs in let l = within.0 in omega arith) ∙ ap (size_of kind) (get_or-map (window all) cs j no_window [] within.0) in
+    ap (λ x. x ∷ lens_of (sizes_of kind all cs) numbers) here ∙ ap (λ r. size_of kind (window all (window_at cs j)) ∷ r) (sizes_at kind all cs numbers within.1)
+
+pub sizes_count : (kind : Kind) (all : Pairs) (cs : List Window) → length (sizes_of kind all cs) ≡ length cs
+sizes_count kind all cs = map_count (size_of kind) (map (window all) cs) ∙ map_count (window all) cs
+
+texts_sizes : (kind : Kind) (all : Pairs) (ws : List Window) (texts : List (List ℕ)) → Texts kind all ws texts → sizes_of kind all ws ≡ map length texts
+texts_sizes kind all [] [] h = refl
+texts_sizes kind all [] (t ∷ ts) h = absurd h
+texts_sizes kind all (w ∷ ws) [] h = absurd h
+texts_sizes kind all (w ∷ ws) (t ∷ ts) h = ap (λ x. x ∷ sizes_of kind all ws) (sym (listed_long h.0)) ∙ ap (λ r. length t ∷ r) (texts_sizes kind all ws ts h.1)
 
 fold_below : (kind : Kind) (b : ℕ) → b < edge_limit kind → fold_byte kind b < 256
 fold_below simple_ascii b h = omega arith
@@ -256,141 +248,261 @@ size_many kind n = many (is_hashed kind n)
     many false = omega arith
 
 -- What is known of the targets of a branch, in the order of its table.
-record Turned (kind : Kind) (all : Pairs) (windows : List Window) (targets : List Target) (t : Target) (table numbers : List ℕ) : Type 0 where
-  count : length numbers ≡ t.end - t.first
-  within : AllByRecursion (λ j. j < length windows) numbers
-  perm : IsPermutation (part t windows) (map (window_at windows) numbers)
-  is_table : IsTable kind (map (edge_of all) (map (window_at windows) numbers)) table
-  low : All (λ b. b < edge_limit kind) (map (edge_of all) (map (window_at windows) numbers))
-  most : length (map (edge_of all) (map (window_at windows) numbers)) ≤ 256
-  lens : total (lens_of targets numbers) ≡ total (lengths_of targets t)
+record Turned (kind : Kind) (all : Pairs) (cs : List Window) (table numbers : List ℕ) : Type 0 where
+  count : length numbers ≡ length cs
+  within : AllByRecursion (λ j. j < length cs) numbers
+  perm : IsPermutation cs (map (window_at cs) numbers)
+  is_table : IsTable kind (map (edge_of all) (map (window_at cs) numbers)) table
+  low : All (λ b. b < edge_limit kind) (map (edge_of all) (map (window_at cs) numbers))
+  most : length (map (edge_of all) (map (window_at cs) numbers)) ≤ 256
+  lens : lens_of (sizes_of kind all cs) numbers ≡ sizes_of kind all (map (window_at cs) numbers)
+  sum : total (sizes_of kind all (map (window_at cs) numbers)) ≡ total (sizes_of kind all cs)
 
-turned : (kind : Kind) (all : Pairs) (windows : List Window) (targets : List Target) (w : Window) (t : Target) (table numbers : List ℕ) → length targets ≡ length windows → IsOpen kind all windows targets w t
-    → IsLaid kind (edge_no all windows) t.first (t.end - t.first) table numbers → Turned kind all windows targets t table numbers
-turned kind all windows targets w t table numbers same o laid =
-    let n = t.end - t.first in
-    let range = range_with_len t.first n in
-    let order = o.first_end in
-    let inside = o.end_within in
-    let named : map (window_at windows) range ≡ part t windows = ranged (λ (x : Window). x) windows no_window t.first n (omega arith) ∙ map_same (part t windows) in
-    let perm : IsPermutation (part t windows) (map (window_at windows) numbers) =
-    subst (λ x. IsPermutation x (map (window_at windows) numbers)) named (IsPermutation-map (window_at windows) range numbers laid.permutation) in
-    let es = map (edge_of all) (map (window_at windows) numbers) in
-    let long = length_permutation range numbers laid.permutation ∙ length-range_with_len t.first n in
-    let lens = sum_by-IsPermutation (λ x. x) (lens_of targets range) (lens_of targets numbers) (IsPermutation-map (λ j. (target_at targets j).len) range numbers laid.permutation) in
-    let most = edges_most kind (edges_of all windows t) o.rises o.low in
-    let count = count_map (edge_of all) (part t windows) ∙ part_len t windows inside in
-    let es_count = count_map (edge_of all) (map (window_at windows) numbers) ∙ length_permutation (part t windows) (map (window_at windows) numbers) perm ∙ part_len t windows inside in
+turned : {kind : Kind} {all : Pairs} {w : Window} {cs : List Window} {table numbers : List ℕ} → IsOpen kind all w cs → IsLaid kind (edge_no all cs) (length cs) table numbers → Turned kind all cs table numbers
+turned {kind = kind} {all = all} {w = w} {cs = cs} {table = table} {numbers = numbers} o laid =
+    let n = length cs in
+    let range = range_with_len 0 n in
+    let all_named : map (window_at cs) range ≡ cs = named (λ (x : Window). x) cs no_window ∙ map_same cs in
+    let vs = map (window_at cs) numbers in
+    let perm : IsPermutation cs vs = subst (λ x. IsPermutation x vs) all_named (IsPermutation-map (window_at cs) range numbers laid.permutation) in
+    let within = by_recursion n numbers (λ k h. numbers_within n numbers laid.permutation k 0 h) in
+    let size : Window → ℕ = λ x. size_of kind (window all x) in
+    let sum = sum_by-IsPermutation (λ x. x) (map size cs) (map size vs) (IsPermutation-map size cs vs perm) in
+    let most = edges_most kind (map (edge_of all) cs) o.rises o.low in
+    let es = count_map (edge_of all) cs in
+    let es_count = count_map (edge_of all) vs ∙ length_permutation cs vs perm in
     record {
-      count = long;
-      within = by_recursion (length windows) numbers (numbers_within t.first n (length windows) numbers laid.permutation (omega arith));
+      count = length_permutation range numbers laid.permutation ∙ length-range_with_len 0 n;
+      within = within;
       perm = perm;
-      is_table = subst (λ x. IsTable kind x table) (sym (map_both (edge_of all) (window_at windows) numbers)) laid.is_table;
-      low = All-map-IsPermutation (edge_of all) (λ b. b < edge_limit kind) (part t windows) (map (window_at windows) numbers) perm o.low;
+      is_table = subst (λ x. IsTable kind x table) (sym (map_both (edge_of all) (window_at cs) numbers)) laid.is_table;
+      low = All-map-IsPermutation (edge_of all) (λ b. b < edge_limit kind) cs vs perm o.low;
       most = omega arith;
-      lens = lens ∙ ap total (ranged (λ (u : Target). u.len) targets no_target t.first n (omega arith));
+      lens = sizes_at kind all cs numbers within;
+      sum = ap total (map_both (size_of kind) (window all) vs) ∙ sum ∙ ap total (sym (map_both (size_of kind) (window all) cs));
     }
 
-map_count : (windows : List Window) (ns : List ℕ) → length (map (window_at windows) ns) ≡ length ns
-map_count windows [] = refl
-map_count windows (j ∷ ns) = ap suc (map_count windows ns)
-
 -- a branch in front of texts of its targets
-branch_text : (kind : Kind) (all : Pairs) (windows : List Window) (targets : List Target) (t : Target) (d from to : ℕ) (table numbers : List ℕ) (texts : List (List ℕ)) → Turned kind all windows targets t table numbers
-    → to ≤ length all → Groups all d from to (part t windows) → IsStrictlyIncreasing (map (fold_byte kind) (edges_of all windows t)) → 2 ≤ length numbers → total (lens_of targets numbers) < 256 ^ (greatest_width kind + 1)
-    → lens_of targets numbers ≡ map length texts → Texts kind all (map (window_at windows) numbers) texts → Listed kind (branch_front table (lens_of targets numbers) ++ concat texts) (cut all from to d)
-branch_text kind all windows targets t d from to table numbers texts b within g rises two narrow lens h =
-    let ws = part t windows in
-    let vs = map (window_at windows) numbers in
+branch_text : {kind : Kind} {all : Pairs} {w : Window} {cs : List Window} {table numbers : List ℕ} (o : IsOpen kind all w cs) (texts : List (List ℕ)) → Turned kind all cs table numbers
+    → o.behind.to ≤ length all → 2 ≤ length numbers → Texts kind all (map (window_at cs) numbers) texts → Listed kind (branch_front table (sizes_of kind all (map (window_at cs) numbers)) ++ concat texts) (window all o.behind)
+branch_text {kind = kind} {all = all} {cs = cs} {table = table} {numbers = numbers} o texts b within two h =
+    let vs = map (window_at cs) numbers in
     let es = map (edge_of all) vs in
+    let last = o.behind in
     let each = texts_each kind all vs texts (apart_distinct kind all vs (table_distinct b.is_table))
-    (λ i l e. let m = moved vs ws i (IsPermutation-sym ws vs b.perm) l in groups_some all d from to ws within g m.0 m.1 (ap (window all) m.2 ∙ e)) h in
-    let window_answers = groups_answers all d from to ws g (apart_up kind all ws (up_of _ rises)) in
+    (λ i l e. let m = moved vs cs i (IsPermutation-sym cs vs b.perm) l in groups_some all last.depth last.from last.to cs within o.groups m.0 m.1 (ap (window all) m.2 ∙ e)) h in
+    let window_answers = groups_answers all last.depth last.from last.to cs o.groups (apart_up kind all cs (up_of _ o.rises)) in
     let texts_are = texts_count kind all vs texts h in
     let es_are = count_map (edge_of all) vs in
-    let vs_are = map_count windows numbers in
+    let vs_are = map_count (window_at cs) numbers in
     let long = total-lengths texts in
+    let lens = texts_sizes kind all vs texts h in
     let sum = ap total lens in
+    let whole = b.sum in
+    let narrow = o.narrow in
     let made = branch_made kind es table texts (omega arith) b.most (texts_are ∙ sym es_are) b.low b.is_table (omega arith) in
     record {
       listed = each.listed;
       lists = subst (λ x. Rattle.zerotrie_core.specs.Texts.Lists kind (branch_front table x ++ concat texts) each.listed) (sym lens) (branch made each.each);
-      same = answers_same all vs ws each.listed (cut all from to d) (IsPermutation-sym ws vs b.perm) each.answers window_answers.1;
+      same = answers_same all vs cs each.listed (window all last) (IsPermutation-sym cs vs b.perm) each.answers window_answers.1;
     }
 
 -- how long a branch in front of its targets is
-front_size : (kind : Kind) (all : Pairs) (windows : List Window) (targets : List Target) (w : Window) (t : Target) (table numbers : List ℕ) → length targets ≡ length windows → IsOpen kind all windows targets w t
-    → Turned kind all windows targets t table numbers → (length (branch_front table (lens_of targets numbers)) ≡ branch_size kind (lengths_of targets t)) × (length numbers ≤ length (branch_front table (lens_of targets numbers)))
-front_size kind all windows targets w t table numbers same o b =
-    let lens = lens_of targets numbers in
-    let ls = lengths_of targets t in
-    let es = map (edge_of all) (map (window_at windows) numbers) in
-    let inside = o.end_within in
-    let n1 = count_lens targets numbers in
-    let n2 = count_map (λ (u : Target). u.len) (part t targets) ∙ part_len t targets (omega arith) in
-    let n3 = count_map (edge_of all) (map (window_at windows) numbers) ∙ map_count windows numbers in
+front_size : {kind : Kind} {all : Pairs} {w : Window} {cs : List Window} {table numbers : List ℕ} → IsOpen kind all w cs → Turned kind all cs table numbers
+    → (length (branch_front table (sizes_of kind all (map (window_at cs) numbers))) ≡ branch_size kind (sizes_of kind all cs))
+    × (table_size kind (length cs) + (length cs - 1) ≤ length (branch_front table (sizes_of kind all (map (window_at cs) numbers))))
+front_size {kind = kind} {all = all} {cs = cs} {table = table} {numbers = numbers} o b =
+    let vs = map (window_at cs) numbers in
+    let lens = sizes_of kind all vs in
+    let ls = sizes_of kind all cs in
+    let es = map (edge_of all) vs in
+    let n0 = map_count (window_at cs) numbers in
+    let n1 = sizes_count kind all vs in
+    let n2 = sizes_count kind all cs in
+    let n3 = count_map (edge_of all) vs in
     let c = b.count in
     let a = length-branch_front table lens in
     let bare = length-branch_front [] ls in
-    let f : front_len (total lens) (length lens) ≡ front_len (total ls) (length ls) = ap (λ x. front_len x (length lens)) b.lens ∙ ap (front_len (total ls)) (let e : length lens ≡ length ls = omega arith in e) in
+    let f : front_len (total lens) (length lens) ≡ front_len (total ls) (length ls) = ap (λ x. front_len x (length lens)) b.sum ∙ ap (front_len (total ls)) (let e : length lens ≡ length ls = omega arith in e) in
     let size = length-table b.is_table in
-    let here : table_size kind (length es) ≡ table_size kind (length ls) = ap (table_size kind) (let e : length es ≡ length ls = omega arith in e) in
-    let many = size_many kind (length es) in
+    let here : table_size kind (length es) ≡ table_size kind (length cs) = ap (table_size kind) (let e : length es ≡ length cs = omega arith in e) in
+    let there : table_size kind (length ls) ≡ table_size kind (length cs) = ap (table_size kind) n2 in
+    let offsets : length cs - 1 ≤ front_len (total lens) (length lens) = (let m = mul-le-mul {n₁ = 1} {m₁ = length lens - 1} {n₂ = width (total lens) + 1} {m₂ = length lens - 1} (omega arith) (omega arith) in omega arith) in
     (omega arith, omega arith)
 
--- a branch was written
-pub front_branch : {kind : Kind} {all : Pairs} {windows : List Window} {targets : List Target} {list : List ℕ} {at : ℕ} {list' : List ℕ} {at' : ℕ} {rest : Window} (list'' : List ℕ) (at'' i : ℕ) (table numbers : List ℕ)
-    → IsMeasured kind all windows targets → (o : IsOpen kind all windows targets (window_at windows i) (target_at targets i)) → Going kind all (window_at windows i) o.bytes o.behind list at list' at' rest
-    → step_of kind all rest ≡ Branch → IsLaid kind (edge_no all windows) (target_at targets i).first ((target_at targets i).end - (target_at targets i).first) table numbers
-    → Puts list' at' list'' at'' (branch_front table (lens_of targets numbers)) → FrontPut kind all windows targets i numbers list at list'' at''
-front_branch {kind = kind} {all = all} {windows = windows} {targets = targets} {rest = rest} list'' at'' i table numbers m o g e laid p =
-    let w = window_at windows i in
-    let t = target_at targets i in
+-- what of the slots leads to the targets of a branch
+pub branch_slots : {kind : Kind} {all : Pairs} {slots : List ℕ} {slot end : ℕ} {w : Window} {list : List ℕ} {at : ℕ} {list' : List ℕ} {at' : ℕ} {rest : Window} (k : Opened kind all slots slot end w)
+    → Going kind all w k.known.bytes k.known.behind list at list' at' rest → step_of kind all rest ≡ Branch → HasSlots kind all rest slots slot
+branch_slots {kind = kind} {all = all} k g e =
+    let o = k.known in
     let s = on_stop g.run (inr e) in
     let n = o.some (ap (step_of kind all) s.0 ∙ e) in
-    let b = turned kind all windows targets w t table numbers m.count o laid in
-    let lens = lens_of targets numbers in
-    let front = branch_front table lens in
-    let groups : Groups all rest.depth rest.from rest.to (part t windows) = subst (λ x. Groups all x.depth x.from x.to (part t windows)) s.0 o.groups in
-    let to_is = g.to_is in
-    let within = o.within in
-    let narrow = o.narrow in
-    let same = b.lens in
-    let two : 2 ≤ length numbers = (let c = b.count in let k = n.0 in omega arith) in
-    let long = front_size kind all windows targets w t table numbers m.count o b in
     record {
-      front = g.done ++ front;
-      puts = puts_then _ _ _ _ _ _ _ _ g.puts p;
-      sized = (let a = length-append g.done front in let z = g.sized in let c = s.1 in let d = n.1 in let l = long.0 in omega arith);
-      many = (let a = length-append g.done front in let l = long.1 in omega arith);
-      within = b.within;
-      lists = λ texts h. subst (λ x. Listed kind x (window all w)) (sym (append_assoc g.done front (concat texts)))
-          (g.lists (front ++ concat texts) (branch_text kind all windows targets t rest.depth rest.from rest.to table numbers texts b (omega arith) groups o.rises two (omega arith)
-          (lens_are kind all windows targets numbers texts (λ j l. (m.each j l).len) b.within h) h));
+      windows = k.cs;
+      parts = subst (λ x. Parts all x k.cs) s.0 o.parts;
+      some = (let t = n.0 in omega arith);
+      rises = o.rises;
+      lens = sizes_of kind all k.cs;
+      below = k.below;
+      more = k.more;
+      slots_are = k.slots_are;
+      lens_each = sizes_count kind all k.cs;
+      below_each = each_count k.each;
     }
 
--- what the layout of a branch asks
-pub branch_items : {kind : Kind} {all : Pairs} {windows : List Window} {targets : List Target} {w : Window} {t : Target} {list : List ℕ} {at : ℕ} {list' : List ℕ} {at' : ℕ} {rest : Window}
-    → (o : IsOpen kind all windows targets w t) → Going kind all w o.bytes o.behind list at list' at' rest → step_of kind all rest ≡ Branch → (i : ℕ) → t.first ≤ i → i < t.end → (window_at windows i).from < length all
-branch_items {all = all} {windows = windows} {t = t} {rest = rest} o g e i from to =
+-- a window that ends with its values, literals and spans has no more slots, and one with a branch those of the branch
+pub branch_same : {kind : Kind} {all : Pairs} {slots : List ℕ} {slot end last : ℕ} {w : Window} {list : List ℕ} {at : ℕ} {list' : List ℕ} {at' : ℕ} {rest : Window} (k : Opened kind all slots slot end w) (other : Opened kind all slots slot last w)
+    → Going kind all w k.known.bytes k.known.behind list at list' at' rest → Stops kind all rest → (other.known.behind ≡ rest) × (other.cs ≡ k.cs)
+branch_same {all = all} k other g stops =
+    let s = on_stop g.run stops in
+    let same = behind_same other.known.run other.known.stops k.known.run k.known.stops in
+    (same ∙ s.0, parts_same all k.known.behind other.cs k.cs (subst (λ x. Parts all x other.cs) same other.known.parts) k.known.parts)
+
+-- the windows that were found are those of the targets
+pub branch_windows : {kind : Kind} {all : Pairs} {slots : List ℕ} {slot end : ℕ} {w : Window} {list : List ℕ} {at : ℕ} {list' : List ℕ} {at' : ℕ} {rest : Window} (k : Opened kind all slots slot end w)
+    → Going kind all w k.known.bytes k.known.behind list at list' at' rest → step_of kind all rest ≡ Branch → {table numbers : List ℕ} (ws : List Window) → Parts all rest ws
+    → IsLaid kind (edge_no all ws) (length ws) table numbers → (ws ≡ k.cs) × IsLaid kind (edge_no all k.cs) (length k.cs) table numbers
+branch_windows {kind = kind} {all = all} {rest = rest} k g e {table = table} {numbers = numbers} ws parts laid =
+    let same = parts_same all rest ws k.cs parts (subst (λ x. Parts all x k.cs) (on_stop g.run (inr e)).0 k.known.parts) in
+    (same, subst (λ x. IsLaid kind (edge_no all x) (length x) table numbers) same laid)
+
+branch_two : {kind : Kind} {all : Pairs} {slots : List ℕ} {slot end : ℕ} {w : Window} {list : List ℕ} {at : ℕ} {list' : List ℕ} {at' : ℕ} {rest : Window} (k : Opened kind all slots slot end w)
+    → Going kind all w k.known.bytes k.known.behind list at list' at' rest → step_of kind all rest ≡ Branch → 2 ≤ length k.cs
+branch_two {kind = kind} {all = all} k g e = let s = on_stop g.run (inr e) in (k.known.some (ap (step_of kind all) s.0 ∙ e)).0
+
+-- the slots with the lengths of the targets
+pub branch_lens : {kind : Kind} {all : Pairs} {slots : List ℕ} {slot end : ℕ} {w : Window} {list : List ℕ} {at : ℕ} {list' : List ℕ} {at' : ℕ} {rest : Window} {table numbers : List ℕ} (k : Opened kind all slots slot end w)
+    → Going kind all w k.known.bytes k.known.behind list at list' at' rest → step_of kind all rest ≡ Branch → IsLaid kind (edge_no all k.cs) (length k.cs) table numbers
+    → (n : ℕ) → n ≡ length numbers → (take (slot + n - slot) (drop slot slots) ≡ sizes_of kind all k.cs) × (slot + n ≤ length slots)
+branch_lens {kind = kind} {all = all} {slots = slots} {slot = slot} k g e laid n count =
+    let two = branch_two k g e in
+    let many = count ∙ (turned k.known laid).count in
+    let l = slots_lens kind slots slot (length k.cs) (sizes_of kind all k.cs) k.below k.more (sizes_count kind all k.cs) (omega arith) k.slots_are in
+    (ap (λ x. take x (drop slot slots)) (let z : slot + n - slot ≡ length k.cs = omega arith in z) ∙ l.0, (let r = l.1 in omega arith))
+
+-- what the writing of a branch asks
+pub branch_numbers : {kind : Kind} {all : Pairs} {w : Window} {cs : List Window} {table numbers : List ℕ} → IsOpen kind all w cs → IsLaid kind (edge_no all cs) (length cs) table numbers
+    → (ls ns : List ℕ) → ls ≡ sizes_of kind all cs → ns ≡ numbers → All (λ i. i < length ls) ns
+branch_numbers {kind = kind} {all = all} {cs = cs} {numbers = numbers} o laid ls ns ls_is ns_is =
+    let long = ap length ls_is ∙ sizes_count kind all cs in
+    subst (λ x. (k d : ℕ) → k < length x → get_or x k d < length ls) (sym ns_is) (λ k d h. let below = numbers_within (length cs) numbers laid.permutation k d h in omega arith)
+
+targets_lens : {kind : Kind} {all : Pairs} {w : Window} {cs : List Window} {table numbers : List ℕ} → IsOpen kind all w cs → IsLaid kind (edge_no all cs) (length cs) table numbers
+    → (ls ns : List ℕ) → ls ≡ sizes_of kind all cs → ns ≡ numbers → lens_of ls ns ≡ sizes_of kind all (map (window_at cs) numbers)
+targets_lens {kind = kind} {all = all} {cs = cs} o laid ls ns ls_is ns_is = ap (λ x. lens_of x ns) ls_is ∙ ap (λ x. lens_of (sizes_of kind all cs) x) ns_is ∙ (turned o laid).lens
+
+pub branch_small : {kind : Kind} {all : Pairs} {w : Window} {cs : List Window} {table numbers : List ℕ} → IsOpen kind all w cs → IsLaid kind (edge_no all cs) (length cs) table numbers
+    → (ls ns : List ℕ) → ls ≡ sizes_of kind all cs → ns ≡ numbers → total (lens_of ls ns) < 2 ^ 64
+branch_small {kind = kind} o laid ls ns ls_is ns_is =
+    let narrow = o.narrow in
+    let widest = greatest_width_most kind in
+    let most : 256 ^ (greatest_width kind + 1) ≤ 256 ^ 8 = pow-le-pow_right (lit< tt) (let k : greatest_width kind + 1 ≤ 8 = omega arith in k) in
+    let whole : 256 ^ 8 ≡ 2 ^ 64 = refl in
+    let is = ap total (targets_lens o laid ls ns ls_is ns_is) ∙ (turned o laid).sum in
+    omega arith
+
+front_same : (table tb lens ls : List ℕ) → tb ≡ table → ls ≡ lens → branch_front tb ls ≡ branch_front table lens
+front_same table tb lens ls a b = ap (λ x. branch_front x ls) a ∙ ap (branch_front table) b
+
+pub branch_room : {kind : Kind} {all : Pairs} {slots : List ℕ} {slot end : ℕ} {w : Window} {list : List ℕ} {at : ℕ} {list' : List ℕ} {at' : ℕ} {rest : Window} {table numbers : List ℕ} (k : Opened kind all slots slot end w)
+    → Going kind all w k.known.bytes k.known.behind list at list' at' rest → step_of kind all rest ≡ Branch → at + size_of kind (window all w) ≤ length list
+    → IsLaid kind (edge_no all k.cs) (length k.cs) table numbers → (tb ls ns : List ℕ) → tb ≡ table → ls ≡ sizes_of kind all k.cs → ns ≡ numbers → at' + length (branch_front tb (lens_of ls ns)) ≤ length list'
+branch_room {kind = kind} {all = all} {table = table} {numbers = numbers} k g e room laid tb ls ns tb_is ls_is ns_is =
+    let o = k.known in
     let s = on_stop g.run (inr e) in
-    let n = t.end - t.first in
-    let inside = o.end_within in
+    let n = o.some (ap (step_of kind all) s.0 ∙ e) in
+    let b = turned o laid in
+    let long = front_size o b in
+    let l0 = long.0 in
+    let is = ap length (front_same table tb _ (lens_of ls ns) tb_is (targets_lens o laid ls ns ls_is ns_is)) in
+    let a = g.puts.at_is in let l = g.puts.same in let z = g.sized in let c = s.1 in let d = n.1 in
+    omega arith
+
+-- what is written behind a branch is no more than its bytes
+next_count : (kind : Kind) (slots : List ℕ) (slot : ℕ) (cs : List Window) (numbers : List ℕ) → 2 ≤ length cs → length numbers ≡ length cs → length (next_of kind slots slot cs numbers) ≤ table_size kind (length cs) + (length cs - 1)
+next_count kind slots slot cs numbers two many = counted (is_hashed kind (length cs))
+  where
+    ends : List ℕ
+    ends = take (length cs) (drop (slot + length cs) slots)
+
+    from : ℕ
+    from = slot + 2 * length cs
+
+    count_placed : (ns : List ℕ) → length (placed_next ends from cs ns) ≡ 2 * length ns
+    count_placed [] = refl
+    count_placed (i ∷ ns) = let r = count_placed ns in omega arith
+
+    last : Next
+    last = Slot (from + get_or ends (length cs - 1) 0)
+
+    counted : (b : Bool) → length (cond b (placed_next ends from cs numbers ++ last ∷ []) (Slot (slot + length cs) ∷ map Text cs)) ≤ cond b (2 * length cs + 1) (length cs) + (length cs - 1)
+    counted true = let a = length-append (placed_next ends from cs numbers) (last ∷ []) in let p = count_placed numbers in omega (arith, two, many)
+    counted false = let a = map_count Text cs in omega (arith, two)
+
+leads_at : {kind : Kind} {all : Pairs} {slots : List ℕ} {slot end : ℕ} {w : Window} (k : Opened kind all slots slot end w) (cs : List Window) (numbers : List ℕ) → k.cs ≡ cs → 0 < length cs
+    → AllByRecursion (λ j. j < length cs) numbers → (is_hashed kind (length cs) ≡ false → map (window_at cs) numbers ≡ cs)
+    → (next : List Next) (ws : List Window) → Leads kind all slots end next ws → Leads kind all slots slot (next_of kind slots slot cs numbers ++ next) (map (window_at cs) numbers ++ ws)
+leads_at {kind = kind} {all = all} {slots = slots} {slot = slot} {end = end} k cs numbers same =
+    subst (λ x. 0 < length x → AllByRecursion (λ j. j < length x) numbers → (is_hashed kind (length x) ≡ false → map (window_at x) numbers ≡ x)
+    → (next : List Next) (ws : List Window) → Leads kind all slots end next ws → Leads kind all slots slot (next_of kind slots slot x numbers ++ next) (map (window_at x) numbers ++ ws))
+    same (next_leads k numbers)
+
+-- a branch was written
+pub front_branch : {kind : Kind} {all : Pairs} {slots : List ℕ} {slot end : ℕ} {w : Window} {list : List ℕ} {at : ℕ} {list' : List ℕ} {at' : ℕ} {rest : Window} {table numbers : List ℕ} (list'' : List ℕ) (at'' : ℕ) (k : Opened kind all slots slot end w)
+    → Going kind all w k.known.bytes k.known.behind list at list' at' rest → step_of kind all rest ≡ Branch → IsLaid kind (edge_no all k.cs) (length k.cs) table numbers
+    → (tb ls ns : List ℕ) → tb ≡ table → ls ≡ sizes_of kind all k.cs → ns ≡ numbers → Puts list' at' list'' at'' (branch_front tb (lens_of ls ns))
+    → (next : List Next) → next ≡ next_of kind slots slot k.cs numbers → FrontPut kind all slots slot w next list at list'' at''
+front_branch {kind = kind} {all = all} {slots = slots} {slot = slot} {end = end} {w = w} {list = list} {at = at} {list' = list'} {at' = at'} {rest = rest} {table = table} {numbers = numbers} list'' at'' k g e laid tb ls ns tb_is ls_is ns_is p next next_is =
+    let o = k.known in
+    let cs = k.cs in
+    let vs = map (window_at cs) numbers in
+    let s = on_stop g.run (inr e) in
+    let n = o.some (ap (step_of kind all) s.0 ∙ e) in
+    let b = turned o laid in
+    let front = branch_front table (sizes_of kind all vs) in
+    let put : Puts list' at' list'' at'' front = subst (Puts list' at' list'' at'') (front_same table tb (sizes_of kind all vs) (lens_of ls ns) tb_is (targets_lens o laid ls ns ls_is ns_is)) p in
     let to_is = g.to_is in
-    let within = o.within in
-    let groups : Groups all rest.depth rest.from rest.to (part t windows) = subst (λ x. Groups all x.depth x.from x.to (part t windows)) s.0 o.groups in
-    let named : map (window_at windows) (range_with_len t.first n) ≡ part t windows = ranged (λ (x : Window). x) windows no_window t.first n (omega arith) ∙ map_same (part t windows) in
-    let here : get_or (part t windows) (i - t.first) no_window ≡ window_at windows i =
-    ap (λ xs. get_or xs (i - t.first) no_window) (sym named) ∙ get_or-map-range_with_len (window_at windows) t.first n (i - t.first) i no_window (omega arith) (omega arith) in
-    let long = part_len t windows inside in
-    subst (λ x. x.from < length all) here (groups_within all rest.depth rest.from rest.to (part t windows) (omega arith) groups (i - t.first) (omega arith))
+    let inside = o.within in
+    let whole = ap (λ x. x.to) s.0 in
+    let same = b.sum in
+    let two : 2 ≤ length numbers = (let c = b.count in let t = n.0 in omega arith) in
+    let long = front_size o b in
+    record {
+      targets = vs;
+      front = g.done ++ front;
+      puts = puts_then _ _ _ _ _ _ _ _ g.puts put;
+      sized = (let a = length-append g.done front in let z = g.sized in let c = s.1 in let d = n.1 in let l = long.0 in omega arith);
+      many = (let a = length-append g.done front in let l = long.1 in let c = ap length next_is in let m = next_count kind slots slot cs numbers n.0 b.count in omega arith);
+      lists = λ texts h. subst (λ x. Listed kind x (window all w)) (sym (append_assoc g.done front (concat texts)))
+          (g.lists (front ++ concat texts) (subst (λ x. Listed kind (front ++ concat texts) (window all x)) s.0 (branch_text o texts b (omega arith) two h)));
+      leads = λ last more ws kept then.
+          (let other = opened kept in
+          subst (λ x. Leads kind all slots slot (x ++ more) (vs ++ ws)) (sym next_is)
+          (leads_at other cs numbers (branch_same k other g (inr e)).1 (let t = n.0 in omega arith) b.within
+          (λ h. ap (map (window_at cs)) (laid.in_order h) ∙ named (λ (x : Window). x) cs no_window ∙ map_same cs) more ws then));
+    }
 
-named_edges : {kind : Kind} {all : Pairs} {windows : List Window} {targets : List Target} {w : Window} {t : Target} → IsOpen kind all windows targets w t → map (edge_no all windows) (numbers_of t) ≡ edges_of all windows t
-named_edges {all = all} {windows = windows} {t = t} o = let inside = o.end_within in let order = o.first_end in ranged (edge_of all) windows no_window t.first (t.end - t.first) (omega arith)
-
-pub branch_rises : {kind : Kind} {all : Pairs} {windows : List Window} {targets : List Target} {w : Window} {t : Target} → IsOpen kind all windows targets w t
-    → IsStrictlyIncreasing (map (fold_byte kind) (map (edge_no all windows) (numbers_of t)))
-branch_rises {kind = kind} o = subst (λ x. IsStrictlyIncreasing (map (fold_byte kind) x)) (sym (named_edges o)) o.rises
+-- no branch was there to write
+pub front_end : {kind : Kind} {all : Pairs} {slots : List ℕ} {slot end : ℕ} {w : Window} {list : List ℕ} {at : ℕ} {list' : List ℕ} {at' : ℕ} {rest : Window} (k : Opened kind all slots slot end w)
+    → Going kind all w k.known.bytes k.known.behind list at list' at' rest → step_of kind all rest ≡ End → (next : List Next) → next ≡ [] → FrontPut kind all slots slot w next list at list' at'
+front_end {kind = kind} {all = all} {slots = slots} {slot = slot} {w = w} {list = list} {at = at} {list' = list'} {at' = at'} {rest = rest} k g e next none =
+    let s = on_stop g.run (inl e) in
+    let n = k.known.none (ap (step_of kind all) s.0 ∙ e) in
+    subst (λ x. FrontPut kind all slots slot w x list at list' at') (sym none) (record {
+      targets = [];
+      front = g.done;
+      puts = g.puts;
+      sized = (let b = g.sized in let c = s.1 in let d = n.1 in let z : total [] ≡ 0 = refl in omega arith);
+      many = omega arith;
+      lists = λ texts h. whole texts h;
+      leads = λ last more ws kept then.
+          (let other = opened kept in
+          subst (λ x. Leads kind all slots x more ws) (none_ends other ((branch_same k other g (inl e)).1 ∙ n.0)) then);
+    })
+  where
+    whole : (texts : List (List ℕ)) → Texts kind all [] texts → Listed kind (g.done ++ concat texts) (window all w)
+    whole [] h = g.lists [] (subst (Listed kind []) (sym (cut_none all rest.from rest.to rest.depth (step_end kind all rest e))) (listed_nothing kind))
+    whole (t ∷ ts) h = absurd h
 
 hashed_order : (kind : Kind) (n : ℕ) (es : List ℕ) → is_hashed kind n ≡ true → in_order kind es ≡ es
 hashed_order simple_ascii n es h = absurd (cc)
@@ -399,81 +511,17 @@ hashed_order perfect_hash n es h = refl
 hashed_order extended_capacity n es h = refl
 
 -- why a branch was refused
-pub branch_refused : {kind : Kind} {all : Pairs} {windows : List Window} {targets : List Target} {w : Window} {t : Target} (e : ZeroTrieBuildError) → IsMeasured kind all windows targets → IsOpen kind all windows targets w t
-    → (e ≢ OutOfMemory → (e ≡ CouldNotSolvePerfectHash) × AreCrooked kind (map (edge_no all windows) (numbers_of t))) → e ≢ OutOfMemory → (e ≡ CouldNotSolvePerfectHash) × Cause kind all e
-branch_refused {kind = kind} {all = all} {windows = windows} {t = t} e m o why some =
+pub branch_refused : {kind : Kind} {all : Pairs} {slots : List ℕ} {slot end : ℕ} {w : Window} {list : List ℕ} {at : ℕ} {list' : List ℕ} {at' : ℕ} {rest : Window} (err : ZeroTrieBuildError) (k : Opened kind all slots slot end w)
+    → Ordered kind all → Going kind all w k.known.bytes k.known.behind list at list' at' rest → step_of kind all rest ≡ Branch
+    → (err ≢ OutOfMemory → (err ≡ CouldNotSolvePerfectHash) × ((cs : List Window) → Parts all rest cs → AreCrooked kind (map (edge_of all) cs)))
+    → err ≢ OutOfMemory → (err ≡ CouldNotSolvePerfectHash) × Cause kind all err
+branch_refused {kind = kind} {all = all} err k up g e why some =
     let r = why some in
-    let es = edges_of all windows t in
-    let crooked : AreCrooked kind es = subst (AreCrooked kind) (named_edges o) r.1 in
+    let o = k.known in
+    let es = map (edge_of all) k.cs in
+    let crooked : AreCrooked kind es = r.1 k.cs (subst (λ x. Parts all x k.cs) (on_stop g.run (inr e)).0 o.parts) in
     let behind = behind_all o.front all in
     let are : es ≡ edges (behind_all o.front (entries (map_of all))) =
     sym o.edges_are ∙ hashed_order kind (length es) (edges behind) crooked.0
     ∙ sym (same-edges (behind_all o.front (entries (map_of all))) behind (same-behind o.front (entries (map_of all)) all (same-entries all))) in
-    let up : Ordered kind all = subst (Ordered kind) (ap (window all) m.whole ∙ cut_whole all) (m.each 0 m.some).ordered in
     (r.0, subst (Cause kind all) (sym r.0) (ordered_distinct kind all up, (o.front, subst (AreCrooked kind) are crooked)))
-
--- what the writing of a branch asks
-pub branch_numbers : {kind : Kind} {all : Pairs} {windows : List Window} {targets : List Target} {w : Window} {t : Target} {table numbers : List ℕ} (ts : List Target) (ns : List ℕ) → length targets ≡ length windows
-    → IsOpen kind all windows targets w t → IsLaid kind (edge_no all windows) t.first (t.end - t.first) table numbers → ts ≡ targets → ns ≡ numbers → All (λ i. i < length ts) ns
-branch_numbers {windows = windows} {t = t} {numbers = numbers} ts ns same o laid ts_is ns_is =
-    let inside = o.end_within in
-    let order = o.first_end in
-    let long = ap length ts_is in
-    subst (λ x. (k d : ℕ) → k < length x → get_or x k d < length ts) (sym ns_is) (λ k d h.
-    let below = numbers_within t.first (t.end - t.first) (length windows) numbers laid.permutation (omega arith) k h in
-    let at = get_or_default numbers k d 0 h in
-    omega arith)
-
-pub branch_small : {kind : Kind} {all : Pairs} {windows : List Window} {targets : List Target} {w : Window} {t : Target} {table numbers : List ℕ} (ts : List Target) (ns : List ℕ) → length targets ≡ length windows
-    → IsOpen kind all windows targets w t → IsLaid kind (edge_no all windows) t.first (t.end - t.first) table numbers → ts ≡ targets → ns ≡ numbers → total (lens_of ts ns) < 2 ^ 64
-branch_small {kind = kind} {all = all} {windows = windows} {targets = targets} {w = w} {t = t} {table = table} {numbers = numbers} ts ns same o laid ts_is ns_is =
-    let b = turned kind all windows targets w t table numbers same o laid in
-    let lens = b.lens in
-    let narrow = o.narrow in
-    let widest = greatest_width_most kind in
-    let most : 256 ^ (greatest_width kind + 1) ≤ 256 ^ 8 = pow-le-pow_right (lit< tt) (let k : greatest_width kind + 1 ≤ 8 = omega arith in k) in
-    let whole : 256 ^ 8 ≡ 2 ^ 64 = refl in
-    let is : total (lens_of ts ns) ≡ total (lens_of targets numbers) = ap (λ x. total (lens_of x ns)) ts_is ∙ ap (λ x. total (lens_of targets x)) ns_is in
-    omega arith
-
-front_same : (table tb : List ℕ) (targets ts : List Target) (numbers ns : List ℕ) → tb ≡ table → ts ≡ targets → ns ≡ numbers → branch_front tb (lens_of ts ns) ≡ branch_front table (lens_of targets numbers)
-front_same table tb targets ts numbers ns a b c = ap (λ x. branch_front x (lens_of ts ns)) a ∙ ap (λ x. branch_front table (lens_of x ns)) b ∙ ap (λ x. branch_front table (lens_of targets x)) c
-
-pub branch_room : {kind : Kind} {all : Pairs} {windows : List Window} {targets : List Target} {w : Window} {t : Target} {table numbers : List ℕ} {list : List ℕ} {at : ℕ} {list' : List ℕ} {at' : ℕ} {rest : Window}
-    (tb : List ℕ) (ts : List Target) (ns : List ℕ) → length targets ≡ length windows
-    → (o : IsOpen kind all windows targets w t) → Going kind all w o.bytes o.behind list at list' at' rest → step_of kind all rest ≡ Branch → at + t.len ≤ length list
-    → IsLaid kind (edge_no all windows) t.first (t.end - t.first) table numbers → tb ≡ table → ts ≡ targets → ns ≡ numbers → at' + length (branch_front tb (lens_of ts ns)) ≤ length list'
-branch_room {kind = kind} {all = all} {windows = windows} {targets = targets} {w = w} {t = t} {table = table} {numbers = numbers} tb ts ns same o g e room laid tb_is ts_is ns_is =
-    let s = on_stop g.run (inr e) in
-    let n = o.some (ap (step_of kind all) s.0 ∙ e) in
-    let b = turned kind all windows targets w t table numbers same o laid in
-    let long = front_size kind all windows targets w t table numbers same o b in
-    let l0 = long.0 in
-    let is = ap length (front_same table tb targets ts numbers ns tb_is ts_is ns_is) in
-    let a = g.puts.at_is in let l = g.puts.same in let z = g.sized in let c = s.1 in let d = n.1 in
-    omega arith
-
--- the branch as it was put
-pub branch_put : {list : List ℕ} {at : ℕ} {list' : List ℕ} {at' : ℕ} (table : List ℕ) (targets : List Target) (numbers tb : List ℕ) (ts : List Target) (ns : List ℕ) → tb ≡ table → ts ≡ targets → ns ≡ numbers
-    → Puts list at list' at' (branch_front tb (lens_of ts ns)) → Puts list at list' at' (branch_front table (lens_of targets numbers))
-branch_put {list = list} {at = at} {list' = list'} {at' = at'} table targets numbers tb ts ns a b c = subst (Puts list at list' at') (front_same table tb targets ts numbers ns a b c)
-
--- no branch was there to write
-pub front_end : {kind : Kind} {all : Pairs} {windows : List Window} {targets : List Target} {list : List ℕ} {at : ℕ} {list' : List ℕ} {at' : ℕ} {rest : Window} (i : ℕ) (numbers : List ℕ)
-    → (o : IsOpen kind all windows targets (window_at windows i) (target_at targets i)) → Going kind all (window_at windows i) o.bytes o.behind list at list' at' rest
-    → step_of kind all rest ≡ End → numbers ≡ [] → FrontPut kind all windows targets i numbers list at list' at'
-front_end {kind = kind} {all = all} {windows = windows} {targets = targets} {list = list} {at = at} {list' = list'} {at' = at'} {rest = rest} i numbers o g e none =
-    let s = on_stop g.run (inl e) in
-    let n = o.none (ap (step_of kind all) s.0 ∙ e) in
-    subst (λ x. FrontPut kind all windows targets i x list at list' at') (sym none) (record {
-      front = g.done;
-      puts = g.puts;
-      sized = (let b = g.sized in let c = s.1 in let d = n.1 in let z : total [] ≡ 0 = refl in omega arith);
-      many = omega arith;
-      within = tt;
-      lists = λ texts h. whole texts h;
-    })
-  where
-    whole : (texts : List (List ℕ)) → Texts kind all [] texts → Listed kind (g.done ++ concat texts) (window all (window_at windows i))
-    whole [] h = g.lists [] (subst (Listed kind []) (sym (cut_none all rest.from rest.to rest.depth (step_end kind all rest e))) (listed_nothing kind))
-    whole (t ∷ ts) h = absurd h

@@ -5,10 +5,10 @@ use Rattle.std.proofs.lemmas.List.{take_all}
 use Rattle.zerotrie_core.specs.Kind.{Kind, simple_ascii}
 use Rattle.zerotrie_core.specs.Numbers.{value_form, span_form, SpellsAs, spelled_as}
 use Rattle.zerotrie_core.specs.Maps.{Pairs, value_at}
+use Rattle.zerotrie_core.specs.Canonical.{size_of}
 use Rattle.zerotrie_build.specs.Order.{Ordered, AreKeys}
 use Rattle.zerotrie_build.specs.declared.steps.Window.{Window}
 use Rattle.zerotrie_build.specs.declared.steps.Step.TheVariants.{Value, Literal, Span}
-use Rattle.zerotrie_build.specs.declared.measuring.Target.{Target}
 use Rattle.zerotrie_build.specs.passes.Windows.{cut, window, item_of, high_front, step_of}
 use Rattle.zerotrie_build.specs.passes.Measured.{Run, Stops, IsOpen}
 use Rattle.zerotrie_build.specs.passes.Measured.Run.{here, value as run_value, literal as run_literal, span as run_span}
@@ -29,7 +29,7 @@ pub record Going (kind : Kind) (all : Pairs) (w : Window) (bytes : ℕ) (behind 
   pub ordered : Ordered kind (window all rest)
   pub to_is : rest.to ≡ w.to
 
-pub going_start : {kind : Kind} {all : Pairs} {windows : List Window} {targets : List Target} {w : Window} {t : Target} (list : List ℕ) (at : ℕ) (o : IsOpen kind all windows targets w t) → Going kind all w o.bytes o.behind list at list at w
+pub going_start : {kind : Kind} {all : Pairs} {w : Window} {cs : List Window} (list : List ℕ) (at : ℕ) (o : IsOpen kind all w cs) → Going kind all w o.bytes o.behind list at list at w
 going_start list at o = record {
   done = [];
   left = o.bytes;
@@ -91,6 +91,13 @@ on_stop (run_literal b f run) (inl s) = absurd (cc)
 on_stop (run_literal b f run) (inr s) = absurd (cc)
 on_stop (run_span m f run) (inl s) = absurd (cc)
 on_stop (run_span m f run) (inr s) = absurd (cc)
+
+-- the window behind the run is known
+pub behind_same : {kind : Kind} {all : Pairs} {w behind last : Window} {m n : ℕ} → Run kind all w behind m → Stops kind all behind → Run kind all w last n → Stops kind all last → behind ≡ last
+behind_same here s run stops = sym (on_stop run s).0
+behind_same (run_value v f r) s run stops = behind_same r s (on_value run stops v f).run stops
+behind_same (run_literal b f r) s run stops = behind_same r s (on_literal run stops b f).run stops
+behind_same (run_span n f r) s run stops = behind_same r s (on_span run stops n f).run stops
 
 -- the value of the empty key is the same to each kind
 exact_none : (kind : Kind) (pairs : Pairs) → value_at kind pairs [] ≡ None → value_at simple_ascii pairs [] ≡ None
@@ -178,7 +185,7 @@ going_span {kind = kind} {all = all} {w = w} {rest = rest} list'' at'' n g stops
     }
 
 -- the bytes of what is left fit
-pub open_bytes : {kind : Kind} {all : Pairs} {windows : List Window} {targets : List Target} {w : Window} {t : Target} (o : IsOpen kind all windows targets w t) → o.bytes ≤ t.len
+pub open_bytes : {kind : Kind} {all : Pairs} {w : Window} {cs : List Window} (o : IsOpen kind all w cs) → o.bytes ≤ size_of kind (window all w)
 open_bytes o = elim o.stops [
   | inl e ↦ let n = o.none e in let l = n.1 in omega arith
   | inr e ↦ let n = o.some e in let l = n.1 in omega arith

@@ -4,19 +4,22 @@ use Rattle.std.specs.Prelude.{nat_eq, Contains, MatchResult}
 use Rattle.std.specs.List.{AllByRecursion, IsDistinct, range_with_len}
 use Rattle.std.specs.List.Sorted.{IsPermutation, IsStrictlyIncreasing}
 use Rattle.std.proofs.lemmas.Bool.{eq-eqb, ne_eqb, cases_lt}
-use Rattle.std.proofs.lemmas.List.{take_more, map-append, drop_at, get_or_default}
-use Rattle.std.proofs.lemmas.List.FromFn.{map-range_with_len_more, length-map-range_with_len, get_or-map-range_with_len}
+use Rattle.std.proofs.lemmas.List.{take_more, take_all, map-append, drop_at, drop_more, get_or_default}
+use Rattle.std.proofs.lemmas.List.FromFn.{map-range_with_len_more, length-map-range_with_len, get_or-map-range_with_len, length-range_with_len, get_or-range_with_len}
 use Rattle.std.specs.Ordering.{nat_cmp}
 use Rattle.std.specs.List.Sorted.{IsBinarySearchResult}
 use Rattle.std.proofs.lemmas.List.Sorted.{searched, IsPermutation-refl, IsPermutation-map, length_permutation, Contains-permutation, IsPermutation-sym}
 use Rattle.zerotrie_base.specs.Hashes.{IsPerfectTable}
 use Rattle.zerotrie_base.specs.Refusals.{IsTableRefusal}
 use Rattle.zerotrie_core.specs.Kind.{Kind, fold_byte, is_hashed}
+use Rattle.zerotrie_core.specs.Maps.{Pairs}
 use Rattle.zerotrie_core.specs.Branches.IsTable.{sorted, hashed}
 use Rattle.zerotrie_core.specs.Branches.{IsTable}
 use Rattle.zerotrie_core.specs.Causes.{AreCrooked, ZeroTrieBuildError, NonAsciiError, CapacityExceeded, CouldNotSolvePerfectHash, MixedCase, IllegalDelimiter, DuplicateKey, Unsorted, BufferTooSmall, BufferTooLarge, StackExceeded, OutOfMemory}
 use Rattle.zerotrie_core.proofs.CallerLemmas.{hashed_spans, spans_fold}
-use Rattle.zerotrie_build.specs.passes.Writing.{place_in, IsSearched, IsLaid}
+use Rattle.zerotrie_build.specs.declared.steps.Window.{Window}
+use Rattle.zerotrie_build.specs.passes.Windows.{edge_of}
+use Rattle.zerotrie_build.specs.passes.Writing.{no_window, edge_no, place_in, IsSearched, IsLaid}
 
 -- each is below all behind it
 abbrev pub Up : List ℕ → Type 0
@@ -117,6 +120,7 @@ laid_sorted kind edge n table numbers plain up t ns =
     subst (λ x. IsLaid kind edge n x numbers) (sym t) (subst (λ x. IsLaid kind edge n (map edge range) x) (sym ns) (record {
       is_table = sorted (ap (is_hashed kind) count ∙ plain) up;
       permutation = IsPermutation-refl range;
+      in_order = λ h. refl;
     }))
 
 -- a kind with hashed tables keeps case
@@ -138,7 +142,46 @@ laid_hashed kind edge n edges table numbers wide rises same placing =
       is_table = subst (λ x. IsTable kind (map edge numbers) x) (ap (λ x. l.p ∷ (l.qs ++ x)) edges_are ∙ sym l.table_is)
           (hashed (ap (is_hashed kind) many ∙ wide) (subst (λ x. Rattle.zerotrie_base.specs.Hashes.IsPerfect l.p l.qs x) (sym edges_are) l.perfect));
       permutation = subst (λ x. IsPermutation x numbers) range (subst (λ x. IsPermutation (map (λ b. place_in es b) es) x) (sym l.numbers_are) (IsPermutation-map (λ b. place_in es b) es l.placed l.permutation));
+      in_order = λ h. absurd (cc);
     }
+
+-- the numbers of a range name a part of a list
+ranged : {A B : Type 0} (f : A → B) (xs : List A) (d : A) (s n : ℕ) → s + n ≤ length xs → map (λ i. f (get_or xs i d)) (range_with_len s n) ≡ map f (take n (drop s xs))
+ranged f xs d s zero h = refl
+ranged f xs d s (suc n) h =
+    ap (λ r. f (get_or xs s d) ∷ r) (ranged f xs d (s + 1) n (omega arith))
+    ∙ sym (ap (λ x. map f (take (suc n) x)) (drop_more xs s d (omega arith)))
+
+-- all numbers name all of it
+pub named : {A B : Type 0} (f : A → B) (xs : List A) (d : A) → map (λ i. f (get_or xs i d)) (range_with_len 0 (length xs)) ≡ map f xs
+named f xs d = ranged f xs d 0 (length xs) (omega arith) ∙ ap (map f) (take_all (length xs) xs (omega arith))
+
+-- the branch as it was laid out
+pub branch_hashed_laid : (kind : Kind) (all : Pairs) (ws : List Window) (edges table numbers : List ℕ) → is_hashed kind (length ws) ≡ true → IsStrictlyIncreasing (map (fold_byte kind) (map (edge_of all) ws))
+    → edges ≡ map (edge_of all) ws → IsSearched edges table numbers → IsLaid kind (edge_no all ws) (length ws) table numbers
+branch_hashed_laid kind all ws edges table numbers wide rises same placing =
+    let es = sym (named (edge_of all) ws no_window) in
+    laid_hashed kind (edge_no all ws) (length ws) edges table numbers wide (subst (λ x. IsStrictlyIncreasing (map (fold_byte kind) x)) es rises) (same ∙ es) placing
+
+pub branch_sorted_laid : (kind : Kind) (all : Pairs) (ws : List Window) (table numbers : List ℕ) → is_hashed kind (length ws) ≡ false → IsStrictlyIncreasing (map (fold_byte kind) (map (edge_of all) ws))
+    → table ≡ map (edge_of all) ws → numbers ≡ range_with_len 0 (length ws) → IsLaid kind (edge_no all ws) (length ws) table numbers
+branch_sorted_laid kind all ws table numbers plain rises t ns =
+    let es = sym (named (edge_of all) ws no_window) in
+    laid_sorted kind (edge_no all ws) (length ws) table numbers plain (subst (λ x. IsStrictlyIncreasing (map (fold_byte kind) x)) es rises) (t ∙ es) ns
+
+-- the numbers of the targets are numbers of windows
+pub numbers_within : (count : ℕ) (numbers : List ℕ) → IsPermutation (range_with_len 0 count) numbers → (k d : ℕ) → k < length numbers → get_or numbers k d < count
+numbers_within count numbers perm k d h =
+    let x = get_or numbers k 0 in
+    let range = range_with_len 0 count in
+    let c : Contains range x = Contains-permutation numbers range x (IsPermutation-sym range numbers perm) (contains_at numbers k h) in
+    let l = length-range_with_len 0 count in
+    let i = c.0 in
+    let below : i < count = (let b = c.1 in omega arith) in
+    let is = get_or-range_with_len 0 count i x below in
+    let same = c.2 in
+    let at = get_or_default numbers k d 0 h in
+    omega arith
 
 -- why no table was made
 pub crooked : (kind : Kind) (n : ℕ) (es : List ℕ) (e : ZeroTrieBuildError) → is_hashed kind n ≡ true → length es ≡ n → IsTableRefusal es e → e ≢ OutOfMemory → (e ≡ CouldNotSolvePerfectHash) × AreCrooked kind es

@@ -20,6 +20,7 @@ mod ListedLemmas
 mod FrontLemmas
 mod BranchLemmas
 mod LayLemmas
+mod SlotLemmas
 mod WriteLemmas
 mod PlacedLemmas
 mod MeasureLemmas

@@ -1,19 +1,24 @@
 -- Window after window is written.
 use Rattle.std.proofs.Common.{◌≡◌, ℕ, zero, suc, ◌+◌, ◌-◌, ◌^◌, ◌<◌, ◌≤◌, List, [], ◌∷◌, ◌++◌, length, refl, sym, ◌∙◌, ap, subst, arith, map, append_assoc, length-append, replicate}
-use Rattle.std.specs.List.{concat, AllByRecursion}
+use Rattle.std.specs.List.{concat}
 use Rattle.std.proofs.lemmas.List.{append-nil, map-append}
 use Rattle.std.proofs.lemmas.List.Sums.{sum_by-cons}
 use Rattle.zerotrie_core.specs.Kind.{Kind}
 use Rattle.zerotrie_core.specs.Maps.{Pairs, map_of}
 use Rattle.zerotrie_core.specs.Branches.{total}
+use Rattle.zerotrie_core.specs.Canonical.{size_of}
 use Rattle.zerotrie_core.specs.Texts.{Means}
 use Rattle.zerotrie_core.proofs.CallerLemmas.{same-map}
+use Rattle.zerotrie_build.specs.Order.{Ordered}
 use Rattle.zerotrie_build.specs.declared.steps.Window.{Window}
-use Rattle.zerotrie_build.specs.declared.measuring.Target.{Target}
+use Rattle.zerotrie_build.specs.declared.laying.Next.{Next}
+use Rattle.zerotrie_build.specs.declared.laying.Next.TheVariants.{Slot, Text}
 use Rattle.zerotrie_build.specs.passes.Windows.{window}
-use Rattle.zerotrie_build.specs.passes.Measured.{IsMeasured, window_at, target_at}
-use Rattle.zerotrie_build.specs.passes.Writing.{Listed, Texts, FrontPut, Left, lens_of}
+use Rattle.zerotrie_build.specs.passes.Measured.{IsMeasured, sizes_of, whole}
+use Rattle.zerotrie_build.specs.passes.Writing.{Listed, Texts, KeptTo, Leads, FrontPut, Left}
+use Rattle.zerotrie_build.specs.passes.Writing.Leads.{done, slot as to_slot, text as to_text}
 use Rattle.zerotrie_build.proofs.PutLemmas.{total_append}
+use Rattle.zerotrie_build.proofs.SlotLemmas.{opened}
 use Rattle.zerotrie_build.proofs.WindowLemmas.{cut_whole}
 
 record Split (kind : Kind) (all : Pairs) (xs ys : List Window) (texts : List (List ℕ)) : Type 0 where
@@ -32,78 +37,112 @@ concat_append : (xs ys : List (List ℕ)) → concat (xs ++ ys) ≡ concat xs ++
 concat_append [] ys = refl
 concat_append (x ∷ xs) ys = ap (λ z. x ++ z) (concat_append xs ys) ∙ sym (append_assoc x (concat xs) (concat ys))
 
-within_both : (L : ℕ) (xs ys : List ℕ) → AllByRecursion (λ i. i < L) xs → AllByRecursion (λ i. i < L) ys → AllByRecursion (λ i. i < L) (xs ++ ys)
-within_both L [] ys h r = r
-within_both L (x ∷ xs) ys h r = (h.0, within_both L xs ys h.1 r)
-
 length-replicate : (n x : ℕ) → length (replicate n x) ≡ n
 length-replicate zero x = refl
 length-replicate (suc n) x = ap suc (length-replicate n x)
 
-pub left_start : (kind : Kind) (all : Pairs) (windows : List Window) (targets : List Target) (list : List ℕ) → IsMeasured kind all windows targets
-    → list ≡ replicate (target_at targets 0).len 0 → Left kind all windows targets list 0 (0 ∷ [])
-left_start kind all windows targets list m is = record {
+-- all items are written first
+measured_to : {kind : Kind} {all : Pairs} {slots : List ℕ} {len : ℕ} → IsMeasured kind all slots len → KeptTo kind all slots 0 (length slots) (whole all)
+measured_to {slots = slots} m = record { below = slots; more = []; kept = m.slots_are; slots_are = sym (append-nil slots); end_is = omega arith }
+
+pub measured_ordered : {kind : Kind} {all : Pairs} {slots : List ℕ} {len : ℕ} → IsMeasured kind all slots len → Ordered kind all
+measured_ordered {kind = kind} {all = all} m = subst (Ordered kind) (cut_whole all) (opened (measured_to m)).known.ordered
+
+pub leads_start : {kind : Kind} {all : Pairs} {slots : List ℕ} {len : ℕ} → IsMeasured kind all slots len → Leads kind all slots 0 (Text (whole all) ∷ []) (whole all ∷ [])
+leads_start m = to_text (measured_to m) done
+
+pub left_start : {kind : Kind} {all : Pairs} {slots : List ℕ} {len : ℕ} (list : List ℕ) → IsMeasured kind all slots len → list ≡ replicate len 0 → Left kind all list 0 (whole all ∷ [])
+left_start {kind = kind} {all = all} {len = len} list m is = record {
   written = [];
   at_is = refl;
-  list_is = is ∙ ap (λ n. replicate n 0) (let e = sum_by-cons (λ n. n) (target_at targets 0).len [] in let f : (target_at targets 0).len ≡ total ((target_at targets 0).len ∷ []) = omega arith in f);
-  within = (m.some, tt);
-  completes = whole;
+  list_is = is ∙ ap (λ n. replicate n 0) (let e = sum_by-cons (λ n. n) (size_of kind (window all (whole all))) [] in let l = m.len_is in let w = ap (size_of kind) (cut_whole all) in
+      let f : len ≡ total (size_of kind (window all (whole all)) ∷ []) = omega arith in f);
+  completes = texts_whole;
 }
   where
-    whole : (texts : List (List ℕ)) → Texts kind all (map (window_at windows) (0 ∷ [])) texts → Listed kind (concat texts) all
-    whole [] h = absurd h
-    whole (t ∷ u ∷ ts) h = absurd (h.1)
-    whole (t ∷ []) h = subst (λ x. Listed kind x all) (sym (append-nil t)) (subst (Listed kind t) (ap (window all) m.whole ∙ cut_whole all) h.0)
+    texts_whole : (texts : List (List ℕ)) → Texts kind all (whole all ∷ []) texts → Listed kind (concat texts) all
+    texts_whole [] h = absurd h
+    texts_whole (t ∷ u ∷ ts) h = absurd (h.1)
+    texts_whole (t ∷ []) h = subst (λ x. Listed kind x all) (sym (append-nil t)) (subst (Listed kind t) (cut_whole all) h.0)
 
-pub left_room : {kind : Kind} {all : Pairs} {windows : List Window} {targets : List Target} {list : List ℕ} {at i : ℕ} {rest : List ℕ} → Left kind all windows targets list at (i ∷ rest) → at + (target_at targets i).len ≤ length list
-left_room {targets = targets} {i = i} {rest = rest} l =
-    let e = ap length l.list_is ∙ length-append l.written (replicate (total (lens_of targets (i ∷ rest))) 0) in
-    let n = length-replicate (total (lens_of targets (i ∷ rest))) 0 in
-    let t = sum_by-cons (λ n. n) (target_at targets i).len (lens_of targets rest) in
+pub left_room : {kind : Kind} {all : Pairs} {list : List ℕ} {at : ℕ} {w : Window} {ws : List Window} → Left kind all list at (w ∷ ws) → at + size_of kind (window all w) ≤ length list
+left_room {kind = kind} {all = all} {w = w} {ws = ws} l =
+    let e = ap length l.list_is ∙ length-append l.written (replicate (total (sizes_of kind all (w ∷ ws))) 0) in
+    let n = length-replicate (total (sizes_of kind all (w ∷ ws))) 0 in
+    let t = sum_by-cons (λ n. n) (size_of kind (window all w)) (sizes_of kind all ws) in
     let a = l.at_is in omega arith
 
--- nothing is open any more
-pub left_end : (kind : Kind) (all : Pairs) (windows : List Window) (targets : List Target) (list : List ℕ) (at : ℕ) (numbers : List ℕ) → numbers ≡ [] → length list < 2 ^ 64
-    → Left kind all windows targets list at numbers → Means kind list (map_of all)
-left_end kind all windows targets list at [] e small l =
-    let whole : list ≡ l.written ++ [] = l.list_is in
-    let done = subst (λ x. Listed kind x all) (sym whole) (l.completes [] tt) in
+-- nothing is left to be written
+pub left_end : (kind : Kind) (all : Pairs) (list : List ℕ) (at : ℕ) (ws : List Window) → ws ≡ [] → length list < 2 ^ 64 → Left kind all list at ws → Means kind list (map_of all)
+left_end kind all list at [] e small l =
+    let full : list ≡ l.written ++ [] = l.list_is in
+    let done = subst (λ x. Listed kind x all) (sym full) (l.completes [] tt) in
     record {
       short = small;
       pairs = done.listed;
       lists = done.lists;
       is = sym (same-map done.listed all done.same);
     }
-left_end kind all windows targets list at (i ∷ rest) e small l = absurd (cc)
+left_end kind all list at (w ∷ ws) e small l = absurd (cc)
+
+sizes_append : (kind : Kind) (all : Pairs) (xs ys : List Window) → sizes_of kind all (xs ++ ys) ≡ sizes_of kind all xs ++ sizes_of kind all ys
+sizes_append kind all xs ys = ap (map (size_of kind)) (map-append (window all) xs ys) ∙ map-append (size_of kind) (map (window all) xs) (map (window all) ys)
 
 -- the next window is written
-pub left_more : (kind : Kind) (all : Pairs) (windows : List Window) (targets : List Target) (list : List ℕ) (at : ℕ) (list' : List ℕ) (at' i : ℕ) (numbers rest : List ℕ)
-    → Left kind all windows targets list at (i ∷ rest) → FrontPut kind all windows targets i numbers list at list' at'
-    → Left kind all windows targets list' at' (numbers ++ rest)
-left_more kind all windows targets list at list' at' i numbers rest l p =
-    let left = total (lens_of targets (numbers ++ rest)) in
-    let split_len = ap total (map-append (λ j. (target_at targets j).len) numbers rest) ∙ total_append (lens_of targets numbers) (lens_of targets rest) in
-    let before = sum_by-cons (λ x. x) (target_at targets i).len (lens_of targets rest) in
+pub left_more : {kind : Kind} {all : Pairs} {slots : List ℕ} {slot : ℕ} {list : List ℕ} {at : ℕ} {list' : List ℕ} {at' : ℕ} {w : Window} {next : List Next} {ws : List Window}
+    → Left kind all list at (w ∷ ws) → (p : FrontPut kind all slots slot w next list at list' at') → Left kind all list' at' (p.targets ++ ws)
+left_more {kind = kind} {all = all} {list = list} {w = w} {ws = ws} l p =
+    let left = total (sizes_of kind all (p.targets ++ ws)) in
+    let split_len = ap total (sizes_append kind all p.targets ws) ∙ total_append (sizes_of kind all p.targets) (sizes_of kind all ws) in
+    let before = sum_by-cons (λ x. x) (size_of kind (window all w)) (sizes_of kind all ws) in
     let sized = p.sized in
-    let all_left : total (lens_of targets (i ∷ rest)) ≡ length p.front + left = omega arith in
+    let all_left : total (sizes_of kind all (w ∷ ws)) ≡ length p.front + left = omega arith in
     record {
       written = l.written ++ p.front;
       at_is = (let a = p.puts.at_is in let b = l.at_is in let c = length-append l.written p.front in omega arith);
       list_is = p.puts.puts l.written left l.at_is (l.list_is ∙ ap (λ k. l.written ++ replicate k 0) all_left);
-      within = within_both (length windows) numbers rest p.within l.within.1;
       completes = λ texts h.
-          (let s = split kind all (map (window_at windows) numbers) (map (window_at windows) rest) texts (subst (λ ws. Texts kind all ws texts) (map-append (window_at windows) numbers rest) h) in
+          (let s = split kind all p.targets ws texts h in
           let one = l.completes ((p.front ++ concat s.front) ∷ s.back) (p.lists s.front s.front_texts, s.back_texts) in
           subst (λ x. Listed kind x all)
           (ap (λ x. l.written ++ x) (append_assoc p.front (concat s.front) (concat s.back) ∙ ap (λ x. p.front ++ x) (sym (concat_append s.front s.back) ∙ ap concat (sym s.is))) ∙ sym (append_assoc l.written p.front (concat texts))) one);
     }
 
 -- and less is left
-pub left_less : {kind : Kind} {all : Pairs} {windows : List Window} {targets : List Target} {list : List ℕ} {at : ℕ} {list' : List ℕ} {at' i : ℕ} {numbers rest : List ℕ}
-    → Left kind all windows targets list at (i ∷ rest) → FrontPut kind all windows targets i numbers list at list' at'
-    → (length list' - at') + length (numbers ++ rest) < (length list - at) + length (i ∷ rest)
-left_less {targets = targets} {i = i} {numbers = numbers} {rest = rest} l p =
+pub left_less : {kind : Kind} {all : Pairs} {slots : List ℕ} {slot : ℕ} {list : List ℕ} {at : ℕ} {list' : List ℕ} {at' : ℕ} {w : Window} {next : List Next} {ws : List Window} (rest : List Next)
+    → Left kind all list at (w ∷ ws) → FrontPut kind all slots slot w next list at list' at'
+    → (length list' - at') + length (next ++ rest) < (length list - at) + suc (length rest)
+left_less {next = next} rest l p =
     let room = left_room l in
     let a = p.puts.at_is in let s = p.puts.same in let z = p.sized in let m = p.many in
-    let n = length-append numbers rest in
+    let n = length-append next rest in
     omega arith
+
+-- what is written next, by what stands first
+pub leads_none : {kind : Kind} {all : Pairs} {slots : List ℕ} {at : ℕ} {next : List Next} {ws : List Window} → Leads kind all slots at next ws → next ≡ [] → ws ≡ []
+leads_none done e = refl
+leads_none (to_slot l) e = absurd (cc)
+leads_none (to_text k l) e = absurd (cc)
+
+pub leads_slot : {kind : Kind} {all : Pairs} {slots : List ℕ} {at : ℕ} {next : List Next} {ws : List Window} (n : ℕ) (rest : List Next) → Leads kind all slots at next ws → next ≡ Slot n ∷ rest → Leads kind all slots n rest ws
+leads_slot n rest done e = absurd (cc)
+leads_slot {kind = kind} {all = all} {slots = slots} {ws = ws} n rest (to_slot {to = to} {next = next} l) e =
+    let same : to ≡ n = cc in
+    let more : next ≡ rest = cc in
+    subst (λ x. Leads kind all slots x rest ws) same (subst (λ x. Leads kind all slots to x ws) more l)
+leads_slot n rest (to_text k l) e = absurd (cc)
+
+pub record TextLeads (kind : Kind) (all : Pairs) (slots : List ℕ) (slot : ℕ) (w : Window) (rest : List Next) (ws : List Window) : Type 0 where
+  pub end : ℕ
+  pub kept : KeptTo kind all slots slot end w
+  pub behind : List Window
+  pub leads : Leads kind all slots end rest behind
+  pub is : ws ≡ w ∷ behind
+
+pub leads_text : {kind : Kind} {all : Pairs} {slots : List ℕ} {at : ℕ} {next : List Next} {ws : List Window} (w : Window) (rest : List Next) → Leads kind all slots at next ws → next ≡ Text w ∷ rest → TextLeads kind all slots at w rest ws
+leads_text w rest done e = absurd (cc)
+leads_text w rest (to_slot l) e = absurd (cc)
+leads_text {kind = kind} {all = all} {slots = slots} {at = at} w rest (to_text {end = end} {w = v} {next = next} {ws = ws} k l) e =
+    let same : v ≡ w = cc in
+    let more : next ≡ rest = cc in
+    record { end = end; kept = subst (λ x. KeptTo kind all slots at end x) same k; behind = ws; leads = subst (λ x. Leads kind all slots end x ws) more l; is = ap (λ x. x ∷ ws) same }

@@ -133,6 +133,8 @@ impl<A: Allocator + Copy> Layout<A> {
             → (e ≡ ZeroTrieBuildError.CouldNotSolvePerfectHash) × ((cs : List Window) → Parts (pairs items.entry) window cs
             → AreCrooked K.kind (map (edge_of (pairs items.entry)) cs))) }
     {
+        // That a length is below 2^64 tells the proof that so are the places of the slots.
+        let _len = slots.len();
         self.set_sorted(items, window)?;
         let edges = self.windows.len();
         if is_hashed::<K>(edges) {

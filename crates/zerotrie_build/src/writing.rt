@@ -165,6 +165,8 @@ impl<S: TrieBuilderStore + Drop> Writing<S> {
         ensures refused { IfErr result (λ e. e ≢ ZeroTrieBuildError.OutOfMemory
             → (e ≡ ZeroTrieBuildError.CouldNotSolvePerfectHash) × Cause K.kind (pairs items.entry) e) }
     {
+        // That a length is below 2^64 tells the proof that so are the places of the slots.
+        let _len = slots.len();
         layout.clear();
         let mut rest = window;
         loop {

@@ -1,5 +1,5 @@
 -- What the second pass writes.
-use Rattle.std.specs.Prelude.{◌≡◌, ℕ, ◌+◌, ◌-◌, ◌*◌, ◌<◌, ◌≤◌, ◌==◌, List, [], ◌∷◌, ◌++◌, length, map, take, drop, replicate, slice_index_or, if◌then◌else◌}
+use Rattle.std.specs.Prelude.{◌≡◌, ℕ, ◌+◌, ◌-◌, ◌*◌, ◌<◌, ◌≤◌, ◌==◌, List, [], ◌∷◌, ◌++◌, length, map, take, drop, replicate, slice_index_or, false, if◌then◌else◌}
 use Rattle.std.specs.List.{concat, range_with_len}
 use Rattle.std.specs.List.Sorted.{IsPermutation, IsStrictlyIncreasing}
 use Rattle.zerotrie_base.specs.Hashes.{IsPerfect}
@@ -59,6 +59,7 @@ pub record IsSearched (edges table numbers : List ℕ) : Type 0 where
 pub record IsLaid (kind : Kind) (edge : ℕ → ℕ) (count : ℕ) (table numbers : List ℕ) : Type 0 where
   pub is_table : IsTable kind (map edge numbers) table
   pub permutation : IsPermutation (range_with_len 0 count) numbers
+  pub in_order : is_hashed kind count ≡ false → numbers ≡ range_with_len 0 count
 
 -- A branch stands first in the window, and its slots begin at one of these.
 pub record HasSlots (kind : Kind) (all : Pairs) (w : Window) (slots : List ℕ) (slot : ℕ) : Type 0 where

@@ -1,62 +1,96 @@
-use Rattle.std.proofs.Common.{◌≡◌, [], ◌∷◌, ◌++◌, length, reverse, arith, sym, ap, subst, ◌∙◌, replicate}
-use Rattle.std.proofs.lemmas.List.{append-nil, get_or_read}
+use Rattle.std.proofs.Common.{◌≡◌, ◌+◌, [], ◌∷◌, ◌++◌, length, reverse, arith, sym, ap, subst, ◌∙◌, replicate}
+use Rattle.std.proofs.lemmas.List.{append-nil}
 use Rattle.zerotrie_build.specs.Items.{pairs}
-use Rattle.zerotrie_build.specs.passes.Measured.{no_target, target_at}
-use Rattle.zerotrie_build.specs.passes.Writing.{Left}
-use Rattle.zerotrie_build.proofs.WriteLemmas.{left_start, left_room, left_end, left_more, left_less}
+use Rattle.zerotrie_build.specs.declared.steps.Window.{Window}
+use Rattle.zerotrie_build.specs.declared.laying.Next.TheVariants.{Text}
+use Rattle.zerotrie_build.specs.passes.Measured.{whole}
+use Rattle.zerotrie_build.specs.passes.Writing.{KeptTo, Leads, FrontPut, Left}
+use Rattle.zerotrie_build.proofs.WriteLemmas.{measured_ordered, leads_start, left_start, left_room, left_end, left_more, left_less, leads_none, leads_slot, leads_text}
 use Rattle.zerotrie_build.proofs.writing.write.Goals as goal
 
-pub loop-index-init : goal.loop-index-init
-loop-index-init g c =
-    let m = c.requires in
-    let n = m.count in let some = m.some in
-    let ws = c.args.measured.now.windows.items in
-    let ts = c.args.measured.now.targets.items in
-    let list = g.S.TrieBuilderStore.list in
-    let t : target_at ts 0 ≡ c.index.result.now = sym (get_or_read ts 0 c.index.result.now (omega arith) c.index.ensures no_target) in
-    let one : 0 ∷ [] ≡ reverse c.push.new.self.items = sym (ap reverse (c.in_ok-push.ensures.items ∙ ap (λ x. x ++ 0 ∷ []) c.new-pending.ensures.items)) in
-    subst (Left g.K.ZeroTrieWithOptions.kind (pairs c.args.items) ws ts (list c.atbs_prepend_n_zeros.new.self) 0) one
-    (left_start g.K.ZeroTrieWithOptions.kind (pairs c.args.items) ws ts (list c.atbs_prepend_n_zeros.new.self) m
-    (c.in_ok-atbs_prepend_n_zeros.ensures.ok ∙ ap (λ x. replicate c.index.result.now.len 0 ++ x) c.atbs_new_empty-data.ensures ∙ append-nil (replicate c.index.result.now.len 0) ∙ ap (λ x. replicate x.len 0) (sym t)))
+pub loop-next-init : goal.loop-next-init
+loop-next-init g c =
+    let kind = g.K.ZeroTrieWithOptions.kind in
+    let all = pairs c.args.items in
+    let slots = c.args.measured.now.slots.items in
+    let len = c.args.measured.now.len in
+    let window : Window = record { from = 0; to = c.len.result; depth = 0 } in
+    let one : reverse c.push.new.self.items ≡ Text (whole all) ∷ [] =
+    ap reverse (c.in_ok-push.ensures.items ∙ ap (λ x. x ++ Text window ∷ []) c.new-pending.ensures.items) ∙ ap (λ n. Text (record { from = 0; to = n; depth = 0 }) ∷ []) c.len.ensures in (
+      whole all ∷ [],
+      left_start (g.S.TrieBuilderStore.list c.atbs_prepend_n_zeros.new.self) c.requires
+          (c.in_ok-atbs_prepend_n_zeros.ensures.ok ∙ ap (λ x. replicate len 0 ++ x) c.atbs_new_empty-data.ensures ∙ append-nil (replicate len 0)),
+      subst (λ x. Leads kind all slots 0 x (whole all ∷ [])) (sym one) (leads_start c.requires),
+    )
 
-pub put_front-requires-clause-within : goal.put_front-requires-clause-within
-put_front-requires-clause-within g c =
-    let l : Left g.K.ZeroTrieWithOptions.kind (pairs c.args.items) c.args.measured.now.windows.items c.args.measured.now.targets.items (g.S.TrieBuilderStore.list c.loop-index.writing.data) c.loop-index.writing.at (c.in-Some.index ∷ reverse c.next_number.new.pending.items) = subst (Left _ _ _ _ _ _) c.in-Some.ensures.some c.loop-index.invariant in
-    l.within.0
+pub loop-next-preserved-in-Slot : goal.loop-next-preserved-in-Slot
+loop-next-preserved-in-Slot g c =
+    let v = c.loop-next.invariant in
+    let rest = reverse c.take_next.new.pending.items in
+    (v.0, v.1, leads_slot c.in-Slot.number rest v.2 (c.in-Some.ensures.some ∙ ap (λ x. x ∷ rest) c.in-Slot.is))
+
+pub put_front-requires-clause-ordered : goal.put_front-requires-clause-ordered
+put_front-requires-clause-ordered g c = measured_ordered c.requires
+
+pub put_front-requires-clause-kept : goal.put_front-requires-clause-kept
+put_front-requires-clause-kept g c =
+    let kind = g.K.ZeroTrieWithOptions.kind in
+    let all = pairs c.args.items in
+    let v = c.loop-next.invariant in
+    let w = c.in-Text.window in
+    let rest = reverse c.take_next.new.pending.items in
+    let t = leads_text w rest v.2 (c.in-Some.ensures.some ∙ ap (λ x. x ∷ rest) c.in-Text.is) in
+    (t.end, subst (λ x. KeptTo kind all x c.loop-next.slot t.end w) (sym c.as_slice-slots.ensures.value) t.kept)
 
 pub put_front-requires-clause-room : goal.put_front-requires-clause-room
-put_front-requires-clause-room g c = left_room (subst (Left g.K.ZeroTrieWithOptions.kind (pairs c.args.items) c.args.measured.now.windows.items c.args.measured.now.targets.items (g.S.TrieBuilderStore.list c.loop-index.writing.data) c.loop-index.writing.at) c.in-Some.ensures.some c.loop-index.invariant)
-
-pub loop-index-smaller : goal.loop-index-smaller
-loop-index-smaller g c =
-    let ws = c.args.measured.now.windows.items in
-    let ts = c.args.measured.now.targets.items in
+put_front-requires-clause-room g c =
     let kind = g.K.ZeroTrieWithOptions.kind in
     let all = pairs c.args.items in
-    let list = g.S.TrieBuilderStore.list in
-    let i = c.in-Some.index in
-    let rest = reverse c.next_number.new.pending.items in
-    let l : Left kind all ws ts (list c.loop-index.writing.data) c.loop-index.writing.at (i ∷ rest) = subst (Left kind all ws ts (list c.loop-index.writing.data) c.loop-index.writing.at) c.in-Some.ensures.some c.loop-index.invariant in
-    let numbers = c.put_front.new.layout.numbers.items in
-    let next : numbers ++ rest ≡ reverse c.push_numbers.new.pending.items = ap (λ x. x ++ rest) (sym c.as_slice.ensures.value) ∙ sym c.in_ok-push_numbers.ensures in
-    let less = left_less l c.in_ok-put_front.ensures.put in
+    let slots = c.args.measured.now.slots.items in
+    let v = c.loop-next.invariant in
+    let w = c.in-Text.window in
+    let rest = reverse c.take_next.new.pending.items in
+    let first = c.in-Some.ensures.some ∙ ap (λ x. x ∷ rest) c.in-Text.is in
+    let t = leads_text w rest v.2 first in
+    let left : Left kind all (g.S.TrieBuilderStore.list c.loop-next.writing.data) c.loop-next.writing.at (w ∷ t.behind) = subst (Left kind all (g.S.TrieBuilderStore.list c.loop-next.writing.data) c.loop-next.writing.at) t.is v.1 in
+    left_room left
+
+pub loop-next-smaller : goal.loop-next-smaller
+loop-next-smaller g c =
+    let kind = g.K.ZeroTrieWithOptions.kind in
+    let all = pairs c.args.items in
+    let slots = c.args.measured.now.slots.items in
+    let v = c.loop-next.invariant in
+    let w = c.in-Text.window in
+    let rest = reverse c.take_next.new.pending.items in
+    let first = c.in-Some.ensures.some ∙ ap (λ x. x ∷ rest) c.in-Text.is in
+    let t = leads_text w rest v.2 first in
+    let left : Left kind all (g.S.TrieBuilderStore.list c.loop-next.writing.data) c.loop-next.writing.at (w ∷ t.behind) = subst (Left kind all (g.S.TrieBuilderStore.list c.loop-next.writing.data) c.loop-next.writing.at) t.is v.1 in
+    let put : FrontPut kind all slots c.loop-next.slot w c.put_front.new.layout.next.items (g.S.TrieBuilderStore.list c.loop-next.writing.data) c.loop-next.writing.at (g.S.TrieBuilderStore.list c.put_front.new.self.data) c.put_front.new.self.at =
+    subst (λ x. FrontPut kind all x c.loop-next.slot w c.put_front.new.layout.next.items (g.S.TrieBuilderStore.list c.loop-next.writing.data) c.loop-next.writing.at (g.S.TrieBuilderStore.list c.put_front.new.self.data) c.put_front.new.self.at) c.as_slice-slots.ensures.value c.in_ok-put_front-in-Text.ensures.put in
+    let next : c.put_front.new.layout.next.items ++ rest ≡ reverse c.push_next.new.pending.items = ap (λ x. x ++ rest) (sym c.as_slice.ensures.value) ∙ sym c.in_ok-push_next-in-Text.ensures in
+    let less = left_less rest left put in
     let a = ap length next in
-    let b = ap length c.in-Some.ensures.some in
+    let b = ap length first in
     omega arith
 
-pub loop-index-preserved : goal.loop-index-preserved
-loop-index-preserved g c =
-    let ws = c.args.measured.now.windows.items in
-    let ts = c.args.measured.now.targets.items in
+pub loop-next-preserved : goal.loop-next-preserved
+loop-next-preserved g c =
     let kind = g.K.ZeroTrieWithOptions.kind in
     let all = pairs c.args.items in
-    let list = g.S.TrieBuilderStore.list in
-    let i = c.in-Some.index in
-    let rest = reverse c.next_number.new.pending.items in
-    let l : Left kind all ws ts (list c.loop-index.writing.data) c.loop-index.writing.at (i ∷ rest) = subst (Left kind all ws ts (list c.loop-index.writing.data) c.loop-index.writing.at) c.in-Some.ensures.some c.loop-index.invariant in
-    let numbers = c.put_front.new.layout.numbers.items in
-    let next : numbers ++ rest ≡ reverse c.push_numbers.new.pending.items = ap (λ x. x ++ rest) (sym c.as_slice.ensures.value) ∙ sym c.in_ok-push_numbers.ensures in
-    subst (Left kind all ws ts (list c.put_front.new.self.data) c.put_front.new.self.at) next (left_more kind all ws ts _ _ _ _ i numbers rest l c.in_ok-put_front.ensures.put)
+    let slots = c.args.measured.now.slots.items in
+    let v = c.loop-next.invariant in
+    let w = c.in-Text.window in
+    let rest = reverse c.take_next.new.pending.items in
+    let first = c.in-Some.ensures.some ∙ ap (λ x. x ∷ rest) c.in-Text.is in
+    let t = leads_text w rest v.2 first in
+    let left : Left kind all (g.S.TrieBuilderStore.list c.loop-next.writing.data) c.loop-next.writing.at (w ∷ t.behind) = subst (Left kind all (g.S.TrieBuilderStore.list c.loop-next.writing.data) c.loop-next.writing.at) t.is v.1 in
+    let put : FrontPut kind all slots c.loop-next.slot w c.put_front.new.layout.next.items (g.S.TrieBuilderStore.list c.loop-next.writing.data) c.loop-next.writing.at (g.S.TrieBuilderStore.list c.put_front.new.self.data) c.put_front.new.self.at =
+    subst (λ x. FrontPut kind all x c.loop-next.slot w c.put_front.new.layout.next.items (g.S.TrieBuilderStore.list c.loop-next.writing.data) c.loop-next.writing.at (g.S.TrieBuilderStore.list c.put_front.new.self.data) c.put_front.new.self.at) c.as_slice-slots.ensures.value c.in_ok-put_front-in-Text.ensures.put in
+    let next : c.put_front.new.layout.next.items ++ rest ≡ reverse c.push_next.new.pending.items = ap (λ x. x ++ rest) (sym c.as_slice.ensures.value) ∙ sym c.in_ok-push_next-in-Text.ensures in
+    (put.targets ++ t.behind, left_more left put, subst (λ x. Leads kind all slots c.loop-next.slot x (put.targets ++ t.behind)) next (put.leads t.end rest t.behind t.kept t.leads))
 
 pub returns-clause-means : goal.returns-clause-means
-returns-clause-means g c = left_end _ _ _ _ _ _ _ c.in_default.ensures.none (let e = c.atbs_len-len.ensures in let n = c.atbs_len-len.type_inv in omega arith) c.loop-index.invariant
+returns-clause-means g c =
+    let v = c.loop-next.invariant in
+    left_end _ _ _ _ v.0 (leads_none v.2 c.in_default.ensures.none) (let e = c.atbs_len-len.ensures in let n = c.atbs_len-len.type_inv in omega arith) v.1
