@@ -396,7 +396,7 @@ fn every_size_of_heap(rt: HostRuntime) -> Result<(), Fail> {
     let text = by_slice::<Hash>(alloc, items.as_slice())?;
     let mut refused = 0usize;
     for size in 0..200usize {
-        let heap = LocalHeap::new(alloc, size * 32)?;
+        let heap = LocalHeap::new(alloc, size * 64)?;
         match over_heap::<Hash>(alloc, &heap, items.as_slice()) {
             Ok(built) => assert_eq!(rt; built.as_slice(), text.as_slice()),
             Err(why) => {
