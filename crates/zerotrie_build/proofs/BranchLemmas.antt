@@ -1,5 +1,5 @@
 -- A branch is written in front of its targets, in the order of its search table.
-use Rattle.std.proofs.Common.{◌≡◌, ◌≢◌, ℕ, zero, suc, ◌+◌, ◌-◌, ◌*◌, ◌%◌, ◌^◌, ◌<◌, ◌≤◌, ◌⊎◌, inl, inr, List, [], ◌∷◌, ◌++◌, length, refl, sym, ◌∙◌, ap, subst, arith, get_or, take, drop, map, append_assoc, length-append, length-drop, All, None, Bool, true, false, cond, lit<}
+use Rattle.std.proofs.Common.{◌≡◌, ◌≢◌, ℕ, zero, suc, ◌+◌, ◌-◌, ◌*◌, ◌%◌, ◌^◌, ◌<◌, ◌≤◌, ◌⊎◌, inl, inr, List, [], ◌∷◌, ◌++◌, length, refl, sym, ◌∙◌, ap, subst, arith, get_or, take, drop, map, append_assoc, length-append, All, None, Bool, true, false, cond, lit<}
 use Rattle.std.specs.Prelude.{Contains}
 use Rattle.std.specs.List.{concat, range_with_len, AllByRecursion}
 use Rattle.std.specs.List.Sorted.{IsPermutation, IsStrictlyIncreasing}
@@ -7,7 +7,7 @@ use Rattle.std.proofs.Math.Nat.{pow-le-pow_right, mul-le-mul}
 use Rattle.std.proofs.lemmas.Bool.{cases_eq, eq-eqb, ne_eqb}
 use Rattle.std.proofs.lemmas.List.{get_or_default, get_or-map}
 use Rattle.std.specs.FinMap.{entries}
-use Rattle.std.proofs.lemmas.List.FromFn.{get_or-map-range_with_len, length-range_with_len, get_or-range_with_len}
+use Rattle.std.proofs.lemmas.List.FromFn.{length-range_with_len}
 use Rattle.std.proofs.lemmas.List.Sorted.{IsPermutation-map, IsPermutation-sym, length_permutation, Contains-permutation, sum_by-IsPermutation}
 use Rattle.std.proofs.lemmas.Map.Views.{All-map-IsPermutation}
 use Rattle.zerotrie_core.specs.Kind.{Kind, simple_ascii, ignore_case, perfect_hash, extended_capacity, fold_byte, edge_limit, greatest_width, is_hashed, ordered as in_order}
@@ -30,8 +30,8 @@ use Rattle.zerotrie_build.specs.passes.Measured.{Stops, IsOpen, Groups, Parts, s
 use Rattle.zerotrie_build.specs.passes.Puts.{Puts}
 use Rattle.zerotrie_build.specs.passes.Writing.{no_window, window_at, edge_no, lens_of, placed_next, next_of, Listed, Texts, FrontPut, IsLaid, HasSlots, Leads}
 use Rattle.zerotrie_build.proofs.Sorting.{ordered_distinct}
-use Rattle.zerotrie_build.proofs.PutLemmas.{puts_then, count_map, count_lens}
-use Rattle.zerotrie_build.proofs.WindowLemmas.{cut_none, cut_append, cut_whole, step_end}
+use Rattle.zerotrie_build.proofs.PutLemmas.{puts_then, count_map}
+use Rattle.zerotrie_build.proofs.WindowLemmas.{cut_none, cut_append, step_end}
 use Rattle.zerotrie_build.proofs.LayLemmas.{Up, up_of, up_count, map_both, named, numbers_within}
 use Rattle.zerotrie_build.proofs.SlotLemmas.{Opened, opened, parts_same, each_count, slots_lens, next_leads, none_ends}
 use Rattle.zerotrie_build.proofs.ListedLemmas.{Same, listed_nothing, listed_some, listed_long}
@@ -159,15 +159,6 @@ groups_some all d from to [] within g i h = λ e. omega arith
 groups_some all d from to (c ∷ cs) within g zero h = window_some all c (let f = g.0 in let l = g.2 in omega arith) (let m = g.3 in omega arith)
 groups_some all d from to (c ∷ cs) within g (suc i) h = groups_some all d c.to to cs within g.5 i (omega arith)
 
-pub groups_within : (all : Pairs) (d from to : ℕ) (cs : List Window) → to ≤ length all → Groups all d from to cs → (i : ℕ) → i < length cs → (get_or cs i no_window).from < length all
-groups_within all d from to [] within g i h = absurd (omega arith)
-groups_within all d from to (c ∷ cs) within g zero h = let a = g.0 in let b = g.2 in let m = g.3 in omega arith
-groups_within all d from to (c ∷ cs) within g (suc i) h = groups_within all d c.to to cs within g.5 i (omega arith)
-
-map_count : {A B : Type 0} (f : A → B) (xs : List A) → length (map f xs) ≡ length xs
-map_count f [] = refl
-map_count f (x ∷ xs) = ap suc (map_count f xs)
-
 map_same : {A : Type 0} (xs : List A) → map (λ x. x) xs ≡ xs
 map_same [] = refl
 map_same (x ∷ xs) = ap (λ r. x ∷ r) (map_same xs)
@@ -183,15 +174,15 @@ by_recursion high [] h = tt
 by_recursion high (x ∷ xs) h = (h 0 (omega arith), by_recursion high xs (λ k l. h (suc k) (omega arith)))
 
 -- the lengths of the targets in the order of the table
-pub sizes_at : (kind : Kind) (all : Pairs) (cs : List Window) (numbers : List ℕ) → AllByRecursion (λ j. j < length cs) numbers → lens_of (sizes_of kind all cs) numbers ≡ sizes_of kind all (map (window_at cs) numbers)
+sizes_at : (kind : Kind) (all : Pairs) (cs : List Window) (numbers : List ℕ) → AllByRecursion (λ j. j < length cs) numbers → lens_of (sizes_of kind all cs) numbers ≡ sizes_of kind all (map (window_at cs) numbers)
 sizes_at kind all cs [] within = refl
 sizes_at kind all cs (j ∷ numbers) within =
     let here : get_or (sizes_of kind all cs) j 0 ≡ size_of kind (window all (window_at cs j)) =
-    get_or-map (size_of kind) (map (window all) cs) j [] 0 (let n = map_count (window all) cs in let l = within.0 in omega arith) ∙ ap (size_of kind) (get_or-map (window all) cs j no_window [] within.0) in
+    get_or-map (size_of kind) (map (window all) cs) j [] 0 (let n = count_map (window all) cs in let l = within.0 in omega arith) ∙ ap (size_of kind) (get_or-map (window all) cs j no_window [] within.0) in
     ap (λ x. x ∷ lens_of (sizes_of kind all cs) numbers) here ∙ ap (λ r. size_of kind (window all (window_at cs j)) ∷ r) (sizes_at kind all cs numbers within.1)
 
-pub sizes_count : (kind : Kind) (all : Pairs) (cs : List Window) → length (sizes_of kind all cs) ≡ length cs
-sizes_count kind all cs = map_count (size_of kind) (map (window all) cs) ∙ map_count (window all) cs
+sizes_count : (kind : Kind) (all : Pairs) (cs : List Window) → length (sizes_of kind all cs) ≡ length cs
+sizes_count kind all cs = count_map (size_of kind) (map (window all) cs) ∙ count_map (window all) cs
 
 texts_sizes : (kind : Kind) (all : Pairs) (ws : List Window) (texts : List (List ℕ)) → Texts kind all ws texts → sizes_of kind all ws ≡ map length texts
 texts_sizes kind all [] [] h = refl
@@ -294,7 +285,7 @@ branch_text {kind = kind} {all = all} {cs = cs} {table = table} {numbers = numbe
     let window_answers = groups_answers all last.depth last.from last.to cs o.groups (apart_up kind all cs (up_of _ o.rises)) in
     let texts_are = texts_count kind all vs texts h in
     let es_are = count_map (edge_of all) vs in
-    let vs_are = map_count (window_at cs) numbers in
+    let vs_are = count_map (window_at cs) numbers in
     let long = total-lengths texts in
     let lens = texts_sizes kind all vs texts h in
     let sum = ap total lens in
@@ -316,7 +307,7 @@ front_size {kind = kind} {all = all} {cs = cs} {table = table} {numbers = number
     let lens = sizes_of kind all vs in
     let ls = sizes_of kind all cs in
     let es = map (edge_of all) vs in
-    let n0 = map_count (window_at cs) numbers in
+    let n0 = count_map (window_at cs) numbers in
     let n1 = sizes_count kind all vs in
     let n2 = sizes_count kind all cs in
     let n3 = count_map (edge_of all) vs in
@@ -350,8 +341,8 @@ branch_slots {kind = kind} {all = all} k g e =
       below_each = each_count k.each;
     }
 
--- a window that ends with its values, literals and spans has no more slots, and one with a branch those of the branch
-pub branch_same : {kind : Kind} {all : Pairs} {slots : List ℕ} {slot end last : ℕ} {w : Window} {list : List ℕ} {at : ℕ} {list' : List ℕ} {at' : ℕ} {rest : Window} (k : Opened kind all slots slot end w) (other : Opened kind all slots slot last w)
+-- what stands behind the values, literals and spans of a window is known, and so are the targets
+branch_same : {kind : Kind} {all : Pairs} {slots : List ℕ} {slot end last : ℕ} {w : Window} {list : List ℕ} {at : ℕ} {list' : List ℕ} {at' : ℕ} {rest : Window} (k : Opened kind all slots slot end w) (other : Opened kind all slots slot last w)
     → Going kind all w k.known.bytes k.known.behind list at list' at' rest → Stops kind all rest → (other.known.behind ≡ rest) × (other.cs ≡ k.cs)
 branch_same {all = all} k other g stops =
     let s = on_stop g.run stops in
@@ -437,7 +428,7 @@ next_count kind slots slot cs numbers two many = counted (is_hashed kind (length
 
     counted : (b : Bool) → length (cond b (placed_next ends from cs numbers ++ last ∷ []) (Slot (slot + length cs) ∷ map Text cs)) ≤ cond b (2 * length cs + 1) (length cs) + (length cs - 1)
     counted true = let a = length-append (placed_next ends from cs numbers) (last ∷ []) in let p = count_placed numbers in omega (arith, two, many)
-    counted false = let a = map_count Text cs in omega (arith, two)
+    counted false = let a = count_map Text cs in omega (arith, two)
 
 leads_at : {kind : Kind} {all : Pairs} {slots : List ℕ} {slot end : ℕ} {w : Window} (k : Opened kind all slots slot end w) (cs : List Window) (numbers : List ℕ) → k.cs ≡ cs → 0 < length cs
     → AllByRecursion (λ j. j < length cs) numbers → (is_hashed kind (length cs) ≡ false → map (window_at cs) numbers ≡ cs)

@@ -57,7 +57,7 @@ spelled_len form L v rest trail known is below digit c =
     (subst (λ x. (x ≡ 16) ⊎ (x ≡ 32)) (sym is) known)
     (record { digit = rest; trail = trail; below = below; digit_below = omega arith; is_trail = c'.is_trail; bytes_are = refl; value = c'.value })))
 
-pub count_map : {A : Type 0} (f : A → ℕ) (xs : List A) → length (map f xs) ≡ length xs
+pub count_map : {A B : Type 0} (f : A → B) (xs : List A) → length (map f xs) ≡ length xs
 count_map f [] = refl
 count_map f (x ∷ xs) = ap suc (count_map f xs)
 

@@ -1,6 +1,6 @@
 -- The slots of a branch, and what they lead to.
 use Rattle.std.proofs.Common.{◌≡◌, ℕ, zero, suc, ◌+◌, ◌-◌, ◌*◌, ◌<◌, ◌≤◌, inl, inr, List, [], ◌∷◌, ◌++◌, length, refl, sym, ◌∙◌, ap, subst, arith, get_or, take, drop, map, append_assoc, length-append, length-drop, true, false, cond, Bool, All}
-use Rattle.std.specs.List.{concat, range_with_len, AllByRecursion}
+use Rattle.std.specs.List.{concat, AllByRecursion}
 use Rattle.std.specs.List.Sorted.{IsStrictlyIncreasing}
 use Rattle.std.proofs.lemmas.Bool.{cases_lt}
 use Rattle.std.proofs.lemmas.List.{drop-drop, drop_at, take_at}
@@ -14,8 +14,8 @@ use Rattle.zerotrie_build.specs.passes.Windows.{window, edge_of, IsGroup}
 use Rattle.zerotrie_build.specs.passes.Measured.{Parts, IsOpen, Kept, KeptEach, sizes_of, slots_of, ends_from}
 use Rattle.zerotrie_build.specs.passes.Measured.Kept.{kept}
 use Rattle.zerotrie_build.specs.passes.Measured.KeptEach.{none as none_kept, more as more_kept}
-use Rattle.zerotrie_build.specs.passes.Writing.{no_window, window_at, placed_next, next_of, HasSlots, KeptTo, Leads}
-use Rattle.zerotrie_build.specs.passes.Writing.Leads.{done, slot as to_slot, text as to_text}
+use Rattle.zerotrie_build.specs.passes.Writing.{window_at, placed_next, next_of, HasSlots, KeptTo, Leads}
+use Rattle.zerotrie_build.specs.passes.Writing.Leads.{slot as to_slot, text as to_text}
 use Rattle.zerotrie_build.proofs.PutLemmas.{count_map}
 
 -- the first items with one byte end at one place
@@ -47,7 +47,7 @@ pub parts_order : (all : Pairs) (w : Window) (cs : List Window) → Parts all w 
 parts_order all w [] p = omega arith
 parts_order all w (c ∷ cs) p = let a = p.2.some in let b = p.2.within in omega arith
 
-pub length-ends_from : (n : ℕ) (ms : List ℕ) → length (ends_from n ms) ≡ length ms
+length-ends_from : (n : ℕ) (ms : List ℕ) → length (ends_from n ms) ≡ length ms
 length-ends_from n [] = refl
 length-ends_from n (m ∷ ms) = ap suc (length-ends_from (n + m) ms)
 
@@ -66,10 +66,10 @@ ends_last n (s ∷ t ∷ below) h =
     ap (λ i. get_or (ends_from n (map length (s ∷ t ∷ below))) i 0) next ∙ r ∙ (let e : (n + length s) + length (concat (t ∷ below)) ≡ n + length (concat (s ∷ t ∷ below)) = omega arith in e)
 
 -- the slots of a branch
-pub slots_hashed : (kind : Kind) (lens : List ℕ) (below : List (List ℕ)) → is_hashed kind (length lens) ≡ true → slots_of kind lens below ≡ lens ++ (ends_from 0 (map length below) ++ concat below)
+slots_hashed : (kind : Kind) (lens : List ℕ) (below : List (List ℕ)) → is_hashed kind (length lens) ≡ true → slots_of kind lens below ≡ lens ++ (ends_from 0 (map length below) ++ concat below)
 slots_hashed kind lens below h = ap (λ is. lens ++ (cond is (ends_from 0 (map length below)) [] ++ concat below)) h
 
-pub slots_plain : (kind : Kind) (lens : List ℕ) (below : List (List ℕ)) → is_hashed kind (length lens) ≡ false → slots_of kind lens below ≡ lens ++ concat below
+slots_plain : (kind : Kind) (lens : List ℕ) (below : List (List ℕ)) → is_hashed kind (length lens) ≡ false → slots_of kind lens below ≡ lens ++ concat below
 slots_plain kind lens below h = ap (λ is. lens ++ (cond is (ends_from 0 (map length below)) [] ++ concat below)) h
 
 -- What is at the slots of a branch with a hashed table.
@@ -78,7 +78,7 @@ pub record HashedAt (slots : List ℕ) (slot count : ℕ) (below : List (List �
   pub behind : drop (slot + 2 * count) slots ≡ concat below ++ more
   pub room : slot + 2 * count + length (concat below) ≤ length slots
 
-pub hashed_at : (kind : Kind) (slots : List ℕ) (slot count : ℕ) (lens : List ℕ) (below : List (List ℕ)) (more : List ℕ) → is_hashed kind count ≡ true → length lens ≡ count → length below ≡ count → 0 < count
+hashed_at : (kind : Kind) (slots : List ℕ) (slot count : ℕ) (lens : List ℕ) (below : List (List ℕ)) (more : List ℕ) → is_hashed kind count ≡ true → length lens ≡ count → length below ≡ count → 0 < count
     → drop slot slots ≡ slots_of kind lens below ++ more → HashedAt slots slot count below more
 hashed_at kind slots slot count lens below more h lens_each below_each some is =
     let ends = ends_from 0 (map length below) in
@@ -129,21 +129,14 @@ branch_within {kind = kind} {slots = slots} {slot = slot} h ws n parts count =
     let k = branch_known h ws n parts count in
     (slots_lens kind slots slot n h.lens h.below h.more k.0 k.2 h.slots_are).1
 
--- What is at the slots of another branch.
-pub record PlainAt (slots : List ℕ) (slot count : ℕ) (below : List (List ℕ)) (more : List ℕ) : Type 0 where
-  pub behind : drop (slot + count) slots ≡ concat below ++ more
-
-pub plain_at : (kind : Kind) (slots : List ℕ) (slot count : ℕ) (lens : List ℕ) (below : List (List ℕ)) (more : List ℕ) → is_hashed kind count ≡ false → length lens ≡ count
-    → drop slot slots ≡ slots_of kind lens below ++ more → PlainAt slots slot count below more
+-- what is behind the lengths of another branch
+plain_at : (kind : Kind) (slots : List ℕ) (slot count : ℕ) (lens : List ℕ) (below : List (List ℕ)) (more : List ℕ) → is_hashed kind count ≡ false → length lens ≡ count
+    → drop slot slots ≡ slots_of kind lens below ++ more → drop (slot + count) slots ≡ concat below ++ more
 plain_at kind slots slot count lens below more h lens_each is =
     let all_below = concat below in
     let whole : drop slot slots ≡ lens ++ (all_below ++ more) =
     is ∙ ap (λ x. x ++ more) (slots_plain kind lens below (ap (is_hashed kind) lens_each ∙ h)) ∙ append_assoc lens all_below more in
-    record { behind = sym (drop-drop count slot slots) ∙ ap (drop count) whole ∙ drop_at lens (all_below ++ more) count lens_each }
-
-count_of : {A B : Type 0} (f : A → B) (xs : List A) → length (map f xs) ≡ length xs
-count_of f [] = refl
-count_of f (x ∷ xs) = ap suc (count_of f xs)
+    sym (drop-drop count slot slots) ∙ ap (drop count) whole ∙ drop_at lens (all_below ++ more) count lens_each
 
 -- What is known of a window whose slots are these.
 pub record Opened (kind : Kind) (all : Pairs) (slots : List ℕ) (slot end : ℕ) (w : Window) : Type 0 where
@@ -219,7 +212,7 @@ next_leads {kind = kind} {all = all} {slots = slots} {slot = slot} {end = end} k
     lens = sizes_of kind all k.cs
 
     lens_each : length lens ≡ count
-    lens_each = count_of (size_of kind) (map (window all) k.cs) ∙ count_of (window all) k.cs
+    lens_each = count_map (size_of kind) (map (window all) k.cs) ∙ count_map (window all) k.cs
 
     either : (b : Bool) → is_hashed kind count ≡ b → Leads kind all slots slot (next_of kind slots slot k.cs numbers ++ next) (map (window_at k.cs) numbers ++ ws)
     either true is =
@@ -251,7 +244,7 @@ next_leads {kind = kind} {all = all} {slots = slots} {slot = slot} {end = end} k
         let long = ap length (slots_plain kind lens k.below (ap (is_hashed kind) lens_each ∙ is)) in
         let a = length-append lens (concat k.below) in
         omega (arith, lens_each)) in
-        let there = to_slot (leads_sorted slots (slot + count) k.more k.each p.behind next ws (subst (λ n. Leads kind all slots n next ws) last then)) in
+        let there = to_slot (leads_sorted slots (slot + count) k.more k.each p next ws (subst (λ n. Leads kind all slots n next ws) last then)) in
         subst (λ x. Leads kind all slots slot (x ++ next) (map (window_at k.cs) numbers ++ ws)) (sym (next_plain kind slots slot k.cs numbers is))
         (subst (λ x. Leads kind all slots slot (Slot (slot + count) ∷ map Text k.cs ++ next) (x ++ ws)) (sym (sorted is)) there)
 

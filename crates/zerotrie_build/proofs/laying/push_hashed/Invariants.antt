@@ -1,4 +1,4 @@
-use Rattle.std.proofs.Common.{◌≡◌, ◌∷◌, ◌++◌, drop}
+use Rattle.std.proofs.Common.{◌≡◌, ◌++◌, drop}
 use Rattle.zerotrie_build.specs.passes.Writing.{placed_next}
 use Rattle.zerotrie_build.proofs.laying.push_hashed.Given as goal
 

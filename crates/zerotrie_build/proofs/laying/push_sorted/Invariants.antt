@@ -1,5 +1,5 @@
-use Rattle.std.proofs.Common.{◌≡◌, ◌∷◌, ◌++◌, map, drop}
-use Rattle.zerotrie_build.specs.declared.laying.Next.TheVariants.{Slot, Text}
+use Rattle.std.proofs.Common.{◌≡◌, ◌++◌, map, drop}
+use Rattle.zerotrie_build.specs.declared.laying.Next.TheVariants.{Text}
 use Rattle.zerotrie_build.proofs.laying.push_sorted.Given as goal
 
 abbrev pub invariant-loop-window : goal.invariant-loop-window

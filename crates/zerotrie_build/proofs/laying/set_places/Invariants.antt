@@ -1,4 +1,4 @@
-use Rattle.std.proofs.Common.{◌≡◌, ◌+◌, take, map}
+use Rattle.std.proofs.Common.{◌≡◌, take, map}
 use Rattle.zerotrie_build.specs.passes.Writing.{place_in}
 use Rattle.zerotrie_build.proofs.laying.set_places.Given as goal
 

@@ -1,10 +1,10 @@
-use Rattle.std.proofs.Common.{rules, ◌≡◌, ℕ, ◌-◌, ◌+◌, ◌<◌, ◌≤◌, ap, subst, sym, ◌∙◌, arith, length, length-append, take, drop}
+use Rattle.std.proofs.Common.{rules, ap, sym, ◌∙◌, arith, length, length-append, take, drop}
 use Rattle.zerotrie_core.specs.Numbers.{span_form, spelled_as}
 use Rattle.zerotrie_build.specs.Items.{pairs}
 use Rattle.zerotrie_build.specs.passes.Windows.{item_of}
 use Rattle.zerotrie_build.specs.passes.Writing.{next_of}
 use Rattle.zerotrie_build.proofs.FrontLemmas.{going_start, going_value, going_literal, going_span, open_bytes, room_value, room_literal, room_span, span_within}
-use Rattle.zerotrie_build.proofs.SlotLemmas.{opened, parts_order}
+use Rattle.zerotrie_build.proofs.SlotLemmas.{opened}
 use Rattle.zerotrie_build.proofs.BranchLemmas.{branch_slots, branch_windows, branch_lens, branch_numbers, branch_small, branch_room, branch_refused, front_branch, front_end}
 use Rattle.zerotrie_build.proofs.writing.Writing.put_front.Goals as goal
 
