@@ -2,7 +2,7 @@ use Rattle.std.proofs.Common.{sym}
 use Rattle.std.proofs.lemmas.List.{map-append}
 use Rattle.zerotrie_build.specs.Items.{pairs}
 use Rattle.zerotrie_build.proofs.Items.{take_one_more}
-use Rattle.zerotrie_build.proofs.slice_indices.ByteSliceWithIndices.to_vec_in.Goals as goal
+use Rattle.zerotrie_build.proofs.slice_indices.ByteSliceWithIndices.to_vec_u8.Goals as goal
 
 pub loop-index-preserved : goal.loop-index-preserved
 loop-index-preserved g c =
