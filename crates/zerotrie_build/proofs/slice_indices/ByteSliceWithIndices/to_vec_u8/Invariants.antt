@@ -4,4 +4,4 @@ use Rattle.zerotrie_build.specs.Items.{pairs}
 use Rattle.zerotrie_build.proofs.slice_indices.ByteSliceWithIndices.to_vec_u8.Given as goal
 
 abbrev pub invariant-loop-index : goal.invariant-loop-index
-invariant-loop-index g l = pairs_of l.items.items ≡ take l.index (pairs l.self)
+invariant-loop-index l = pairs_of l.items.items ≡ take l.index (pairs l.self)
