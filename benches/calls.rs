@@ -80,6 +80,10 @@ unsafe extern "C" {
         kind: u8, route: u8, keys: *const u8, keys_len: usize, ends: *const usize, ends_len: usize,
         times: usize, out: *mut u8, out_len: usize,
     ) -> usize;
+    #[link_name = "build_map_many"]
+    fn build_map_many_(
+        kind: u8, keys: *const u8, keys_len: usize, ends: *const usize, ends_len: usize, times: usize,
+    ) -> usize;
     #[link_name = "hash_many"]
     fn hash_many_(keys: *const u8, keys_len: usize, times: usize) -> usize;
 }
@@ -116,15 +120,20 @@ pub fn get(kind: Kind, bytes: &[u8], key: &[u8]) -> Option<usize> {
 }
 
 /// Asks for each key and adds up what is found.
+pub fn asked_by(keys: &[&[u8]], get: impl Fn(&[u8]) -> Option<usize>) -> usize {
+    keys.iter().map(|key| get(key).unwrap_or(1)).fold(0, usize::wrapping_add)
+}
+
+/// The same, by a look-up of the library.
 pub fn asked(kind: Kind, bytes: &[u8], keys: &[&[u8]]) -> usize {
     let call = getter(kind);
-    crate::asked(keys, |key| found_by(call, bytes, key))
+    asked_by(keys, |key| found_by(call, bytes, key))
 }
 
 /// The same, by a cursor's steps.
 pub fn stepped(kind: Kind, bytes: &[u8], keys: &[&[u8]]) -> usize {
     let call = stepper(kind);
-    crate::asked(keys, |key| found_by(call, bytes, key))
+    asked_by(keys, |key| found_by(call, bytes, key))
 }
 
 pub fn is_well_formed(kind: Kind, bytes: &[u8]) -> bool {
@@ -183,6 +192,15 @@ pub fn build_many(kind: Kind, route: u8, flat: &Flat, times: usize, out: &mut [u
     }
 }
 
+pub fn build_map_many(kind: Kind, flat: &Flat, times: usize) -> usize {
+    // SAFETY: the function reads the two slices.
+    unsafe {
+        build_map_many_(
+            kind as u8, flat.keys.as_ptr(), flat.keys.len(), flat.ends.as_ptr(), flat.ends.len(), times,
+        )
+    }
+}
+
 /// The bytes of a trie of the keys, each with its number as its value.
 pub fn built(kind: Kind, route: u8, keys: &[Vec<u8>]) -> Vec<u8> {
     let flat = Flat::of(keys);
@@ -201,7 +219,7 @@ pub fn hash_many(keys: &[u8], times: usize) -> usize {
 /// The same work by the original.
 #[cfg(original)]
 pub mod original {
-    use super::Kind;
+    use super::{Kind, asked_by};
     use original::_internal::PerfectByteHashMap;
     use original::dense::ZeroAsciiDenseSparse2dTrieOwned;
     use original::*;
@@ -209,10 +227,10 @@ pub mod original {
 
     pub fn asked(kind: Kind, bytes: &[u8], keys: &[&[u8]]) -> usize {
         match kind {
-            Kind::Simple => crate::asked(keys, |key| ZeroTrieSimpleAscii::from_bytes(bytes).get(key)),
-            Kind::Ignore => crate::asked(keys, |key| ZeroAsciiIgnoreCaseTrie::from_bytes(bytes).get(key)),
-            Kind::Hash => crate::asked(keys, |key| ZeroTriePerfectHash::from_bytes(bytes).get(key)),
-            Kind::Ext => crate::asked(keys, |key| ZeroTrieExtendedCapacity::from_bytes(bytes).get(key)),
+            Kind::Simple => asked_by(keys, |key| ZeroTrieSimpleAscii::from_bytes(bytes).get(key)),
+            Kind::Ignore => asked_by(keys, |key| ZeroAsciiIgnoreCaseTrie::from_bytes(bytes).get(key)),
+            Kind::Hash => asked_by(keys, |key| ZeroTriePerfectHash::from_bytes(bytes).get(key)),
+            Kind::Ext => asked_by(keys, |key| ZeroTrieExtendedCapacity::from_bytes(bytes).get(key)),
         }
     }
 
@@ -237,14 +255,14 @@ pub mod original {
     /// By steps of a cursor, in the kinds that have one.
     pub fn stepped(kind: Kind, bytes: &[u8], keys: &[&[u8]]) -> Option<usize> {
         match kind {
-            Kind::Simple => Some(crate::asked(keys, |key| {
+            Kind::Simple => Some(asked_by(keys, |key| {
                 let mut cursor = ZeroTrieSimpleAscii::from_bytes(bytes).cursor();
                 for byte in key {
                     cursor.step(*byte);
                 }
                 cursor.take_value()
             })),
-            Kind::Ignore => Some(crate::asked(keys, |key| {
+            Kind::Ignore => Some(asked_by(keys, |key| {
                 let mut cursor = ZeroAsciiIgnoreCaseTrie::from_bytes(bytes).cursor();
                 for byte in key {
                     cursor.step(*byte);

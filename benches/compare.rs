@@ -4,7 +4,7 @@ mod calls;
 mod dense;
 mod sets;
 
-use calls::{Flat, Kind};
+use calls::{Flat, Kind, asked_by};
 use sets::{Random, Set, Table};
 use std::collections::{BTreeMap, HashMap};
 use std::hint::black_box;
@@ -42,11 +42,6 @@ fn run_line(name: &str, rounds: usize, items: usize, mut contestants: Vec<(&str,
     print_line(name, &names, &times);
 }
 
-/// Asks for each key and adds up what is found.
-fn asked(keys: &[&[u8]], get: impl Fn(&[u8]) -> Option<usize>) -> usize {
-    keys.iter().map(|key| get(key).unwrap_or(1)).fold(0, usize::wrapping_add)
-}
-
 fn look_ups(set: &Set, kind: Kind, rounds: usize) {
     let bytes = calls::built(kind, 0, &set.keys);
     let ordered: BTreeMap<&[u8], usize> = pairs(set).collect();
@@ -64,9 +59,9 @@ fn look_ups(set: &Set, kind: Kind, rounds: usize) {
         let bytes = bytes.as_slice();
         contestants.push(("ours", Box::new(move || (0..turns).map(|_| calls::asked(kind, bytes, keys)).sum())));
         let ordered = &ordered;
-        contestants.push(("BTreeMap", Box::new(move || (0..turns).map(|_| asked(keys, |key| ordered.get(key).copied())).sum())));
+        contestants.push(("BTreeMap", Box::new(move || (0..turns).map(|_| asked_by(keys, |key| ordered.get(key).copied())).sum())));
         let hashed = &hashed;
-        contestants.push(("HashMap", Box::new(move || (0..turns).map(|_| asked(keys, |key| hashed.get(key).copied())).sum())));
+        contestants.push(("HashMap", Box::new(move || (0..turns).map(|_| asked_by(keys, |key| hashed.get(key).copied())).sum())));
         #[cfg(original)]
         contestants.push(("the crate", Box::new(move || (0..turns).map(|_| calls::original::asked(kind, bytes, keys)).sum())));
         run_line(&format!("{}, {}, {what}", set.name, kind.name()), rounds, turns * keys.len(), contestants);

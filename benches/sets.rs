@@ -104,7 +104,8 @@ const VOWELS: &[&str] = &["a", "e", "i", "o", "u", "ai", "ea", "ee", "io", "ou"]
 const CODAS: &[&str] = &["", "", "b", "ck", "d", "l", "ll", "m", "n", "nd", "ng", "nt", "r", "s", "st", "t"];
 const ENDINGS: &[&str] = &["", "", "", "ed", "er", "ing", "ion", "ly", "ness", "s"];
 
-fn words(seed: u64, count: usize) -> Vec<Vec<u8>> {
+/// So many words, the same for the same seed.
+pub fn words(seed: u64, count: usize) -> Vec<Vec<u8>> {
     let mut random = Random::new(seed);
     collected(count, || {
         let mut word = String::new();

@@ -9,11 +9,6 @@ use calls::Kind;
 use original::*;
 use std::collections::BTreeMap;
 
-/// Asks for each key and adds up what is found.
-fn asked(keys: &[&[u8]], get: impl Fn(&[u8]) -> Option<usize>) -> usize {
-    keys.iter().map(|key| get(key).unwrap_or(1)).fold(0, usize::wrapping_add)
-}
-
 struct Random(u64);
 
 impl Random {

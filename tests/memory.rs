@@ -1,5 +1,6 @@
 //! The memory that the library takes: it can be refused, and is counted.
 
+use std::alloc::{GlobalAlloc, Layout};
 use std::sync::atomic::{AtomicBool, AtomicUsize, Ordering::Relaxed};
 
 /// How many requests are still granted before one is refused.
@@ -37,6 +38,12 @@ pub fn grant() -> bool {
 #[allow(dead_code)]
 pub fn blocks() -> usize {
     BLOCKS.load(Relaxed)
+}
+
+/// How many bytes are held.
+#[allow(dead_code)]
+pub fn held() -> usize {
+    BYTES.load(Relaxed)
 }
 
 /// The most bytes that were held at once since the last call.
@@ -112,4 +119,30 @@ extern "C" fn rattle_dealloc(place: *mut u8) {
     given_back(place);
     // SAFETY: the block is held, and given back once.
     unsafe { free(place) }
+}
+
+/// What a program takes itself is counted with it where this is its allocator.
+#[allow(dead_code)]
+pub struct Counted;
+
+// SAFETY: the blocks are malloc's, which suit any layout of 16 bytes or less.
+unsafe impl GlobalAlloc for Counted {
+    unsafe fn alloc(&self, layout: Layout) -> *mut u8 {
+        assert!(layout.align() <= 16);
+        granted(rattle_alloc(layout.size(), layout.align()))
+    }
+
+    unsafe fn realloc(&self, place: *mut u8, layout: Layout, size: usize) -> *mut u8 {
+        granted(rattle_realloc(place, layout.size(), size, layout.align()))
+    }
+
+    unsafe fn dealloc(&self, place: *mut u8, _: Layout) {
+        rattle_dealloc(place)
+    }
+}
+
+/// Where a block is, or null.
+#[allow(dead_code)]
+fn granted(block: Block) -> *mut u8 {
+    if block.taken == 0 { std::ptr::null_mut() } else { block.place }
 }

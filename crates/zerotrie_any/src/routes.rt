@@ -48,7 +48,7 @@ pub(crate) fn items_of<Key: TrieKey + Ord>(
     ensures items { IfOk result (λ items. pairs_of items.items ≡ keyed Key.key entries.now.entries) }
     ensures by_bytes { IsByBytes Key.cmp Key.key → OnOk result (Ascends (keyed Key.key entries.now.entries)) }
 {
-    let mut items = Vec::new(alloc);
+    let mut items = Vec::with_capacity(alloc, entries.len())?;
     for (key, value) in entries {
         items.push((key.key_bytes(), *value))?;
     }

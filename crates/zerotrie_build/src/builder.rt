@@ -1,17 +1,17 @@
 //! The builder.
 
-ghost use Rattle.std.specs.Prelude.{◌≡◌, ◌≢◌, ◌<◌, IfOk, OnOk, IfErr, length};
+ghost use Rattle.std.specs.Prelude.{◌≡◌, ◌≢◌, ◌<◌, IfOk, IfErr, length};
 ghost use Rattle.std.specs.List.Sorted.{IsPermutation};
 ghost use Rattle.std.specs.Iterator.{IsFiniteIterable};
 ghost use Rattle.zerotrie_core.specs.Items.{pairs_of, keyed};
 ghost use Rattle.zerotrie_core.specs.Kind.{kind_with};
 ghost use Rattle.zerotrie_core.specs.Maps.{Ascends};
-ghost use Rattle.zerotrie_core.specs.Routes.{ascending, any_order, HasCause, IsBuild, IsLength, OfAllGiven, IsBuildOfAll};
+ghost use Rattle.zerotrie_core.specs.Routes.{ascending, any_order, IsRefusal, IsBuild, IsLength, OfAllGiven, IsBuildOfAll};
 ghost use Rattle.zerotrie_build.specs.Items.{pairs};
 ghost use Rattle.zerotrie_build.specs.Order.{Ordered, AreKeys, AreValues};
 
 use crate::measuring::measure_all;
-use crate::order::{are_keys, is_ordered, repeats_next, sort_by_fold};
+use crate::order::{are_keys, is_ordered, repeats_next, sorted_by_fold};
 use crate::slice_indices::ByteSliceWithIndices;
 use crate::store::TrieBuilderStore;
 use crate::writing::write;
@@ -21,30 +21,30 @@ use zerotrie_core::{
     ZeroTrieWithOptions, laws,
 };
 
-/// Puts the items in the order of the kind.
-fn put_in_order<K: ZeroTrieWithOptions, A: Allocator>(
+/// The items in the order of the kind.
+fn in_order<K: ZeroTrieWithOptions, Key: TrieKey, A: Allocator + Copy>(
     alloc: A,
-    items: &mut [(&[u8], usize)],
-) -> Result<(), ZeroTrieBuildError>
-    ensures same { IsPermutation (pairs_of items.old) (pairs_of items.new) }
-    ensures ordered { OnOk result (Ordered K.kind (pairs_of items.new)) }
-    ensures keys { OnOk result (AreKeys K.kind (pairs_of items.new)) }
-    ensures values { OnOk result (AreValues (pairs_of items.new)) }
-    ensures refused { IfErr result (HasCause any_order K.kind (pairs_of items.old)) }
+    given: &[(Key, usize)],
+) -> Result<Vec<(&[u8], usize), A>, ZeroTrieBuildError>
+    ensures same { IfOk result (λ items. IsPermutation (keyed Key.key given.now) (pairs_of items.items)) }
+    ensures ordered { IfOk result (λ items. Ordered K.kind (pairs_of items.items)) }
+    ensures keys { IfOk result (λ items. AreKeys K.kind (pairs_of items.items)) }
+    ensures values { IfOk result (λ items. AreValues (pairs_of items.items)) }
+    ensures refused { IfErr result (IsRefusal any_order K.kind (keyed Key.key given.now)) }
     ensures no_search { IfErr result (λ e. e ≢ ZeroTrieBuildError.CouldNotSolvePerfectHash) }
 {
-    sort_by_fold::<K, A>(alloc, items);
-    if repeats_next(items) {
+    let items = sorted_by_fold::<K, Key, A>(alloc, given)?;
+    if repeats_next(items.as_slice()) {
         return Err(ZeroTrieBuildError::DuplicateKey);
     }
-    let sorted = ByteSliceWithIndices::from_byte_slice(items);
+    let sorted = ByteSliceWithIndices::from_byte_slice(items.as_slice());
     if !are_keys::<K>(sorted) {
         return Err(ZeroTrieBuildError::NonAsciiError);
     }
     if K::IGNORE_CASE && !is_ordered::<K>(sorted) {
         return Err(ZeroTrieBuildError::MixedCase);
     }
-    Ok(())
+    Ok(items)
 }
 
 /// The bytes of the trie of items in the order of the kind.
@@ -64,15 +64,17 @@ fn grow_ordered<K: ZeroTrieWithOptions, S: TrieBuilderStore + Drop, A: Allocator
 }
 
 /// The bytes of the trie of items in any order, which are put in the order of the kind.
-fn grow_sorted<K: ZeroTrieWithOptions, S: TrieBuilderStore + Drop, A: Allocator + Copy>(
-    alloc: Global,
-    spare: A,
-    items: &mut [(&[u8], usize)],
-) -> Result<S, ZeroTrieBuildError>
-    ensures { IsBuild any_order K.kind S.list (pairs_of items.old) result }
+fn grow_sorted<
+    K: ZeroTrieWithOptions,
+    Key: TrieKey,
+    S: TrieBuilderStore + Drop,
+    A: Allocator + Copy,
+>(alloc: Global, spare: A, given: &[(Key, usize)]) -> Result<S, ZeroTrieBuildError>
+    ensures { IsBuild any_order K.kind S.list (keyed Key.key given.now) result }
 {
-    put_in_order::<K, A>(spare, items)?;
-    grow_ordered::<K, S, A>(alloc, spare, ByteSliceWithIndices::from_byte_slice(items))
+    let items = in_order::<K, Key, A>(spare, given)?;
+    let items = ByteSliceWithIndices::from_byte_slice(items.as_slice());
+    grow_ordered::<K, S, A>(alloc, spare, items)
 }
 
 /// The bytes of the trie of items that ascend by the bytes of their keys. Where the kind has another order,
@@ -91,8 +93,10 @@ fn grow_ascending<K: ZeroTrieWithOptions, S: TrieBuilderStore + Drop, A: Allocat
     if !K::IGNORE_CASE || is_ordered::<K>(items) {
         return grow_ordered::<K, S, A>(alloc, spare, items);
     }
-    let mut items = items.to_vec_in(spare)?;
-    grow_sorted::<K, S, A>(alloc, spare, items.as_mut_slice())
+    match items {
+        ByteSliceWithIndices::Bytes(items) => grow_sorted::<K, &[u8], S, A>(alloc, spare, items),
+        ByteSliceWithIndices::Str(items) => grow_sorted::<K, &str, S, A>(alloc, spare, items),
+    }
 }
 
 /// The bytes of the trie of items that ascend by the bytes of their keys, in the kind of the options.
@@ -117,22 +121,22 @@ fn grow_slice<S: TrieBuilderStore + Drop, A: Allocator + Copy>(
 }
 
 /// The bytes of the trie of items in any order, in the kind of the options.
-fn grow_any<S: TrieBuilderStore + Drop, A: Allocator + Copy>(
+fn grow_any<Key: TrieKey, S: TrieBuilderStore + Drop, A: Allocator + Copy>(
     alloc: Global,
     spare: A,
-    items: &mut [(&[u8], usize)],
+    given: &[(Key, usize)],
     options: ZeroTrieBuilderOptions,
 ) -> Result<S, ZeroTrieBuildError>
-    ensures { IsBuild any_order (kind_with options) S.list (pairs_of items.old) result }
+    ensures { IsBuild any_order (kind_with options) S.list (keyed Key.key given.now) result }
 {
     if options.ignore_case() {
-        grow_sorted::<Ignore, S, A>(alloc, spare, items)
+        grow_sorted::<Ignore, Key, S, A>(alloc, spare, given)
     } else if options.extended() {
-        grow_sorted::<Ext, S, A>(alloc, spare, items)
+        grow_sorted::<Ext, Key, S, A>(alloc, spare, given)
     } else if options.use_phf() {
-        grow_sorted::<Hash, S, A>(alloc, spare, items)
+        grow_sorted::<Hash, Key, S, A>(alloc, spare, given)
     } else {
-        grow_sorted::<Simple, S, A>(alloc, spare, items)
+        grow_sorted::<Simple, Key, S, A>(alloc, spare, given)
     }
 }
 
@@ -151,14 +155,17 @@ fn len_ordered<K: ZeroTrieWithOptions, A: Allocator + Copy>(
 }
 
 /// How long the text of items in any order is, which are put in the order of the kind.
-fn len_sorted<K: ZeroTrieWithOptions, A: Allocator + Copy>(
+fn len_sorted<K: ZeroTrieWithOptions, Key: TrieKey, A: Allocator + Copy>(
     alloc: A,
-    items: &mut [(&[u8], usize)],
+    given: &[(Key, usize)],
 ) -> Result<usize, ZeroTrieBuildError>
-    ensures { IsLength any_order K.kind (pairs_of items.old) result }
+    ensures { IsLength any_order K.kind (keyed Key.key given.now) result }
 {
-    put_in_order::<K, A>(alloc, items)?;
-    len_ordered::<K, A>(alloc, ByteSliceWithIndices::from_byte_slice(items))
+    let items = in_order::<K, Key, A>(alloc, given)?;
+    len_ordered::<K, A>(
+        alloc,
+        ByteSliceWithIndices::from_byte_slice(items.as_slice()),
+    )
 }
 
 /// How long the text of items that ascend by the bytes of their keys is.
@@ -175,8 +182,10 @@ fn len_ascending<K: ZeroTrieWithOptions, A: Allocator + Copy>(
     if !K::IGNORE_CASE || is_ordered::<K>(items) {
         return len_ordered::<K, A>(alloc, items);
     }
-    let mut items = items.to_vec_in(alloc)?;
-    len_sorted::<K, A>(alloc, items.as_mut_slice())
+    match items {
+        ByteSliceWithIndices::Bytes(items) => len_sorted::<K, &[u8], A>(alloc, items),
+        ByteSliceWithIndices::Str(items) => len_sorted::<K, &str, A>(alloc, items),
+    }
 }
 
 /// How long the text of items that ascend by the bytes of their keys is, in the kind of the options.
@@ -223,20 +232,6 @@ pub fn encoded_len(
     }
     let len = len_slice(alloc, items, options)?;
     Ok(len)
-}
-
-/// The items, each key by its bytes. The keys' bytes are not copied.
-fn items_of<K: TrieKey, A: Allocator>(
-    alloc: A,
-    given: &[(K, usize)],
-) -> Result<Vec<(&[u8], usize), A>, AllocError>
-    ensures { IfOk result (λ items. pairs_of items.items ≡ keyed K.key given.now) }
-{
-    let mut items = Vec::new(alloc);
-    for (key, value) in given {
-        items.push((key.key_bytes(), *value))?;
-    }
-    Ok(items)
 }
 
 /// A builder of tries, which measures their bytes and then writes them into a store that grows once.
@@ -297,9 +292,9 @@ impl<S: TrieBuilderStore + Drop> ZeroTrieBuilder<S> {
         ensures { IsBuildOfAll (OfAllGiven U.into_iter_gives U.IntoIter.next_gives K.key iter)
             (kind_with options) (λ b. S.list b.data) result }
     {
-        let given: Vec<(K, usize)> = iter.into_iter().collect(alloc)?;
-        let mut items = items_of(alloc, given.as_slice())?;
-        let data = grow_any(alloc, alloc, items.as_mut_slice(), options)?;
+        let mut given: Vec<(K, usize)> = iter.into_iter().collect(alloc)?;
+        given.shrink_to_fit();
+        let data = grow_any(alloc, alloc, given.as_slice(), options)?;
         Ok(ZeroTrieBuilder { data })
     }
 

@@ -5,7 +5,7 @@ ghost use Rattle.zerotrie_core.specs.Maps.{Ascends};
 ghost use Rattle.zerotrie_core.specs.Items.{pairs_of};
 ghost use Rattle.zerotrie_build.specs.Items.{pairs};
 
-use std::alloc::{AllocError, Allocator, Global};
+use std::alloc::{AllocError, Global};
 
 /// A slice of items, each a key and its value, whose keys are bytes or text.
 ///
@@ -78,17 +78,7 @@ impl<'a> ByteSliceWithIndices<'a> {
     pub fn to_vec_u8(self, alloc: Global) -> Result<Vec<(&'a [u8], usize)>, AllocError>
         ensures { IfOk result (λ items. pairs_of items.items ≡ pairs self.entry) }
     {
-        self.to_vec_in(alloc)
-    }
-
-    /// As `to_vec_u8`, in memory of any allocator.
-    pub(crate) fn to_vec_in<A: Allocator>(
-        self,
-        alloc: A,
-    ) -> Result<Vec<(&'a [u8], usize), A>, AllocError>
-        ensures { IfOk result (λ items. pairs_of items.items ≡ pairs self.entry) }
-    {
-        let mut items = Vec::new(alloc);
+        let mut items = Vec::with_capacity(alloc, self.len())?;
         for index in 0..self.len() {
             items.push(self.get(index))?;
         }
