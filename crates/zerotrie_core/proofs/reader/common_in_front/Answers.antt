@@ -1,7 +1,7 @@
 use Rattle.std.proofs.Common.{◌+◌, subst, sym, ◌∙◌, arith}
 use Rattle.zerotrie_core.specs.reader.Literals.{AreCommon}
 use Rattle.zerotrie_core.proofs.LiteralLemmas.{common_one, common_behind}
-use Rattle.zerotrie_core.proofs.reader.common_literals.Goals as goal
+use Rattle.zerotrie_core.proofs.reader.common_in_front.Goals as goal
 
 pub returns-then-most : goal.returns-then-most
 returns-then-most g c =
