@@ -26,17 +26,17 @@ enum Descent<'a> {
 }
 
 /// How many literals it takes until a run of them is compared 16 at a time.
-const FEW: usize = 3;
+const FEW: usize = 1;
 
 /// How many bytes the longest value has.
 const LONGEST_VALUE: usize = 10;
 
 /// How many literals the bytes begin with that the key goes on with, where both are long: not always all of them.
 ///
-/// Sixteen are compared at a time. Where these are all the same, it goes on behind them and waits for no number;
+/// They are compared sixteen at a time. Where these are all the same, it goes on behind them and waits for no number;
 /// in the end come the last sixteen, some of which may have been compared before.
 #[inline(always)]
-fn common_in_long<K: ZeroTrieWithOptions>(bytes: &[u8], key: &[u8]) -> usize
+fn common_by_sixteens<K: ZeroTrieWithOptions>(bytes: &[u8], key: &[u8]) -> usize
     requires bytes { 16 ≤ length bytes.now }
     requires key { 16 ≤ length key.now }
     ensures { AreCommon K.kind bytes.now key.now result }
@@ -109,28 +109,30 @@ fn are_all_same(bytes: &[u8], key: &[u8]) -> bool
     true
 }
 
-/// How many literals the bytes begin with that the key goes on with: not always all of them.
+/// How many literals the bytes begin with that the key goes on with, where both are long: not always all of them.
 ///
-/// Where no more than a value lies behind so many bytes as the key has, it is held against them at once.
+/// Where no more than a value can lie behind as many bytes as the key has, it is as a rule the key's end that lies
+/// here, and all of it is compared at once.
 #[inline(always)]
-fn common_literals<K: ZeroTrieWithOptions>(bytes: &[u8], key: &[u8]) -> usize
+fn common_in_long<K: ZeroTrieWithOptions>(bytes: &[u8], key: &[u8]) -> usize
+    requires bytes { 16 ≤ length bytes.now }
+    requires key { 16 ≤ length key.now }
     ensures { AreCommon K.kind bytes.now key.now result }
 {
-    if key.len() >= 16
-        && key.len() <= bytes.len()
+    if key.len() <= bytes.len()
         && bytes.len() - key.len() <= LONGEST_VALUE
         && are_all_same(bytes, key)
     {
         return key.len();
     }
-    common_in_front::<K>(bytes, key)
+    common_by_sixteens::<K>(bytes, key)
 }
 
 /// How many literals the bytes begin with that the key goes on with: not always all of them.
 ///
 /// The first ones are compared one by one. Where these agree, the run is as a rule a long one.
 #[inline(always)]
-fn common_in_front<K: ZeroTrieWithOptions>(bytes: &[u8], key: &[u8]) -> usize
+fn common_literals<K: ZeroTrieWithOptions>(bytes: &[u8], key: &[u8]) -> usize
     ensures { AreCommon K.kind bytes.now key.now result }
 {
     let most = bytes.len().min(key.len());
