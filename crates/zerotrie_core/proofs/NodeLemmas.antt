@@ -1,6 +1,6 @@
 -- Which node bytes begin with.
-use Rattle.std.proofs.Common.{◌≡◌, ℕ, zero, suc, ◌+◌, ◌-◌, ◌*◌, ◌/◌, ◌%◌, ◌<◌, ◌≤◌, List, [], ◌∷◌, ◌++◌, length, sym, ◌∙◌, ap, subst, arith, true, drop, length-append}
-use Rattle.zerotrie_core.specs.Kind.{Kind, has_spans}
+use Rattle.std.proofs.Common.{◌≡◌, ℕ, zero, suc, ◌+◌, ◌-◌, ◌*◌, ◌/◌, ◌%◌, ◌<◌, ◌≤◌, List, [], ◌∷◌, ◌++◌, length, sym, ◌∙◌, ap, subst, arith, drop, length-append}
+use Rattle.zerotrie_core.specs.Kind.{Kind}
 use Rattle.zerotrie_core.specs.Branches.{before_edges}
 use Rattle.zerotrie_core.specs.Numbers.{BeginsWith, extender}
 use Rattle.zerotrie_core.specs.Nodes.{Shape, Begins, BeginsSpan, BeginsBranch}

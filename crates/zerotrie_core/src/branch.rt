@@ -132,6 +132,10 @@ fn offset_at(table: &[u8], place: usize, count: usize, width: usize) -> usize
     if width == 2 {
         return table[place] as usize * 256 + table[count + place] as usize;
     }
+    if width == 3 {
+        let high = table[place] as usize * 256 + table[count + place] as usize;
+        return high * 256 + table[2 * count + place] as usize;
+    }
     let mut value = 0;
     let mut rest = table;
     for _block in 0..width {
@@ -169,9 +173,25 @@ impl<'a> Branch<'a> {
         self.behind[index]
     }
 
+    /// The place of the edge that is the byte to the kind, where there are two edges.
+    #[inline(always)]
+    fn place_of_two<K: ZeroTrieWithOptions>(&self, byte: u8) -> Option<usize>
+        requires { self.now.edges ≡ 2 }
+        ensures some { IfSome result (IsPlace K.kind 2 self.now.behind.now byte) }
+        ensures none { IfNone result (HasNoPlace K.kind 2 self.now.behind.now byte) }
+    {
+        let sought = folded::<K>(byte);
+        let place = (folded::<K>(self.behind[1]) == sought) as usize;
+        if folded::<K>(self.behind[place]) == sought {
+            Some(place)
+        } else {
+            None
+        }
+    }
+
     /// The place of the edge that is the byte to the kind.
     ///
-    /// Up to 64 edges are looked at all at once, whatever their order, with what bytes stand behind them.
+    /// Two edges are each held against the byte. Up to 64 edges are looked at all at once, whatever their order, with what bytes stand behind them.
     /// Where there are more, or too few bytes are left, a table of more bytes than edges is hashed, in the
     /// kinds that have hashed tables, and any other is halved.
     #[inline(always)]
@@ -181,6 +201,9 @@ impl<'a> Branch<'a> {
             (IsTable K.kind (take self.now.edges self.now.behind.now) self.now.table.now
             → HasNoPlace K.kind self.now.edges self.now.behind.now byte) }
     {
+        if self.edges == 2 {
+            return self.place_of_two::<K>(byte);
+        }
         let (low, high) = both_cases::<K>(byte);
         if self.edges <= 16 && self.behind.len() >= 16 {
             return before_end(first_in_16(self.behind, low, high), self.edges);
@@ -198,14 +221,35 @@ impl<'a> Branch<'a> {
         place_in::<K>(edges, byte)
     }
 
+    /// The target of one of two edges, which lies before or behind the one offset, if it does.
+    ///
+    /// The offset is read whichever edge it is, so that it need not wait for the place.
+    #[inline(always)]
+    fn target_of_two(&self, index: usize) -> Option<&'a [u8]>
+        requires two { self.now.edges ≡ 2 }
+        requires index { index < 2 }
+        ensures { IsTargetResult 2 self.now.width self.now.behind.now index result }
+    {
+        let (_, body) = self.behind.split_at(2);
+        let (table, targets) = body.split_at(self.width);
+        let middle = offset_at(table, 0, 1, self.width);
+        let begin = if index == 0 { 0 } else { middle };
+        let end = if index == 0 { middle } else { targets.len() };
+        targets.get(begin..end)
+    }
+
     /// The target of an edge, which lies between two offsets, if it does.
     ///
-    /// Two offsets are read whichever edge it is, so that nothing waits for a test of its place.
+    /// Where there are more than two edges, two offsets are read whichever edge it is, so that nothing waits for a
+    /// test of its place.
     #[inline(always)]
     pub fn target_at(&self, index: usize) -> Option<&'a [u8]>
         requires { index < self.now.edges }
         ensures { IsTargetResult self.now.edges self.now.width self.now.behind.now index result }
     {
+        if self.edges == 2 {
+            return self.target_of_two(index);
+        }
         let count = self.edges - 1;
         let (_, body) = self.behind.split_at(self.edges);
         let (table, targets) = body.split_at(self.width * count);

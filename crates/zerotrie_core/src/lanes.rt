@@ -1,6 +1,6 @@
 //! Bytes held against two others, many at once.
 
-ghost use Rattle.std.specs.Prelude.{◌≡◌, ◌≢◌, ℕ, ◌<◌, ◌≤◌, ◌⊎◌, length, slice_index};
+ghost use Rattle.std.specs.Prelude.{◌≡◌, ◌≢◌, ℕ, ◌<◌, ◌≤◌, ◌⊎◌, length, slice_index, IsTrue};
 
 use std::simd::prelude::*;
 
@@ -61,4 +61,15 @@ pub fn first_other_in_16(bytes: &[u8], others: &[u8]) -> usize
     let differ = lanes.simd_ne(u8x16::from_slice(others)).to_bitmask();
     let high = lanes.simd_ge(u8x16::splat(128)).to_bitmask();
     (differ | high).trailing_zeros() as usize
+}
+
+/// Whether sixteen bytes are literals, and each the other byte there.
+#[inline(always)]
+pub fn are_same_in_16(bytes: &[u8], others: &[u8]) -> bool
+    requires bytes { 16 ≤ length bytes.now }
+    requires others { 16 ≤ length others.now }
+    ensures { IsTrue result → (k : ℕ) → k < 16 → (slice_index bytes.now k < 128)
+        × (slice_index bytes.now k ≡ slice_index others.now k) }
+{
+    first_other_in_16(bytes, others) >= 16
 }

@@ -5,15 +5,15 @@
 //! bytes, and a branch leads on by the next byte; where the kind ignores case, an ASCII letter is the same
 //! byte in either case. Bytes that are no trie get some answer, and nothing outside them is read.
 
-ghost use Rattle.std.specs.Prelude.{◌≡◌, ℕ, ◌+◌, ◌<◌, ◌≤◌, length};
+ghost use Rattle.std.specs.Prelude.{◌≡◌, ℕ, ◌+◌, ◌<◌, ◌≤◌, length, IsTrue};
 ghost use Rattle.zerotrie_core.specs.Maps.{Map, look};
 ghost use Rattle.zerotrie_core.specs.Texts.{Means, nodes};
 ghost use Rattle.zerotrie_core.specs.Shapes.{shape};
 ghost use Rattle.zerotrie_core.specs.reader.Descending.{Descends};
-ghost use Rattle.zerotrie_core.specs.reader.Literals.{AreCommon};
+ghost use Rattle.zerotrie_core.specs.reader.Literals.{AreCommon, AreSame};
 
 use crate::branch::folded;
-use crate::lanes::first_other_in_16;
+use crate::lanes::{are_same_in_16, first_other_in_16};
 use crate::node::{Node, first_node};
 use crate::options::ZeroTrieWithOptions;
 
@@ -26,14 +26,17 @@ enum Descent<'a> {
 }
 
 /// How many literals it takes until a run of them is compared 16 at a time.
-const FEW: usize = 3;
+const FEW: usize = 1;
+
+/// How many bytes the longest value has.
+const LONGEST_VALUE: usize = 10;
 
 /// How many literals the bytes begin with that the key goes on with, where both are long: not always all of them.
 ///
-/// Sixteen are compared at a time. Where these are all the same, it goes on behind them and waits for no number;
+/// They are compared sixteen at a time. Where these are all the same, it goes on behind them and waits for no number;
 /// in the end come the last sixteen, some of which may have been compared before.
 #[inline(always)]
-fn common_in_long<K: ZeroTrieWithOptions>(bytes: &[u8], key: &[u8]) -> usize
+fn common_by_sixteens<K: ZeroTrieWithOptions>(bytes: &[u8], key: &[u8]) -> usize
     requires bytes { 16 ≤ length bytes.now }
     requires key { 16 ≤ length key.now }
     ensures { AreCommon K.kind bytes.now key.now result }
@@ -54,6 +57,75 @@ fn common_in_long<K: ZeroTrieWithOptions>(bytes: &[u8], key: &[u8]) -> usize
     let (_, after) = key.split_at(last);
     let more = first_other_in_16(rest, after);
     if more < 16 { last + more } else { most }
+}
+
+/// Whether sixteen bytes are literals and those of the key, at a place or at the last place where there are sixteen.
+#[inline(always)]
+fn are_same_at(bytes: &[u8], key: &[u8], place: usize, last: usize) -> bool
+    requires bytes { last + 16 ≤ length bytes.now }
+    requires key { last + 16 ≤ length key.now }
+    ensures { IsTrue result → AreSame bytes.now key.now (last + 16) place (place + 16) }
+{
+    let from = place.min(last);
+    let (_, rest) = bytes.split_at(from);
+    let (_, after) = key.split_at(from);
+    are_same_in_16(rest, after)
+}
+
+/// The same for 64 bytes from a place on, or as many as there are.
+#[inline(always)]
+fn are_64_same(bytes: &[u8], key: &[u8], place: usize, last: usize) -> bool
+    requires place { place < last + 128 }
+    requires bytes { last + 16 ≤ length bytes.now }
+    requires key { last + 16 ≤ length key.now }
+    ensures { IsTrue result → AreSame bytes.now key.now (last + 16) place (place + 64) }
+{
+    are_same_at(bytes, key, place, last)
+        & are_same_at(bytes, key, place + 16, last)
+        & are_same_at(bytes, key, place + 32, last)
+        & are_same_at(bytes, key, place + 48, last)
+}
+
+/// Whether the bytes begin with the whole key, each of its bytes as a literal and in the same case.
+///
+/// It takes 128 at a time, and in the end compares the last sixteen again and again: which of them differs
+/// matters to nobody, and how many there are can't be predicted.
+#[inline(always)]
+fn are_all_same(bytes: &[u8], key: &[u8]) -> bool
+    requires key { 16 ≤ length key.now }
+    requires bytes { length key.now ≤ length bytes.now }
+    ensures { IsTrue result → AreSame bytes.now key.now (length key.now) 0 (length key.now) }
+{
+    let last = key.len() - 16;
+    let mut passed = 0;
+    while passed < key.len() {
+        let same = are_64_same(bytes, key, passed, last)
+            & are_64_same(bytes, key, passed + 64, last);
+        if !same {
+            return false;
+        }
+        passed += 128;
+    }
+    true
+}
+
+/// How many literals the bytes begin with that the key goes on with, where both are long: not always all of them.
+///
+/// Where no more than a value can lie behind as many bytes as the key has, it is as a rule the key's end that lies
+/// here, and all of it is compared at once.
+#[inline(always)]
+fn common_in_long<K: ZeroTrieWithOptions>(bytes: &[u8], key: &[u8]) -> usize
+    requires bytes { 16 ≤ length bytes.now }
+    requires key { 16 ≤ length key.now }
+    ensures { AreCommon K.kind bytes.now key.now result }
+{
+    if key.len() <= bytes.len()
+        && bytes.len() - key.len() <= LONGEST_VALUE
+        && are_all_same(bytes, key)
+    {
+        return key.len();
+    }
+    common_by_sixteens::<K>(bytes, key)
 }
 
 /// How many literals the bytes begin with that the key goes on with: not always all of them.
