@@ -17,7 +17,9 @@ pub set_hashed-requires : goal.set_hashed-requires
 set_hashed-requires g c =
     let count : c.len-edges.result ≡ length c.set_sorted.new.self.windows.items = (let n = c.len-edges.ensures in let m = c.set_sorted.new.self.windows.ok in omega arith) in
     let k = branch_known c.requires.slots _ c.len-edges.result c.in_ok-set_sorted.ensures.parts count in
-    subst IsStrictlyIncreasing (sym c.in_ok-set_sorted.ensures.table) (hashed_up g.K.ZeroTrieWithOptions.kind c.len-edges.result _ (sym c.is_hashed.ensures ∙ c.if-is_hashed.true) k.3)
+    let es = map (edge_of (pairs c.args.items)) c.set_sorted.new.self.windows.items in
+    let table : c.set_sorted.new.self.table.items ≡ es = c.in_ok-set_sorted.ensures.table in
+    subst IsStrictlyIncreasing (sym table) (hashed_up g.K.ZeroTrieWithOptions.kind c.len-edges.result es (sym c.is_hashed.ensures ∙ c.if-is_hashed.true) k.3)
 
 pub returns-in_err-set_hashed-clause-refused : goal.returns-in_err-set_hashed-clause-refused
 returns-in_err-set_hashed-clause-refused g c =
