@@ -96,7 +96,8 @@ returns-in_ok-push_hashed-clause-laid g c =
     let n = c.len-edges.result in
     let count : n ≡ length ws = (let n = c.len-edges.ensures in let m = c.set_sorted.new.self.windows.ok in omega arith) in
     let k = branch_known c.requires.slots ws n c.in_ok-set_sorted.ensures.parts count in
-    subst (λ x. IsLaid kind (edge_no all x) (length x) c.set_hashed.new.self.table.items c.set_hashed.new.self.numbers.items) (sym c.in_ok-set_hashed.ensures.windows)
+    let same : c.set_hashed.new.self.windows.items ≡ ws = c.in_ok-set_hashed.ensures.windows in
+    subst (λ x. IsLaid kind (edge_no all x) (length x) c.set_hashed.new.self.table.items c.set_hashed.new.self.numbers.items) (sym same)
     (branch_hashed_laid kind all ws _ _ _ (ap (is_hashed kind) (sym count) ∙ sym c.is_hashed.ensures ∙ c.if-is_hashed.true) k.3 c.in_ok-set_sorted.ensures.table c.in_ok-set_hashed.ensures.ok)
 
 pub returns-in_ok-push_sorted-clause-laid : goal.returns-in_ok-push_sorted-clause-laid
