@@ -1,5 +1,5 @@
 -- Search tables, and the order that they give the targets.
-use Rattle.std.proofs.Common.{◌≡◌, ◌≢◌, ℕ, zero, suc, ◌+◌, ◌-◌, ◌/◌, ◌<◌, ◌≤◌, List, [], ◌∷◌, ◌++◌, length, refl, sym, ◌∙◌, ap, subst, arith, get_or, take, drop, map, true, false, ◌⊎◌, inl, inr, length-append, Result, Ok, Err}
+use Rattle.std.proofs.Common.{◌≡◌, ◌≢◌, ℕ, zero, suc, ◌+◌, ◌-◌, ◌/◌, ◌<◌, ◌≤◌, List, [], ◌∷◌, ◌++◌, length, refl, sym, ◌∙◌, ap, subst, arith, get_or, take, drop, map, true, false, ◌⊎◌, inl, inr, length-append, append_assoc, Result, Ok, Err}
 use Rattle.std.specs.Prelude.{nat_eq, Contains, MatchResult}
 use Rattle.std.specs.List.{AllByRecursion, IsDistinct, range_with_len}
 use Rattle.std.specs.List.Sorted.{IsPermutation, IsStrictlyIncreasing}
@@ -19,6 +19,7 @@ use Rattle.zerotrie_core.specs.Causes.{AreCrooked, ZeroTrieBuildError, NonAsciiE
 use Rattle.zerotrie_core.proofs.CallerLemmas.{hashed_spans, spans_fold}
 use Rattle.zerotrie_build.specs.declared.steps.Window.{Window}
 use Rattle.zerotrie_build.specs.passes.Windows.{edge_of}
+use Rattle.zerotrie_build.specs.passes.Measured.{Parts}
 use Rattle.zerotrie_build.specs.passes.Writing.{no_window, edge_no, place_in, IsSearched, IsLaid}
 
 -- each is below all behind it
@@ -228,14 +229,21 @@ place_more f ys ys' xs i y pushed is h e =
 same_range : (xs : List ℕ) → map (λ x. x) xs ≡ xs
 same_range xs = back_each (λ x. x) xs (λ k h. refl)
 
--- one more of a range
-pub range_push : {A : Type 0} (ws : List A) (w : A) (ws' : List A) (n : ℕ) → n ≡ length ws → ws' ≡ ws ++ w ∷ [] → range_with_len 0 (length ws) ++ n ∷ [] ≡ range_with_len 0 (length ws')
-range_push ws w ws' n is pushed =
+-- the next window is found, and its edge and its number
+pub parts_more : (all : Pairs) (w : Window) (ws ws' : List Window) (c : Window) (cs : List Window) → ws' ≡ ws ++ c ∷ [] → Parts all w (ws ++ c ∷ cs) → Parts all w (ws' ++ cs)
+parts_more all w ws ws' c cs pushed = subst (Parts all w) (sym (append_assoc ws (c ∷ []) cs) ∙ ap (λ x. x ++ cs) (sym pushed))
+
+pub edges_more : (all : Pairs) (ws ws' : List Window) (c : Window) (es es' : List ℕ) (e : ℕ) → ws' ≡ ws ++ c ∷ [] → es' ≡ es ++ e ∷ [] → es ≡ map (edge_of all) ws → e ≡ edge_of all c → es' ≡ map (edge_of all) ws'
+edges_more all ws ws' c es es' e pushed more are is =
+    more ∙ ap (λ x. x ++ e ∷ []) are ∙ ap (λ x. map (edge_of all) ws ++ x ∷ []) is ∙ sym (map-append (edge_of all) ws (c ∷ [])) ∙ ap (map (edge_of all)) (sym pushed)
+
+pub numbers_more : (ws ws' : List Window) (c : Window) (ns ns' : List ℕ) (n : ℕ) → ws' ≡ ws ++ c ∷ [] → ns' ≡ ns ++ n ∷ [] → ns ≡ range_with_len 0 (length ws) → n ≡ length ws → ns' ≡ range_with_len 0 (length ws')
+numbers_more ws ws' c ns ns' n pushed more are is =
     let k = length ws in
-    let more : length ws' ≡ k + 1 = (let a = ap length pushed in let b = length-append ws (w ∷ []) in omega arith) in
-    ap (λ x. range_with_len 0 k ++ x ∷ []) is
+    let long : length ws' ≡ k + 1 = (let a = ap length pushed in let b = length-append ws (c ∷ []) in omega arith) in
+    more ∙ ap (λ x. x ++ n ∷ []) are ∙ ap (λ x. range_with_len 0 k ++ x ∷ []) is
     ∙ ap (λ x. x ++ k ∷ []) (sym (same_range (range_with_len 0 k)))
-    ∙ sym (map-range_with_len_more (λ x. x) 0 k k (omega arith)) ∙ same_range (range_with_len 0 (k + 1)) ∙ ap (range_with_len 0) (sym more)
+    ∙ sym (map-range_with_len_more (λ x. x) 0 k k (omega arith)) ∙ same_range (range_with_len 0 (k + 1)) ∙ ap (range_with_len 0) (sym long)
 
 -- a search among edges that rise finds each that is placed
 pub found : (edges placed : List ℕ) (i x : ℕ) (r : Result ℕ ℕ) → IsStrictlyIncreasing edges → IsPermutation edges placed → i < length placed → x ≡ get_or placed i 0 → IsBinarySearchResult (λ y. nat_cmp y x) edges r

@@ -1,5 +1,5 @@
 -- Window after window is written.
-use Rattle.std.proofs.Common.{◌≡◌, ℕ, zero, suc, ◌+◌, ◌-◌, ◌^◌, ◌<◌, ◌≤◌, List, [], ◌∷◌, ◌++◌, length, refl, sym, ◌∙◌, ap, subst, arith, map, append_assoc, length-append, replicate}
+use Rattle.std.proofs.Common.{◌≡◌, ℕ, zero, suc, ◌+◌, ◌-◌, ◌^◌, ◌<◌, ◌≤◌, List, [], ◌∷◌, ◌++◌, length, refl, sym, ◌∙◌, ap, subst, arith, map, append_assoc, length-append, replicate, reverse}
 use Rattle.std.specs.List.{concat}
 use Rattle.std.proofs.lemmas.List.{append-nil, map-append}
 use Rattle.std.proofs.lemmas.List.Sums.{sum_by-cons}
@@ -50,6 +50,13 @@ measured_ordered {kind = kind} {all = all} m = subst (Ordered kind) (cut_whole a
 
 pub leads_start : {kind : Kind} {all : Pairs} {slots : List ℕ} {len : ℕ} → IsMeasured kind all slots len → Leads kind all slots 0 (Text (whole all) ∷ []) (whole all ∷ [])
 leads_start m = to_text (measured_to m) done
+
+pub first_pushed : (all : Pairs) (none one : List Next) (to : ℕ) → none ≡ [] → one ≡ none ++ Text (record { from = 0; to = to; depth = 0 }) ∷ [] → to ≡ length all → Text (whole all) ∷ [] ≡ reverse one
+first_pushed all none one to empty pushed is =
+    sym (ap reverse (pushed ∙ ap (λ x. x ++ Text (record { from = 0; to = to; depth = 0 }) ∷ []) empty) ∙ ap (λ n. Text (record { from = 0; to = n; depth = 0 }) ∷ []) is)
+
+pub only_zeros : (empty list : List ℕ) (len : ℕ) → empty ≡ [] → list ≡ replicate len 0 ++ empty → list ≡ replicate len 0
+only_zeros empty list len none is = is ∙ ap (λ x. replicate len 0 ++ x) none ∙ append-nil (replicate len 0)
 
 pub left_start : {kind : Kind} {all : Pairs} {slots : List ℕ} {len : ℕ} (list : List ℕ) → IsMeasured kind all slots len → list ≡ replicate len 0 → Left kind all list 0 (whole all ∷ [])
 left_start {kind = kind} {all = all} {len = len} list m is = record {

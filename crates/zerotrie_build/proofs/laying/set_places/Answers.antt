@@ -12,4 +12,4 @@ loop-edge-preserved g c =
     let ps = c.args.placed.now in
     let es = c.args.edges.now in
     let f = found es ps i (get_or ps i 0) (Ok c.in-Ok.place) c.requires.rises c.requires.same c.loop-edge-test.true refl c.in-Ok.ensures.position in
-    place_more (λ b. place_in es b) _ _ ps i _ c.in_ok-push-in-Ok.ensures.items c.loop-edge.invariant c.loop-edge-test.true f.1
+    place_more (λ b. place_in es b) c.loop-edge.numbers.items c.push.new.self.items ps i c.in-Ok.place c.in_ok-push-in-Ok.ensures.items c.loop-edge.invariant c.loop-edge-test.true f.1

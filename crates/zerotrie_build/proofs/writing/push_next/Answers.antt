@@ -12,4 +12,4 @@ pushed new old xs init d i some within e is =
 pub loop-index-preserved : goal.loop-index-preserved
 loop-index-preserved g c =
     let v = c.loop-index.invariant in
-    (pushed _ _ c.args.next.now _ _ c.loop-index.index c.loop-index-test.true v.1 c.in_ok-push.ensures.items v.0, (let w = v.1 in omega arith))
+    (pushed c.push.new.self.items c.loop-index.pending.items c.args.next.now (reverse c.args.pending.now.items) _ c.loop-index.index c.loop-index-test.true v.1 c.in_ok-push.ensures.items v.0, (let w = v.1 in omega arith))

@@ -1,11 +1,8 @@
-use Rattle.std.proofs.Common.{◌≡◌, [], ◌∷◌, ◌++◌, length, reverse, arith, sym, ap, subst, ◌∙◌, replicate}
-use Rattle.std.proofs.lemmas.List.{append-nil}
+use Rattle.std.proofs.Common.{◌≡◌, [], ◌∷◌, ◌++◌, length, reverse, arith, sym, ap, subst, ◌∙◌}
 use Rattle.zerotrie_build.specs.Items.{pairs}
-use Rattle.zerotrie_build.specs.declared.steps.Window.{Window}
-use Rattle.zerotrie_build.specs.declared.laying.Next.TheVariants.{Text}
 use Rattle.zerotrie_build.specs.passes.Measured.{whole}
 use Rattle.zerotrie_build.specs.passes.Writing.{KeptTo, Leads, FrontPut, Left}
-use Rattle.zerotrie_build.proofs.WriteLemmas.{measured_ordered, leads_start, left_start, left_room, left_end, left_more, left_less, leads_none, leads_slot, leads_text}
+use Rattle.zerotrie_build.proofs.WriteLemmas.{measured_ordered, first_pushed, only_zeros, leads_start, left_start, left_room, left_end, left_more, left_less, leads_none, leads_slot, leads_text}
 use Rattle.zerotrie_build.proofs.writing.write.Goals as goal
 
 pub loop-next-init : goal.loop-next-init
@@ -13,14 +10,13 @@ loop-next-init g c =
     let kind = g.K.ZeroTrieWithOptions.kind in
     let all = pairs c.args.items in
     let slots = c.args.measured.now.slots.items in
-    let len = c.args.measured.now.len in
-    let window : Window = record { from = 0; to = c.len.result; depth = 0 } in
-    let one : reverse c.push.new.self.items ≡ Text (whole all) ∷ [] =
-    ap reverse (c.in_ok-push.ensures.items ∙ ap (λ x. x ++ Text window ∷ []) c.new-pending.ensures.items) ∙ ap (λ n. Text (record { from = 0; to = n; depth = 0 }) ∷ []) c.len.ensures in (
+    let list = g.S.TrieBuilderStore.list in
+    let none = c.atbs_new_empty-data.result in
+    let zeros = c.atbs_prepend_n_zeros.new.self in
+    let one = first_pushed all c.new-pending.result.items c.push.new.self.items c.len.result c.new-pending.ensures.items c.in_ok-push.ensures.items c.len.ensures in (
       whole all ∷ [],
-      left_start (g.S.TrieBuilderStore.list c.atbs_prepend_n_zeros.new.self) c.requires
-          (c.in_ok-atbs_prepend_n_zeros.ensures.ok ∙ ap (λ x. replicate len 0 ++ x) c.atbs_new_empty-data.ensures ∙ append-nil (replicate len 0)),
-      subst (λ x. Leads kind all slots 0 x (whole all ∷ [])) (sym one) (leads_start c.requires),
+      left_start (list zeros) c.requires (only_zeros (list none) (list zeros) c.args.measured.now.len c.atbs_new_empty-data.ensures c.in_ok-atbs_prepend_n_zeros.ensures.ok),
+      subst (λ x. Leads kind all slots 0 x (whole all ∷ [])) one (leads_start c.requires),
     )
 
 pub loop-next-preserved-in-Slot : goal.loop-next-preserved-in-Slot

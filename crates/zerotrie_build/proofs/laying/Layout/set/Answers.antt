@@ -17,7 +17,9 @@ pub set_hashed-requires : goal.set_hashed-requires
 set_hashed-requires g c =
     let count : c.len-edges.result ≡ length c.set_sorted.new.self.windows.items = (let n = c.len-edges.ensures in let m = c.set_sorted.new.self.windows.ok in omega arith) in
     let k = branch_known c.requires.slots _ c.len-edges.result c.in_ok-set_sorted.ensures.parts count in
-    subst IsStrictlyIncreasing (sym c.in_ok-set_sorted.ensures.table) (hashed_up g.K.ZeroTrieWithOptions.kind c.len-edges.result _ (sym c.is_hashed.ensures ∙ c.if-is_hashed.true) k.3)
+    let es = map (edge_of (pairs c.args.items)) c.set_sorted.new.self.windows.items in
+    let table : c.set_sorted.new.self.table.items ≡ es = c.in_ok-set_sorted.ensures.table in
+    subst IsStrictlyIncreasing (sym table) (hashed_up g.K.ZeroTrieWithOptions.kind c.len-edges.result es (sym c.is_hashed.ensures ∙ c.if-is_hashed.true) k.3)
 
 pub returns-in_err-set_hashed-clause-refused : goal.returns-in_err-set_hashed-clause-refused
 returns-in_err-set_hashed-clause-refused g c =
@@ -94,7 +96,8 @@ returns-in_ok-push_hashed-clause-laid g c =
     let n = c.len-edges.result in
     let count : n ≡ length ws = (let n = c.len-edges.ensures in let m = c.set_sorted.new.self.windows.ok in omega arith) in
     let k = branch_known c.requires.slots ws n c.in_ok-set_sorted.ensures.parts count in
-    subst (λ x. IsLaid kind (edge_no all x) (length x) c.set_hashed.new.self.table.items c.set_hashed.new.self.numbers.items) (sym c.in_ok-set_hashed.ensures.windows)
+    let same : c.set_hashed.new.self.windows.items ≡ ws = c.in_ok-set_hashed.ensures.windows in
+    subst (λ x. IsLaid kind (edge_no all x) (length x) c.set_hashed.new.self.table.items c.set_hashed.new.self.numbers.items) (sym same)
     (branch_hashed_laid kind all ws _ _ _ (ap (is_hashed kind) (sym count) ∙ sym c.is_hashed.ensures ∙ c.if-is_hashed.true) k.3 c.in_ok-set_sorted.ensures.table c.in_ok-set_hashed.ensures.ok)
 
 pub returns-in_ok-push_sorted-clause-laid : goal.returns-in_ok-push_sorted-clause-laid

@@ -1,4 +1,4 @@
-use Rattle.std.proofs.Common.{rules, ap, sym, ◌∙◌, arith, length, length-append, take, drop}
+use Rattle.std.proofs.Common.{◌≡◌, rules, ap, subst, sym, ◌∙◌, arith, length, length-append, take, drop}
 use Rattle.zerotrie_core.specs.Numbers.{span_form, spelled_as}
 use Rattle.zerotrie_build.specs.Items.{pairs}
 use Rattle.zerotrie_build.specs.passes.Windows.{item_of}
@@ -153,6 +153,12 @@ returns-in-Branch-clause-put g c =
     let found = branch_windows k v.2 step _ c.in_ok-set-in-Branch.ensures.parts c.in_ok-set-in-Branch.ensures.laid in
     let laid = found.1 in
     let lens = branch_lens k v.2 step laid (length c.as_slice-numbers.result.now) (ap length c.as_slice-numbers.ensures.value) in
+    let kind = g.K.ZeroTrieWithOptions.kind in
     let slots = c.args.slots.now in
-    front_branch _ _ k v.2 step laid _ _ _ c.as_slice.ensures.value lens.0 c.as_slice-numbers.ensures.value c.put_branch.ensures _
-    (c.in_ok-set-in-Branch.ensures.next ∙ ap (λ x. next_of g.K.ZeroTrieWithOptions.kind slots c.args.slot x c.set.new.self.numbers.items) found.0)
+    let slot = c.args.slot in
+    let ws = c.set.new.self.windows.items in
+    let numbers = c.set.new.self.numbers.items in
+    let next = c.set.new.self.next.items in
+    let is : next ≡ next_of kind slots slot ws numbers = c.in_ok-set-in-Branch.ensures.next in
+    let next_is : next ≡ next_of kind slots slot k.cs numbers = subst (λ x. next ≡ next_of kind slots slot x numbers) found.0 is in
+    front_branch _ _ k v.2 step laid _ _ _ c.as_slice.ensures.value lens.0 c.as_slice-numbers.ensures.value c.put_branch.ensures next next_is
