@@ -72,7 +72,7 @@ fn are_same_at(bytes: &[u8], key: &[u8], place: usize, last: usize) -> bool
     are_same_in_16(rest, after)
 }
 
-/// The same for 64 bytes from a place on, or as many as there are.
+/// Whether 64 bytes from a place on, or as many as there are, are literals and those of the key.
 #[inline(always)]
 fn are_64_same(bytes: &[u8], key: &[u8], place: usize, last: usize) -> bool
     requires place { place < last + 128 }
@@ -88,8 +88,8 @@ fn are_64_same(bytes: &[u8], key: &[u8], place: usize, last: usize) -> bool
 
 /// Whether the bytes begin with the whole key, each of its bytes as a literal and in the same case.
 ///
-/// It takes 128 at a time, and in the end compares the last sixteen again and again: which of them differs
-/// matters to nobody, and how many there are can't be predicted.
+/// Each turn compares 128, with no jump in between, since how many there are can't be predicted. Where there are
+/// fewer, it compares the last sixteen again.
 #[inline(always)]
 fn are_all_same(bytes: &[u8], key: &[u8]) -> bool
     requires key { 16 ≤ length key.now }
@@ -111,8 +111,8 @@ fn are_all_same(bytes: &[u8], key: &[u8]) -> bool
 
 /// How many literals the bytes begin with that the key goes on with, where both are long: not always all of them.
 ///
-/// Where no more than a value can lie behind as many bytes as the key has, it is as a rule the key's end that lies
-/// here, and all of it is compared at once.
+/// Where no more than a value can lie behind as many bytes as the key has, they are as a rule the key's end, and
+/// all of it is compared at once.
 #[inline(always)]
 fn common_in_long<K: ZeroTrieWithOptions>(bytes: &[u8], key: &[u8]) -> usize
     requires bytes { 16 ≤ length bytes.now }
