@@ -191,9 +191,9 @@ impl<'a> Branch<'a> {
 
     /// The place of the edge that is the byte to the kind.
     ///
-    /// Two edges are each held against the byte. Up to 64 edges are looked at all at once, whatever their order, with what bytes stand behind them.
-    /// Where there are more, or too few bytes are left, a table of more bytes than edges is hashed, in the
-    /// kinds that have hashed tables, and any other is halved.
+    /// Two edges are each held against the byte. Up to 64 are looked at all at once, whatever their order, with
+    /// what bytes stand behind them. Where there are more, or too few bytes are left, a table of more bytes than
+    /// edges is hashed, in the kinds that have hashed tables, and any other is halved.
     #[inline(always)]
     pub fn place_of<K: ZeroTrieWithOptions>(&self, byte: u8) -> Option<usize>
         ensures some { IfSome result (IsPlace K.kind self.now.edges self.now.behind.now byte) }
