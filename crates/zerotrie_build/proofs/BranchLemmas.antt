@@ -231,13 +231,6 @@ branch_made kind es table texts two most count low is narrow =
       bytes_are = front_targets table texts (length es) count;
     }
 
-size_many : (kind : Kind) (n : ℕ) → n ≤ table_size kind n
-size_many kind n = many (is_hashed kind n)
-  where
-    many : (is : Bool) → n ≤ cond is (2 * n + 1) n
-    many true = omega arith
-    many false = omega arith
-
 -- What is known of the targets of a branch, in the order of its table.
 record Turned (kind : Kind) (all : Pairs) (cs : List Window) (table numbers : List ℕ) : Type 0 where
   count : length numbers ≡ length cs

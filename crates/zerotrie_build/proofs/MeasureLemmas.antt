@@ -25,7 +25,7 @@ use Rattle.zerotrie_build.proofs.Overflow.{same_edges, same_targets_size, exceed
 use Rattle.zerotrie_build.proofs.WindowLemmas.{cut_none}
 use Rattle.zerotrie_build.proofs.GroupLemmas.{edges_grouped}
 use Rattle.zerotrie_build.proofs.RunLemmas.{along, step_branch}
-use Rattle.zerotrie_build.proofs.OpenLemmas.{Branching, groups_low}
+use Rattle.zerotrie_build.proofs.OpenLemmas.{groups_low}
 use Rattle.zerotrie_build.proofs.PlacedLemmas.{Targets, targets, eachw_middle, whole_placed}
 
 -- the fold of a byte of the kind is a byte

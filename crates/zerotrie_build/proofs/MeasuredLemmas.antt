@@ -1,22 +1,18 @@
 -- What is known of pairs that were measured: they fit, and how long their text is.
-use Rattle.std.proofs.Common.{◌≡◌, ℕ, zero, suc, ◌+◌, ◌-◌, ◌^◌, ◌<◌, ◌≤◌, List, [], ◌∷◌, ◌++◌, length, refl, sym, ◌∙◌, ap, subst, arith, map, take, drop, inl, inr, Some}
+use Rattle.std.proofs.Common.{◌≡◌, ℕ, ◌+◌, ◌^◌, ◌<◌, ◌≤◌, List, [], ◌∷◌, ◌++◌, length, sym, ◌∙◌, ap, subst, arith, map, take, drop, inl, inr}
 use Rattle.std.proofs.lemmas.Bool.Decides.{eqb_tells}
-use Rattle.std.proofs.lemmas.List.{take-map, drop-map, drop_more}
-use Rattle.std.proofs.lemmas.Simd.{map-map}
-use Rattle.std.proofs.lemmas.Option.{slice_get_within}
-use Rattle.std.proofs.Math.Nat.{le-max_left, le-max_right}
 use Rattle.std.specs.FinMap.{entries}
 use Rattle.std.specs.Prelude.{All}
 use Rattle.zerotrie_core.specs.Kind.{Kind, greatest_width, edge_limit}
-use Rattle.zerotrie_core.specs.Maps.{Pairs, map_of, with_front, residual, longest}
+use Rattle.zerotrie_core.specs.Maps.{Pairs, map_of, with_front, residual}
 use Rattle.zerotrie_core.specs.Branches.{total}
-use Rattle.zerotrie_core.specs.Canonical.{size_of, size}
+use Rattle.zerotrie_core.specs.Canonical.{size}
 use Rattle.zerotrie_core.specs.Fits.{Fits, targets_size}
 use Rattle.zerotrie_core.proofs.CallerLemmas.{Rises, NarrowBehind, narrow_none, narrow_value, narrow_at, narrow_front, narrow-same, all_entries, by_fronts, increasing_rises, consistent_entries, same-entries, same-size_of, residual-append, residual-other}
 use Rattle.zerotrie_build.specs.Order.{Ordered, AreKeys, AreValues}
 use Rattle.zerotrie_build.specs.declared.steps.Window.{Window}
 use Rattle.zerotrie_build.specs.declared.steps.Step.TheVariants.{Branch}
-use Rattle.zerotrie_build.specs.passes.Windows.{window, item_of, byte_of, edge_of, step_of}
+use Rattle.zerotrie_build.specs.passes.Windows.{window, item_of, edge_of, step_of}
 use Rattle.zerotrie_build.specs.passes.Measured.{Run, sizes_of, IsOpen, Kept, KeptEach, IsMeasured}
 use Rattle.zerotrie_build.specs.passes.Measured.Kept.{kept}
 use Rattle.zerotrie_build.specs.passes.Measured.KeptEach.{none as kept_none, more as kept_more}

@@ -43,10 +43,6 @@ parts_same all w (c ∷ cs) (d ∷ ds) p q =
     ap (λ x. x ∷ cs) (window_same c d (p.0 ∙ sym q.0) to (p.1 ∙ sym q.1))
     ∙ ap (λ x. d ∷ x) (parts_same all (record w { from = d.to }) cs ds (subst (λ x. Parts all (record w { from = x }) cs) to p.3) q.3)
 
-pub parts_order : (all : Pairs) (w : Window) (cs : List Window) → Parts all w cs → w.from ≤ w.to
-parts_order all w [] p = omega arith
-parts_order all w (c ∷ cs) p = let a = p.2.some in let b = p.2.within in omega arith
-
 length-ends_from : (n : ℕ) (ms : List ℕ) → length (ends_from n ms) ≡ length ms
 length-ends_from n [] = refl
 length-ends_from n (m ∷ ms) = ap suc (length-ends_from (n + m) ms)

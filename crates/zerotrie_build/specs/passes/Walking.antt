@@ -1,5 +1,5 @@
 -- What is known while the first pass goes on.
-use Rattle.std.specs.Prelude.{◌≡◌, ℕ, ◌+◌, ◌-◌, ◌*◌, ◌^◌, ◌<◌, ◌≤◌, List, [], ◌∷◌, ◌++◌, length, map, replicate, slice_set, if◌then◌else◌}
+use Rattle.std.specs.Prelude.{◌≡◌, ℕ, ◌+◌, ◌-◌, ◌^◌, ◌<◌, ◌≤◌, List, [], ◌∷◌, ◌++◌, length, map, replicate, slice_set, if◌then◌else◌}
 use Rattle.std.specs.List.{concat}
 use Rattle.zerotrie_core.specs.Kind.{Kind, is_hashed}
 use Rattle.zerotrie_core.specs.Maps.{Pairs, residual, behind_all}
@@ -11,7 +11,7 @@ use Rattle.zerotrie_build.specs.declared.measuring.Open.{Open}
 use Rattle.zerotrie_build.specs.declared.measuring.Turn.{Turn}
 use Rattle.zerotrie_build.specs.declared.measuring.Turn.TheVariants.{Window as NextWindow, Whole}
 use Rattle.zerotrie_build.specs.passes.Windows.{window, step_of}
-use Rattle.zerotrie_build.specs.passes.Measured.{Run, Parts, sizes_of, ends_from, Kept, KeptEach, whole, IsMeasured}
+use Rattle.zerotrie_build.specs.passes.Measured.{Run, Parts, sizes_of, ends_from, Kept, KeptEach, whole}
 
 -- behind some front stand the pairs of the window, but for the value of the empty key
 abbrev pub IsBehind : Pairs → Window → Type 0

@@ -1,14 +1,13 @@
-use Rattle.std.proofs.Common.{rules, ◌≡◌, ◌+◌, ◌-◌, ◌^◌, ◌≤◌, ◌<◌, ◌⊎◌, [], ◌∷◌, ◌++◌, refl, sym, ◌∙◌, ap, subst, arith, length, reverse, take, drop}
+use Rattle.std.proofs.Common.{rules, ◌≡◌, ◌+◌, ◌-◌, ◌^◌, ◌≤◌, ◌<◌, ◌⊎◌, [], ◌∷◌, refl, sym, ◌∙◌, ap, subst, arith, length, reverse, take, drop}
 use Rattle.std.proofs.lemmas.List.{get_or_read, reverse-append}
 use Rattle.std.proofs.lemmas.Result.{err_from_is_err_and}
 use Rattle.zerotrie_core.specs.Kind.{greatest_width}
 use Rattle.zerotrie_core.specs.Branches.{total}
 use Rattle.zerotrie_core.specs.Canonical.{branch_size}
 use Rattle.zerotrie_build.specs.Items.{pairs}
-use Rattle.zerotrie_build.specs.declared.steps.Window.{Window}
 use Rattle.zerotrie_build.specs.declared.measuring.Open.{Open}
 use Rattle.zerotrie_build.specs.passes.Walking.{Waits, Closing, left_open}
-use Rattle.zerotrie_build.proofs.MeasureLemmas.{inner, inner_within, inner_to, popped, waits_next, last, last_lens, last_count, last_closing, last_refused, all_closed, with_len_long}
+use Rattle.zerotrie_build.proofs.MeasureLemmas.{inner, inner_within, popped, waits_next, last, last_lens, last_count, last_closing, last_refused, all_closed, with_len_long}
 use Rattle.zerotrie_build.proofs.measuring.Measuring.close.Goals as goal
 
 pub index-from-requires : goal.index-from-requires
