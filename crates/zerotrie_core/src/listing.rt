@@ -313,6 +313,7 @@ impl<'a, A: Allocator + Copy> Iterator for Listing<'a, A> {
 #[cfg(test)]
 mod tests {
     use super::*;
+    use crate::testing::same;
     use linked_list_allocator::LocalHeap;
     use std::test::Fail;
 
@@ -327,12 +328,12 @@ mod tests {
             let mut all = ZeroTrieIterator::new::<Hash>(rt.alloc(), bytes);
             let mut refused = 0_usize;
             for item in Listing::new::<Hash>(&heap, bytes) {
-                assert_eq!(rt; refused, 0);
+                same(&rt, refused, 0);
                 match item {
                     Ok((key, value)) => {
-                        let (same, number) = all.next().ok_or("one too many")??;
-                        assert_eq!(rt; key.as_slice(), same.as_slice());
-                        assert_eq!(rt; value, number);
+                        let (text, number) = all.next().ok_or("one too many")??;
+                        same(&rt, key.as_slice(), text.as_slice());
+                        same(&rt, value, number);
                     }
                     Err(why) => {
                         assert!(rt; why == ListError::OutOfMemory);
@@ -341,7 +342,7 @@ mod tests {
                 }
             }
             assert!(rt; refused == 1 || all.next().is_none());
-            assert_eq!(rt; heap.used(), 0);
+            same(&rt, heap.used(), 0);
             complete = complete.saturating_add(1 - refused.min(1));
         }
         assert!(rt; complete > 5 && complete < 35);
