@@ -142,6 +142,11 @@ mod tests {
                 .ok_or("longer than it was")?;
             same(&rt, write_varint_meta2(value).as_slice(), front);
         }
+        Ok(())
+    }
+
+    #[test]
+    fn latent_sums_of_values(rt: HostRuntime) -> Result<(), Fail> {
         let meta3: [(&[u8], usize); 5] = [
             (&[0x10, 0x00], 16),
             (&[0x10, 0x80, 0x00], 2064),
