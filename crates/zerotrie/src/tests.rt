@@ -16,8 +16,15 @@ use super::*;
 use std::alloc::Global;
 use std::borrow::CowSlice;
 use std::collections::BTreeMap;
+use std::fmt::Debug;
 use std::process::Abort;
 use std::test::Fail;
+
+/// Ends the test where the two differ, and writes both: `assert_eq!` in a function of its own, since the proof of what
+/// it writes is long, and made anew wherever it stands.
+fn same<T: Debug + PartialEq + Drop, H: Abort>(rt: &H, left: T, right: T) {
+    assert_eq!(rt; left, right);
+}
 
 /// The keys "a" to "p", which in a hashed kind are the edges of the smallest hashed branch.
 const LETTERS: [(&str, usize); 16] = [
@@ -38,6 +45,11 @@ const LETTERS: [(&str, usize); 16] = [
     ("o", 14),
     ("p", 15),
 ];
+
+/// Their trie, in a hashed kind.
+fn letters<K: HashedKind>(alloc: Global) -> Result<HashedTrie<K, Vec<u8>>, ZeroTrieBuildError> {
+    HashedTrie::try_from_iter(alloc, LETTERS)
+}
 
 /// Keys without case: where they part they part by their lower case, too.
 const MIXED: [(&str, usize); 6] = [
@@ -82,3 +94,14 @@ const LOCALES: [(&str, usize); 14] = [
 const LOCALES_TEXT: &[u8] =
     b"\xC4aefi\x16(:r/\xC4FISU\x02\x04\x06R\x80R\x81A\x82\xC2KS\x01\x83\x84n/\xC3AFU\x02\x04\
     U\x85R\x86\xC2KS\x01\x87\x88r/\xC3FSU\x02\x04R\x89A\x8A\xC2KS\x01\x8B\x8Ct/IT\x8D";
+
+/// The keys "k000" to "k511", one behind the other.
+fn many_keys() -> [u8; 2048] {
+    let mut keys = [b'k'; 2048];
+    for n in 0..512 {
+        keys[4 * n + 1] = b'0' + (n / 100) as u8;
+        keys[4 * n + 2] = b'0' + (n / 10 % 10) as u8;
+        keys[4 * n + 3] = b'0' + (n % 10) as u8;
+    }
+    keys
+}

@@ -76,12 +76,13 @@ impl<T: Drop> From<AllocFailed<T>> for ZeroTrieBuildError {
 #[cfg(test)]
 mod tests {
     use super::*;
+    use crate::testing::same;
     use std::test::Fail;
 
     #[test]
     fn text_of_each_error(rt: HostRuntime) -> Result<(), Fail> {
         let text = format!(in rt.alloc(); "{}", ZeroTrieBuildError::BufferTooLarge(17))?;
-        assert_eq!(rt; text.as_str(), "Buffer too large. Size needed: 17");
+        same(&rt, text.as_str(), "Buffer too large. Size needed: 17");
         let rows = [
             (
                 ZeroTrieBuildError::NonAsciiError,
@@ -120,7 +121,7 @@ mod tests {
             (ZeroTrieBuildError::OutOfMemory, "Out of memory"),
         ];
         for (error, text) in rows {
-            assert_eq!(rt; format!(in rt.alloc(); "{error}")?.as_str(), text);
+            same(&rt, format!(in rt.alloc(); "{error}")?.as_str(), text);
         }
         Ok(())
     }

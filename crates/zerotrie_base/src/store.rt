@@ -178,6 +178,7 @@ impl TrieKey for Vec<u8> {
 #[cfg(test)]
 mod tests {
     use super::*;
+    use crate::testing::same;
     use std::test::Fail;
 
     fn bytes_of<S: TrieStore>(store: &S) -> &[u8] {
@@ -191,35 +192,36 @@ mod tests {
     #[test]
     fn bytes_of_each_store(rt: HostRuntime) -> Result<(), Fail> {
         let store = [0x61, 0x81];
-        assert_eq!(rt; store.bytes().len(), 2);
+        same(&rt, store.bytes().len(), 2);
         let bytes = b"a\x81".as_slice();
         let owned = Vec::from_slice(rt.alloc(), bytes)?;
-        assert_eq!(rt; bytes_of(&store), bytes);
-        assert_eq!(rt; bytes_of(&bytes), bytes);
-        assert_eq!(rt; bytes_of(&owned), bytes);
-        assert_eq!(rt; bytes_of(&owned.into_boxed_slice()), bytes);
+        same(&rt, bytes_of(&store), bytes);
+        same(&rt, bytes_of(&bytes), bytes);
+        same(&rt, bytes_of(&owned), bytes);
+        same(&rt, bytes_of(&owned.into_boxed_slice()), bytes);
         Ok(())
     }
 
     #[test]
     fn convert_keeps_the_bytes(rt: HostRuntime) -> Result<(), Fail> {
         let store: CowSlice<u8> = ConvertStore::convert(Vec::from_slice(rt.alloc(), b"a\x81")?);
-        assert_eq!(rt; store.bytes(), b"a\x81".as_slice());
+        same(&rt, store.bytes(), b"a\x81".as_slice());
         let lent: CowSlice<u8> = ConvertStore::convert(b"a\x81".as_slice());
-        assert_eq!(rt; bytes_of(&lent), b"a\x81".as_slice());
+        same(&rt, bytes_of(&lent), b"a\x81".as_slice());
         Ok(())
     }
 
     #[test]
     fn key_bytes_of_each_key(rt: HostRuntime) -> Result<(), Fail> {
-        assert_eq!(rt; "ad".key_bytes(), b"ad".as_slice());
-        assert_eq!(rt; b"ad".key_bytes(), b"ad".as_slice());
-        assert_eq!(rt; key_of(&("ab", 1)), b"ab".as_slice());
-        assert_eq!(rt; key_of(&(b"ab", 1)), b"ab".as_slice());
-        assert_eq!(rt; key_of(&(b"ab".as_slice(), 1)), b"ab".as_slice());
-        assert_eq!(rt;
+        same(&rt, "ad".key_bytes(), b"ad".as_slice());
+        same(&rt, b"ad".key_bytes(), b"ad".as_slice());
+        same(&rt, key_of(&("ab", 1)), b"ab".as_slice());
+        same(&rt, key_of(&(b"ab", 1)), b"ab".as_slice());
+        same(&rt, key_of(&(b"ab".as_slice(), 1)), b"ab".as_slice());
+        same(
+            &rt,
             key_of(&(Vec::from_slice(rt.alloc(), b"ab")?, 1)),
-            b"ab".as_slice()
+            b"ab".as_slice(),
         );
         Ok(())
     }

@@ -9,6 +9,8 @@ mod order;
 mod slice_indices;
 mod steps;
 mod store;
+#[cfg(test)]
+mod testing;
 mod writing;
 
 pub use builder::{ZeroTrieBuilder, encoded_len};

@@ -116,6 +116,7 @@ impl<'a> ByteSliceWithIndices<'a> {
 #[cfg(test)]
 mod tests {
     use super::*;
+    use crate::testing::same;
     use std::test::Fail;
 
     #[test]
@@ -123,10 +124,10 @@ mod tests {
         let items = [("ad", 22), ("é", 33)];
         let items = ByteSliceWithIndices::from_str_slice(&items);
         let bytes = items.to_vec_u8(rt.alloc())?;
-        assert_eq!(rt; bytes.len(), 2);
+        same(&rt, bytes.len(), 2);
         let (key, value) = *bytes.as_slice().last().ok_or("empty")?;
-        assert_eq!(rt; key, [0xC3, 0xA9].as_slice());
-        assert_eq!(rt; value, 33);
+        same(&rt, key, [0xC3, 0xA9].as_slice());
+        same(&rt, value, 33);
         Ok(())
     }
 }

@@ -133,6 +133,7 @@ pub fn probe<K: ZeroTrieWithOptions>(bytes: &mut &[u8], index: usize) -> Option<
 mod tests {
     use super::*;
     use crate::options::{Ignore, Simple};
+    use crate::testing::same;
     use std::test::Fail;
 
     #[test]
@@ -140,20 +141,20 @@ mod tests {
         let bytes = b"abc\x80def\x81".as_slice();
         let mut trie = bytes;
         for byte in *b"abc" {
-            assert_eq!(rt; step::<Simple>(&mut trie, byte), Some(byte));
+            same(&rt, step::<Simple>(&mut trie, byte), Some(byte));
         }
-        assert_eq!(rt; trie, b"\x80def\x81".as_slice());
+        same(&rt, trie, b"\x80def\x81".as_slice());
         let with_value = trie;
-        assert_eq!(rt; take_value(&mut trie), Some(0));
-        assert_eq!(rt; take_value(&mut trie), None);
+        same(&rt, take_value(&mut trie), Some(0));
+        same(&rt, take_value(&mut trie), None);
         for bytes in [with_value, trie] {
             let mut cursor = bytes;
-            assert_eq!(rt; step::<Simple>(&mut cursor, b'd'), Some(b'd'));
-            assert_eq!(rt; step::<Simple>(&mut cursor, b'x'), None);
+            same(&rt, step::<Simple>(&mut cursor, b'd'), Some(b'd'));
+            same(&rt, step::<Simple>(&mut cursor, b'x'), None);
             assert!(rt; cursor.is_empty());
         }
         let mut fresh = bytes;
-        assert_eq!(rt; probe::<Simple>(&mut fresh, 1), None);
+        same(&rt, probe::<Simple>(&mut fresh, 1), None);
         assert!(rt; fresh.is_empty());
         Ok(())
     }
@@ -173,11 +174,11 @@ mod tests {
                 byte,
                 total_siblings,
             };
-            assert_eq!(rt; probe::<Simple>(&mut trie, index), Some(edge));
-            assert_eq!(rt; take_value(&mut trie), value);
+            same(&rt, probe::<Simple>(&mut trie, index), Some(edge));
+            same(&rt, take_value(&mut trie), value);
         }
-        assert_eq!(rt; take_value(&mut trie), None);
-        assert_eq!(rt; probe::<Simple>(&mut trie, 0), None);
+        same(&rt, take_value(&mut trie), None);
+        same(&rt, probe::<Simple>(&mut trie, 0), None);
         Ok(())
     }
 
@@ -187,9 +188,9 @@ mod tests {
         for typed in [b"ABCD", b"abcd", b"aBcD"] {
             let mut trie = bytes.as_slice();
             for (byte, stored) in typed.iter().zip(b"aBcD") {
-                assert_eq!(rt; step::<Ignore>(&mut trie, *byte), Some(*stored));
+                same(&rt, step::<Ignore>(&mut trie, *byte), Some(*stored));
             }
-            assert_eq!(rt; take_value(&mut trie), Some(2));
+            same(&rt, take_value(&mut trie), Some(2));
         }
         Ok(())
     }

@@ -12,6 +12,8 @@ mod options;
 mod plain;
 mod reader;
 mod span_cursor;
+#[cfg(test)]
+mod testing;
 mod varint;
 mod well_formed;
 

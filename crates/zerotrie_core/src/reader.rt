@@ -238,6 +238,7 @@ pub fn get_counted<K: ZeroTrieWithOptions>(bytes: &[u8], key: &[u8]) -> (Option<
 mod tests {
     use super::*;
     use crate::options::{Ext, Hash, Ignore, Simple};
+    use crate::testing::same;
     use std::test::Fail;
 
     #[test]
@@ -255,7 +256,7 @@ mod tests {
             (b"adeff", None, 7),
         ];
         for (key, value, nodes) in table {
-            assert_eq!(rt; get_counted::<Simple>(&bytes, key), (value, nodes));
+            same(&rt, get_counted::<Simple>(&bytes, key), (value, nodes));
         }
         Ok(())
     }
@@ -279,7 +280,7 @@ mod tests {
             (b"@BC", None, 2),
         ];
         for (key, value, nodes) in table {
-            assert_eq!(rt; get_counted::<Ignore>(&bytes, key), (value, nodes));
+            same(&rt, get_counted::<Ignore>(&bytes, key), (value, nodes));
         }
         Ok(())
     }
@@ -296,7 +297,7 @@ mod tests {
             (b"@", None, 2),
         ];
         for (key, value, nodes) in table {
-            assert_eq!(rt; get_counted::<Ignore>(&bytes, key), (value, nodes));
+            same(&rt, get_counted::<Ignore>(&bytes, key), (value, nodes));
         }
         Ok(())
     }
@@ -314,8 +315,8 @@ mod tests {
             (b"b", None, 1),
         ];
         for (key, value, nodes) in table {
-            assert_eq!(rt; get_counted::<Hash>(&bytes, key), (value, nodes));
-            assert_eq!(rt; get_counted::<Ext>(&bytes, key), (value, nodes));
+            same(&rt, get_counted::<Hash>(&bytes, key), (value, nodes));
+            same(&rt, get_counted::<Ext>(&bytes, key), (value, nodes));
         }
         Ok(())
     }
@@ -335,11 +336,11 @@ mod tests {
             ("bø", None),
         ];
         for (key, value) in table {
-            assert_eq!(rt; get_counted::<Hash>(&words, key.as_bytes()).0, value);
+            same(&rt, get_counted::<Hash>(&words, key.as_bytes()).0, value);
         }
         let letters = [0xA1, 0xC3, 0xC2, 0xA5, 0xB8, 0x01, 0x81, 0x82];
         for (key, value) in [("å", Some(1)), ("ø", Some(2)), ("ö", None), ("", None)] {
-            assert_eq!(rt; get_counted::<Hash>(&letters, key.as_bytes()).0, value);
+            same(&rt, get_counted::<Hash>(&letters, key.as_bytes()).0, value);
         }
         Ok(())
     }
@@ -362,14 +363,14 @@ mod tests {
             let place = (byte as usize)
                 .checked_sub(0x61)
                 .filter(|place| *place < 16);
-            assert_eq!(rt; get_counted::<Hash>(&letters, &[byte]).0, place);
-            assert_eq!(rt; get_counted::<Ext>(&letters, &[byte]).0, place);
+            same(&rt, get_counted::<Hash>(&letters, &[byte]).0, place);
+            same(&rt, get_counted::<Ext>(&letters, &[byte]).0, place);
             let value = match byte {
                 0x61..=0x6F => Some(byte as usize - 0x61),
                 0x71 => Some(15),
                 _ => None,
             };
-            assert_eq!(rt; get_counted::<Hash>(&moved, &[byte]).0, value);
+            same(&rt, get_counted::<Hash>(&moved, &[byte]).0, value);
         }
         Ok(())
     }
@@ -387,8 +388,8 @@ mod tests {
         }
         bytes.resize(1281, 0x80)?;
         for byte in 0..=255 {
-            assert_eq!(rt; get_counted::<Hash>(&bytes, &[byte]), (Some(0), 2));
-            assert_eq!(rt; get_counted::<Hash>(&bytes, &[byte, byte]), (None, 2));
+            same(&rt, get_counted::<Hash>(&bytes, &[byte]), (Some(0), 2));
+            same(&rt, get_counted::<Hash>(&bytes, &[byte, byte]), (None, 2));
         }
         Ok(())
     }
@@ -399,11 +400,11 @@ mod tests {
         let mut short = Vec::from_array(rt.alloc(), [0xAF])?;
         short.extend_from_slice(&key[1..])?;
         short.push(0x81)?;
-        assert_eq!(rt; get_counted::<Hash>(&short, &key[1..]), (Some(1), 2));
+        same(&rt, get_counted::<Hash>(&short, &key[1..]), (Some(1), 2));
         let mut long = Vec::from_array(rt.alloc(), [0xB0, 0x00])?;
         long.extend_from_slice(&key)?;
         long.push(0x81)?;
-        assert_eq!(rt; get_counted::<Hash>(&long, &key), (Some(1), 2));
+        same(&rt, get_counted::<Hash>(&long, &key), (Some(1), 2));
         Ok(())
     }
 

@@ -180,29 +180,30 @@ impl<'a> SpanCursor<'a> {
 mod tests {
     use super::*;
     use crate::options::{Ext, Hash};
+    use crate::testing::same;
     use std::test::Fail;
 
     #[test]
     fn inside_a_span(rt: HostRuntime) -> Result<(), Fail> {
         let bytes = [0xA2, 0xC3, 0xA9, 0xC2, 0xA5, 0xB8, 0x01, 0x81, 0x82];
         let fresh = SpanCursor::new(&bytes);
-        assert_eq!(rt; fresh.rest(), Some(bytes.as_slice()));
+        same(&rt, fresh.rest(), Some(bytes.as_slice()));
         let mut cursor = fresh.clone()?;
-        assert_eq!(rt; cursor.step::<Hash>(0xC3), Some(0xC3));
-        assert_eq!(rt; cursor.rest(), None);
+        same(&rt, cursor.step::<Hash>(0xC3), Some(0xC3));
+        same(&rt, cursor.rest(), None);
         assert!(rt; !cursor.is_empty());
-        assert_eq!(rt; cursor.take_value(), None);
+        same(&rt, cursor.take_value(), None);
         let mut gone = cursor.clone()?;
-        assert_eq!(rt; gone.probe::<Hash>(1), None);
+        same(&rt, gone.probe::<Hash>(1), None);
         assert!(rt; gone.is_empty());
-        assert_eq!(rt; cursor.step::<Hash>(0xA9), Some(0xA9));
-        assert_eq!(rt; cursor.rest(), Some(&bytes[3..]));
+        same(&rt, cursor.step::<Hash>(0xA9), Some(0xA9));
+        same(&rt, cursor.rest(), Some(&bytes[3..]));
         let edge = ByteProbeResult {
             byte: 0xB8,
             total_siblings: 2,
         };
-        assert_eq!(rt; cursor.probe::<Ext>(1), Some(edge));
-        assert_eq!(rt; cursor.take_value(), Some(2));
+        same(&rt, cursor.probe::<Ext>(1), Some(edge));
+        same(&rt, cursor.take_value(), Some(2));
         assert!(rt; cursor.is_empty());
         Ok(())
     }

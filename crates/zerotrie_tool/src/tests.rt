@@ -2,10 +2,17 @@
 
 use crate::noted::Noted;
 use crate::run::{RunError, run};
+use std::fmt::Debug;
 use std::io;
 use std::io::{Read, Write};
 use std::process::Abort;
 use std::test::Fail;
+
+/// Ends the test where the two differ, and writes both: `assert_eq!` in a function of its own, since the proof of what
+/// it writes is long, and made anew wherever it stands.
+fn same<T: Debug + PartialEq + Drop, H: Abort>(rt: &H, left: T, right: T) {
+    assert_eq!(rt; left, right);
+}
 
 /// An input gives this output and status.
 fn runs<H: AllocGlobal + Abort>(
@@ -17,8 +24,8 @@ fn runs<H: AllocGlobal + Abort>(
     let mut reader = Noted::new(input);
     let mut writer = Noted::new(Vec::new(rt.alloc()));
     let answer = run(rt.alloc(), &mut reader, &mut writer);
-    assert_eq!(rt; writer.into_inner().as_slice(), output);
-    assert_eq!(rt; answer, Ok(status));
+    same(rt, writer.into_inner().as_slice(), output);
+    same(rt, answer, Ok(status));
     Ok(())
 }
 
@@ -273,7 +280,7 @@ fn faults_of_readers(rt: HostRuntime) -> Result<(), Fail> {
             assert!(rt; output.is_empty());
         } else {
             assert!(rt; answer == Ok(0) && !reader.failed());
-            assert_eq!(rt; output.as_slice(), b"none\n".as_slice());
+            same(&rt, output.as_slice(), b"none\n".as_slice());
         }
     }
     Ok(())
@@ -319,7 +326,7 @@ fn faults_of_writers(rt: HostRuntime) -> Result<(), Fail> {
         } else {
             Ok(0)
         };
-        assert_eq!(rt; answer, status);
+        same(&rt, answer, status);
         assert!(rt; writer.failed() == (calls < 4) && !reader.failed());
     }
     Ok(())
@@ -334,8 +341,8 @@ fn error_texts(rt: HostRuntime) -> Result<(), Fail> {
         (RunError::OutOfMemory, "OutOfMemory", "out of memory"),
     ];
     for (error, text, message) in rows {
-        assert_eq!(rt; format!(in rt.alloc(); "{error}")?.as_str(), text);
-        assert_eq!(rt; error.message(), message);
+        same(&rt, format!(in rt.alloc(); "{error}")?.as_str(), text);
+        same(&rt, error.message(), message);
     }
     Ok(())
 }

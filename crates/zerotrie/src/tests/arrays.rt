@@ -46,26 +46,36 @@ fn record_of(
 fn keywords_are_recognised(rt: HostRuntime) -> Result<(), Fail> {
     let keywords: [(&[u8], usize); 3] = [(b"else", 2), (b"if", 0), (b"let", 1)];
     let records = [10, 20, 30];
-    assert_eq!(rt; record_of(&keywords, &records, b"let")?, Some(20));
-    assert_eq!(rt; record_of(&keywords, &records, b"le")?, None);
+    for (word, record) in [(b"let".as_slice(), Some(20)), (b"le", None)] {
+        same(&rt, record_of(&keywords, &records, word)?, record);
+    }
     Ok(())
 }
 
 #[test]
-fn arrays_are_filled(rt: HostRuntime) -> Result<(), Fail> {
+fn no_keys_fill_no_array(rt: HostRuntime) -> Result<(), Fail> {
     let none: Built<0> = ZeroTrieSimpleAscii::from_sorted_u8_tuples(&[]);
     assert!(rt; none?.is_empty());
     let none: Built<0> = ZeroTrieSimpleAscii::from_sorted_u8_tuples_with_stack::<0>(&[]);
     assert!(rt; none?.is_empty());
     let larger: Built<1> = ZeroTrieSimpleAscii::from_sorted_u8_tuples(&[]);
     assert!(rt; is_refused(larger, ZeroTrieBuildError::BufferTooLarge(0)));
+    Ok(())
+}
 
+#[test]
+fn arrays_are_filled(rt: HostRuntime) -> Result<(), Fail> {
     let full: Built<17> = ZeroTrieSimpleAscii::from_sorted_str_tuples(&BAZ);
-    assert_eq!(rt; full?.as_bytes(), BAZ_TEXT);
+    same(&rt, full?.as_bytes(), BAZ_TEXT);
     let smaller: Built<15> = ZeroTrieSimpleAscii::from_sorted_str_tuples(&BAZ);
     assert!(rt; is_refused(smaller, ZeroTrieBuildError::BufferTooSmall));
     let larger: Built<20> = ZeroTrieSimpleAscii::from_sorted_str_tuples(&BAZ);
     assert!(rt; is_refused(larger, ZeroTrieBuildError::BufferTooLarge(17)));
+    Ok(())
+}
+
+#[test]
+fn keys_are_refused(rt: HostRuntime) {
     let unsorted: Built<17> = ZeroTrieSimpleAscii::from_sorted_str_tuples(&[
         ("foo", 1),
         ("bar", 2),
@@ -78,23 +88,22 @@ fn arrays_are_filled(rt: HostRuntime) -> Result<(), Fail> {
         ("foo", 1),
     ]);
     assert!(rt; is_refused(high, ZeroTrieBuildError::NonAsciiError));
-    Ok(())
 }
 
 #[test]
 fn stacks_are_large_enough(rt: HostRuntime) -> Result<(), Fail> {
     let enough: Built<17> = ZeroTrieSimpleAscii::from_sorted_str_tuples_with_stack::<3>(&BAZ);
-    assert_eq!(rt; enough?.as_bytes(), BAZ_TEXT);
+    same(&rt, enough?.as_bytes(), BAZ_TEXT);
     let small: Built<17> = ZeroTrieSimpleAscii::from_sorted_str_tuples_with_stack::<2>(&BAZ);
     assert!(rt; is_refused(small, ZeroTrieBuildError::StackExceeded));
     let alone: Built<4> = ZeroTrieSimpleAscii::from_sorted_str_tuples_with_stack::<0>(&[(
         "abc", 0,
     )]);
-    assert_eq!(rt; alone?.as_bytes(), b"abc\x80".as_slice());
+    same(&rt, alone?.as_bytes(), b"abc\x80".as_slice());
     Ok(())
 }
 
-/// The keys of one byte from 0 to 100, with value 0.
+/// The bytes from 0 to 100.
 fn bytes_up_to_100(alloc: Global) -> Result<Vec<u8>, std::alloc::AllocError> {
     let mut bytes = Vec::new(alloc);
     for byte in 0..101u8 {
@@ -103,18 +112,30 @@ fn bytes_up_to_100(alloc: Global) -> Result<Vec<u8>, std::alloc::AllocError> {
     Ok(bytes)
 }
 
+/// The keys of one byte each, with value 0.
+fn keys_of(alloc: Global, bytes: &[u8]) -> Result<Vec<(&[u8], usize)>, Fail> {
+    let mut items: Vec<(&[u8], usize)> = Vec::new(alloc);
+    for index in 0..bytes.len() {
+        items.push((&bytes[index..index + 1], 0))?;
+    }
+    Ok(items)
+}
+
+#[test]
+fn a_hundred_edges(rt: HostRuntime) -> Result<(), Fail> {
+    let bytes = bytes_up_to_100(rt.alloc())?;
+    let items = keys_of(rt.alloc(), bytes.as_slice())?;
+    let (_, first) = items.as_slice().split_last().ok_or("empty")?;
+    let hundred: Built<301> = ZeroTrieSimpleAscii::from_sorted_u8_tuples(first);
+    assert!(rt; hundred?.as_bytes().starts_with(b"\xE0\x44"));
+    Ok(())
+}
+
 #[test]
 fn a_hundred_edges_and_one(rt: HostRuntime) -> Result<(), Fail> {
     let bytes = bytes_up_to_100(rt.alloc())?;
-    let mut items: Vec<(&[u8], usize)> = Vec::new(rt.alloc());
-    for index in 0..bytes.len() {
-        items.push((&bytes.as_slice()[index..index + 1], 0))?;
-    }
+    let items = keys_of(rt.alloc(), bytes.as_slice())?;
     let all = items.as_slice();
-    let (_, first) = all.split_last().ok_or("empty")?;
-
-    let hundred: Built<301> = ZeroTrieSimpleAscii::from_sorted_u8_tuples(first);
-    assert!(rt; hundred?.as_bytes().starts_with(b"\xE0\x44"));
     let more: Built<304> = ZeroTrieSimpleAscii::from_sorted_u8_tuples(all);
     assert!(rt; is_refused(more, ZeroTrieBuildError::StackExceeded));
     let more: Built<304> = ZeroTrieSimpleAscii::from_sorted_u8_tuples_with_stack::<100>(all);
@@ -122,7 +143,7 @@ fn a_hundred_edges_and_one(rt: HostRuntime) -> Result<(), Fail> {
     let more: Built<304> = ZeroTrieSimpleAscii::from_sorted_u8_tuples_with_stack::<101>(all);
     let grown = ZeroTrieSimpleAscii::try_from_sorted_slice(rt.alloc(), all)?;
     assert!(rt; grown.as_bytes().starts_with(b"\xE0\x45"));
-    assert_eq!(rt; more?.as_bytes(), grown.as_bytes());
+    same(&rt, more?.as_bytes(), grown.as_bytes());
     Ok(())
 }
 
@@ -130,18 +151,23 @@ fn a_hundred_edges_and_one(rt: HostRuntime) -> Result<(), Fail> {
 fn arrays_are_copied(rt: HostRuntime) -> Result<(), Fail> {
     let alloc = rt.alloc();
     let copied = ZeroTrieSimpleAscii::try_from_sorted_slice_with_const_builder(alloc, &LITERALS)?;
-    assert_eq!(rt; copied.as_bytes(), LITERALS_TEXT);
+    same(&rt, copied.as_bytes(), LITERALS_TEXT);
     let copied = ZeroTrieSimpleAscii::try_from_sorted_slice_sized::<20, 2>(alloc, &LITERALS)?;
-    assert_eq!(rt; copied.as_bytes(), LITERALS_TEXT);
+    same(&rt, copied.as_bytes(), LITERALS_TEXT);
     let small = ZeroTrieSimpleAscii::try_from_sorted_slice_sized::<15, 2>(alloc, &LITERALS);
     assert!(rt; small.is_err_and(|e| e == ZeroTrieBuildError::BufferTooSmall));
     let shallow = ZeroTrieSimpleAscii::try_from_sorted_slice_sized::<16, 1>(alloc, &LITERALS);
     assert!(rt; shallow.is_err_and(|e| e == ZeroTrieBuildError::StackExceeded));
+    Ok(())
+}
 
+#[test]
+fn long_keys_are_copied(rt: HostRuntime) -> Result<(), Fail> {
+    let alloc = rt.alloc();
     let key = vec![in alloc; b'a'; 10000]?;
     let short: [(&[u8], usize); 1] = [(&key.as_slice()[1..], 0)];
     let copied = ZeroTrieSimpleAscii::try_from_sorted_slice_with_const_builder(alloc, &short)?;
-    assert_eq!(rt; copied.byte_len(), 10000);
+    same(&rt, copied.byte_len(), 10000);
     let long: [(&[u8], usize); 1] = [(key.as_slice(), 0)];
     let small = ZeroTrieSimpleAscii::try_from_sorted_slice_with_const_builder(alloc, &long);
     assert!(rt; small.is_err_and(|e| e == ZeroTrieBuildError::BufferTooSmall));

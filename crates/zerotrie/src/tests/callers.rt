@@ -49,9 +49,13 @@ fn second_of_three(alloc: Global) -> Result<Option<usize>, ZeroTrieBuildError>
 #[test]
 fn callers_are_answered(rt: HostRuntime) -> Result<(), Fail> {
     let pairs: [(&[u8], usize); 2] = [(b"Accept", 1), (b"Content-Type", 2)];
-    assert_eq!(rt; find_header(rt.alloc(), &pairs, b"content-type")?, Some(2));
-    assert_eq!(rt; find_header(rt.alloc(), &pairs, b"Content")?, None);
-    assert_eq!(rt; find_keyword(rt.alloc(), &pairs, b"Accept")?, Some(1));
-    assert_eq!(rt; second_of_three(rt.alloc())?, Some(2));
+    same(
+        &rt,
+        find_header(rt.alloc(), &pairs, b"content-type")?,
+        Some(2),
+    );
+    same(&rt, find_header(rt.alloc(), &pairs, b"Content")?, None);
+    same(&rt, find_keyword(rt.alloc(), &pairs, b"Accept")?, Some(1));
+    same(&rt, second_of_three(rt.alloc())?, Some(2));
     Ok(())
 }

@@ -26,12 +26,26 @@ fn rows_of<'a>(
     Ok(rows)
 }
 
-fn table_of(
-    alloc: Global,
-    entries: &[Entry<'_>],
-) -> Result<Result<ZeroAsciiDenseSparse2dTrieOwned, ZeroTrieBuildError>, Fail> {
+/// A table, or why there is none.
+type Built = Result<ZeroAsciiDenseSparse2dTrieOwned, ZeroTrieBuildError>;
+
+fn table_by(alloc: Global, entries: &[Entry<'_>], delimiter: u8) -> Result<Built, Fail> {
     let rows = rows_of(alloc, entries)?;
-    Ok(ZeroAsciiDenseSparse2dTrieOwned::try_from_btree_map_str(alloc, &rows, b'/'))
+    Ok(ZeroAsciiDenseSparse2dTrieOwned::try_from_btree_map_str(alloc, &rows, delimiter))
+}
+
+fn table_of(alloc: Global, entries: &[Entry<'_>]) -> Result<Built, Fail> {
+    table_by(alloc, entries, b'/')
+}
+
+fn record_of(alloc: Global, entries: &[Entry<'_>]) -> Result<Vec<u8>, Fail> {
+    let table = table_of(alloc, entries)??;
+    Ok(table.as_borrowed().to_record_bytes(alloc)?)
+}
+
+/// Why a record is refused.
+fn refusal_of(record: &[u8]) -> Option<RecordError> {
+    ZeroAsciiDenseSparse2dTrieBorrowed::try_from_record_bytes(record).err()
 }
 
 /// Entries, and the parts of their table: primary trie, trie of the suffixes, number of suffixes, cells.
@@ -54,18 +68,33 @@ fn record_with(alloc: Global, row: &Row<'_>) -> Result<Vec<u8>, Fail> {
     Ok(record)
 }
 
+/// A table finds each of its entries, and none with its texts the other way round.
+fn finds<H: Abort>(rt: &H, table: &ZeroAsciiDenseSparse2dTrieBorrowed<'_>, entries: &[Entry<'_>]) {
+    for (prefix, suffix, value) in entries {
+        same(rt, table.get(prefix, suffix), Some(*value));
+        same(rt, table.get(suffix, prefix), None);
+    }
+}
+
+/// A record is read as the table of these entries.
+fn is_read<H: AllocGlobal + Abort>(
+    rt: &H,
+    record: &[u8],
+    entries: &[Entry<'_>],
+) -> Result<(), Fail> {
+    let table = table_of(rt.alloc(), entries)??;
+    let read = ZeroAsciiDenseSparse2dTrieBorrowed::try_from_record_bytes(record)?;
+    assert!(rt; read == table.as_borrowed());
+    finds(rt, &read, entries);
+    Ok(())
+}
+
 /// A table has these parts, finds each of its entries, and is read again from its record alone.
 fn is_table_of<H: AllocGlobal + Abort>(rt: &H, row: &Row<'_>) -> Result<(), Fail> {
-    let table = table_of(rt.alloc(), row.0)??;
-    let record = table.as_borrowed().to_record_bytes(rt.alloc())?;
-    assert_eq!(rt; record, record_with(rt.alloc(), row)?);
-    let read = ZeroAsciiDenseSparse2dTrieBorrowed::try_from_record_bytes(record.as_slice())?;
-    assert!(rt; read == table.as_borrowed());
-    for (prefix, suffix, value) in row.0 {
-        assert_eq!(rt; read.get(prefix, suffix), Some(*value));
-        assert_eq!(rt; read.get(suffix, prefix), None);
-    }
-    Ok(())
+    let record = record_of(rt.alloc(), row.0)?;
+    let parts = record_with(rt.alloc(), row)?;
+    same(rt, record.as_slice(), parts.as_slice());
+    is_read(rt, record.as_slice(), row.0)
 }
 
 /// The window of the first row is full: it has the numbers from 52 to 65,586.
@@ -179,47 +208,48 @@ fn tables_have_their_parts(rt: HostRuntime) -> Result<(), Fail> {
 
 #[test]
 fn the_empty_suffix_is_found(rt: HostRuntime) -> Result<(), Fail> {
-    let tops = (usize::MAX - 1, usize::MAX);
-    let rows: [&[Entry<'_>]; 3] = [
-        &[("aa", "", 7)],
-        &[
-            ("aa", "", 0),
-            ("aa", "BBBB", 100_000),
-            ("aa", "CCCC", 100_001),
-        ],
-        &[("aa", "", tops.0), ("aa", "BBBB", tops.1)],
+    let rows: [(&[Entry<'_>], usize); 3] = [
+        (&[("aa", "", 7)], 0),
+        (
+            &[
+                ("aa", "", 0),
+                ("aa", "BBBB", 100_000),
+                ("aa", "CCCC", 100_001),
+            ],
+            0,
+        ),
+        (&[("aa", "", usize::MAX - 1), ("aa", "BBBB", usize::MAX)], 4),
     ];
-    for (entries, cells) in [(rows[0], 0), (rows[1], 0), (rows[2], 4)] {
+    for (entries, cells) in rows {
         let table = table_of(rt.alloc(), entries)??;
-        for (prefix, suffix, value) in entries {
-            assert_eq!(rt; table.as_borrowed().get(prefix, suffix), Some(*value));
-        }
-        assert_eq!(rt; table.matrix.len(), cells);
+        finds(&rt, &table.as_borrowed(), entries);
+        same(&rt, table.matrix.len(), cells);
     }
     Ok(())
 }
 
+/// The table of one entry, beside which stand rows without suffixes.
+fn table_beside(alloc: Global, prefixes: &[&str]) -> Result<Built, Fail> {
+    let mut rows = rows_of(alloc, &[("bbb", "X", 1)])?;
+    for prefix in prefixes {
+        rows.insert(*prefix, BTreeMap::new(alloc))?;
+    }
+    Ok(ZeroAsciiDenseSparse2dTrieOwned::try_from_btree_map_str(alloc, &rows, b'/'))
+}
+
 #[test]
 fn a_row_without_suffixes_adds_nothing(rt: HostRuntime) -> Result<(), Fail> {
-    let mut rows = rows_of(rt.alloc(), &[("bbb", "X", 1)])?;
-    rows.insert("aaa", BTreeMap::new(rt.alloc()))?;
-    let table = ZeroAsciiDenseSparse2dTrieOwned::try_from_btree_map_str(rt.alloc(), &rows, b'/')?;
-    let parts: Row<'_> = (&[], b"bbb/X\x81", b"X\x80", 1, &[]);
+    let table = table_beside(rt.alloc(), &["aaa"])??;
     let record = table.as_borrowed().to_record_bytes(rt.alloc())?;
-    assert_eq!(rt; record, record_with(rt.alloc(), &parts)?);
-    assert_eq!(rt; record.len(), 35);
+    let parts = record_with(rt.alloc(), &(&[], b"bbb/X\x81", b"X\x80", 1, &[]))?;
+    same(&rt, record.as_slice(), parts.as_slice());
+    same(&rt, record.len(), 35);
     for (prefix, error) in [
         ("aa/bb", ZeroTrieBuildError::IllegalDelimiter),
         ("é", ZeroTrieBuildError::NonAsciiError),
     ] {
-        rows.insert(prefix, BTreeMap::new(rt.alloc()))?;
-        let refused = ZeroAsciiDenseSparse2dTrieOwned::try_from_btree_map_str(
-            rt.alloc(),
-            &rows,
-            b'/',
-        );
+        let refused = table_beside(rt.alloc(), &["aaa", prefix])?;
         assert!(rt; refused.is_err_and(|e| e == error));
-        rows.remove(prefix);
     }
     Ok(())
 }
@@ -234,18 +264,23 @@ fn texts_and_delimiters_are_tested(rt: HostRuntime) -> Result<(), Fail> {
     for (entry, error) in rows {
         assert!(rt; table_of(rt.alloc(), &[entry])?.is_err_and(|e| e == error));
     }
-    let rows = rows_of(rt.alloc(), &[("aa", "BB", 1)])?;
-    let refused = ZeroAsciiDenseSparse2dTrieOwned::try_from_btree_map_str(rt.alloc(), &rows, 128);
+    let refused = table_by(rt.alloc(), &[("aa", "BB", 1)], 128)?;
     assert!(rt; refused.is_err_and(|e| e == ZeroTrieBuildError::NonAsciiError));
     Ok(())
 }
 
+/// The numbers below this one, as texts of five digits.
+fn numbers_up_to(alloc: Global, end: usize) -> Result<Vec<String>, Fail> {
+    let mut texts = Vec::new(alloc);
+    for number in 0..end {
+        texts.push(format!(in alloc; "{number:05}")?)?;
+    }
+    Ok(texts)
+}
+
 #[test]
 fn too_many_suffixes_are_refused(rt: HostRuntime) -> Result<(), Fail> {
-    let mut texts = Vec::new(rt.alloc());
-    for number in 0..65_536_usize {
-        texts.push(format!(in rt.alloc(); "{number:05}")?)?;
-    }
+    let texts = numbers_up_to(rt.alloc(), 65_536)?;
     let mut row: BTreeMap<&str, usize> = BTreeMap::new(rt.alloc());
     for text in &texts {
         row.insert(text.as_str(), 0)?;
@@ -265,16 +300,13 @@ fn records_have_their_length(rt: HostRuntime) -> Result<(), Fail> {
         ("ddd", "BBB", 3),
         ("ddd", "EEE", 4),
     ];
-    let table = table_of(rt.alloc(), &entries)??;
-    let mut record = table.as_borrowed().to_record_bytes(rt.alloc())?;
+    let mut record = record_of(rt.alloc(), &entries)?;
     for len in 0..record.len() {
-        let read = ZeroAsciiDenseSparse2dTrieBorrowed::try_from_record_bytes(
-            &record.as_slice()[..len],
-        );
-        assert!(rt; read.is_err_and(|e| e == RecordError::Truncated));
+        let refused = refusal_of(&record.as_slice()[..len]);
+        same(&rt, refused, Some(RecordError::Truncated));
     }
     record.push(0)?;
-    let read = ZeroAsciiDenseSparse2dTrieBorrowed::try_from_record_bytes(record.as_slice());
-    assert!(rt; read.is_err_and(|e| e == RecordError::TrailingBytes));
+    let refused = refusal_of(record.as_slice());
+    same(&rt, refused, Some(RecordError::TrailingBytes));
     Ok(())
 }

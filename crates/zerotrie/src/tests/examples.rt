@@ -8,12 +8,12 @@ use zerotrie_build::ByteSliceWithIndices;
 fn the_first_example_answers(rt: HostRuntime) -> Result<(), Fail> {
     let pairs = [("foo", 1), ("bar", 2), ("bazzoo", 3)];
     let trie = ZeroTrieSimpleAscii::try_from_iter(rt.alloc(), pairs)?;
-    assert_eq!(rt; trie.get(b"bar"), Some(2));
-    assert_eq!(rt; trie.get(b"unknown"), None);
-    assert_eq!(rt; trie.byte_len(), 17);
+    same(&rt, trie.get(b"bar"), Some(2));
+    same(&rt, trie.get(b"unknown"), None);
+    same(&rt, trie.byte_len(), 17);
     let bytes = trie.into_store();
     let again = ZeroTrieSimpleAscii::from_bytes(bytes.as_slice());
-    assert_eq!(rt; again.get(b"bazzoo"), Some(3));
+    same(&rt, again.get(b"bazzoo"), Some(3));
     Ok(())
 }
 
@@ -31,6 +31,6 @@ fn header_names_are_found_in_either_case(rt: HostRuntime) -> Result<(), Fail> {
 fn items_go_to_the_builder(rt: HostRuntime) {
     let items = [("ad", 22), ("adef", 33)];
     let lent = ByteSliceWithIndices::from_str_slice(&items);
-    assert_eq!(rt; lent.get(1), (b"adef".as_slice(), 33));
-    assert_eq!(rt; "ad".key_text(), "ad");
+    same(&rt, lent.get(1), (b"adef".as_slice(), 33));
+    same(&rt, "ad".key_text(), "ad");
 }

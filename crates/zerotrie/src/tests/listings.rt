@@ -2,6 +2,19 @@
 
 use super::*;
 
+/// Whether this is the next item of a listing.
+fn is_text(item: &Option<Result<(String, usize), ListError>>, key: &str, value: usize) -> bool {
+    matches!(item, Some(Ok((text, number))) if text.as_str() == key && *number == value)
+}
+
+/// A map has these pairs, and nothing else.
+fn has_texts<H: Abort>(rt: &H, map: &BTreeMap<String, usize>, pairs: &[(&str, usize)]) {
+    same(rt, map.len(), pairs.len());
+    for (key, value) in pairs {
+        assert!(rt; map.get(*key) == Some(value));
+    }
+}
+
 /// The trie of these bytes lists these pairs, then ends for good, and is their map.
 fn lists_texts<K: AsciiKind, H: Abort>(
     rt: &H,
@@ -12,17 +25,10 @@ fn lists_texts<K: AsciiKind, H: Abort>(
     let trie: AsciiTrie<K, &[u8]> = AsciiTrie::from_bytes(bytes);
     let mut items = trie.iter(alloc);
     for (key, value) in pairs {
-        let item = items.next();
-        assert!(rt;
-            matches!(&item, Some(Ok((text, number))) if text.as_str() == *key && *number == *value)
-        );
+        assert!(rt; is_text(&items.next(), *key, *value));
     }
     assert!(rt; items.next().is_none() && items.next().is_none());
-    let map = trie.to_btreemap(alloc)?;
-    assert!(rt; map.len() == pairs.len());
-    for (key, value) in pairs {
-        assert!(rt; map.get(*key) == Some(value));
-    }
+    has_texts(rt, &trie.to_btreemap(alloc)?, pairs);
     Ok(())
 }
 
@@ -45,21 +51,28 @@ fn texts_in_order(rt: HostRuntime) -> Result<(), Fail> {
     Ok(())
 }
 
+/// Whether this is the next item of a listing.
+fn is_item(item: &Option<Result<(Vec<u8>, usize), ListError>>, key: &[u8], value: usize) -> bool {
+    matches!(item, Some(Ok((bytes, number))) if bytes.as_slice() == key && *number == value)
+}
+
+/// A map has the letters with their numbers, and nothing else.
+fn has_letters<H: Abort>(rt: &H, map: &BTreeMap<Vec<u8>, usize>) {
+    same(rt, map.len(), 16);
+    for (key, value) in LETTERS {
+        assert!(rt; map.get(key.as_bytes()) == Some(&value));
+    }
+}
+
 /// A hashed table has its parameters in front of its edges, and its edges in an order of its own.
 fn lists_letters<K: HashedKind, H: Abort>(rt: &H, alloc: Global) -> Result<(), Fail> {
-    let trie: HashedTrie<K, Vec<u8>> = HashedTrie::try_from_iter(alloc, LETTERS)?;
+    let trie = letters::<K>(alloc)?;
+    has_letters(rt, &trie.to_btreemap(alloc)?);
+    let any = trie.as_borrowed().into_zerotrie();
+    has_letters(rt, &any.to_btreemap(alloc)?);
     let mut items = trie.iter(alloc);
     for (key, value) in [(b'p', 15), (b'a', 0), (b'b', 1)] {
-        let item = items.next();
-        assert!(rt;
-            matches!(&item, Some(Ok((bytes, number))) if bytes.as_slice() == [key].as_slice() && *number == value)
-        );
-    }
-    let by_key = trie.to_btreemap(alloc)?;
-    let of_any = trie.as_borrowed().into_zerotrie().to_btreemap(alloc)?;
-    assert!(rt; by_key.len() == 16 && of_any.len() == 16);
-    for (entry, (key, value)) in by_key.iter().zip(LETTERS) {
-        assert!(rt; entry.0.as_slice() == key.as_bytes() && *entry.1 == value);
+        assert!(rt; is_item(&items.next(), &[key], value));
     }
     Ok(())
 }
@@ -75,15 +88,17 @@ fn spans_and_values_on_the_way(rt: HostRuntime) -> Result<(), Fail> {
     let trie = ZeroTriePerfectHash::from_bytes(b"a\x8Ab\xA3\x81\x91\xA1\x84");
     let mut items = trie.iter(rt.alloc());
     for (key, value) in [(b"a".as_slice(), 10), (b"ab\x81\x91\xA1", 4)] {
-        let item = items.next();
-        assert!(rt;
-            matches!(&item, Some(Ok((bytes, number))) if bytes.as_slice() == key && *number == value)
-        );
+        assert!(rt; is_item(&items.next(), key, value));
     }
     assert!(rt; items.next().is_none());
+    Ok(())
+}
+
+#[test]
+fn words_beyond_ascii(rt: HostRuntime) -> Result<(), Fail> {
     let words = [("foo", 1), ("bår", 2), ("båzzøø", 3)];
     let map = ZeroTrie::try_from_iter(rt.alloc(), words)?.to_btreemap(rt.alloc())?;
-    assert!(rt; map.len() == 3);
+    same(&rt, map.len(), 3);
     Ok(())
 }
 
@@ -114,12 +129,16 @@ fn listings_of_no_trie_end(rt: HostRuntime) -> Result<(), Fail> {
         (b"\xC3abc\x01\x09\x80\x81\x82", 1),
     ];
     for (bytes, pairs) in rows {
-        assert_eq!(rt; count::<Simple>(rt.alloc(), bytes)?, pairs);
-        assert_eq!(rt; count::<Ignore>(rt.alloc(), bytes)?, pairs);
-        assert_eq!(rt; count::<Hash>(rt.alloc(), bytes)?, pairs);
+        same(&rt, count::<Simple>(rt.alloc(), bytes)?, pairs);
+        same(&rt, count::<Ignore>(rt.alloc(), bytes)?, pairs);
+        same(&rt, count::<Hash>(rt.alloc(), bytes)?, pairs);
     }
-    assert_eq!(rt; count::<Hash>(rt.alloc(), b"\xA1\xC3\xA1\xA5\x81")?, 1);
-    assert_eq!(rt; count::<Simple>(rt.alloc(), b"\xA1\xC3\xA1\xA5\x81")?, 0);
+    same(&rt, count::<Hash>(rt.alloc(), b"\xA1\xC3\xA1\xA5\x81")?, 1);
+    same(
+        &rt,
+        count::<Simple>(rt.alloc(), b"\xA1\xC3\xA1\xA5\x81")?,
+        0,
+    );
     Ok(())
 }
 
@@ -131,11 +150,16 @@ fn a_key_that_is_no_text(rt: HostRuntime) -> Result<(), Fail> {
     assert!(rt; matches!(items.next(), Some(Err(ListError::NotText))));
     assert!(rt; items.next().is_none());
     assert!(rt; trie.to_btreemap(rt.alloc()).err() == Some(ListError::NotText));
+    Ok(())
+}
+
+#[test]
+fn texts_of_errors(rt: HostRuntime) -> Result<(), Fail> {
     for (error, text) in [
         (ListError::OutOfMemory, "OutOfMemory"),
         (ListError::NotText, "NotText"),
     ] {
-        assert_eq!(rt; format!(in rt.alloc(); "{error}")?.as_str(), text);
+        same(&rt, format!(in rt.alloc(); "{error}")?.as_str(), text);
     }
     Ok(())
 }

@@ -42,8 +42,8 @@ fn find_in_json(
 #[test]
 fn what_was_written_reads_back(rt: HostRuntime) -> Result<(), Fail> {
     let pairs: [(&[u8], usize); 2] = [(b"ad", 22), (b"adef", 33)];
-    assert_eq!(rt; find_tagged(rt.alloc(), &pairs, b"adef")?, Some(33));
-    assert_eq!(rt; find_in_json(rt.alloc(), &pairs, b"adef")?, Some(33));
+    same(&rt, find_tagged(rt.alloc(), &pairs, b"adef")?, Some(33));
+    same(&rt, find_in_json(rt.alloc(), &pairs, b"adef")?, Some(33));
     Ok(())
 }
 
@@ -85,19 +85,14 @@ fn tags_stand_in_front(rt: HostRuntime) -> Result<(), Fail> {
     Ok(())
 }
 
-/// 511 keys "k000" and so on make a trie of the kind whose tag is 0, and one more makes one of tag 3.
+/// 511 keys make a trie of the kind whose tag is 0, and one more makes one of tag 3.
 #[test]
 fn many_keys_change_the_tag(rt: HostRuntime) -> Result<(), Fail> {
-    let mut keys = [b'k'; 2048];
-    for n in 0..512 {
-        keys[4 * n + 1] = b'0' + (n / 100) as u8;
-        keys[4 * n + 2] = b'0' + (n / 10 % 10) as u8;
-        keys[4 * n + 3] = b'0' + (n % 10) as u8;
-    }
+    let keys = many_keys();
     for (count, tag) in [(511, 0), (512, 3)] {
         let pairs = keys[..4 * count].chunks(4).map(|key| (key, 0));
         let tagged = ZeroTrie::try_from_iter(rt.alloc(), pairs)?.to_tagged_bytes(rt.alloc())?;
-        assert_eq!(rt; tagged[0], tag);
+        same(&rt, tagged[0], tag);
     }
     Ok(())
 }
@@ -105,11 +100,11 @@ fn many_keys_change_the_tag(rt: HostRuntime) -> Result<(), Fail> {
 #[test]
 fn tagged_bytes_are_read(rt: HostRuntime) -> Result<(), Fail> {
     let simple = ZeroTrieSimpleAscii::try_from_tagged_bytes(b"\0a\x85")?;
-    assert_eq!(rt; simple.get(b"a"), Some(5));
+    same(&rt, simple.get(b"a"), Some(5));
     let mixed = ZeroAsciiIgnoreCaseTrie::try_from_tagged_bytes(b"\x08a\x85")?;
-    assert_eq!(rt; mixed.get(b"A"), Some(5));
+    same(&rt, mixed.get(b"A"), Some(5));
     let hashed = ZeroTriePerfectHash::try_from_tagged_bytes(b"\x03\xA1\xFF\x81")?;
-    assert_eq!(rt; hashed.get(b"\xFF"), Some(1));
+    same(&rt, hashed.get(b"\xFF"), Some(1));
     let extended = ZeroTrie::try_from_tagged_bytes(b"\x07\x81")?;
     assert!(rt;
         extended.flavor == ZeroTrieFlavor::ExtendedCapacity && extended.get(b"") == Some(1)
@@ -148,6 +143,40 @@ fn value_of(alloc: Global, text: &str) -> Result<Value, serde_json::Error> {
     Value::from_str(alloc, text)
 }
 
+fn ascii_from_json<K: AsciiKind>(alloc: Global, value: &Value) -> Result<Vec<u8>, JsonError> {
+    let trie: AsciiTrie<K, Vec<u8>> = AsciiTrie::try_from_json_value(alloc, value)?;
+    Ok(trie.into_store())
+}
+
+fn hashed_from_json<K: HashedKind>(alloc: Global, value: &Value) -> Result<Vec<u8>, JsonError> {
+    let trie: HashedTrie<K, Vec<u8>> = HashedTrie::try_from_json_value(alloc, value)?;
+    Ok(trie.into_store())
+}
+
+/// Each kind reads the JSON value as this text.
+fn is_read_as<H: AllocGlobal + Abort>(rt: &H, value: &Value, bytes: &[u8]) -> Result<(), Fail> {
+    let alloc = rt.alloc();
+    same(
+        rt,
+        ascii_from_json::<Simple>(alloc, value)?.as_slice(),
+        bytes,
+    );
+    same(
+        rt,
+        ascii_from_json::<Ignore>(alloc, value)?.as_slice(),
+        bytes,
+    );
+    same(
+        rt,
+        hashed_from_json::<Hash>(alloc, value)?.as_slice(),
+        bytes,
+    );
+    same(rt, hashed_from_json::<Ext>(alloc, value)?.as_slice(), bytes);
+    let any = ZeroTrie::try_from_json_value(alloc, value)?;
+    assert!(rt; any.flavor == ZeroTrieFlavor::SimpleAscii && any.store.as_slice() == bytes);
+    Ok(())
+}
+
 #[test]
 fn json_is_read(rt: HostRuntime) -> Result<(), Fail> {
     let rows: [(&str, &[u8]); 7] = [
@@ -163,15 +192,7 @@ fn json_is_read(rt: HostRuntime) -> Result<(), Fail> {
         ),
     ];
     for (text, bytes) in rows {
-        let value = value_of(rt.alloc(), text)?;
-        let simple = ZeroTrieSimpleAscii::try_from_json_value(rt.alloc(), &value)?;
-        let mixed = ZeroAsciiIgnoreCaseTrie::try_from_json_value(rt.alloc(), &value)?;
-        let hashed = ZeroTriePerfectHash::try_from_json_value(rt.alloc(), &value)?;
-        let extended = ZeroTrieExtendedCapacity::try_from_json_value(rt.alloc(), &value)?;
-        let any = ZeroTrie::try_from_json_value(rt.alloc(), &value)?;
-        assert!(rt; simple.as_bytes() == bytes && mixed.as_bytes() == bytes);
-        assert!(rt; hashed.as_bytes() == bytes && extended.as_bytes() == bytes);
-        assert!(rt; any.flavor == ZeroTrieFlavor::SimpleAscii && any.store.as_slice() == bytes);
+        is_read_as(&rt, &value_of(rt.alloc(), text)?, bytes)?;
     }
     let high = value_of(rt.alloc(), "[[[255],3]]")?;
     let any = ZeroTrie::try_from_json_value(rt.alloc(), &high)?;
@@ -200,23 +221,29 @@ fn json_is_written(rt: HostRuntime) -> Result<(), Fail> {
     ];
     for (bytes, text) in rows {
         let any = ZeroTrie::of_kind::<Simple>(bytes).to_json_value(rt.alloc())?;
-        assert_eq!(rt; any.to_string(rt.alloc())?.as_str(), text);
-        assert_eq!(rt; ascii_json::<Simple>(rt.alloc(), bytes)?.as_str(), text);
-        assert_eq!(rt; ascii_json::<Ignore>(rt.alloc(), bytes)?.as_str(), text);
-        assert_eq!(rt; hashed_json::<Hash>(rt.alloc(), bytes)?.as_str(), text);
-        assert_eq!(rt; hashed_json::<Ext>(rt.alloc(), bytes)?.as_str(), text);
+        same(&rt, any.to_string(rt.alloc())?.as_str(), text);
+        same(&rt, ascii_json::<Simple>(rt.alloc(), bytes)?.as_str(), text);
+        same(&rt, ascii_json::<Ignore>(rt.alloc(), bytes)?.as_str(), text);
+        same(&rt, hashed_json::<Hash>(rt.alloc(), bytes)?.as_str(), text);
+        same(&rt, hashed_json::<Ext>(rt.alloc(), bytes)?.as_str(), text);
     }
     Ok(())
 }
 
-/// Keys of any bytes: text where all are UTF-8, else lists. A hashed branch lists its edges in another order.
+/// Keys of any bytes: text where all are UTF-8, else lists.
 #[test]
 fn json_of_any_keys(rt: HostRuntime) -> Result<(), Fail> {
     let text = ZeroTriePerfectHash::try_from_iter(rt.alloc(), [("ø", 2), ("å", 1)])?;
-    assert_eq!(rt;
+    same(
+        &rt,
         hashed_json::<Hash>(rt.alloc(), text.as_bytes())?.as_str(),
-        r#"{"å":1,"ø":2}"#
+        r#"{"å":1,"ø":2}"#,
     );
+    Ok(())
+}
+
+#[test]
+fn json_of_keys_that_are_no_text(rt: HostRuntime) -> Result<(), Fail> {
     let pairs: [(&[u8], usize); 2] = [(b"a", 1), (b"\xFF", 3)];
     let rows = [
         (&pairs[..], "[[[97],1],[[255],3]]"),
@@ -225,10 +252,16 @@ fn json_of_any_keys(rt: HostRuntime) -> Result<(), Fail> {
     for (pairs, json) in rows {
         let trie = ZeroTriePerfectHash::try_from_sorted_slice(rt.alloc(), pairs)?;
         let written = hashed_json::<Hash>(rt.alloc(), trie.as_bytes())?;
-        assert_eq!(rt; written.as_str(), json);
+        same(&rt, written.as_str(), json);
     }
-    let letters = ZeroTrieExtendedCapacity::try_from_iter(rt.alloc(), LETTERS)?;
-    let json = hashed_json::<Ext>(rt.alloc(), letters.as_bytes())?;
+    Ok(())
+}
+
+/// A hashed branch lists its edges in another order than JSON has them.
+#[test]
+fn json_of_a_hashed_branch(rt: HostRuntime) -> Result<(), Fail> {
+    let text = letters::<Ext>(rt.alloc())?.into_store();
+    let json = hashed_json::<Ext>(rt.alloc(), text.as_slice())?;
     assert!(rt;
         json.as_str().starts_with(r#"{"a":0,"b":1,"#) && json.as_str().ends_with(r#""p":15}"#)
     );
@@ -270,13 +303,15 @@ fn json_is_refused(rt: HostRuntime) -> Result<(), Fail> {
 
 #[test]
 fn texts_of_errors(rt: HostRuntime) -> Result<(), Fail> {
-    assert_eq!(rt;
+    same(
+        &rt,
         format!(in rt.alloc(); "{}", TagError::Empty)?.as_str(),
-        "Empty"
+        "Empty",
     );
-    assert_eq!(rt;
+    same(
+        &rt,
         format!(in rt.alloc(); "{}", TagError::InvalidTag)?.as_str(),
-        "InvalidTag"
+        "InvalidTag",
     );
     let rows = [
         (JsonError::Shape, "Shape"),
@@ -284,7 +319,7 @@ fn texts_of_errors(rt: HostRuntime) -> Result<(), Fail> {
         (JsonError::OutOfMemory, "OutOfMemory"),
     ];
     for (error, text) in rows {
-        assert_eq!(rt; format!(in rt.alloc(); "{error}")?.as_str(), text);
+        same(&rt, format!(in rt.alloc(); "{error}")?.as_str(), text);
     }
     Ok(())
 }

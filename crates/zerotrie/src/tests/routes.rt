@@ -211,7 +211,7 @@ fn plain_text(rt: HostRuntime) -> Result<(), Fail> {
     let items: [(&[u8], usize); 4] = [(b"", 11), (b"ad", 22), (b"adef", 33), (b"adghk", 44)];
     let trie = ZeroTrieSimpleAscii::try_from_sorted_slice(rt.alloc(), &items)?;
     let plain = plain_encode(rt.alloc(), &items)?;
-    assert_eq!(rt; trie.as_bytes(), plain.as_slice());
+    same(&rt, trie.as_bytes(), plain.as_slice());
     Ok(())
 }
 
@@ -283,7 +283,7 @@ fn long_spans(rt: HostRuntime) -> Result<(), Fail> {
     ];
     for (length, text) in rows {
         let trie = ZeroTriePerfectHash::try_from_iter(rt.alloc(), [(&run[..length], 1)])?;
-        assert_eq!(rt; trie.as_bytes(), text);
+        same(&rt, trie.as_bytes(), text);
     }
     Ok(())
 }
@@ -301,8 +301,8 @@ fn all_bytes_are_edges(rt: HostRuntime) -> Result<(), Fail> {
     }
     let keys = &text[259..515];
     let trie = ZeroTriePerfectHash::try_from_iter(rt.alloc(), keys.chunks(1).map(|key| (key, 0)))?;
-    assert_eq!(rt; trie.as_bytes(), text.as_slice());
-    assert_eq!(rt; trie.get(b"\xC8"), Some(0));
+    same(&rt, trie.as_bytes(), text.as_slice());
+    same(&rt, trie.get(b"\xC8"), Some(0));
     Ok(())
 }
 
@@ -336,21 +336,16 @@ fn auto_texts(rt: HostRuntime) -> Result<(), Fail> {
         for route in 0..4 {
             let trie = auto_by(rt.alloc(), route, row.0)?;
             assert!(rt; trie.flavor == flavor && has_auto(&trie, row));
-            assert_eq!(rt; trie.byte_len(), row.1.len());
+            same(&rt, trie.byte_len(), row.1.len());
         }
     }
     Ok(())
 }
 
-/// Up to 511 keys are few. Those of the table are "k000" and so on.
+/// Up to 511 keys are few.
 #[test]
 fn many_keys_are_hashed(rt: HostRuntime) -> Result<(), Fail> {
-    let mut keys = [b'k'; 2048];
-    for n in 0..512 {
-        keys[4 * n + 1] = b'0' + (n / 100) as u8;
-        keys[4 * n + 2] = b'0' + (n / 10 % 10) as u8;
-        keys[4 * n + 3] = b'0' + (n % 10) as u8;
-    }
+    let keys = many_keys();
     let rows = [
         (511, ZeroTrieFlavor::SimpleAscii),
         (512, ZeroTrieFlavor::PerfectHash),

@@ -16,7 +16,7 @@ fn simple_look_ups(rt: HostRuntime) {
         (b"in\x83to\x84", b"into", Some(4)),
     ];
     for (bytes, key, value) in rows {
-        assert_eq!(rt; ZeroTrieSimpleAscii::from_bytes(bytes).get(key), value);
+        same(&rt, ZeroTrieSimpleAscii::from_bytes(bytes).get(key), value);
     }
 }
 
@@ -41,7 +41,11 @@ fn look_ups_without_case(rt: HostRuntime) {
         (names, b"fOO", Some(1)),
     ];
     for (bytes, key, value) in rows {
-        assert_eq!(rt; ZeroAsciiIgnoreCaseTrie::from_bytes(bytes).get(key), value);
+        same(
+            &rt,
+            ZeroAsciiIgnoreCaseTrie::from_bytes(bytes).get(key),
+            value,
+        );
     }
 }
 
@@ -70,7 +74,7 @@ fn look_ups_with_any_bytes(rt: HostRuntime) {
 fn ascii_over_vectors<K: AsciiKind, H: AllocGlobal + Abort>(rt: &H) -> Result<(), Fail> {
     let borrowed: AsciiTrie<K, &[u8]> = AsciiTrie::from_bytes(b"aBc\x85");
     let cow: AsciiTrie<K, CowSlice<'_, u8>> = borrowed.to_owned(rt.alloc())?.convert_store();
-    assert_eq!(rt; cow.get(b"aBc"), Some(5));
+    same(rt, cow.get(b"aBc"), Some(5));
     assert!(rt; cow.as_borrowed() == borrowed);
     Ok(())
 }
@@ -78,7 +82,7 @@ fn ascii_over_vectors<K: AsciiKind, H: AllocGlobal + Abort>(rt: &H) -> Result<()
 fn hashed_over_vectors<K: HashedKind, H: AllocGlobal + Abort>(rt: &H) -> Result<(), Fail> {
     let borrowed: HashedTrie<K, &[u8]> = HashedTrie::from_bytes(b"aBc\x85");
     let cow: HashedTrie<K, CowSlice<'_, u8>> = borrowed.to_owned(rt.alloc())?.convert_store();
-    assert_eq!(rt; cow.get(b"aBc"), Some(5));
+    same(rt, cow.get(b"aBc"), Some(5));
     assert!(rt; cow.as_borrowed() == borrowed);
     Ok(())
 }
@@ -93,7 +97,7 @@ fn ascii_over_arrays<K: AsciiKind, H: Abort>(rt: &H) {
             .is_ok_and(|copy| copy.as_borrowed_slice() == borrowed)
     );
     assert!(rt; array.as_borrowed() != borrowed);
-    assert_eq!(rt; array.into_store(), [0x61, 0x42, 0x63, 0x86]);
+    same(rt, array.into_store(), [0x61, 0x42, 0x63, 0x86]);
 }
 
 /// A trie of unknown kind is equal to one of its kind alone.
@@ -131,7 +135,7 @@ fn kinds_have_their_tags(rt: HostRuntime) {
         ),
     ];
     for (tag, number) in tags {
-        assert_eq!(rt; tag, number);
+        same(&rt, tag, number);
     }
 }
 

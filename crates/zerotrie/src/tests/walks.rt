@@ -23,7 +23,7 @@ fn walks_over_ascii_keys(rt: HostRuntime) -> Result<(), Fail> {
         ],
     );
     let answers = walk::<Ignore>(rt.alloc(), mixed, &steps)?;
-    assert_eq!(rt; answers.as_slice(), stepped.as_slice());
+    same(&rt, answers.as_slice(), stepped.as_slice());
     let nowhere = [
         Stepped(None),
         Stepped(None),
@@ -32,7 +32,7 @@ fn walks_over_ascii_keys(rt: HostRuntime) -> Result<(), Fail> {
         Stepped(None),
     ];
     let answers = walk::<Simple>(rt.alloc(), mixed, &steps)?;
-    assert_eq!(rt; answers.as_slice(), nowhere.as_slice());
+    same(&rt, answers.as_slice(), nowhere.as_slice());
     let probes = [
         Probe(0),
         Probe(0),
@@ -54,7 +54,7 @@ fn walks_over_ascii_keys(rt: HostRuntime) -> Result<(), Fail> {
         Probed(None),
     ];
     let answers = walk::<Simple>(rt.alloc(), long, &probes)?;
-    assert_eq!(rt; answers.as_slice(), probed.as_slice());
+    same(&rt, answers.as_slice(), probed.as_slice());
     Ok(())
 }
 
@@ -103,8 +103,16 @@ fn walks_through_spans(rt: HostRuntime) -> Result<(), Fail> {
         ),
     ];
     for (bytes, ops, answers) in rows {
-        assert_eq!(rt; walk::<Hash>(rt.alloc(), bytes, ops)?.as_slice(), answers);
-        assert_eq!(rt; walk::<Ext>(rt.alloc(), bytes, ops)?.as_slice(), answers);
+        same(
+            &rt,
+            walk::<Hash>(rt.alloc(), bytes, ops)?.as_slice(),
+            answers,
+        );
+        same(
+            &rt,
+            walk::<Ext>(rt.alloc(), bytes, ops)?.as_slice(),
+            answers,
+        );
     }
     Ok(())
 }
@@ -112,18 +120,26 @@ fn walks_through_spans(rt: HostRuntime) -> Result<(), Fail> {
 /// Edges of a hashed branch are numbered as its table has them.
 #[test]
 fn walks_in_the_order_of_a_table(rt: HostRuntime) -> Result<(), Fail> {
-    let pairs = LETTERS;
-    let letters = ZeroTriePerfectHash::try_from_iter(rt.alloc(), pairs)?.into_store();
+    let text = letters::<Hash>(rt.alloc())?.into_store();
     let rows = [
         (0, Some((b'p', 16)), Some(15)),
         (15, Some((b'o', 16)), Some(14)),
         (16, None, None),
     ];
     for (index, edge, value) in rows {
-        let answers = walk::<Hash>(rt.alloc(), letters.as_slice(), &[Probe(index), Take])?;
-        assert_eq!(rt; answers.as_slice(), [Probed(edge), Taken(value)].as_slice());
+        let answers = walk::<Hash>(rt.alloc(), text.as_slice(), &[Probe(index), Take])?;
+        same(
+            &rt,
+            answers.as_slice(),
+            [Probed(edge), Taken(value)].as_slice(),
+        );
     }
-    let mut bytes = Vec::from_array(rt.alloc(), [0xE1, 0x60])?;
+    Ok(())
+}
+
+/// The text of all keys of one byte, each with value 0, in a hashed kind.
+fn text_of_all_bytes(alloc: Global) -> Result<Vec<u8>, Fail> {
+    let mut bytes = Vec::from_array(alloc, [0xE1, 0x60])?;
     bytes.resize(259, 0)?;
     for byte in 0..=255 {
         bytes.push(byte)?;
@@ -133,10 +149,17 @@ fn walks_in_the_order_of_a_table(rt: HostRuntime) -> Result<(), Fail> {
         bytes.push(byte)?;
     }
     bytes.resize(1281, 0x80)?;
+    Ok(bytes)
+}
+
+#[test]
+fn walks_over_all_bytes(rt: HostRuntime) -> Result<(), Fail> {
+    let bytes = text_of_all_bytes(rt.alloc())?;
     let answers = walk::<Hash>(rt.alloc(), bytes.as_slice(), &[Probe(255), Take])?;
-    assert_eq!(rt;
+    same(
+        &rt,
         answers.as_slice(),
-        [Probed(Some((255, 256))), Taken(Some(0))].as_slice()
+        [Probed(Some((255, 256))), Taken(Some(0))].as_slice(),
     );
     Ok(())
 }
@@ -159,10 +182,10 @@ fn walks_return_on_any_bytes(rt: HostRuntime) -> Result<(), Fail> {
     ];
     let ops = [Take, Probe(0), Take, Step(b'a'), Probe(1), Step(0xA1), Take];
     for bytes in table {
-        assert_eq!(rt; walk::<Simple>(rt.alloc(), bytes, &ops)?.len(), 7);
-        assert_eq!(rt; walk::<Ignore>(rt.alloc(), bytes, &ops)?.len(), 7);
-        assert_eq!(rt; walk::<Hash>(rt.alloc(), bytes, &ops)?.len(), 7);
-        assert_eq!(rt; walk::<Ext>(rt.alloc(), bytes, &ops)?.len(), 7);
+        same(&rt, walk::<Simple>(rt.alloc(), bytes, &ops)?.len(), 7);
+        same(&rt, walk::<Ignore>(rt.alloc(), bytes, &ops)?.len(), 7);
+        same(&rt, walk::<Hash>(rt.alloc(), bytes, &ops)?.len(), 7);
+        same(&rt, walk::<Ext>(rt.alloc(), bytes, &ops)?.len(), 7);
     }
     Ok(())
 }

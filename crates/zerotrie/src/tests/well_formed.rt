@@ -40,7 +40,7 @@ fn verdicts<H: Abort>(rt: &H, bytes: &[u8]) -> [bool; 4] {
 #[test]
 fn verdicts_of_each_kind(rt: HostRuntime) {
     for bytes in WRONG {
-        assert_eq!(rt; verdicts(&rt, bytes), [false; 4]);
+        same(&rt, verdicts(&rt, bytes), [false; 4]);
     }
     let rows: [(&[u8], [bool; 4]); 7] = [
         (b"", [true; 4]),
@@ -59,30 +59,39 @@ fn verdicts_of_each_kind(rt: HostRuntime) {
         ),
     ];
     for (bytes, answers) in rows {
-        assert_eq!(rt; verdicts(&rt, bytes), answers);
+        same(&rt, verdicts(&rt, bytes), answers);
     }
 }
 
 #[test]
-fn hashed_tables_with_any_perfect_parameters(rt: HostRuntime) -> Result<(), Fail> {
-    let mut letters = ZeroTriePerfectHash::try_from_iter(rt.alloc(), LETTERS)?.into_store();
-    assert_eq!(rt; verdicts(&rt, &letters), [false, false, true, true]);
-    assert!(rt; letters.len() == 65);
-    letters.swap(18, 19);
-    assert_eq!(rt; verdicts(&rt, &letters), [false; 4]);
+fn edges_of_a_table_in_their_places(rt: HostRuntime) -> Result<(), Fail> {
+    let mut text = letters::<Hash>(rt.alloc())?.into_store();
+    same(&rt, verdicts(&rt, &text), [false, false, true, true]);
+    assert!(rt; text.len() == 65);
+    text.swap(18, 19);
+    same(&rt, verdicts(&rt, &text), [false; 4]);
+    Ok(())
+}
 
-    let mut keys = Vec::new(rt.alloc());
+/// The text of all keys of one byte, each with value 0, in a hashed kind.
+fn text_of_all_bytes(alloc: Global) -> Result<Vec<u8>, Fail> {
+    let mut keys = Vec::new(alloc);
     for byte in 0..=255 {
-        keys.push((Vec::from_array(rt.alloc(), [byte])?, 0))?;
+        keys.push((Vec::from_array(alloc, [byte])?, 0))?;
     }
-    let mut bytes = ZeroTriePerfectHash::try_from_iter(rt.alloc(), keys)?.into_store();
+    Ok(ZeroTriePerfectHash::try_from_iter(alloc, keys)?.into_store())
+}
+
+#[test]
+fn hashed_tables_with_any_perfect_parameters(rt: HostRuntime) -> Result<(), Fail> {
+    let mut bytes = text_of_all_bytes(rt.alloc())?;
     assert!(rt; bytes.len() == 1281);
-    assert_eq!(rt; verdicts(&rt, &bytes), [false, false, true, true]);
+    same(&rt, verdicts(&rt, &bytes), [false, false, true, true]);
     bytes[2] = 7;
     bytes[3] = 0xFF;
-    assert_eq!(rt; verdicts(&rt, &bytes), [false, false, true, true]);
+    same(&rt, verdicts(&rt, &bytes), [false, false, true, true]);
     bytes.swap(259, 260);
-    assert_eq!(rt; verdicts(&rt, &bytes), [false; 4]);
+    same(&rt, verdicts(&rt, &bytes), [false; 4]);
     Ok(())
 }
 
@@ -90,18 +99,18 @@ fn hashed_tables_with_any_perfect_parameters(rt: HostRuntime) -> Result<(), Fail
 fn bytes_are_taken_or_refused(rt: HostRuntime) -> Result<(), Fail> {
     let bytes = b"abc\x85".as_slice();
     let simple = ZeroTrieSimpleAscii::try_from_bytes(bytes).ok();
-    assert_eq!(rt; simple.and_then(|trie| trie.get(b"abc")), Some(5));
+    same(&rt, simple.and_then(|trie| trie.get(b"abc")), Some(5));
     let hashed = ZeroTrieExtendedCapacity::try_from_bytes(bytes).ok();
-    assert_eq!(rt; hashed.and_then(|trie| trie.get(b"abc")), Some(5));
+    same(&rt, hashed.and_then(|trie| trie.get(b"abc")), Some(5));
     let any = ZeroTrie::try_from_bytes::<Hash>(bytes).ok();
-    assert_eq!(rt; any.and_then(|trie| trie.get(b"abc")), Some(5));
+    same(&rt, any.and_then(|trie| trie.get(b"abc")), Some(5));
     for wrong in WRONG {
         assert!(rt; ZeroAsciiIgnoreCaseTrie::try_from_bytes(wrong).is_err());
         assert!(rt; ZeroTriePerfectHash::try_from_bytes(wrong).is_err());
         assert!(rt; ZeroTrie::try_from_bytes::<Ext>(wrong).is_err());
     }
     let text = format!(in rt.alloc(); "{}", NotWellFormed)?;
-    assert_eq!(rt; text.as_str(), "NotWellFormed");
+    same(&rt, text.as_str(), "NotWellFormed");
     Ok(())
 }
 

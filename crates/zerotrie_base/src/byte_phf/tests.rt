@@ -1,4 +1,5 @@
 use super::*;
+use crate::testing::same;
 use std::test::Fail;
 
 /// Whether the table answers each of its keys' places, and nothing at other bytes.
@@ -41,8 +42,8 @@ fn known_tables(rt: HostRuntime) -> Result<(), Fail> {
     for (keys, bytes) in rows {
         assert!(rt; are_distinct(keys));
         let table = PerfectByteHashMap::try_new(rt.alloc(), keys)?;
-        assert_eq!(rt; table.as_bytes(), bytes);
-        assert_eq!(rt; table.num_items(), keys.len());
+        same(&rt, table.as_bytes(), bytes);
+        same(&rt, table.num_items(), keys.len());
         assert!(rt; finds_its_keys(&table.as_borrowed()));
         assert!(rt; table.as_borrowed() == PerfectByteHashMap::from_bytes(bytes));
     }
@@ -57,9 +58,13 @@ fn all_bytes(rt: HostRuntime) -> Result<(), Fail> {
     }
     assert!(rt; are_distinct(keys.as_slice()));
     let table = PerfectByteHashMap::try_new(rt.alloc(), keys.as_slice())?;
-    assert_eq!(rt; table.get(200), Some(200));
-    assert_eq!(rt; table.keys(), keys.as_slice());
-    assert_eq!(rt; table.as_bytes().iter().filter(|b| **b == 0).count(), 258);
+    same(&rt, table.get(200), Some(200));
+    same(&rt, table.keys(), keys.as_slice());
+    same(
+        &rt,
+        table.as_bytes().iter().filter(|b| **b == 0).count(),
+        258,
+    );
     assert!(rt; finds_its_keys(&table));
     Ok(())
 }
@@ -78,17 +83,18 @@ fn no_tables(rt: HostRuntime) -> Result<(), Fail> {
             bytes.len() > 1 || found == 0 && table.num_items() == 0 && table.keys().is_empty()
         );
     }
-    assert_eq!(rt;
+    same(
+        &rt,
         PerfectByteHashMap::from_store([5, 0, 0x61, 0x62]).keys(),
-        b"b".as_slice()
+        b"b".as_slice(),
     );
     Ok(())
 }
 
 #[test]
 fn f1_gives_the_bucket(rt: HostRuntime) {
-    assert_eq!(rt; f1(10, 0, 10), 0);
-    assert_eq!(rt; f1(10, 1, 10), 4);
+    same(&rt, f1(10, 0, 10), 0);
+    same(&rt, f1(10, 1, 10), 4);
     let rows = [
         (0, 0, 1),
         (1, 1, 0),
@@ -99,16 +105,16 @@ fn f1_gives_the_bucket(rt: HostRuntime) {
         (19, 9, 7),
     ];
     for (byte, by_0, by_1) in rows {
-        assert_eq!(rt; f1(byte, 0, 10), by_0);
-        assert_eq!(rt; f1(byte, 1, 10), by_1);
-        assert_eq!(rt; f1(byte, 9, 0), byte);
+        same(&rt, f1(byte, 0, 10), by_0);
+        same(&rt, f1(byte, 1, 10), by_1);
+        same(&rt, f1(byte, 9, 0), byte);
     }
 }
 
 #[test]
 fn f2_gives_the_place(rt: HostRuntime) {
-    assert_eq!(rt; f2(2, 0, 10), 2);
-    assert_eq!(rt; f2(2, 1, 10), 3);
+    same(&rt, f2(2, 0, 10), 2);
+    same(&rt, f2(2, 1, 10), 3);
     let rows = [
         (0, 0, 1),
         (1, 1, 0),
@@ -119,11 +125,11 @@ fn f2_gives_the_place(rt: HostRuntime) {
         (19, 9, 8),
     ];
     for (byte, by_0, by_1) in rows {
-        assert_eq!(rt; f2(byte, 0, 10), by_0);
-        assert_eq!(rt; f2(byte, 1, 10), by_1);
-        assert_eq!(rt; f2(byte, 97, 0), byte);
+        same(&rt, f2(byte, 0, 10), by_0);
+        same(&rt, f2(byte, 1, 10), by_1);
+        same(&rt, f2(byte, 97, 0), byte);
     }
-    assert_eq!(rt; f2(2, 96, 255), 98 ^ 196 ^ 49);
+    same(&rt, f2(2, 96, 255), 98 ^ 196 ^ 49);
 }
 
 #[test]
@@ -136,9 +142,13 @@ fn are_distinct_tells_whether_a_byte_comes_twice(rt: HostRuntime) {
 fn try_new_makes_a_table(rt: HostRuntime) -> Result<(), Fail> {
     assert!(rt; are_distinct(b"aceg"));
     let table = PerfectByteHashMap::try_new(rt.alloc(), b"aceg")?;
-    assert_eq!(rt; table.as_bytes(), b"\x01\x00\x00\x01\x01eacg".as_slice());
-    assert_eq!(rt; table.get(b'c'), Some(2));
-    assert_eq!(rt; table.get(b'd'), None);
+    same(
+        &rt,
+        table.as_bytes(),
+        b"\x01\x00\x00\x01\x01eacg".as_slice(),
+    );
+    same(&rt, table.get(b'c'), Some(2));
+    same(&rt, table.get(b'd'), None);
     Ok(())
 }
 
@@ -147,7 +157,7 @@ fn try_get_or_insert_answers_the_table(rt: HostRuntime) -> Result<(), Fail> {
     let mut cache = PerfectByteHashMapCacheOwned::new_empty(rt.alloc());
     let keys = Vec::from_slice(rt.alloc(), b"aceg")?;
     assert!(rt; are_distinct(keys.as_slice()));
-    assert_eq!(rt; cache.try_get_or_insert(keys)?.get(b'e'), Some(0));
+    same(&rt, cache.try_get_or_insert(keys)?.get(b'e'), Some(0));
     let rows = [
         (b"aceg".as_slice(), b"\x01\x00\x00\x01\x01eacg".as_slice()),
         (b"xyz", b"\x00\x00\x00\x00xyz"),
@@ -156,7 +166,7 @@ fn try_get_or_insert_answers_the_table(rt: HostRuntime) -> Result<(), Fail> {
     for (keys, bytes) in rows {
         assert!(rt; are_distinct(keys));
         let table = cache.try_get_or_insert(Vec::from_slice(rt.alloc(), keys)?)?;
-        assert_eq!(rt; table.as_bytes(), bytes);
+        same(&rt, table.as_bytes(), bytes);
     }
     Ok(())
 }

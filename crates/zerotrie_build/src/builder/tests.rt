@@ -1,6 +1,7 @@
 mod counting;
 
 use super::*;
+use crate::testing::same;
 use counting::Counting;
 use linked_list_allocator::LocalHeap;
 use std::collections::VecDeque;
@@ -96,8 +97,12 @@ fn texts_of_the_format(rt: HostRuntime) -> Result<(), Fail> {
         ),
     ];
     for (items, bytes) in rows {
-        assert_eq!(rt; by_slice::<Simple>(rt.alloc(), items)?.as_slice(), bytes);
-        assert_eq!(rt; by_iter::<Simple>(rt.alloc(), items)?.as_slice(), bytes);
+        same(
+            &rt,
+            by_slice::<Simple>(rt.alloc(), items)?.as_slice(),
+            bytes,
+        );
+        same(&rt, by_iter::<Simple>(rt.alloc(), items)?.as_slice(), bytes);
     }
     Ok(())
 }
@@ -114,8 +119,12 @@ fn widths_grow_at_256(rt: HostRuntime) -> Result<(), Fail> {
         first.push(b'a')?;
         first.extend_from_slice(key.get(..count).ok_or("short")?)?;
         let text = by_slice::<Simple>(rt.alloc(), &[(first.as_slice(), 0), (b"b", 0)])?;
-        assert_eq!(rt; text.len(), len);
-        assert_eq!(rt; text.as_slice().get(..4).ok_or("short")?, head.as_slice());
+        same(&rt, text.len(), len);
+        same(
+            &rt,
+            text.as_slice().get(..4).ok_or("short")?,
+            head.as_slice(),
+        );
     }
     Ok(())
 }
@@ -147,7 +156,7 @@ fn refusals(rt: HostRuntime) -> Result<(), Fail> {
 fn routes_agree(rt: HostRuntime) -> Result<(), Fail> {
     let falling = by_iter::<Simple>(rt.alloc(), &[(b"foo", 1), (b"bazzoo", 3), (b"bar", 2)])?;
     let text = by_text(rt.alloc(), &[("bar", 2), ("bazzoo", 3), ("foo", 1)])?;
-    assert_eq!(rt; falling.as_slice(), text.as_slice());
+    same(&rt, falling.as_slice(), text.as_slice());
     let places = [
         "ar/FR", "ar/IR", "ar/SA", "ar/UK", "ar/US", "en/AU", "en/FR", "en/UK", "en/US", "fr/FR",
         "fr/SA", "fr/UK", "fr/US", "it/IT",
@@ -156,7 +165,7 @@ fn routes_agree(rt: HostRuntime) -> Result<(), Fail> {
     for (value, place) in places.iter().enumerate() {
         items.push((*place, value))?;
     }
-    assert_eq!(rt; by_text(rt.alloc(), items.as_slice())?.len(), 71);
+    same(&rt, by_text(rt.alloc(), items.as_slice())?.len(), 71);
     Ok(())
 }
 
@@ -172,10 +181,11 @@ fn more_edges_than_a_stack_of_100(rt: HostRuntime) -> Result<(), Fail> {
         items.push((byte, 0))?;
     }
     let text = by_slice::<Simple>(rt.alloc(), items.as_slice())?;
-    assert_eq!(rt; text.len(), 304);
-    assert_eq!(rt;
+    same(&rt, text.len(), 304);
+    same(
+        &rt,
         text.as_slice().get(..2).ok_or("short")?,
-        [0xE0, 0x45].as_slice()
+        [0xE0, 0x45].as_slice(),
     );
     Ok(())
 }
@@ -185,7 +195,7 @@ fn more_edges_than_a_stack_of_100(rt: HostRuntime) -> Result<(), Fail> {
 fn a_key_of_100000_bytes(rt: HostRuntime) -> Result<(), Fail> {
     let key = vec![in rt.alloc(); b'a'; 100000]?;
     let text = by_slice::<Simple>(rt.alloc(), &[(key.as_slice(), 1)])?;
-    assert_eq!(rt; text.len(), 100001);
+    same(&rt, text.len(), 100001);
     Ok(())
 }
 
@@ -235,10 +245,14 @@ fn texts_without_case(rt: HostRuntime) -> Result<(), Fail> {
         ),
     ];
     for (items, bytes) in rows {
-        assert_eq!(rt; by_iter::<Ignore>(rt.alloc(), items)?.as_slice(), bytes);
+        same(&rt, by_iter::<Ignore>(rt.alloc(), items)?.as_slice(), bytes);
     }
     let (items, bytes) = rows[1];
-    assert_eq!(rt; by_slice::<Ignore>(rt.alloc(), items)?.as_slice(), bytes);
+    same(
+        &rt,
+        by_slice::<Ignore>(rt.alloc(), items)?.as_slice(),
+        bytes,
+    );
     let falling = by_slice::<Ignore>(rt.alloc(), &[(b"bar", 1), (b"baZ", 2)]);
     assert!(rt; falling.err() == Some(ZeroTrieBuildError::Unsorted));
     Ok(())
@@ -292,8 +306,8 @@ fn texts_with_spans(rt: HostRuntime) -> Result<(), Fail> {
     ];
     for (items, bytes) in rows {
         let items = ByteSliceWithIndices::from_str_slice(items);
-        assert_eq!(rt; text_of::<Hash>(rt.alloc(), items)?.as_slice(), bytes);
-        assert_eq!(rt; text_of::<Ext>(rt.alloc(), items)?.as_slice(), bytes);
+        same(&rt, text_of::<Hash>(rt.alloc(), items)?.as_slice(), bytes);
+        same(&rt, text_of::<Ext>(rt.alloc(), items)?.as_slice(), bytes);
     }
     Ok(())
 }
@@ -323,6 +337,12 @@ fn lengths_beforehand(rt: HostRuntime) -> Result<(), Fail> {
     assert!(rt; has_len::<Ext>(alloc, bytes, 1281)?);
     assert!(rt; has_len::<Hash>(alloc, letters, 65)?);
     assert!(rt; has_len::<Simple>(alloc, letters, 48)?);
+    Ok(())
+}
+
+#[test]
+fn lengths_of_long_keys(rt: HostRuntime) -> Result<(), Fail> {
+    let alloc = rt.alloc();
     let key = vec![in alloc; b'a'; 100000]?;
     let long: [(&[u8], usize); 1] = [(key.as_slice(), 0)];
     assert!(rt; has_len::<Simple>(alloc, &long, 100001)?);
@@ -398,13 +418,13 @@ fn every_size_of_heap(rt: HostRuntime) -> Result<(), Fail> {
     for size in 0..200usize {
         let heap = LocalHeap::new(alloc, size * 64)?;
         match over_heap::<Hash>(alloc, &heap, items.as_slice()) {
-            Ok(built) => assert_eq!(rt; built.as_slice(), text.as_slice()),
+            Ok(built) => same(&rt, built.as_slice(), text.as_slice()),
             Err(why) => {
                 assert!(rt; why == ZeroTrieBuildError::OutOfMemory);
                 refused = refused.saturating_add(1);
             }
         }
-        assert_eq!(rt; heap.used(), 0);
+        same(&rt, heap.used(), 0);
     }
     assert!(rt; refused > 10 && refused < 190);
     Ok(())

@@ -1,5 +1,6 @@
 use super::*;
 use crate::slice_indices::ByteSliceWithIndices;
+use crate::testing::same;
 use std::test::Fail;
 use zerotrie_core::ZeroTrieBuildError;
 
@@ -11,13 +12,17 @@ const TEXT: &[u8] = b"ad\x90\x06ef\x90\x11";
 fn buffers_are_filled_from_their_end(rt: HostRuntime) -> Result<(), Fail> {
     let items = ByteSliceWithIndices::from_str_slice(&ITEMS);
     let mut buffer = [7; 10];
-    assert_eq!(rt; fill_from_end::<0>(&mut buffer, items)?, 2);
-    assert_eq!(rt; &buffer[..2], [7, 7].as_slice());
-    assert_eq!(rt; &buffer[2..], TEXT);
+    same(&rt, fill_from_end::<0>(&mut buffer, items)?, 2);
+    same(&rt, &buffer[..2], [7, 7].as_slice());
+    same(&rt, &buffer[2..], TEXT);
     let small = fill_from_end::<0>(&mut buffer[..7], items);
-    assert_eq!(rt; small, Err(ZeroTrieBuildError::BufferTooSmall));
+    same(&rt, small, Err(ZeroTrieBuildError::BufferTooSmall));
 
-    assert_eq!(rt; bytes_within::<0>(rt.alloc(), 8, items)?.as_slice(), TEXT);
+    same(
+        &rt,
+        bytes_within::<0>(rt.alloc(), 8, items)?.as_slice(),
+        TEXT,
+    );
     let small = bytes_within::<0>(rt.alloc(), 7, items);
     assert!(rt; small.is_err_and(|e| e == ZeroTrieBuildError::BufferTooSmall));
     Ok(())
@@ -27,9 +32,9 @@ fn buffers_are_filled_from_their_end(rt: HostRuntime) -> Result<(), Fail> {
 fn arrays_are_full_or_not(rt: HostRuntime) -> Result<(), Fail> {
     let items = ByteSliceWithIndices::from_str_slice(&ITEMS);
     let full = ZeroTrieBuilderConst::<8>::from_tuple_slice(items)?;
-    assert_eq!(rt; full.build()?.as_slice(), TEXT);
+    same(&rt, full.build()?.as_slice(), TEXT);
     let larger = ZeroTrieBuilderConst::<9>::from_tuple_slice(items)?;
-    assert_eq!(rt; larger.as_bytes(), TEXT);
+    same(&rt, larger.as_bytes(), TEXT);
     assert!(rt;
         larger
             .build()

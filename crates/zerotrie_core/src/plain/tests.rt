@@ -1,20 +1,29 @@
 use super::*;
+use crate::testing::same;
 use std::test::Fail;
 
 #[test]
 fn offsets_or_nodes_in_another_order(rt: HostRuntime) -> Result<(), Fail> {
     let alloc = rt.alloc();
     let none: [(&[u8], usize); 0] = [];
-    assert_eq!(rt; plain_encode(alloc, &none)?.as_slice(), b"".as_slice());
+    same(&rt, plain_encode(alloc, &none)?.as_slice(), b"".as_slice());
     let items: [(&[u8], usize); 4] = [(b"", 11), (b"ad", 22), (b"adef", 33), (b"adghk", 44)];
     let bytes = [
         0x8B, 0x61, 0x64, 0x90, 0x06, 0xC2, 0x65, 0x67, 0x03, 0x66, 0x90, 0x11, 0x68, 0x6B, 0x90,
         0x1C,
     ];
-    assert_eq!(rt; plain_encode(alloc, &items)?.as_slice(), bytes.as_slice());
+    same(
+        &rt,
+        plain_encode(alloc, &items)?.as_slice(),
+        bytes.as_slice(),
+    );
     let items: [(&[u8], usize); 3] = [(b"a", 1), (b"abc", 2), (b"abd", 3)];
     let bytes = [b'a', 0x81, b'b', 0xC2, b'c', b'd', 0x01, 0x82, 0x83];
-    assert_eq!(rt; plain_encode(alloc, &items)?.as_slice(), bytes.as_slice());
+    same(
+        &rt,
+        plain_encode(alloc, &items)?.as_slice(),
+        bytes.as_slice(),
+    );
     let items: [(&[u8], usize); 9] = [
         (b"", 0),
         (b"axb", 100),
@@ -31,7 +40,11 @@ fn offsets_or_nodes_in_another_order(rt: HostRuntime) -> Result<(), Fail> {
         0x82, 0x64, 0x83, 0x78, 0x65, 0x84, 0xC2, 0x66, 0x69, 0x07, 0xC2, 0x67, 0x68, 0x02, 0x93,
         0x64, 0x86, 0x87, 0x6B, 0x6C, 0x88,
     ];
-    assert_eq!(rt; plain_encode(alloc, &items)?.as_slice(), bytes.as_slice());
+    same(
+        &rt,
+        plain_encode(alloc, &items)?.as_slice(),
+        bytes.as_slice(),
+    );
     Ok(())
 }
 
@@ -49,7 +62,7 @@ fn latent_value_or_extender_left_out(rt: HostRuntime) -> Result<(), Fail> {
     ];
     for (value, bytes) in table {
         let items: [(&[u8], usize); 1] = [(b"", value)];
-        assert_eq!(rt; plain_encode(rt.alloc(), &items)?.as_slice(), bytes);
+        same(&rt, plain_encode(rt.alloc(), &items)?.as_slice(), bytes);
     }
     Ok(())
 }
@@ -72,7 +85,11 @@ fn width_of_the_last_offset_and_not_of_all_targets(rt: HostRuntime) -> Result<()
         }
         bytes.extend_from_slice(&[0x80, 0x80])?;
         let items: [(&[u8], usize); 2] = [(&key, 0), (b"b", 0)];
-        assert_eq!(rt; plain_encode(alloc, &items)?.as_slice(), bytes.as_slice());
+        same(
+            &rt,
+            plain_encode(alloc, &items)?.as_slice(),
+            bytes.as_slice(),
+        );
     }
     Ok(())
 }
