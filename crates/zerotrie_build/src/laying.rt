@@ -1,6 +1,6 @@
 //! The search tables of branches, and the order that they give the targets.
 
-ghost use Rattle.std.specs.Prelude.{◌≡◌, ◌≢◌, ℕ, List, [], ◌∷◌, ◌+◌, ◌-◌, ◌^◌, ◌<◌, ◌≤◌, ◌++◌, length, map, slice_index_or, All, OnOk, IfErr};
+ghost use Rattle.std.specs.Prelude.{◌≡◌, ◌≢◌, ℕ, List, [], ◌∷◌, ◌+◌, ◌-◌, ◌^◌, ◌<◌, ◌≤◌, ◌++◌, length, map, reverse, slice_index_or, All, OnOk, IfErr};
 ghost use Rattle.std.specs.List.{range_with_len};
 ghost use Rattle.std.specs.List.Sorted.{IsPermutation, IsStrictlyIncreasing};
 ghost use Rattle.zerotrie_base.specs.Refusals.{IsTableRefusal};
@@ -36,20 +36,22 @@ pub(crate) struct Layout<A: Allocator> {
     pub(crate) table: Vec<u8, A>,
     /// The numbers of the targets among the windows, in the order of the table.
     pub(crate) numbers: Vec<usize, A>,
-    /// What is written behind the branch, in this order.
-    pub(crate) next: Vec<Next, A>,
+    /// What is still to be written, what comes next last.
+    pub(crate) pending: Vec<Next, A>,
 }
 
 impl<A: Allocator + Copy> Layout<A> {
     /// No branch.
-    pub(crate) fn new(alloc: Global, spare: A) -> Self {
+    pub(crate) fn new(alloc: Global, spare: A) -> Self
+        ensures { result.pending.items ≡ [] }
+    {
         Layout {
             alloc,
             cache: PerfectByteHashMapCacheOwned::new_empty(alloc),
             windows: Vec::new(spare),
             table: Vec::new(spare),
             numbers: Vec::new(spare),
-            next: Vec::new(spare),
+            pending: Vec::new(spare),
         }
     }
 
@@ -58,12 +60,11 @@ impl<A: Allocator + Copy> Layout<A> {
         ensures windows { self.new.windows.items ≡ [] }
         ensures table { self.new.table.items ≡ [] }
         ensures numbers { self.new.numbers.items ≡ [] }
-        ensures next { self.new.next.items ≡ [] }
+        ensures pending { self.new.pending.items ≡ self.old.pending.items }
     {
         self.windows.clear();
         self.table.clear();
         self.numbers.clear();
-        self.next.clear();
     }
 
     /// Lays the targets of the branch that stands first in the window out in the order of their edges.
@@ -78,7 +79,7 @@ impl<A: Allocator + Copy> Layout<A> {
         ensures parts { OnOk result (Parts (pairs items.entry) window self.new.windows.items) }
         ensures table { OnOk result (self.new.table.items ≡ map (edge_of (pairs items.entry)) self.new.windows.items) }
         ensures numbers { OnOk result (self.new.numbers.items ≡ range_with_len 0 (length self.new.windows.items)) }
-        ensures next { OnOk result (self.new.next.items ≡ []) }
+        ensures pending { self.new.pending.items ≡ self.old.pending.items }
     {
         self.clear();
         let mut rest = window;
@@ -102,7 +103,7 @@ impl<A: Allocator + Copy> Layout<A> {
         ensures ok { OnOk result (IsSearched self.old.table.items self.new.table.items self.new.numbers.items) }
         ensures refused { IfErr result (IsTableRefusal self.old.table.items) }
         ensures windows { self.new.windows.items ≡ self.old.windows.items }
-        ensures next { self.new.next.items ≡ self.old.next.items }
+        ensures pending { self.new.pending.items ≡ self.old.pending.items }
     {
         let keys = Vec::from_slice(self.alloc, self.table.as_slice())?;
         let table = self.cache.try_get_or_insert(keys)?;
@@ -127,8 +128,9 @@ impl<A: Allocator + Copy> Layout<A> {
         ensures parts { OnOk result (Parts (pairs items.entry) window self.new.windows.items) }
         ensures laid { OnOk result (IsLaid K.kind (edge_no (pairs items.entry) self.new.windows.items)
             (length self.new.windows.items) self.new.table.items self.new.numbers.items) }
-        ensures next { OnOk result (self.new.next.items
-            ≡ next_of K.kind slots.now slot self.new.windows.items self.new.numbers.items) }
+        ensures pending { OnOk result (reverse self.new.pending.items
+            ≡ next_of K.kind slots.now slot self.new.windows.items self.new.numbers.items
+            ++ reverse self.old.pending.items) }
         ensures refused { IfErr result (λ e. e ≢ ZeroTrieBuildError.OutOfMemory
             → (e ≡ ZeroTrieBuildError.CouldNotSolvePerfectHash) × ((cs : List Window) → Parts (pairs items.entry) window cs
             → AreCrooked K.kind (map (edge_of (pairs items.entry)) cs))) }
@@ -141,14 +143,14 @@ impl<A: Allocator + Copy> Layout<A> {
             self.set_hashed()?;
             let end = slot + 2 * edges;
             push_hashed(
-                &mut self.next,
+                &mut self.pending,
                 self.windows.as_slice(),
                 self.numbers.as_slice(),
                 &slots[slot + edges..end],
                 end,
             )?;
         } else {
-            push_sorted(&mut self.next, self.windows.as_slice(), slot + edges)?;
+            push_sorted(&mut self.pending, self.windows.as_slice(), slot + edges)?;
         }
         Ok(())
     }
@@ -174,25 +176,27 @@ fn set_places<A: Allocator>(
     Ok(())
 }
 
-/// Adds the windows in their order, where the slots of the first begin at `slot`.
+/// Puts the windows on the list of what is to be written, the first on top, where its slots begin at `slot`.
 fn push_sorted<A: Allocator>(
-    next: &mut Vec<Next, A>,
+    pending: &mut Vec<Next, A>,
     windows: &[Window],
     slot: usize,
 ) -> Result<(), AllocError>
-    ensures { OnOk result (next.new.items ≡ next.old.items ++ Next.Slot slot ∷ map Next.Text windows.now) }
+    ensures { OnOk result (reverse pending.new.items
+        ≡ (Next.Slot slot ∷ map Next.Text windows.now) ++ reverse pending.old.items) }
 {
-    next.push(Next::Slot(slot))?;
-    for window in windows {
-        next.push(Next::Text(*window))?;
+    for index in (0..windows.len()).rev() {
+        pending.push(Next::Text(windows[index]))?;
     }
+    pending.push(Next::Slot(slot))?;
     Ok(())
 }
 
-/// Adds the windows of these numbers, each with its slots, of which those of the first window begin at `slot`, and
-/// the slots behind them. `ends` tells how many there are up to each window.
+/// Puts the windows of these numbers on the list of what is to be written, the first on top, each with its slots,
+/// of which those of the first window begin at `slot`, and beneath them the slots behind all. `ends` tells how many
+/// there are up to each window.
 fn push_hashed<A: Allocator>(
-    next: &mut Vec<Next, A>,
+    pending: &mut Vec<Next, A>,
     windows: &[Window],
     numbers: &[usize],
     ends: &[usize],
@@ -202,14 +206,15 @@ fn push_hashed<A: Allocator>(
     requires each { length ends.now ≡ length windows.now }
     requires room { All (λ e. slot + e < 2 ^ 64) ends.now }
     requires within { All (λ i. i < length windows.now) numbers.now }
-    ensures { OnOk result (next.new.items ≡ next.old.items ++ (placed_next ends.now slot windows.now numbers.now
-        ++ Next.Slot (slot + slice_index_or ends.now (length ends.now - 1) 0) ∷ [])) }
+    ensures { OnOk result (reverse pending.new.items ≡ (placed_next ends.now slot windows.now numbers.now
+        ++ Next.Slot (slot + slice_index_or ends.now (length ends.now - 1) 0) ∷ []) ++ reverse pending.old.items) }
 {
-    for number in numbers {
-        let before = if *number == 0 { 0 } else { ends[*number - 1] };
-        next.push(Next::Slot(slot + before))?;
-        next.push(Next::Text(windows[*number]))?;
+    pending.push(Next::Slot(slot + ends[ends.len() - 1]))?;
+    for index in (0..numbers.len()).rev() {
+        let number = numbers[index];
+        let before = if number == 0 { 0 } else { ends[number - 1] };
+        pending.push(Next::Text(windows[number]))?;
+        pending.push(Next::Slot(slot + before))?;
     }
-    next.push(Next::Slot(slot + ends[ends.len() - 1]))?;
     Ok(())
 }

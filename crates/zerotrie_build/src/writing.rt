@@ -160,7 +160,8 @@ impl<S: TrieBuilderStore + Drop> Writing<S> {
         requires ordered { Ordered K.kind (pairs items) }
         requires kept { (end : ℕ) × KeptTo K.kind (pairs items) slots.now slot end window }
         requires room { self.old.at + size_of K.kind (window_of (pairs items) window) ≤ length (S.list self.old.data) }
-        ensures put { OnOk result (FrontPut K.kind (pairs items.entry) slots.now slot window layout.new.next.items
+        ensures put { OnOk result ((next : List Next) × (reverse layout.new.pending.items
+            ≡ next ++ reverse layout.old.pending.items) × FrontPut K.kind (pairs items.entry) slots.now slot window next
             (S.list self.old.data) self.old.at (S.list self.new.data) self.new.at) }
         ensures refused { IfErr result (λ e. e ≢ ZeroTrieBuildError.OutOfMemory
             → (e ≡ ZeroTrieBuildError.CouldNotSolvePerfectHash) × Cause K.kind (pairs items.entry) e) }
@@ -209,16 +210,6 @@ fn total(lens: &[usize], numbers: &[usize]) -> usize
     total
 }
 
-/// Puts what is written next on the list of what is to be written, the first on top.
-fn push_next<A: Allocator>(pending: &mut Vec<Next, A>, next: &[Next]) -> Result<(), AllocError>
-    ensures { OnOk result (reverse pending.new.items ≡ next.now ++ reverse pending.old.items) }
-{
-    for index in (0..next.len()).rev() {
-        pending.push(next[index])?;
-    }
-    Ok(())
-}
-
 /// Takes what is on top off.
 fn take_next<A: Allocator>(pending: &mut Vec<Next, A>) -> Option<Next>
     ensures some { IfSome result (λ i. reverse pending.old.items ≡ i ∷ reverse pending.new.items) }
@@ -243,20 +234,18 @@ pub(crate) fn write<K: ZeroTrieWithOptions, S: TrieBuilderStore + Drop, A: Alloc
     data.atbs_prepend_n_zeros(measured.len)?;
     let mut writing = Writing { data, at: 0 };
     let mut layout = Layout::new(alloc, spare);
-    let mut pending = Vec::new(spare);
-    pending.push(Next::Text(Window {
+    layout.pending.push(Next::Text(Window {
         from: 0,
         to: items.len(),
         depth: 0,
     }))?;
     let mut slot = 0;
-    while let Some(next) = take_next(&mut pending) {
+    while let Some(next) = take_next(&mut layout.pending) {
         match next {
             Next::Slot(number) => slot = number,
             Next::Text(window) => {
                 let slots = measured.slots.as_slice();
                 writing.put_front::<K, A>(items, window, slots, slot, &mut layout)?;
-                push_next(&mut pending, layout.next.as_slice())?;
             }
         }
     }

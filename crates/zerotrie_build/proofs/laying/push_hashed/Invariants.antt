@@ -1,6 +1,9 @@
-use Rattle.std.proofs.Common.{◌≡◌, ◌++◌, drop}
+use Rattle.std.proofs.Common.{◌≡◌, ◌≤◌, ◌+◌, ◌-◌, [], ◌∷◌, ◌++◌, drop, length, reverse, get_or}
+use Rattle.zerotrie_build.specs.declared.laying.Next.TheVariants.{Slot}
 use Rattle.zerotrie_build.specs.passes.Writing.{placed_next}
 use Rattle.zerotrie_build.proofs.laying.push_hashed.Given as goal
 
-abbrev pub invariant-loop-number : goal.invariant-loop-number
-invariant-loop-number g l = l.next.items ++ placed_next l.ends l.slot l.windows (drop l.number-index l.numbers) ≡ l.initial.next.items ++ placed_next l.ends l.slot l.windows l.numbers
+abbrev pub invariant-loop-index : goal.invariant-loop-index
+invariant-loop-index g l = (reverse l.pending.items
+    ≡ (placed_next l.ends l.slot l.windows (drop l.index l.numbers) ++ Slot (l.slot + get_or l.ends (length l.ends - 1) 0) ∷ []) ++ reverse l.fn.pending.items)
+    × (l.index ≤ length l.numbers)

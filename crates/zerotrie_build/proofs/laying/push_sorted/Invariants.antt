@@ -1,6 +1,6 @@
-use Rattle.std.proofs.Common.{◌≡◌, ◌++◌, map, drop}
+use Rattle.std.proofs.Common.{◌≡◌, ◌≤◌, ◌++◌, map, drop, length, reverse}
 use Rattle.zerotrie_build.specs.declared.laying.Next.TheVariants.{Text}
 use Rattle.zerotrie_build.proofs.laying.push_sorted.Given as goal
 
-abbrev pub invariant-loop-window : goal.invariant-loop-window
-invariant-loop-window g l = l.next.items ++ map Text (drop l.window-index l.windows) ≡ l.initial.next.items ++ map Text l.windows
+abbrev pub invariant-loop-index : goal.invariant-loop-index
+invariant-loop-index g l = (reverse l.pending.items ≡ map Text (drop l.index l.windows) ++ reverse l.initial.pending.items) × (l.index ≤ length l.windows)

@@ -13,7 +13,7 @@ loop-next-init g c =
     let list = g.S.TrieBuilderStore.list in
     let none = c.atbs_new_empty-data.result in
     let zeros = c.atbs_prepend_n_zeros.new.self in
-    let one = first_pushed all c.new-pending.result.items c.push.new.self.items c.len.result c.new-pending.ensures.items c.in_ok-push.ensures.items c.len.ensures in (
+    let one = first_pushed all c.new-layout.result.pending.items c.push.new.self.items c.len.result c.new-layout.ensures c.in_ok-push.ensures.items c.len.ensures in (
       whole all ∷ [],
       left_start (list zeros) c.requires (only_zeros (list none) (list zeros) c.args.measured.now.len c.atbs_new_empty-data.ensures c.in_ok-atbs_prepend_n_zeros.ensures.ok),
       subst (λ x. Leads kind all slots 0 x (whole all ∷ [])) one (leads_start c.requires),
@@ -62,11 +62,12 @@ loop-next-smaller g c =
     let first = c.in-Some.ensures.some ∙ ap (λ x. x ∷ rest) c.in-Text.is in
     let t = leads_text w rest v.2 first in
     let left : Left kind all (g.S.TrieBuilderStore.list c.loop-next.writing.data) c.loop-next.writing.at (w ∷ t.behind) = subst (Left kind all (g.S.TrieBuilderStore.list c.loop-next.writing.data) c.loop-next.writing.at) t.is v.1 in
-    let put : FrontPut kind all slots c.loop-next.slot w c.put_front.new.layout.next.items (g.S.TrieBuilderStore.list c.loop-next.writing.data) c.loop-next.writing.at (g.S.TrieBuilderStore.list c.put_front.new.self.data) c.put_front.new.self.at =
-    subst (λ x. FrontPut kind all x c.loop-next.slot w c.put_front.new.layout.next.items (g.S.TrieBuilderStore.list c.loop-next.writing.data) c.loop-next.writing.at (g.S.TrieBuilderStore.list c.put_front.new.self.data) c.put_front.new.self.at) c.as_slice-slots.ensures.value c.in_ok-put_front-in-Text.ensures.put in
-    let next : c.put_front.new.layout.next.items ++ rest ≡ reverse c.push_next.new.pending.items = ap (λ x. x ++ rest) (sym c.as_slice.ensures.value) ∙ sym c.in_ok-push_next-in-Text.ensures in
+    let next = c.in_ok-put_front-in-Text.ensures.put.0 in
+    let put : FrontPut kind all slots c.loop-next.slot w next (g.S.TrieBuilderStore.list c.loop-next.writing.data) c.loop-next.writing.at (g.S.TrieBuilderStore.list c.put_front.new.self.data) c.put_front.new.self.at =
+    subst (λ x. FrontPut kind all x c.loop-next.slot w next (g.S.TrieBuilderStore.list c.loop-next.writing.data) c.loop-next.writing.at (g.S.TrieBuilderStore.list c.put_front.new.self.data) c.put_front.new.self.at) c.as_slice-slots.ensures.value c.in_ok-put_front-in-Text.ensures.put.2 in
+    let pending : next ++ rest ≡ reverse c.put_front.new.layout.pending.items = sym c.in_ok-put_front-in-Text.ensures.put.1 in
     let less = left_less rest left put in
-    let a = ap length next in
+    let a = ap length pending in
     let b = ap length first in
     omega arith
 
@@ -81,10 +82,11 @@ loop-next-preserved g c =
     let first = c.in-Some.ensures.some ∙ ap (λ x. x ∷ rest) c.in-Text.is in
     let t = leads_text w rest v.2 first in
     let left : Left kind all (g.S.TrieBuilderStore.list c.loop-next.writing.data) c.loop-next.writing.at (w ∷ t.behind) = subst (Left kind all (g.S.TrieBuilderStore.list c.loop-next.writing.data) c.loop-next.writing.at) t.is v.1 in
-    let put : FrontPut kind all slots c.loop-next.slot w c.put_front.new.layout.next.items (g.S.TrieBuilderStore.list c.loop-next.writing.data) c.loop-next.writing.at (g.S.TrieBuilderStore.list c.put_front.new.self.data) c.put_front.new.self.at =
-    subst (λ x. FrontPut kind all x c.loop-next.slot w c.put_front.new.layout.next.items (g.S.TrieBuilderStore.list c.loop-next.writing.data) c.loop-next.writing.at (g.S.TrieBuilderStore.list c.put_front.new.self.data) c.put_front.new.self.at) c.as_slice-slots.ensures.value c.in_ok-put_front-in-Text.ensures.put in
-    let next : c.put_front.new.layout.next.items ++ rest ≡ reverse c.push_next.new.pending.items = ap (λ x. x ++ rest) (sym c.as_slice.ensures.value) ∙ sym c.in_ok-push_next-in-Text.ensures in
-    (put.targets ++ t.behind, left_more left put, subst (λ x. Leads kind all slots c.loop-next.slot x (put.targets ++ t.behind)) next (put.leads t.end rest t.behind t.kept t.leads))
+    let next = c.in_ok-put_front-in-Text.ensures.put.0 in
+    let put : FrontPut kind all slots c.loop-next.slot w next (g.S.TrieBuilderStore.list c.loop-next.writing.data) c.loop-next.writing.at (g.S.TrieBuilderStore.list c.put_front.new.self.data) c.put_front.new.self.at =
+    subst (λ x. FrontPut kind all x c.loop-next.slot w next (g.S.TrieBuilderStore.list c.loop-next.writing.data) c.loop-next.writing.at (g.S.TrieBuilderStore.list c.put_front.new.self.data) c.put_front.new.self.at) c.as_slice-slots.ensures.value c.in_ok-put_front-in-Text.ensures.put.2 in
+    let pending : next ++ rest ≡ reverse c.put_front.new.layout.pending.items = sym c.in_ok-put_front-in-Text.ensures.put.1 in
+    (put.targets ++ t.behind, left_more left put, subst (λ x. Leads kind all slots c.loop-next.slot x (put.targets ++ t.behind)) pending (put.leads t.end rest t.behind t.kept t.leads))
 
 pub returns-clause-means : goal.returns-clause-means
 returns-clause-means g c =

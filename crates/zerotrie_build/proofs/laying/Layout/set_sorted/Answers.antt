@@ -21,7 +21,7 @@ loop-rest-preserved g c =
       table = edges_more all ws ws' target c.loop-rest.self.table.items c.push-in-loop-rest-2.new.self.items c.edge_at.result pushed c.in_ok-push-3.ensures.items v.table c.edge_at.ensures;
       numbers = numbers_more ws ws' target c.loop-rest.self.numbers.items c.push.new.self.items c.len.result pushed c.in_ok-push.ensures.items v.numbers
           (let n = c.len.ensures in let m = c.loop-rest.self.windows.ok in omega arith);
-      next = v.next;
+      pending = v.pending;
       order = group.within;
       to_is = v.to_is;
       depth_is = v.depth_is;

@@ -11,7 +11,7 @@ invariant-loop-rest g l = record {
   parts : (cs : List Window) → Parts (pairs l.items) l.rest cs → Parts (pairs l.items) l.fn.window (l.self.windows.items ++ cs);
   table : l.self.table.items ≡ map (edge_of (pairs l.items)) l.self.windows.items;
   numbers : l.self.numbers.items ≡ range_with_len 0 (length l.self.windows.items);
-  next : l.self.next.items ≡ [];
+  pending : l.self.pending.items ≡ l.initial.self.pending.items;
   order : l.rest.from ≤ l.rest.to;
   to_is : l.rest.to ≡ l.fn.window.to;
   depth_is : l.rest.depth ≡ l.fn.window.depth;

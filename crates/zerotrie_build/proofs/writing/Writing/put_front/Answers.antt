@@ -1,4 +1,4 @@
-use Rattle.std.proofs.Common.{◌≡◌, rules, ap, subst, sym, ◌∙◌, arith, length, length-append, take, drop}
+use Rattle.std.proofs.Common.{◌≡◌, rules, refl, [], ◌++◌, reverse, ap, subst, sym, ◌∙◌, arith, length, length-append, take, drop}
 use Rattle.zerotrie_core.specs.Numbers.{span_form, spelled_as}
 use Rattle.zerotrie_build.specs.Items.{pairs}
 use Rattle.zerotrie_build.specs.passes.Windows.{item_of}
@@ -9,7 +9,7 @@ use Rattle.zerotrie_build.proofs.BranchLemmas.{branch_slots, branch_windows, bra
 use Rattle.zerotrie_build.proofs.writing.Writing.put_front.Goals as goal
 
 pub loop-value-init : goal.loop-value-init
-loop-value-init g c = let k = opened c.requires.kept.1 in (c.requires.kept.0, k, going_start _ _ k.known, c.clear.ensures.next)
+loop-value-init g c = let k = opened c.requires.kept.1 in (c.requires.kept.0, k, going_start _ _ k.known, c.clear.ensures.pending)
 
 pub put_value-requires : goal.put_value-requires
 put_value-requires g c = let v = c.loop-value.invariant in let o = v.1.known in room_value c.in-Value.value _ v.2 o.stops (sym c.first_step.ensures.is ∙ c.in-Value.is) (open_bytes o) c.requires.room
@@ -67,7 +67,7 @@ loop-value-smaller g c =
     omega arith
 
 pub returns-in-End-clause-put : goal.returns-in-End-clause-put
-returns-in-End-clause-put g c = let v = c.loop-value.invariant in front_end v.1 v.2 (sym c.first_step.ensures.is ∙ c.in-End.is) _ v.3
+returns-in-End-clause-put g c = let v = c.loop-value.invariant in ([], ap reverse v.3, front_end v.1 v.2 (sym c.first_step.ensures.is ∙ c.in-End.is) [] refl)
 
 pub set-requires-clause-slots : goal.set-requires-clause-slots
 set-requires-clause-slots g c = let v = c.loop-value.invariant in branch_slots v.1 v.2 (sym c.first_step.ensures.is ∙ c.in-Branch.is)
@@ -158,7 +158,9 @@ returns-in-Branch-clause-put g c =
     let slot = c.args.slot in
     let ws = c.set.new.self.windows.items in
     let numbers = c.set.new.self.numbers.items in
-    let next = c.set.new.self.next.items in
-    let is : next ≡ next_of kind slots slot ws numbers = c.in_ok-set-in-Branch.ensures.next in
-    let next_is : next ≡ next_of kind slots slot k.cs numbers = subst (λ x. next ≡ next_of kind slots slot x numbers) found.0 is in
-    front_branch _ _ k v.2 step laid _ _ _ c.as_slice.ensures.value lens.0 c.as_slice-numbers.ensures.value c.put_branch.ensures next next_is
+    let next = next_of kind slots slot ws numbers in
+    let next_is : next ≡ next_of kind slots slot k.cs numbers = ap (λ x. next_of kind slots slot x numbers) found.0 in (
+      next,
+      c.in_ok-set-in-Branch.ensures.pending ∙ ap (λ x. next ++ reverse x) v.3,
+      front_branch _ _ k v.2 step laid _ _ _ c.as_slice.ensures.value lens.0 c.as_slice-numbers.ensures.value c.put_branch.ensures next next_is,
+    )
