@@ -23,6 +23,7 @@ mod LayLemmas
 mod SlotLemmas
 mod WriteLemmas
 mod PlacedLemmas
+mod EndLemmas
 mod MeasureLemmas
 mod ArrayText
 mod ArrayRuns

@@ -180,7 +180,7 @@ last_front b [] some = absurd (some refl)
 last_front b (e ∷ []) some = (e.0, refl)
 last_front b (e ∷ f ∷ pairs) some = last_front b (f ∷ pairs) (λ none. cc)
 
-byte_here : (d : ℕ) (key : List ℕ) (b : ℕ) (k : List ℕ) → drop d key ≡ b ∷ k → slice_get key d ≡ Some b
+pub byte_here : (d : ℕ) (key : List ℕ) (b : ℕ) (k : List ℕ) → drop d key ≡ b ∷ k → slice_get key d ≡ Some b
 byte_here zero key b k e = ap (λ x. slice_get x 0) e
 byte_here (suc d) [] b k e = absurd (cc)
 byte_here (suc d) (x ∷ key) b k e = byte_here d key b k e

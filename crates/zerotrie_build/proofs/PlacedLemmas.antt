@@ -22,7 +22,7 @@ abbrev pub EachW : (Window → Type 0) → List Window → Type 0
 EachW P [] = Unit {0}
 EachW P (c ∷ cs) = P c × EachW P cs
 
-ordered_parts : (kind : Kind) (xs ys : Pairs) → Ordered kind (xs ++ ys) → Ordered kind xs × Ordered kind ys
+pub ordered_parts : (kind : Kind) (xs ys : Pairs) → Ordered kind (xs ++ ys) → Ordered kind xs × Ordered kind ys
 ordered_parts kind [] ys up = (tt, up)
 ordered_parts kind (x ∷ []) ys up = ((tt, tt), up.1)
 ordered_parts kind (x ∷ y ∷ xs) ys up = let r = ordered_parts kind (y ∷ xs) ys up.1 in ((up.0, r.0), r.1)

@@ -6,7 +6,8 @@ ghost use Rattle.std.specs.List.Sorted.{IsPermutation, IsStrictlyIncreasing};
 ghost use Rattle.zerotrie_base.specs.Refusals.{IsTableRefusal};
 ghost use Rattle.zerotrie_core.specs.Causes.{AreCrooked};
 ghost use Rattle.zerotrie_build.specs.Items.{pairs};
-ghost use Rattle.zerotrie_build.specs.passes.Windows.{edge_of};
+ghost use Rattle.zerotrie_build.specs.Order.{Ordered};
+ghost use Rattle.zerotrie_build.specs.passes.Windows.{window as window_of, edge_of};
 ghost use Rattle.zerotrie_build.specs.passes.Measured.{Parts};
 ghost use Rattle.zerotrie_build.specs.passes.Writing.{edge_no, place_in, placed_next, next_of, IsSearched, IsLaid, HasSlots};
 
@@ -68,7 +69,7 @@ impl<A: Allocator + Copy> Layout<A> {
     }
 
     /// Lays the targets of the branch that stands first in the window out in the order of their edges.
-    fn set_sorted(
+    fn set_sorted<K: ZeroTrieWithOptions>(
         &mut self,
         items: ByteSliceWithIndices<'_>,
         window: Window,
@@ -76,6 +77,7 @@ impl<A: Allocator + Copy> Layout<A> {
         requires order { window.from ≤ window.to }
         requires items { window.to ≤ length (pairs items) }
         requires room { window.depth + 1 < 2 ^ 64 }
+        requires ordered { Ordered K.kind (window_of (pairs items) window) }
         ensures parts { OnOk result (Parts (pairs items.entry) window self.new.windows.items) }
         ensures table { OnOk result (self.new.table.items ≡ map (edge_of (pairs items.entry)) self.new.windows.items) }
         ensures numbers { OnOk result (self.new.numbers.items ≡ range_with_len 0 (length self.new.windows.items)) }
@@ -86,7 +88,7 @@ impl<A: Allocator + Copy> Layout<A> {
         while rest.from < rest.to {
             let target = Window {
                 from: rest.from,
-                to: group_end(items, rest),
+                to: group_end::<K>(items, rest),
                 depth: rest.depth + 1,
             };
             self.numbers.push(self.windows.len())?;
@@ -124,6 +126,7 @@ impl<A: Allocator + Copy> Layout<A> {
         requires order { window.from ≤ window.to }
         requires items { window.to ≤ length (pairs items) }
         requires room { window.depth + 1 < 2 ^ 64 }
+        requires ordered { Ordered K.kind (window_of (pairs items) window) }
         requires slots { HasSlots K.kind (pairs items) window slots.now slot }
         ensures parts { OnOk result (Parts (pairs items.entry) window self.new.windows.items) }
         ensures laid { OnOk result (IsLaid K.kind (edge_no (pairs items.entry) self.new.windows.items)
@@ -137,7 +140,7 @@ impl<A: Allocator + Copy> Layout<A> {
     {
         // That a length is below 2^64 tells the proof that so are the places of the slots.
         let _len = slots.len();
-        self.set_sorted(items, window)?;
+        self.set_sorted::<K>(items, window)?;
         let edges = self.windows.len();
         if is_hashed::<K>(edges) {
             self.set_hashed()?;

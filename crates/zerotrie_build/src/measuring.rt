@@ -9,7 +9,7 @@ ghost use Rattle.zerotrie_core.specs.Canonical.{size_of, branch_size};
 ghost use Rattle.zerotrie_core.specs.Fits.{ExceedsCapacity};
 ghost use Rattle.zerotrie_build.specs.Items.{pairs};
 ghost use Rattle.zerotrie_build.specs.Order.{Ordered, AreKeys};
-ghost use Rattle.zerotrie_build.specs.passes.Windows.{window, step_of};
+ghost use Rattle.zerotrie_build.specs.passes.Windows.{window as window_of, step_of};
 ghost use Rattle.zerotrie_build.specs.passes.Measured.{Run, Stops, Parts, IsMeasured};
 ghost use Rattle.zerotrie_build.specs.passes.Walking.{tos, spare_len, with_len, left_open, IsOpened, Closing, IsTurn, IsNext};
 
@@ -105,13 +105,13 @@ fn behind_run<K: ZeroTrieWithOptions>(
 ) -> Result<(Window, usize), ZeroTrieBuildError>
     requires keys { AreKeys K.kind (pairs items) }
     requires within { start.to ≤ length (pairs items) }
-    requires ordered { Ordered K.kind (window (pairs items) start) }
+    requires ordered { Ordered K.kind (window_of (pairs items) start) }
     ensures run { IfOk result (λ r. Run K.kind (pairs items.entry) start r.0 r.1) }
     ensures stops { IfOk result (λ r. Stops K.kind (pairs items.entry) r.0) }
     ensures room { IfOk result (λ r. step_of K.kind (pairs items.entry) r.0 ≡ Step.Branch
         → r.0.depth + 1 < 2 ^ 64) }
     ensures refused { IfErr result (λ e. (e ≡ ZeroTrieBuildError.CapacityExceeded)
-        × (2 ^ 64 ≤ size_of K.kind (window (pairs items.entry) start))) }
+        × (2 ^ 64 ≤ size_of K.kind (window_of (pairs items.entry) start))) }
 {
     let mut rest = start;
     let mut len = 0;
@@ -229,9 +229,10 @@ impl<'a, A: Allocator + Copy> Measuring<'a, A> {
 
     /// Adds a slot for each target of the branch that stands first in the window. Until the target is measured,
     /// it tells where its items end.
-    fn push_ends(&mut self, window: Window) -> Result<(), AllocError>
+    fn push_ends<K: ZeroTrieWithOptions>(&mut self, window: Window) -> Result<(), AllocError>
         requires within { window.to ≤ length (pairs self.old.items) }
         requires order { window.from ≤ window.to }
+        requires ordered { Ordered K.kind (window_of (pairs self.old.items) window) }
         ensures ends { OnOk result ((targets : List Window) × Parts (pairs self.old.items) window targets
             × (self.new.slots.items ≡ self.old.slots.items ++ tos targets)) }
         ensures items { self.new.items ≡ self.old.items }
@@ -239,7 +240,7 @@ impl<'a, A: Allocator + Copy> Measuring<'a, A> {
     {
         let mut rest = window;
         while rest.from < rest.to {
-            let end = group_end(self.items, rest);
+            let end = group_end::<K>(self.items, rest);
             self.slots.push(end)?;
             rest.from = end;
         }
@@ -272,13 +273,14 @@ impl<'a, A: Allocator + Copy> Measuring<'a, A> {
         requires within { window.to ≤ length (pairs self.old.items) }
         requires some { window.from < window.to }
         requires room { window.depth + 1 < 2 ^ 64 }
+        requires ordered { Ordered K.kind (window_of (pairs self.old.items) window) }
         ensures opened { IfOk result (λ first. IsOpened K.kind (pairs self.old.items) window len first
             self.old.slots.items self.old.branches.items self.new.slots.items self.new.branches.items) }
         ensures few { OnOk result (length self.new.slots.items < 2 ^ 64) }
         ensures items { self.new.items ≡ self.old.items }
     {
         let first = self.slots.len();
-        self.push_ends(window)?;
+        self.push_ends::<K>(window)?;
         let end = self.slots.len();
         if is_hashed::<K>(end - first) {
             self.slots.resize(end + (end - first), 0)?;

@@ -2,7 +2,8 @@
 
 ghost use Rattle.std.specs.Prelude.{◌≡◌, ℕ, ◌+◌, ◌-◌, ◌^◌, ◌<◌, ◌≤◌, IfSome, Some, slice_index, length};
 ghost use Rattle.zerotrie_build.specs.Items.{pairs};
-ghost use Rattle.zerotrie_build.specs.passes.Windows.{step_of, item_of, byte_of, edge_of, high_front, IsLow, IsGroup};
+ghost use Rattle.zerotrie_build.specs.Order.{Ordered};
+ghost use Rattle.zerotrie_build.specs.passes.Windows.{window as window_of, step_of, item_of, byte_of, edge_of, high_front, IsLow, IsGroup};
 
 use crate::slice_indices::ByteSliceWithIndices;
 use zerotrie_core::ZeroTrieWithOptions;
@@ -139,18 +140,33 @@ pub(crate) fn first_step<K: ZeroTrieWithOptions>(
     }
 }
 
-/// Where the first items that have one byte at the depth end.
-pub(crate) fn group_end(items: ByteSliceWithIndices<'_>, window: Window) -> usize
+/// Where the first items that have one byte at the depth end. It looks ever further ahead, and halves what is left
+/// once it was too far.
+pub(crate) fn group_end<K: ZeroTrieWithOptions>(
+    items: ByteSliceWithIndices<'_>,
+    window: Window,
+) -> usize
     requires within { window.from < window.to }
     requires items { window.to ≤ length (pairs items) }
+    requires ordered { Ordered K.kind (window_of (pairs items) window) }
     ensures { IsGroup (pairs items.entry) window result }
 {
     let byte = byte_at(items, window.from, window.depth);
-    let mut end = window.from + 1;
-    while end < window.to && byte_at(items, end, window.depth) == byte {
-        end += 1;
+    // All items below `low` have the byte, and none from `high` on has it.
+    let mut low = window.from + 1;
+    let mut high = window.to;
+    let mut ahead = 0;
+    while low < high {
+        let step = ((high - low) / 2).min(ahead);
+        let place = low + step;
+        if byte_at(items, place, window.depth) == byte {
+            low = place + 1;
+            ahead = 2 * step + 1;
+        } else {
+            high = place;
+        }
     }
-    end
+    low
 }
 
 /// The byte in front of the window.

@@ -7,6 +7,7 @@ use Rattle.zerotrie_core.specs.Fits.{ExceedsCapacity}
 use Rattle.zerotrie_build.specs.Items.{pairs}
 use Rattle.zerotrie_build.specs.declared.measuring.Turn.TheVariants.{Window as NextWindow, Whole}
 use Rattle.zerotrie_build.specs.Order.{Ordered, AreKeys}
+use Rattle.zerotrie_build.specs.passes.Windows.{window}
 use Rattle.zerotrie_build.specs.passes.Measured.{Kept, whole}
 use Rattle.zerotrie_build.specs.passes.Walking.{Waits, Closing, IsOpened, IsTurn, IsNext}
 use Rattle.zerotrie_build.specs.passes.Walking.Waits.{outside}
@@ -48,6 +49,13 @@ push_branch-requires-clause-within g c =
     let a = along c.in_ok-rest.ensures.run p.within c.requires.keys p.ordered in
     let to = a.to_is in let within = p.within in
     subst (λ x. c.in_ok-rest.rest.to ≤ length (pairs x)) (sym v.items) (omega arith)
+
+pub push_branch-requires-clause-ordered : goal.push_branch-requires-clause-ordered
+push_branch-requires-clause-ordered g c =
+    let v = c.loop-measuring.invariant in
+    let p = waits_placed v.waits c.requires.keys c.requires.ordered in
+    let a = along c.in_ok-rest.ensures.run p.within c.requires.keys p.ordered in
+    subst (λ x. Ordered g.K.ZeroTrieWithOptions.kind (window (pairs x) c.in_ok-rest.rest)) (sym v.items) a.ordered
 
 pub loop-measuring-smaller-then-rest : goal.loop-measuring-smaller-then-rest
 loop-measuring-smaller-then-rest g c =

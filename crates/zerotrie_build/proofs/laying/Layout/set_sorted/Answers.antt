@@ -3,6 +3,7 @@ use Rattle.std.proofs.lemmas.List.{append-nil}
 use Rattle.zerotrie_build.specs.Items.{pairs}
 use Rattle.zerotrie_build.specs.declared.steps.Window.{Window}
 use Rattle.zerotrie_build.specs.passes.Measured.{Parts}
+use Rattle.zerotrie_build.proofs.EndLemmas.{ordered_rest}
 use Rattle.zerotrie_build.proofs.LayLemmas.{parts_more, edges_more, numbers_more}
 use Rattle.zerotrie_build.proofs.laying.Layout.set_sorted.Goals as goal
 
@@ -25,6 +26,7 @@ loop-rest-preserved g c =
       order = group.within;
       to_is = v.to_is;
       depth_is = v.depth_is;
+      ordered = ordered_rest g.K.ZeroTrieWithOptions.kind all rest.from target.to rest.to rest.depth (let some = group.some in omega arith) group.within v.ordered;
     }
 
 pub returns-clause-parts : goal.returns-clause-parts

@@ -2,7 +2,8 @@ use Rattle.std.proofs.Common.{◌≡◌, ◌-◌, ◌≤◌, List, [], ◌++◌,
 use Rattle.std.specs.List.{range_with_len}
 use Rattle.zerotrie_build.specs.Items.{pairs}
 use Rattle.zerotrie_build.specs.declared.steps.Window.{Window}
-use Rattle.zerotrie_build.specs.passes.Windows.{edge_of}
+use Rattle.zerotrie_build.specs.Order.{Ordered}
+use Rattle.zerotrie_build.specs.passes.Windows.{window, edge_of}
 use Rattle.zerotrie_build.specs.passes.Measured.{Parts}
 use Rattle.zerotrie_build.proofs.laying.Layout.set_sorted.Given as goal
 
@@ -15,6 +16,7 @@ invariant-loop-rest g l = record {
   order : l.rest.from ≤ l.rest.to;
   to_is : l.rest.to ≡ l.fn.window.to;
   depth_is : l.rest.depth ≡ l.fn.window.depth;
+  ordered : Ordered g.K.ZeroTrieWithOptions.kind (window (pairs l.items) l.rest);
 }
 
 abbrev pub decreases-loop-rest : goal.decreases-loop-rest

@@ -2,9 +2,11 @@ use Rattle.std.proofs.Common.{◌≤◌, length, ◌+◌, sym, ◌∙◌, ap, su
 use Rattle.std.proofs.lemmas.List.{append-nil, map-append}
 use Rattle.zerotrie_build.specs.Items.{pairs}
 use Rattle.zerotrie_build.specs.declared.steps.Window.{Window}
-use Rattle.zerotrie_build.specs.passes.Windows.{IsGroup}
+use Rattle.zerotrie_build.specs.Order.{Ordered}
+use Rattle.zerotrie_build.specs.passes.Windows.{window, IsGroup}
 use Rattle.zerotrie_build.specs.passes.Measured.{Parts}
 use Rattle.zerotrie_build.specs.passes.Walking.{tos}
+use Rattle.zerotrie_build.proofs.EndLemmas.{ordered_rest}
 use Rattle.zerotrie_build.proofs.measuring.Measuring.push_ends.Goals as goal
 
 pub loop-rest-init : goal.loop-rest-init
@@ -17,6 +19,7 @@ loop-rest-init g c = record {
   order = c.requires.order;
   to = refl;
   depth = refl;
+  ordered = c.requires.ordered;
 }
 
 pub group_end-end-requires-clause-items : goal.group_end-end-requires-clause-items
@@ -24,6 +27,11 @@ group_end-end-requires-clause-items g c =
     let v = c.loop-rest.invariant in
     let to = v.to in let r = c.requires.within in
     subst (λ x. c.loop-rest.rest.to ≤ length (pairs x)) (sym v.items) (omega arith)
+
+pub group_end-end-requires-clause-ordered : goal.group_end-end-requires-clause-ordered
+group_end-end-requires-clause-ordered g c =
+    let v = c.loop-rest.invariant in
+    subst (λ x. Ordered g.K.ZeroTrieWithOptions.kind (window (pairs x) c.loop-rest.rest)) (sym v.items) v.ordered
 
 pub loop-rest-preserved : goal.loop-rest-preserved
 loop-rest-preserved g c =
@@ -42,6 +50,7 @@ loop-rest-preserved g c =
       order = omega arith;
       to = v.to;
       depth = v.depth;
+      ordered = ordered_rest g.K.ZeroTrieWithOptions.kind all w.from new.to w.to w.depth (omega arith) most v.ordered;
     }
 
 pub returns-clause-ends : goal.returns-clause-ends

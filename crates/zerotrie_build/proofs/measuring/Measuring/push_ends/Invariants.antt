@@ -1,6 +1,8 @@
 use Rattle.std.proofs.Common.{◌≡◌, List, ◌-◌, ◌≤◌, ◌++◌}
 use Rattle.zerotrie_build.specs.Items.{pairs}
 use Rattle.zerotrie_build.specs.declared.steps.Window.{Window}
+use Rattle.zerotrie_build.specs.Order.{Ordered}
+use Rattle.zerotrie_build.specs.passes.Windows.{window}
 use Rattle.zerotrie_build.specs.passes.Measured.{Parts}
 use Rattle.zerotrie_build.specs.passes.Walking.{tos}
 use Rattle.zerotrie_build.proofs.measuring.Measuring.push_ends.Given as goal
@@ -15,6 +17,7 @@ invariant-loop-rest g l = record {
   order : l.rest.from ≤ l.fn.window.to;
   to : l.rest.to ≡ l.fn.window.to;
   depth : l.rest.depth ≡ l.fn.window.depth;
+  ordered : Ordered g.K.ZeroTrieWithOptions.kind (window (pairs l.initial.self.items) l.rest);
 }
 
 abbrev pub decreases-loop-rest : goal.decreases-loop-rest

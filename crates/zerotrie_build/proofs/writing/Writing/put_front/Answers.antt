@@ -69,6 +69,9 @@ loop-value-smaller g c =
 pub returns-in-End-clause-put : goal.returns-in-End-clause-put
 returns-in-End-clause-put g c = let v = c.loop-value.invariant in ([], ap reverse v.3, front_end v.1 v.2 (sym c.first_step.ensures.is ∙ c.in-End.is) [] refl)
 
+pub set-requires-clause-ordered : goal.set-requires-clause-ordered
+set-requires-clause-ordered g c = let v = c.loop-value.invariant in v.2.ordered
+
 pub set-requires-clause-slots : goal.set-requires-clause-slots
 set-requires-clause-slots g c = let v = c.loop-value.invariant in branch_slots v.1 v.2 (sym c.first_step.ensures.is ∙ c.in-Branch.is)
 
