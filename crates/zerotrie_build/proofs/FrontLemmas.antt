@@ -1,7 +1,7 @@
 -- A window is written up to its first branch.
-use Rattle.std.proofs.Common.{◌≡◌, ℕ, ◌+◌, ◌<◌, ◌≤◌, inl, inr, List, [], ◌∷◌, ◌++◌, length, refl, sym, ◌∙◌, ap, subst, arith, take, drop, append_assoc, length-append, length-drop, None}
+use Rattle.std.proofs.Common.{◌≡◌, ℕ, zero, suc, ◌+◌, ◌-◌, ◌<◌, ◌≤◌, inl, inr, List, [], ◌∷◌, ◌++◌, length, refl, sym, ◌∙◌, ap, subst, arith, take, drop, append_assoc, length-append, length-drop, None}
 use Rattle.std.proofs.lemmas.Bool.{cases_lt}
-use Rattle.std.proofs.lemmas.List.{take_all}
+use Rattle.std.proofs.lemmas.List.{take_all, length-take-le}
 use Rattle.zerotrie_core.specs.Kind.{Kind, simple_ascii}
 use Rattle.zerotrie_core.specs.Numbers.{value_form, span_form, SpellsAs, spelled_as}
 use Rattle.zerotrie_core.specs.Maps.{Pairs, value_at}
@@ -9,13 +9,14 @@ use Rattle.zerotrie_core.specs.Canonical.{size_of}
 use Rattle.zerotrie_build.specs.Order.{Ordered, AreKeys}
 use Rattle.zerotrie_build.specs.declared.steps.Window.{Window}
 use Rattle.zerotrie_build.specs.declared.steps.Step.TheVariants.{Value, Literal, Span}
-use Rattle.zerotrie_build.specs.passes.Windows.{cut, window, item_of, high_front, step_of}
+use Rattle.zerotrie_build.specs.passes.Windows.{cut, window, item_of, high_front, step_of, IsLow}
 use Rattle.zerotrie_build.specs.passes.Measured.{Run, Stops, IsOpen}
 use Rattle.zerotrie_build.specs.passes.Measured.Run.{here, value as run_value, literal as run_literal, span as run_span}
 use Rattle.zerotrie_build.specs.passes.Puts.{Puts}
 use Rattle.zerotrie_build.specs.passes.Writing.{Listed}
 use Rattle.zerotrie_build.proofs.PutLemmas.{puts_nothing, puts_then}
-use Rattle.zerotrie_build.proofs.WindowLemmas.{cut_first, last_key, last_cut, step_value, step_literal, step_span, none_empty, ordered_front}
+use Rattle.zerotrie_build.proofs.RunLemmas.{low_literal, literal_low}
+use Rattle.zerotrie_build.proofs.WindowLemmas.{cut_first, key_cut, last_key, last_cut, step_value, step_literal, step_span, none_empty, ordered_front}
 use Rattle.zerotrie_build.proofs.ListedLemmas.{listed_value, listed_literal, listed_span}
 
 -- The window was written as far as the rest, in front of what is behind its values, literals and spans.
@@ -133,23 +134,68 @@ cut_some all from to d h within none = let e = sym (cut_first all from to d h wi
 pub window_some : (all : Pairs) (w : Window) → w.from < w.to → w.to ≤ length all → window all w ≡ [] → ⊥
 window_some all w h within = cut_some all w.from w.to w.depth h within
 
-pub going_literal : {kind : Kind} {all : Pairs} {w behind : Window} {bytes : ℕ} {list : List ℕ} {at : ℕ} {list' : List ℕ} {at' : ℕ} {rest : Window} (list'' : List ℕ) (at'' : ℕ) (b : ℕ)
-    → Going kind all w bytes behind list at list' at' rest → Stops kind all behind → w.to ≤ length all → AreKeys kind all → step_of kind all rest ≡ Literal b
-    → Puts list' at' list'' at'' (b ∷ []) → Going kind all w bytes behind list at list'' at'' (record rest { depth = rest.depth + 1 })
-going_literal {kind = kind} {all = all} {w = w} {rest = rest} list'' at'' b g stops within keys e p =
-    let o = on_literal g.run stops b e in
-    let to_is = g.to_is in
-    let st = step_literal kind all rest b (omega arith) keys g.ordered e in
-    let next : Window = record rest { depth = rest.depth + 1 } in
+-- so many literals that stand first in a window
+record Literals (kind : Kind) (all : Pairs) (w behind : Window) (n left : ℕ) : Type 0 where
+  less : ℕ
+  run : Run kind all (record w { depth = w.depth + n }) behind less
+  is : left ≡ n + less
+  ordered : Ordered kind (window all (record w { depth = w.depth + n }))
+  lists : (t : List ℕ) → Listed kind t (window all (record w { depth = w.depth + n })) → Listed kind (take n (drop w.depth (item_of all w.from).0) ++ t) (window all w)
+
+literals : (n : ℕ) (kind : Kind) (all : Pairs) (w behind : Window) (left : ℕ) → Run kind all w behind left → Stops kind all behind → w.from < w.to → w.to ≤ length all → AreKeys kind all → Ordered kind (window all w)
+    → ((i : ℕ) → w.depth ≤ i → i < w.depth + n → IsLow all w i) → Literals kind all w behind n left
+literals zero kind all w behind left run stops inside within keys up low =
+    let here : w.depth ≡ w.depth + 0 = omega arith in record {
+      less = left;
+      run = subst (λ d. Run kind all (record w { depth = d }) behind left) here run;
+      is = omega arith;
+      ordered = subst (λ d. Ordered kind (window all (record w { depth = d }))) here up;
+      lists = λ t l. subst (λ d. Listed kind t (window all (record w { depth = d }))) (sym here) l;
+    }
+literals (suc n) kind all w behind left run stops inside within keys up low =
+    let l = low w.depth (omega arith) (omega arith) in
+    let b = l.byte in
+    let e = low_literal kind all w w.depth inside l in
+    let o = on_literal run stops b e in
+    let st = step_literal kind all w b within keys up e in
+    let next : Window = record w { depth = w.depth + 1 } in
+    let more = literals n kind all next behind o.less o.run stops inside within keys (ordered_front kind b (window all next) (subst (Ordered kind) st.is up)) (λ i from below. let k = low i (omega arith) (omega arith) in record { byte = k.byte; low = k.low; first = k.first; last = k.last }) in
+    let there : w.depth + 1 + n ≡ w.depth + suc n = omega arith in
+    let key = (item_of all w.from).0 in
+    let deep : suc w.depth ≡ w.depth + 1 = omega arith in
+    let cut : drop w.depth key ≡ b ∷ drop (w.depth + 1) key = key_cut key w.depth b l.first ∙ ap (λ d. b ∷ drop d key) deep in
     record {
-      done = g.done ++ b ∷ [];
+      less = more.less;
+      run = subst (λ d. Run kind all (record w { depth = d }) behind more.less) there more.run;
+      is = (let a = o.is in let c = more.is in omega arith);
+      ordered = subst (λ d. Ordered kind (window all (record w { depth = d }))) there more.ordered;
+      lists = λ t k.
+          let rest = more.lists t (subst (λ d. Listed kind t (window all (record w { depth = d }))) (sym there) k) in
+          subst (λ x. Listed kind (take (suc n) x ++ t) (window all w)) (sym cut)
+          (subst (Listed kind _) (sym st.is) (listed_literal kind b (take n (drop (w.depth + 1) key) ++ t) (window all next) st.low (cut_some all w.from w.to (w.depth + 1) inside within) rest));
+    }
+
+pub going_literals : {kind : Kind} {all : Pairs} {w behind : Window} {bytes : ℕ} {list : List ℕ} {at : ℕ} {list' : List ℕ} {at' : ℕ} {rest : Window} (list'' : List ℕ) (at'' b end : ℕ)
+    → Going kind all w bytes behind list at list' at' rest → Stops kind all behind → w.to ≤ length all → AreKeys kind all → step_of kind all rest ≡ Literal b
+    → rest.depth < end → ((i : ℕ) → rest.depth ≤ i → i < end → IsLow all rest i) → end ≤ length (item_of all rest.from).0
+    → Puts list' at' list'' at'' (take (end - rest.depth) (drop rest.depth (item_of all rest.from).0)) → Going kind all w bytes behind list at list'' at'' (record rest { depth = end })
+going_literals {kind = kind} {all = all} {w = w} {behind = behind} {rest = rest} list'' at'' b end g stops within keys e past low ends p =
+    let to_is = g.to_is in
+    let inside = (literal_low kind all rest b (omega arith) keys e).0 in
+    let n = end - rest.depth in
+    let there : rest.depth + n ≡ end = omega arith in
+    let o = literals n kind all rest behind g.left g.run stops inside (omega arith) keys g.ordered (λ i from below. low i from (omega arith)) in
+    let run = take n (drop rest.depth (item_of all rest.from).0) in
+    let long : length run ≡ n = length-take-le n (drop rest.depth (item_of all rest.from).0) (let l = length-drop rest.depth (item_of all rest.from).0 in omega arith) in
+    record {
+      done = g.done ++ run;
       left = o.less;
       puts = puts_then _ _ _ _ _ _ _ _ g.puts p;
-      sized = (let a = length-append g.done (b ∷ []) in let c = g.sized in let d = o.is in omega arith);
-      run = o.run;
-      lists = λ t l. subst (λ x. Listed kind x (window all w)) (sym (append_assoc g.done (b ∷ []) t))
-          (g.lists (b ∷ t) (subst (Listed kind (b ∷ t)) (sym st.is) (listed_literal kind b t (window all next) st.low (cut_some all rest.from rest.to (rest.depth + 1) st.inside (omega arith)) l)));
-      ordered = ordered_front kind b (window all next) (subst (Ordered kind) st.is g.ordered);
+      sized = (let a = length-append g.done run in let c = g.sized in let d = o.is in omega arith);
+      run = subst (λ d. Run kind all (record rest { depth = d }) behind o.less) there o.run;
+      lists = λ t l. subst (λ x. Listed kind x (window all w)) (sym (append_assoc g.done run t))
+          (g.lists (run ++ t) (o.lists t (subst (λ d. Listed kind t (window all (record rest { depth = d }))) (sym there) l)));
+      ordered = subst (λ d. Ordered kind (window all (record rest { depth = d }))) there o.ordered;
       to_is = g.to_is;
     }
 
@@ -195,9 +241,14 @@ pub room_value : {kind : Kind} {all : Pairs} {w behind : Window} {bytes : ℕ} {
     → Going kind all w bytes behind list at list' at' rest → Stops kind all behind → step_of kind all rest ≡ Value v → bytes ≤ len → at + len ≤ length list → at' + length (spelled_as value_form v) ≤ length list'
 room_value v len g s e b r = let o = on_value g.run s v e in let a = g.puts.at_is in let l = g.puts.same in let z = g.sized in let i = o.is in omega arith
 
-pub room_literal : {kind : Kind} {all : Pairs} {w behind : Window} {bytes : ℕ} {list : List ℕ} {at : ℕ} {list' : List ℕ} {at' : ℕ} {rest : Window} (b len : ℕ)
-    → Going kind all w bytes behind list at list' at' rest → Stops kind all behind → step_of kind all rest ≡ Literal b → bytes ≤ len → at + len ≤ length list → at' < length list'
-room_literal b len g s e h r = let o = on_literal g.run s b e in let a = g.puts.at_is in let l = g.puts.same in let z = g.sized in let i = o.is in omega arith
+pub room_literals : {kind : Kind} {all : Pairs} {w behind : Window} {bytes : ℕ} {list : List ℕ} {at : ℕ} {list' : List ℕ} {at' : ℕ} {rest : Window} (b end len : ℕ)
+    → Going kind all w bytes behind list at list' at' rest → Stops kind all behind → w.to ≤ length all → AreKeys kind all → step_of kind all rest ≡ Literal b
+    → rest.depth < end → ((i : ℕ) → rest.depth ≤ i → i < end → IsLow all rest i) → bytes ≤ len → at + len ≤ length list → at' + (end - rest.depth) ≤ length list'
+room_literals {kind = kind} {all = all} {behind = behind} {rest = rest} b end len g stops within keys e past low h r =
+    let to_is = g.to_is in
+    let inside = (literal_low kind all rest b (omega arith) keys e).0 in
+    let o = literals (end - rest.depth) kind all rest behind g.left g.run stops inside (omega arith) keys g.ordered (λ i from below. low i from (omega arith)) in
+    let a = g.puts.at_is in let l = g.puts.same in let z = g.sized in let i = o.is in omega arith
 
 pub room_span : {kind : Kind} {all : Pairs} {w behind : Window} {bytes : ℕ} {list : List ℕ} {at : ℕ} {list' : List ℕ} {at' : ℕ} {rest : Window} (n len : ℕ)
     → Going kind all w bytes behind list at list' at' rest → Stops kind all behind → step_of kind all rest ≡ Span n → bytes ≤ len → at + len ≤ length list → at' + (length (spelled_as span_form n) + n) ≤ length list'

@@ -17,7 +17,7 @@ ghost use Rattle.zerotrie_build.specs.passes.Writing.{with_bits, lens_of, KeptTo
 use crate::laying::{Layout, Next};
 use crate::measuring::{Measured, width_of};
 use crate::slice_indices::ByteSliceWithIndices;
-use crate::steps::{Step, Window, first_step};
+use crate::steps::{Step, Window, first_step, literals_end};
 use crate::store::TrieBuilderStore;
 use std::alloc::{AllocError, Allocator, Global};
 use zerotrie_core::{
@@ -82,6 +82,19 @@ impl<S: TrieBuilderStore + Drop> Writing<S> {
         ensures spells { SpellsAs value_form value (spelled_as value_form value) }
     {
         self.put_number(VALUE, &write_varint_meta3(value));
+    }
+
+    /// Writes the literals that the window's keys go on with up to a depth.
+    fn put_literals(&mut self, items: ByteSliceWithIndices<'_>, window: Window, end: usize)
+        requires item { window.from < length (pairs items) }
+        requires order { window.depth ≤ end }
+        requires within { end ≤ length (item_of (pairs items) window.from).0 }
+        requires room { self.old.at + (end - window.depth) ≤ length (S.list self.old.data) }
+        ensures { Puts (S.list self.old.data) self.old.at (S.list self.new.data) self.new.at
+            (take (end - window.depth) (drop window.depth (item_of (pairs items.entry) window.from).0)) }
+    {
+        let (key, _) = items.get(window.from);
+        self.put_all(&key[window.depth..end]);
     }
 
     /// Writes a span of the bytes that the window's keys go on with.
@@ -177,9 +190,10 @@ impl<S: TrieBuilderStore + Drop> Writing<S> {
                     self.put_value(value);
                     rest.from += 1;
                 }
-                Step::Literal(byte) => {
-                    self.put(byte);
-                    rest.depth += 1;
+                Step::Literal(_) => {
+                    let end = literals_end(items, rest);
+                    self.put_literals(items, rest, end);
+                    rest.depth = end;
                 }
                 Step::Span(count) => {
                     self.put_span(items, rest, count);

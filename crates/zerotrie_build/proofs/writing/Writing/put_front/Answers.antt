@@ -1,9 +1,11 @@
-use Rattle.std.proofs.Common.{◌≡◌, rules, refl, [], ◌++◌, reverse, ap, subst, sym, ◌∙◌, arith, length, length-append, take, drop}
+use Rattle.std.proofs.Common.{◌≡◌, rules, refl, [], ◌++◌, reverse, ap, subst, sym, ◌∙◌, arith, length, length-append, length-drop, take, drop, ◌-◌}
+use Rattle.std.proofs.lemmas.List.{length-take-le}
 use Rattle.zerotrie_core.specs.Numbers.{span_form, spelled_as}
 use Rattle.zerotrie_build.specs.Items.{pairs}
 use Rattle.zerotrie_build.specs.passes.Windows.{item_of}
 use Rattle.zerotrie_build.specs.passes.Writing.{next_of}
-use Rattle.zerotrie_build.proofs.FrontLemmas.{going_start, going_value, going_literal, going_span, open_bytes, room_value, room_literal, room_span, span_within}
+use Rattle.zerotrie_build.proofs.RunLemmas.{literal_low}
+use Rattle.zerotrie_build.proofs.FrontLemmas.{going_start, going_value, going_literals, going_span, open_bytes, room_value, room_literals, room_span, span_within}
 use Rattle.zerotrie_build.proofs.SlotLemmas.{opened}
 use Rattle.zerotrie_build.proofs.BranchLemmas.{branch_slots, branch_windows, branch_lens, branch_numbers, branch_small, branch_room, branch_refused, front_branch, front_end}
 use Rattle.zerotrie_build.proofs.writing.Writing.put_front.Goals as goal
@@ -28,8 +30,33 @@ loop-value-preserved-in-Value g c =
     let o = v.1.known in
     (v.0, v.1, going_value _ _ c.in-Value.value v.2 o.stops o.within (sym c.first_step.ensures.is ∙ c.in-Value.is) c.put_value.ensures.spells c.put_value.ensures.puts, v.3)
 
-pub put-requires : goal.put-requires
-put-requires g c = let v = c.loop-value.invariant in let o = v.1.known in room_literal c.in-Literal.byte _ v.2 o.stops (sym c.first_step.ensures.is ∙ c.in-Literal.is) (open_bytes o) c.requires.room
+pub literals_end-end-requires : goal.literals_end-end-requires
+literals_end-end-requires g c =
+    let v = c.loop-value.invariant in
+    let o = v.1.known in
+    let step = sym c.first_step.ensures.is ∙ c.in-Literal.is in
+    let to = v.2.to_is in
+    let within = o.within in
+    let l = literal_low g.K.ZeroTrieWithOptions.kind (pairs c.args.items) c.loop-value.rest c.in-Literal.field-0 (omega arith) c.requires.keys step in
+    record { some = l.0; items = omega arith; literal = l.1 }
+
+pub put_literals-requires-clause-item : goal.put_literals-requires-clause-item
+put_literals-requires-clause-item g c =
+    let v = c.loop-value.invariant in
+    let o = v.1.known in
+    let step = sym c.first_step.ensures.is ∙ c.in-Literal.is in
+    let to = v.2.to_is in
+    let within = o.within in
+    let l = literal_low g.K.ZeroTrieWithOptions.kind (pairs c.args.items) c.loop-value.rest c.in-Literal.field-0 (omega arith) c.requires.keys step in
+    omega (arith, l.0)
+
+pub put_literals-requires-clause-room : goal.put_literals-requires-clause-room
+put_literals-requires-clause-room g c =
+    let v = c.loop-value.invariant in
+    let o = v.1.known in
+    let step = sym c.first_step.ensures.is ∙ c.in-Literal.is in
+    let e = c.literals_end-end.ensures in
+    room_literals c.in-Literal.field-0 c.literals_end-end.result _ v.2 o.stops o.within c.requires.keys step e.past e.low (open_bytes o) c.requires.room
 
 pub put_span-requires-clause-run : goal.put_span-requires-clause-run
 put_span-requires-clause-run g c = let v = c.loop-value.invariant in (span_within c.in-Span.count v.2 v.1.known.within c.requires.keys (sym c.first_step.ensures.is ∙ c.in-Span.is)).1
@@ -47,14 +74,23 @@ pub loop-value-smaller-in-Literal : goal.loop-value-smaller-in-Literal
 loop-value-smaller-in-Literal g c =
     let v = c.loop-value.invariant in
     let o = v.1.known in
-    let r = room_literal c.in-Literal.byte _ v.2 o.stops (sym c.first_step.ensures.is ∙ c.in-Literal.is) (open_bytes o) c.requires.room in
-    let a = c.put.ensures.at_is in let l = c.put.ensures.same in omega arith
+    let step = sym c.first_step.ensures.is ∙ c.in-Literal.is in
+    let e = c.literals_end-end.ensures in
+    let past = e.past in
+    let within = e.within in
+    let r = room_literals c.in-Literal.field-0 c.literals_end-end.result _ v.2 o.stops o.within c.requires.keys step e.past e.low (open_bytes o) c.requires.room in
+    let key = (item_of (pairs c.args.items) c.loop-value.rest.from).0 in
+    let d = c.loop-value.rest.depth in
+    let n = length-take-le (c.literals_end-end.result - d) (drop d key) (let l = length-drop d key in omega arith) in
+    let a = c.put_literals.ensures.at_is in let l = c.put_literals.ensures.same in omega arith
 
 pub loop-value-preserved-in-Literal : goal.loop-value-preserved-in-Literal
 loop-value-preserved-in-Literal g c =
     let v = c.loop-value.invariant in
     let o = v.1.known in
-    (v.0, v.1, going_literal _ _ c.in-Literal.byte v.2 o.stops o.within c.requires.keys (sym c.first_step.ensures.is ∙ c.in-Literal.is) c.put.ensures, v.3)
+    let step = sym c.first_step.ensures.is ∙ c.in-Literal.is in
+    let e = c.literals_end-end.ensures in
+    (v.0, v.1, going_literals _ _ c.in-Literal.field-0 c.literals_end-end.result v.2 o.stops o.within c.requires.keys step e.past e.low e.within c.put_literals.ensures, v.3)
 
 pub loop-value-smaller : goal.loop-value-smaller
 loop-value-smaller g c =
