@@ -67,11 +67,6 @@ below_or_from n zero = inr (omega arith)
 below_or_from zero (suc m) = inl (omega arith)
 below_or_from (suc n) (suc m) = elim (below_or_from n m) [ inl h ↦ inl (omega arith) | inr h ↦ inr (omega arith) ]
 
-pub less_from : (o : Ordering) → is_lt o ≡ true → o ≡ Less
-less_from Less h = refl
-less_from Equal h = cc
-less_from Greater h = cc
-
 pub follows_on : (R : List ℕ → List ℕ → Type 0) (pairs : Pairs) (j i : ℕ) (a b : List ℕ × ℕ) → suc j ≡ i → slice_get pairs j ≡ Some a → slice_get pairs i ≡ Some b
     → R a.0 b.0 → ((k : ℕ) → suc k < i → Follows R pairs k) → (k : ℕ) → suc k < i + 1 → Follows R pairs k
 follows_on R pairs j i a b e p q h before k below =

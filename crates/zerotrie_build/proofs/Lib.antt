@@ -33,3 +33,4 @@ mod ArrayClosing
 mod ArraySteps
 mod ArrayAdding
 mod ArrayBuilding
+mod BelowLemmas

@@ -5,7 +5,9 @@ ghost use Rattle.zerotrie_core.specs.Maps.{Ascends};
 ghost use Rattle.zerotrie_core.specs.Items.{pairs_of};
 ghost use Rattle.zerotrie_build.specs.Items.{pairs};
 
+use crate::order::comes_before;
 use std::alloc::{AllocError, Global};
+use zerotrie_core::Simple;
 
 /// A slice of items, each a key and its value, whose keys are bytes or text.
 ///
@@ -92,7 +94,7 @@ impl<'a> ByteSliceWithIndices<'a> {
         for index in 1..self.len() {
             let (before, _) = self.get(index - 1);
             let (key, _) = self.get(index);
-            if !before.cmp(&key).is_lt() {
+            if !comes_before::<Simple>(before, key) {
                 return false;
             }
         }
