@@ -3,7 +3,7 @@
 ghost use Rattle.std.specs.Prelude.{◌≡◌, ℕ, ◌+◌, ◌-◌, ◌^◌, ◌<◌, ◌≤◌, IfSome, Some, slice_index, length};
 ghost use Rattle.zerotrie_build.specs.Items.{pairs};
 ghost use Rattle.zerotrie_build.specs.Order.{Ordered};
-ghost use Rattle.zerotrie_build.specs.passes.Windows.{window as window_of, step_of, item_of, byte_of, edge_of, high_front, IsLow, IsLone, IsGroup};
+ghost use Rattle.zerotrie_build.specs.passes.Windows.{window as window_of, step_of, item_of, byte_of, edge_of, high_front, IsLow, IsGroup};
 
 use crate::slice_indices::ByteSliceWithIndices;
 use zerotrie_core::ZeroTrieWithOptions;
@@ -41,29 +41,6 @@ pub(crate) fn byte_at(items: ByteSliceWithIndices<'_>, index: usize, depth: usiz
     // That a length is below 2^64 tells the proof that so is a place in it.
     let _len = key.len();
     key.get(depth).copied()
-}
-
-/// The rest of the key and the value of the one item of a window, if there is but one and the rest is ASCII: they
-/// are all of the window's text, as literals and a value.
-pub(crate) fn lone_item<'a>(
-    items: ByteSliceWithIndices<'a>,
-    window: Window,
-) -> Option<(&'a [u8], usize)>
-    requires { window.to ≤ length (pairs items) }
-    ensures is { IfSome result (λ r. IsLone (pairs items.entry) window r.0.now r.1) }
-    ensures room { IfSome result (λ r. window.depth + length r.0.now < 2 ^ 64) }
-{
-    if window.from >= window.to || window.to - window.from > 1 {
-        return None;
-    }
-    let (key, value) = items.get(window.from);
-    // That a length is below 2^64 tells the proof that so is a place in it.
-    let _len = key.len();
-    let rest = key.get(window.depth..)?;
-    if !rest.is_ascii() {
-        return None;
-    }
-    Some((rest, value))
 }
 
 /// How many bytes from 128 on two keys have in common in front.
