@@ -239,7 +239,8 @@ fn compared(call: &Call, inputs: &[Input; 2], growth: f64, out: &mut [u8]) -> Li
     let (slower, larger) = (later_time / time, later_peak as f64 / peak.max(1) as f64);
     // Below these what is measured is the machine.
     let is_slow = later_time > 0.05 && slower > 2.0 * growth;
-    let is_large = later_peak > 1 << 20 && larger > 1.25 * growth;
+    // A list that doubles may have done so between the sizes.
+    let is_large = later_peak > 1 << 20 && larger > 1.5 * growth;
     let peak = peak as f64 / f64::from(1 << 20);
     Line { time, slower, peak, larger, is_linear: !is_slow && !is_large }
 }
