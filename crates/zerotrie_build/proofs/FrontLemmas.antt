@@ -9,13 +9,13 @@ use Rattle.zerotrie_core.specs.Canonical.{size_of}
 use Rattle.zerotrie_build.specs.Order.{Ordered, AreKeys}
 use Rattle.zerotrie_build.specs.declared.steps.Window.{Window}
 use Rattle.zerotrie_build.specs.declared.steps.Step.TheVariants.{Value, Literal, Span}
-use Rattle.zerotrie_build.specs.passes.Windows.{cut, window, item_of, high_front, step_of, IsLow}
+use Rattle.zerotrie_build.specs.passes.Windows.{cut, window, item_of, high_front, step_of, IsLow, IsLone}
 use Rattle.zerotrie_build.specs.passes.Measured.{Run, Stops, IsOpen}
 use Rattle.zerotrie_build.specs.passes.Measured.Run.{here, value as run_value, literal as run_literal, span as run_span}
 use Rattle.zerotrie_build.specs.passes.Puts.{Puts}
 use Rattle.zerotrie_build.specs.passes.Writing.{Listed}
 use Rattle.zerotrie_build.proofs.PutLemmas.{puts_nothing, puts_then}
-use Rattle.zerotrie_build.proofs.RunLemmas.{low_literal, literal_low}
+use Rattle.zerotrie_build.proofs.RunLemmas.{low_literal, literal_low, lone_low, lone_value}
 use Rattle.zerotrie_build.proofs.WindowLemmas.{cut_first, key_cut, last_key, last_cut, step_value, step_literal, step_span, none_empty, ordered_front}
 use Rattle.zerotrie_build.proofs.ListedLemmas.{listed_value, listed_literal, listed_span}
 
@@ -196,6 +196,36 @@ going_literals {kind = kind} {all = all} {w = w} {behind = behind} {rest = rest}
       lists = λ t l. subst (λ x. Listed kind x (window all w)) (sym (append_assoc g.done run t))
           (g.lists (run ++ t) (o.lists t (subst (λ d. Listed kind t (window all (record rest { depth = d }))) (sym there) l)));
       ordered = subst (λ d. Ordered kind (window all (record rest { depth = d }))) there o.ordered;
+      to_is = g.to_is;
+    }
+
+-- all that is left of a window
+pub going_lone : {kind : Kind} {all : Pairs} {w behind : Window} {bytes : ℕ} {list : List ℕ} {at : ℕ} {list' : List ℕ} {at' : ℕ} {rest : Window} (list'' : List ℕ) (at'' : ℕ) (key : List ℕ) (v : ℕ)
+    → Going kind all w bytes behind list at list' at' rest → Stops kind all behind → w.to ≤ length all → AreKeys kind all → IsLone all rest key v → SpellsAs value_form v (spelled_as value_form v)
+    → Puts list' at' list'' at'' (key ++ spelled_as value_form v) → Going kind all w bytes behind list at list'' at'' (record { from = rest.from + 1; to = rest.to; depth = rest.depth + length key })
+going_lone {kind = kind} {all = all} {w = w} {behind = behind} {rest = rest} list'' at'' key v g stops within keys lone s p =
+    let to_is = g.to_is in
+    let one = lone.one in
+    let n = length key in
+    let o = literals n kind all rest behind g.left g.run stops (omega arith) (omega arith) keys g.ordered (lone_low all rest key v lone) in
+    let mid : Window = record rest { depth = rest.depth + n } in
+    let e = lone_value kind all rest key v lone in
+    let ov = on_value o.run stops v e in
+    let st = step_value kind all mid v (omega arith) e in
+    let sp = spelled_as value_form v in
+    let pairs = window all (record mid { from = rest.from + 1 }) in
+    let up : Ordered kind (([], v) ∷ pairs) = subst (Ordered kind) st.1 o.ordered in
+    let whole : take n (drop rest.depth (item_of all rest.from).0) ≡ key = ap (take n) (sym lone.rest_is) ∙ take_all n key (omega arith) in
+    record {
+      done = g.done ++ (key ++ sp);
+      left = ov.less;
+      puts = puts_then _ _ _ _ _ _ _ _ g.puts p;
+      sized = (let a = length-append g.done (key ++ sp) in let b = length-append key sp in let c = g.sized in let d = o.is in let f = ov.is in omega arith);
+      run = ov.run;
+      lists = λ t l. subst (λ x. Listed kind x (window all w)) (sym (append_assoc g.done (key ++ sp) t))
+          (g.lists ((key ++ sp) ++ t) (subst (λ x. Listed kind x (window all rest)) (ap (λ x. x ++ (sp ++ t)) whole ∙ sym (append_assoc key sp t))
+          (o.lists (sp ++ t) (subst (Listed kind (sp ++ t)) (sym st.1) (listed_value kind v sp t pairs s (exact_none kind pairs (none_empty kind v pairs up)) l)))));
+      ordered = up.1;
       to_is = g.to_is;
     }
 

@@ -90,7 +90,7 @@ not_following R pairs j i a b e p q h each =
 abbrev pub AsciiAt : Pairs → ℕ → Type 0
 AsciiAt pairs k = (d : List ℕ × ℕ) → All (λ b. b < 128) (get_or pairs k d).0
 
-get_or-any : (xs : List ℕ) (k d e : ℕ) → k < length xs → get_or xs k d ≡ get_or xs k e
+pub get_or-any : (xs : List ℕ) (k d e : ℕ) → k < length xs → get_or xs k d ≡ get_or xs k e
 get_or-any [] k d e h = let g : k < 0 = h in absurd (omega arith)
 get_or-any (x ∷ xs) zero d e h = refl
 get_or-any (x ∷ xs) (suc k) d e h = get_or-any xs k d e (let g : suc k < suc (length xs) = h in omega arith)

@@ -1,10 +1,12 @@
 -- What the values, literals and spans in front of a window's first branch say of its text.
-use Rattle.std.proofs.Common.{◌≡◌, ℕ, zero, suc, ◌+◌, ◌-◌, ◌^◌, ◌<◌, ◌≤◌, ◌⊎◌, inl, inr, List, [], ◌∷◌, ◌++◌, length, refl, sym, ◌∙◌, ap, subst, arith, take, drop, Option, Some, None, slice_get, true, false, cond, eqb, leb, Bool}
+use Rattle.std.proofs.Common.{◌≡◌, ℕ, zero, suc, ◌+◌, ◌-◌, ◌^◌, ◌<◌, ◌≤◌, ◌⊎◌, inl, inr, List, [], ◌∷◌, ◌++◌, length, refl, sym, ◌∙◌, ap, subst, arith, get_or, take, drop, Option, Some, None, slice_get, true, false, cond, eqb, leb, Bool}
 use Rattle.std.specs.Prelude.{◌&&◌, ◌||◌}
-use Rattle.std.proofs.lemmas.Bool.{eq-eqb, lt-ltb, lt-leb}
+use Rattle.std.proofs.lemmas.Bool.{eq-eqb, lt-ltb, lt-leb, le-ltb}
 use Rattle.std.proofs.lemmas.Bool.Decides.{eqb_tells}
+use Rattle.std.proofs.lemmas.List.{length-drop, get_or-drop}
+use Rattle.std.proofs.lemmas.Option.{slice_get-get_or, slice_get_past}
 use Rattle.zerotrie_core.specs.Kind.{Kind, has_spans}
-use Rattle.zerotrie_core.specs.Numbers.{span_form, spelled_as}
+use Rattle.zerotrie_core.specs.Numbers.{value_form, span_form, spelled_as}
 use Rattle.zerotrie_core.specs.Maps.{Pairs, with_run, begins_some, residual, behind_all, edges, run_of}
 use Rattle.zerotrie_core.specs.Canonical.{size_of}
 use Rattle.zerotrie_core.proofs.CallerLemmas.{residual-front, size_value, size_literal, size_span, run_of-literal, run_of-value, run_of-many, member, member-edges, edge_limit_to}
@@ -12,7 +14,7 @@ use Rattle.zerotrie_build.specs.Order.{Before, BeforeFirst, Ordered, AreKeys}
 use Rattle.zerotrie_build.specs.declared.steps.Window.{Window}
 use Rattle.zerotrie_build.specs.declared.steps.Step.{Step}
 use Rattle.zerotrie_build.specs.declared.steps.Step.TheVariants.{End, Value, Literal, Span, Branch}
-use Rattle.zerotrie_build.specs.passes.Windows.{cut, window, item_of, byte_of, high_front, step_at, step_of, IsLow}
+use Rattle.zerotrie_build.specs.passes.Windows.{cut, window, item_of, byte_of, high_front, step_at, step_of, IsLow, IsLone}
 use Rattle.zerotrie_build.specs.passes.Measured.{Run}
 use Rattle.zerotrie_build.specs.passes.Measured.Run.{here, value, literal, span}
 use Rattle.zerotrie_build.specs.passes.Walking.{IsBehind}
@@ -254,3 +256,48 @@ pub literals_to : {kind : Kind} {all : Pairs} {w last : Window} {m : ℕ} (end :
 literals_to {kind = kind} {all = all} {w = w} {last = last} {m = m} end inside past low run =
     let there : end ≡ w.depth + (end - w.depth) = omega arith in
     literals_run (end - w.depth) inside (λ i from below. low i from (omega arith)) (subst (λ d. Run kind all (record w { depth = d }) last m) there run)
+
+-- the rest of the one key of a window has a byte at each place, and it is ASCII
+pub lone_low : (all : Pairs) (w : Window) (rest : List ℕ) (v : ℕ) → IsLone all w rest v → (i : ℕ) → w.depth ≤ i → i < w.depth + length rest → IsLow all w i
+lone_low all w rest v l i from below =
+    let key = (item_of all w.from).0 in
+    let long = ap length l.rest_is ∙ length-drop w.depth key in
+    let deep = l.deep in
+    let one = l.one in
+    let b = get_or key i 0 in
+    let at : w.depth + (i - w.depth) ≡ i = omega arith in
+    let is : get_or rest (i - w.depth) 0 ≡ b = ap (λ x. get_or x (i - w.depth) 0) l.rest_is ∙ get_or-drop w.depth key (i - w.depth) 0 ∙ ap (λ j. get_or key j 0) at in
+    let here : byte_of all w.from i ≡ Some b = slice_get-get_or key i 0 (omega arith) in
+    let same : w.from ≡ w.to - 1 = omega arith in
+    record {
+      byte = b;
+      low = subst (λ x. x < 128) is (l.low (i - w.depth) 0 (omega arith));
+      first = here;
+      last = subst (λ j. byte_of all j i ≡ Some b) same here;
+    }
+
+-- behind it stands the value
+pub lone_value : (kind : Kind) (all : Pairs) (w : Window) (rest : List ℕ) (v : ℕ) → IsLone all w rest v → step_of kind all (record w { depth = w.depth + length rest }) ≡ Value v
+lone_value kind all w rest v l =
+    let key = (item_of all w.from).0 in
+    let long = ap length l.rest_is ∙ length-drop w.depth key in
+    let deep = l.deep in
+    let one = l.one in
+    let none : byte_of all w.from (w.depth + length rest) ≡ None = slice_get_past key (w.depth + length rest) (omega arith) in
+    rw (lt-ltb w.from w.to (omega arith), none) (ap Value (sym l.value_is))
+
+-- so it is all of the window's text
+pub lone_run : (kind : Kind) (all : Pairs) (w : Window) (rest : List ℕ) (v : ℕ) → IsLone all w rest v
+    → Run kind all w (record { from = w.to; to = w.to; depth = w.depth + length rest }) (length rest + length (spelled_as value_form v))
+lone_run kind all w rest v l =
+    let one = l.one in
+    let n = length (spelled_as value_form v) in
+    let none : n + 0 ≡ n = omega arith in
+    let last : Run kind all (record w { depth = w.depth + length rest }) (record { from = w.from + 1; to = w.to; depth = w.depth + length rest }) (n + 0) = value v (lone_value kind all w rest v l) here in
+    let ends : Run kind all (record w { depth = w.depth + length rest }) (record { from = w.to; to = w.to; depth = w.depth + length rest }) n =
+    subst (λ f. Run kind all (record w { depth = w.depth + length rest }) (record { from = f; to = w.to; depth = w.depth + length rest }) n) (sym one) (subst (Run kind all _ _) none last) in
+    literals_run (length rest) (omega arith) (lone_low all w rest v l) ends
+
+-- and then there is nothing
+pub lone_end : (kind : Kind) (all : Pairs) (w : Window) (rest : List ℕ) (v d : ℕ) → IsLone all w rest v → step_of kind all (record { from = w.from + 1; to = w.to; depth = d }) ≡ End
+lone_end kind all w rest v d l = let one = l.one in rw (le-ltb (w.from + 1) w.to (omega arith)) refl

@@ -1,5 +1,5 @@
 -- Windows as pairs, by what stands first in them.
-use Rattle.std.proofs.Common.{◌≡◌, ℕ, zero, suc, ◌+◌, ◌-◌, ◌<◌, ◌≤◌, ◌⊎◌, inl, inr, List, [], ◌∷◌, ◌++◌, length, refl, sym, ◌∙◌, ap, subst, arith, get_or, take, drop, map, Option, Some, None, slice_get, length-drop, true, false, cond, eqb, leb, Bool}
+use Rattle.std.proofs.Common.{◌≡◌, ℕ, zero, suc, ◌+◌, ◌-◌, ◌<◌, ◌≤◌, ◌⊎◌, inl, inr, List, [], ◌∷◌, ◌++◌, length, refl, sym, ◌∙◌, ap, subst, arith, get_or, take, drop, map, All, Option, Some, None, slice_get, length-drop, true, false, cond, eqb, leb, Bool}
 use Rattle.std.specs.Prelude.{◌&&◌}
 use Rattle.std.proofs.lemmas.Bool.{cases_lt, lt-ltb, le-ltb, lt-leb, le-leb, eq-eqb}
 use Rattle.std.proofs.lemmas.Bool.Decides.{eqb_tells}
@@ -218,6 +218,14 @@ pub key_byte : (kind : Kind) (all : Pairs) (i d b : ℕ) → AreKeys kind all �
 key_byte kind all i d b keys h is =
     let key = (item_of all i).0 in
     subst (λ x. x < edge_limit kind) (get_or_from_slice_get key d b 0 is) (keys i ([], 0) h d 0 (slice_get_within key d b is))
+
+-- what is left of a key at a depth has bytes of the kind
+pub rest_bytes : (kind : Kind) (all : Pairs) (i d : ℕ) (key : List ℕ) (v : ℕ) → AreKeys kind all → slice_get all i ≡ Some (key, v) → All (λ b. b < edge_limit kind) (drop d key)
+rest_bytes kind all i d key v keys is k e below =
+    let long = length-drop d key in
+    let item : get_or all i ([], 0) ≡ (key, v) = get_or_from_slice_get all i (key, v) ([], 0) is in
+    let whole : All (λ b. b < edge_limit kind) key = subst (λ x. All (λ b. b < edge_limit kind) x.0) item (keys i ([], 0) (slice_get_within all i (key, v) is)) in
+    rw (get_or-drop d key k e) (whole (d + k) e (omega arith))
 
 low_without : (kind : Kind) (b : ℕ) → b < edge_limit kind → (leb 128 b && has_spans kind) ≡ false → b < 128
 low_without simple_ascii b h n = h

@@ -14,7 +14,7 @@ ghost use Rattle.zerotrie_build.specs.passes.Measured.{Run, Stops, Parts, IsMeas
 ghost use Rattle.zerotrie_build.specs.passes.Walking.{tos, spare_len, with_len, left_open, IsOpened, Closing, IsTurn, IsNext};
 
 use crate::slice_indices::ByteSliceWithIndices;
-use crate::steps::{Step, Window, first_step, group_end, literals_end};
+use crate::steps::{Step, Window, first_step, group_end, literals_end, lone_item};
 use std::alloc::{AllocError, Allocator};
 use zerotrie_core::{ZeroTrieBuildError, ZeroTrieWithOptions};
 
@@ -133,6 +133,35 @@ fn behind_run<K: ZeroTrieWithOptions>(
             }
             Step::Branch | Step::End => return Ok((rest, len)),
         }
+    }
+}
+
+/// The same. Where there is one item, whose key goes on with ASCII alone, it is told without a step for each part.
+fn behind_front<K: ZeroTrieWithOptions>(
+    items: ByteSliceWithIndices<'_>,
+    start: Window,
+) -> Result<(Window, usize), ZeroTrieBuildError>
+    requires keys { AreKeys K.kind (pairs items) }
+    requires within { start.to ≤ length (pairs items) }
+    requires ordered { Ordered K.kind (window_of (pairs items) start) }
+    ensures run { IfOk result (λ r. Run K.kind (pairs items.entry) start r.0 r.1) }
+    ensures stops { IfOk result (λ r. Stops K.kind (pairs items.entry) r.0) }
+    ensures room { IfOk result (λ r. step_of K.kind (pairs items.entry) r.0 ≡ Step.Branch
+        → r.0.depth + 1 < 2 ^ 64) }
+    ensures refused { IfErr result (λ e. (e ≡ ZeroTrieBuildError.CapacityExceeded)
+        × (2 ^ 64 ≤ size_of K.kind (window_of (pairs items.entry) start))) }
+{
+    match lone_item::<K>(items, start) {
+        Some((rest, value)) => {
+            let len = plus(rest.len(), value_len(value))?;
+            let behind = Window {
+                from: start.to,
+                to: start.to,
+                depth: start.depth + rest.len(),
+            };
+            Ok((behind, len))
+        }
+        None => behind_run::<K>(items, start),
     }
 }
 
@@ -380,7 +409,7 @@ pub(crate) fn measure_all<K: ZeroTrieWithOptions, A: Allocator + Copy>(
         depth: 0,
     };
     loop {
-        let (rest, len) = behind_run::<K>(items, window)?;
+        let (rest, len) = behind_front::<K>(items, window)?;
         if rest.from < rest.to {
             window = measuring.push_branch::<K>(rest, len)?;
         } else {

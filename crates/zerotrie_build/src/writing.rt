@@ -17,7 +17,7 @@ ghost use Rattle.zerotrie_build.specs.passes.Writing.{with_bits, lens_of, KeptTo
 use crate::laying::{Layout, Next};
 use crate::measuring::{Measured, width_of};
 use crate::slice_indices::ByteSliceWithIndices;
-use crate::steps::{Step, Window, first_step, literals_end};
+use crate::steps::{Step, Window, first_step, literals_end, lone_item};
 use crate::store::TrieBuilderStore;
 use std::alloc::{AllocError, Allocator, Global};
 use zerotrie_core::{
@@ -82,6 +82,17 @@ impl<S: TrieBuilderStore + Drop> Writing<S> {
         ensures spells { SpellsAs value_form value (spelled_as value_form value) }
     {
         self.put_number(VALUE, &write_varint_meta3(value));
+    }
+
+    /// Writes literals and a value behind them.
+    fn put_lone(&mut self, rest: &[u8], value: usize)
+        requires { self.old.at + (length rest.now + length (spelled_as value_form value)) ≤ length (S.list self.old.data) }
+        ensures puts { Puts (S.list self.old.data) self.old.at (S.list self.new.data) self.new.at
+            (rest.now ++ spelled_as value_form value) }
+        ensures spells { SpellsAs value_form value (spelled_as value_form value) }
+    {
+        self.put_all(rest);
+        self.put_value(value);
     }
 
     /// Writes the literals that the window's keys go on with up to a depth.
@@ -182,6 +193,10 @@ impl<S: TrieBuilderStore + Drop> Writing<S> {
         // That a length is below 2^64 tells the proof that so are the places of the slots.
         let _len = slots.len();
         layout.clear();
+        if let Some((rest, value)) = lone_item::<K>(items, window) {
+            self.put_lone(rest, value);
+            return Ok(());
+        }
         let mut rest = window;
         loop {
             match first_step::<K>(items, rest) {

@@ -1,5 +1,5 @@
 -- Windows of the items, and what stands first in their texts.
-use Rattle.std.specs.Prelude.{◌≡◌, ◌≢◌, ℕ, ◌+◌, ◌-◌, ◌<◌, ◌≤◌, ◌==◌, ◌&&◌, nat_lt, nat_le, if◌then◌else◌, List, [], ◌∷◌, map, take, drop, slice_get, slice_index, slice_index_or, Option, Some, None}
+use Rattle.std.specs.Prelude.{◌≡◌, ◌≢◌, ℕ, ◌+◌, ◌-◌, ◌<◌, ◌≤◌, ◌==◌, ◌&&◌, nat_lt, nat_le, if◌then◌else◌, List, [], ◌∷◌, length, map, take, drop, All, slice_get, slice_index, slice_index_or, Option, Some, None}
 use Rattle.zerotrie_core.specs.Kind.{Kind, has_spans}
 use Rattle.zerotrie_core.specs.Maps.{Pairs}
 use Rattle.zerotrie_build.specs.declared.steps.Window.{Window}
@@ -52,6 +52,14 @@ pub record IsLow (all : Pairs) (w : Window) (depth : ℕ) : Type 0 where
   pub low : byte < 128
   pub first : byte_of all w.from depth ≡ Some byte
   pub last : byte_of all (w.to - 1) depth ≡ Some byte
+
+-- The window has one item, with this value, whose key goes on with this rest, and the rest is ASCII.
+pub record IsLone (all : Pairs) (w : Window) (rest : List ℕ) (value : ℕ) : Type 0 where
+  pub one : w.to ≡ w.from + 1
+  pub deep : w.depth ≤ length (item_of all w.from).0
+  pub rest_is : rest ≡ drop w.depth (item_of all w.from).0
+  pub value_is : value ≡ (item_of all w.from).1
+  pub low : All (λ b. b < 128) rest
 
 -- The items up to end, and no others that follow them, have the byte of the first.
 pub record IsGroup (all : Pairs) (w : Window) (end : ℕ) : Type 0 where

@@ -1,11 +1,11 @@
-use Rattle.std.proofs.Common.{◌≡◌, rules, refl, [], ◌++◌, reverse, ap, sym, ◌∙◌, arith, length, length-append, length-drop, take, drop, ◌-◌}
+use Rattle.std.proofs.Common.{◌≡◌, ◌+◌, rules, refl, [], ◌++◌, reverse, ap, sym, ◌∙◌, arith, length, length-append, length-drop, take, drop, ◌-◌}
 use Rattle.std.proofs.lemmas.List.{length-take-le}
 use Rattle.zerotrie_core.specs.Numbers.{span_form, spelled_as}
 use Rattle.zerotrie_build.specs.Items.{pairs}
 use Rattle.zerotrie_build.specs.passes.Windows.{item_of}
 use Rattle.zerotrie_build.specs.passes.Writing.{next_of}
-use Rattle.zerotrie_build.proofs.RunLemmas.{literal_low}
-use Rattle.zerotrie_build.proofs.FrontLemmas.{going_start, going_value, going_literals, going_span, open_bytes, room_value, room_literals, room_span, span_within}
+use Rattle.zerotrie_build.proofs.RunLemmas.{literal_low, lone_run, lone_end, along}
+use Rattle.zerotrie_build.proofs.FrontLemmas.{going_start, going_lone, going_value, going_literals, going_span, open_bytes, room_value, room_literals, room_span, span_within}
 use Rattle.zerotrie_build.proofs.SlotLemmas.{opened}
 use Rattle.zerotrie_build.proofs.BranchLemmas.{branch_slots, branch_windows, branch_lens, branch_numbers, branch_small, branch_room, branch_refused, front_branch, front_end}
 use Rattle.zerotrie_build.proofs.writing.Writing.put_front.Goals as goal
@@ -203,3 +203,23 @@ returns-in-Branch-clause-put g c =
       c.in_ok-set-in-Branch.ensures.pending ∙ ap (λ x. next ++ reverse x) v.3,
       front_branch _ _ k v.2 step laid _ _ _ c.as_slice.ensures.value lens.0 c.as_slice-numbers.ensures.value c.put_branch.ensures next next_is,
     )
+
+pub put_lone-requires : goal.put_lone-requires
+put_lone-requires g c =
+    let k = (opened c.requires.kept.1).known in
+    let run = lone_run g.K.ZeroTrieWithOptions.kind (pairs c.args.items) c.args.window c.in-Some.rest.now c.in-Some.value c.in-Some.ensures.is in
+    let size = (along run k.within c.requires.keys k.ordered).size in
+    let room = c.requires.room in
+    omega arith
+
+pub returns-in-Some-clause-put : goal.returns-in-Some-clause-put
+returns-in-Some-clause-put g c =
+    let kind = g.K.ZeroTrieWithOptions.kind in
+    let all = pairs c.args.items in
+    let w = c.args.window in
+    let rest = c.in-Some.rest.now in
+    let lone = c.in-Some.ensures.is in
+    let k = opened c.requires.kept.1 in
+    let o = k.known in
+    let going = going_lone _ _ rest c.in-Some.value (going_start (g.S.TrieBuilderStore.list c.args.self.now.data) c.args.self.now.at o) o.stops o.within c.requires.keys lone c.put_lone.ensures.spells c.put_lone.ensures.puts in
+    ([], ap reverse c.clear.ensures.pending, front_end k going (lone_end kind all w rest c.in-Some.value (w.depth + length rest) lone) [] refl)
