@@ -118,7 +118,7 @@ fn builds(set: &Set, kind: Kind, rounds: usize) {
     let mut shuffled = set.keys.clone();
     Random::new(47).shuffle(&mut shuffled);
     for (what, route, keys) in [("sorted", 0, &set.keys), ("shuffled", 1, &shuffled)] {
-        let turns = (5_000 / keys.len()).max(1);
+        let turns = (50_000 / keys.len()).max(1);
         let flat = calls::Flat::of(keys);
         let mut out = vec![0; 64 * flat.bytes() + 64];
         let mut contestants: Vec<(&str, Box<dyn FnMut() -> usize + '_>)> = Vec::new();

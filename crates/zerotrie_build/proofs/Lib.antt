@@ -1,6 +1,7 @@
 mod Ranges
 mod Items
 mod NodeLemmas
+mod NumberLemmas
 mod Runs
 mod Overflow
 mod Building

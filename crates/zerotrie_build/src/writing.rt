@@ -12,7 +12,7 @@ ghost use Rattle.zerotrie_build.specs.Order.{Ordered, AreKeys};
 ghost use Rattle.zerotrie_build.specs.passes.Windows.{window as window_of, item_of};
 ghost use Rattle.zerotrie_build.specs.passes.Measured.{IsMeasured};
 ghost use Rattle.zerotrie_build.specs.passes.Puts.{Puts};
-ghost use Rattle.zerotrie_build.specs.passes.Writing.{with_bits, lens_of, KeptTo, FrontPut};
+ghost use Rattle.zerotrie_build.specs.passes.Writing.{with_bits, IsLead, spelled_behind, lens_of, KeptTo, FrontPut};
 
 use crate::laying::{Layout, Next};
 use crate::measuring::{Measured, width_of};
@@ -62,16 +62,61 @@ impl<S: TrieBuilderStore + Drop> Writing<S> {
         }
     }
 
-    /// Writes a number, with these bits added to its lead.
-    fn put_number(&mut self, bits: u8, number: &[u8])
-        requires room { self.old.at + length number.now ≤ length (S.list self.old.data) }
-        requires bits { bits + slice_index number.now 0 < 256 }
-        ensures { Puts (S.list self.old.data) self.old.at (S.list self.new.data) self.new.at (with_bits bits number.now) }
+    /// Writes a spelling, with these bits added to its lead.
+    fn put_spelling(&mut self, bits: u8, spelling: &[u8])
+        requires room { self.old.at + length spelling.now ≤ length (S.list self.old.data) }
+        requires bits { bits + slice_index spelling.now 0 < 256 }
+        ensures { Puts (S.list self.old.data) self.old.at (S.list self.new.data) self.new.at
+            (with_bits bits spelling.now) }
     {
-        if let Some((lead, trail)) = number.split_first() {
+        if let Some((lead, trail)) = spelling.split_first() {
             self.put(bits + *lead);
             self.put_all(trail);
         }
+    }
+
+    /// Writes a number of any length, in the form whose shortest number of two bytes is `latent`.
+    fn put_long(&mut self, bits: u8, latent: u8, number: usize)
+        requires form { IsLead bits latent }
+        requires room { self.old.at + length (spelled_behind bits latent number) ≤ length (S.list self.old.data) }
+        ensures { Puts (S.list self.old.data) self.old.at (S.list self.new.data) self.new.at
+            (spelled_behind bits latent number) }
+    {
+        if latent == 16 {
+            self.put_spelling(bits, &write_varint_meta3(number));
+        } else {
+            self.put_spelling(bits, &write_varint_meta2(number));
+        }
+    }
+
+    /// Writes a number in the form whose shortest number of two bytes is `latent`, behind these bits. As a rule it
+    /// has no more than three bytes, and these are written as they are found.
+    #[inline(always)]
+    fn put_number(&mut self, bits: u8, latent: u8, number: usize)
+        requires form { IsLead bits latent }
+        requires room { self.old.at + length (spelled_behind bits latent number) ≤ length (S.list self.old.data) }
+        ensures { Puts (S.list self.old.data) self.old.at (S.list self.new.data) self.new.at
+            (spelled_behind bits latent number) }
+    {
+        let least = latent as usize;
+        if number < least {
+            self.put(bits + number as u8);
+            return;
+        }
+        let low = number - least;
+        if low < 128 * least {
+            self.put(bits + latent + (low / 128) as u8);
+            self.put((low % 128) as u8);
+            return;
+        }
+        let high = low / 128 - least;
+        if high < 128 * least {
+            self.put(bits + latent + (high / 128) as u8);
+            self.put(128 + (high % 128) as u8);
+            self.put((low % 128) as u8);
+            return;
+        }
+        self.put_long(bits, latent, number);
     }
 
     /// Writes a value node.
@@ -81,7 +126,7 @@ impl<S: TrieBuilderStore + Drop> Writing<S> {
             (spelled_as value_form value) }
         ensures spells { SpellsAs value_form value (spelled_as value_form value) }
     {
-        self.put_number(VALUE, &write_varint_meta3(value));
+        self.put_number(VALUE, 16, value);
     }
 
     /// Writes literals and a value behind them.
@@ -118,7 +163,7 @@ impl<S: TrieBuilderStore + Drop> Writing<S> {
         ensures spells { SpellsAs span_form run (spelled_as span_form run) }
     {
         let (key, _) = items.get(window.from);
-        self.put_number(SPAN, &write_varint_meta3(run));
+        self.put_number(SPAN, 16, run);
         self.put_all(&key[window.depth..window.depth + run]);
     }
 
@@ -163,10 +208,7 @@ impl<S: TrieBuilderStore + Drop> Writing<S> {
             (branch_front table.now (lens_of lens.now numbers.now)) }
     {
         let width = width_of(total(lens, numbers));
-        self.put_number(
-            BRANCH,
-            &write_varint_meta2(256 * width + numbers.len() % 256),
-        );
+        self.put_number(BRANCH, 32, 256 * width + numbers.len() % 256);
         self.put_all(table);
         self.put_offsets(lens, numbers, width + 1);
     }

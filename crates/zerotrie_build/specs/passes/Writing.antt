@@ -1,9 +1,10 @@
 -- What the second pass writes.
-use Rattle.std.specs.Prelude.{◌≡◌, ℕ, ◌+◌, ◌-◌, ◌*◌, ◌<◌, ◌≤◌, ◌==◌, List, [], ◌∷◌, ◌++◌, length, map, take, drop, replicate, slice_index_or, false, if◌then◌else◌}
+use Rattle.std.specs.Prelude.{◌≡◌, ℕ, ◌+◌, ◌-◌, ◌*◌, ◌/◌, ◌<◌, ◌≤◌, ◌⊎◌, ◌==◌, List, [], ◌∷◌, ◌++◌, length, map, take, drop, replicate, slice_index_or, false, if◌then◌else◌}
 use Rattle.std.specs.List.{concat, range_with_len}
 use Rattle.std.specs.List.Sorted.{IsPermutation, IsStrictlyIncreasing}
 use Rattle.zerotrie_base.specs.Hashes.{IsPerfect}
 use Rattle.zerotrie_core.specs.Kind.{Kind, simple_ascii, fold_byte, is_hashed}
+use Rattle.zerotrie_core.specs.Numbers.{spelled}
 use Rattle.zerotrie_core.specs.Maps.{Pairs, value_at}
 use Rattle.zerotrie_core.specs.Branches.{IsTable, total}
 use Rattle.zerotrie_core.specs.Canonical.{size_of}
@@ -19,6 +20,14 @@ use Rattle.zerotrie_build.specs.passes.Puts.{Puts}
 abbrev pub with_bits : ℕ → List ℕ → List ℕ
 with_bits bits [] = []
 with_bits bits (lead ∷ trail) = (bits + lead) ∷ trail
+
+-- these bits begin a node whose number has the form with this latent value
+abbrev pub IsLead : ℕ → ℕ → Type 0
+IsLead bits latent = ((latent ≡ 16) × ((bits ≡ 128) ⊎ (bits ≡ 160))) ⊎ ((latent ≡ 32) × (bits ≡ 192))
+
+-- the spelling of a number with these bits in its lead
+abbrev pub spelled_behind : ℕ → ℕ → ℕ → List ℕ
+spelled_behind bits latent number = spelled latent (bits / (2 * latent)) number
 
 -- The bytes are a text of the kind, and what it lists answers as these pairs.
 pub record Listed (kind : Kind) (bytes : List ℕ) (pairs : Pairs) : Type 0 where

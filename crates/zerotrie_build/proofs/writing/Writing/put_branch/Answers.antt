@@ -1,8 +1,7 @@
-use Rattle.std.proofs.Common.{◌≡◌, ◌≤◌, ◌+◌, ◌*◌, ◌%◌, ◌^◌, refl, ap, inr, ◌∙◌, arith, subst, length}
-use Rattle.zerotrie_core.specs.Numbers.{branch_form}
+use Rattle.std.proofs.Common.{◌≡◌, ◌≤◌, ◌+◌, ◌^◌, refl, arith, subst, length}
 use Rattle.zerotrie_core.specs.Branches.{IsWidth}
-use Rattle.zerotrie_build.specs.passes.Writing.{with_bits, lens_of}
-use Rattle.zerotrie_build.proofs.PutLemmas.{puts_same, puts_then, number_len, number_is, count_lens, front_is, front_long}
+use Rattle.zerotrie_build.specs.passes.Writing.{lens_of}
+use Rattle.zerotrie_build.proofs.PutLemmas.{puts_same, puts_then, count_lens, front_is, front_long}
 use Rattle.zerotrie_build.proofs.writing.Writing.put_branch.Goals as goal
 
 pub overflow_mul-width : goal.overflow_mul-width
@@ -11,14 +10,15 @@ overflow_mul-width g c = let l : c.width_of-width.result ≤ 7 = c.width_of-widt
 pub overflow_add-width : goal.overflow_add-width
 overflow_add-width g c = let l : c.width_of-width.result ≤ 7 = c.width_of-width.ensures.least 7 (let a = c.total.ensures in let b = c.requires.small in let p : 256 ^ (7 + 1) ≡ 2 ^ 64 = refl in omega arith) in record { fits = omega arith }
 
+pub overflow_add-width-2 : goal.overflow_add-width-2
+overflow_add-width-2 g c = let l : c.width_of-width.result ≤ 7 = c.width_of-width.ensures.least 7 (let a = c.total.ensures in let b = c.requires.small in let p : 256 ^ (7 + 1) ≡ 2 ^ 64 = refl in omega arith) in record { fits = omega arith }
+
 pub put_number-requires-clause-room : goal.put_number-requires-clause-room
 put_number-requires-clause-room g c =
     let lens = lens_of c.args.lens.now c.args.numbers.now in
     let w = c.width_of-width.result in
     let n = length c.args.numbers.now in
     let f = front_long c.args.table.now lens w n (subst (λ t. IsWidth t w) c.total.ensures c.width_of-width.ensures) (count_lens c.args.lens.now c.args.numbers.now) in
-    let h = number_len branch_form (256 * w + n % 256) 192 c.write_varint_meta2.result.items (inr refl) refl c.write_varint_meta2.ensures in
-    let d = ap length c.deref.ensures.0 in
     let r = c.requires.room in
     omega arith
 
@@ -28,7 +28,6 @@ put_all-requires g c =
     let w = c.width_of-width.result in
     let n = length c.args.numbers.now in
     let f = front_long c.args.table.now lens w n (subst (λ t. IsWidth t w) c.total.ensures c.width_of-width.ensures) (count_lens c.args.lens.now c.args.numbers.now) in
-    let x = ap length (ap (with_bits 192) c.deref.ensures.0 ∙ number_is branch_form (256 * w + n % 256) 192 c.write_varint_meta2.result.items (inr refl) refl c.write_varint_meta2.ensures) in
     let a = c.put_number.ensures.at_is in let s = c.put_number.ensures.same in
     let r = c.requires.room in
     omega arith
@@ -42,7 +41,6 @@ put_offsets-requires-clause-room g c =
     let w = c.width_of-width.result in
     let n = length c.args.numbers.now in
     let f = front_long c.args.table.now lens w n (subst (λ t. IsWidth t w) c.total.ensures c.width_of-width.ensures) (count_lens c.args.lens.now c.args.numbers.now) in
-    let x = ap length (ap (with_bits 192) c.deref.ensures.0 ∙ number_is branch_form (256 * w + n % 256) 192 c.write_varint_meta2.result.items (inr refl) refl c.write_varint_meta2.ensures) in
     let a = c.put_number.ensures.at_is in let s = c.put_number.ensures.same in
     let b = c.put_all.ensures.at_is in let t = c.put_all.ensures.same in
     let r = c.requires.room in
@@ -53,6 +51,5 @@ returns g c =
     let lens = lens_of c.args.lens.now c.args.numbers.now in
     let w = c.width_of-width.result in
     let n = length c.args.numbers.now in
-    let x = ap (with_bits 192) c.deref.ensures.0 ∙ number_is branch_form (256 * w + n % 256) 192 c.write_varint_meta2.result.items (inr refl) refl c.write_varint_meta2.ensures in
     puts_same _ _ _ _ _ _ (front_is c.args.table.now lens w n (subst (λ t. IsWidth t w) c.total.ensures c.width_of-width.ensures) (count_lens c.args.lens.now c.args.numbers.now))
-    (puts_then _ _ _ _ _ _ _ _ (puts_same _ _ _ _ _ _ x c.put_number.ensures) (puts_then _ _ _ _ _ _ _ _ c.put_all.ensures c.put_offsets.ensures))
+    (puts_then _ _ _ _ _ _ _ _ c.put_number.ensures (puts_then _ _ _ _ _ _ _ _ c.put_all.ensures c.put_offsets.ensures))

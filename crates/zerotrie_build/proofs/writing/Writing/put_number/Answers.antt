@@ -1,7 +1,43 @@
-use Rattle.std.proofs.Common.{◌≡◌, ◌+◌, ◌∷◌, rules}
-use Rattle.zerotrie_build.specs.passes.Writing.{with_bits}
-use Rattle.zerotrie_build.proofs.PutLemmas.{puts_then, puts_same}
+use Rattle.std.proofs.Common.{ap, arith, length}
+use Rattle.zerotrie_build.proofs.NumberLemmas.{one_byte, two_bytes, three_bytes}
+use Rattle.zerotrie_build.proofs.PutLemmas.{puts_same, puts_then}
 use Rattle.zerotrie_build.proofs.writing.Writing.put_number.Goals as goal
 
-pub returns-in-Some : goal.returns-in-Some
-returns-in-Some g c = puts_same _ _ _ _ _ _ (let e : (c.args.bits + c.in-Some.lead.now) ∷ c.in-Some.trail.now ≡ with_bits c.args.bits c.args.number.now = search rules in e) (puts_then _ _ _ _ _ _ _ _ c.put.ensures c.put_all.ensures)
+pub put-requires : goal.put-requires
+put-requires g c = let is = ap length (one_byte c.args.bits c.args.latent c.args.number c.requires.form (omega arith) c.if-number-least.true) in let room = c.requires.room in omega arith
+
+pub returns-then-number-least : goal.returns-then-number-least
+returns-then-number-least g c =
+    puts_same _ _ _ _ _ _ (one_byte c.args.bits c.args.latent c.args.number c.requires.form (omega arith) c.if-number-least.true) c.put.ensures
+
+pub put-requires-then-low-least : goal.put-requires-then-low-least
+put-requires-then-low-least g c = let is = ap length (two_bytes c.args.bits c.args.latent c.args.number c.requires.form (omega arith) (omega arith) (omega arith)) in let room = c.requires.room in omega arith
+
+pub put-requires-then-low-least-2 : goal.put-requires-then-low-least-2
+put-requires-then-low-least-2 g c =
+    let is = ap length (two_bytes c.args.bits c.args.latent c.args.number c.requires.form (omega arith) (omega arith) (omega arith)) in
+    let room = c.requires.room in let a = c.put-then-low-least.ensures.at_is in let s = c.put-then-low-least.ensures.same in omega arith
+
+pub returns-then-low-least : goal.returns-then-low-least
+returns-then-low-least g c =
+    puts_same _ _ _ _ _ _ (two_bytes c.args.bits c.args.latent c.args.number c.requires.form (omega arith) (omega arith) (omega arith))
+    (puts_then _ _ _ _ _ _ _ _ c.put-then-low-least.ensures c.put-then-low-least-2.ensures)
+
+pub put-requires-then-high-least : goal.put-requires-then-high-least
+put-requires-then-high-least g c = let is = ap length (three_bytes c.args.bits c.args.latent c.args.number c.requires.form (omega arith) (omega arith) (omega arith) (omega arith)) in let room = c.requires.room in omega arith
+
+pub put-requires-then-high-least-2 : goal.put-requires-then-high-least-2
+put-requires-then-high-least-2 g c =
+    let is = ap length (three_bytes c.args.bits c.args.latent c.args.number c.requires.form (omega arith) (omega arith) (omega arith) (omega arith)) in
+    let room = c.requires.room in let a = c.put-then-high-least.ensures.at_is in let s = c.put-then-high-least.ensures.same in omega arith
+
+pub put-requires-then-high-least-3 : goal.put-requires-then-high-least-3
+put-requires-then-high-least-3 g c =
+    let is = ap length (three_bytes c.args.bits c.args.latent c.args.number c.requires.form (omega arith) (omega arith) (omega arith) (omega arith)) in
+    let room = c.requires.room in let a = c.put-then-high-least.ensures.at_is in let s = c.put-then-high-least.ensures.same in
+    let b = c.put-then-high-least-2.ensures.at_is in let t = c.put-then-high-least-2.ensures.same in omega arith
+
+pub returns-then-high-least : goal.returns-then-high-least
+returns-then-high-least g c =
+    puts_same _ _ _ _ _ _ (three_bytes c.args.bits c.args.latent c.args.number c.requires.form (omega arith) (omega arith) (omega arith) (omega arith))
+    (puts_then _ _ _ _ _ _ _ _ (puts_then _ _ _ _ _ _ _ _ c.put-then-high-least.ensures c.put-then-high-least-2.ensures) c.put-then-high-least-3.ensures)

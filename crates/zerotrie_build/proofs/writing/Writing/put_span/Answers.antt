@@ -4,12 +4,8 @@ use Rattle.std.proofs.lemmas.Option.{get_or_from_slice_get}
 use Rattle.zerotrie_core.specs.Numbers.{span_form, spelled_as}
 use Rattle.zerotrie_core.proofs.CallerLemmas.{spells_spelled}
 use Rattle.zerotrie_build.specs.Items.{pairs}
-use Rattle.zerotrie_build.specs.passes.Writing.{with_bits}
-use Rattle.zerotrie_build.proofs.PutLemmas.{puts_same, puts_then, number_len, number_is}
+use Rattle.zerotrie_build.proofs.PutLemmas.{puts_same, puts_then}
 use Rattle.zerotrie_build.proofs.writing.Writing.put_span.Goals as goal
-
-pub put_number-requires-clause-room : goal.put_number-requires-clause-room
-put_number-requires-clause-room g c = let n = number_len span_form c.args.run 160 c.write_varint_meta3.result.items (inl refl) refl c.write_varint_meta3.ensures in let d = ap length c.deref.ensures.0 in let r = c.requires.room in omega arith
 
 pub put_all-requires : goal.put_all-requires
 put_all-requires g c =
@@ -20,7 +16,6 @@ put_all-requires g c =
     let run : (d + c.args.run) - d ≡ c.args.run = omega arith in
     let within = c.requires.run in
     let part = length-take-le ((d + c.args.run) - d) (drop d key) (omega arith) in
-    let x = ap length (ap (with_bits 160) c.deref.ensures.0 ∙ number_is span_form c.args.run 160 c.write_varint_meta3.result.items (inl refl) refl c.write_varint_meta3.ensures) in
     let a = c.put_number.ensures.at_is in let s = c.put_number.ensures.same in
     let r = c.requires.room in
     omega arith
@@ -31,9 +26,8 @@ returns-clause-puts g c =
     let d = c.args.window.depth in
     let is = get_or_from_slice_get (pairs c.args.items) c.args.window.from (key, c.get.result.1) ([], 0) c.get.ensures in
     let run : (d + c.args.run) - d ≡ c.args.run = omega arith in
-    let x = ap (with_bits 160) c.deref.ensures.0 ∙ number_is span_form c.args.run 160 c.write_varint_meta3.result.items (inl refl) refl c.write_varint_meta3.ensures in
     puts_same _ _ _ _ _ _ (ap (λ n. spelled_as span_form c.args.run ++ take n (drop d key)) run ∙ ap (λ e. spelled_as span_form c.args.run ++ take c.args.run (drop d e.0)) (sym is))
-    (puts_then _ _ _ _ _ _ _ _ (puts_same _ _ _ _ _ _ x c.put_number.ensures) c.put_all.ensures)
+    (puts_then _ _ _ _ _ _ _ _ c.put_number.ensures c.put_all.ensures)
 
 pub returns-clause-spells : goal.returns-clause-spells
-returns-clause-spells g c = spells_spelled 16 5 c.args.run c.write_varint_meta3.ensures.below (inl refl)
+returns-clause-spells g c = spells_spelled 16 5 c.args.run (omega arith) (inl refl)
