@@ -280,6 +280,16 @@ room_literals {kind = kind} {all = all} {behind = behind} {rest = rest} b end le
     let o = literals (end - rest.depth) kind all rest behind g.left g.run stops inside (omega arith) keys g.ordered (λ i from below. low i from (omega arith)) in
     let a = g.puts.at_is in let l = g.puts.same in let z = g.sized in let i = o.is in omega arith
 
+pub room_lone : {kind : Kind} {all : Pairs} {w behind : Window} {bytes : ℕ} {list : List ℕ} {at : ℕ} {list' : List ℕ} {at' : ℕ} {rest : Window} (key : List ℕ) (v len : ℕ)
+    → Going kind all w bytes behind list at list' at' rest → Stops kind all behind → w.to ≤ length all → AreKeys kind all → IsLone all rest key v → bytes ≤ len → at + len ≤ length list
+    → at' + (length key + length (spelled_as value_form v)) ≤ length list'
+room_lone {kind = kind} {all = all} {behind = behind} {rest = rest} key v len g stops within keys lone h r =
+    let to_is = g.to_is in
+    let one = lone.one in
+    let o = literals (length key) kind all rest behind g.left g.run stops (omega arith) (omega arith) keys g.ordered (lone_low all rest key v lone) in
+    let last = on_value o.run stops v (lone_value kind all rest key v lone) in
+    let a = g.puts.at_is in let l = g.puts.same in let z = g.sized in let i = o.is in let j = last.is in omega arith
+
 pub room_span : {kind : Kind} {all : Pairs} {w behind : Window} {bytes : ℕ} {list : List ℕ} {at : ℕ} {list' : List ℕ} {at' : ℕ} {rest : Window} (n len : ℕ)
     → Going kind all w bytes behind list at list' at' rest → Stops kind all behind → step_of kind all rest ≡ Span n → bytes ≤ len → at + len ≤ length list → at' + (length (spelled_as span_form n) + n) ≤ length list'
 room_span n len g s e h r = let o = on_span g.run s n e in let a = g.puts.at_is in let l = g.puts.same in let z = g.sized in let i = o.is in omega arith

@@ -91,9 +91,10 @@ impl<A: Allocator + Copy> Layout<A> {
                 to: group_end::<K>(items, rest),
                 depth: rest.depth + 1,
             };
+            let edge = edge_at(items, target);
+            self.table.push(edge)?;
             self.numbers.push(self.windows.len())?;
             self.windows.push(target)?;
-            self.table.push(edge_at(items, target))?;
             rest.from = target.to;
         }
         Ok(())
@@ -212,6 +213,7 @@ fn push_hashed<A: Allocator>(
     ensures { OnOk result (reverse pending.new.items ≡ (placed_next ends.now slot windows.now numbers.now
         ++ Next.Slot (slot + slice_index_or ends.now (length ends.now - 1) 0) ∷ []) ++ reverse pending.old.items) }
 {
+    pending.reserve(numbers.len().saturating_mul(2).saturating_add(1))?;
     pending.push(Next::Slot(slot + ends[ends.len() - 1]))?;
     for index in (0..numbers.len()).rev() {
         let number = numbers[index];

@@ -116,6 +116,15 @@ fn behind_run<K: ZeroTrieWithOptions>(
     let mut rest = start;
     let mut len = 0;
     loop {
+        if let Some((literals, value)) = lone_item::<K>(items, rest) {
+            let lead = plus(len, literals.len())?;
+            let behind = Window {
+                from: rest.to,
+                to: rest.to,
+                depth: rest.depth + literals.len(),
+            };
+            return Ok((behind, plus(lead, value_len(value))?));
+        }
         match first_step::<K>(items, rest) {
             Step::Value(value) => {
                 len = plus(len, value_len(value))?;
@@ -133,35 +142,6 @@ fn behind_run<K: ZeroTrieWithOptions>(
             }
             Step::Branch | Step::End => return Ok((rest, len)),
         }
-    }
-}
-
-/// The same. Where there is one item, whose key goes on with ASCII alone, it is told without a step for each part.
-fn behind_front<K: ZeroTrieWithOptions>(
-    items: ByteSliceWithIndices<'_>,
-    start: Window,
-) -> Result<(Window, usize), ZeroTrieBuildError>
-    requires keys { AreKeys K.kind (pairs items) }
-    requires within { start.to ≤ length (pairs items) }
-    requires ordered { Ordered K.kind (window_of (pairs items) start) }
-    ensures run { IfOk result (λ r. Run K.kind (pairs items.entry) start r.0 r.1) }
-    ensures stops { IfOk result (λ r. Stops K.kind (pairs items.entry) r.0) }
-    ensures room { IfOk result (λ r. step_of K.kind (pairs items.entry) r.0 ≡ Step.Branch
-        → r.0.depth + 1 < 2 ^ 64) }
-    ensures refused { IfErr result (λ e. (e ≡ ZeroTrieBuildError.CapacityExceeded)
-        × (2 ^ 64 ≤ size_of K.kind (window_of (pairs items.entry) start))) }
-{
-    match lone_item::<K>(items, start) {
-        Some((rest, value)) => {
-            let len = plus(rest.len(), value_len(value))?;
-            let behind = Window {
-                from: start.to,
-                to: start.to,
-                depth: start.depth + rest.len(),
-            };
-            Ok((behind, len))
-        }
-        None => behind_run::<K>(items, start),
     }
 }
 
@@ -409,7 +389,7 @@ pub(crate) fn measure_all<K: ZeroTrieWithOptions, A: Allocator + Copy>(
         depth: 0,
     };
     loop {
-        let (rest, len) = behind_front::<K>(items, window)?;
+        let (rest, len) = behind_run::<K>(items, window)?;
         if rest.from < rest.to {
             window = measuring.push_branch::<K>(rest, len)?;
         } else {

@@ -168,6 +168,12 @@ impl TrieBuilderStore for VecDeque<u8> {
     }
 
     fn atbs_prepend_n_zeros(&mut self, count: usize) -> Result<(), AllocError> {
+        if self.is_empty() {
+            let mut zeros = Vec::with_capacity(*self.allocator(), count)?;
+            zeros.resize(count, 0)?;
+            *self = VecDeque::from_vec(zeros);
+            return Ok(());
+        }
         self.reserve(count)?;
         let mut left = count;
         while left > 0 {

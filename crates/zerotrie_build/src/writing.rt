@@ -235,12 +235,12 @@ impl<S: TrieBuilderStore + Drop> Writing<S> {
         // That a length is below 2^64 tells the proof that so are the places of the slots.
         let _len = slots.len();
         layout.clear();
-        if let Some((rest, value)) = lone_item::<K>(items, window) {
-            self.put_lone(rest, value);
-            return Ok(());
-        }
         let mut rest = window;
         loop {
+            if let Some((literals, value)) = lone_item::<K>(items, rest) {
+                self.put_lone(literals, value);
+                return Ok(());
+            }
             match first_step::<K>(items, rest) {
                 Step::End => return Ok(()),
                 Step::Value(value) => {

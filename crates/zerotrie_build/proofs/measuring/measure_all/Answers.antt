@@ -29,11 +29,11 @@ loop-measuring-init g c = record {
       (subst (λ x. Waits kind all (whole all) (reverse x) m.slots.items) (sym e.branches) (subst (Waits kind all (whole all) []) (sym e.slots) outside));
 }
 
-pub behind_front-requires-clause-within : goal.behind_front-requires-clause-within
-behind_front-requires-clause-within g c = (waits_placed c.loop-measuring.invariant.waits c.requires.keys c.requires.ordered).within
+pub behind_run-requires-clause-within : goal.behind_run-requires-clause-within
+behind_run-requires-clause-within g c = (waits_placed c.loop-measuring.invariant.waits c.requires.keys c.requires.ordered).within
 
-pub behind_front-requires-clause-ordered : goal.behind_front-requires-clause-ordered
-behind_front-requires-clause-ordered g c = (waits_placed c.loop-measuring.invariant.waits c.requires.keys c.requires.ordered).ordered
+pub behind_run-requires-clause-ordered : goal.behind_run-requires-clause-ordered
+behind_run-requires-clause-ordered g c = (waits_placed c.loop-measuring.invariant.waits c.requires.keys c.requires.ordered).ordered
 
 pub returns-in_err-rest-clause-refused : goal.returns-in_err-rest-clause-refused
 returns-in_err-rest-clause-refused g c =
