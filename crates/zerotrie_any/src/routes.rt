@@ -37,7 +37,7 @@ pub fn bytes_from_slice<K: ZeroTrieWithOptions>(
         ByteSliceWithIndices::from_byte_slice(items),
         ZeroTrieBuilderOptions::of::<K>(),
     )?;
-    Ok(builder.to_bytes(alloc)?)
+    Ok(builder.data.into_vec())
 }
 
 /// The entries of a map, each key by its bytes. The keys' bytes are not copied.
@@ -99,5 +99,5 @@ where
         iter,
         ZeroTrieBuilderOptions::of::<K>(),
     )?;
-    Ok(builder.to_bytes(alloc)?)
+    Ok(builder.data.into_vec())
 }

@@ -102,6 +102,7 @@ fn high_front_len(key: &[u8], other: &[u8]) -> usize
 }
 
 /// Where the bytes below 128 end that two keys have in common from a place on.
+#[inline(always)]
 fn low_end(key: &[u8], other: &[u8], from: usize) -> usize
     requires key { from ≤ length key.now }
     requires other { from ≤ length other.now }
@@ -120,8 +121,24 @@ fn low_end(key: &[u8], other: &[u8], from: usize) -> usize
     end
 }
 
-/// At which depth the literals end that stand first in the text of the window, of which there is one.
-pub(crate) fn literals_end(items: ByteSliceWithIndices<'_>, window: Window) -> usize
+/// At which depth the literals end that stand first in the text of the window, which has one item.
+#[inline(always)]
+fn literals_of_one(items: ByteSliceWithIndices<'_>, window: Window) -> usize
+    requires one { window.to ≡ window.from + 1 }
+    requires items { window.to ≤ length (pairs items) }
+    requires literal { IsLow (pairs items) window window.depth }
+    ensures past { window.depth < result }
+    ensures within { result ≤ length (item_of (pairs items.entry) window.from).0 }
+    ensures low { (i : ℕ) → window.depth ≤ i → i < result → IsLow (pairs items.entry) window i }
+    ensures room { result < 2 ^ 64 }
+{
+    let (key, _) = items.get(window.from);
+    low_end(key, key, window.depth)
+}
+
+/// At which depth the literals end that stand first in the text of the window, by its first and its last item.
+#[inline(always)]
+fn literals_of_many(items: ByteSliceWithIndices<'_>, window: Window) -> usize
     requires some { window.from < window.to }
     requires items { window.to ≤ length (pairs items) }
     requires literal { IsLow (pairs items) window window.depth }
@@ -133,6 +150,23 @@ pub(crate) fn literals_end(items: ByteSliceWithIndices<'_>, window: Window) -> u
     let (first, _) = items.get(window.from);
     let (last, _) = items.get(window.to - 1);
     low_end(first, last, window.depth)
+}
+
+/// At which depth the literals end that stand first in the text of the window, of which there is one.
+pub(crate) fn literals_end(items: ByteSliceWithIndices<'_>, window: Window) -> usize
+    requires some { window.from < window.to }
+    requires items { window.to ≤ length (pairs items) }
+    requires literal { IsLow (pairs items) window window.depth }
+    ensures past { window.depth < result }
+    ensures within { result ≤ length (item_of (pairs items.entry) window.from).0 }
+    ensures low { (i : ℕ) → window.depth ≤ i → i < result → IsLow (pairs items.entry) window i }
+    ensures room { result < 2 ^ 64 }
+{
+    if window.to - window.from == 1 {
+        literals_of_one(items, window)
+    } else {
+        literals_of_many(items, window)
+    }
 }
 
 /// What stands first in the text of the window, where its first and its last key both go on with this byte.

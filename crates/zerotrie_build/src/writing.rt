@@ -42,6 +42,7 @@ pub(crate) struct Writing<S> {
 
 impl<S: TrieBuilderStore + Drop> Writing<S> {
     /// Writes a byte.
+    #[inline(always)]
     fn put(&mut self, byte: u8)
         requires { self.old.at < length (S.list self.old.data) }
         ensures { Puts (S.list self.old.data) self.old.at (S.list self.new.data) self.new.at (byte ∷ []) }
@@ -53,6 +54,7 @@ impl<S: TrieBuilderStore + Drop> Writing<S> {
     }
 
     /// Writes bytes.
+    #[inline(always)]
     fn put_all(&mut self, bytes: &[u8])
         requires { self.old.at + length bytes.now ≤ length (S.list self.old.data) }
         ensures { Puts (S.list self.old.data) self.old.at (S.list self.new.data) self.new.at bytes.now }
@@ -120,6 +122,7 @@ impl<S: TrieBuilderStore + Drop> Writing<S> {
     }
 
     /// Writes a value node.
+    #[inline(always)]
     fn put_value(&mut self, value: usize)
         requires { self.old.at + length (spelled_as value_form value) ≤ length (S.list self.old.data) }
         ensures puts { Puts (S.list self.old.data) self.old.at (S.list self.new.data) self.new.at
@@ -130,6 +133,7 @@ impl<S: TrieBuilderStore + Drop> Writing<S> {
     }
 
     /// Writes literals and a value behind them.
+    #[inline(always)]
     fn put_lone(&mut self, rest: &[u8], value: usize)
         requires { self.old.at + (length rest.now + length (spelled_as value_form value)) ≤ length (S.list self.old.data) }
         ensures puts { Puts (S.list self.old.data) self.old.at (S.list self.new.data) self.new.at
@@ -141,6 +145,7 @@ impl<S: TrieBuilderStore + Drop> Writing<S> {
     }
 
     /// Writes the literals that the window's keys go on with up to a depth.
+    #[inline(always)]
     fn put_literals(&mut self, items: ByteSliceWithIndices<'_>, window: Window, end: usize)
         requires item { window.from < length (pairs items) }
         requires order { window.depth ≤ end }
@@ -154,6 +159,7 @@ impl<S: TrieBuilderStore + Drop> Writing<S> {
     }
 
     /// Writes a span of the bytes that the window's keys go on with.
+    #[inline(always)]
     fn put_span(&mut self, items: ByteSliceWithIndices<'_>, window: Window, run: usize)
         requires item { window.from < length (pairs items) }
         requires run { window.depth + run ≤ length (item_of (pairs items) window.from).0 }
@@ -168,6 +174,7 @@ impl<S: TrieBuilderStore + Drop> Writing<S> {
     }
 
     /// Writes the bytes of this weight of the offsets of a branch to the targets of these numbers.
+    #[inline(always)]
     fn put_block(&mut self, lens: &[usize], numbers: &[usize], place: usize)
         requires place { place < 8 }
         requires within { All (λ i. i < length lens.now) numbers.now }
@@ -185,6 +192,7 @@ impl<S: TrieBuilderStore + Drop> Writing<S> {
 
     /// Writes so many bytes of each offset of a branch to the targets of these numbers, the highest of them
     /// first.
+    #[inline(always)]
     fn put_offsets(&mut self, lens: &[usize], numbers: &[usize], bytes: usize)
         requires bytes { bytes ≤ 8 }
         requires within { All (λ i. i < length lens.now) numbers.now }
@@ -199,6 +207,7 @@ impl<S: TrieBuilderStore + Drop> Writing<S> {
     }
 
     /// Writes a branch with this search table in front of the targets of these numbers, which are so long.
+    #[inline(always)]
     fn put_branch(&mut self, table: &[u8], lens: &[usize], numbers: &[usize])
         requires within { All (λ i. i < length lens.now) numbers.now }
         requires small { total_of (lens_of lens.now numbers.now) < 2 ^ 64 }

@@ -7,4 +7,4 @@ returns-in_err-builder g c =
     rw (same.1, same.2) (rw c.of.ensures.kind at c.in_err-builder.ensures)
 
 pub returns : goal.returns
-returns g c = rw c.in_ok-to_bytes.ensures (rw c.of.ensures.kind at c.in_ok-builder.ensures)
+returns g c = rw c.into_vec.ensures.items (rw c.of.ensures.kind at c.in_ok-builder.ensures)

@@ -1,7 +1,7 @@
 use Rattle.std.proofs.Common.{arith}
 use Rattle.zerotrie_build.specs.Items.{pairs}
 use Rattle.zerotrie_build.proofs.StepLemmas.{low_at}
-use Rattle.zerotrie_build.proofs.steps.literals_end.Goals as goal
+use Rattle.zerotrie_build.proofs.steps.literals_of_many.Goals as goal
 
 pub returns-clause-low : goal.returns-clause-low
 returns-clause-low c = λ i from below.
