@@ -156,14 +156,19 @@ ascii_by false key h = (
 pub key_here : (limit : ℕ) (pairs : Pairs) (i : ℕ) (a : List ℕ × ℕ) → slice_get pairs i ≡ Some a → All (λ e. All (λ b. b < limit) e.0) pairs → All (λ b. b < limit) a.0
 key_here limit pairs i a p all = subst (λ x. All (λ b. b < limit) x.0) (got pairs i a a p) (all i a (slice_get_within pairs i a p))
 
-pub keys_on : (limit : ℕ) (pairs : Pairs) (i : ℕ) (a : List ℕ × ℕ) → slice_get pairs i ≡ Some a → ((k : ℕ) (d : List ℕ × ℕ) → k < i → All (λ b. b < limit) (get_or pairs k d).0)
-    → All (λ b. b < limit) a.0 → (k : ℕ) (d : List ℕ × ℕ) → k < i + 1 → All (λ b. b < limit) (get_or pairs k d).0
-keys_on limit pairs i a p before here k d below =
+-- what held of the keys so far and holds of the next
+pub each_on : (P : List ℕ → Type 0) (pairs : Pairs) (i : ℕ) (a : List ℕ × ℕ) → slice_get pairs i ≡ Some a → ((k : ℕ) (d : List ℕ × ℕ) → k < i → P (get_or pairs k d).0)
+    → P a.0 → (k : ℕ) (d : List ℕ × ℕ) → k < i + 1 → P (get_or pairs k d).0
+each_on P pairs i a p before here k d below =
     let le : k ≤ i = omega arith in
     elim (eq-or-lt_of_le le) [
-      | inl same ↦ subst (λ x. All (λ b. b < limit) (get_or pairs x d).0) (sym same) (subst (λ x. All (λ b. b < limit) x.0) (sym (got pairs i d a p)) here)
+      | inl same ↦ subst (λ x. P (get_or pairs x d).0) (sym same) (subst (λ x. P x.0) (sym (got pairs i d a p)) here)
       | inr less ↦ before k d less
     ]
+
+pub keys_on : (limit : ℕ) (pairs : Pairs) (i : ℕ) (a : List ℕ × ℕ) → slice_get pairs i ≡ Some a → ((k : ℕ) (d : List ℕ × ℕ) → k < i → All (λ b. b < limit) (get_or pairs k d).0)
+    → All (λ b. b < limit) a.0 → (k : ℕ) (d : List ℕ × ℕ) → k < i + 1 → All (λ b. b < limit) (get_or pairs k d).0
+keys_on limit = each_on (All (λ b. b < limit))
 
 pub values_on : (pairs : Pairs) (i : ℕ) (a : List ℕ × ℕ) → slice_get pairs i ≡ Some a → ((k : ℕ) (d : List ℕ × ℕ) → k < i → (get_or pairs k d).1 < 2 ^ 64)
     → a.1 < 2 ^ 64 → (k : ℕ) (d : List ℕ × ℕ) → k < i + 1 → (get_or pairs k d).1 < 2 ^ 64

@@ -60,6 +60,14 @@ RepeatsNext (e ∷ pairs) = IsFirst e.0 pairs ⊎ RepeatsNext pairs
 abbrev pub AreKeys : Kind → Pairs → Type 0
 AreKeys kind pairs = All (λ e. All (λ b. b < edge_limit kind) e.0) pairs
 
+-- the byte is below 128 and stands for itself to the kind
+abbrev pub IsFolded : Kind → ℕ → Type 0
+IsFolded kind b = (b < 128) × (fold_byte kind b ≡ b)
+
+-- so do all bytes of the keys
+abbrev pub AreFolded : Kind → Pairs → Type 0
+AreFolded kind pairs = All (λ e. All (IsFolded kind) e.0) pairs
+
 -- all values are numbers of 64 bits
 abbrev pub AreValues : Pairs → Type 0
 AreValues pairs = All (λ e. e.1 < 2 ^ 64) pairs

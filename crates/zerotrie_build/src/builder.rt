@@ -11,7 +11,7 @@ ghost use Rattle.zerotrie_build.specs.Items.{pairs};
 ghost use Rattle.zerotrie_build.specs.Order.{Ordered, AreKeys, AreValues};
 
 use crate::measuring::measure_all;
-use crate::order::{are_keys, is_ordered, repeats_next, sorted_by_fold};
+use crate::order::{are_in_order, are_keys, is_ordered, repeats_next, sorted_by_fold};
 use crate::slice_indices::ByteSliceWithIndices;
 use crate::store::TrieBuilderStore;
 use crate::writing::write;
@@ -87,10 +87,7 @@ fn grow_ascending<K: ZeroTrieWithOptions, S: TrieBuilderStore + Drop, A: Allocat
     requires { Ascends (pairs items) }
     ensures { IsBuild any_order K.kind S.list (pairs items.entry) result }
 {
-    if !are_keys::<K>(items) {
-        return Err(ZeroTrieBuildError::NonAsciiError);
-    }
-    if !K::IGNORE_CASE || is_ordered::<K>(items) {
+    if are_in_order::<K>(items)? {
         return grow_ordered::<K, S, A>(alloc, spare, items);
     }
     match items {
@@ -176,10 +173,7 @@ fn len_ascending<K: ZeroTrieWithOptions, A: Allocator + Copy>(
     requires { Ascends (pairs items) }
     ensures { IsLength any_order K.kind (pairs items.entry) result }
 {
-    if !are_keys::<K>(items) {
-        return Err(ZeroTrieBuildError::NonAsciiError);
-    }
-    if !K::IGNORE_CASE || is_ordered::<K>(items) {
+    if are_in_order::<K>(items)? {
         return len_ordered::<K, A>(alloc, items);
     }
     match items {
