@@ -13,7 +13,7 @@ ghost use Rattle.zerotrie_build.specs.passes.Writing.{edge_no, place_in, placed_
 
 use crate::measuring::is_hashed;
 use crate::slice_indices::ByteSliceWithIndices;
-use crate::steps::{Window, edge_at, group_end};
+use crate::steps::{Window, edge_at, group_end_near};
 use std::alloc::{AllocError, Allocator, Global};
 use zerotrie_core::{PerfectByteHashMapCacheOwned, ZeroTrieBuildError, ZeroTrieWithOptions};
 
@@ -68,11 +68,13 @@ impl<A: Allocator + Copy> Layout<A> {
         self.numbers.clear();
     }
 
-    /// Lays the targets of the branch that stands first in the window out in the order of their edges.
+    /// Lays the targets of the branch that stands first in the window out in the order of their edges. The counts
+    /// of their items are guesses.
     fn set_sorted<K: ZeroTrieWithOptions>(
         &mut self,
         items: ByteSliceWithIndices<'_>,
         window: Window,
+        counts: &[u8],
     ) -> Result<(), AllocError>
         requires order { window.from ≤ window.to }
         requires items { window.to ≤ length (pairs items) }
@@ -86,9 +88,10 @@ impl<A: Allocator + Copy> Layout<A> {
         self.clear();
         let mut rest = window;
         while rest.from < rest.to {
+            let count = counts.get(self.windows.len()).copied().unwrap_or(0);
             let target = Window {
                 from: rest.from,
-                to: group_end::<K>(items, rest),
+                to: group_end_near::<K>(items, rest, count),
                 depth: rest.depth + 1,
             };
             let edge = edge_at(items, target);
@@ -116,13 +119,15 @@ impl<A: Allocator + Copy> Layout<A> {
         Ok(())
     }
 
-    /// Lays the targets of the branch out that stands first in the window, whose slots begin at `slot`.
+    /// Lays the targets of the branch out that stands first in the window, whose slots begin at `slot`. The counts
+    /// beside these are guesses.
     pub(crate) fn set<K: ZeroTrieWithOptions>(
         &mut self,
         items: ByteSliceWithIndices<'_>,
         window: Window,
         slots: &[usize],
         slot: usize,
+        counts: &[u8],
     ) -> Result<(), ZeroTrieBuildError>
         requires order { window.from ≤ window.to }
         requires items { window.to ≤ length (pairs items) }
@@ -141,7 +146,7 @@ impl<A: Allocator + Copy> Layout<A> {
     {
         // That a length is below 2^64 tells the proof that so are the places of the slots.
         let _len = slots.len();
-        self.set_sorted::<K>(items, window)?;
+        self.set_sorted::<K>(items, window, counts.get(slot..).unwrap_or(&[]))?;
         let edges = self.windows.len();
         if is_hashed::<K>(edges) {
             self.set_hashed()?;

@@ -1,6 +1,6 @@
 //! The first pass: the lengths of the text and of the targets of its branches.
 
-ghost use Rattle.std.specs.Prelude.{◌≡◌, ◌≢◌, ◌↔◌, ℕ, List, [], ◌∷◌, ◌+◌, ◌-◌, ◌*◌, ◌%◌, ◌^◌, ◌<◌, ◌≤◌, ◌⊎◌, ◌++◌, length, replicate, reverse, slice_index, IfOk, OnOk, IfErr, IsTrue};
+ghost use Rattle.std.specs.Prelude.{◌≡◌, ◌≢◌, ◌↔◌, ℕ, List, [], ◌∷◌, ◌+◌, ◌-◌, ◌*◌, ◌%◌, ◌^◌, ◌<◌, ◌≤◌, ◌⊎◌, ◌++◌, length, take, replicate, reverse, slice_index, IfOk, OnOk, IfErr, IsTrue};
 ghost use Rattle.zerotrie_core.specs.Kind.{is_hashed, greatest_width};
 ghost use Rattle.zerotrie_core.specs.Numbers.{Form, value_form, span_form, spelled_as};
 ghost use Rattle.zerotrie_core.specs.Maps.{map_of};
@@ -24,6 +24,9 @@ use zerotrie_core::{ZeroTrieBuildError, ZeroTrieWithOptions};
 #[derive(Drop)]
 pub(crate) struct Measured<A: Allocator> {
     pub(crate) slots: Vec<usize, A>,
+    /// Beside the slot of each target, how many items it has, where they are few. The second pass asks these
+    /// counts first where a target ends, and believes the keys alone.
+    pub(crate) counts: Vec<u8, A>,
     /// How long the text is.
     pub(crate) len: usize,
 }
@@ -58,6 +61,7 @@ enum Turn {
 struct Measuring<'a, A: Allocator> {
     items: ByteSliceWithIndices<'a>,
     slots: Vec<usize, A>,
+    counts: Vec<u8, A>,
     branches: Vec<Open, A>,
 }
 
@@ -229,9 +233,11 @@ impl<'a, A: Allocator + Copy> Measuring<'a, A> {
         ensures branches { IfOk result (λ m. m.branches.items ≡ []) }
     {
         let count = items.len();
+        let room = count.saturating_add(count / 2);
         Ok(Measuring {
             items,
-            slots: Vec::with_capacity(alloc, count.saturating_add(count / 2))?,
+            slots: Vec::with_capacity(alloc, room)?,
+            counts: Vec::with_capacity(alloc, room)?,
             branches: Vec::new(alloc),
         })
     }
@@ -251,9 +257,21 @@ impl<'a, A: Allocator + Copy> Measuring<'a, A> {
         while rest.from < rest.to {
             let end = group_end::<K>(self.items, rest);
             self.slots.push(end)?;
+            self.counts.push((end - rest.from).min(255) as u8)?;
             rest.from = end;
         }
         Ok(())
+    }
+
+    /// Makes so many slots of those that there are.
+    fn widen(&mut self, len: usize) -> Result<(), AllocError>
+        ensures slots { OnOk result (self.new.slots.items
+            ≡ take len self.old.slots.items ++ replicate (len - length self.old.slots.items) 0) }
+        ensures items { self.new.items ≡ self.old.items }
+        ensures branches { self.new.branches.items ≡ self.old.branches.items }
+    {
+        self.counts.resize(len, 0)?;
+        self.slots.resize(len, 0)
     }
 
     /// The window of the target of the branch that is measured next.
@@ -292,7 +310,7 @@ impl<'a, A: Allocator + Copy> Measuring<'a, A> {
         self.push_ends::<K>(window)?;
         let end = self.slots.len();
         if is_hashed::<K>(end - first) {
-            self.slots.resize(end + (end - first), 0)?;
+            self.widen(end + (end - first))?;
         }
         let branch = Open {
             from: window.from,
@@ -331,10 +349,12 @@ impl<'a, A: Allocator + Copy> Measuring<'a, A> {
         let Measuring {
             items: _,
             mut slots,
+            mut counts,
             branches: _,
         } = self;
         slots.shrink_to_fit();
-        Measured { slots, len }
+        counts.shrink_to_fit();
+        Measured { slots, counts, len }
     }
 
     /// Takes in how long the window is that was measured, and the branches whose last target it ends.

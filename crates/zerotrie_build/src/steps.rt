@@ -246,6 +246,30 @@ pub(crate) fn group_end<K: ZeroTrieWithOptions>(
     low
 }
 
+/// The same. It asks first whether there are so many.
+pub(crate) fn group_end_near<K: ZeroTrieWithOptions>(
+    items: ByteSliceWithIndices<'_>,
+    window: Window,
+    count: u8,
+) -> usize
+    requires within { window.from < window.to }
+    requires items { window.to ≤ length (pairs items) }
+    requires ordered { Ordered K.kind (window_of (pairs items) window) }
+    ensures { IsGroup (pairs items.entry) window result }
+{
+    let end = window.from.saturating_add(count as usize);
+    if count == 0 || end > window.to {
+        return group_end::<K>(items, window);
+    }
+    let byte = byte_at(items, window.from, window.depth);
+    let is_last = end == window.to || byte_at(items, end, window.depth) != byte;
+    if is_last && byte_at(items, end - 1, window.depth) == byte {
+        end
+    } else {
+        group_end::<K>(items, window)
+    }
+}
+
 /// The byte in front of the window.
 pub(crate) fn edge_at(items: ByteSliceWithIndices<'_>, window: Window) -> u8
     requires { window.from < length (pairs items) }

@@ -229,6 +229,7 @@ impl<S: TrieBuilderStore + Drop> Writing<S> {
         window: Window,
         slots: &[usize],
         slot: usize,
+        counts: &[u8],
         layout: &mut Layout<A>,
     ) -> Result<(), ZeroTrieBuildError>
         requires keys { AreKeys K.kind (pairs items) }
@@ -266,7 +267,7 @@ impl<S: TrieBuilderStore + Drop> Writing<S> {
                     rest.depth += count;
                 }
                 Step::Branch => {
-                    layout.set::<K>(items, rest, slots, slot)?;
+                    layout.set::<K>(items, rest, slots, slot, counts)?;
                     let numbers = layout.numbers.as_slice();
                     let lens = &slots[slot..slot + numbers.len()];
                     self.put_branch(layout.table.as_slice(), lens, numbers);
@@ -325,7 +326,8 @@ pub(crate) fn write<K: ZeroTrieWithOptions, S: TrieBuilderStore + Drop, A: Alloc
             Next::Slot(number) => slot = number,
             Next::Text(window) => {
                 let slots = measured.slots.as_slice();
-                writing.put_front::<K, A>(items, window, slots, slot, &mut layout)?;
+                let counts = measured.counts.as_slice();
+                writing.put_front::<K, A>(items, window, slots, slot, counts, &mut layout)?;
             }
         }
     }
