@@ -11,7 +11,7 @@ ghost use Rattle.zerotrie_build.specs.Items.{pairs};
 ghost use Rattle.zerotrie_build.specs.Order.{Ordered, AreKeys, AreValues};
 
 use crate::measuring::measure_all;
-use crate::order::{are_in_order, are_keys, is_ordered, repeats_next, sorted_by_fold};
+use crate::order::{are_ascii, are_in_order, are_keys, is_ordered, repeats_next, sorted_by_fold};
 use crate::slice_indices::ByteSliceWithIndices;
 use crate::store::TrieBuilderStore;
 use crate::writing::write;
@@ -59,8 +59,9 @@ fn grow_ordered<K: ZeroTrieWithOptions, S: TrieBuilderStore + Drop, A: Allocator
 {
     laws::canonical_exactly();
     laws::meant_fits();
-    let measured = measure_all::<K, A>(spare, items)?;
-    write::<K, S, A>(alloc, spare, items, &measured)
+    let ascii = are_ascii::<K>(items);
+    let measured = measure_all::<K, A>(spare, items, ascii)?;
+    write::<K, S, A>(alloc, spare, items, &measured, ascii)
 }
 
 /// The bytes of the trie of items in any order, which are put in the order of the kind.
@@ -147,7 +148,7 @@ fn len_ordered<K: ZeroTrieWithOptions, A: Allocator + Copy>(
     requires values { AreValues (pairs items) }
     ensures { IsLength any_order K.kind (pairs items.entry) result }
 {
-    let measured = measure_all::<K, A>(alloc, items)?;
+    let measured = measure_all::<K, A>(alloc, items, are_ascii::<K>(items))?;
     Ok(measured.len)
 }
 

@@ -8,7 +8,7 @@ ghost use Rattle.zerotrie_core.specs.Branches.{IsWidth, total as sum};
 ghost use Rattle.zerotrie_core.specs.Canonical.{size_of, branch_size};
 ghost use Rattle.zerotrie_core.specs.Fits.{ExceedsCapacity};
 ghost use Rattle.zerotrie_build.specs.Items.{pairs};
-ghost use Rattle.zerotrie_build.specs.Order.{Ordered, AreKeys};
+ghost use Rattle.zerotrie_build.specs.Order.{Ordered, AreKeys, AreLow};
 ghost use Rattle.zerotrie_build.specs.passes.Windows.{window as window_of, step_of};
 ghost use Rattle.zerotrie_build.specs.passes.Measured.{Run, Stops, Parts, IsMeasured};
 ghost use Rattle.zerotrie_build.specs.passes.Walking.{tos, spare_len, with_len, left_open, IsOpened, Closing, IsTurn, IsNext};
@@ -102,12 +102,15 @@ fn count_len(count: usize) -> usize
     number_len(16, count)
 }
 
-/// The window behind the values, literals and spans that stand first, and how many bytes these have.
+/// The window behind the values, literals and spans that stand first, and how many bytes these have. Where `ascii`
+/// is true, all keys are ASCII.
 fn behind_run<K: ZeroTrieWithOptions>(
     items: ByteSliceWithIndices<'_>,
     start: Window,
+    ascii: bool,
 ) -> Result<(Window, usize), ZeroTrieBuildError>
     requires keys { AreKeys K.kind (pairs items) }
+    requires ascii { IsTrue ascii → AreLow (pairs items) }
     requires within { start.to ≤ length (pairs items) }
     requires ordered { Ordered K.kind (window_of (pairs items) start) }
     ensures run { IfOk result (λ r. Run K.kind (pairs items.entry) start r.0 r.1) }
@@ -120,7 +123,7 @@ fn behind_run<K: ZeroTrieWithOptions>(
     let mut rest = start;
     let mut len = 0;
     loop {
-        if let Some((literals, value)) = lone_item::<K>(items, rest) {
+        if let Some((literals, value)) = lone_item(items, rest, ascii) {
             let lead = plus(len, literals.len())?;
             let behind = Window {
                 from: rest.to,
@@ -391,13 +394,15 @@ impl<'a, A: Allocator + Copy> Measuring<'a, A> {
     }
 }
 
-/// The lengths of the text of the items and of all targets.
+/// The lengths of the text of the items and of all targets. Where `ascii` is true, all keys are ASCII.
 pub(crate) fn measure_all<K: ZeroTrieWithOptions, A: Allocator + Copy>(
     alloc: A,
     items: ByteSliceWithIndices<'_>,
+    ascii: bool,
 ) -> Result<Measured<A>, ZeroTrieBuildError>
     requires ordered { Ordered K.kind (pairs items) }
     requires keys { AreKeys K.kind (pairs items) }
+    requires ascii { IsTrue ascii → AreLow (pairs items) }
     ensures measured { IfOk result (λ m. IsMeasured K.kind (pairs items.entry) m.slots.items m.len) }
     ensures refused { IfErr result (λ e. e ≢ ZeroTrieBuildError.OutOfMemory
         → (e ≡ ZeroTrieBuildError.CapacityExceeded) × ExceedsCapacity K.kind (map_of (pairs items.entry))) }
@@ -409,7 +414,7 @@ pub(crate) fn measure_all<K: ZeroTrieWithOptions, A: Allocator + Copy>(
         depth: 0,
     };
     loop {
-        let (rest, len) = behind_run::<K>(items, window)?;
+        let (rest, len) = behind_run::<K>(items, window, ascii)?;
         if rest.from < rest.to {
             window = measuring.push_branch::<K>(rest, len)?;
         } else {

@@ -2,8 +2,7 @@
 
 ghost use Rattle.std.specs.Prelude.{◌≡◌, ℕ, ◌+◌, ◌-◌, ◌^◌, ◌<◌, ◌≤◌, IfSome, Some, All, IsTrue, slice_index, length};
 ghost use Rattle.zerotrie_build.specs.Items.{pairs};
-ghost use Rattle.zerotrie_core.specs.Kind.{edge_limit};
-ghost use Rattle.zerotrie_build.specs.Order.{Ordered, AreKeys};
+ghost use Rattle.zerotrie_build.specs.Order.{Ordered, AreLow};
 ghost use Rattle.zerotrie_build.specs.passes.Windows.{window as window_of, step_of, item_of, byte_of, edge_of, high_front, IsLow, IsLone, IsGroup};
 
 use crate::slice_indices::ByteSliceWithIndices;
@@ -44,15 +43,11 @@ pub(crate) fn byte_at(items: ByteSliceWithIndices<'_>, index: usize, depth: usiz
     key.get(depth).copied()
 }
 
-/// Whether all bytes are below 128, as those of a key always are where the kind has no spans.
+/// Whether all bytes are below 128.
 #[inline(always)]
-fn are_literals<K: ZeroTrieWithOptions>(bytes: &[u8]) -> bool
-    requires { All (λ b. b < edge_limit K.kind) bytes.now }
+fn are_literals(bytes: &[u8]) -> bool
     ensures { IsTrue result → All (λ b. b < 128) bytes.now }
 {
-    if !K::SPANS {
-        return true;
-    }
     for byte in bytes {
         if *byte >= 128 {
             return false;
@@ -62,14 +57,16 @@ fn are_literals<K: ZeroTrieWithOptions>(bytes: &[u8]) -> bool
 }
 
 /// The rest of the key and the value of the one item of a window, if there is but one and the rest is ASCII: they
-/// are all of the window's text, as literals and a value.
+/// are all of the window's text, as literals and a value. Where all keys are known to be ASCII, the rest is not
+/// looked at.
 #[inline(always)]
-pub(crate) fn lone_item<'a, K: ZeroTrieWithOptions>(
-    items: ByteSliceWithIndices<'a>,
+pub(crate) fn lone_item(
+    items: ByteSliceWithIndices<'_>,
     window: Window,
-) -> Option<(&'a [u8], usize)>
+    ascii: bool,
+) -> Option<(&[u8], usize)>
     requires items { window.to ≤ length (pairs items) }
-    requires keys { AreKeys K.kind (pairs items) }
+    requires ascii { IsTrue ascii → AreLow (pairs items) }
     ensures is { IfSome result (λ r. IsLone (pairs items.entry) window r.0.now r.1) }
     ensures room { IfSome result (λ r. window.depth + length r.0.now < 2 ^ 64) }
 {
@@ -80,7 +77,7 @@ pub(crate) fn lone_item<'a, K: ZeroTrieWithOptions>(
     // That a length is below 2^64 tells the proof that so is a place in it.
     let _len = key.len();
     let rest = key.get(window.depth..)?;
-    if !are_literals::<K>(rest) {
+    if !ascii && !are_literals(rest) {
         return None;
     }
     Some((rest, value))

@@ -1,6 +1,6 @@
 //! The second pass: the bytes of the text, from the first to the last.
 
-ghost use Rattle.std.specs.Prelude.{◌≡◌, ◌≢◌, ℕ, List, [], ◌∷◌, ◌+◌, ◌-◌, ◌*◌, ◌/◌, ◌%◌, ◌^◌, ◌<◌, ◌≤◌, ◌++◌, length, map, slice_index, slice_index_or, take, drop, reverse, All, IfOk, OnOk, IfErr, IfSome, IfNone};
+ghost use Rattle.std.specs.Prelude.{◌≡◌, ◌≢◌, ℕ, List, [], ◌∷◌, ◌+◌, ◌-◌, ◌*◌, ◌/◌, ◌%◌, ◌^◌, ◌<◌, ◌≤◌, ◌++◌, length, map, slice_index, slice_index_or, take, drop, reverse, All, IfOk, OnOk, IfErr, IfSome, IfNone, IsTrue};
 ghost use Rattle.zerotrie_core.specs.Maps.{map_of};
 ghost use Rattle.zerotrie_core.specs.Numbers.{value_form, span_form, SpellsAs, spelled_as};
 ghost use Rattle.zerotrie_core.specs.Branches.{total as total_of, ends, blocks, branch_front};
@@ -8,7 +8,7 @@ ghost use Rattle.zerotrie_core.specs.Canonical.{size_of};
 ghost use Rattle.zerotrie_core.specs.Texts.{Means};
 ghost use Rattle.zerotrie_core.specs.Causes.{Cause};
 ghost use Rattle.zerotrie_build.specs.Items.{pairs};
-ghost use Rattle.zerotrie_build.specs.Order.{Ordered, AreKeys};
+ghost use Rattle.zerotrie_build.specs.Order.{Ordered, AreKeys, AreLow};
 ghost use Rattle.zerotrie_build.specs.passes.Windows.{window as window_of, item_of};
 ghost use Rattle.zerotrie_build.specs.passes.Measured.{IsMeasured};
 ghost use Rattle.zerotrie_build.specs.passes.Puts.{Puts};
@@ -230,9 +230,11 @@ impl<S: TrieBuilderStore + Drop> Writing<S> {
         slots: &[usize],
         slot: usize,
         counts: &[u8],
+        ascii: bool,
         layout: &mut Layout<A>,
     ) -> Result<(), ZeroTrieBuildError>
         requires keys { AreKeys K.kind (pairs items) }
+        requires ascii { IsTrue ascii → AreLow (pairs items) }
         requires ordered { Ordered K.kind (pairs items) }
         requires kept { (end : ℕ) × KeptTo K.kind (pairs items) slots.now slot end window }
         requires room { self.old.at + size_of K.kind (window_of (pairs items) window) ≤ length (S.list self.old.data) }
@@ -247,7 +249,7 @@ impl<S: TrieBuilderStore + Drop> Writing<S> {
         layout.clear();
         let mut rest = window;
         loop {
-            if let Some((literals, value)) = lone_item::<K>(items, rest) {
+            if let Some((literals, value)) = lone_item(items, rest, ascii) {
                 self.put_lone(literals, value);
                 return Ok(());
             }
@@ -305,8 +307,10 @@ pub(crate) fn write<K: ZeroTrieWithOptions, S: TrieBuilderStore + Drop, A: Alloc
     spare: A,
     items: ByteSliceWithIndices<'_>,
     measured: &Measured<A>,
+    ascii: bool,
 ) -> Result<S, ZeroTrieBuildError>
-    requires { IsMeasured K.kind (pairs items) measured.now.slots.items measured.now.len }
+    requires measured { IsMeasured K.kind (pairs items) measured.now.slots.items measured.now.len }
+    requires ascii { IsTrue ascii → AreLow (pairs items) }
     ensures means { IfOk result (λ store. Means K.kind (S.list store) (map_of (pairs items.entry))) }
     ensures refused { IfErr result (λ e. e ≢ ZeroTrieBuildError.OutOfMemory
         → (e ≡ ZeroTrieBuildError.CouldNotSolvePerfectHash) × Cause K.kind (pairs items.entry) e) }
@@ -327,7 +331,7 @@ pub(crate) fn write<K: ZeroTrieWithOptions, S: TrieBuilderStore + Drop, A: Alloc
             Next::Text(window) => {
                 let slots = measured.slots.as_slice();
                 let counts = measured.counts.as_slice();
-                writing.put_front::<K, A>(items, window, slots, slot, counts, &mut layout)?;
+                writing.put_front::<K, A>(items, window, slots, slot, counts, ascii, &mut layout)?;
             }
         }
     }

@@ -4,13 +4,13 @@ use Rattle.zerotrie_build.proofs.Items.{get_or-any}
 use Rattle.zerotrie_build.proofs.steps.are_literals.Goals as goal
 
 pub loop-byte-init : goal.loop-byte-init
-loop-byte-init g c = λ k below. absurd (omega arith)
+loop-byte-init c = λ k below. absurd (omega arith)
 
 pub loop-byte-preserved : goal.loop-byte-preserved
-loop-byte-preserved g c = λ k below. let le : k ≤ c.loop-byte.byte-index = omega arith in elim (eq-or-lt_of_le le) [
+loop-byte-preserved c = λ k below. let le : k ≤ c.loop-byte.byte-index = omega arith in elim (eq-or-lt_of_le le) [
   | inl same ↦ rw same c.if-byte-ge128.false
   | inr less ↦ c.loop-byte.invariant k less
 ]
 
 pub returns : goal.returns
-returns g c = λ yes k d below. let past = c.loop-byte-test.false in rw (get_or-any c.args.bytes.now k d 0 below) (c.loop-byte.invariant k (omega arith))
+returns c = λ yes k d below. let past = c.loop-byte-test.false in rw (get_or-any c.args.bytes.now k d 0 below) (c.loop-byte.invariant k (omega arith))

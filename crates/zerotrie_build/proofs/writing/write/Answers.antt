@@ -15,8 +15,8 @@ loop-next-init g c =
     let zeros = c.atbs_prepend_n_zeros.new.self in
     let one = first_pushed all c.new-layout.result.pending.items c.push.new.self.items c.len.result c.new-layout.ensures c.in_ok-push.ensures.items c.len.ensures in (
       whole all ∷ [],
-      left_start (list zeros) c.requires (only_zeros (list none) (list zeros) c.args.measured.now.len c.atbs_new_empty-data.ensures c.in_ok-atbs_prepend_n_zeros.ensures.ok),
-      subst (λ x. Leads kind all slots 0 x (whole all ∷ [])) one (leads_start c.requires),
+      left_start (list zeros) c.requires.measured (only_zeros (list none) (list zeros) c.args.measured.now.len c.atbs_new_empty-data.ensures c.in_ok-atbs_prepend_n_zeros.ensures.ok),
+      subst (λ x. Leads kind all slots 0 x (whole all ∷ [])) one (leads_start c.requires.measured),
     )
 
 pub loop-next-preserved-in-Slot : goal.loop-next-preserved-in-Slot
@@ -26,7 +26,7 @@ loop-next-preserved-in-Slot g c =
     (v.0, v.1, leads_slot c.in-Slot.number rest v.2 (c.in-Some.ensures.some ∙ ap (λ x. x ∷ rest) c.in-Slot.is))
 
 pub put_front-requires-clause-ordered : goal.put_front-requires-clause-ordered
-put_front-requires-clause-ordered g c = measured_ordered c.requires
+put_front-requires-clause-ordered g c = measured_ordered c.requires.measured
 
 pub put_front-requires-clause-kept : goal.put_front-requires-clause-kept
 put_front-requires-clause-kept g c =
