@@ -1,6 +1,6 @@
 //! The first pass: the lengths of the text and of the targets of its branches.
 
-ghost use Rattle.std.specs.Prelude.{◌≡◌, ◌≢◌, ◌↔◌, ℕ, List, [], ◌∷◌, ◌+◌, ◌-◌, ◌*◌, ◌%◌, ◌^◌, ◌<◌, ◌≤◌, ◌⊎◌, ◌++◌, length, take, replicate, reverse, slice_index, IfOk, OnOk, IfErr, IsTrue};
+ghost use Rattle.std.specs.Prelude.{◌≡◌, ◌≢◌, ◌↔◌, ℕ, List, [], ◌∷◌, ◌+◌, ◌-◌, ◌*◌, ◌%◌, ◌^◌, ◌<◌, ◌≤◌, ◌⊎◌, ◌++◌, length, replicate, reverse, slice_index, IfOk, OnOk, IfErr, IsTrue};
 ghost use Rattle.zerotrie_core.specs.Kind.{is_hashed, greatest_width};
 ghost use Rattle.zerotrie_core.specs.Numbers.{Form, value_form, span_form, spelled_as};
 ghost use Rattle.zerotrie_core.specs.Maps.{map_of};
@@ -24,8 +24,8 @@ use zerotrie_core::{ZeroTrieBuildError, ZeroTrieWithOptions};
 #[derive(Drop)]
 pub(crate) struct Measured<A: Allocator> {
     pub(crate) slots: Vec<usize, A>,
-    /// Beside the slot of each target, how many items it has, where they are few. The second pass asks these
-    /// counts first where a target ends, and believes the keys alone.
+    /// In the kinds without hashed tables, for each slot how many items its target has, where they are few. The
+    /// second pass asks first whether there are so many. In the other kinds there are none, to save memory.
     pub(crate) counts: Vec<u8, A>,
     /// How long the text is.
     pub(crate) len: usize,
@@ -236,13 +236,29 @@ impl<'a, A: Allocator + Copy> Measuring<'a, A> {
         ensures branches { IfOk result (λ m. m.branches.items ≡ []) }
     {
         let count = items.len();
-        let room = count.saturating_add(count / 2);
         Ok(Measuring {
             items,
-            slots: Vec::with_capacity(alloc, room)?,
-            counts: Vec::with_capacity(alloc, room)?,
+            slots: Vec::with_capacity(alloc, count.saturating_add(count / 2))?,
+            counts: Vec::new(alloc),
             branches: Vec::new(alloc),
         })
+    }
+
+    /// Adds a slot for a target, whose items end there and are so many.
+    fn push_end<K: ZeroTrieWithOptions>(
+        &mut self,
+        end: usize,
+        count: usize,
+    ) -> Result<(), AllocError>
+        ensures slots { OnOk result (self.new.slots.items ≡ self.old.slots.items ++ end ∷ []) }
+        ensures items { self.new.items ≡ self.old.items }
+        ensures branches { self.new.branches.items ≡ self.old.branches.items }
+    {
+        if !K::USE_PHF {
+            self.counts.push(count.min(255) as u8)?;
+        }
+        self.slots.push(end)?;
+        Ok(())
     }
 
     /// Adds a slot for each target of the branch that stands first in the window. Until the target is measured,
@@ -259,22 +275,10 @@ impl<'a, A: Allocator + Copy> Measuring<'a, A> {
         let mut rest = window;
         while rest.from < rest.to {
             let end = group_end::<K>(self.items, rest);
-            self.slots.push(end)?;
-            self.counts.push((end - rest.from).min(255) as u8)?;
+            self.push_end::<K>(end, end - rest.from)?;
             rest.from = end;
         }
         Ok(())
-    }
-
-    /// Makes so many slots of those that there are.
-    fn widen(&mut self, len: usize) -> Result<(), AllocError>
-        ensures slots { OnOk result (self.new.slots.items
-            ≡ take len self.old.slots.items ++ replicate (len - length self.old.slots.items) 0) }
-        ensures items { self.new.items ≡ self.old.items }
-        ensures branches { self.new.branches.items ≡ self.old.branches.items }
-    {
-        self.counts.resize(len, 0)?;
-        self.slots.resize(len, 0)
     }
 
     /// The window of the target of the branch that is measured next.
@@ -313,7 +317,7 @@ impl<'a, A: Allocator + Copy> Measuring<'a, A> {
         self.push_ends::<K>(window)?;
         let end = self.slots.len();
         if is_hashed::<K>(end - first) {
-            self.widen(end + (end - first))?;
+            self.slots.resize(end + (end - first), 0)?;
         }
         let branch = Open {
             from: window.from,

@@ -4,7 +4,7 @@ use Rattle.zerotrie_build.specs.declared.steps.Window.{Window}
 use Rattle.zerotrie_build.specs.passes.Walking.{tos, spare_len}
 use Rattle.zerotrie_build.proofs.MeasureLemmas.{wide_slots, plain_slots, first_to}
 use Rattle.zerotrie_build.proofs.measuring.Measuring.push_branch.Goals as goal
-use Rattle.zerotrie_build.proofs.measuring.Measuring.push_branch.Goals.{then-is_hashed+in_ok-widen, else-is_hashed}
+use Rattle.zerotrie_build.proofs.measuring.Measuring.push_branch.Goals.{then-is_hashed+in_ok-resize, else-is_hashed}
 
 pub returns-clause-opened : goal.returns-clause-opened
 returns-clause-opened g c =
@@ -14,11 +14,11 @@ returns-clause-opened g c =
     let first : c.len-first.result ≡ length slots = search rules in
     let end : c.len-end.result ≡ length c.push_ends.new.self.slots.items = search rules in
     let slots_are : c.if-is_hashed.self.slots.items ≡ slots ++ (tos p.0 ++ replicate (spare_len kind (length p.0)) 0) = elim c.if-is_hashed.branch [
-      | then-is_hashed+in_ok-widen w ↦ ap (λ s. s.slots.items) w.self-is ∙ wide_slots kind slots c.push_ends.new.self.slots.items w.widen.new.self.slots.items p.0 c.len-first.result c.len-end.result p.2 first end (sym c.is_hashed.ensures ∙ w.if-is_hashed.true) (search rules)
+      | then-is_hashed+in_ok-resize w ↦ ap (λ s. s.slots.items) w.self-is ∙ wide_slots kind slots c.push_ends.new.self.slots.items w.resize.new.self.items p.0 c.len-first.result c.len-end.result p.2 first end (sym c.is_hashed.ensures ∙ w.if-is_hashed.true) (search rules)
       | else-is_hashed w ↦ ap (λ s. s.slots.items) w.self-is ∙ plain_slots kind slots c.push_ends.new.self.slots.items p.0 c.len-first.result c.len-end.result p.2 first end (sym c.is_hashed.ensures ∙ w.if-is_hashed.false)
     ] in
     let branches : c.if-is_hashed.self.branches.items ≡ c.args.self.now.branches.items = elim c.if-is_hashed.branch [
-      | then-is_hashed+in_ok-widen w ↦ ap (λ s. s.branches.items) w.self-is ∙ w.widen.ensures.branches ∙ c.in_ok-push_ends.ensures.branches
+      | then-is_hashed+in_ok-resize w ↦ ap (λ s. s.branches.items) w.self-is ∙ c.in_ok-push_ends.ensures.branches
       | else-is_hashed w ↦ ap (λ s. s.branches.items) w.self-is ∙ c.in_ok-push_ends.ensures.branches
     ] in
     let n = ap length p.2 ∙ length-append slots (tos p.0) in
