@@ -1,6 +1,6 @@
 //! The search tables of branches, and the order that they give the targets.
 
-ghost use Rattle.std.specs.Prelude.{◌≡◌, ◌≢◌, ℕ, List, [], ◌∷◌, ◌+◌, ◌-◌, ◌^◌, ◌<◌, ◌≤◌, ◌++◌, length, map, reverse, slice_index_or, All, IfOk, OnOk, IfErr};
+ghost use Rattle.std.specs.Prelude.{◌≡◌, ◌≢◌, ℕ, List, [], ◌∷◌, ◌+◌, ◌-◌, ◌^◌, ◌<◌, ◌≤◌, ◌++◌, length, map, reverse, slice_index_or, All, OnOk, IfErr};
 ghost use Rattle.std.specs.List.{range_with_len};
 ghost use Rattle.std.specs.List.Sorted.{IsPermutation, IsStrictlyIncreasing};
 ghost use Rattle.zerotrie_base.specs.Refusals.{IsTableRefusal};
@@ -17,8 +17,8 @@ use crate::steps::{Window, edge_at, group_end_near};
 use std::alloc::{AllocError, Allocator, Global};
 use zerotrie_core::{PerfectByteHashMapCacheOwned, ZeroTrieBuildError, ZeroTrieWithOptions};
 
-/// How much may be still to be written before the list of it grows.
-const PENDING: usize = 64;
+/// For how much more there is room in the list of what is to be written, once a hashed table was found.
+const ROOM: usize = 64;
 
 /// What is written next.
 #[derive(Clone, Copy, Debug)]
@@ -46,17 +46,17 @@ pub(crate) struct Layout<A: Allocator> {
 
 impl<A: Allocator + Copy> Layout<A> {
     /// No branch.
-    pub(crate) fn new(alloc: Global, spare: A) -> Result<Self, AllocError>
-        ensures { IfOk result (λ l. l.pending.items ≡ []) }
+    pub(crate) fn new(alloc: Global, spare: A) -> Self
+        ensures { result.pending.items ≡ [] }
     {
-        Ok(Layout {
+        Layout {
             alloc,
             cache: PerfectByteHashMapCacheOwned::new_empty(alloc),
             windows: Vec::new(spare),
             table: Vec::new(spare),
             numbers: Vec::new(spare),
-            pending: Vec::with_capacity(spare, PENDING)?,
-        })
+            pending: Vec::new(spare),
+        }
     }
 
     /// No branch, as at first.
@@ -221,6 +221,7 @@ fn push_hashed<A: Allocator>(
     ensures { OnOk result (reverse pending.new.items ≡ (placed_next ends.now slot windows.now numbers.now
         ++ Next.Slot (slot + slice_index_or ends.now (length ends.now - 1) 0) ∷ []) ++ reverse pending.old.items) }
 {
+    pending.reserve(ROOM)?;
     pending.push(Next::Slot(slot + ends[ends.len() - 1]))?;
     for index in (0..numbers.len()).rev() {
         let number = numbers[index];

@@ -318,7 +318,7 @@ pub(crate) fn write<K: ZeroTrieWithOptions, S: TrieBuilderStore + Drop, A: Alloc
     let mut data = S::atbs_new_empty(alloc);
     data.atbs_prepend_n_zeros(measured.len)?;
     let mut writing = Writing { data, at: 0 };
-    let mut layout = Layout::new(alloc, spare)?;
+    let mut layout = Layout::new(alloc, spare);
     layout.pending.push(Next::Text(Window {
         from: 0,
         to: items.len(),

@@ -13,7 +13,7 @@ loop-next-init g c =
     let list = g.S.TrieBuilderStore.list in
     let none = c.atbs_new_empty-data.result in
     let zeros = c.atbs_prepend_n_zeros.new.self in
-    let one = first_pushed all c.in_ok-layout.layout.pending.items c.push.new.self.items c.len.result c.in_ok-layout.ensures c.in_ok-push.ensures.items c.len.ensures in (
+    let one = first_pushed all c.new-layout.result.pending.items c.push.new.self.items c.len.result c.new-layout.ensures c.in_ok-push.ensures.items c.len.ensures in (
       whole all ∷ [],
       left_start (list zeros) c.requires.measured (only_zeros (list none) (list zeros) c.args.measured.now.len c.atbs_new_empty-data.ensures c.in_ok-atbs_prepend_n_zeros.ensures.ok),
       subst (λ x. Leads kind all slots 0 x (whole all ∷ [])) one (leads_start c.requires.measured),
