@@ -230,16 +230,19 @@ fn branch_len<K: ZeroTrieWithOptions>(edges: usize, total: usize) -> usize
 
 impl<'a, A: Allocator + Copy> Measuring<'a, A> {
     /// No branch. Most sets of keys have fewer targets than there is room for.
-    fn new(alloc: A, items: ByteSliceWithIndices<'a>) -> Result<Self, AllocError>
+    fn new<K: ZeroTrieWithOptions>(
+        alloc: A,
+        items: ByteSliceWithIndices<'a>,
+    ) -> Result<Self, AllocError>
         ensures items { IfOk result (λ m. m.items ≡ items.entry) }
         ensures slots { IfOk result (λ m. m.slots.items ≡ []) }
         ensures branches { IfOk result (λ m. m.branches.items ≡ []) }
     {
-        let count = items.len();
+        let room = items.len().saturating_add(items.len() / 2);
         Ok(Measuring {
             items,
-            slots: Vec::with_capacity(alloc, count.saturating_add(count / 2))?,
-            counts: Vec::new(alloc),
+            slots: Vec::with_capacity(alloc, room)?,
+            counts: Vec::with_capacity(alloc, if K::USE_PHF { 0 } else { room })?,
             branches: Vec::new(alloc),
         })
     }
@@ -411,7 +414,7 @@ pub(crate) fn measure_all<K: ZeroTrieWithOptions, A: Allocator + Copy>(
     ensures refused { IfErr result (λ e. e ≢ ZeroTrieBuildError.OutOfMemory
         → (e ≡ ZeroTrieBuildError.CapacityExceeded) × ExceedsCapacity K.kind (map_of (pairs items.entry))) }
 {
-    let mut measuring = Measuring::new(alloc, items)?;
+    let mut measuring = Measuring::new::<K>(alloc, items)?;
     let mut window = Window {
         from: 0,
         to: items.len(),

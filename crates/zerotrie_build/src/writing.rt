@@ -222,7 +222,8 @@ impl<S: TrieBuilderStore + Drop> Writing<S> {
         self.put_offsets(lens, numbers, width + 1);
     }
 
-    /// Writes a window, whose slots begin at `slot`, up to the targets of its first branch, and lays these out.
+    /// Writes a window, whose slots begin at `slot`, up to the targets of its first branch, and lays these out. The
+    /// counts beside the slots are guesses, and where `ascii` is true, all keys are ASCII.
     fn put_front<K: ZeroTrieWithOptions, A: Allocator + Copy>(
         &mut self,
         items: ByteSliceWithIndices<'_>,
