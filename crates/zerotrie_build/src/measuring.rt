@@ -360,8 +360,9 @@ impl<'a, A: Allocator + Copy> Measuring<'a, A> {
             items: _,
             mut slots,
             mut counts,
-            branches: _,
+            branches,
         } = self;
+        drop(branches);
         slots.shrink_to_fit();
         counts.shrink_to_fit();
         Measured { slots, counts, len }

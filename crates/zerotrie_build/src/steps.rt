@@ -1,6 +1,6 @@
 //! What stands first in the text of a window of the items.
 
-ghost use Rattle.std.specs.Prelude.{◌≡◌, ℕ, ◌+◌, ◌-◌, ◌^◌, ◌<◌, ◌≤◌, IfSome, Some, All, IsTrue, slice_index, length};
+ghost use Rattle.std.specs.Prelude.{◌≡◌, ℕ, ◌+◌, ◌-◌, ◌^◌, ◌<◌, ◌≤◌, IfSome, Some, All, IsTrue, drop, slice_index, length};
 ghost use Rattle.zerotrie_build.specs.Items.{pairs};
 ghost use Rattle.zerotrie_build.specs.Order.{Ordered, AreLow};
 ghost use Rattle.zerotrie_build.specs.passes.Windows.{window as window_of, step_of, item_of, byte_of, edge_of, high_front, IsLow, IsLone, IsGroup};
@@ -84,6 +84,7 @@ pub(crate) fn lone_item(
 }
 
 /// How many bytes from 128 on two keys have in common in front.
+#[inline(always)]
 fn high_front_len(key: &[u8], other: &[u8]) -> usize
     ensures { result ≡ high_front key.now other.now }
 {
@@ -166,6 +167,56 @@ pub(crate) fn literals_end(items: ByteSliceWithIndices<'_>, window: Window) -> u
     }
 }
 
+/// How many bytes from 128 on all keys of the window have in common in front, which has one item.
+#[inline(always)]
+fn span_of_one(items: ByteSliceWithIndices<'_>, window: Window, byte: u8) -> usize
+    requires one { window.to ≡ window.from + 1 }
+    requires items { window.to ≤ length (pairs items) }
+    requires first { byte_of (pairs items) window.from window.depth ≡ Some byte }
+    ensures is { result ≡ high_front (drop window.depth (item_of (pairs items.entry) window.from).0)
+        (drop window.depth (item_of (pairs items.entry) (window.to - 1)).0) }
+    ensures room { window.depth + result < 2 ^ 64 }
+{
+    let (key, _) = items.get(window.from);
+    let _len = key.len();
+    let rest = &key[window.depth..];
+    high_front_len(rest, rest)
+}
+
+/// The same, by the first and the last item.
+#[inline(always)]
+fn span_of_many(items: ByteSliceWithIndices<'_>, window: Window, byte: u8) -> usize
+    requires some { window.from < window.to }
+    requires items { window.to ≤ length (pairs items) }
+    requires first { byte_of (pairs items) window.from window.depth ≡ Some byte }
+    requires last { byte_of (pairs items) (window.to - 1) window.depth ≡ Some byte }
+    ensures is { result ≡ high_front (drop window.depth (item_of (pairs items.entry) window.from).0)
+        (drop window.depth (item_of (pairs items.entry) (window.to - 1)).0) }
+    ensures room { window.depth + result < 2 ^ 64 }
+{
+    let (first, _) = items.get(window.from);
+    let (last, _) = items.get(window.to - 1);
+    let _len = first.len();
+    high_front_len(&first[window.depth..], &last[window.depth..])
+}
+
+/// How many bytes from 128 on all keys of the window have in common in front, where they go on with this byte.
+fn span_len(items: ByteSliceWithIndices<'_>, window: Window, byte: u8) -> usize
+    requires some { window.from < window.to }
+    requires items { window.to ≤ length (pairs items) }
+    requires first { byte_of (pairs items) window.from window.depth ≡ Some byte }
+    requires last { byte_of (pairs items) (window.to - 1) window.depth ≡ Some byte }
+    ensures is { result ≡ high_front (drop window.depth (item_of (pairs items.entry) window.from).0)
+        (drop window.depth (item_of (pairs items.entry) (window.to - 1)).0) }
+    ensures room { window.depth + result < 2 ^ 64 }
+{
+    if window.to - window.from == 1 {
+        span_of_one(items, window, byte)
+    } else {
+        span_of_many(items, window, byte)
+    }
+}
+
 /// What stands first in the text of the window, where its first and its last key both go on with this byte.
 fn common_step<K: ZeroTrieWithOptions>(
     items: ByteSliceWithIndices<'_>,
@@ -182,10 +233,7 @@ fn common_step<K: ZeroTrieWithOptions>(
     if !K::SPANS || byte < 128 {
         return Step::Literal(byte);
     }
-    let (first, _) = items.get(window.from);
-    let (last, _) = items.get(window.to - 1);
-    let _len = first.len();
-    Step::Span(high_front_len(&first[window.depth..], &last[window.depth..]))
+    Step::Span(span_len(items, window, byte))
 }
 
 /// What stands first in the text of the window.

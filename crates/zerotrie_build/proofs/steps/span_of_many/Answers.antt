@@ -1,15 +1,14 @@
-use Rattle.std.proofs.Common.{◌≡◌, ◌-◌, ◌<◌, ◌^◌, length, take, drop, length-drop, ap, arith, rules}
+use Rattle.std.proofs.Common.{◌-◌, ◌<◌, ◌^◌, length, take, drop, length-drop, ap, arith, rules}
 use Rattle.std.proofs.lemmas.List.{take_all}
 use Rattle.zerotrie_build.specs.Items.{pairs}
 use Rattle.zerotrie_build.proofs.StepLemmas.{high_most, key_within}
-use Rattle.zerotrie_build.proofs.steps.common_step.Goals as goal
+use Rattle.zerotrie_build.proofs.steps.span_of_many.Goals as goal
 
-pub returns-clause-span : goal.returns-clause-span
-returns-clause-span g c = λ n is.
+pub returns-clause-room : goal.returns-clause-room
+returns-clause-room c =
     let key = c.get.result.0.now in
     let last = c.get-2.result.0.now in
     let d = c.args.window.depth in
-    let same : c.high_front_len.result ≡ n = cc in
     let most = high_most (take (length key - d) (drop d key)) (take (length last - d) (drop d last)) in
     let long = length-drop d key in
     let all = ap length (take_all (length key - d) (drop d key) (omega arith)) in
