@@ -17,9 +17,8 @@ use crate::steps::{Window, edge_at, group_end_near};
 use std::alloc::{AllocError, Allocator, Global};
 use zerotrie_core::{PerfectByteHashMapCacheOwned, ZeroTrieBuildError, ZeroTrieWithOptions};
 
-/// For how many targets below the first of a hashed table there is room in the list of what is to be written before
-/// it grows.
-const BELOW: usize = 14;
+/// The most edges that a sorted table has in the kinds with hashed ones.
+const SORTED: usize = 15;
 
 /// What is written next.
 #[derive(Clone, Copy, Debug)]
@@ -222,7 +221,8 @@ fn push_hashed<A: Allocator>(
     ensures { OnOk result (reverse pending.new.items ≡ (placed_next ends.now slot windows.now numbers.now
         ++ Next.Slot (slot + slice_index_or ends.now (length ends.now - 1) 0) ∷ []) ++ reverse pending.old.items) }
 {
-    pending.reserve(numbers.len().saturating_mul(2).saturating_add(BELOW))?;
+    // So there is room too for the targets of a sorted table below the first of them.
+    pending.reserve(numbers.len().saturating_mul(2).saturating_add(SORTED))?;
     pending.push(Next::Slot(slot + ends[ends.len() - 1]))?;
     for index in (0..numbers.len()).rev() {
         let number = numbers[index];
