@@ -52,6 +52,11 @@ impl Flat {
     pub fn bytes(&self) -> usize {
         self.keys.len() + self.ends.len()
     }
+
+    pub fn slices(&self) -> Vec<&[u8]> {
+        let starts = std::iter::once(0).chain(self.ends.iter().copied());
+        starts.zip(&self.ends).map(|(start, end)| &self.keys[start..*end]).collect()
+    }
 }
 
 type Get = unsafe extern "C" fn(*const u8, usize, *const u8, usize) -> usize;
@@ -70,6 +75,11 @@ unsafe extern "C" {
     fn list_into(kind: u8, bytes: *const u8, len: usize, out: *mut u8, out_len: usize) -> usize;
     fn walk_into(
         kind: u8, bytes: *const u8, len: usize, calls: *const u8, calls_len: usize, out: *mut u8, out_len: usize,
+    ) -> usize;
+    #[link_name = "ask_many"]
+    fn ask_many_(
+        kind: u8, bytes: *const u8, len: usize, keys: *const u8, keys_len: usize, ends: *const usize, ends_len: usize,
+        times: usize,
     ) -> usize;
     #[link_name = "list_many"]
     fn list_many_(kind: u8, bytes: *const u8, len: usize, times: usize) -> usize;
@@ -124,13 +134,17 @@ pub fn asked_by(keys: &[&[u8]], get: impl Fn(&[u8]) -> Option<usize>) -> usize {
     keys.iter().map(|key| get(key).unwrap_or(1)).fold(0, usize::wrapping_add)
 }
 
-/// The same, by a look-up of the library.
-pub fn asked(kind: Kind, bytes: &[u8], keys: &[&[u8]]) -> usize {
-    let call = getter(kind);
-    asked_by(keys, |key| found_by(call, bytes, key))
+/// The same so many times, by a look-up of the library.
+pub fn ask_many(kind: Kind, bytes: &[u8], flat: &Flat, times: usize) -> usize {
+    // SAFETY: the function reads the three slices.
+    unsafe {
+        ask_many_(
+            kind as u8, bytes.as_ptr(), bytes.len(), flat.keys.as_ptr(), flat.keys.len(), flat.ends.as_ptr(), flat.ends.len(), times,
+        )
+    }
 }
 
-/// The same, by a cursor's steps.
+/// The same once, by a cursor's steps.
 pub fn stepped(kind: Kind, bytes: &[u8], keys: &[&[u8]]) -> usize {
     let call = stepper(kind);
     asked_by(keys, |key| found_by(call, bytes, key))

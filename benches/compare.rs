@@ -42,22 +42,21 @@ fn run_line(name: &str, rounds: usize, items: usize, mut contestants: Vec<(&str,
     print_line(name, &names, &times);
 }
 
+/// The maps own their keys, as those of a program do. The keys that are asked for lie elsewhere, one behind another.
 fn look_ups(set: &Set, kind: Kind, rounds: usize) {
     let bytes = calls::built(kind, 0, &set.keys);
-    let ordered: BTreeMap<&[u8], usize> = pairs(set).collect();
-    let hashed: HashMap<&[u8], usize> = pairs(set).collect();
-    let missing = sets::misses(set);
-    let mut orders: Vec<(&str, Vec<&[u8]>)> = vec![
-        ("hits, in order", set.keys.iter().map(Vec::as_slice).collect()),
-        ("hits, shuffled", set.keys.iter().map(Vec::as_slice).collect()),
-        ("misses", missing.iter().map(Vec::as_slice).collect()),
-    ];
-    Random::new(43).shuffle(&mut orders[1].1);
-    for (what, keys) in &orders {
+    let ordered: BTreeMap<Vec<u8>, usize> = pairs(set).map(|(key, value)| (key.to_vec(), value)).collect();
+    let hashed: HashMap<Vec<u8>, usize> = pairs(set).map(|(key, value)| (key.to_vec(), value)).collect();
+    let mut shuffled = set.keys.clone();
+    Random::new(43).shuffle(&mut shuffled);
+    for (what, keys) in [("hits, in order", &set.keys), ("hits, shuffled", &shuffled), ("misses", &sets::misses(set))] {
+        let flat = Flat::of(keys);
+        let keys = &flat.slices();
         let turns = (20_000 / keys.len()).max(1);
         let mut contestants: Vec<(&str, Box<dyn FnMut() -> usize + '_>)> = Vec::new();
         let bytes = bytes.as_slice();
-        contestants.push(("ours", Box::new(move || (0..turns).map(|_| calls::asked(kind, bytes, keys)).sum())));
+        let flat = &flat;
+        contestants.push(("ours", Box::new(move || calls::ask_many(kind, bytes, flat, turns))));
         let ordered = &ordered;
         contestants.push(("BTreeMap", Box::new(move || (0..turns).map(|_| asked_by(keys, |key| ordered.get(key).copied())).sum())));
         let hashed = &hashed;

@@ -1,11 +1,11 @@
 -- The offset table and the targets of a branch.
 use Rattle.std.proofs.Common.{◌≡◌, ℕ, zero, suc, ◌+◌, ◌-◌, ◌*◌, ◌/◌, ◌%◌, ◌^◌, ◌<◌, ◌≤◌, List, [], ◌∷◌, ◌++◌, length, refl, sym, ◌∙◌, ap, subst, arith, map, get_or, take, drop, length-append, lit<, add-one, Option, Some, None, inl, inr}
 use Rattle.std.specs.List.{concat}
-use Rattle.std.proofs.lemmas.List.{take_at, drop_at, take_all, get_or_append_left, get_or-map}
+use Rattle.std.proofs.lemmas.List.{take_at, drop_at, take_all, get_or_append_left, get_or-map, get_or-drop, get_or-take}
 use Rattle.std.proofs.lemmas.List.FromFn.{length-map-range_with_len, get_or-map-range_with_len}
 use Rattle.std.proofs.Math.Arith.{mod-mul}
 use Rattle.std.proofs.Math.Seq.{drop-append-add}
-use Rattle.std.proofs.Math.Nat.{pow-suc, mul_comm, one-le-pow, pow-le-pow_right, mod-eq_of_lt}
+use Rattle.std.proofs.Math.Nat.{pow-suc, mul_comm, one-le-pow, pow-le-pow_right, mod-eq_of_lt, mul-le-mul_right}
 use Rattle.std.proofs.lemmas.Bool.{cases_lt, ne_eqb, eq-eqb}
 use Rattle.std.specs.Slice.{IsGetRangeResult}
 use Rattle.std.specs.Option.{IsSomeAnd}
@@ -96,6 +96,39 @@ pub number_more : (value w b count place n : ℕ) (rest : List ℕ) → b < w �
 number_more value w b count place n rest h is =
     let e : number_from value (suc (w - (b + 1))) count place rest ≡ n = rw one_less at is in
     rw (mul_comm value 256) e
+
+-- numbers whose bytes are the same
+number_same : (w a count i j : ℕ) (xs ys : List ℕ) → ((k : ℕ) → k < w → get_or xs (i + k * count) 0 ≡ get_or ys (j + k * count) 0) → number_from a w count i xs ≡ number_from a w count j ys
+number_same zero a count i j xs ys same = refl
+number_same (suc w) a count i j xs ys same =
+    let at : i + 0 * count ≡ i = omega arith in
+    let at' : j + 0 * count ≡ j = omega arith in
+    let first : get_or xs i 0 ≡ get_or ys j 0 = ap (λ n. get_or xs n 0) (sym at) ∙ same 0 (omega arith) ∙ ap (λ n. get_or ys n 0) at' in
+    let below : (k : ℕ) → k < w → get_or (drop count xs) (i + k * count) 0 ≡ get_or (drop count ys) (j + k * count) 0 = λ k h. (
+    let there : count + (i + k * count) ≡ i + suc k * count = omega arith in
+    let there' : count + (j + k * count) ≡ j + suc k * count = omega arith in
+    get_or-drop count xs (i + k * count) 0 ∙ ap (λ n. get_or xs n 0) there ∙ same (suc k) (omega arith) ∙ sym (get_or-drop count ys (j + k * count) 0 ∙ ap (λ n. get_or ys n 0) there')
+    ) in
+    ap (λ x. number_from (256 * a + x) w count i (drop count xs)) first ∙ number_same w (256 * a + get_or ys j 0) count i j (drop count xs) (drop count ys) below
+
+-- the offset in front of a target, read from the last edge on
+pub offset_before : (edges width i : ℕ) (behind : List ℕ) → 0 < i → i < edges → number_from 0 width (edges - 1) i (drop (edges - 1) behind) ≡ offset_in edges width behind (i - 1)
+offset_before edges width i behind some within = number_same width 0 (edges - 1) i (i - 1) (drop (edges - 1) behind) (take (width * (edges - 1)) (drop edges behind)) (λ k h. (
+    let blocks : (k + 1) * (edges - 1) ≤ width * (edges - 1) = mul-le-mul_right (edges - 1) (omega arith) in
+    let inside : i - 1 + k * (edges - 1) < width * (edges - 1) = omega arith in
+    let same : edges - 1 + (i + k * (edges - 1)) ≡ edges + (i - 1 + k * (edges - 1)) = omega arith in
+    get_or-drop (edges - 1) behind (i + k * (edges - 1)) 0
+    ∙ ap (λ n. get_or behind n 0) same
+    ∙ sym (get_or-take (width * (edges - 1)) (drop edges behind) (i - 1 + k * (edges - 1)) 0 inside ∙ get_or-drop edges behind (i - 1 + k * (edges - 1)) 0)
+    ))
+
+-- and one behind it, with what stands behind the offsets
+pub offset_next : (edges width i : ℕ) (behind : List ℕ) → i < edges - 1 → number_from 0 width (edges - 1) i (drop edges behind) ≡ offset_in edges width behind i
+offset_next edges width i behind within = number_same width 0 (edges - 1) i i (drop edges behind) (take (width * (edges - 1)) (drop edges behind)) (λ k h. (
+    let blocks : (k + 1) * (edges - 1) ≤ width * (edges - 1) = mul-le-mul_right (edges - 1) (omega arith) in
+    let inside : i + k * (edges - 1) < width * (edges - 1) = omega arith in
+    sym (get_or-take (width * (edges - 1)) (drop edges behind) (i + k * (edges - 1)) 0 inside)
+    ))
 
 pub all_left : (w : ℕ) → w - 0 ≡ w
 all_left w = omega arith

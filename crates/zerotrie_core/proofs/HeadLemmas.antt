@@ -1,5 +1,5 @@
 -- Heads of one byte and of two, and longer ones.
-use Rattle.std.proofs.Common.{◌≡◌, ℕ, zero, suc, ◌+◌, ◌*◌, ◌%◌, ◌<◌, ◌≤◌, List, [], ◌∷◌, ◌++◌, length, refl, sym, ◌∙◌, ap, subst, arith}
+use Rattle.std.proofs.Common.{◌≡◌, ℕ, zero, suc, ◌+◌, ◌-◌, ◌*◌, ◌/◌, ◌%◌, ◌<◌, ◌≤◌, List, [], ◌∷◌, ◌++◌, length, refl, sym, ◌∙◌, ap, subst, arith}
 use Rattle.zerotrie_core.specs.Numbers.{BeginsWith, extender, latent, base_128, IsTrail}
 use Rattle.zerotrie_core.proofs.NumberLemmas.{cons_parts}
 
@@ -58,3 +58,15 @@ head_long lead next v rest all after high large e b = long b.spells.trail refl
         let small : t < 128 = subst IsTrail f b.spells.is_trail in
         absurd (omega arith)
     long (t ∷ u ∷ ts) f = long_trail b.spells.digit v b.spells.trail b.spells.value (omega (arith, ap length f))
+
+-- and those that tell the edges in their last byte
+pub plain_of_one : (lead : ℕ) (rest : List ℕ) → 194 ≤ lead → lead < 224 → BeginsWith 32 3 ((lead - 192) % 256) (lead ∷ rest) rest
+plain_of_one lead rest high low =
+    let same : lead % 32 ≡ (lead - 192) % 256 = omega arith in
+    subst (λ v. BeginsWith 32 3 v (lead ∷ rest) rest) same (head_of_one lead rest (omega arith) low)
+
+pub plain_of_two : (lead next : ℕ) (rest : List ℕ) → 224 ≤ lead → lead < 256 → lead % 2 ≡ 1 → 98 ≤ next → next < 128
+    → BeginsWith 32 3 (256 * (lead / 2 - 110 - 1) + (next - 96) % 256) (lead ∷ next ∷ rest) rest
+plain_of_two lead next rest high low odd many small =
+    let same : lead % 32 * 128 + next + 32 ≡ 256 * (lead / 2 - 110 - 1) + (next - 96) % 256 = omega arith in
+    subst (λ v. BeginsWith 32 3 v (lead ∷ next ∷ rest) rest) same (head_of_two lead next rest high low small)

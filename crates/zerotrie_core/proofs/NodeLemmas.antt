@@ -1,5 +1,5 @@
 -- Which node bytes begin with.
-use Rattle.std.proofs.Common.{◌≡◌, ℕ, zero, suc, ◌+◌, ◌-◌, ◌*◌, ◌/◌, ◌%◌, ◌<◌, ◌≤◌, List, [], ◌∷◌, ◌++◌, length, sym, ◌∙◌, ap, subst, arith, drop, length-append}
+use Rattle.std.proofs.Common.{◌≡◌, ℕ, zero, suc, ◌+◌, ◌-◌, ◌*◌, ◌/◌, ◌%◌, ◌<◌, ◌≤◌, List, [], ◌∷◌, ◌++◌, length, sym, ◌∙◌, ap, subst, arith, drop, IfNone, Option, Some, None, length-append}
 use Rattle.zerotrie_core.specs.Kind.{Kind}
 use Rattle.zerotrie_core.specs.Branches.{before_edges}
 use Rattle.zerotrie_core.specs.Numbers.{BeginsWith, extender}
@@ -58,14 +58,14 @@ only_branch kind lead rest bytes e high none (span run after) b = let is = span_
 only_branch kind lead rest bytes e high none (branch edges width table behind) b = none edges width table behind (subst (λ x. BeginsBranch kind x edges width table behind) e b)
 
 -- what the number of a head says
-head_parts : (head w e : ℕ) → 1 ≤ w → 2 ≤ e → e ≤ 256 → head ≡ 256 * (w - 1) + e % 256 → (head / 256 + 1 ≡ w) × (head % 256 ≡ e % 256)
-head_parts head w e some two most is = (omega arith, omega arith)
+head_parts : (width edges w e : ℕ) → 1 ≤ width → 1 ≤ edges → edges ≤ 256 → 1 ≤ w → 2 ≤ e → e ≤ 256 → 256 * (width - 1) + edges % 256 ≡ 256 * (w - 1) + e % 256 → (width ≡ w) × (edges ≡ e)
+head_parts width edges w e wide some most one two at_most is = (omega arith, omega arith)
 
-pub head_read : {kind : Kind} (lead m head edges width : ℕ) (rest body table behind : List ℕ) → BeginsWith 32 m head (lead ∷ rest) body → (b : BeginsBranch kind (lead ∷ rest) edges width table behind)
-    → (head / 256 + 1 ≡ width) × (head % 256 ≡ edges % 256) × (body ≡ b.body)
-head_read lead m head edges width rest body table behind r b =
-    let one = one_reading 32 m 3 head _ (lead ∷ rest) body b.body r b.begins in
-    let parts = head_parts head width edges b.some b.two b.at_most one.0 in
+pub head_read : {kind : Kind} {bytes body table behind : List ℕ} (edges width e w : ℕ) → 1 ≤ width → (1 ≤ edges) × (edges ≤ 256)
+    → BeginsWith 32 3 (256 * (width - 1) + edges % 256) bytes body → (b : BeginsBranch kind bytes e w table behind) → (width ≡ w) × (edges ≡ e) × (body ≡ b.body)
+head_read {bytes = bytes} {body = body} edges width e w wide few r b =
+    let one = one_reading 32 3 3 _ _ bytes body b.body r b.begins in
+    let parts = head_parts width edges w e wide few.0 few.1 b.some b.two b.at_most one.0 in
     (parts.0, parts.1, one.1)
 
 -- a head has at most two bytes
@@ -76,6 +76,11 @@ pub dropped : (n : ℕ) (xs : List ℕ) → length (drop n xs) ≤ length xs
 dropped zero xs = omega arith
 dropped (suc n) [] = omega arith
 dropped (suc n) (x ∷ xs) = let h = dropped n xs in omega arith
+
+-- what holds where there is no value, by what does
+pub none_by : {T P Q : Type 0} (o : Option T) → (P → Q) → IfNone o P → IfNone o Q
+none_by None f p = f p
+none_by (Some x) f p = p
 
 -- what lies behind a node is shorter than the bytes
 pub literal_shorter : (kind : Kind) (c : ℕ) (rest bytes : List ℕ) → Begins kind bytes (literal c rest) → length rest < length bytes

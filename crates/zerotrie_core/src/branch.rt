@@ -9,7 +9,7 @@ ghost use Rattle.std.specs.Prelude.{◌≡◌, ◌↔◌, ℕ, ◌+◌, ◌-◌,
 ghost use Rattle.std.specs.Char.{to_ascii_lowercase};
 ghost use Rattle.zerotrie_core.specs.Kind.{fold_byte};
 ghost use Rattle.zerotrie_core.specs.Branches.{IsTable};
-ghost use Rattle.zerotrie_core.specs.Nodes.{number_from, IsTargetResult};
+ghost use Rattle.zerotrie_core.specs.Nodes.{number_from, offset_in, IsTargetResult};
 ghost use Rattle.zerotrie_core.specs.reader.Reading.{AlwaysRises, IsPlace, HasNoPlace};
 ghost use Rattle.zerotrie_core.specs.reader.Going.{AlwaysGoes, AlwaysStops};
 
@@ -118,23 +118,34 @@ fn before_end(place: usize, end: usize) -> Option<usize>
     if place < end { Some(place) } else { None }
 }
 
+/// The number whose bytes stand at one place of each of up to three blocks, the highest first.
+#[inline(always)]
+fn short_offset_at(table: &[u8], place: usize, count: usize, width: usize) -> usize
+    requires place { place + (width - 1) * count < length table.now }
+    requires width { (1 ≤ width) × (width ≤ 3) }
+    ensures { result ≡ number_from 0 width count place table.now }
+{
+    let high = table[place] as usize;
+    if width == 1 {
+        return high;
+    }
+    let middle = high * 256 + table[count + place] as usize;
+    if width == 2 {
+        return middle;
+    }
+    middle * 256 + table[2 * count + place] as usize
+}
+
 /// The number whose bytes stand at one place of each block, the highest first.
 #[inline(always)]
 fn offset_at(table: &[u8], place: usize, count: usize, width: usize) -> usize
     requires place { place < count }
-    requires width { width ≤ 8 }
+    requires width { (1 ≤ width) × (width ≤ 8) }
     requires len { length table.now ≡ width * count }
     ensures { result ≡ number_from 0 width count place table.now }
 {
-    if width == 1 {
-        return table[place] as usize;
-    }
-    if width == 2 {
-        return table[place] as usize * 256 + table[count + place] as usize;
-    }
-    if width == 3 {
-        let high = table[place] as usize * 256 + table[count + place] as usize;
-        return high * 256 + table[2 * count + place] as usize;
+    if width <= 3 {
+        return short_offset_at(table, place, count, width);
     }
     let mut value = 0;
     let mut rest = table;
@@ -238,6 +249,50 @@ impl<'a> Branch<'a> {
         targets.get(begin..end)
     }
 
+    /// The offsets in front of an edge and of the next one, of up to three bytes each. In front of the first edge there
+    /// is none, nor behind the last one, and any number is answered there.
+    ///
+    /// The byte in front of the offsets is read as if it were one, so that no place waits for a test of the edge.
+    #[inline(always)]
+    fn short_offsets(&self, index: usize, width: usize) -> (usize, usize)
+        requires index { index < self.now.edges }
+        requires width { (width ≡ self.now.width) × (width ≤ 3) }
+        ensures before { 0 < index
+            → result.0 ≡ offset_in self.now.edges self.now.width self.now.behind.now (index - 1) }
+        ensures next { index < self.now.edges - 1
+            → result.1 ≡ offset_in self.now.edges self.now.width self.now.behind.now index }
+    {
+        let count = self.edges - 1;
+        let (_, last_edge_on) = self.behind.split_at(count);
+        let (_, table) = self.behind.split_at(self.edges);
+        let before = short_offset_at(last_edge_on, index, count, width);
+        let next = short_offset_at(table, index.min(count - 1), count, width);
+        (before, next)
+    }
+
+    /// The same, where they have any number of bytes.
+    #[inline(always)]
+    fn offsets_at(&self, index: usize) -> (usize, usize)
+        requires index { index < self.now.edges }
+        ensures before { 0 < index
+            → result.0 ≡ offset_in self.now.edges self.now.width self.now.behind.now (index - 1) }
+        ensures next { index < self.now.edges - 1
+            → result.1 ≡ offset_in self.now.edges self.now.width self.now.behind.now index }
+    {
+        match self.width {
+            1 => return self.short_offsets(index, 1),
+            2 => return self.short_offsets(index, 2),
+            3 => return self.short_offsets(index, 3),
+            _ => {}
+        }
+        let count = self.edges - 1;
+        let (_, body) = self.behind.split_at(self.edges);
+        let (table, _) = body.split_at(self.width * count);
+        let before = offset_at(table, index.saturating_sub(1), count, self.width);
+        let next = offset_at(table, index.min(count - 1), count, self.width);
+        (before, next)
+    }
+
     /// The target of an edge, which lies between two offsets, if it does.
     ///
     /// Where there are more than two edges, two offsets are read whichever edge it is, so that nothing waits for a
@@ -252,9 +307,8 @@ impl<'a> Branch<'a> {
         }
         let count = self.edges - 1;
         let (_, body) = self.behind.split_at(self.edges);
-        let (table, targets) = body.split_at(self.width * count);
-        let before = offset_at(table, index.saturating_sub(1), count, self.width);
-        let next = offset_at(table, index.min(count - 1), count, self.width);
+        let (_, targets) = body.split_at(self.width * count);
+        let (before, next) = self.offsets_at(index);
         let from = if index == 0 { 0 } else { before };
         let to = if index == count { targets.len() } else { next };
         targets.get(from..to)

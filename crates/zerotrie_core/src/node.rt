@@ -88,6 +88,53 @@ fn table_in<K: ZeroTrieWithOptions>(
     }
 }
 
+/// How many edges a branch has, how many bytes an offset has, and what stands behind its head, where this has one
+/// byte, or two of which the second alone tells the edges, as most have.
+#[inline(always)]
+fn read_plain_head(lead: u8, rest: &[u8]) -> Option<(usize, usize, &[u8])>
+    requires { 192 ≤ lead }
+    ensures begins { IfSome result (λ r. BeginsWith 32 3 (256 * (r.1 - 1) + r.0 % 256) (lead ∷ rest.now) r.2.now) }
+    ensures edges { IfSome result (λ r. (2 ≤ r.0) × (r.0 ≤ 256)) }
+    ensures width { IfSome result (λ r. 1 ≤ r.1) }
+{
+    if lead < 194 {
+        return None;
+    }
+    if lead < 224 {
+        return Some((lead as usize - 192, 1, rest));
+    }
+    let (next, behind) = rest.split_first()?;
+    if lead % 2 == 1 && 98 <= *next && *next < 128 {
+        Some((*next as usize - 96, lead as usize / 2 - 110, behind))
+    } else {
+        None
+    }
+}
+
+/// The branch of so many edges, whose offsets have so many bytes, where what stands behind its head has all its table
+/// and offsets.
+#[inline(always)]
+fn branch_in<K: ZeroTrieWithOptions>(edges: usize, width: usize, body: &[u8]) -> Option<Branch<'_>>
+    requires edges { (1 ≤ edges) × (edges ≤ 256) }
+    requires width { 1 ≤ width }
+    ensures some { IfSome result (λ b. (bytes : List ℕ)
+        → BeginsWith 32 3 (256 * (width - 1) + edges % 256) bytes body.now → Begins K.kind bytes (branch_shape b)) }
+    ensures none { IfNone result ((bytes table behind : List ℕ) (e w : ℕ)
+        → BeginsWith 32 3 (256 * (width - 1) + edges % 256) bytes body.now
+        → BeginsBranch K.kind bytes e w table behind → ⊥) }
+{
+    if width > greatest_width::<K>() + 1 || edges < 2 {
+        return None;
+    }
+    let (table, behind) = table_in::<K>(edges, width * (edges - 1), body)?;
+    Some(Branch {
+        edges,
+        width,
+        table,
+        behind,
+    })
+}
+
 /// The branch that begins with a lead, where the bytes behind it have all its table and offsets.
 #[inline(always)]
 fn branch_at<K: ZeroTrieWithOptions>(lead: u8, rest: &[u8]) -> Option<Branch<'_>>
@@ -96,19 +143,12 @@ fn branch_at<K: ZeroTrieWithOptions>(lead: u8, rest: &[u8]) -> Option<Branch<'_>
     ensures none { IfNone result ((edges width : ℕ) (table behind : List ℕ)
         → BeginsBranch K.kind (lead ∷ rest.now) edges width table behind → ⊥) }
 {
-    let (head, body) = read_head(lead, rest)?;
-    let width = head / 256;
-    let edges = if head % 256 == 0 { 256 } else { head % 256 };
-    if width > greatest_width::<K>() || edges < 2 {
-        return None;
+    if let Some((edges, width, body)) = read_plain_head(lead, rest) {
+        return branch_in::<K>(edges, width, body);
     }
-    let (table, behind) = table_in::<K>(edges, (width + 1) * (edges - 1), body)?;
-    Some(Branch {
-        edges,
-        width: width + 1,
-        table,
-        behind,
-    })
+    let (head, body) = read_head(lead, rest)?;
+    let edges = if head % 256 == 0 { 256 } else { head % 256 };
+    branch_in::<K>(edges, head / 256 + 1, body)
 }
 
 /// The run of the span that begins with a lead, and what follows it, where the bytes have all of the run.
