@@ -174,18 +174,18 @@ pub fn first_node<K: ZeroTrieWithOptions>(bytes: &[u8]) -> Option<Node<'_>>
 {
     let (lead, rest) = bytes.split_first()?;
     let lead = *lead;
-    if lead < 128 {
+    if lead >= 192 {
+        Some(Node::Branch(branch_at::<K>(lead, rest)?))
+    } else if lead < 128 {
         Some(Node::Literal(lead, rest))
     } else if lead < 160 {
         let (value, after) = read_varint_meta3(lead, rest)?;
         Some(Node::Value(value, after))
-    } else if lead < 192 {
+    } else {
         if !K::SPANS {
             return None;
         }
         let (run, after) = span_at(lead, rest)?;
         Some(Node::Span(run, after))
-    } else {
-        Some(Node::Branch(branch_at::<K>(lead, rest)?))
     }
 }

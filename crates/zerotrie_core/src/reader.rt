@@ -25,7 +25,7 @@ enum Descent<'a> {
     Down(&'a [u8], &'a [u8], usize),
 }
 
-/// How many literals it takes until a run of them is compared 16 at a time.
+/// How many literals it takes until a run of them is compared 16 at a time, where case is ignored.
 const FEW: usize = 1;
 
 /// How many bytes the longest value has.
@@ -130,19 +130,23 @@ fn common_in_long<K: ZeroTrieWithOptions>(bytes: &[u8], key: &[u8]) -> usize
 
 /// How many literals the bytes begin with that the key goes on with: not always all of them.
 ///
-/// The first ones are compared one by one. Where these agree, the run is as a rule a long one.
+/// Where both are long, so is as a rule the run. Lanes hold no byte against one of another case, so where case is
+/// ignored the first ones are compared by themselves.
 #[inline(always)]
 fn common_literals<K: ZeroTrieWithOptions>(bytes: &[u8], key: &[u8]) -> usize
     ensures { AreCommon K.kind bytes.now key.now result }
 {
     let most = bytes.len().min(key.len());
+    if !K::IGNORE_CASE && most >= 16 {
+        return common_in_long::<K>(bytes, key);
+    }
     let mut passed = 0;
     while passed < most
         && bytes[passed] < 128
         && folded::<K>(bytes[passed]) == folded::<K>(key[passed])
     {
         passed += 1;
-        if passed == FEW && most >= FEW + 16 {
+        if K::IGNORE_CASE && passed == FEW && most >= FEW + 16 {
             let (_, rest) = bytes.split_at(FEW);
             let (_, after) = key.split_at(FEW);
             return FEW + common_in_long::<K>(rest, after);

@@ -12,4 +12,4 @@ returns-then-most g c =
     common_one kind bytes key c.loop-passed.passed c.loop-passed.invariant (omega (arith, c.min-most.ensures)) (omega (arith, c.min-most.ensures)) c.if-bytes-passed-lt128.true
     (sym c.folded.ensures ∙ c.if-folded.true ∙ c.folded-then-bytes-passed-lt128.ensures) in
     let few : AreCommon kind bytes key 1 = subst (AreCommon kind bytes key) c.if-passed-eq-FEW.true one in
-    common_behind kind bytes key 1 c.common_in_long.result few (rw (sym c.split_at.ensures.back, sym c.split_at-then-most.ensures.back) c.common_in_long.ensures)
+    common_behind kind bytes key 1 c.common_in_long-then-most.result few (rw (sym c.split_at.ensures.back, sym c.split_at-then-most.ensures.back) c.common_in_long-then-most.ensures)
