@@ -59,14 +59,10 @@ impl Flat {
     }
 }
 
-type Get = unsafe extern "C" fn(*const u8, usize, *const u8, usize) -> usize;
+type Steps = unsafe extern "C" fn(*const u8, usize, *const u8, usize) -> usize;
 
 #[link(name = "zerotrie_calls", kind = "static")]
 unsafe extern "C" {
-    fn get_simple(bytes: *const u8, len: usize, key: *const u8, key_len: usize) -> usize;
-    fn get_ignore(bytes: *const u8, len: usize, key: *const u8, key_len: usize) -> usize;
-    fn get_hash(bytes: *const u8, len: usize, key: *const u8, key_len: usize) -> usize;
-    fn get_ext(bytes: *const u8, len: usize, key: *const u8, key_len: usize) -> usize;
     fn step_simple(bytes: *const u8, len: usize, key: *const u8, key_len: usize) -> usize;
     fn step_ignore(bytes: *const u8, len: usize, key: *const u8, key_len: usize) -> usize;
     fn step_hash(bytes: *const u8, len: usize, key: *const u8, key_len: usize) -> usize;
@@ -98,16 +94,7 @@ unsafe extern "C" {
     fn hash_many_(keys: *const u8, keys_len: usize, times: usize) -> usize;
 }
 
-fn getter(kind: Kind) -> Get {
-    match kind {
-        Kind::Simple => get_simple,
-        Kind::Ignore => get_ignore,
-        Kind::Hash => get_hash,
-        Kind::Ext => get_ext,
-    }
-}
-
-fn stepper(kind: Kind) -> Get {
+fn stepper(kind: Kind) -> Steps {
     match kind {
         Kind::Simple => step_simple,
         Kind::Ignore => step_ignore,
@@ -116,22 +103,18 @@ fn stepper(kind: Kind) -> Get {
     }
 }
 
-fn found_by(call: Get, bytes: &[u8], key: &[u8]) -> Option<usize> {
-    // SAFETY: the function reads the two slices and nothing else.
-    match unsafe { call(bytes.as_ptr(), bytes.len(), key.as_ptr(), key.len()) } {
-        usize::MAX => None,
-        value => Some(value),
-    }
+fn found(answer: usize) -> Option<usize> {
+    (answer != usize::MAX).then_some(answer)
 }
 
 /// The value of a key. A value of 2^64 - 1 can't be told from none here.
 pub fn get(kind: Kind, bytes: &[u8], key: &[u8]) -> Option<usize> {
-    found_by(getter(kind), bytes, key)
+    found(ask_many(kind, bytes, &Flat::of(&[key.to_vec()]), 1))
 }
 
 /// Asks for each key and adds up what is found.
 pub fn asked_by(keys: &[&[u8]], get: impl Fn(&[u8]) -> Option<usize>) -> usize {
-    keys.iter().map(|key| get(key).unwrap_or(1)).fold(0, usize::wrapping_add)
+    keys.iter().map(|key| get(key).unwrap_or(usize::MAX)).fold(0, usize::wrapping_add)
 }
 
 /// The same so many times, by a look-up of the library.
@@ -146,8 +129,9 @@ pub fn ask_many(kind: Kind, bytes: &[u8], flat: &Flat, times: usize) -> usize {
 
 /// The same once, by a cursor's steps.
 pub fn stepped(kind: Kind, bytes: &[u8], keys: &[&[u8]]) -> usize {
-    let call = stepper(kind);
-    asked_by(keys, |key| found_by(call, bytes, key))
+    let walk = stepper(kind);
+    // SAFETY: the function reads the two slices.
+    asked_by(keys, |key| found(unsafe { walk(bytes.as_ptr(), bytes.len(), key.as_ptr(), key.len()) }))
 }
 
 pub fn is_well_formed(kind: Kind, bytes: &[u8]) -> bool {
