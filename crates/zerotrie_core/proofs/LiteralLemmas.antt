@@ -47,25 +47,6 @@ common_more kind bytes key n m common p q all = record {
   ];
 }
 
--- and more that are so behind them
-pub common_behind : (kind : Kind) (bytes key : List ℕ) (n m : ℕ) → AreCommon kind bytes key n → AreCommon kind (drop n bytes) (drop n key) m → AreCommon kind bytes key (n + m)
-common_behind kind bytes key n m common behind = record {
-  within = let len = length-drop n bytes in let p = behind.within in let q = common.within in omega arith;
-  short = let len = length-drop n key in let p = behind.short in let q = common.short in omega arith;
-  literal = λ k h. elim (cases_lt k n) [
-    | inl less ↦ common.literal k less
-    | inr more ↦
-        let e : n + (k - n) ≡ k = omega arith in
-        subst (λ j. j < 128) (get_or-drop n bytes (k - n) 0 ∙ ap (slice_index bytes) e) (behind.literal (k - n) (omega arith))
-  ];
-  same = λ k h. elim (cases_lt k n) [
-    | inl less ↦ common.same k less
-    | inr more ↦
-        let e : n + (k - n) ≡ k = omega arith in
-        ap (fold_byte kind) (sym (get_or-drop n bytes (k - n) 0 ∙ ap (slice_index bytes) e)) ∙ behind.same (k - n) (omega arith) ∙ ap (fold_byte kind) (get_or-drop n key (k - n) 0 ∙ ap (slice_index key) e)
-  ];
-}
-
 -- fewer of them
 pub common_fewer : (kind : Kind) (bytes key : List ℕ) (n m : ℕ) → AreCommon kind bytes key n → m ≤ n → AreCommon kind bytes key m
 common_fewer kind bytes key n m common few = record {

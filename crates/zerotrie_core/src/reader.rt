@@ -25,9 +25,6 @@ enum Descent<'a> {
     Down(&'a [u8], &'a [u8], usize),
 }
 
-/// How many literals it takes until a run of them is compared 16 at a time, where case is ignored.
-const FEW: usize = 1;
-
 /// How many bytes the longest value has.
 const LONGEST_VALUE: usize = 10;
 
@@ -72,23 +69,22 @@ fn are_same_at(bytes: &[u8], key: &[u8], place: usize, last: usize) -> bool
     are_same_in_16(rest, after)
 }
 
-/// Whether 64 bytes from a place on, or as many as there are, are literals and those of the key.
+/// Whether 48 bytes from a place on, or as many as there are, are literals and those of the key.
 #[inline(always)]
-fn are_64_same(bytes: &[u8], key: &[u8], place: usize, last: usize) -> bool
-    requires place { place < last + 128 }
+fn are_48_same(bytes: &[u8], key: &[u8], place: usize, last: usize) -> bool
+    requires place { place < last + 96 }
     requires bytes { last + 16 ≤ length bytes.now }
     requires key { last + 16 ≤ length key.now }
-    ensures { IsTrue result → AreSame bytes.now key.now (last + 16) place (place + 64) }
+    ensures { IsTrue result → AreSame bytes.now key.now (last + 16) place (place + 48) }
 {
     are_same_at(bytes, key, place, last)
         & are_same_at(bytes, key, place + 16, last)
         & are_same_at(bytes, key, place + 32, last)
-        & are_same_at(bytes, key, place + 48, last)
 }
 
 /// Whether the bytes begin with the whole key, each of its bytes as a literal and in the same case.
 ///
-/// Each turn compares 128, with no jump in between, since how many there are can't be predicted. Where there are
+/// Each turn compares 96, with no jump in between, since how many there are can't be predicted. Where there are
 /// fewer, it compares the last sixteen again.
 #[inline(always)]
 fn are_all_same(bytes: &[u8], key: &[u8]) -> bool
@@ -99,12 +95,12 @@ fn are_all_same(bytes: &[u8], key: &[u8]) -> bool
     let last = key.len() - 16;
     let mut passed = 0;
     while passed < key.len() {
-        let same = are_64_same(bytes, key, passed, last)
-            & are_64_same(bytes, key, passed + 64, last);
+        let same = are_48_same(bytes, key, passed, last)
+            & are_48_same(bytes, key, passed + 48, last);
         if !same {
             return false;
         }
-        passed += 128;
+        passed += 96;
     }
     true
 }
@@ -130,15 +126,18 @@ fn common_in_long<K: ZeroTrieWithOptions>(bytes: &[u8], key: &[u8]) -> usize
 
 /// How many literals the bytes begin with that the key goes on with: not always all of them.
 ///
-/// Where both are long, so is as a rule the run. Lanes hold no byte against one of another case, so where case is
-/// ignored the first ones are compared by themselves.
+/// Where both are long, so is as a rule the run, and it is compared sixteen at a time. As this tells letters of either
+/// case apart, where case is ignored and the first ones differ so, they are compared one by one.
 #[inline(always)]
 fn common_literals<K: ZeroTrieWithOptions>(bytes: &[u8], key: &[u8]) -> usize
     ensures { AreCommon K.kind bytes.now key.now result }
 {
     let most = bytes.len().min(key.len());
-    if !K::IGNORE_CASE && most >= 16 {
-        return common_in_long::<K>(bytes, key);
+    if most >= 16 {
+        let more = common_in_long::<K>(bytes, key);
+        if !K::IGNORE_CASE || more > 0 {
+            return more;
+        }
     }
     let mut passed = 0;
     while passed < most
@@ -146,11 +145,6 @@ fn common_literals<K: ZeroTrieWithOptions>(bytes: &[u8], key: &[u8]) -> usize
         && folded::<K>(bytes[passed]) == folded::<K>(key[passed])
     {
         passed += 1;
-        if K::IGNORE_CASE && passed == FEW && most >= FEW + 16 {
-            let (_, rest) = bytes.split_at(FEW);
-            let (_, after) = key.split_at(FEW);
-            return FEW + common_in_long::<K>(rest, after);
-        }
     }
     passed
 }

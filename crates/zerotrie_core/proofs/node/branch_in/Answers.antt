@@ -1,4 +1,4 @@
-use Rattle.std.proofs.Common.{◌≡◌, ◌+◌, ◌-◌, ◌*◌, ◌%◌, ◌≤◌, length, arith}
+use Rattle.std.proofs.Common.{◌+◌, ◌-◌, ◌*◌, ◌≤◌, length, arith}
 use Rattle.zerotrie_core.specs.Branches.{table_size}
 use Rattle.zerotrie_core.proofs.NodeLemmas.{head_read}
 use Rattle.zerotrie_core.proofs.node.branch_in.Goals as goal

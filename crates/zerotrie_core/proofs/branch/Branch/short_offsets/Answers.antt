@@ -1,5 +1,4 @@
-use Rattle.std.proofs.Common.{rules, ◌≡◌, ◌-◌, ◌<◌, arith}
-use Rattle.zerotrie_core.specs.Nodes.{offset_in}
+use Rattle.std.proofs.Common.{rules}
 use Rattle.zerotrie_core.proofs.BranchLemmas.{offset_before, offset_next}
 use Rattle.zerotrie_core.proofs.branch.Branch.short_offsets.Goals as goal
 
