@@ -14,7 +14,7 @@ ghost use Rattle.zerotrie_build.specs.passes.Measured.{IsMeasured};
 ghost use Rattle.zerotrie_build.specs.passes.Puts.{Puts};
 ghost use Rattle.zerotrie_build.specs.passes.Writing.{with_bits, IsLead, spelled_behind, lens_of, KeptTo, FrontPut};
 
-use crate::laying::{Layout, Next};
+use crate::laying::{Layout, Next, Piece, Place};
 use crate::measuring::{Measured, width_of};
 use crate::slice_indices::ByteSliceWithIndices;
 use crate::steps::{Step, Window, first_step, literals_end, lone_item};
@@ -247,7 +247,6 @@ impl<S: TrieBuilderStore + Drop> Writing<S> {
     {
         // That a length is below 2^64 tells the proof that so are the places of the slots.
         let _len = slots.len();
-        layout.clear();
         let mut rest = window;
         loop {
             if let Some((literals, value)) = lone_item(items, rest, ascii) {
@@ -320,19 +319,32 @@ pub(crate) fn write<K: ZeroTrieWithOptions, S: TrieBuilderStore + Drop, A: Alloc
     data.atbs_prepend_n_zeros(measured.len)?;
     let mut writing = Writing { data, at: 0 };
     let mut layout = Layout::new(alloc, spare);
-    layout.pending.push(Next::Text(Window {
-        from: 0,
+    layout.pending.push(Next::Text(Piece {
         to: items.len(),
         depth: 0,
     }))?;
-    let mut slot = 0;
+    let mut place = Place { from: 0, slot: 0 };
     while let Some(next) = take_next(&mut layout.pending) {
         match next {
-            Next::Slot(number) => slot = number,
-            Next::Text(window) => {
+            Next::Go(there) => place = there,
+            Next::Text(piece) => {
+                let window = Window {
+                    from: place.from,
+                    to: piece.to,
+                    depth: piece.depth,
+                };
                 let slots = measured.slots.as_slice();
                 let counts = measured.counts.as_slice();
-                writing.put_front::<K, A>(items, window, slots, slot, counts, ascii, &mut layout)?;
+                writing.put_front::<K, A>(
+                    items,
+                    window,
+                    slots,
+                    place.slot,
+                    counts,
+                    ascii,
+                    &mut layout,
+                )?;
+                place.from = window.to;
             }
         }
     }

@@ -108,3 +108,11 @@ returns-in_ok-push_sorted-clause-laid g c =
     let count : n ≡ length ws = (let n = c.len-edges.ensures in let m = c.set_sorted.new.self.windows.ok in omega arith) in
     let k = branch_known c.requires.slots ws n c.in_ok-set_sorted.ensures.parts count in
     branch_sorted_laid kind (pairs c.args.items) ws _ _ (ap (is_hashed kind) (sym count) ∙ sym c.is_hashed.ensures ∙ c.if-is_hashed.false) k.3 c.in_ok-set_sorted.ensures.table c.in_ok-set_sorted.ensures.numbers
+
+pub push_sorted-requires : goal.push_sorted-requires
+push_sorted-requires g c =
+    let count : c.len-edges.result ≡ length c.set_sorted.new.self.windows.items = (let n = c.len-edges.ensures in let m = c.set_sorted.new.self.windows.ok in omega arith) in
+    let k = branch_known c.requires.slots _ c.len-edges.result c.in_ok-set_sorted.ensures.parts count in
+    let long = ap length c.as_slice-else-is_hashed.ensures.value in
+    let some = k.2 in
+    omega arith

@@ -11,7 +11,7 @@ use Rattle.zerotrie_build.proofs.BranchLemmas.{branch_slots, branch_windows, bra
 use Rattle.zerotrie_build.proofs.writing.Writing.put_front.Goals as goal
 
 pub loop-literals-init : goal.loop-literals-init
-loop-literals-init g c = let k = opened c.requires.kept.1 in (c.requires.kept.0, k, going_start _ _ k.known, c.clear.ensures.pending)
+loop-literals-init g c = let k = opened c.requires.kept.1 in (c.requires.kept.0, k, going_start _ _ k.known, refl)
 
 pub put_value-requires : goal.put_value-requires
 put_value-requires g c = let v = c.loop-literals.invariant in let o = v.1.known in room_value c.in-Value.value _ v.2 o.stops (sym c.first_step.ensures.is ∙ c.in-Value.is) (open_bytes o) c.requires.room
