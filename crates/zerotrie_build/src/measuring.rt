@@ -102,15 +102,13 @@ fn count_len(count: usize) -> usize
     number_len(16, count)
 }
 
-/// The window behind the values, literals and spans that stand first, and how many bytes these have. Where `ascii`
-/// is true, all keys are ASCII.
-fn behind_run<K: ZeroTrieWithOptions>(
+/// The window behind the values, literals and spans that stand first, and how many bytes these have.
+#[inline(never)]
+fn behind_nodes<K: ZeroTrieWithOptions>(
     items: ByteSliceWithIndices<'_>,
     start: Window,
-    ascii: bool,
 ) -> Result<(Window, usize), ZeroTrieBuildError>
     requires keys { AreKeys K.kind (pairs items) }
-    requires ascii { IsTrue ascii → AreLow (pairs items) }
     requires within { start.to ≤ length (pairs items) }
     requires ordered { Ordered K.kind (window_of (pairs items) start) }
     ensures run { IfOk result (λ r. Run K.kind (pairs items.entry) start r.0 r.1) }
@@ -123,15 +121,6 @@ fn behind_run<K: ZeroTrieWithOptions>(
     let mut rest = start;
     let mut len = 0;
     loop {
-        if let Some((literals, value)) = lone_item(items, rest, ascii) {
-            let lead = plus(len, literals.len())?;
-            let behind = Window {
-                from: rest.to,
-                to: rest.to,
-                depth: rest.depth + literals.len(),
-            };
-            return Ok((behind, plus(lead, value_len(value))?));
-        }
         match first_step::<K>(items, rest) {
             Step::Value(value) => {
                 len = plus(len, value_len(value))?;
@@ -150,6 +139,35 @@ fn behind_run<K: ZeroTrieWithOptions>(
             Step::Branch | Step::End => return Ok((rest, len)),
         }
     }
+}
+
+/// The same. Where `ascii` is true, all keys are ASCII, and most windows are told at once.
+#[inline(always)]
+fn behind_run<K: ZeroTrieWithOptions>(
+    items: ByteSliceWithIndices<'_>,
+    start: Window,
+    ascii: bool,
+) -> Result<(Window, usize), ZeroTrieBuildError>
+    requires keys { AreKeys K.kind (pairs items) }
+    requires ascii { IsTrue ascii → AreLow (pairs items) }
+    requires within { start.to ≤ length (pairs items) }
+    requires ordered { Ordered K.kind (window_of (pairs items) start) }
+    ensures run { IfOk result (λ r. Run K.kind (pairs items.entry) start r.0 r.1) }
+    ensures stops { IfOk result (λ r. Stops K.kind (pairs items.entry) r.0) }
+    ensures room { IfOk result (λ r. step_of K.kind (pairs items.entry) r.0 ≡ Step.Branch
+        → r.0.depth + 1 < 2 ^ 64) }
+    ensures refused { IfErr result (λ e. (e ≡ ZeroTrieBuildError.CapacityExceeded)
+        × (2 ^ 64 ≤ size_of K.kind (window_of (pairs items.entry) start))) }
+{
+    let Some((literals, value)) = lone_item(items, start, ascii) else {
+        return behind_nodes::<K>(items, start);
+    };
+    let behind = Window {
+        from: start.to,
+        to: start.to,
+        depth: start.depth + literals.len(),
+    };
+    Ok((behind, plus(literals.len(), value_len(value))?))
 }
 
 /// The sum of these lengths.

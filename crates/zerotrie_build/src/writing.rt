@@ -223,19 +223,18 @@ impl<S: TrieBuilderStore + Drop> Writing<S> {
     }
 
     /// Writes a window, whose slots begin at `slot`, up to the targets of its first branch, and lays these out. The
-    /// counts beside the slots are guesses, and where `ascii` is true, all keys are ASCII.
-    fn put_front<K: ZeroTrieWithOptions, A: Allocator + Copy>(
+    /// counts beside the slots are guesses.
+    #[inline(never)]
+    fn put_nodes<K: ZeroTrieWithOptions, A: Allocator + Copy>(
         &mut self,
         items: ByteSliceWithIndices<'_>,
         window: Window,
         slots: &[usize],
         slot: usize,
         counts: &[u8],
-        ascii: bool,
         layout: &mut Layout<A>,
     ) -> Result<(), ZeroTrieBuildError>
         requires keys { AreKeys K.kind (pairs items) }
-        requires ascii { IsTrue ascii → AreLow (pairs items) }
         requires ordered { Ordered K.kind (pairs items) }
         requires kept { (end : ℕ) × KeptTo K.kind (pairs items) slots.now slot end window }
         requires room { self.old.at + size_of K.kind (window_of (pairs items) window) ≤ length (S.list self.old.data) }
@@ -249,10 +248,6 @@ impl<S: TrieBuilderStore + Drop> Writing<S> {
         let _len = slots.len();
         let mut rest = window;
         loop {
-            if let Some((literals, value)) = lone_item(items, rest, ascii) {
-                self.put_lone(literals, value);
-                return Ok(());
-            }
             match first_step::<K>(items, rest) {
                 Step::End => return Ok(()),
                 Step::Value(value) => {
@@ -277,6 +272,36 @@ impl<S: TrieBuilderStore + Drop> Writing<S> {
                 }
             }
         }
+    }
+
+    /// The same. Where `ascii` is true, all keys are ASCII, and most windows are told at once.
+    #[inline(always)]
+    fn put_front<K: ZeroTrieWithOptions, A: Allocator + Copy>(
+        &mut self,
+        items: ByteSliceWithIndices<'_>,
+        window: Window,
+        slots: &[usize],
+        slot: usize,
+        counts: &[u8],
+        ascii: bool,
+        layout: &mut Layout<A>,
+    ) -> Result<(), ZeroTrieBuildError>
+        requires keys { AreKeys K.kind (pairs items) }
+        requires ascii { IsTrue ascii → AreLow (pairs items) }
+        requires ordered { Ordered K.kind (pairs items) }
+        requires kept { (end : ℕ) × KeptTo K.kind (pairs items) slots.now slot end window }
+        requires room { self.old.at + size_of K.kind (window_of (pairs items) window) ≤ length (S.list self.old.data) }
+        ensures put { OnOk result ((next : List Next) × (reverse layout.new.pending.items
+            ≡ next ++ reverse layout.old.pending.items) × FrontPut K.kind (pairs items.entry) slots.now slot window next
+            (S.list self.old.data) self.old.at (S.list self.new.data) self.new.at) }
+        ensures refused { IfErr result (λ e. e ≢ ZeroTrieBuildError.OutOfMemory
+            → (e ≡ ZeroTrieBuildError.CouldNotSolvePerfectHash) × Cause K.kind (pairs items.entry) e) }
+    {
+        let Some((literals, value)) = lone_item(items, window, ascii) else {
+            return self.put_nodes::<K, A>(items, window, slots, slot, counts, layout);
+        };
+        self.put_lone(literals, value);
+        Ok(())
     }
 }
 
