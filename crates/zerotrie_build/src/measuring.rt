@@ -103,7 +103,7 @@ fn count_len(count: usize) -> usize
 }
 
 /// The window behind the values, literals and spans that stand first, and how many bytes these have.
-#[inline(never)]
+#[inline(always)]
 fn behind_nodes<K: ZeroTrieWithOptions>(
     items: ByteSliceWithIndices<'_>,
     start: Window,

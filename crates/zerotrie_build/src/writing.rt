@@ -224,7 +224,7 @@ impl<S: TrieBuilderStore + Drop> Writing<S> {
 
     /// Writes a window, whose slots begin at `slot`, up to the targets of its first branch, and lays these out. The
     /// counts beside the slots are guesses.
-    #[inline(never)]
+    #[inline(always)]
     fn put_nodes<K: ZeroTrieWithOptions, A: Allocator + Copy>(
         &mut self,
         items: ByteSliceWithIndices<'_>,
