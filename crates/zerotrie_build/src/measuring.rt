@@ -14,7 +14,7 @@ ghost use Rattle.zerotrie_build.specs.passes.Measured.{Run, Stops, Parts, IsMeas
 ghost use Rattle.zerotrie_build.specs.passes.Walking.{tos, spare_len, with_len, left_open, IsOpened, Closing, IsTurn, IsNext};
 
 use crate::slice_indices::ByteSliceWithIndices;
-use crate::steps::{Step, Window, first_step, group_end, literals_end, lone_item};
+use crate::steps::{Step, Window, first_step, group_end, literals_end, one_item, rest_len};
 use std::alloc::{AllocError, Allocator};
 use zerotrie_core::{ZeroTrieBuildError, ZeroTrieWithOptions};
 
@@ -159,15 +159,18 @@ fn behind_run<K: ZeroTrieWithOptions>(
     ensures refused { IfErr result (λ e. (e ≡ ZeroTrieBuildError.CapacityExceeded)
         × (2 ^ 64 ≤ size_of K.kind (window_of (pairs items.entry) start))) }
 {
-    let Some((literals, value)) = lone_item(items, start, ascii) else {
+    let Some((rest, value)) = one_item(items, start) else {
+        return behind_nodes::<K>(items, start);
+    };
+    let Some(len) = rest_len::<K>(rest, ascii) else {
         return behind_nodes::<K>(items, start);
     };
     let behind = Window {
         from: start.to,
         to: start.to,
-        depth: start.depth + literals.len(),
+        depth: start.depth + rest.len(),
     };
-    Ok((behind, plus(literals.len(), value_len(value))?))
+    Ok((behind, plus(len, value_len(value))?))
 }
 
 /// The sum of these lengths.

@@ -4,7 +4,8 @@ use Rattle.zerotrie_core.specs.Numbers.{value_form, spelled_as}
 use Rattle.zerotrie_build.specs.Items.{pairs}
 use Rattle.zerotrie_build.specs.declared.steps.Window.{Window}
 use Rattle.zerotrie_build.specs.passes.Measured.{Run}
-use Rattle.zerotrie_build.proofs.RunLemmas.{too_long, lone_run}
+use Rattle.zerotrie_build.proofs.RunLemmas.{too_long}
+use Rattle.zerotrie_build.proofs.ShortLemmas.{one_run}
 use Rattle.zerotrie_build.proofs.measuring.behind_run.Goals as goal
 
 pub returns-in_err-plus-clause-refused : goal.returns-in_err-plus-clause-refused
@@ -12,14 +13,14 @@ returns-in_err-plus-clause-refused g c =
     let kind = g.K.ZeroTrieWithOptions.kind in
     let p = err_from_is_err_and c.from_residual.result c.from_residual.ensures.1 in
     let f = c.in_err-plus.ensures.refused in
-    let run = lone_run kind (pairs c.args.items) c.args.start c.in-Some.literals.now c.in-Some.value c.in-Some.ensures.is in
+    let run = one_run kind (pairs c.args.items) c.args.start c.in-Some.rest.now c.in-Some.value c.in-Some-rest_len.len c.in-Some.ensures.is c.in-Some-rest_len.ensures in
     rw (p.1, p.2) (f.0, too_long run c.requires.within c.requires.keys c.requires.ordered (let e = c.value_len.ensures in omega (arith, f.1)))
 
 pub returns-clause-run : goal.returns-clause-run
 returns-clause-run g c =
     let kind = g.K.ZeroTrieWithOptions.kind in
     let start = c.args.start in
-    let literals = c.in-Some.literals.now in
-    let behind : Window = record { from = start.to; to = start.to; depth = start.depth + length literals } in
+    let rest = c.in-Some.rest.now in
+    let behind : Window = record { from = start.to; to = start.to; depth = start.depth + length rest } in
     subst (Run kind (pairs c.args.items) start behind) (let s = c.in_ok-plus.ensures.sum in let e = c.value_len.ensures in omega arith)
-    (lone_run kind (pairs c.args.items) start literals c.in-Some.value c.in-Some.ensures.is)
+    (one_run kind (pairs c.args.items) start rest c.in-Some.value c.in-Some-rest_len.len c.in-Some.ensures.is c.in-Some-rest_len.ensures)
