@@ -1,6 +1,6 @@
 //! What stands first in the text of a window of the items.
 
-ghost use Rattle.std.specs.Prelude.{◌≡◌, ◌≢◌, ℕ, ◌+◌, ◌-◌, ◌^◌, ◌<◌, ◌≤◌, IfSome, Some, All, IsTrue, false, drop, slice_index, length};
+ghost use Rattle.std.specs.Prelude.{◌≡◌, ℕ, ◌+◌, ◌-◌, ◌^◌, ◌<◌, ◌≤◌, IfSome, Some, All, IsTrue, false, drop, slice_index, length};
 ghost use Rattle.zerotrie_build.specs.Items.{pairs};
 ghost use Rattle.zerotrie_build.specs.Order.{Ordered, AreLow};
 ghost use Rattle.zerotrie_build.specs.passes.Windows.{window as window_of, step_of, item_of, byte_of, edge_of, high_front, byte_size, short_size, IsLow, IsOne, IsRestLen, IsLone, IsGroup};
@@ -316,50 +316,22 @@ pub(crate) fn first_step<K: ZeroTrieWithOptions>(
     }
 }
 
-/// How many items are looked at one after another before the search goes on by strides. Most targets have fewer.
-const NEAR: usize = 8;
-
-/// Where the first items that have one byte at the depth end, or `limit` if they go on up to there.
-#[inline(always)]
-fn near_end(items: ByteSliceWithIndices<'_>, window: Window, limit: usize) -> usize
-    requires some { window.from < limit }
-    requires items { limit ≤ length (pairs items) }
-    ensures some { window.from < result }
-    ensures within { result ≤ limit }
-    ensures same { (i : ℕ) → window.from ≤ i → i < result
-        → byte_of (pairs items.entry) i window.depth ≡ byte_of (pairs items.entry) window.from window.depth }
-    ensures other { result < limit
-        → byte_of (pairs items.entry) result window.depth ≢ byte_of (pairs items.entry) window.from window.depth }
-{
-    let byte = byte_at(items, window.from, window.depth);
-    let mut end = window.from + 1;
-    while end < limit && byte_at(items, end, window.depth) == byte {
-        end += 1;
-    }
-    end
-}
-
-/// Where the first items that have one byte at the depth end, which all below `near` have. It looks ever further ahead,
-/// and halves what is left once it was too far.
-#[inline(never)]
-fn far_end<K: ZeroTrieWithOptions>(
+/// Where the first items that have one byte at the depth end. It looks ever further ahead, and halves what is left
+/// once it was too far.
+pub(crate) fn group_end<K: ZeroTrieWithOptions>(
     items: ByteSliceWithIndices<'_>,
     window: Window,
-    near: usize,
 ) -> usize
-    requires some { window.from < near }
-    requires within { near ≤ window.to }
-    requires same { (i : ℕ) → window.from ≤ i → i < near
-        → byte_of (pairs items) i window.depth ≡ byte_of (pairs items) window.from window.depth }
+    requires within { window.from < window.to }
     requires items { window.to ≤ length (pairs items) }
     requires ordered { Ordered K.kind (window_of (pairs items) window) }
     ensures { IsGroup (pairs items.entry) window result }
 {
     let byte = byte_at(items, window.from, window.depth);
     // All items below `low` have the byte, and none from `high` on has it.
-    let mut low = near;
+    let mut low = window.from + 1;
     let mut high = window.to;
-    let mut ahead = near - window.from;
+    let mut ahead = 0;
     while low < high {
         let step = ((high - low) / 2).min(ahead);
         let place = low + step;
@@ -371,26 +343,6 @@ fn far_end<K: ZeroTrieWithOptions>(
         }
     }
     low
-}
-
-/// Where the first items that have one byte at the depth end.
-#[inline(always)]
-pub(crate) fn group_end<K: ZeroTrieWithOptions>(
-    items: ByteSliceWithIndices<'_>,
-    window: Window,
-) -> usize
-    requires within { window.from < window.to }
-    requires items { window.to ≤ length (pairs items) }
-    requires ordered { Ordered K.kind (window_of (pairs items) window) }
-    ensures { IsGroup (pairs items.entry) window result }
-{
-    let limit = window.from.saturating_add(NEAR).min(window.to);
-    let near = near_end(items, window, limit);
-    if near < limit || near == window.to {
-        near
-    } else {
-        far_end::<K>(items, window, near)
-    }
 }
 
 /// The same. It asks first whether there are so many.

@@ -2,7 +2,7 @@ use Rattle.std.proofs.Common.{rules, ◌≡◌, ◌+◌, ◌<◌, arith}
 use Rattle.zerotrie_build.specs.Items.{pairs}
 use Rattle.zerotrie_build.specs.passes.Windows.{byte_of}
 use Rattle.zerotrie_build.proofs.EndLemmas.{same_between}
-use Rattle.zerotrie_build.proofs.steps.far_end.Goals as goal
+use Rattle.zerotrie_build.proofs.steps.group_end.Goals as goal
 
 pub loop-low-preserved-then-eq : goal.loop-low-preserved-then-eq
 loop-low-preserved-then-eq g c =
