@@ -1,6 +1,5 @@
 -- A window of one item whose rest is short.
-use Rattle.std.proofs.Common.{◌≡◌, ℕ, zero, suc, ◌+◌, ◌-◌, ◌^◌, ◌<◌, ◌≤◌, ◌⊎◌, inl, inr, List, [], ◌∷◌, length, refl, sym, ◌∙◌, ap, subst, arith, drop, Some, None, slice_get, get_or, true, false, cond, eqb, leb, Bool, All}
-use Rattle.std.specs.Prelude.{◌&&◌}
+use Rattle.std.proofs.Common.{◌≡◌, ℕ, zero, suc, ◌+◌, ◌-◌, ◌<◌, ◌≤◌, inl, inr, List, [], ◌∷◌, length, refl, sym, ◌∙◌, ap, subst, arith, drop, Some, None, get_or, true, false, leb}
 use Rattle.std.proofs.lemmas.Bool.{eq-eqb, lt-ltb, cases_lt}
 use Rattle.std.proofs.lemmas.Bool.Decides.{leb_tells}
 use Rattle.std.proofs.lemmas.List.{length-drop, drop-drop, drop_all}
@@ -11,7 +10,7 @@ use Rattle.zerotrie_core.specs.Numbers.{value_form, span_form, spelled_as}
 use Rattle.zerotrie_core.specs.Maps.{Pairs}
 use Rattle.zerotrie_build.specs.declared.steps.Window.{Window}
 use Rattle.zerotrie_build.specs.declared.steps.Step.TheVariants.{Value, Literal, Span}
-use Rattle.zerotrie_build.specs.passes.Windows.{item_of, byte_of, high_front, short_size, step_of, IsOne, IsLone, IsRestLen}
+use Rattle.zerotrie_build.specs.passes.Windows.{item_of, byte_of, high_front, short_size, step_of, IsOne, IsRestLen}
 use Rattle.zerotrie_build.specs.passes.Measured.{Run}
 use Rattle.zerotrie_build.specs.passes.Measured.Run.{here, value, literal, span}
 use Rattle.zerotrie_build.proofs.PutLemmas.{spelled_len}
@@ -30,16 +29,16 @@ short_high : (rest : List ℕ) → short_size true rest ≡ high_front rest rest
 short_high [] = refl
 short_high (b ∷ rest) = elim (leb_tells 128 b) [
   | inl high ↦
-    let some = front_some b rest high.0 in
-    let more : short_size true (b ∷ rest) ≡ 1 + short_size true rest = rw high.0 refl in
-    let cut = ap (λ n. short_size false (drop n (b ∷ rest))) some in
-    let r = short_high rest in
-    omega arith
+      let some = front_some b rest high.0 in
+      let more : short_size true (b ∷ rest) ≡ 1 + short_size true rest = rw high.0 refl in
+      let cut = ap (λ n. short_size false (drop n (b ∷ rest))) some in
+      let r = short_high rest in
+      omega arith
   | inr low ↦
-    let none : high_front (b ∷ rest) (b ∷ rest) ≡ 0 = rw (eq-eqb b b refl, low.0) refl in
-    let same : short_size true (b ∷ rest) ≡ short_size false (b ∷ rest) = rw low.0 refl in
-    let cut = ap (λ n. short_size false (drop n (b ∷ rest))) none in
-    omega arith
+      let none : high_front (b ∷ rest) (b ∷ rest) ≡ 0 = rw (eq-eqb b b refl, low.0) refl in
+      let same : short_size true (b ∷ rest) ≡ short_size false (b ∷ rest) = rw low.0 refl in
+      let cut = ap (λ n. short_size false (drop n (b ∷ rest))) none in
+      omega arith
 ]
 
 -- what stands in a window of one item at a depth
@@ -93,21 +92,21 @@ short_more kind all w d one spans less few behind =
     let cut : drop d key ≡ b ∷ drop (suc d) key = drop-cons key d 0 less in
     elim (leb_tells 128 b) [
       | inl high ↦
-        let m = high_front (drop d key) (drop d key) in
-        let some = ap (λ x. high_front x x) cut ∙ front_some b (drop (suc d) key) high.0 in
-        let most = high_most (drop d key) (drop d key) in
-        let long = length-drop d key in
-        let after = short_high (drop d key) in
-        let at : short_size false (drop m (drop d key)) ≡ short_size false (drop (d + m) key) = ap (short_size false) (drop-drop m d key) in
-        let size = ap (short_size false) cut ∙ size_high b (drop (suc d) key) high.0 ∙ ap (λ x. 1 + short_size true x) (sym cut) in
-        let lead = short_span m (omega arith) in
-        let count : length (spelled_as span_form m) + m + (short_size false (drop (d + m) key) + k) ≡ short_size false (drop d key) + k = omega arith in
-        subst (Run kind all (record w { depth = d }) last) count (span m (one_high kind all w d b one is high.0 spans) (behind (d + m) (omega arith) (omega arith)))
+          let m = high_front (drop d key) (drop d key) in
+          let some = ap (λ x. high_front x x) cut ∙ front_some b (drop (suc d) key) high.0 in
+          let most = high_most (drop d key) (drop d key) in
+          let long = length-drop d key in
+          let after = short_high (drop d key) in
+          let at : short_size false (drop m (drop d key)) ≡ short_size false (drop (d + m) key) = ap (short_size false) (drop-drop m d key) in
+          let size = ap (short_size false) cut ∙ size_high b (drop (suc d) key) high.0 ∙ ap (λ x. 1 + short_size true x) (sym cut) in
+          let lead = short_span m (omega arith) in
+          let count : length (spelled_as span_form m) + m + (short_size false (drop (d + m) key) + k) ≡ short_size false (drop d key) + k = omega arith in
+          subst (Run kind all (record w { depth = d }) last) count (span m (one_high kind all w d b one is high.0 spans) (behind (d + m) (omega arith) (omega arith)))
       | inr low ↦
-        let deeper : suc d ≡ d + 1 = omega arith in
-        let size = ap (short_size false) (cut ∙ ap (λ i. b ∷ drop i key) deeper) ∙ size_low b (drop (d + 1) key) low.0 in
-        let count : 1 + (short_size false (drop (d + 1) key) + k) ≡ short_size false (drop d key) + k = omega arith in
-        subst (Run kind all (record w { depth = d }) last) count (literal b (one_low kind all w d b one is low.0) (behind (d + 1) (omega arith) (omega arith)))
+          let deeper : suc d ≡ d + 1 = omega arith in
+          let size = ap (short_size false) (cut ∙ ap (λ i. b ∷ drop i key) deeper) ∙ size_low b (drop (d + 1) key) low.0 in
+          let count : 1 + (short_size false (drop (d + 1) key) + k) ≡ short_size false (drop d key) + k = omega arith in
+          subst (Run kind all (record w { depth = d }) last) count (literal b (one_low kind all w d b one is low.0) (behind (d + 1) (omega arith) (omega arith)))
     ]
 
 short_from : (n : ℕ) (kind : Kind) (all : Pairs) (w : Window) (d : ℕ) → w.to ≡ w.from + 1 → has_spans kind ≡ true → d ≤ length (item_of all w.from).0 → length (item_of all w.from).0 - d ≤ n → length (item_of all w.from).0 - d < 16

@@ -43,6 +43,17 @@ pub(crate) enum Next {
     Text(Piece),
 }
 
+/// What the second pass goes by: the items, and what the first pass found of them.
+#[derive(Clone, Copy, Debug)]
+pub(crate) struct Plan<'a> {
+    pub(crate) items: ByteSliceWithIndices<'a>,
+    /// The slots, and beside them guesses how many items the targets have.
+    pub(crate) slots: &'a [usize],
+    pub(crate) counts: &'a [u8],
+    /// If it is true, all keys are ASCII.
+    pub(crate) ascii: bool,
+}
+
 /// The layout of a branch. Its memory serves one branch after another. Hashed tables have memory of their own.
 #[derive(Drop)]
 pub(crate) struct Layout<A: Allocator> {
@@ -135,34 +146,33 @@ impl<A: Allocator + Copy> Layout<A> {
         Ok(())
     }
 
-    /// Lays the targets of the branch out that stands first in the window, whose slots begin at `slot`. The counts
-    /// beside these are guesses.
+    /// Lays the targets of the branch out that stands first in the window, whose slots begin at `slot`.
     pub(crate) fn set<K: ZeroTrieWithOptions>(
         &mut self,
-        items: ByteSliceWithIndices<'_>,
+        plan: Plan<'_>,
         window: Window,
-        slots: &[usize],
         slot: usize,
-        counts: &[u8],
     ) -> Result<(), ZeroTrieBuildError>
         requires order { window.from ≤ window.to }
-        requires items { window.to ≤ length (pairs items) }
+        requires items { window.to ≤ length (pairs plan.items) }
         requires room { window.depth + 1 < 2 ^ 64 }
-        requires ordered { Ordered K.kind (window_of (pairs items) window) }
-        requires slots { HasSlots K.kind (pairs items) window slots.now slot }
-        ensures parts { OnOk result (Parts (pairs items.entry) window self.new.windows.items) }
-        ensures laid { OnOk result (IsLaid K.kind (edge_no (pairs items.entry) self.new.windows.items)
+        requires ordered { Ordered K.kind (window_of (pairs plan.items) window) }
+        requires slots { HasSlots K.kind (pairs plan.items) window plan.slots.now slot }
+        ensures parts { OnOk result (Parts (pairs plan.entry.items) window self.new.windows.items) }
+        ensures laid { OnOk result (IsLaid K.kind (edge_no (pairs plan.entry.items) self.new.windows.items)
             (length self.new.windows.items) self.new.table.items self.new.numbers.items) }
         ensures pending { OnOk result (reverse self.new.pending.items
-            ≡ next_of K.kind slots.now slot self.new.windows.items self.new.numbers.items
+            ≡ next_of K.kind plan.entry.slots.now slot self.new.windows.items self.new.numbers.items
             ++ reverse self.old.pending.items) }
         ensures refused { IfErr result (λ e. e ≢ ZeroTrieBuildError.OutOfMemory
-            → (e ≡ ZeroTrieBuildError.CouldNotSolvePerfectHash) × ((cs : List Window) → Parts (pairs items.entry) window cs
-            → AreCrooked K.kind (map (edge_of (pairs items.entry)) cs))) }
+            → (e ≡ ZeroTrieBuildError.CouldNotSolvePerfectHash)
+            × ((cs : List Window) → Parts (pairs plan.entry.items) window cs
+            → AreCrooked K.kind (map (edge_of (pairs plan.entry.items)) cs))) }
     {
+        let slots = plan.slots;
         // That a length is below 2^64 tells the proof that so are the places of the slots.
         let _len = slots.len();
-        self.set_sorted::<K>(items, window, counts.get(slot..).unwrap_or(&[]))?;
+        self.set_sorted::<K>(plan.items, window, plan.counts.get(slot..).unwrap_or(&[]))?;
         let edges = self.windows.len();
         if is_hashed::<K>(edges) {
             self.set_hashed()?;

@@ -58,10 +58,7 @@ fn are_literals(bytes: &[u8]) -> bool
 
 /// The rest of the key and the value of the one item of a window, if there is but one.
 #[inline(always)]
-pub(crate) fn one_item(
-    items: ByteSliceWithIndices<'_>,
-    window: Window,
-) -> Option<(&[u8], usize)>
+pub(crate) fn one_item(items: ByteSliceWithIndices<'_>, window: Window) -> Option<(&[u8], usize)>
     requires items { window.to ≤ length (pairs items) }
     ensures is { IfSome result (λ r. IsOne (pairs items.entry) window r.0.now r.1) }
     ensures room { IfSome result (λ r. window.depth + length r.0.now < 2 ^ 64) }

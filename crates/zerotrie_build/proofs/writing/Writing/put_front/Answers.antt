@@ -14,7 +14,7 @@ put_lone-requires g c =
 pub returns-clause-put : goal.returns-clause-put
 returns-clause-put g c =
     let kind = g.K.ZeroTrieWithOptions.kind in
-    let all = pairs c.args.items in
+    let all = pairs c.args.plan.items in
     let w = c.args.window in
     let k = opened c.requires.kept.1 in
     let o = k.known in

@@ -1,4 +1,4 @@
-use Rattle.std.proofs.Common.{◌≡◌, ◌+◌, rules, refl, [], ◌++◌, reverse, ap, sym, ◌∙◌, arith, length, length-append, length-drop, take, drop, ◌-◌}
+use Rattle.std.proofs.Common.{◌≡◌, rules, refl, [], ◌++◌, reverse, ap, sym, ◌∙◌, arith, length, length-append, length-drop, take, drop, ◌-◌}
 use Rattle.std.proofs.lemmas.List.{length-take-le}
 use Rattle.zerotrie_core.specs.Numbers.{span_form, spelled_as}
 use Rattle.zerotrie_build.specs.Items.{pairs}
@@ -37,7 +37,7 @@ literals_end-end-requires g c =
     let step = sym c.first_step.ensures.is ∙ c.in-Literal.is in
     let to = v.2.to_is in
     let within = o.within in
-    let l = literal_low g.K.ZeroTrieWithOptions.kind (pairs c.args.items) c.loop-value.rest c.in-Literal.field-0 (omega arith) c.requires.keys step in
+    let l = literal_low g.K.ZeroTrieWithOptions.kind (pairs c.args.plan.items) c.loop-value.rest c.in-Literal.field-0 (omega arith) c.requires.keys step in
     record { some = l.0; items = omega arith; literal = l.1 }
 
 pub put_literals-requires-clause-item : goal.put_literals-requires-clause-item
@@ -47,7 +47,7 @@ put_literals-requires-clause-item g c =
     let step = sym c.first_step.ensures.is ∙ c.in-Literal.is in
     let to = v.2.to_is in
     let within = o.within in
-    let l = literal_low g.K.ZeroTrieWithOptions.kind (pairs c.args.items) c.loop-value.rest c.in-Literal.field-0 (omega arith) c.requires.keys step in
+    let l = literal_low g.K.ZeroTrieWithOptions.kind (pairs c.args.plan.items) c.loop-value.rest c.in-Literal.field-0 (omega arith) c.requires.keys step in
     omega (arith, l.0)
 
 pub put_literals-requires-clause-room : goal.put_literals-requires-clause-room
@@ -79,7 +79,7 @@ loop-value-smaller-in-Literal g c =
     let past = e.past in
     let within = e.within in
     let r = room_literals c.in-Literal.field-0 c.literals_end-end.result _ v.2 o.stops o.within c.requires.keys step e.past e.low (open_bytes o) c.requires.room in
-    let key = (item_of (pairs c.args.items) c.loop-value.rest.from).0 in
+    let key = (item_of (pairs c.args.plan.items) c.loop-value.rest.from).0 in
     let d = c.loop-value.rest.depth in
     let n = length-take-le (c.literals_end-end.result - d) (drop d key) (let l = length-drop d key in omega arith) in
     let a = c.put_literals.ensures.at_is in let l = c.put_literals.ensures.same in omega arith
@@ -99,7 +99,7 @@ loop-value-smaller g c =
     let r = room_span c.in-Span.count _ v.2 o.stops (sym c.first_step.ensures.is ∙ c.in-Span.is) (open_bytes o) c.requires.room in
     let p = c.put_span.ensures.puts in let a = p.at_is in let l = p.same in
     let some = ap length c.put_span.ensures.spells.bytes_are in
-    let n = length-append (spelled_as span_form c.in-Span.count) (take c.in-Span.count (drop c.loop-value.rest.depth (item_of (pairs c.args.items) c.loop-value.rest.from).0)) in
+    let n = length-append (spelled_as span_form c.in-Span.count) (take c.in-Span.count (drop c.loop-value.rest.depth (item_of (pairs c.args.plan.items) c.loop-value.rest.from).0)) in
     omega arith
 
 pub returns-in-End-clause-put : goal.returns-in-End-clause-put
@@ -114,7 +114,7 @@ set-requires-clause-slots g c = let v = c.loop-value.invariant in branch_slots v
 pub returns-in_err-set-in-Branch-clause-refused : goal.returns-in_err-set-in-Branch-clause-refused
 returns-in_err-set-in-Branch-clause-refused g c =
     let kind = g.K.ZeroTrieWithOptions.kind in
-    let all = pairs c.args.items in
+    let all = pairs c.args.plan.items in
     let v = c.loop-value.invariant in
     let k = v.1 in
     let step = sym c.first_step.ensures.is ∙ c.in-Branch.is in
@@ -132,8 +132,8 @@ overflow_add-lens g c =
     let room = lens.1 in
     search (room, rules)
 
-pub offset_bounds-slots-slot : goal.offset_bounds-slots-slot
-offset_bounds-slots-slot g c =
+pub offset_bounds-plan-slot : goal.offset_bounds-plan-slot
+offset_bounds-plan-slot g c =
     let v = c.loop-value.invariant in
     let k = v.1 in
     let step = sym c.first_step.ensures.is ∙ c.in-Branch.is in
@@ -193,7 +193,7 @@ returns-in-Branch-clause-put g c =
     let laid = found.1 in
     let lens = branch_lens k v.2 step laid (length c.as_slice-numbers.result.now) (ap length c.as_slice-numbers.ensures.value) in
     let kind = g.K.ZeroTrieWithOptions.kind in
-    let slots = c.args.slots.now in
+    let slots = c.args.plan.slots.now in
     let slot = c.args.slot in
     let ws = c.set.new.self.windows.items in
     let numbers = c.set.new.self.numbers.items in
