@@ -191,7 +191,7 @@ impl<A: Allocator + Copy> Layout<A> {
     }
 }
 
-/// Where the items of the branch's next target end, which has this number. The counts of the items are guesses, of which
+/// Where the items of the branch's next target end, which has this number. The counts of the items are guesses, and
 /// the kinds with hashed tables have none.
 #[inline(always)]
 fn target_end<K: ZeroTrieWithOptions>(

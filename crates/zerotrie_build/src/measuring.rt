@@ -141,7 +141,7 @@ fn behind_nodes<K: ZeroTrieWithOptions>(
     }
 }
 
-/// The same. Where `ascii` is true, all keys are ASCII, and most windows are told at once.
+/// The same. Most windows have one item, whose text is told at once. Where `ascii` is true, all keys are ASCII.
 #[inline(always)]
 fn behind_run<K: ZeroTrieWithOptions>(
     items: ByteSliceWithIndices<'_>,

@@ -94,7 +94,8 @@ pub(crate) fn lone_item(
     Some((rest, value))
 }
 
-/// How many bytes a byte of a short rest makes: it begins a span or does not.
+/// How many bytes a byte of a short rest makes, behind one from 128 on or not: where it begins a span, it has the
+/// length of that in front.
 #[inline(always)]
 fn byte_len(high: bool, byte: u8) -> usize
     ensures is { result ≡ byte_size high byte }
@@ -103,7 +104,8 @@ fn byte_len(high: bool, byte: u8) -> usize
     if byte < 128 || high { 1 } else { 2 }
 }
 
-/// How many bytes the literals and spans of a rest have that has less than 16.
+/// How many bytes the literals and spans of a rest have that has itself less than 16, so that the length of each span
+/// has one.
 #[inline(always)]
 fn short_len(rest: &[u8]) -> usize
     requires { length rest.now < 16 }

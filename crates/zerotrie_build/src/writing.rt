@@ -222,7 +222,8 @@ impl<S: TrieBuilderStore + Drop> Writing<S> {
         self.put_offsets(lens, numbers, width + 1);
     }
 
-    /// Writes a window, whose slots begin at `slot`, up to the targets of its first branch, and lays these out.
+    /// Writes a window, whose slots begin at `slot`, node after node up to the targets of its first branch, and lays
+    /// these out.
     #[inline(always)]
     fn put_nodes<K: ZeroTrieWithOptions, A: Allocator + Copy>(
         &mut self,
@@ -234,9 +235,11 @@ impl<S: TrieBuilderStore + Drop> Writing<S> {
         requires keys { AreKeys K.kind (pairs plan.items) }
         requires ordered { Ordered K.kind (pairs plan.items) }
         requires kept { (end : ℕ) × KeptTo K.kind (pairs plan.items) plan.slots.now slot end window }
-        requires room { self.old.at + size_of K.kind (window_of (pairs plan.items) window) ≤ length (S.list self.old.data) }
+        requires room { self.old.at + size_of K.kind (window_of (pairs plan.items) window)
+            ≤ length (S.list self.old.data) }
         ensures put { OnOk result ((next : List Next) × (reverse layout.new.pending.items
-            ≡ next ++ reverse layout.old.pending.items) × FrontPut K.kind (pairs plan.entry.items) plan.entry.slots.now slot window next
+            ≡ next ++ reverse layout.old.pending.items)
+            × FrontPut K.kind (pairs plan.entry.items) plan.entry.slots.now slot window next
             (S.list self.old.data) self.old.at (S.list self.new.data) self.new.at) }
         ensures refused { IfErr result (λ e. e ≢ ZeroTrieBuildError.OutOfMemory
             → (e ≡ ZeroTrieBuildError.CouldNotSolvePerfectHash) × Cause K.kind (pairs plan.entry.items) e) }
@@ -285,9 +288,11 @@ impl<S: TrieBuilderStore + Drop> Writing<S> {
         requires ascii { IsTrue plan.ascii → AreLow (pairs plan.items) }
         requires ordered { Ordered K.kind (pairs plan.items) }
         requires kept { (end : ℕ) × KeptTo K.kind (pairs plan.items) plan.slots.now slot end window }
-        requires room { self.old.at + size_of K.kind (window_of (pairs plan.items) window) ≤ length (S.list self.old.data) }
+        requires room { self.old.at + size_of K.kind (window_of (pairs plan.items) window)
+            ≤ length (S.list self.old.data) }
         ensures put { OnOk result ((next : List Next) × (reverse layout.new.pending.items
-            ≡ next ++ reverse layout.old.pending.items) × FrontPut K.kind (pairs plan.entry.items) plan.entry.slots.now slot window next
+            ≡ next ++ reverse layout.old.pending.items)
+            × FrontPut K.kind (pairs plan.entry.items) plan.entry.slots.now slot window next
             (S.list self.old.data) self.old.at (S.list self.new.data) self.new.at) }
         ensures refused { IfErr result (λ e. e ≢ ZeroTrieBuildError.OutOfMemory
             → (e ≡ ZeroTrieBuildError.CouldNotSolvePerfectHash) × Cause K.kind (pairs plan.entry.items) e) }
