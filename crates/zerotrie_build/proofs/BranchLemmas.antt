@@ -22,13 +22,14 @@ use Rattle.zerotrie_core.specs.Causes.{AreCrooked, Cause, ZeroTrieBuildError, Co
 use Rattle.zerotrie_core.proofs.CallerLemmas.{Distinct, NoneLike, table_distinct, length-table, value_at-no_key, value_at-front, value_at-other, value_at-append, value_at-some, spells_spelled, IsWidth-width, front_targets, front_len, length-branch_front, total-lengths, fold_ascii, greatest_width_most, same-entries, same-behind, same-edges}
 use Rattle.zerotrie_build.specs.Order.{Ordered}
 use Rattle.zerotrie_build.specs.declared.steps.Window.{Window}
+use Rattle.zerotrie_build.specs.declared.laying.Place.{Place}
 use Rattle.zerotrie_build.specs.declared.laying.Next.{Next}
-use Rattle.zerotrie_build.specs.declared.laying.Next.TheVariants.{Slot, Text}
+use Rattle.zerotrie_build.specs.declared.laying.Next.TheVariants.{Go}
 use Rattle.zerotrie_build.specs.declared.steps.Step.TheVariants.{End, Branch}
 use Rattle.zerotrie_build.specs.passes.Windows.{cut, window, edge_of, step_of}
 use Rattle.zerotrie_build.specs.passes.Measured.{Stops, IsOpen, Groups, Parts, sizes_of}
 use Rattle.zerotrie_build.specs.passes.Puts.{Puts}
-use Rattle.zerotrie_build.specs.passes.Writing.{no_window, window_at, edge_no, lens_of, placed_next, next_of, Listed, Texts, FrontPut, IsLaid, HasSlots, Leads}
+use Rattle.zerotrie_build.specs.passes.Writing.{no_window, window_at, edge_no, lens_of, place_at, text_of, placed_next, next_of, Listed, Texts, FrontPut, IsLaid, HasSlots, Leads}
 use Rattle.zerotrie_build.proofs.Sorting.{ordered_distinct}
 use Rattle.zerotrie_build.proofs.PutLemmas.{puts_then, count_map}
 use Rattle.zerotrie_build.proofs.WindowLemmas.{cut_none, cut_append, step_end}
@@ -417,18 +418,21 @@ next_count kind slots slot cs numbers two many = counted (is_hashed kind (length
     count_placed (i ∷ ns) = let r = count_placed ns in omega arith
 
     last : Next
-    last = Slot (from + get_or ends (length cs - 1) 0)
+    last = Go (place_at (window_at cs (length cs - 1)).to (from + get_or ends (length cs - 1) 0))
 
-    counted : (b : Bool) → length (cond b (placed_next ends from cs numbers ++ last ∷ []) (Slot (slot + length cs) ∷ map Text cs)) ≤ cond b (2 * length cs + 1) (length cs) + (length cs - 1)
+    first : Next
+    first = Go (place_at (window_at cs 0).from (slot + length cs))
+
+    counted : (b : Bool) → length (cond b (placed_next ends from cs numbers ++ last ∷ []) (first ∷ map text_of cs)) ≤ cond b (2 * length cs + 1) (length cs) + (length cs - 1)
     counted true = let a = length-append (placed_next ends from cs numbers) (last ∷ []) in let p = count_placed numbers in omega (arith, two, many)
-    counted false = let a = count_map Text cs in omega (arith, two)
+    counted false = let a = count_map text_of cs in omega (arith, two)
 
 leads_at : {kind : Kind} {all : Pairs} {slots : List ℕ} {slot end : ℕ} {w : Window} (k : Opened kind all slots slot end w) (cs : List Window) (numbers : List ℕ) → k.cs ≡ cs → 0 < length cs
     → AllByRecursion (λ j. j < length cs) numbers → (is_hashed kind (length cs) ≡ false → map (window_at cs) numbers ≡ cs)
-    → (next : List Next) (ws : List Window) → Leads kind all slots end next ws → Leads kind all slots slot (next_of kind slots slot cs numbers ++ next) (map (window_at cs) numbers ++ ws)
-leads_at {kind = kind} {all = all} {slots = slots} {slot = slot} {end = end} k cs numbers same =
+    → (next : List Next) (ws : List Window) → Leads kind all slots (place_at w.to end) next ws → (at : Place) → Leads kind all slots at (next_of kind slots slot cs numbers ++ next) (map (window_at cs) numbers ++ ws)
+leads_at {kind = kind} {all = all} {slots = slots} {slot = slot} {end = end} {w = w} k cs numbers same =
     subst (λ x. 0 < length x → AllByRecursion (λ j. j < length x) numbers → (is_hashed kind (length x) ≡ false → map (window_at x) numbers ≡ x)
-    → (next : List Next) (ws : List Window) → Leads kind all slots end next ws → Leads kind all slots slot (next_of kind slots slot x numbers ++ next) (map (window_at x) numbers ++ ws))
+    → (next : List Next) (ws : List Window) → Leads kind all slots (place_at w.to end) next ws → (at : Place) → Leads kind all slots at (next_of kind slots slot x numbers ++ next) (map (window_at x) numbers ++ ws))
     same (next_leads k numbers)
 
 -- a branch was written
@@ -461,9 +465,9 @@ front_branch {kind = kind} {all = all} {slots = slots} {slot = slot} {end = end}
           (g.lists (front ++ concat texts) (subst (λ x. Listed kind (front ++ concat texts) (window all x)) s.0 (branch_text o texts b (omega arith) two h)));
       leads = λ last more ws kept then.
           (let other = opened kept in
-          subst (λ x. Leads kind all slots slot (x ++ more) (vs ++ ws)) (sym next_is)
+          subst (λ x. Leads kind all slots (place_at w.to slot) (x ++ more) (vs ++ ws)) (sym next_is)
           (leads_at other cs numbers (branch_same k other g (inr e)).1 (let t = n.0 in omega arith) b.within
-          (λ h. ap (map (window_at cs)) (laid.in_order h) ∙ named (λ (x : Window). x) cs no_window ∙ map_same cs) more ws then));
+          (λ h. ap (map (window_at cs)) (laid.in_order h) ∙ named (λ (x : Window). x) cs no_window ∙ map_same cs) more ws then (place_at w.to slot)));
     }
 
 -- no branch was there to write
@@ -481,7 +485,7 @@ front_end {kind = kind} {all = all} {slots = slots} {slot = slot} {w = w} {list 
       lists = λ texts h. whole texts h;
       leads = λ last more ws kept then.
           (let other = opened kept in
-          subst (λ x. Leads kind all slots x more ws) (none_ends other ((branch_same k other g (inl e)).1 ∙ n.0)) then);
+          subst (λ x. Leads kind all slots (place_at w.to x) more ws) (none_ends other ((branch_same k other g (inl e)).1 ∙ n.0)) then);
     })
   where
     whole : (texts : List (List ℕ)) → Texts kind all [] texts → Listed kind (g.done ++ concat texts) (window all w)

@@ -14,6 +14,7 @@ mod GroupLemmas
 mod StepLemmas
 mod PutLemmas
 mod RunLemmas
+mod ShortLemmas
 mod OpenLemmas
 mod AgreeLemmas
 mod MeasuredLemmas

@@ -8,14 +8,16 @@ use Rattle.zerotrie_core.specs.Kind.{Kind, fold_byte, is_hashed}
 use Rattle.zerotrie_core.specs.Maps.{Pairs}
 use Rattle.zerotrie_core.specs.Canonical.{size_of}
 use Rattle.zerotrie_build.specs.declared.steps.Window.{Window}
+use Rattle.zerotrie_build.specs.declared.laying.Place.{Place}
 use Rattle.zerotrie_build.specs.declared.laying.Next.{Next}
-use Rattle.zerotrie_build.specs.declared.laying.Next.TheVariants.{Slot, Text}
+use Rattle.zerotrie_build.specs.declared.laying.Next.TheVariants.{Go}
 use Rattle.zerotrie_build.specs.passes.Windows.{window, edge_of, IsGroup}
-use Rattle.zerotrie_build.specs.passes.Measured.{Parts, IsOpen, Kept, KeptEach, sizes_of, slots_of, ends_from}
+use Rattle.zerotrie_build.specs.passes.Measured.{Run, Parts, IsOpen, Kept, KeptEach, sizes_of, slots_of, ends_from}
+use Rattle.zerotrie_build.specs.passes.Measured.Run.{here, value, literal, span}
 use Rattle.zerotrie_build.specs.passes.Measured.Kept.{kept}
 use Rattle.zerotrie_build.specs.passes.Measured.KeptEach.{none as none_kept, more as more_kept}
-use Rattle.zerotrie_build.specs.passes.Writing.{window_at, placed_next, next_of, HasSlots, KeptTo, Leads}
-use Rattle.zerotrie_build.specs.passes.Writing.Leads.{slot as to_slot, text as to_text}
+use Rattle.zerotrie_build.specs.passes.Writing.{window_at, place_at, text_of, placed_next, next_of, HasSlots, KeptTo, Leads}
+use Rattle.zerotrie_build.specs.passes.Writing.Leads.{go as to_go, text as to_text}
 use Rattle.zerotrie_build.proofs.PutLemmas.{count_map}
 
 -- the first items with one byte end at one place
@@ -28,7 +30,7 @@ group_same {m = m} {n = n} p q = elim (cases_lt m n) [
   ]
 ]
 
-window_same : (c d : Window) → c.from ≡ d.from → c.to ≡ d.to → c.depth ≡ d.depth → c ≡ d
+pub window_same : (c d : Window) → c.from ≡ d.from → c.to ≡ d.to → c.depth ≡ d.depth → c ≡ d
 window_same c d f t e =
     ap (λ x. record { from = x; to = c.to; depth = c.depth }) f ∙ ap (λ x. record { from = d.from; to = x; depth = c.depth }) t
     ∙ ap (λ x. record { from = d.from; to = d.to; depth = x }) e
@@ -166,40 +168,63 @@ kept_at slots from n more (more_kept {slots = s} {below = below} k each) is (suc
     (ap (λ x. drop x slots) (sym next) ∙ sym (drop-drop (length s) (from + n) slots) ∙ ap (drop (length s)) (is ∙ append_assoc s (concat below) more) ∙ drop_at s (concat below ++ more) (length s) refl) i (omega arith)
 
 leads_placed : {kind : Kind} {all : Pairs} (slots : List ℕ) (from : ℕ) (cs : List Window) (ends : List ℕ) → ((i : ℕ) → i < length cs → (end : ℕ) × KeptTo kind all slots (from + get_or (0 ∷ ends) i 0) end (window_at cs i))
-    → (numbers : List ℕ) → AllByRecursion (λ i. i < length cs) numbers → (next : List Next) (ws : List Window) → ((at : ℕ) → Leads kind all slots at next ws)
-    → (at : ℕ) → Leads kind all slots at (placed_next ends from cs numbers ++ next) (map (window_at cs) numbers ++ ws)
+    → (numbers : List ℕ) → AllByRecursion (λ i. i < length cs) numbers → (next : List Next) (ws : List Window) → ((at : Place) → Leads kind all slots at next ws)
+    → (at : Place) → Leads kind all slots at (placed_next ends from cs numbers ++ next) (map (window_at cs) numbers ++ ws)
 leads_placed slots from cs ends each [] within next ws then at = then at
 leads_placed slots from cs ends each (i ∷ numbers) within next ws then at =
     let here = each i within.0 in
-    to_slot (to_text here.1 (leads_placed slots from cs ends each numbers within.1 next ws then here.0))
+    to_go (to_text here.1 (leads_placed slots from cs ends each numbers within.1 next ws then (place_at (window_at cs i).to here.0)))
 
-leads_sorted : {kind : Kind} {all : Pairs} {cs : List Window} {below : List (List ℕ)} (slots : List ℕ) (at : ℕ) (more : List ℕ) → KeptEach kind all cs below → drop at slots ≡ concat below ++ more
-    → (next : List Next) (ws : List Window) → Leads kind all slots (at + length (concat below)) next ws → Leads kind all slots at (map Text cs ++ next) (cs ++ ws)
-leads_sorted {kind = kind} {all = all} slots at more none_kept is next ws then = subst (λ n. Leads kind all slots n next ws) (let e : at + 0 ≡ at = omega arith in e) then
-leads_sorted {kind = kind} {all = all} slots at more (more_kept {slots = s} {below = below} k each) is next ws then =
+leads_sorted : {kind : Kind} {all : Pairs} {cs : List Window} {below : List (List ℕ)} (slots : List ℕ) (v : Window) (at : ℕ) (more : List ℕ) → Parts all v cs → KeptEach kind all cs below → drop at slots ≡ concat below ++ more
+    → (next : List Next) (ws : List Window) → Leads kind all slots (place_at v.to (at + length (concat below))) next ws → Leads kind all slots (place_at v.from at) (map text_of cs ++ next) (cs ++ ws)
+leads_sorted {kind = kind} {all = all} slots v at more parts none_kept is next ws then =
+    subst (λ f. Leads kind all slots (place_at f at) next ws) (sym parts) (subst (λ n. Leads kind all slots (place_at v.to n) next ws) (let e : at + 0 ≡ at = omega arith in e) then)
+leads_sorted {kind = kind} {all = all} {cs = c ∷ cs} slots v at more parts (more_kept {slots = s} {below = below} k each) is next ws then =
     let whole = is ∙ append_assoc s (concat below) more in
     let long : at + length (s ++ concat below) ≡ at + length s + length (concat below) = (let a = length-append s (concat below) in omega arith) in
-    to_text (record { below = s; more = concat below ++ more; kept = k; slots_are = whole; end_is = refl })
-    (leads_sorted slots (at + length s) more each (sym (drop-drop (length s) at slots) ∙ ap (drop (length s)) whole ∙ drop_at s (concat below ++ more) (length s) refl) next ws
-    (subst (λ n. Leads kind all slots n next ws) long then))
+    subst (λ f. Leads kind all slots (place_at f at) (map text_of (c ∷ cs) ++ next) (c ∷ cs ++ ws)) parts.0
+    (to_text (record { below = s; more = concat below ++ more; kept = k; slots_are = whole; end_is = refl })
+    (leads_sorted slots (record v { from = c.to }) (at + length s) more parts.3 each (sym (drop-drop (length s) at slots) ∙ ap (drop (length s)) whole ∙ drop_at s (concat below ++ more) (length s) refl) next ws
+    (subst (λ n. Leads kind all slots (place_at v.to n) next ws) long then)))
+
+-- the first window begins where the branch does, and the last one ends there too
+parts_first : (all : Pairs) (w : Window) (cs : List Window) → Parts all w cs → 0 < length cs → (window_at cs 0).from ≡ w.from
+parts_first all w [] parts some = absurd (omega arith)
+parts_first all w (c ∷ cs) parts some = parts.0
+
+parts_last : (all : Pairs) (w : Window) (cs : List Window) → Parts all w cs → 0 < length cs → (window_at cs (length cs - 1)).to ≡ w.to
+parts_last all w [] parts some = absurd (omega arith)
+parts_last all w (c ∷ []) parts some = parts.3
+parts_last all w (c ∷ d ∷ cs) parts some =
+    let next : suc (suc (length cs)) - 1 ≡ suc (suc (length cs) - 1) = omega arith in
+    ap (λ i. (window_at (c ∷ d ∷ cs) i).to) next ∙ parts_last all (record w { from = c.to }) (d ∷ cs) parts.3 (omega arith)
+
+-- a run ends where its window does
+run_to : {kind : Kind} {all : Pairs} {w behind : Window} {n : ℕ} → Run kind all w behind n → behind.to ≡ w.to
+run_to here = refl
+run_to (value v is run) = run_to run
+run_to (literal b is run) = run_to run
+run_to (span m is run) = run_to run
 
 next_hashed : (kind : Kind) (slots : List ℕ) (slot : ℕ) (cs : List Window) (numbers : List ℕ) → is_hashed kind (length cs) ≡ true
     → next_of kind slots slot cs numbers ≡ placed_next (take (length cs) (drop (slot + length cs) slots)) (slot + 2 * length cs) cs numbers
-    ++ Slot (slot + 2 * length cs + get_or (take (length cs) (drop (slot + length cs) slots)) (length cs - 1) 0) ∷ []
+    ++ Go (place_at (window_at cs (length cs - 1)).to (slot + 2 * length cs + get_or (take (length cs) (drop (slot + length cs) slots)) (length cs - 1) 0)) ∷ []
 next_hashed kind slots slot cs numbers h =
     let ends = take (length cs) (drop (slot + length cs) slots) in
-    ap (λ is. cond is (placed_next ends (slot + 2 * length cs) cs numbers ++ Slot (slot + 2 * length cs + get_or ends (length cs - 1) 0) ∷ []) (Slot (slot + length cs) ∷ map Text cs)) h
+    ap (λ is. cond is (placed_next ends (slot + 2 * length cs) cs numbers ++ Go (place_at (window_at cs (length cs - 1)).to (slot + 2 * length cs + get_or ends (length cs - 1) 0)) ∷ [])
+    (Go (place_at (window_at cs 0).from (slot + length cs)) ∷ map text_of cs)) h
 
-next_plain : (kind : Kind) (slots : List ℕ) (slot : ℕ) (cs : List Window) (numbers : List ℕ) → is_hashed kind (length cs) ≡ false → next_of kind slots slot cs numbers ≡ Slot (slot + length cs) ∷ map Text cs
+next_plain : (kind : Kind) (slots : List ℕ) (slot : ℕ) (cs : List Window) (numbers : List ℕ) → is_hashed kind (length cs) ≡ false → next_of kind slots slot cs numbers ≡ Go (place_at (window_at cs 0).from (slot + length cs)) ∷ map text_of cs
 next_plain kind slots slot cs numbers h =
     let ends = take (length cs) (drop (slot + length cs) slots) in
-    ap (λ is. cond is (placed_next ends (slot + 2 * length cs) cs numbers ++ Slot (slot + 2 * length cs + get_or ends (length cs - 1) 0) ∷ []) (Slot (slot + length cs) ∷ map Text cs)) h
+    ap (λ is. cond is (placed_next ends (slot + 2 * length cs) cs numbers ++ Go (place_at (window_at cs (length cs - 1)).to (slot + 2 * length cs + get_or ends (length cs - 1) 0)) ∷ [])
+    (Go (place_at (window_at cs 0).from (slot + length cs)) ∷ map text_of cs)) h
 
 -- the targets of a branch, in the order of its table
 pub next_leads : {kind : Kind} {all : Pairs} {slots : List ℕ} {slot end : ℕ} {w : Window} (k : Opened kind all slots slot end w) (numbers : List ℕ) → 0 < length k.cs
     → AllByRecursion (λ j. j < length k.cs) numbers → (is_hashed kind (length k.cs) ≡ false → map (window_at k.cs) numbers ≡ k.cs)
-    → (next : List Next) (ws : List Window) → Leads kind all slots end next ws → Leads kind all slots slot (next_of kind slots slot k.cs numbers ++ next) (map (window_at k.cs) numbers ++ ws)
-next_leads {kind = kind} {all = all} {slots = slots} {slot = slot} {end = end} k numbers some within sorted next ws then = either (is_hashed kind (length k.cs)) refl
+    → (next : List Next) (ws : List Window) → Leads kind all slots (place_at w.to end) next ws → (at : Place) → Leads kind all slots at (next_of kind slots slot k.cs numbers ++ next) (map (window_at k.cs) numbers ++ ws)
+next_leads {kind = kind} {all = all} {slots = slots} {slot = slot} {end = end} {w = w} k numbers some within sorted next ws then at = either (is_hashed kind (length k.cs)) refl
   where
     count : ℕ
     count = length k.cs
@@ -210,7 +235,7 @@ next_leads {kind = kind} {all = all} {slots = slots} {slot = slot} {end = end} k
     lens_each : length lens ≡ count
     lens_each = count_map (size_of kind) (map (window all) k.cs) ∙ count_map (window all) k.cs
 
-    either : (b : Bool) → is_hashed kind count ≡ b → Leads kind all slots slot (next_of kind slots slot k.cs numbers ++ next) (map (window_at k.cs) numbers ++ ws)
+    either : (b : Bool) → is_hashed kind count ≡ b → Leads kind all slots at (next_of kind slots slot k.cs numbers ++ next) (map (window_at k.cs) numbers ++ ws)
     either true is =
         let h = hashed_at kind slots slot count lens k.below k.more is lens_each (each_count k.each) some k.slots_are in
         let ends = ends_from 0 (map length k.below) in
@@ -227,12 +252,16 @@ next_leads {kind = kind} {all = all} {slots = slots} {slot = slot} {end = end} k
         omega (arith, lens_each)) in
         let start : from + 0 ≡ from = omega arith in
         let each = kept_at slots from 0 k.more k.each (ap (λ n. drop n slots) start ∙ h.behind) in
-        let tail : Leads kind all slots (from + get_or ends (count - 1) 0) next ws = subst (λ n. Leads kind all slots n next ws) (sym last) then in
-        let there = leads_placed slots from k.cs ends each numbers within (Slot (from + get_or ends (count - 1) 0) ∷ next) ws (λ n. to_slot tail) slot in
-        let items : next_of kind slots slot k.cs numbers ++ next ≡ placed_next ends from k.cs numbers ++ (Slot (from + get_or ends (count - 1) 0) ∷ next) =
-        ap (λ x. x ++ next) (next_hashed kind slots slot k.cs numbers is ∙ ap (λ es. placed_next es from k.cs numbers ++ Slot (from + get_or es (count - 1) 0) ∷ []) h.ends_are)
-        ∙ append_assoc (placed_next ends from k.cs numbers) (Slot (from + get_or ends (count - 1) 0) ∷ []) next in
-        subst (λ x. Leads kind all slots slot x (map (window_at k.cs) numbers ++ ws)) (sym items) there
+        let to = (window_at k.cs (count - 1)).to in
+        let to_is : to ≡ w.to = parts_last all k.known.behind k.cs k.known.parts some ∙ run_to k.known.run in
+        let past = Go (place_at to (from + get_or ends (count - 1) 0)) in
+        let tail : Leads kind all slots (place_at to (from + get_or ends (count - 1) 0)) next ws =
+        subst (λ n. Leads kind all slots (place_at to n) next ws) (sym last) (subst (λ f. Leads kind all slots (place_at f end) next ws) (sym to_is) then) in
+        let there = leads_placed slots from k.cs ends each numbers within (past ∷ next) ws (λ n. to_go tail) at in
+        let items : next_of kind slots slot k.cs numbers ++ next ≡ placed_next ends from k.cs numbers ++ (past ∷ next) =
+        ap (λ x. x ++ next) (next_hashed kind slots slot k.cs numbers is ∙ ap (λ es. placed_next es from k.cs numbers ++ Go (place_at to (from + get_or es (count - 1) 0)) ∷ []) h.ends_are)
+        ∙ append_assoc (placed_next ends from k.cs numbers) (past ∷ []) next in
+        subst (λ x. Leads kind all slots at x (map (window_at k.cs) numbers ++ ws)) (sym items) there
     either false is =
         let p = plain_at kind slots slot count lens k.below k.more is lens_each k.slots_are in
         let last : end ≡ slot + count + length (concat k.below) =
@@ -240,9 +269,14 @@ next_leads {kind = kind} {all = all} {slots = slots} {slot = slot} {end = end} k
         let long = ap length (slots_plain kind lens k.below (ap (is_hashed kind) lens_each ∙ is)) in
         let a = length-append lens (concat k.below) in
         omega (arith, lens_each)) in
-        let there = to_slot (leads_sorted slots (slot + count) k.more k.each p next ws (subst (λ n. Leads kind all slots n next ws) last then)) in
-        subst (λ x. Leads kind all slots slot (x ++ next) (map (window_at k.cs) numbers ++ ws)) (sym (next_plain kind slots slot k.cs numbers is))
-        (subst (λ x. Leads kind all slots slot (Slot (slot + count) ∷ map Text k.cs ++ next) (x ++ ws)) (sym (sorted is)) there)
+        let behind = k.known.behind in
+        let tail : Leads kind all slots (place_at behind.to (slot + count + length (concat k.below))) next ws =
+        subst (λ n. Leads kind all slots (place_at behind.to n) next ws) last (subst (λ f. Leads kind all slots (place_at f end) next ws) (sym (run_to k.known.run)) then) in
+        let first : (window_at k.cs 0).from ≡ behind.from = parts_first all behind k.cs k.known.parts some in
+        let there : Leads kind all slots at (Go (place_at (window_at k.cs 0).from (slot + count)) ∷ map text_of k.cs ++ next) (k.cs ++ ws) =
+        to_go (subst (λ f. Leads kind all slots (place_at f (slot + count)) (map text_of k.cs ++ next) (k.cs ++ ws)) (sym first) (leads_sorted slots behind (slot + count) k.more k.known.parts k.each p next ws tail)) in
+        subst (λ x. Leads kind all slots at (x ++ next) (map (window_at k.cs) numbers ++ ws)) (sym (next_plain kind slots slot k.cs numbers is))
+        (subst (λ x. Leads kind all slots at (Go (place_at (window_at k.cs 0).from (slot + count)) ∷ map text_of k.cs ++ next) (x ++ ws)) (sym (sorted is)) there)
 
 -- no branch has no slots
 pub none_ends : {kind : Kind} {all : Pairs} {slots : List ℕ} {slot end : ℕ} {w : Window} (k : Opened kind all slots slot end w) → k.cs ≡ [] → end ≡ slot

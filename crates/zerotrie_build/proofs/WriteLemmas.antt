@@ -11,14 +11,16 @@ use Rattle.zerotrie_core.specs.Texts.{Means}
 use Rattle.zerotrie_core.proofs.CallerLemmas.{same-map}
 use Rattle.zerotrie_build.specs.Order.{Ordered}
 use Rattle.zerotrie_build.specs.declared.steps.Window.{Window}
+use Rattle.zerotrie_build.specs.declared.laying.Place.{Place}
+use Rattle.zerotrie_build.specs.declared.laying.Piece.{Piece}
 use Rattle.zerotrie_build.specs.declared.laying.Next.{Next}
-use Rattle.zerotrie_build.specs.declared.laying.Next.TheVariants.{Slot, Text}
+use Rattle.zerotrie_build.specs.declared.laying.Next.TheVariants.{Go, Text}
 use Rattle.zerotrie_build.specs.passes.Windows.{window}
 use Rattle.zerotrie_build.specs.passes.Measured.{IsMeasured, sizes_of, whole}
-use Rattle.zerotrie_build.specs.passes.Writing.{Listed, Texts, KeptTo, Leads, FrontPut, Left}
-use Rattle.zerotrie_build.specs.passes.Writing.Leads.{done, slot as to_slot, text as to_text}
+use Rattle.zerotrie_build.specs.passes.Writing.{Listed, Texts, place_at, text_of, KeptTo, Leads, FrontPut, Left}
+use Rattle.zerotrie_build.specs.passes.Writing.Leads.{done, go as to_go, text as to_text}
 use Rattle.zerotrie_build.proofs.PutLemmas.{total_append}
-use Rattle.zerotrie_build.proofs.SlotLemmas.{opened}
+use Rattle.zerotrie_build.proofs.SlotLemmas.{window_same, opened}
 use Rattle.zerotrie_build.proofs.WindowLemmas.{cut_whole}
 
 record Split (kind : Kind) (all : Pairs) (xs ys : List Window) (texts : List (List ℕ)) : Type 0 where
@@ -48,12 +50,12 @@ measured_to {slots = slots} m = record { below = slots; more = []; kept = m.slot
 pub measured_ordered : {kind : Kind} {all : Pairs} {slots : List ℕ} {len : ℕ} → IsMeasured kind all slots len → Ordered kind all
 measured_ordered {kind = kind} {all = all} m = subst (Ordered kind) (cut_whole all) (opened (measured_to m)).known.ordered
 
-pub leads_start : {kind : Kind} {all : Pairs} {slots : List ℕ} {len : ℕ} → IsMeasured kind all slots len → Leads kind all slots 0 (Text (whole all) ∷ []) (whole all ∷ [])
+pub leads_start : {kind : Kind} {all : Pairs} {slots : List ℕ} {len : ℕ} → IsMeasured kind all slots len → Leads kind all slots (place_at 0 0) (text_of (whole all) ∷ []) (whole all ∷ [])
 leads_start m = to_text (measured_to m) done
 
-pub first_pushed : (all : Pairs) (none one : List Next) (to : ℕ) → none ≡ [] → one ≡ none ++ Text (record { from = 0; to = to; depth = 0 }) ∷ [] → to ≡ length all → Text (whole all) ∷ [] ≡ reverse one
+pub first_pushed : (all : Pairs) (none one : List Next) (to : ℕ) → none ≡ [] → one ≡ none ++ Text (record { to = to; depth = 0 }) ∷ [] → to ≡ length all → text_of (whole all) ∷ [] ≡ reverse one
 first_pushed all none one to empty pushed is =
-    sym (ap reverse (pushed ∙ ap (λ x. x ++ Text (record { from = 0; to = to; depth = 0 }) ∷ []) empty) ∙ ap (λ n. Text (record { from = 0; to = n; depth = 0 }) ∷ []) is)
+    sym (ap reverse (pushed ∙ ap (λ x. x ++ Text (record { to = to; depth = 0 }) ∷ []) empty) ∙ ap (λ n. Text (record { to = n; depth = 0 }) ∷ []) is)
 
 pub only_zeros : (empty list : List ℕ) (len : ℕ) → empty ≡ [] → list ≡ replicate len 0 ++ empty → list ≡ replicate len 0
 only_zeros empty list len none is = is ∙ ap (λ x. replicate len 0 ++ x) none ∙ append-nil (replicate len 0)
@@ -126,30 +128,40 @@ left_less {next = next} rest l p =
     omega arith
 
 -- what is written next, by what stands first
-pub leads_none : {kind : Kind} {all : Pairs} {slots : List ℕ} {at : ℕ} {next : List Next} {ws : List Window} → Leads kind all slots at next ws → next ≡ [] → ws ≡ []
+pub leads_none : {kind : Kind} {all : Pairs} {slots : List ℕ} {at : Place} {next : List Next} {ws : List Window} → Leads kind all slots at next ws → next ≡ [] → ws ≡ []
 leads_none done e = refl
-leads_none (to_slot l) e = absurd (cc)
+leads_none (to_go l) e = absurd (cc)
 leads_none (to_text k l) e = absurd (cc)
 
-pub leads_slot : {kind : Kind} {all : Pairs} {slots : List ℕ} {at : ℕ} {next : List Next} {ws : List Window} (n : ℕ) (rest : List Next) → Leads kind all slots at next ws → next ≡ Slot n ∷ rest → Leads kind all slots n rest ws
-leads_slot n rest done e = absurd (cc)
-leads_slot {kind = kind} {all = all} {slots = slots} {ws = ws} n rest (to_slot {to = to} {next = next} l) e =
-    let same : to ≡ n = cc in
+pub leads_go : {kind : Kind} {all : Pairs} {slots : List ℕ} {at : Place} {next : List Next} {ws : List Window} (there : Place) (rest : List Next) → Leads kind all slots at next ws → next ≡ Go there ∷ rest → Leads kind all slots there rest ws
+leads_go there rest done e = absurd (cc)
+leads_go {kind = kind} {all = all} {slots = slots} {ws = ws} there rest (to_go {to = to} {next = next} l) e =
+    let same : to ≡ there = cc in
     let more : next ≡ rest = cc in
     subst (λ x. Leads kind all slots x rest ws) same (subst (λ x. Leads kind all slots to x ws) more l)
-leads_slot n rest (to_text k l) e = absurd (cc)
+leads_go there rest (to_text k l) e = absurd (cc)
 
 pub record TextLeads (kind : Kind) (all : Pairs) (slots : List ℕ) (slot : ℕ) (w : Window) (rest : List Next) (ws : List Window) : Type 0 where
   pub end : ℕ
   pub kept : KeptTo kind all slots slot end w
   pub behind : List Window
-  pub leads : Leads kind all slots end rest behind
+  pub leads : Leads kind all slots (place_at w.to end) rest behind
   pub is : ws ≡ w ∷ behind
 
-pub leads_text : {kind : Kind} {all : Pairs} {slots : List ℕ} {at : ℕ} {next : List Next} {ws : List Window} (w : Window) (rest : List Next) → Leads kind all slots at next ws → next ≡ Text w ∷ rest → TextLeads kind all slots at w rest ws
-leads_text w rest done e = absurd (cc)
-leads_text w rest (to_slot l) e = absurd (cc)
-leads_text {kind = kind} {all = all} {slots = slots} {at = at} w rest (to_text {end = end} {w = v} {next = next} {ws = ws} k l) e =
-    let same : v ≡ w = cc in
+pub leads_text : {kind : Kind} {all : Pairs} {slots : List ℕ} {at : Place} {next : List Next} {ws : List Window} (piece : Piece) (rest : List Next) → Leads kind all slots at next ws → next ≡ Text piece ∷ rest
+    → TextLeads kind all slots at.slot (record { from = at.from; to = piece.to; depth = piece.depth }) rest ws
+leads_text piece rest done e = absurd (cc)
+leads_text piece rest (to_go l) e = absurd (cc)
+leads_text {kind = kind} {all = all} {slots = slots} piece rest (to_text {slot = slot} {end = end} {w = v} {next = next} {ws = ws} k l) e =
+    let here : Piece = record { to = v.to; depth = v.depth } in
+    let first : here ≡ piece = cc in
     let more : next ≡ rest = cc in
-    record { end = end; kept = subst (λ x. KeptTo kind all slots at end x) same k; behind = ws; leads = subst (λ x. Leads kind all slots end x ws) more l; is = ap (λ x. x ∷ ws) same }
+    let w : Window = record { from = v.from; to = piece.to; depth = piece.depth } in
+    let same : v ≡ w = window_same v w refl (ap (λ p. p.to) first) (ap (λ p. p.depth) first) in
+    record {
+      end = end;
+      kept = subst (λ x. KeptTo kind all slots slot end x) same k;
+      behind = ws;
+      leads = subst (λ x. Leads kind all slots (place_at x.to end) rest ws) same (subst (λ x. Leads kind all slots (place_at v.to end) x ws) more l);
+      is = ap (λ x. x ∷ ws) same;
+    }

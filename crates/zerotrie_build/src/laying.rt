@@ -7,26 +7,51 @@ ghost use Rattle.zerotrie_base.specs.Refusals.{IsTableRefusal};
 ghost use Rattle.zerotrie_core.specs.Causes.{AreCrooked};
 ghost use Rattle.zerotrie_build.specs.Items.{pairs};
 ghost use Rattle.zerotrie_build.specs.Order.{Ordered};
-ghost use Rattle.zerotrie_build.specs.passes.Windows.{window as window_of, edge_of};
+ghost use Rattle.zerotrie_build.specs.passes.Windows.{window as window_of, edge_of, IsGroup};
 ghost use Rattle.zerotrie_build.specs.passes.Measured.{Parts};
-ghost use Rattle.zerotrie_build.specs.passes.Writing.{edge_no, place_in, placed_next, next_of, IsSearched, IsLaid, HasSlots};
+ghost use Rattle.zerotrie_build.specs.passes.Writing.{window_at, edge_no, place_in, place_at, text_of, placed_next, next_of, IsSearched, IsLaid, HasSlots};
 
 use crate::measuring::is_hashed;
 use crate::slice_indices::ByteSliceWithIndices;
-use crate::steps::{Window, edge_at, group_end_near};
+use crate::steps::{Window, edge_at, group_end, group_end_near};
 use std::alloc::{AllocError, Allocator, Global};
 use zerotrie_core::{PerfectByteHashMapCacheOwned, ZeroTrieBuildError, ZeroTrieWithOptions};
 
 /// The most edges that a sorted table has in the kinds with hashed ones.
 const SORTED: usize = 15;
 
+/// Where the next window begins: with which item, and with which slot.
+#[derive(Clone, Copy, Debug)]
+pub(crate) struct Place {
+    pub(crate) from: usize,
+    pub(crate) slot: usize,
+}
+
+/// A window that begins where the one before it ended.
+#[derive(Clone, Copy, Debug)]
+pub(crate) struct Piece {
+    pub(crate) to: usize,
+    pub(crate) depth: usize,
+}
+
 /// What is written next.
 #[derive(Clone, Copy, Debug)]
 pub(crate) enum Next {
-    /// The slots go on from this number on.
-    Slot(usize),
+    /// The next window begins at this place.
+    Go(Place),
     /// The text of this window.
-    Text(Window),
+    Text(Piece),
+}
+
+/// What the second pass goes by: the items, and what the first pass found of them.
+#[derive(Clone, Copy, Debug)]
+pub(crate) struct Plan<'a> {
+    pub(crate) items: ByteSliceWithIndices<'a>,
+    /// The slots, and beside them guesses how many items the targets have.
+    pub(crate) slots: &'a [usize],
+    pub(crate) counts: &'a [u8],
+    /// If it is true, all keys are ASCII.
+    pub(crate) ascii: bool,
 }
 
 /// The layout of a branch. Its memory serves one branch after another. Hashed tables have memory of their own.
@@ -91,10 +116,9 @@ impl<A: Allocator + Copy> Layout<A> {
         self.clear();
         let mut rest = window;
         while rest.from < rest.to {
-            let count = counts.get(self.windows.len()).copied().unwrap_or(0);
             let target = Window {
                 from: rest.from,
-                to: group_end_near::<K>(items, rest, count),
+                to: target_end::<K>(items, rest, counts, self.windows.len()),
                 depth: rest.depth + 1,
             };
             let edge = edge_at(items, target);
@@ -122,34 +146,33 @@ impl<A: Allocator + Copy> Layout<A> {
         Ok(())
     }
 
-    /// Lays the targets of the branch out that stands first in the window, whose slots begin at `slot`. The counts
-    /// beside these are guesses.
+    /// Lays the targets of the branch out that stands first in the window, whose slots begin at `slot`.
     pub(crate) fn set<K: ZeroTrieWithOptions>(
         &mut self,
-        items: ByteSliceWithIndices<'_>,
+        plan: Plan<'_>,
         window: Window,
-        slots: &[usize],
         slot: usize,
-        counts: &[u8],
     ) -> Result<(), ZeroTrieBuildError>
         requires order { window.from ≤ window.to }
-        requires items { window.to ≤ length (pairs items) }
+        requires items { window.to ≤ length (pairs plan.items) }
         requires room { window.depth + 1 < 2 ^ 64 }
-        requires ordered { Ordered K.kind (window_of (pairs items) window) }
-        requires slots { HasSlots K.kind (pairs items) window slots.now slot }
-        ensures parts { OnOk result (Parts (pairs items.entry) window self.new.windows.items) }
-        ensures laid { OnOk result (IsLaid K.kind (edge_no (pairs items.entry) self.new.windows.items)
+        requires ordered { Ordered K.kind (window_of (pairs plan.items) window) }
+        requires slots { HasSlots K.kind (pairs plan.items) window plan.slots.now slot }
+        ensures parts { OnOk result (Parts (pairs plan.entry.items) window self.new.windows.items) }
+        ensures laid { OnOk result (IsLaid K.kind (edge_no (pairs plan.entry.items) self.new.windows.items)
             (length self.new.windows.items) self.new.table.items self.new.numbers.items) }
         ensures pending { OnOk result (reverse self.new.pending.items
-            ≡ next_of K.kind slots.now slot self.new.windows.items self.new.numbers.items
+            ≡ next_of K.kind plan.entry.slots.now slot self.new.windows.items self.new.numbers.items
             ++ reverse self.old.pending.items) }
         ensures refused { IfErr result (λ e. e ≢ ZeroTrieBuildError.OutOfMemory
-            → (e ≡ ZeroTrieBuildError.CouldNotSolvePerfectHash) × ((cs : List Window) → Parts (pairs items.entry) window cs
-            → AreCrooked K.kind (map (edge_of (pairs items.entry)) cs))) }
+            → (e ≡ ZeroTrieBuildError.CouldNotSolvePerfectHash)
+            × ((cs : List Window) → Parts (pairs plan.entry.items) window cs
+            → AreCrooked K.kind (map (edge_of (pairs plan.entry.items)) cs))) }
     {
+        let slots = plan.slots;
         // That a length is below 2^64 tells the proof that so are the places of the slots.
         let _len = slots.len();
-        self.set_sorted::<K>(items, window, counts.get(slot..).unwrap_or(&[]))?;
+        self.set_sorted::<K>(plan.items, window, plan.counts.get(slot..).unwrap_or(&[]))?;
         let edges = self.windows.len();
         if is_hashed::<K>(edges) {
             self.set_hashed()?;
@@ -165,6 +188,27 @@ impl<A: Allocator + Copy> Layout<A> {
             push_sorted(&mut self.pending, self.windows.as_slice(), slot + edges)?;
         }
         Ok(())
+    }
+}
+
+/// Where the items of the branch's next target end, which has this number. The counts of the items are guesses, and
+/// the kinds with hashed tables have none.
+#[inline(always)]
+fn target_end<K: ZeroTrieWithOptions>(
+    items: ByteSliceWithIndices<'_>,
+    rest: Window,
+    counts: &[u8],
+    number: usize,
+) -> usize
+    requires within { rest.from < rest.to }
+    requires items { rest.to ≤ length (pairs items) }
+    requires ordered { Ordered K.kind (window_of (pairs items) rest) }
+    ensures { IsGroup (pairs items.entry) rest result }
+{
+    if K::USE_PHF {
+        group_end::<K>(items, rest)
+    } else {
+        group_end_near::<K>(items, rest, counts.get(number).copied().unwrap_or(0))
     }
 }
 
@@ -188,25 +232,40 @@ fn set_places<A: Allocator>(
     Ok(())
 }
 
+/// What is written for a window that begins where the one before it ended.
+fn text_of(window: Window) -> Next
+    ensures { result ≡ text_of window }
+{
+    Next::Text(Piece {
+        to: window.to,
+        depth: window.depth,
+    })
+}
+
 /// Puts the windows on the list of what is to be written, the first on top, where its slots begin at `slot`.
 fn push_sorted<A: Allocator>(
     pending: &mut Vec<Next, A>,
     windows: &[Window],
     slot: usize,
 ) -> Result<(), AllocError>
+    requires { 0 < length windows.now }
     ensures { OnOk result (reverse pending.new.items
-        ≡ (Next.Slot slot ∷ map Next.Text windows.now) ++ reverse pending.old.items) }
+        ≡ (Next.Go (place_at (window_at windows.now 0).from slot) ∷ map text_of windows.now)
+        ++ reverse pending.old.items) }
 {
     for index in (0..windows.len()).rev() {
-        pending.push(Next::Text(windows[index]))?;
+        pending.push(text_of(windows[index]))?;
     }
-    pending.push(Next::Slot(slot))?;
+    pending.push(Next::Go(Place {
+        from: windows[0].from,
+        slot,
+    }))?;
     Ok(())
 }
 
-/// Puts the windows of these numbers on the list of what is to be written, the first on top, each with its slots,
-/// of which those of the first window begin at `slot`, and beneath them the slots behind all. `ends` tells how many
-/// there are up to each window.
+/// Puts the windows of these numbers on the list of what is to be written, the first on top, each with its place,
+/// where the slots of the first window begin at `slot`, and beneath them the place behind all. `ends` tells how many
+/// slots there are up to each window.
 fn push_hashed<A: Allocator>(
     pending: &mut Vec<Next, A>,
     windows: &[Window],
@@ -219,16 +278,24 @@ fn push_hashed<A: Allocator>(
     requires room { All (λ e. slot + e < 2 ^ 64) ends.now }
     requires within { All (λ i. i < length windows.now) numbers.now }
     ensures { OnOk result (reverse pending.new.items ≡ (placed_next ends.now slot windows.now numbers.now
-        ++ Next.Slot (slot + slice_index_or ends.now (length ends.now - 1) 0) ∷ []) ++ reverse pending.old.items) }
+        ++ Next.Go (place_at (window_at windows.now (length windows.now - 1)).to
+        (slot + slice_index_or ends.now (length ends.now - 1) 0)) ∷ []) ++ reverse pending.old.items) }
 {
     // So there is room too for the targets of a sorted table below the first of them.
     pending.reserve(numbers.len().saturating_mul(2).saturating_add(SORTED))?;
-    pending.push(Next::Slot(slot + ends[ends.len() - 1]))?;
+    pending.push(Next::Go(Place {
+        from: windows[windows.len() - 1].to,
+        slot: slot + ends[ends.len() - 1],
+    }))?;
     for index in (0..numbers.len()).rev() {
         let number = numbers[index];
         let before = if number == 0 { 0 } else { ends[number - 1] };
-        pending.push(Next::Text(windows[number]))?;
-        pending.push(Next::Slot(slot + before))?;
+        let window = windows[number];
+        pending.push(text_of(window))?;
+        pending.push(Next::Go(Place {
+            from: window.from,
+            slot: slot + before,
+        }))?;
     }
     Ok(())
 }

@@ -14,7 +14,7 @@ ghost use Rattle.zerotrie_build.specs.passes.Measured.{Run, Stops, Parts, IsMeas
 ghost use Rattle.zerotrie_build.specs.passes.Walking.{tos, spare_len, with_len, left_open, IsOpened, Closing, IsTurn, IsNext};
 
 use crate::slice_indices::ByteSliceWithIndices;
-use crate::steps::{Step, Window, first_step, group_end, literals_end, lone_item};
+use crate::steps::{Step, Window, first_step, group_end, literals_end, one_item, rest_len};
 use std::alloc::{AllocError, Allocator};
 use zerotrie_core::{ZeroTrieBuildError, ZeroTrieWithOptions};
 
@@ -102,15 +102,13 @@ fn count_len(count: usize) -> usize
     number_len(16, count)
 }
 
-/// The window behind the values, literals and spans that stand first, and how many bytes these have. Where `ascii`
-/// is true, all keys are ASCII.
-fn behind_run<K: ZeroTrieWithOptions>(
+/// The window behind the values, literals and spans that stand first, and how many bytes these have.
+#[inline(always)]
+fn behind_nodes<K: ZeroTrieWithOptions>(
     items: ByteSliceWithIndices<'_>,
     start: Window,
-    ascii: bool,
 ) -> Result<(Window, usize), ZeroTrieBuildError>
     requires keys { AreKeys K.kind (pairs items) }
-    requires ascii { IsTrue ascii → AreLow (pairs items) }
     requires within { start.to ≤ length (pairs items) }
     requires ordered { Ordered K.kind (window_of (pairs items) start) }
     ensures run { IfOk result (λ r. Run K.kind (pairs items.entry) start r.0 r.1) }
@@ -123,15 +121,6 @@ fn behind_run<K: ZeroTrieWithOptions>(
     let mut rest = start;
     let mut len = 0;
     loop {
-        if let Some((literals, value)) = lone_item(items, rest, ascii) {
-            let lead = plus(len, literals.len())?;
-            let behind = Window {
-                from: rest.to,
-                to: rest.to,
-                depth: rest.depth + literals.len(),
-            };
-            return Ok((behind, plus(lead, value_len(value))?));
-        }
         match first_step::<K>(items, rest) {
             Step::Value(value) => {
                 len = plus(len, value_len(value))?;
@@ -150,6 +139,38 @@ fn behind_run<K: ZeroTrieWithOptions>(
             Step::Branch | Step::End => return Ok((rest, len)),
         }
     }
+}
+
+/// The same. Most windows have one item, whose text is told at once. Where `ascii` is true, all keys are ASCII.
+#[inline(always)]
+fn behind_run<K: ZeroTrieWithOptions>(
+    items: ByteSliceWithIndices<'_>,
+    start: Window,
+    ascii: bool,
+) -> Result<(Window, usize), ZeroTrieBuildError>
+    requires keys { AreKeys K.kind (pairs items) }
+    requires ascii { IsTrue ascii → AreLow (pairs items) }
+    requires within { start.to ≤ length (pairs items) }
+    requires ordered { Ordered K.kind (window_of (pairs items) start) }
+    ensures run { IfOk result (λ r. Run K.kind (pairs items.entry) start r.0 r.1) }
+    ensures stops { IfOk result (λ r. Stops K.kind (pairs items.entry) r.0) }
+    ensures room { IfOk result (λ r. step_of K.kind (pairs items.entry) r.0 ≡ Step.Branch
+        → r.0.depth + 1 < 2 ^ 64) }
+    ensures refused { IfErr result (λ e. (e ≡ ZeroTrieBuildError.CapacityExceeded)
+        × (2 ^ 64 ≤ size_of K.kind (window_of (pairs items.entry) start))) }
+{
+    let Some((rest, value)) = one_item(items, start) else {
+        return behind_nodes::<K>(items, start);
+    };
+    let Some(len) = rest_len::<K>(rest, ascii) else {
+        return behind_nodes::<K>(items, start);
+    };
+    let behind = Window {
+        from: start.to,
+        to: start.to,
+        depth: start.depth + rest.len(),
+    };
+    Ok((behind, plus(len, value_len(value))?))
 }
 
 /// The sum of these lengths.

@@ -1,9 +1,9 @@
 //! What stands first in the text of a window of the items.
 
-ghost use Rattle.std.specs.Prelude.{◌≡◌, ℕ, ◌+◌, ◌-◌, ◌^◌, ◌<◌, ◌≤◌, IfSome, Some, All, IsTrue, drop, slice_index, length};
+ghost use Rattle.std.specs.Prelude.{◌≡◌, ℕ, ◌+◌, ◌-◌, ◌^◌, ◌<◌, ◌≤◌, IfSome, Some, All, IsTrue, false, drop, slice_index, length};
 ghost use Rattle.zerotrie_build.specs.Items.{pairs};
 ghost use Rattle.zerotrie_build.specs.Order.{Ordered, AreLow};
-ghost use Rattle.zerotrie_build.specs.passes.Windows.{window as window_of, step_of, item_of, byte_of, edge_of, high_front, IsLow, IsLone, IsGroup};
+ghost use Rattle.zerotrie_build.specs.passes.Windows.{window as window_of, step_of, item_of, byte_of, edge_of, high_front, byte_size, short_size, IsLow, IsOne, IsRestLen, IsLone, IsGroup};
 
 use crate::slice_indices::ByteSliceWithIndices;
 use zerotrie_core::ZeroTrieWithOptions;
@@ -56,9 +56,26 @@ fn are_literals(bytes: &[u8]) -> bool
     true
 }
 
-/// The rest of the key and the value of the one item of a window, if there is but one and the rest is ASCII: they
-/// are all of the window's text, as literals and a value. Where all keys are known to be ASCII, the rest is not
-/// looked at.
+/// The rest of the key and the value of the one item of a window, if there is but one.
+#[inline(always)]
+pub(crate) fn one_item(items: ByteSliceWithIndices<'_>, window: Window) -> Option<(&[u8], usize)>
+    requires items { window.to ≤ length (pairs items) }
+    ensures is { IfSome result (λ r. IsOne (pairs items.entry) window r.0.now r.1) }
+    ensures room { IfSome result (λ r. window.depth + length r.0.now < 2 ^ 64) }
+    ensures low { IfSome result (λ r. AreLow (pairs items.entry) → All (λ b. b < 128) r.0.now) }
+{
+    if window.to.saturating_sub(window.from) != 1 {
+        return None;
+    }
+    let (key, value) = items.get(window.from);
+    // That a length is below 2^64 tells the proof that so is a place in it.
+    let _len = key.len();
+    let rest = key.get(window.depth..)?;
+    Some((rest, value))
+}
+
+/// The same, if the rest is ASCII: then they are all of the window's text, as literals and a value. Where all keys are
+/// known to be ASCII, the rest is not looked at.
 #[inline(always)]
 pub(crate) fn lone_item(
     items: ByteSliceWithIndices<'_>,
@@ -70,17 +87,53 @@ pub(crate) fn lone_item(
     ensures is { IfSome result (λ r. IsLone (pairs items.entry) window r.0.now r.1) }
     ensures room { IfSome result (λ r. window.depth + length r.0.now < 2 ^ 64) }
 {
-    if window.to.saturating_sub(window.from) != 1 {
-        return None;
-    }
-    let (key, value) = items.get(window.from);
-    // That a length is below 2^64 tells the proof that so is a place in it.
-    let _len = key.len();
-    let rest = key.get(window.depth..)?;
+    let (rest, value) = one_item(items, window)?;
     if !ascii && !are_literals(rest) {
         return None;
     }
     Some((rest, value))
+}
+
+/// How many bytes a byte of a short rest makes, behind one from 128 on or not: where it begins a span, it has the
+/// length of that in front.
+#[inline(always)]
+fn byte_len(high: bool, byte: u8) -> usize
+    ensures is { result ≡ byte_size high byte }
+    ensures few { result ≤ 2 }
+{
+    if byte < 128 || high { 1 } else { 2 }
+}
+
+/// How many bytes the literals and spans of a rest have that has itself less than 16, so that the length of each span
+/// has one.
+#[inline(always)]
+fn short_len(rest: &[u8]) -> usize
+    requires { length rest.now < 16 }
+    ensures { result ≡ short_size false rest.now }
+{
+    let mut len = 0;
+    let mut high = false;
+    for byte in rest {
+        len += byte_len(high, *byte);
+        high = *byte >= 128;
+    }
+    len
+}
+
+/// How many bytes the literals and spans of the rest of a key have, if its spans need not be told one by one. Where
+/// `ascii` is true, it has none.
+#[inline(always)]
+pub(crate) fn rest_len<K: ZeroTrieWithOptions>(rest: &[u8], ascii: bool) -> Option<usize>
+    requires { IsTrue ascii → All (λ b. b < 128) rest.now }
+    ensures { IfSome result (IsRestLen K.kind rest.now) }
+{
+    if ascii {
+        return Some(rest.len());
+    }
+    if K::SPANS && rest.len() < 16 {
+        return Some(short_len(rest));
+    }
+    None
 }
 
 /// How many bytes from 128 on two keys have in common in front.

@@ -14,7 +14,7 @@ ghost use Rattle.zerotrie_build.specs.passes.Measured.{IsMeasured};
 ghost use Rattle.zerotrie_build.specs.passes.Puts.{Puts};
 ghost use Rattle.zerotrie_build.specs.passes.Writing.{with_bits, IsLead, spelled_behind, lens_of, KeptTo, FrontPut};
 
-use crate::laying::{Layout, Next};
+use crate::laying::{Layout, Next, Piece, Place, Plan};
 use crate::measuring::{Measured, width_of};
 use crate::slice_indices::ByteSliceWithIndices;
 use crate::steps::{Step, Window, first_step, literals_end, lone_item};
@@ -222,38 +222,33 @@ impl<S: TrieBuilderStore + Drop> Writing<S> {
         self.put_offsets(lens, numbers, width + 1);
     }
 
-    /// Writes a window, whose slots begin at `slot`, up to the targets of its first branch, and lays these out. The
-    /// counts beside the slots are guesses, and where `ascii` is true, all keys are ASCII.
-    fn put_front<K: ZeroTrieWithOptions, A: Allocator + Copy>(
+    /// Writes a window, whose slots begin at `slot`, node after node up to the targets of its first branch, and lays
+    /// these out.
+    #[inline(always)]
+    fn put_nodes<K: ZeroTrieWithOptions, A: Allocator + Copy>(
         &mut self,
-        items: ByteSliceWithIndices<'_>,
+        plan: Plan<'_>,
         window: Window,
-        slots: &[usize],
         slot: usize,
-        counts: &[u8],
-        ascii: bool,
         layout: &mut Layout<A>,
     ) -> Result<(), ZeroTrieBuildError>
-        requires keys { AreKeys K.kind (pairs items) }
-        requires ascii { IsTrue ascii → AreLow (pairs items) }
-        requires ordered { Ordered K.kind (pairs items) }
-        requires kept { (end : ℕ) × KeptTo K.kind (pairs items) slots.now slot end window }
-        requires room { self.old.at + size_of K.kind (window_of (pairs items) window) ≤ length (S.list self.old.data) }
+        requires keys { AreKeys K.kind (pairs plan.items) }
+        requires ordered { Ordered K.kind (pairs plan.items) }
+        requires kept { (end : ℕ) × KeptTo K.kind (pairs plan.items) plan.slots.now slot end window }
+        requires room { self.old.at + size_of K.kind (window_of (pairs plan.items) window)
+            ≤ length (S.list self.old.data) }
         ensures put { OnOk result ((next : List Next) × (reverse layout.new.pending.items
-            ≡ next ++ reverse layout.old.pending.items) × FrontPut K.kind (pairs items.entry) slots.now slot window next
+            ≡ next ++ reverse layout.old.pending.items)
+            × FrontPut K.kind (pairs plan.entry.items) plan.entry.slots.now slot window next
             (S.list self.old.data) self.old.at (S.list self.new.data) self.new.at) }
         ensures refused { IfErr result (λ e. e ≢ ZeroTrieBuildError.OutOfMemory
-            → (e ≡ ZeroTrieBuildError.CouldNotSolvePerfectHash) × Cause K.kind (pairs items.entry) e) }
+            → (e ≡ ZeroTrieBuildError.CouldNotSolvePerfectHash) × Cause K.kind (pairs plan.entry.items) e) }
     {
         // That a length is below 2^64 tells the proof that so are the places of the slots.
-        let _len = slots.len();
-        layout.clear();
+        let _len = plan.slots.len();
+        let items = plan.items;
         let mut rest = window;
         loop {
-            if let Some((literals, value)) = lone_item(items, rest, ascii) {
-                self.put_lone(literals, value);
-                return Ok(());
-            }
             match first_step::<K>(items, rest) {
                 Step::End => return Ok(()),
                 Step::Value(value) => {
@@ -270,14 +265,43 @@ impl<S: TrieBuilderStore + Drop> Writing<S> {
                     rest.depth += count;
                 }
                 Step::Branch => {
-                    layout.set::<K>(items, rest, slots, slot, counts)?;
+                    layout.set::<K>(plan, rest, slot)?;
                     let numbers = layout.numbers.as_slice();
-                    let lens = &slots[slot..slot + numbers.len()];
+                    let lens = &plan.slots[slot..slot + numbers.len()];
                     self.put_branch(layout.table.as_slice(), lens, numbers);
                     return Ok(());
                 }
             }
         }
+    }
+
+    /// The same. Most windows have one item whose rest is ASCII, and are written at once.
+    #[inline(always)]
+    fn put_front<K: ZeroTrieWithOptions, A: Allocator + Copy>(
+        &mut self,
+        plan: Plan<'_>,
+        window: Window,
+        slot: usize,
+        layout: &mut Layout<A>,
+    ) -> Result<(), ZeroTrieBuildError>
+        requires keys { AreKeys K.kind (pairs plan.items) }
+        requires ascii { IsTrue plan.ascii → AreLow (pairs plan.items) }
+        requires ordered { Ordered K.kind (pairs plan.items) }
+        requires kept { (end : ℕ) × KeptTo K.kind (pairs plan.items) plan.slots.now slot end window }
+        requires room { self.old.at + size_of K.kind (window_of (pairs plan.items) window)
+            ≤ length (S.list self.old.data) }
+        ensures put { OnOk result ((next : List Next) × (reverse layout.new.pending.items
+            ≡ next ++ reverse layout.old.pending.items)
+            × FrontPut K.kind (pairs plan.entry.items) plan.entry.slots.now slot window next
+            (S.list self.old.data) self.old.at (S.list self.new.data) self.new.at) }
+        ensures refused { IfErr result (λ e. e ≢ ZeroTrieBuildError.OutOfMemory
+            → (e ≡ ZeroTrieBuildError.CouldNotSolvePerfectHash) × Cause K.kind (pairs plan.entry.items) e) }
+    {
+        let Some((literals, value)) = lone_item(plan.items, window, plan.ascii) else {
+            return self.put_nodes::<K, A>(plan, window, slot, layout);
+        };
+        self.put_lone(literals, value);
+        Ok(())
     }
 }
 
@@ -320,19 +344,29 @@ pub(crate) fn write<K: ZeroTrieWithOptions, S: TrieBuilderStore + Drop, A: Alloc
     data.atbs_prepend_n_zeros(measured.len)?;
     let mut writing = Writing { data, at: 0 };
     let mut layout = Layout::new(alloc, spare);
-    layout.pending.push(Next::Text(Window {
-        from: 0,
+    layout.pending.push(Next::Text(Piece {
         to: items.len(),
         depth: 0,
     }))?;
-    let mut slot = 0;
+    let slots = measured.slots.as_slice();
+    let plan = Plan {
+        items,
+        slots,
+        counts: measured.counts.as_slice(),
+        ascii,
+    };
+    let mut place = Place { from: 0, slot: 0 };
     while let Some(next) = take_next(&mut layout.pending) {
         match next {
-            Next::Slot(number) => slot = number,
-            Next::Text(window) => {
-                let slots = measured.slots.as_slice();
-                let counts = measured.counts.as_slice();
-                writing.put_front::<K, A>(items, window, slots, slot, counts, ascii, &mut layout)?;
+            Next::Go(there) => place = there,
+            Next::Text(piece) => {
+                let window = Window {
+                    from: place.from,
+                    to: piece.to,
+                    depth: piece.depth,
+                };
+                writing.put_front::<K, A>(plan, window, place.slot, &mut layout)?;
+                place.from = window.to;
             }
         }
     }

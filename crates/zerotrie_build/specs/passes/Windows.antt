@@ -1,5 +1,5 @@
 -- Windows of the items, and what stands first in their texts.
-use Rattle.std.specs.Prelude.{◌≡◌, ◌≢◌, ℕ, ◌+◌, ◌-◌, ◌<◌, ◌≤◌, ◌==◌, ◌&&◌, nat_lt, nat_le, if◌then◌else◌, List, [], ◌∷◌, length, map, take, drop, All, slice_get, slice_index, slice_index_or, Option, Some, None}
+use Rattle.std.specs.Prelude.{Bool, true, false, ◌⊎◌, ◌≡◌, ◌≢◌, ℕ, ◌+◌, ◌-◌, ◌<◌, ◌≤◌, ◌==◌, ◌&&◌, nat_lt, nat_le, if◌then◌else◌, List, [], ◌∷◌, length, map, take, drop, All, slice_get, slice_index, slice_index_or, Option, Some, None}
 use Rattle.zerotrie_core.specs.Kind.{Kind, has_spans}
 use Rattle.zerotrie_core.specs.Maps.{Pairs}
 use Rattle.zerotrie_build.specs.declared.steps.Window.{Window}
@@ -52,6 +52,26 @@ pub record IsLow (all : Pairs) (w : Window) (depth : ℕ) : Type 0 where
   pub low : byte < 128
   pub first : byte_of all w.from depth ≡ Some byte
   pub last : byte_of all (w.to - 1) depth ≡ Some byte
+
+-- The window has one item, with this value, whose key goes on with this rest.
+pub record IsOne (all : Pairs) (w : Window) (rest : List ℕ) (value : ℕ) : Type 0 where
+  pub one : w.to ≡ w.from + 1
+  pub deep : w.depth ≤ length (item_of all w.from).0
+  pub rest_is : rest ≡ drop w.depth (item_of all w.from).0
+  pub value_is : value ≡ (item_of all w.from).1
+
+-- how many bytes a byte of a short rest makes, behind one from 128 on or not: it begins a span, and its length has one, or does not
+abbrev pub byte_size : Bool → ℕ → ℕ
+byte_size high b = if nat_le 128 b then (if high then 1 else 2) else 1
+
+-- how many bytes the literals and spans of a short rest have
+abbrev pub short_size : Bool → List ℕ → ℕ
+short_size high [] = 0
+short_size high (b ∷ rest) = byte_size high b + short_size (nat_le 128 b) rest
+
+-- The literals and spans of a rest have so many bytes: it is ASCII, or too short for a span whose length has two bytes.
+abbrev pub IsRestLen : Kind → List ℕ → ℕ → Type 0
+IsRestLen kind rest n = (All (λ b. b < 128) rest × (n ≡ length rest)) ⊎ ((has_spans kind ≡ true) × (length rest < 16) × (n ≡ short_size false rest))
 
 -- The window has one item, with this value, whose key goes on with this rest, and the rest is ASCII.
 pub record IsLone (all : Pairs) (w : Window) (rest : List ℕ) (value : ℕ) : Type 0 where

@@ -1,136 +1,25 @@
-use Rattle.std.proofs.Common.{◌≡◌, ◌+◌, ◌-◌, sym, ◌∙◌, subst, length, arith}
+use Rattle.std.proofs.Common.{◌+◌, subst, length, arith}
 use Rattle.std.proofs.lemmas.Result.{err_from_is_err_and}
-use Rattle.zerotrie_core.specs.Numbers.{value_form, span_form, spelled_as}
 use Rattle.zerotrie_build.specs.Items.{pairs}
 use Rattle.zerotrie_build.specs.declared.steps.Window.{Window}
 use Rattle.zerotrie_build.specs.passes.Measured.{Run}
-use Rattle.zerotrie_build.specs.passes.Measured.Run.{here, value, span}
-use Rattle.zerotrie_build.proofs.WindowLemmas.{span_some}
-use Rattle.zerotrie_build.proofs.RunLemmas.{too_long, literal_low, literals_to, lone_run}
+use Rattle.zerotrie_build.proofs.RunLemmas.{too_long}
+use Rattle.zerotrie_build.proofs.ShortLemmas.{one_run}
 use Rattle.zerotrie_build.proofs.measuring.behind_run.Goals as goal
-
-pub loop-literals-preserved-in-Value : goal.loop-literals-preserved-in-Value
-loop-literals-preserved-in-Value g c =
-    let v = c.loop-literals.invariant in
-    record {
-      goes_on = λ n last r. subst (Run g.K.ZeroTrieWithOptions.kind (pairs c.args.items) c.args.start last) (let s = c.in_ok-len-in-Value.ensures.sum in let k = c.value_len-in-Value.ensures in omega arith)
-          (v.goes_on (length (spelled_as value_form c.in-Value.value) + n) last (value c.in-Value.value (sym c.first_step.ensures.is ∙ c.in-Value.is) r));
-      to_is = v.to_is;
-    }
-
-pub literals_end-end-requires : goal.literals_end-end-requires
-literals_end-end-requires g c =
-    let v = c.loop-literals.invariant in
-    let to = v.to_is in
-    let within = c.requires.within in
-    let l = literal_low g.K.ZeroTrieWithOptions.kind (pairs c.args.items) c.loop-literals.rest c.in-Literal.field-0 (omega arith) c.requires.keys (sym c.first_step.ensures.is ∙ c.in-Literal.is) in
-    record { some = l.0; items = omega arith; literal = l.1 }
-
-pub loop-literals-preserved-in-Literal : goal.loop-literals-preserved-in-Literal
-loop-literals-preserved-in-Literal g c =
-    let v = c.loop-literals.invariant in
-    let e = c.literals_end-end.ensures in
-    let past = e.past in
-    let to = v.to_is in
-    let within = c.requires.within in
-    let l = literal_low g.K.ZeroTrieWithOptions.kind (pairs c.args.items) c.loop-literals.rest c.in-Literal.field-0 (omega arith) c.requires.keys (sym c.first_step.ensures.is ∙ c.in-Literal.is) in
-    record {
-      goes_on = λ n last r. subst (Run g.K.ZeroTrieWithOptions.kind (pairs c.args.items) c.args.start last) (let s = c.in_ok-len-in-Literal.ensures.sum in omega arith)
-          (v.goes_on (c.literals_end-end.result - c.loop-literals.rest.depth + n) last (literals_to c.literals_end-end.result l.0 (omega arith) e.low r));
-      to_is = v.to_is;
-    }
-
-pub loop-literals-preserved : goal.loop-literals-preserved
-loop-literals-preserved g c =
-    let v = c.loop-literals.invariant in
-    record {
-      goes_on = λ n last r. subst (Run g.K.ZeroTrieWithOptions.kind (pairs c.args.items) c.args.start last)
-          (let s = c.in_ok-len-in-Span.ensures.sum in let t = c.in_ok-lead-in-Span.ensures.sum in let k = c.count_len.ensures in omega arith)
-          (v.goes_on (length (spelled_as span_form c.in-Span.count) + c.in-Span.count + n) last (span c.in-Span.count (sym c.first_step.ensures.is ∙ c.in-Span.is) r));
-      to_is = v.to_is;
-    }
-
-pub loop-literals-smaller : goal.loop-literals-smaller
-loop-literals-smaller g c =
-    let some = span_some g.K.ZeroTrieWithOptions.kind (pairs c.args.items) c.loop-literals.rest c.in-Span.count (sym c.first_step.ensures.is ∙ c.in-Span.is) in
-    let room = c.first_step.ensures.span c.in-Span.count c.in-Span.is in
-    omega (arith, some.0)
-
-pub returns-in-Branch-clause-run : goal.returns-in-Branch-clause-run
-returns-in-Branch-clause-run g c =
-    let v = c.loop-literals.invariant in
-    subst (Run g.K.ZeroTrieWithOptions.kind (pairs c.args.items) c.args.start c.loop-literals.rest) (let e : c.loop-literals.len + 0 ≡ c.loop-literals.len = omega arith in e) (v.goes_on 0 c.loop-literals.rest here)
-
-pub returns-in_err-len-in-Value-clause-refused : goal.returns-in_err-len-in-Value-clause-refused
-returns-in_err-len-in-Value-clause-refused g c =
-    let v = c.loop-literals.invariant in
-    let p = err_from_is_err_and c.from_residual-in_err-len-in-Value.result c.from_residual-in_err-len-in-Value.ensures.1 in
-    let f = c.in_err-len-in-Value.ensures.refused in
-    let k = length (spelled_as value_form c.in-Value.value) in
-    let run = v.goes_on (k + 0) (record c.loop-literals.rest { from = c.loop-literals.rest.from + 1 }) (value c.in-Value.value (sym c.first_step.ensures.is ∙ c.in-Value.is) here) in
-    rw (p.1, p.2) (f.0, too_long run c.requires.within c.requires.keys c.requires.ordered (let e = c.value_len-in-Value.ensures in omega (arith, f.1)))
-
-pub returns-in_err-len-in-Literal-clause-refused : goal.returns-in_err-len-in-Literal-clause-refused
-returns-in_err-len-in-Literal-clause-refused g c =
-    let v = c.loop-literals.invariant in
-    let p = err_from_is_err_and c.from_residual-in_err-len-in-Literal.result c.from_residual-in_err-len-in-Literal.ensures.1 in
-    let f = c.in_err-len-in-Literal.ensures.refused in
-    let e = c.literals_end-end.ensures in
-    let past = e.past in
-    let end = c.literals_end-end.result in
-    let to = v.to_is in
-    let within = c.requires.within in
-    let l = literal_low g.K.ZeroTrieWithOptions.kind (pairs c.args.items) c.loop-literals.rest c.in-Literal.field-0 (omega arith) c.requires.keys (sym c.first_step.ensures.is ∙ c.in-Literal.is) in
-    let run = v.goes_on (end - c.loop-literals.rest.depth + 0) (record c.loop-literals.rest { depth = end }) (literals_to end l.0 (omega arith) e.low here) in
-    rw (p.1, p.2) (f.0, too_long run c.requires.within c.requires.keys c.requires.ordered (omega (arith, f.1)))
-
-pub returns-in_err-lead-in-Span-clause-refused : goal.returns-in_err-lead-in-Span-clause-refused
-returns-in_err-lead-in-Span-clause-refused g c =
-    let v = c.loop-literals.invariant in
-    let p = err_from_is_err_and c.from_residual-in_err-lead-in-Span.result c.from_residual-in_err-lead-in-Span.ensures.1 in
-    let f = c.in_err-lead-in-Span.ensures.refused in
-    let k = length (spelled_as span_form c.in-Span.count) in
-    let run = v.goes_on (k + c.in-Span.count + 0) (record c.loop-literals.rest { depth = c.loop-literals.rest.depth + c.in-Span.count }) (span c.in-Span.count (sym c.first_step.ensures.is ∙ c.in-Span.is) here) in
-    rw (p.1, p.2) (f.0, too_long run c.requires.within c.requires.keys c.requires.ordered (let e = c.count_len.ensures in omega (arith, f.1)))
-
-pub returns-in_err-len-in-Span-clause-refused : goal.returns-in_err-len-in-Span-clause-refused
-returns-in_err-len-in-Span-clause-refused g c =
-    let v = c.loop-literals.invariant in
-    let p = err_from_is_err_and c.from_residual-in_err-len-in-Span.result c.from_residual-in_err-len-in-Span.ensures.1 in
-    let f = c.in_err-len-in-Span.ensures.refused in
-    let k = length (spelled_as span_form c.in-Span.count) in
-    let run = v.goes_on (k + c.in-Span.count + 0) (record c.loop-literals.rest { depth = c.loop-literals.rest.depth + c.in-Span.count }) (span c.in-Span.count (sym c.first_step.ensures.is ∙ c.in-Span.is) here) in
-    rw (p.1, p.2) (f.0, too_long run c.requires.within c.requires.keys c.requires.ordered (let e = c.count_len.ensures in let l = c.in_ok-lead-in-Span.ensures.sum in omega (arith, f.1)))
-
-pub returns-in_err-lead-clause-refused : goal.returns-in_err-lead-clause-refused
-returns-in_err-lead-clause-refused g c =
-    let kind = g.K.ZeroTrieWithOptions.kind in
-    let v = c.loop-literals.invariant in
-    let p = err_from_is_err_and c.from_residual.result c.from_residual.ensures.1 in
-    let f = c.in_err-lead.ensures.refused in
-    let literals = c.in-Some.literals.now in
-    let k = length (spelled_as value_form c.in-Some.value) in
-    let run = v.goes_on (length literals + k) _ (lone_run kind (pairs c.args.items) c.loop-literals.rest literals c.in-Some.value c.in-Some.ensures.is) in
-    rw (p.1, p.2) (f.0, too_long run c.requires.within c.requires.keys c.requires.ordered (omega (arith, f.1)))
 
 pub returns-in_err-plus-clause-refused : goal.returns-in_err-plus-clause-refused
 returns-in_err-plus-clause-refused g c =
     let kind = g.K.ZeroTrieWithOptions.kind in
-    let v = c.loop-literals.invariant in
-    let p = err_from_is_err_and c.from_residual-in_err-plus.result c.from_residual-in_err-plus.ensures.1 in
+    let p = err_from_is_err_and c.from_residual.result c.from_residual.ensures.1 in
     let f = c.in_err-plus.ensures.refused in
-    let literals = c.in-Some.literals.now in
-    let k = length (spelled_as value_form c.in-Some.value) in
-    let run = v.goes_on (length literals + k) _ (lone_run kind (pairs c.args.items) c.loop-literals.rest literals c.in-Some.value c.in-Some.ensures.is) in
-    rw (p.1, p.2) (f.0, too_long run c.requires.within c.requires.keys c.requires.ordered (let l = c.in_ok-lead.ensures.sum in let e = c.value_len.ensures in omega (arith, f.1)))
+    let run = one_run kind (pairs c.args.items) c.args.start c.in-Some.rest.now c.in-Some.value c.in-Some-rest_len.len c.in-Some.ensures.is c.in-Some-rest_len.ensures in
+    rw (p.1, p.2) (f.0, too_long run c.requires.within c.requires.keys c.requires.ordered (let e = c.value_len.ensures in omega (arith, f.1)))
 
-pub returns-in-Some-clause-run : goal.returns-in-Some-clause-run
-returns-in-Some-clause-run g c =
+pub returns-clause-run : goal.returns-clause-run
+returns-clause-run g c =
     let kind = g.K.ZeroTrieWithOptions.kind in
-    let v = c.loop-literals.invariant in
-    let rest = c.loop-literals.rest in
-    let literals = c.in-Some.literals.now in
-    let k = length (spelled_as value_form c.in-Some.value) in
-    let behind : Window = record { from = rest.to; to = rest.to; depth = rest.depth + length literals } in
-    subst (Run kind (pairs c.args.items) c.args.start behind) (let l = c.in_ok-lead.ensures.sum in let s = c.in_ok-plus.ensures.sum in let e = c.value_len.ensures in omega arith)
-    (v.goes_on (length literals + k) behind (lone_run kind (pairs c.args.items) rest literals c.in-Some.value c.in-Some.ensures.is))
+    let start = c.args.start in
+    let rest = c.in-Some.rest.now in
+    let behind : Window = record { from = start.to; to = start.to; depth = start.depth + length rest } in
+    subst (Run kind (pairs c.args.items) start behind) (let s = c.in_ok-plus.ensures.sum in let e = c.value_len.ensures in omega arith)
+    (one_run kind (pairs c.args.items) start rest c.in-Some.value c.in-Some-rest_len.len c.in-Some.ensures.is c.in-Some-rest_len.ensures)

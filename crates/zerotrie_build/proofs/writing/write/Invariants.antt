@@ -6,7 +6,7 @@ use Rattle.zerotrie_build.proofs.writing.write.Given as goal
 
 abbrev pub invariant-loop-next : goal.invariant-loop-next
 invariant-loop-next g l = (ws : List Window) × Left g.K.ZeroTrieWithOptions.kind (pairs l.items) (g.S.TrieBuilderStore.list l.writing.data) l.writing.at ws
-    × Leads g.K.ZeroTrieWithOptions.kind (pairs l.items) l.measured.slots.items l.slot (reverse l.layout.pending.items) ws
+    × Leads g.K.ZeroTrieWithOptions.kind (pairs l.items) l.measured.slots.items l.place (reverse l.layout.pending.items) ws
 
 abbrev pub decreases-loop-next : goal.decreases-loop-next
 decreases-loop-next g l = (length (g.S.TrieBuilderStore.list l.writing.data) - l.writing.at) + length (reverse l.layout.pending.items)

@@ -14,9 +14,9 @@ loop-rest-preserved g c =
     let all = pairs c.args.items in
     let ws = c.loop-rest.self.windows.items in
     let ws' = c.push-in-loop-rest-2.new.self.items in
-    let target : Window = record { from = rest.from; to = c.group_end_near.result; depth = rest.depth + 1 } in
+    let target : Window = record { from = rest.from; to = c.target_end.result; depth = rest.depth + 1 } in
     let pushed = c.in_ok-push-3.ensures.items in
-    let group = c.group_end_near.ensures in
+    let group = c.target_end.ensures in
     record {
       parts = λ cs p. parts_more all c.args.window ws ws' target cs pushed (v.parts (target ∷ cs) (refl, refl, group, p));
       table = edges_more all ws ws' target c.loop-rest.self.table.items c.push.new.self.items c.edge_at-edge.result pushed c.in_ok-push.ensures.items v.table c.edge_at-edge.ensures;

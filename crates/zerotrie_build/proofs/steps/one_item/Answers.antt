@@ -2,12 +2,11 @@ use Rattle.std.proofs.Common.{◌≡◌, ◌<◌, ◌-◌, ℕ, List, [], ap, sy
 use Rattle.std.specs.List.{slice_range}
 use Rattle.std.proofs.lemmas.List.{take_all}
 use Rattle.std.proofs.lemmas.Option.{get_or_from_slice_get}
+use Rattle.zerotrie_core.specs.Kind.{simple_ascii}
 use Rattle.zerotrie_build.specs.Items.{pairs}
 use Rattle.zerotrie_build.specs.passes.Windows.{item_of}
 use Rattle.zerotrie_build.proofs.WindowLemmas.{rest_bytes}
-use Rattle.zerotrie_build.proofs.steps.lone_item.Goals as goal
-use Rattle.zerotrie_build.proofs.steps.lone_item.Goals.{else-not-ascii-via-then-not-ascii+else-not-are_literals, else-not-ascii-via-else-not-ascii}
-use Rattle.zerotrie_core.specs.Kind.{simple_ascii}
+use Rattle.zerotrie_build.proofs.steps.one_item.Goals as goal
 
 rest_of : (key rest : List ℕ) (d : ℕ) → rest ≡ slice_range key d (length key) → rest ≡ drop d key
 rest_of key rest d is = is ∙ take_all (length key - d) (drop d key) (let long = length-drop d key in omega arith)
@@ -24,9 +23,11 @@ returns-clause-is c =
       deep = (let k = ap (λ e. length e.0) item in let deep = found.0 in omega arith);
       rest_is = rest_of key c.in_ok-rest.rest.now d found.2 ∙ ap (λ e. drop d e.0) (sym item);
       value_is = ap (λ e. e.1) (sym item);
-      low = elim c.else-not-ascii.branch [
-        | else-not-ascii-via-then-not-ascii+else-not-are_literals w ↦ w.are_literals.ensures w.if-not-are_literals.false
-        | else-not-ascii-via-else-not-ascii w ↦ subst (All (λ b. b < 128)) (sym (rest_of key c.in_ok-rest.rest.now d found.2))
-            (rest_bytes simple_ascii (pairs c.args.items) c.args.window.from d key c.get-value.result.1 (c.requires.ascii w.if-not-ascii.false) c.get-value.ensures)
-      ];
     }
+
+pub returns-clause-low : goal.returns-clause-low
+returns-clause-low c = λ low.
+    let key = c.get-value.result.0.now in
+    let d = c.args.window.depth in
+    subst (All (λ b. b < 128)) (sym (rest_of key c.in_ok-rest.rest.now d c.in_ok-rest.ensures.lookup.0.2))
+    (rest_bytes simple_ascii (pairs c.args.items) c.args.window.from d key c.get-value.result.1 low c.get-value.ensures)

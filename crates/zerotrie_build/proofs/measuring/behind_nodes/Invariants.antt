@@ -2,13 +2,13 @@ use Rattle.std.proofs.Common.{◌≡◌, ℕ, ◌+◌, ◌-◌, ◌^◌}
 use Rattle.zerotrie_build.specs.Items.{pairs}
 use Rattle.zerotrie_build.specs.declared.steps.Window.{Window}
 use Rattle.zerotrie_build.specs.passes.Measured.{Run}
-use Rattle.zerotrie_build.proofs.measuring.behind_run.Given as goal
+use Rattle.zerotrie_build.proofs.measuring.behind_nodes.Given as goal
 
-abbrev pub invariant-loop-literals : goal.invariant-loop-literals
-invariant-loop-literals g l = record {
+abbrev pub invariant-loop-value : goal.invariant-loop-value
+invariant-loop-value g l = record {
   goes_on : (n : ℕ) (last : Window) → Run g.K.ZeroTrieWithOptions.kind (pairs l.items) l.rest last n → Run g.K.ZeroTrieWithOptions.kind (pairs l.items) l.fn.start last (l.len + n);
   to_is : l.rest.to ≡ l.fn.start.to;
 }
 
-abbrev pub decreases-loop-literals : goal.decreases-loop-literals
-decreases-loop-literals g l = (l.rest.to - l.rest.from) + (2 ^ 64 - l.rest.depth)
+abbrev pub decreases-loop-value : goal.decreases-loop-value
+decreases-loop-value g l = (l.rest.to - l.rest.from) + (2 ^ 64 - l.rest.depth)
