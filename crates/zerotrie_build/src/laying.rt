@@ -85,7 +85,7 @@ impl<A: Allocator + Copy> Layout<A> {
     }
 
     /// No branch, as at first.
-    pub(crate) fn clear(&mut self)
+    fn clear(&mut self)
         ensures windows { self.new.windows.items ≡ [] }
         ensures table { self.new.table.items ≡ [] }
         ensures numbers { self.new.numbers.items ≡ [] }

@@ -11,22 +11,6 @@ use Rattle.zerotrie_core.proofs.NodeLemmas.{literal_shorter}
 use Rattle.zerotrie_core.proofs.GoingLemmas.{literal_along}
 use Rattle.zerotrie_core.proofs.ReaderLemmas.{comes_nowhere, comes_more, node_goes}
 
--- one more
-pub common_one : (kind : Kind) (bytes key : List ℕ) (n : ℕ) → AreCommon kind bytes key n → n < length bytes → n < length key → slice_index bytes n < 128
-    → fold_byte kind (slice_index bytes n) ≡ fold_byte kind (slice_index key n) → AreCommon kind bytes key (n + 1)
-common_one kind bytes key n common p q low same = record {
-  within = omega arith;
-  short = omega arith;
-  literal = λ k h. elim (cases_lt k n) [
-    | inl less ↦ common.literal k less
-    | inr more ↦ let e : n ≡ k = omega arith in subst (λ j. slice_index bytes j < 128) e low
-  ];
-  same = λ k h. elim (cases_lt k n) [
-    | inl less ↦ common.same k less
-    | inr more ↦ let e : n ≡ k = omega arith in subst (λ j. fold_byte kind (slice_index bytes j) ≡ fold_byte kind (slice_index key j)) e same
-  ];
-}
-
 -- and more that are the same bytes
 pub common_more : (kind : Kind) (bytes key : List ℕ) (n m : ℕ) → AreCommon kind bytes key n → n + m ≤ length bytes → n + m ≤ length key
     → ((k : ℕ) → k < m → (slice_index (drop n bytes) k < 128) × (slice_index (drop n bytes) k ≡ slice_index (drop n key) k)) → AreCommon kind bytes key (n + m)
