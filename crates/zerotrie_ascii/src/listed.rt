@@ -72,8 +72,9 @@ impl<K: AsciiKind, S: TrieStore> AsciiTrie<K, S> {
     ///
     /// ```
     /// let trie = ZeroTrieSimpleAscii::try_from_iter(rt.alloc(), [("xyz", 22), ("abc", 11)])?;
-    /// for item in trie.iter(rt.alloc()) {
-    ///     let (key, value) = item?;       // ("abc", 11), then ("xyz", 22)
+    /// for (item, pair) in trie.iter(rt.alloc()).zip([("abc", 11), ("xyz", 22)]) {
+    ///     let (key, value) = item?;
+    ///     assert_eq!(rt; (key.as_str(), value), pair);
     /// }
     /// ```
     ///

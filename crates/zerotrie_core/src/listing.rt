@@ -101,10 +101,12 @@ impl<'a, A: Allocator + Copy> Listing<'a, A> {
 /// The pairs of a text, one after another: a value comes before what follows it, and the targets of a branch
 /// come in the order of its table.
 ///
-/// ```text
+/// ```
 /// let bytes = [0x61, 0x85, 0x62, 0x86];   // the keys "a" with value 5 and "ab" with value 6
-/// for item in ZeroTrieIterator::new::<Simple>(rt.alloc(), &bytes) {
-///     let (key, value) = item?;           // (b"a", 5), then (b"ab", 6)
+/// let pairs = [("a", 5), ("ab", 6)];
+/// for (item, pair) in ZeroTrieIterator::new::<Simple>(rt.alloc(), &bytes).zip(pairs) {
+///     let (key, value) = item?;
+///     assert_eq!(rt; (key.as_slice(), value), (pair.0.as_bytes(), pair.1));
 /// }
 /// ```
 ///

@@ -195,15 +195,15 @@ fn descend<'a, K: ZeroTrieWithOptions>(node: Node<'a>, key: &'a [u8]) -> Descent
 
 /// The value of a key, and how many nodes the look-up read.
 ///
-/// ```text
+/// ```
 /// let bytes = [0x61, 0x85];               // the key "a" with value 5
-/// get_counted::<Simple>(&bytes, b"a")     // (Some(5), 2)
-/// get_counted::<Simple>(&bytes, b"A")     // (None, 1)
-/// get_counted::<Ignore>(&bytes, b"A")     // (Some(5), 2)
-/// get_counted::<Ignore>(&bytes, b"b")     // (None, 1)
+/// assert_eq!(rt; get_counted::<Simple>(&bytes, b"a"), (Some(5), 2));
+/// assert_eq!(rt; get_counted::<Simple>(&bytes, b"A"), (None, 1));
+/// assert_eq!(rt; get_counted::<Ignore>(&bytes, b"A"), (Some(5), 2));
+/// assert_eq!(rt; get_counted::<Ignore>(&bytes, b"b"), (None, 1));
 ///
 /// let bytes = [0xA2, 0xC3, 0xA9, 0x85];   // the key "é" with value 5
-/// get_counted::<Hash>(&bytes, "é".as_bytes())     // (Some(5), 2)
+/// assert_eq!(rt; get_counted::<Hash>(&bytes, "é".as_bytes()), (Some(5), 2));
 /// ```
 ///
 /// In `Ignore` an ASCII letter of the key matches in either case. Every other byte, and in the other kinds

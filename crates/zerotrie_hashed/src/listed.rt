@@ -22,6 +22,7 @@ impl<K: HashedKind, S: TrieStore> HashedTrie<K, S> {
     /// let trie = ZeroTriePerfectHash::try_from_iter(rt.alloc(), [("å", 1), ("ø", 2)])?;
     /// for item in trie.iter(rt.alloc()) {
     ///     let (key, value) = item?;
+    ///     assert_eq!(rt; trie.get(key.as_slice()), Some(value));
     /// }
     /// ```
     ///
