@@ -298,3 +298,11 @@ some_too kind p q key (Some v) a same is =
 -- pairs that answer alike by bytes answer alike, where no two keys of one list are one to the kind
 pub same_answers : (kind : Kind) (p q : Pairs) (key : List ℕ) → Apart kind p → ((k : List ℕ) → value_at simple_ascii q k ≡ value_at simple_ascii p k) → value_at kind q key ≡ value_at kind p key
 same_answers kind p q key a same = some_too kind p q key (value_at kind q key) a same refl
+
+-- keys that are one to the kind get the same answer
+pub value_at-same : (kind : Kind) (pairs : Pairs) (k l : List ℕ) → same_key kind k l ≡ true → value_at kind pairs k ≡ value_at kind pairs l
+value_at-same kind [] k l same = refl
+value_at-same kind (e ∷ pairs) k l same =
+    let laws = same_equiv kind in
+    let test : same_key kind e.0 k ≡ same_key kind e.0 l = laws.symm e.0 k ∙ laws.congr k l e.0 same ∙ laws.symm l e.0 in
+    ap (λ b. cond b (Some e.1) (value_at kind pairs k)) test ∙ ap (λ o. cond (same_key kind e.0 l) (Some e.1) o) (value_at-same kind pairs k l same)

@@ -42,6 +42,7 @@ mod FitsLaws
 mod GroupLemmas
 mod CutLemmas
 mod RefusalLemmas
+mod RunLemmas
 mod MeansLaws
 mod LowerLemmas
 mod CursorLaws

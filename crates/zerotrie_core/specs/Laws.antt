@@ -1,8 +1,8 @@
 -- The laws over the definitions alone.
-use Rattle.std.specs.Prelude.{◌≡◌, ◌↔◌, ℕ, ◌+◌, ◌*◌, ◌^◌, ◌<◌, ◌≤◌, ◌⊎◌, List, [], ◌∷◌, ◌++◌, length, map}
+use Rattle.std.specs.Prelude.{◌≡◌, ◌↔◌, ℕ, ◌+◌, ◌*◌, ◌^◌, ◌<◌, ◌≤◌, ◌⊎◌, List, [], ◌∷◌, ◌++◌, length, map, true}
 use Rattle.zerotrie_core.specs.Kind.{Kind, fold_byte}
 use Rattle.zerotrie_core.specs.Numbers.{Spells, spelled}
-use Rattle.zerotrie_core.specs.Maps.{Pairs, Map, map_of, RepeatsKey, Ascends}
+use Rattle.zerotrie_core.specs.Maps.{Pairs, Map, map_of, RepeatsKey, Ascends, same_key, look}
 use Rattle.zerotrie_core.specs.Texts.{Lists, Means, nodes}
 use Rattle.zerotrie_core.specs.Canonical.{enc, size}
 use Rattle.zerotrie_core.specs.Fits.{Fits}
@@ -69,3 +69,7 @@ ListsTheMap = (kind : Kind) (bytes : List ℕ) (m : Map) (pairs : Pairs) → Mea
 -- bytes of an ASCII kind list their pairs ascending by the folds of the keys
 abbrev pub ListsInOrder : Kind → Type 0
 ListsInOrder kind = (bytes : List ℕ) (pairs : Pairs) → Lists kind bytes pairs → Ascends (folded kind pairs)
+
+-- keys that are one to the kind get the same answer
+abbrev pub SameKeysAnswerAlike : Type 0
+SameKeysAnswerAlike = (kind : Kind) (m : Map) (k l : List ℕ) → same_key kind k l ≡ true → look kind m k ≡ look kind m l

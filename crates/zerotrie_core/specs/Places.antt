@@ -4,6 +4,8 @@ use Rattle.std.specs.Option.{option_map}
 use Rattle.zerotrie_core.specs.Kind.{Kind}
 use Rattle.zerotrie_core.specs.Maps.{Pairs, value_at, with_front}
 use Rattle.zerotrie_core.specs.Texts.{Lists}
+use Rattle.zerotrie_core.specs.Nodes.{Begins}
+use Rattle.zerotrie_core.specs.Nodes.Shape.{value, span}
 use Rattle.zerotrie_core.specs.Cursors.{met, edge_like}
 use Rattle.zerotrie_core.specs.Machine.{behind, without_value, numbered}
 
@@ -39,3 +41,19 @@ IsTake kind Before answer After = (pairs : Pairs) → Before pairs
 abbrev pub IsProbe : (Pairs → Type 0) → ℕ → Option (ℕ × ℕ) → (Pairs → Type 0) → Type 0
 IsProbe Before i answer After = (pairs : Pairs) → Before pairs
     → (answer ≡ numbered i (met pairs)) × After (behind (option_map (λ a. a.0) answer) pairs)
+
+-- after the values in front of them, the bytes begin with a span: its run, and the rest after it
+pub data MeetsSpan (kind : Kind) : List ℕ → List ℕ → List ℕ → Type 0 where
+  at_once : {bytes run rest : List ℕ} → Begins kind bytes (span run rest) → MeetsSpan kind bytes run rest
+  after_value : {bytes after run rest : List ℕ} (v : ℕ) → Begins kind bytes (value v after) → MeetsSpan kind after run rest → MeetsSpan kind bytes run rest
+
+-- the run that stands at a place, and the rest after it: what is left of one, or that of the span that the text meets
+abbrev pub HasRun : Kind → List ℕ → List ℕ → List ℕ → List ℕ → Type 0
+HasRun kind [] trie run rest = MeetsSpan kind trie run rest
+HasRun kind (b ∷ left) trie run rest = (run ≡ b ∷ left) × (rest ≡ trie)
+
+-- An edge leads along the run that stands at a place, by its first byte, and into no other.
+pub record FollowsRun (kind : Kind) (before : Place) (edge : ℕ) (after : Place) : Type 0 where
+  pub along : (b : ℕ) (run rest : List ℕ) → HasRun kind before.run before.trie (b ∷ run) rest
+      → (edge ≡ b) × (after ≡ record { run = run; trie = rest })
+  pub no_other : after.run ≢ [] → HasRun kind before.run before.trie (edge ∷ after.run) after.trie

@@ -3,12 +3,12 @@
 //! A literal is one edge, and so is each byte of a span, which has the rest of the run behind it. A branch
 //! has one edge for each of its targets. A value in front of a node is passed over.
 
-ghost use Rattle.std.specs.Prelude.{◌≡◌, ◌≤◌, ℕ, [], IfSome, IfNone, false};
+ghost use Rattle.std.specs.Prelude.{◌≡◌, ◌≤◌, ℕ, [], ◌∷◌, IfSome, IfNone, false};
 ghost use Rattle.std.specs.Option.{option_map};
 ghost use Rattle.zerotrie_core.specs.Kind.{Kind, has_spans};
 ghost use Rattle.zerotrie_core.specs.Texts.{Lists};
-ghost use Rattle.zerotrie_core.specs.Places.{ListsAt, IsStep, IsProbe};
-ghost use Rattle.zerotrie_core.specs.cursor.Edges.{ListsInside, place_along};
+ghost use Rattle.zerotrie_core.specs.Places.{ListsAt, IsStep, IsProbe, FollowsRun};
+ghost use Rattle.zerotrie_core.specs.cursor.Edges.{ListsInside, place_along, place_after};
 
 use crate::branch::folded;
 use crate::node::{Node, first_node};
@@ -29,8 +29,9 @@ pub fn run_edge_like<'a, K: ZeroTrieWithOptions>(
     trie: &'a [u8],
     byte: u8,
 ) -> Option<Along<'a>>
-    ensures { IsStep K.kind (ListsInside K.kind run.now trie.now) byte
+    ensures step { IsStep K.kind (ListsInside K.kind run.now trie.now) byte
         (option_map (λ a. a.edge) result) (ListsAt K.kind (place_along result)) }
+    ensures run { IfSome result (λ a. (run.now ≡ a.edge ∷ a.run.now) × (a.trie.now ≡ trie.now)) }
 {
     let (edge, run) = run.split_first()?;
     let edge = *edge;
@@ -46,6 +47,8 @@ pub fn run_edge_like<'a, K: ZeroTrieWithOptions>(
 pub fn edge_like<K: ZeroTrieWithOptions>(bytes: &[u8], byte: u8) -> Option<Along<'_>>
     ensures step { IsStep K.kind (Lists K.kind bytes.now) byte
         (option_map (λ a. a.edge) result) (ListsAt K.kind (place_along result)) }
+    ensures run { IfSome result (λ a. FollowsRun K.kind
+        (record { run = []; trie = bytes.now }) a.edge (place_after a)) }
     ensures plain { has_spans K.kind ≡ false → IfSome result (λ a. a.run.now ≡ []) }
 {
     let mut rest = bytes;
@@ -89,6 +92,7 @@ pub fn run_edge_numbered<'a>(
     ensures probe { (kind : Kind) → IsProbe (ListsInside kind run.now trie.now) index
         (option_map {U = ℕ × ℕ} (λ r. (r.0.edge, r.1)) result)
         (ListsAt kind (place_along (option_map (λ r. r.0) result))) }
+    ensures run { IfSome result (λ r. (run.now ≡ r.0.edge ∷ r.0.run.now) × (r.0.trie.now ≡ trie.now)) }
     ensures few { IfSome result (λ r. r.1 ≤ 256) }
 {
     let (edge, run) = run.split_first()?;
@@ -109,6 +113,8 @@ pub fn edge_numbered<K: ZeroTrieWithOptions>(
     ensures probe { IsProbe (Lists K.kind bytes.now) index
         (option_map {U = ℕ × ℕ} (λ r. (r.0.edge, r.1)) result)
         (ListsAt K.kind (place_along (option_map (λ r. r.0) result))) }
+    ensures run { IfSome result (λ r. FollowsRun K.kind
+        (record { run = []; trie = bytes.now }) r.0.edge (place_after r.0)) }
     ensures plain { has_spans K.kind ≡ false → IfSome result (λ r. r.0.run.now ≡ []) }
     ensures few { IfSome result (λ r. r.1 ≤ 256) }
 {

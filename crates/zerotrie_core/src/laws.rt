@@ -6,7 +6,7 @@ ghost use Rattle.std.specs.Prelude.{ℕ, List};
 ghost use Rattle.zerotrie_core.specs.Kind.{Kind, IsAscii, simple_ascii};
 ghost use Rattle.zerotrie_core.specs.Maps.{Pairs, Ascends};
 ghost use Rattle.zerotrie_core.specs.Texts.{Lists};
-ghost use Rattle.zerotrie_core.specs.Laws.{EachIsSpelled, OneSpelling, MetadataAlone, NoneLonger, OneMeaning, CanonicalMeans, MeansCanonical, MeansFits, EqualExactlyIfMapsAre, LengthIsSize, FewNodes, ListsTheMap, ListsInOrder};
+ghost use Rattle.zerotrie_core.specs.Laws.{EachIsSpelled, OneSpelling, MetadataAlone, NoneLonger, OneMeaning, CanonicalMeans, MeansCanonical, MeansFits, EqualExactlyIfMapsAre, LengthIsSize, FewNodes, ListsTheMap, ListsInOrder, SameKeysAnswerAlike};
 ghost use Rattle.zerotrie_core.specs.CursorLaws.{StepsAnswer, SuffixAnswers, NoSecondValue, StoredBytes};
 
 /// Numbers below 2^64 have exactly one spelling in each form. Other metadata changes these bits alone, and
@@ -76,4 +76,10 @@ pub fn listing_is_the_map()
     ensures map { ListsTheMap }
     ensures in_order { (kind : Kind) → IsAscii kind → ListsInOrder kind }
     ensures by_bytes { (bytes : List ℕ) (pairs : Pairs) → Lists simple_ascii bytes pairs → Ascends pairs }
+{}
+
+/// Keys that are one to the kind get the same answer: equal ones, and in the kind without case those that differ
+/// only in the case of ASCII letters.
+pub fn same_keys_answer_alike()
+    ensures { SameKeysAnswerAlike }
 {}

@@ -5,8 +5,8 @@ ghost use Rattle.std.specs.Option.{option_map};
 ghost use Rattle.zerotrie_core.specs.Kind.{Kind};
 ghost use Rattle.zerotrie_core.specs.Maps.{Pairs};
 ghost use Rattle.zerotrie_core.specs.Texts.{Lists};
-ghost use Rattle.zerotrie_core.specs.Places.{Place, nowhere, ListsBehind, ListsAt, IsStep, IsTake, IsProbe};
-ghost use Rattle.zerotrie_core.specs.cursor.Edges.{place_along};
+ghost use Rattle.zerotrie_core.specs.Places.{Place, nowhere, ListsBehind, ListsAt, IsStep, IsTake, IsProbe, FollowsRun};
+ghost use Rattle.zerotrie_core.specs.cursor.Edges.{place_along, place_after};
 
 use crate::cursor::take_value;
 use crate::edges::{Along, edge_like, edge_numbered, run_edge_like, run_edge_numbered};
@@ -45,8 +45,10 @@ impl<'a> Model for SpanCursor<'a> {
 /// The edge that is the byte to the kind, behind a run and a trie.
 #[inline(always)]
 fn like_at<'a, K: ZeroTrieWithOptions>(run: &'a [u8], trie: &'a [u8], byte: u8) -> Option<Along<'a>>
-    ensures { IsStep K.kind (ListsBehind K.kind run.now trie.now) byte
+    ensures step { IsStep K.kind (ListsBehind K.kind run.now trie.now) byte
         (option_map (λ a. a.edge) result) (ListsAt K.kind (place_along result)) }
+    ensures run { IfSome result (λ a. FollowsRun K.kind
+        (record { run = run.now; trie = trie.now }) a.edge (place_after a)) }
 {
     if run.is_empty() {
         edge_like::<K>(trie, byte)
@@ -65,6 +67,8 @@ fn numbered_at<'a, K: ZeroTrieWithOptions>(
     ensures probe { IsProbe (ListsBehind K.kind run.now trie.now) index
         (option_map {U = ℕ × ℕ} (λ r. (r.0.edge, r.1)) result)
         (ListsAt K.kind (place_along (option_map (λ r. r.0) result))) }
+    ensures run { IfSome result (λ r. FollowsRun K.kind
+        (record { run = run.now; trie = trie.now }) r.0.edge (place_after r.0)) }
     ensures few { IfSome result (λ r. r.1 ≤ 256) }
 {
     if run.is_empty() {
@@ -126,6 +130,7 @@ impl<'a> SpanCursor<'a> {
     #[inline]
     pub fn take_value(&mut self) -> Option<usize>
         ensures meaning { (kind : Kind) → IsTake kind (ListsAt kind self.old) result (ListsAt kind self.new) }
+        ensures run { self.new.run ≡ self.old.run }
         ensures none { IfNone result (self.new ≡ self.old) }
     {
         if self.run.is_empty() {
@@ -139,6 +144,7 @@ impl<'a> SpanCursor<'a> {
     #[inline]
     pub fn step<K: ZeroTrieWithOptions>(&mut self, byte: u8) -> Option<u8>
         ensures meaning { IsStep K.kind (ListsAt K.kind self.old) byte result (ListsAt K.kind self.new) }
+        ensures run { IfSome result (λ edge. FollowsRun K.kind self.old edge self.new) }
         ensures empty { IfNone result (self.new ≡ nowhere) }
     {
         match like_at::<K>(self.run, self.trie, byte) {
@@ -158,6 +164,7 @@ impl<'a> SpanCursor<'a> {
     pub fn probe<K: ZeroTrieWithOptions>(&mut self, index: usize) -> Option<ByteProbeResult>
         ensures meaning { IsProbe (ListsAt K.kind self.old) index
             (option_map {U = ℕ × ℕ} (λ r. (r.byte, r.total_siblings)) result) (ListsAt K.kind self.new) }
+        ensures run { IfSome result (λ r. FollowsRun K.kind self.old r.byte self.new) }
         ensures empty { IfNone result (self.new ≡ nowhere) }
     {
         match numbered_at::<K>(self.run, self.trie, index) {
@@ -206,5 +213,13 @@ mod tests {
         same(&rt, cursor.take_value(), Some(2));
         assert!(rt; cursor.is_empty());
         Ok(())
+    }
+
+    #[test]
+    fn in_front_of_a_span(rt: HostRuntime) {
+        let bytes = [0x61, 0xA2, 0xC3, 0xA9, 0x85];
+        let mut cursor = SpanCursor::new(&bytes);
+        same(&rt, cursor.step::<Hash>(0x61), Some(0x61));
+        same(&rt, cursor.rest(), Some(&bytes[1..]));
     }
 }

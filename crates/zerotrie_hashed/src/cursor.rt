@@ -4,7 +4,7 @@ ghost use Rattle.std.specs.Prelude.{⊤, ◌≡◌, ◌≢◌, ◌↔◌, [], �
 ghost use Rattle.std.specs.Option.{option_map};
 ghost use Rattle.zerotrie_core.specs.Maps.{Pairs};
 ghost use Rattle.zerotrie_core.specs.Texts.{Lists};
-ghost use Rattle.zerotrie_core.specs.Places.{nowhere, ListsAt, IsStep, IsTake, IsProbe};
+ghost use Rattle.zerotrie_core.specs.Places.{nowhere, ListsAt, IsStep, IsTake, IsProbe, FollowsRun};
 ghost use Rattle.zerotrie_any.specs.Walks.{IsWalk};
 
 use crate::hashed_trie::HashedTrie;
@@ -103,6 +103,7 @@ impl<'a, K: HashedKind> HashedCursor<'a, K> {
     /// Takes the value of the empty key. `None` where there is none, and then nothing changes.
     pub fn take_value(&mut self) -> Option<usize>
         ensures meaning { IsTake K.kind (ListsAt K.kind self.old) result (ListsAt K.kind self.new) }
+        ensures run { self.new.run ≡ self.old.run }
         ensures none { IfNone result (self.new ≡ self.old) }
     {
         self.place.take_value()
@@ -113,6 +114,7 @@ impl<'a, K: HashedKind> HashedCursor<'a, K> {
     /// A value is passed over. Where no edge is the byte, the answer is `None`, and the cursor is empty.
     pub fn step(&mut self, byte: u8) -> Option<u8>
         ensures meaning { IsStep K.kind (ListsAt K.kind self.old) byte result (ListsAt K.kind self.new) }
+        ensures run { IfSome result (λ edge. FollowsRun K.kind self.old edge self.new) }
         ensures empty { IfNone result (self.new ≡ nowhere) }
     {
         self.place.step::<K>(byte)
@@ -135,6 +137,7 @@ impl<'a, K: HashedKind> HashedCursor<'a, K> {
     pub fn probe(&mut self, index: usize) -> Option<ByteProbeResult>
         ensures meaning { IsProbe (ListsAt K.kind self.old) index
             (option_map {U = ℕ × ℕ} (λ r. (r.byte, r.total_siblings)) result) (ListsAt K.kind self.new) }
+        ensures run { IfSome result (λ r. FollowsRun K.kind self.old r.byte self.new) }
         ensures empty { IfNone result (self.new ≡ nowhere) }
     {
         self.place.probe::<K>(index)

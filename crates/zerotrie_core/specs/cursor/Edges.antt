@@ -23,6 +23,10 @@ abbrev pub ListsInside : Kind → List ℕ → List ℕ → Pairs → Type 0
 ListsInside kind run trie pairs = (run ≢ []) × ListsBehind kind run trie pairs
 
 -- where an edge leads
+abbrev pub place_after : declared.Along → Place
+place_after along = record { run = along.run.now; trie = along.trie.now }
+
+-- where an edge leads, if there is one
 abbrev pub place_along : Option declared.Along → Place
 place_along None = nowhere
-place_along (Some along) = record { run = along.run.now; trie = along.trie.now }
+place_along (Some along) = place_after along

@@ -1,28 +1,41 @@
-use Rattle.std.proofs.Common.{ℕ, [], Some, None, sym, subst, arith}
+use Rattle.std.proofs.Common.{refl, ℕ, [], Some, None, sym, subst, arith}
 use Rattle.std.specs.Option.{option_map}
 use Rattle.zerotrie_core.specs.Texts.{Lists}
 use Rattle.zerotrie_core.specs.Places.{ListsAt, IsProbe}
 use Rattle.zerotrie_core.specs.cursor.Edges.{place_along}
 use Rattle.zerotrie_core.proofs.CursorLemmas.{edges_past, probe_over, nothing_probes, literal_number, literal_past_number, span_probes, branch_number, branch_past_number, branch_no_target}
+use Rattle.std.proofs.lemmas.Option.{IfSome_then}
+use Rattle.zerotrie_core.proofs.RunLemmas.{same_span, same_after, literal_meets, branch_meets, follows_text, follows_span}
 use Rattle.zerotrie_core.proofs.edges.edge_numbered.Goals as goal
 
 pub loop-node-preserved : goal.loop-node-preserved
 loop-node-preserved g c =
     let begins = rw c.in-Value.is at c.in-Some.ensures.some in
-    edges_past g.K.ZeroTrieWithOptions.kind c.args.bytes.now c.loop-node.rest.now c.in-Value._value c.in-Value.after.now begins c.loop-node.invariant
+    let kind = g.K.ZeroTrieWithOptions.kind in
+    let old = c.loop-node.invariant in
+    record {
+      edges = edges_past kind c.args.bytes.now c.loop-node.rest.now c.in-Value._value c.in-Value.after.now begins old.edges;
+      span = same_after kind c.args.bytes.now c.loop-node.rest.now c.in-Value._value c.in-Value.after.now begins old.span;
+    }
+
+pub loop-node-init : goal.loop-node-init
+loop-node-init g c = record {
+  edges = λ pairs text. (pairs, text, refl, λ edge. refl);
+  span = same_span g.K.ZeroTrieWithOptions.kind c.args.bytes.now;
+}
 
 pub returns-then-index-gt0-clause-probe : goal.returns-then-index-gt0-clause-probe
 returns-then-index-gt0-clause-probe g c =
     let kind = g.K.ZeroTrieWithOptions.kind in
     let begins = rw c.in-Literal.is at c.in-Some.ensures.some in
-    probe_over kind c.args.bytes.now c.loop-node.rest.now c.args.index None (Lists kind []) c.loop-node.invariant
+    probe_over kind c.args.bytes.now c.loop-node.rest.now c.args.index None (Lists kind []) c.loop-node.invariant.edges
     (literal_past_number kind c.loop-node.rest.now c.in-Literal.edge c.in-Literal.trie.now begins c.args.index (λ e. omega arith))
 
 pub returns-in-Literal-clause-probe : goal.returns-in-Literal-clause-probe
 returns-in-Literal-clause-probe g c =
     let kind = g.K.ZeroTrieWithOptions.kind in
     let begins = rw c.in-Literal.is at c.in-Some.ensures.some in
-    probe_over kind c.args.bytes.now c.loop-node.rest.now c.args.index (Some (c.in-Literal.edge, 1)) (Lists kind c.in-Literal.trie.now) c.loop-node.invariant
+    probe_over kind c.args.bytes.now c.loop-node.rest.now c.args.index (Some (c.in-Literal.edge, 1)) (Lists kind c.in-Literal.trie.now) c.loop-node.invariant.edges
     (literal_number kind c.loop-node.rest.now c.in-Literal.edge c.in-Literal.trie.now begins c.args.index (omega arith))
 
 pub returns-in-Span-clause-probe : goal.returns-in-Span-clause-probe
@@ -31,7 +44,7 @@ returns-in-Span-clause-probe g c =
     let begins = rw c.in-Span.is at c.in-Some.ensures.some in
     let answer = option_map {U = ℕ × ℕ} (λ r. (r.0.edge, r.1)) c.run_edge_numbered.result in
     let place = place_along (option_map (λ r. r.0) c.run_edge_numbered.result) in
-    probe_over kind c.args.bytes.now c.loop-node.rest.now c.args.index answer (ListsAt kind place) c.loop-node.invariant
+    probe_over kind c.args.bytes.now c.loop-node.rest.now c.args.index answer (ListsAt kind place) c.loop-node.invariant.edges
     (span_probes kind c.loop-node.rest.now c.in-Span.run'.now c.in-Span.trie.now c.args.index answer (ListsAt kind place) begins (c.run_edge_numbered.ensures.probe kind))
 
 pub returns-then-index-branch-clause-probe : goal.returns-then-index-branch-clause-probe
@@ -39,7 +52,7 @@ returns-then-index-branch-clause-probe g c =
     let kind = g.K.ZeroTrieWithOptions.kind in
     let begins = rw c.in-Branch.is at c.in-Some.ensures.some in
     let b = c.in-Branch.branch in
-    probe_over kind c.args.bytes.now c.loop-node.rest.now c.args.index None (Lists kind []) c.loop-node.invariant
+    probe_over kind c.args.bytes.now c.loop-node.rest.now c.args.index None (Lists kind []) c.loop-node.invariant.edges
     (branch_past_number kind c.loop-node.rest.now b.edges b.width b.table.now b.behind.now begins c.args.index (omega arith))
 
 pub returns-in_err-trie-in-Branch-clause-probe : goal.returns-in_err-trie-in-Branch-clause-probe
@@ -48,7 +61,7 @@ returns-in_err-trie-in-Branch-clause-probe g c =
     let begins = rw c.in-Branch.is at c.in-Some.ensures.some in
     let b = c.in-Branch.branch in
     rw c.from_residual.ensures
-    (probe_over kind c.args.bytes.now c.loop-node.rest.now c.args.index None (Lists kind []) c.loop-node.invariant
+    (probe_over kind c.args.bytes.now c.loop-node.rest.now c.args.index None (Lists kind []) c.loop-node.invariant.edges
     (branch_no_target kind c.loop-node.rest.now b.edges b.width b.table.now b.behind.now begins c.args.index (omega arith) c.in_err-trie-in-Branch.ensures))
 
 pub returns-in-Branch-clause-probe : goal.returns-in-Branch-clause-probe
@@ -57,12 +70,34 @@ returns-in-Branch-clause-probe g c =
     let begins = rw c.in-Branch.is at c.in-Some.ensures.some in
     let b = c.in-Branch.branch in
     let trie = c.in_ok-trie-in-Branch.trie in
-    probe_over kind c.args.bytes.now c.loop-node.rest.now c.args.index (Some (c.edge_at-edge.result, b.edges)) (Lists kind trie.now) c.loop-node.invariant
+    probe_over kind c.args.bytes.now c.loop-node.rest.now c.args.index (Some (c.edge_at-edge.result, b.edges)) (Lists kind trie.now) c.loop-node.invariant.edges
     (subst (λ e. IsProbe (Lists kind c.loop-node.rest.now) c.args.index (Some (e, b.edges)) (Lists kind trie.now)) (sym c.edge_at-edge.ensures)
     (branch_number kind c.loop-node.rest.now b.edges b.width b.table.now b.behind.now begins c.args.index trie (omega arith) c.in_ok-trie-in-Branch.ensures))
 
 pub returns-clause-probe : goal.returns-clause-probe
 returns-clause-probe g c =
     let kind = g.K.ZeroTrieWithOptions.kind in
-    probe_over kind c.args.bytes.now c.loop-node.rest.now c.args.index None (Lists kind []) c.loop-node.invariant
+    probe_over kind c.args.bytes.now c.loop-node.rest.now c.args.index None (Lists kind []) c.loop-node.invariant.edges
     (nothing_probes kind c.loop-node.rest.now c.args.index c.in_default.ensures.none)
+
+pub returns-in-Literal-clause-run : goal.returns-in-Literal-clause-run
+returns-in-Literal-clause-run g c =
+    let kind = g.K.ZeroTrieWithOptions.kind in
+    let begins = rw c.in-Literal.is at c.in-Some.ensures.some in
+    follows_text kind c.args.bytes.now c.loop-node.rest.now c.in-Literal.edge c.in-Literal.trie.now c.loop-node.invariant.span
+    (λ r t. literal_meets kind c.loop-node.rest.now c.in-Literal.edge c.in-Literal.trie.now r t begins)
+
+pub returns-in-Span-clause-run : goal.returns-in-Span-clause-run
+returns-in-Span-clause-run g c =
+    let kind = g.K.ZeroTrieWithOptions.kind in
+    let begins = rw c.in-Span.is at c.in-Some.ensures.some in
+    IfSome_then c.run_edge_numbered.result c.run_edge_numbered.ensures.run
+    (λ r h. follows_span kind c.args.bytes.now c.loop-node.rest.now c.in-Span.run'.now c.in-Span.trie.now r.0.edge r.0.run.now r.0.trie.now c.loop-node.invariant.span begins h.0 h.1)
+
+pub returns-in-Branch-clause-run : goal.returns-in-Branch-clause-run
+returns-in-Branch-clause-run g c =
+    let kind = g.K.ZeroTrieWithOptions.kind in
+    let begins = rw c.in-Branch.is at c.in-Some.ensures.some in
+    let b = c.in-Branch.branch in
+    follows_text kind c.args.bytes.now c.loop-node.rest.now c.edge_at-edge.result c.in_ok-trie-in-Branch.trie.now c.loop-node.invariant.span
+    (λ r t. branch_meets kind c.loop-node.rest.now b.edges b.width b.table.now b.behind.now r t begins)

@@ -4,7 +4,7 @@ use Rattle.std.proofs.lemmas.Bool.{eqb-true}
 use Rattle.zerotrie_core.proofs.CursorLemmas.{place_text}
 use Rattle.zerotrie_core.proofs.span_cursor.like_at.Goals as goal
 
-pub returns-then-is_empty : goal.returns-then-is_empty
-returns-then-is_empty g c pairs lists =
+pub returns-then-is_empty-clause-step : goal.returns-then-is_empty-clause-step
+returns-then-is_empty-clause-step g c pairs lists =
     let none = nil_from_length c.args.run.now (eqb-true _ _ (sym c.is_empty.ensures ∙ c.if-is_empty.true)) in
     c.edge_like.ensures.step pairs (place_text g.K.ZeroTrieWithOptions.kind c.args.run.now c.args.trie.now pairs none lists)
