@@ -71,7 +71,7 @@ def main():
     passed = len(re.findall(r"^test .* \.\.\. ok$", said, re.M))
     files = len({place for place, _, _ in examples.values()})
     if run.returncode or passed != len(examples):
-        print(re.sub(r"^test .* \.\.\. ok\n", "", said, flags=re.M), end="")
+        print(re.sub(r"^test .* \.\.\. ok\n(    .*\n)*", "", said, flags=re.M), end="")
         sys.exit(f"{len(examples)} examples of {files} files: {passed} passed")
     print(f"{len(examples)} examples of {files} files: passed")
 

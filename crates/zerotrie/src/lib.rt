@@ -18,13 +18,16 @@
 //! }
 //! ```
 //!
-//! Each kind of trie has the same calls:
+//! The types, which share builds from pairs, look-ups, tests of bytes, conversions and outer forms:
 //!
 //! - `ZeroTrieSimpleAscii` for ASCII keys,
 //! - `ZeroAsciiIgnoreCaseTrie` for ASCII keys that are found without the case of their letters,
 //! - `ZeroTriePerfectHash` for keys of any bytes,
 //! - `ZeroTrieExtendedCapacity` for keys of any bytes in texts of any length,
 //! - `ZeroTrie`, of a kind that is known when the program runs: any of these but the one without case.
+//!
+//! Builds into an array are those of `ZeroTrieSimpleAscii` alone, and what asks for a kind in the type, as
+//! `from_bytes`, is of the first four.
 //!
 //! A look-up takes no memory and copies nothing. In the kinds over ASCII a build answers the one text of the
 //! map, whichever way the pairs came, so tries of one map have equal bytes.
