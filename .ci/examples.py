@@ -14,6 +14,8 @@ import sys
 import tempfile
 
 ROOT = pathlib.Path(__file__).resolve().parent.parent
+CRATES = (ROOT / "crates.txt").read_text()
+BELOW = dict(re.findall(r"^(\w+):(.*)", CRATES, re.M))  # what each crate stands on, static libraries aside
 OTHERS = "use serde_json::Value; use std::borrow::CowSlice; use std::collections::{BTreeMap, VecDeque}; use std::test::Fail; "
 PRINTS = re.compile(r"(println!\(rt; (.*)\)\?;) +// (.*)")
 
@@ -45,35 +47,45 @@ def as_test(crates, start, code):
     return uses + "#[test] fn main(rt: HostRuntime) -> Result<(), Fail> {" + "\n" * start + text + "\nOk(()) }\n"
 
 
-def main():
-    below = dict(re.findall(r"^(\w+):(.*)", (ROOT / "crates.txt").read_text(), re.M))
-    ours = {name: [name, *(it for it in words.split() if it in below)] for name, words in below.items()}
-    examples = {}  # by the file that a test is written to: where the example stands, and its test
+def found():
+    """Returns the examples by the names of the files that their tests go to: for each where it stands, and its test."""
+    examples = {}
     for file in [*sorted(ROOT.glob("crates/*/src/**/*.rt")), ROOT / "README.md"]:
         place = file.relative_to(ROOT)
-        crates = ours[place.parts[1]] if file.suffix == ".rt" else []
+        crate = place.parts[1] if file.suffix == ".rt" else ""
+        seen = [it for it in [crate, *BELOW.get(crate, "").split()] if it in BELOW]
         for start, code in blocks(file):
-            examples[f"e{len(examples) + 1}"] = (place, start, as_test(crates, start, code))
+            examples[f"e{len(examples) + 1}"] = (place, start, as_test(seen, start, code))
+    return examples
+
+
+def tried(examples):
+    """Runs the tests as one crate of a copy of the repository."""
     with tempfile.TemporaryDirectory() as folder:
         copy = pathlib.Path(folder)
-        for name in below:
-            shutil.copytree(ROOT / "crates" / name / "src", copy / "crates" / name / "src")
+        for source in ROOT.glob("crates/*/src"):
+            shutil.copytree(source, copy / source.relative_to(ROOT))
+        libraries = " ".join(it for it in BELOW if (copy / "crates" / it / "src" / "lib.rt").exists())
+        (copy / "crates.txt").write_text(f"{CRATES}\nexamples: {libraries} serde_json anyhow\n")
         source = copy / "crates" / "examples" / "src"
         source.mkdir(parents=True)
-        uses = " ".join(name for name in ours if (ROOT / "crates" / name / "src" / "lib.rt").exists())
-        (copy / "crates.txt").write_text((ROOT / "crates.txt").read_text() + f"\nexamples: {uses} serde_json anyhow\n")
         (source / "lib.rt").write_text("".join(f"#[cfg(test)] mod {name};\n" for name in examples))
         for name, (_, _, test) in examples.items():
             (source / f"{name}.rt").write_text(test)
-        run = subprocess.run(["rt", "try", "--test"], cwd=source.parent, capture_output=True, text=True)
+        return subprocess.run(["rt", "try", "--test"], cwd=source.parent, capture_output=True, text=True)
+
+
+def main():
+    examples = found()
+    run = tried(examples)
     said = re.sub(r"\bsrc/(e\d+)\.rt\b", lambda it: str(examples[it[1]][0]), run.stdout + run.stderr)
     said = re.sub(r"\b(e\d+)::main\b", lambda it: "{}:{}".format(*examples[it[1]]), said)
     passed = len(re.findall(r"^test .* \.\.\. ok$", said, re.M))
-    files = len({place for place, _, _ in examples.values()})
+    of = f"{len(examples)} examples of {len({place for place, _, _ in examples.values()})} files"
     if run.returncode or passed != len(examples):
         print(re.sub(r"^test .* \.\.\. ok\n(    .*\n)*", "", said, flags=re.M), end="")
-        sys.exit(f"{len(examples)} examples of {files} files: {passed} passed")
-    print(f"{len(examples)} examples of {files} files: passed")
+        sys.exit(f"{of}: {passed} passed")
+    print(f"{of}: passed")
 
 
 main()
