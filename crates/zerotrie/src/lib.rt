@@ -26,8 +26,8 @@
 //! - `ZeroTrieExtendedCapacity` for keys of any bytes in texts of any length,
 //! - `ZeroTrie`, of a kind that is known when the program runs: any of these but the one without case.
 //!
-//! Builds into an array are those of `ZeroTrieSimpleAscii` alone, and what asks for a kind in the type, as
-//! `from_bytes`, is of the first four.
+//! Only `ZeroTrieSimpleAscii` is built into an array, and of bare bytes or a store `ZeroTrie` is made with its kind
+//! named.
 //!
 //! A look-up takes no memory and copies nothing. In the kinds over ASCII a build answers the one text of the
 //! map, whichever way the pairs came, so tries of one map have equal bytes.
