@@ -49,7 +49,7 @@ impl<T: Drop> From<AllocFailed<T>> for ListError {
 }
 
 /// A branch with targets to come: the edge of the next one, and how much of the prefix stands in front of it.
-#[derive(Drop)]
+#[derive(Debug, Drop)]
 struct OpenBranch<'a> {
     branch: Branch<'a>,
     next: usize,
@@ -57,7 +57,7 @@ struct OpenBranch<'a> {
 }
 
 /// A listing whose memory comes from any allocator.
-#[derive(Drop)]
+#[derive(Debug, Drop)]
 struct Listing<'a, A: Allocator> {
     options: ZeroTrieBuilderOptions,
     rest: &'a [u8],
@@ -111,7 +111,7 @@ impl<'a, A: Allocator + Copy> Listing<'a, A> {
 /// An item is a key with its value, or `ListError::OutOfMemory` where a growth was refused. After an error, and
 /// after the end, nothing more comes. Bytes that mean no map list what their nodes give, up to where none
 /// begins: of n bytes at most n pairs.
-#[derive(Drop)]
+#[derive(Debug, Drop)]
 pub struct ZeroTrieIterator<'a> {
     listing: Listing<'a, Global>,
 }
