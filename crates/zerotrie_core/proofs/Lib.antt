@@ -13,6 +13,7 @@ mod EachLemmas
 mod GoingLemmas
 mod LaneLemmas
 mod PlaceLemmas
+mod PrefixLemmas
 mod ReaderLemmas
 mod LiteralLemmas
 mod CursorLemmas

@@ -12,6 +12,7 @@ mod options;
 mod plain;
 mod reader;
 mod span_cursor;
+mod stream;
 #[cfg(test)]
 mod testing;
 mod varint;
@@ -23,6 +24,7 @@ pub use options::{Ext, Hash, Ignore, Simple, ZeroTrieBuilderOptions, ZeroTrieWit
 pub use plain::plain_encode;
 pub use reader::get_counted;
 pub use span_cursor::{ByteProbeResult, SpanCursor};
+pub use stream::ZeroTrieStream;
 pub use varint::{read_varint_meta2, read_varint_meta3, write_varint_meta2, write_varint_meta3};
 pub use well_formed::{is_well_formed, is_well_formed_counted};
 pub use zerotrie_base::{
