@@ -16,6 +16,7 @@ mod PlaceLemmas
 mod PrefixLemmas
 mod ReaderLemmas
 mod LiteralLemmas
+mod LongestLemmas
 mod CursorLemmas
 mod CaseLemmas
 mod MapLemmas
