@@ -27,6 +27,7 @@ mod EdgeLemmas
 mod OrderedLemmas
 mod SameLemmas
 mod FrontLemmas
+mod FrontsLemmas
 mod CanonLaws
 mod SizeLemmas
 mod EncodeLaws

@@ -14,7 +14,7 @@ use Rattle.zerotrie_core.specs.Prefixes.{IsLongest, IsLongestPrefix}
 use Rattle.zerotrie_core.specs.cursor.Fronts.{noted}
 use Rattle.zerotrie_core.proofs.MapLemmas.{look-map_of}
 
-others_stay : (kind : Kind) (pairs : Pairs) (c : ℕ) (key : List ℕ) → value_at kind (without_value pairs) (c ∷ key) ≡ value_at kind pairs (c ∷ key)
+pub others_stay : (kind : Kind) (pairs : Pairs) (c : ℕ) (key : List ℕ) → value_at kind (without_value pairs) (c ∷ key) ≡ value_at kind pairs (c ∷ key)
 others_stay kind [] c key = refl
 others_stay kind (([], v) ∷ pairs) c key = refl
 others_stay kind ((b ∷ k, v) ∷ pairs) c key = rw (others_stay kind pairs c key) refl
@@ -45,10 +45,14 @@ longest_more at text i None None old is = λ n high. elim (eqb_tells n (i + 1)) 
   | inl t ↦ ap (λ k. at (take k text)) t.1 ∙ sym is
   | inr f ↦ old n (omega (arith, f.1))
 ]
-longest_more at text i None (Some r) old is = (omega (arith, old.0), old.1, λ n low high. elim (eqb_tells n (i + 1)) [
-  | inl t ↦ ap (λ k. at (take k text)) t.1 ∙ sym is
-  | inr f ↦ old.2 n low (omega (arith, f.1))
-])
+longest_more at text i None (Some r) old is = (
+  omega (arith, old.0),
+  old.1,
+  λ n low high. elim (eqb_tells n (i + 1)) [
+    | inl t ↦ ap (λ k. at (take k text)) t.1 ∙ sym is
+    | inr f ↦ old.2 n low (omega (arith, f.1))
+  ],
+)
 
 longest_on : (at : List ℕ → Option ℕ) (text : List ℕ) (i most : ℕ) (found : Option (ℕ × ℕ)) → IsLongest at text i found → i ≤ most
     → ((n : ℕ) → i < n → n ≤ most → at (take n text) ≡ None) → IsLongest at text most found
@@ -56,10 +60,14 @@ longest_on at text i most None old low none = λ n high. elim (leb_tells n i) [
   | inl t ↦ old n t.1
   | inr f ↦ none n f.1 high
 ]
-longest_on at text i most (Some r) old low none = (omega (arith, old.0), old.1, λ n l high. elim (leb_tells n i) [
-  | inl t ↦ old.2 n l t.1
-  | inr f ↦ none n f.1 high
-])
+longest_on at text i most (Some r) old low none = (
+  omega (arith, old.0),
+  old.1,
+  λ n l high. elim (leb_tells n i) [
+    | inl t ↦ old.2 n l t.1
+    | inr f ↦ none n f.1 high
+  ],
+)
 
 longest_same : (f g : List ℕ → Option ℕ) (text : List ℕ) (most : ℕ) (found : Option (ℕ × ℕ)) → ((key : List ℕ) → g key ≡ f key) → IsLongest f text most found → IsLongest g text most found
 longest_same f g text most None same h = λ n low. same (take n text) ∙ h n low
@@ -113,8 +121,8 @@ stops kind pairs text i before middle answer found law l g step is =
     let gone : after_steps kind (c ∷ []) g.left ≡ [] = ap (λ a. behind a g.left) (sym s.0 ∙ is) in
     longest_on (value_at kind pairs) text i (length text) found g.longest (omega arith)
     (λ n low high.
-      let r = take_beyond text i n low high in
-      ap (value_at kind pairs) r.1 ∙ sym (stepped kind pairs text i before found law l g r.0) ∙ ap (λ p. value_at kind p r.0) gone)
+    let r = take_beyond text i n low high in
+    ap (value_at kind pairs) r.1 ∙ sym (stepped kind pairs text i before found law l g r.0) ∙ ap (λ p. value_at kind p r.0) gone)
 
 pub ends : (kind : Kind) (pairs : Pairs) (text : List ℕ) (i : ℕ) (place : Place) (found : Option (ℕ × ℕ)) → GoesAlong kind pairs text i place found → i ≡ length text
     → IsLongest (value_at kind pairs) text (length text) found

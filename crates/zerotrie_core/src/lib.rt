@@ -23,7 +23,7 @@ pub use cursor::{AsciiProbeResult, probe, step, take_value};
 pub use listing::{ListError, ZeroTrieIterator};
 pub use options::{Ext, Hash, Ignore, Simple, ZeroTrieBuilderOptions, ZeroTrieWithOptions};
 pub use plain::plain_encode;
-pub use prefixes::longest_prefix;
+pub use prefixes::{CommonPrefixes, longest_prefix};
 pub use reader::get_counted;
 pub use span_cursor::{ByteProbeResult, SpanCursor};
 pub use stream::ZeroTrieStream;

@@ -35,7 +35,7 @@ returns g c =
     let kind = g.K.ZeroTrieWithOptions.kind in
     IfOk-weaker c.behind.result _ _
     (λ s h pairs lists. (
-      let at = c.loop-byte.invariant pairs lists in
-      h at.pairs at.lists ∙ ap to_come (all_stepped kind pairs c.args.prefix.now c.loop-byte.front.items c.loop-byte.byte-index c.loop-byte.cursor at (omega arith))
-      ))
+    let at = c.loop-byte.invariant pairs lists in
+    h at.pairs at.lists ∙ ap to_come (all_stepped kind pairs c.args.prefix.now c.loop-byte.front.items c.loop-byte.byte-index c.loop-byte.cursor at (omega arith))
+    ))
     c.behind.ensures
