@@ -52,3 +52,4 @@ mod SoundLemmas
 mod BehindLemmas
 mod TestLemmas
 mod StackLemmas
+mod CountLemmas
