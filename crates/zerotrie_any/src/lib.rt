@@ -12,12 +12,14 @@ mod listed;
 mod routes;
 mod tags;
 mod zerotrie;
+mod zerotrie_cursor;
 
 pub use checked::NotWellFormed;
 pub use cursor::{CursorAnswer, CursorOp, walk};
 pub use json::{JsonError, bytes_from_json, json_keeps_the_pairs, json_of};
 pub use keys::TextKey;
-pub use listed::map_of;
+pub use listed::{first_key_of, map_of};
 pub use routes::{bytes_from_iter, bytes_from_map, bytes_from_slice};
 pub use tags::{TagError, tagged, untagged};
 pub use zerotrie::{HasFlavor, ZeroTrie, ZeroTrieFlavor};
+pub use zerotrie_cursor::ZeroTrieCursor;

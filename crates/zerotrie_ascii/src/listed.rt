@@ -1,12 +1,15 @@
 //! The pairs of a trie over ASCII keys, whose keys are text.
 
-ghost use Rattle.std.specs.Prelude.{◌≡◌, ◌≤◌, length};
+ghost use Rattle.std.specs.Prelude.{◌≡◌, ◌≤◌, IfErr, IfOk, length};
+ghost use Rattle.std.specs.FinMap.{len};
 ghost use Rattle.std.specs.Iterator.{at_most};
+ghost use Rattle.std.specs.Option.{option_map};
 ghost use Rattle.std.specs.String.{string_bytes};
 ghost use Rattle.zerotrie_core.specs.Maps.{Map, Pairs};
 ghost use Rattle.zerotrie_core.specs.Texts.{Lists, Means};
 ghost use Rattle.zerotrie_core.specs.Listings.{to_come, turns_left, ListsOne};
-ghost use Rattle.zerotrie_any.specs.Listed.{IsListed};
+ghost use Rattle.zerotrie_core.specs.declared.listing.ListError.TheVariants.{OutOfMemory};
+ghost use Rattle.zerotrie_any.specs.Listed.{IsListed, first_key_of};
 ghost use Rattle.zerotrie_ascii.specs.ListedTexts.{AreTexts, TextError};
 
 use crate::ascii_trie::AsciiTrie;
@@ -14,7 +17,8 @@ use crate::options::AsciiKind;
 use std::alloc::Global;
 use std::collections::BTreeMap;
 use std::marker::Model;
-use zerotrie_core::{ListError, TrieStore, ZeroTrieIterator};
+use zerotrie_any::first_key_of;
+use zerotrie_core::{ListError, TrieStore, ZeroTrieIterator, count_pairs};
 
 /// The pairs of a trie over ASCII keys, one after another: a value comes before what follows it, and the
 /// targets of a branch come in the order of its table. So the keys ascend by their bytes, or in the kind
@@ -88,6 +92,38 @@ impl<K: AsciiKind, S: TrieStore> AsciiTrie<K, S> {
             inner: ZeroTrieIterator::new::<K>(alloc, self.as_bytes()),
             ended: false,
         }
+    }
+
+    /// How many keys the trie has. It goes over the bytes once and takes no memory.
+    ///
+    /// ```
+    /// let trie = ZeroTrieSimpleAscii::try_from_iter(rt.alloc(), [("xyz", 22), ("abc", 11)])?;
+    /// assert_eq!(rt; trie.count(), 2);
+    /// ```
+    ///
+    /// On bytes that mean no map it gives some number.
+    pub fn count(&self) -> usize
+        ensures map { (m : Map) → Means K.kind (S.stored self.now.store) m → result ≡ len m }
+        ensures most { result ≤ length (S.stored self.now.store) }
+    {
+        count_pairs::<K>(self.as_bytes())
+    }
+
+    /// The first key in the order of `iter` that has this value, or `None` where no key has it.
+    ///
+    /// ```
+    /// let trie = ZeroTrieSimpleAscii::try_from_iter(rt.alloc(), [("xyz", 22), ("abc", 11)])?;
+    /// let key = trie.first_key_of(rt.alloc(), 22)?.ok_or("no key")?;
+    /// assert_eq!(rt; key.as_slice(), b"xyz".as_slice());
+    /// ```
+    ///
+    /// The only error is `OutOfMemory`.
+    pub fn first_key_of(&self, alloc: Global, value: usize) -> Result<Option<Vec<u8>>, ListError>
+        ensures first { (pairs : Pairs) → Lists K.kind (S.stored self.now.store) pairs
+            → IfOk result (λ key. option_map (λ k. k.items) key ≡ first_key_of value pairs) }
+        ensures refused { IfErr result (λ e. e ≡ OutOfMemory) }
+    {
+        first_key_of::<K>(alloc, self.as_bytes(), value)
     }
 
     /// The map that the trie is of, in the order of the keys' bytes.

@@ -56,3 +56,4 @@ mod SoundLemmas
 mod BehindLemmas
 mod TestLemmas
 mod StackLemmas
+mod CountLemmas

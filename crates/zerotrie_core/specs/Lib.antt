@@ -23,6 +23,7 @@ pub mod reader
 pub mod Listings
 pub mod listing
 pub mod cursor
+pub mod count
 pub mod Laws
 pub mod CursorLaws
 pub mod WellFormed

@@ -2,6 +2,7 @@
 #![tactic(auto)]
 
 mod branch;
+mod count;
 mod cursor;
 mod edges;
 mod lanes;
@@ -19,6 +20,7 @@ mod testing;
 mod varint;
 mod well_formed;
 
+pub use count::count_pairs;
 pub use cursor::{AsciiProbeResult, probe, step, take_value};
 pub use listing::{ListError, ZeroTrieIterator};
 pub use options::{Ext, Hash, Ignore, Simple, ZeroTrieBuilderOptions, ZeroTrieWithOptions};

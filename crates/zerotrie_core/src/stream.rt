@@ -247,7 +247,7 @@ fn next_target<'a, A: Allocator>(
 
 /// The first node of the bytes.
 #[inline(always)]
-fn node_at<K: ZeroTrieWithOptions>(bytes: &[u8]) -> Option<Node<'_>>
+pub fn node_at<K: ZeroTrieWithOptions>(bytes: &[u8]) -> Option<Node<'_>>
     ensures { node_of K.kind bytes.now ≡ option_map shape result }
 {
     first_node::<K>(bytes)
