@@ -9,6 +9,7 @@ mod cursor;
 mod json;
 mod keys;
 mod listed;
+mod prefixes;
 mod routes;
 mod tags;
 mod zerotrie;

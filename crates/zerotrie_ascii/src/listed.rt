@@ -5,7 +5,7 @@ ghost use Rattle.std.specs.FinMap.{len};
 ghost use Rattle.std.specs.Iterator.{at_most};
 ghost use Rattle.std.specs.Option.{option_map};
 ghost use Rattle.std.specs.String.{string_bytes};
-ghost use Rattle.zerotrie_core.specs.Maps.{Map, Pairs};
+ghost use Rattle.zerotrie_core.specs.Maps.{Map, Pairs, beginning};
 ghost use Rattle.zerotrie_core.specs.Texts.{Lists, Means};
 ghost use Rattle.zerotrie_core.specs.Listings.{to_come, turns_left, ListsOne};
 ghost use Rattle.zerotrie_core.specs.declared.listing.ListError.TheVariants.{OutOfMemory};
@@ -14,7 +14,7 @@ ghost use Rattle.zerotrie_ascii.specs.ListedTexts.{AreTexts, TextError};
 
 use crate::ascii_trie::AsciiTrie;
 use crate::options::AsciiKind;
-use std::alloc::Global;
+use std::alloc::{AllocError, Global};
 use std::collections::BTreeMap;
 use std::marker::Model;
 use zerotrie_any::first_key_of;
@@ -92,6 +92,31 @@ impl<K: AsciiKind, S: TrieStore> AsciiTrie<K, S> {
             inner: ZeroTrieIterator::new::<K>(alloc, self.as_bytes()),
             ended: false,
         }
+    }
+
+    /// The pairs whose keys begin with a prefix, as `iter` lists them: each with its whole key.
+    ///
+    /// ```
+    /// let trie = ZeroTrieSimpleAscii::try_from_iter(rt.alloc(), [("xyz", 22), ("abc", 11)])?;
+    /// let mut pairs = trie.iter_prefix(rt.alloc(), b"ab")?;
+    /// let (key, value) = pairs.next().ok_or("no key")??;
+    /// assert_eq!(rt; (key.as_str(), value), ("abc", 11));
+    /// assert!(rt; pairs.next().is_none());
+    /// ```
+    ///
+    /// It goes down to the prefix and reads no other part of the trie. The only error is that it is out of memory.
+    pub fn iter_prefix(
+        &self,
+        alloc: Global,
+        prefix: &[u8],
+    ) -> Result<ZeroTrieStringIterator<'_>, AllocError>
+        ensures { IfOk result (λ it. (pairs : Pairs) → Lists K.kind (S.stored self.now.store) pairs
+            → it ≡ to_come (beginning K.kind prefix.now pairs)) }
+    {
+        Ok(ZeroTrieStringIterator {
+            inner: ZeroTrieIterator::with_prefix::<K>(alloc, self.as_bytes(), prefix)?,
+            ended: false,
+        })
     }
 
     /// How many keys the trie has. It goes over the bytes once and takes no memory.

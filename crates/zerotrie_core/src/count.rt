@@ -10,9 +10,9 @@ ghost use Rattle.zerotrie_core.specs.Texts.{Lists, Means};
 ghost use Rattle.zerotrie_core.specs.Shapes.{shape};
 ghost use Rattle.zerotrie_core.specs.count.Row.{row_behind, values_in};
 
-use crate::stream::node_at;
 use crate::node::Node;
 use crate::options::ZeroTrieWithOptions;
+use crate::stream::node_at;
 
 /// What stands behind a node in the row: of a branch its targets, one after another.
 fn row_behind<'a>(node: Node<'a>) -> &'a [u8]

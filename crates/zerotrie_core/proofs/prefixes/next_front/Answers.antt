@@ -24,12 +24,15 @@ returns-in-Some-clause-next c =
 pub returns-in-Some-clause-less : goal.returns-in-Some-clause-less
 returns-in-Some-clause-less c =
     let at = c.loop-value.invariant in
-    let first = c.in-Some.ensures.first in
-    (at.forward, c.in-Some.ensures.looked, λ is. (
-      let other : c.loop-value.len ≡ c.args.len.now → ⊥ = λ same. (let was = at.once is same in cc) in
-      let low = at.forward in
-      omega arith
-      ))
+    let first = c.in-Some.ensures.first in (
+      at.forward,
+      c.in-Some.ensures.looked,
+      λ is. (
+          let other : c.loop-value.len ≡ c.args.len.now → ⊥ = λ same. (let was = at.once is same in cc) in
+          let low = at.forward in
+          omega arith
+          ),
+    )
 
 pub returns-in_err-byte-clause-next : goal.returns-in_err-byte-clause-next
 returns-in_err-byte-clause-next c =
