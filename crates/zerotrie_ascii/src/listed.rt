@@ -110,8 +110,10 @@ impl<K: AsciiKind, S: TrieStore> AsciiTrie<K, S> {
         alloc: Global,
         prefix: &[u8],
     ) -> Result<ZeroTrieStringIterator<'_>, AllocError>
-        ensures { IfOk result (λ it. (pairs : Pairs) → Lists K.kind (S.stored self.now.store) pairs
+        ensures lists { IfOk result (λ it. (pairs : Pairs) → Lists K.kind (S.stored self.now.store) pairs
             → it ≡ to_come (beginning K.kind prefix.now pairs)) }
+        ensures texts { (pairs : Pairs) → Lists K.kind (S.stored self.now.store) pairs
+            → AreTexts (beginning K.kind prefix.now pairs) }
     {
         Ok(ZeroTrieStringIterator {
             inner: ZeroTrieIterator::with_prefix::<K>(alloc, self.as_bytes(), prefix)?,
