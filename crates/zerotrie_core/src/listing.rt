@@ -109,8 +109,7 @@ impl<'a, A: Allocator + Copy> Listing<'a, A> {
 /// ```
 ///
 /// An item is a key with its value, or `ListError::OutOfMemory` where a growth was refused. After an error, and
-/// after the end, nothing more comes. Bytes that mean no map list what their nodes give, up to where none
-/// begins: of n bytes at most n pairs.
+/// after the end, nothing more comes. Of n bytes, whatever they are, at most n pairs come.
 #[derive(Debug, Drop)]
 pub struct ZeroTrieIterator<'a> {
     listing: Listing<'a, Global>,
