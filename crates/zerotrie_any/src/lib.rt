@@ -1,7 +1,6 @@
-//! What every kind of trie shares, over bare bytes: the routes by which one is built, ordered maps,
-//! walks of a cursor, tagged bytes and JSON; and `ZeroTrie`.
-//! What every kind of trie shares, over bare bytes: the routes by which one is built, its map, its tagged bytes
-//! and its JSON value.
+//! What every kind of trie shares, over bare bytes: the routes that build one from a slice, a map or an iterator,
+//! its ordered map, walks of a cursor, tagged bytes and JSON values. And `ZeroTrie`, a trie whose kind is known
+//! when the program runs.
 #![tactic(auto)]
 
 mod checked;

@@ -24,7 +24,7 @@ use zerotrie_core::{
 /// assert_eq!(rt; map.len(), 2);
 /// ```
 ///
-/// The only error is `OutOfMemory`. On bytes that mean no map the pairs are those that their nodes give.
+/// The only error is `OutOfMemory`. On bytes that mean no map some map is answered.
 pub fn map_of<K: ZeroTrieWithOptions>(
     alloc: Global,
     bytes: &[u8],

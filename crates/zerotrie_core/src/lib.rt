@@ -1,4 +1,5 @@
-//! Tries as flat lists of bytes: numbers, the grammar, look-up and the plain encoder.
+//! Tries as flat lists of bytes, and what reads them where they lie: look-ups, listings, cursors and the test of bytes.
+//! Besides the numbers that the bytes have, the kinds with their options, the plain encoder, and the laws of the format.
 #![tactic(auto)]
 
 mod branch;
