@@ -12,13 +12,11 @@ mod options;
 mod plain;
 mod reader;
 mod span_cursor;
-#[cfg(test)]
-mod testing;
 mod varint;
 mod well_formed;
 
 pub use cursor::{AsciiProbeResult, probe, step, take_value};
-pub use listing::{ListError, ZeroTrieIterator};
+pub use listing::{ListError, Listing, ZeroTrieIterator};
 pub use options::{Ext, Hash, Ignore, Simple, ZeroTrieBuilderOptions, ZeroTrieWithOptions};
 pub use plain::plain_encode;
 pub use reader::get_counted;

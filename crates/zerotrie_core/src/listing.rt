@@ -57,8 +57,10 @@ struct OpenBranch<'a> {
 }
 
 /// A listing whose memory comes from any allocator.
+///
+/// Its items are those of `ZeroTrieIterator`.
 #[derive(Drop)]
-struct Listing<'a, A: Allocator> {
+pub struct Listing<'a, A: Allocator> {
     options: ZeroTrieBuilderOptions,
     rest: &'a [u8],
     prefix: Vec<u8, A>,
@@ -82,8 +84,8 @@ impl<'a, A: Allocator> Model for Listing<'a, A> {
 impl<'a, A: Allocator + Copy> Listing<'a, A> {
     ghost use Rattle.zerotrie_core.specs.Listings.{to_come};
 
-    /// The pairs of these bytes.
-    fn new<K: ZeroTrieWithOptions>(alloc: A, bytes: &'a [u8]) -> Self
+    /// The pairs of these bytes. It takes no memory before the first `next`.
+    pub fn new<K: ZeroTrieWithOptions>(alloc: A, bytes: &'a [u8]) -> Self
         ensures lists { (pairs : Pairs) → Lists K.kind bytes.now pairs → result ≡ to_come pairs }
         ensures most { length result.pairs ≤ length bytes.now }
         ensures fresh { result.ended ≡ false }
@@ -307,57 +309,5 @@ impl<'a, A: Allocator + Copy> Iterator for Listing<'a, A> {
             return Some(Err(ListError::OutOfMemory));
         };
         Some(Ok((key, value)))
-    }
-}
-
-#[cfg(test)]
-mod tests {
-    use super::*;
-    use crate::testing::same;
-    use linked_list_allocator::LocalHeap;
-    use std::process::Abort;
-    use std::test::Fail;
-
-    /// A listing over a heap gives a beginning of the pairs, then perhaps one error, and nothing more. Answers how many
-    /// errors came.
-    fn refusals<H: AllocGlobal + Abort>(
-        rt: &H,
-        heap: &LocalHeap,
-        bytes: &[u8],
-    ) -> Result<usize, Fail> {
-        let mut all = ZeroTrieIterator::new::<Hash>(rt.alloc(), bytes);
-        let mut refused = 0_usize;
-        for item in Listing::new::<Hash>(heap, bytes) {
-            same(rt, refused, 0);
-            match item {
-                Ok((key, value)) => {
-                    let (text, number) = all.next().ok_or("one too many")??;
-                    same(rt, key.as_slice(), text.as_slice());
-                    same(rt, value, number);
-                }
-                Err(why) => {
-                    assert!(rt; why == ListError::OutOfMemory);
-                    refused = refused.saturating_add(1);
-                }
-            }
-        }
-        assert!(rt; refused == 1 || all.next().is_none());
-        Ok(refused)
-    }
-
-    /// Over heaps of rising size a listing is refused for want of memory, until it gives all of the pairs. All memory is
-    /// given back.
-    #[test]
-    fn every_size_of_heap(rt: HostRuntime) -> Result<(), Fail> {
-        let bytes = b"\x80abcdefghijklmnopqrstuvwxyz\xC2AB\x04\xA2\xC3\xA9\x81\xC2ab\x01\x82\x83";
-        let mut complete = 0_usize;
-        for size in 0..40_usize {
-            let heap = LocalHeap::new(rt.alloc(), size * 16)?;
-            let refused = refusals(&rt, &heap, bytes)?;
-            same(&rt, heap.used(), 0);
-            complete = complete.saturating_add(1 - refused.min(1));
-        }
-        assert!(rt; complete > 5 && complete < 35);
-        Ok(())
     }
 }
