@@ -4,9 +4,9 @@
 mod byte_phf;
 mod error;
 mod store;
-#[cfg(test)]
-mod testing;
 
-pub use byte_phf::{PerfectByteHashMap, PerfectByteHashMapCacheOwned, are_distinct, f1, f2};
+pub use byte_phf::{
+    HeldTables, PerfectByteHashMap, PerfectByteHashMapCacheOwned, are_distinct, f1, f2,
+};
 pub use error::ZeroTrieBuildError;
 pub use store::{ConvertStore, TrieKey, TrieStore};

@@ -97,8 +97,11 @@ fn grow_ascending<K: ZeroTrieWithOptions, S: TrieBuilderStore + Drop, A: Allocat
     }
 }
 
-/// The bytes of the trie of items that ascend by the bytes of their keys, in the kind of the options.
-fn grow_slice<S: TrieBuilderStore + Drop, A: Allocator + Copy>(
+/// The bytes of the trie of items that ascend by the bytes of their keys, in the kind of the options. What it takes
+/// beside the store comes from the allocator `spare`.
+///
+/// A build is refused as one by `ZeroTrieBuilder` is.
+pub fn grow_slice<S: TrieBuilderStore + Drop, A: Allocator + Copy>(
     alloc: Global,
     spare: A,
     items: ByteSliceWithIndices<'_>,
@@ -300,6 +303,3 @@ impl<S: TrieBuilderStore + Drop> ZeroTrieBuilder<S> {
         self.data.atbs_to_bytes(alloc)
     }
 }
-
-#[cfg(test)]
-mod tests;

@@ -7,6 +7,3 @@ mod walk;
 
 pub use builder::ZeroTrieBuilderConst;
 pub use fill::{bytes_within, fill_from_end};
-
-#[cfg(test)]
-mod tests;

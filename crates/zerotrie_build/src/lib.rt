@@ -11,11 +11,9 @@ mod order;
 mod slice_indices;
 mod steps;
 mod store;
-#[cfg(test)]
-mod testing;
 mod writing;
 
-pub use builder::{ZeroTrieBuilder, encoded_len};
+pub use builder::{ZeroTrieBuilder, encoded_len, grow_slice};
 pub use konst::{ZeroTrieBuilderConst, bytes_within, fill_from_end};
 pub use slice_indices::ByteSliceWithIndices;
 pub use store::TrieBuilderStore;

@@ -114,22 +114,3 @@ impl<'a> ByteSliceWithIndices<'a> {
         true
     }
 }
-
-#[cfg(test)]
-mod tests {
-    use super::*;
-    use crate::testing::same;
-    use std::test::Fail;
-
-    #[test]
-    fn to_vec_u8_has_the_bytes(rt: HostRuntime) -> Result<(), Fail> {
-        let items = [("ad", 22), ("é", 33)];
-        let items = ByteSliceWithIndices::from_str_slice(&items);
-        let bytes = items.to_vec_u8(rt.alloc())?;
-        same(&rt, bytes.len(), 2);
-        let (key, value) = *bytes.as_slice().last().ok_or("empty")?;
-        same(&rt, key, [0xC3, 0xA9].as_slice());
-        same(&rt, value, 33);
-        Ok(())
-    }
-}

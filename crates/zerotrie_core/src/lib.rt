@@ -16,8 +16,6 @@ mod prefixes;
 mod reader;
 mod span_cursor;
 mod stream;
-#[cfg(test)]
-mod testing;
 mod varint;
 mod well_formed;
 

@@ -183,6 +183,3 @@ pub fn plain_encode(alloc: Global, items: &[(&[u8], usize)]) -> Result<Vec<u8>, 
     encode(alloc, &mut text, items, 0)?;
     Ok(text)
 }
-
-#[cfg(test)]
-mod tests;

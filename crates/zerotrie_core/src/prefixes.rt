@@ -184,31 +184,3 @@ impl<'a, 't> Iterator for CommonPrefixes<'a, 't> {
         )
     }
 }
-
-#[cfg(test)]
-mod tests {
-    use super::*;
-    use crate::testing::same;
-
-    /// The lengths and the values of the keys that a text begins with, up to three of them.
-    #[test]
-    fn keys_of_every_kind(rt: HostRuntime) {
-        let bytes = b"\x80a\x81\xA2\xC3\xA9\x82";
-        let mut keys = CommonPrefixes::new::<Hash>(bytes, b"a\xC3\xA9x");
-        for found in [Some((0, 0)), Some((1, 1)), Some((3, 2)), None, None] {
-            same(&rt, keys.next(), found);
-        }
-        same(&rt, longest_prefix::<Hash>(bytes, b"a\xC3"), Some((1, 1)));
-        same(
-            &rt,
-            longest_prefix::<Ext>(bytes, b"a\xC3\xA9"),
-            Some((3, 2)),
-        );
-        same(
-            &rt,
-            longest_prefix::<Ignore>(b"aB\x81", b"Abc"),
-            Some((2, 1)),
-        );
-        same(&rt, longest_prefix::<Simple>(b"aB\x81", b"Abc"), None);
-    }
-}

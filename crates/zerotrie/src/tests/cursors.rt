@@ -200,8 +200,10 @@ fn walks(rt: HostRuntime) -> Result<(), Fail> {
 /// Every call returns on bytes that mean no map.
 #[test]
 fn ill_formed() {
-    let rows: [&[u8]; 7] = [
+    let rows: [&[u8]; 9] = [
         b"a",
+        b"\xC0a",
+        b"\xE1\xDF\xDF\xDF\xDF\xDF\xDF\xDF\xDF\x5F",
         b"\x80\x80",
         b"\xC1a\x81",
         b"\xC2ba\x01\x80\x80",

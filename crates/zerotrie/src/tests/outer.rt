@@ -68,33 +68,29 @@ fn hashed_tagged<K: HashedKind>(
     Ok(trie.to_tagged_bytes(alloc)?)
 }
 
-#[test]
-fn tags_stand_in_front(rt: HostRuntime) -> Result<(), Fail> {
-    let alloc = rt.alloc();
-    let auto = ZeroTrie::try_from_iter(alloc, FEW)?.to_tagged_bytes(alloc)?;
-    let rows = [
-        (0, ascii_tagged::<Simple>(alloc, &FEW)?),
-        (8, ascii_tagged::<Ignore>(alloc, &FEW)?),
-        (3, hashed_tagged::<Hash>(alloc, &FEW)?),
-        (7, hashed_tagged::<Ext>(alloc, &FEW)?),
-        (0, auto),
-    ];
-    for (tag, tagged) in &rows {
-        assert!(rt; tagged.split_first() == Some((tag, FEW_TEXT)));
-    }
+fn any_tagged(alloc: Global, items: &[(&str, usize)]) -> Result<Vec<u8>, ZeroTrieBuildError> {
+    let trie = ZeroTrie::try_from_iter(alloc, items.iter().copied())?;
+    Ok(trie.to_tagged_bytes(alloc)?)
+}
+
+/// The tagged bytes are this tag, and then the text.
+fn has_tag<H: Abort>(
+    rt: &H,
+    tagged: Result<Vec<u8>, ZeroTrieBuildError>,
+    tag: u8,
+) -> Result<(), Fail> {
+    assert!(rt; tagged?.split_first() == Some((&tag, FEW_TEXT)));
     Ok(())
 }
 
-/// 511 keys make a trie of the kind whose tag is 0, and one more makes one of tag 3.
 #[test]
-fn many_keys_change_the_tag(rt: HostRuntime) -> Result<(), Fail> {
-    let keys = many_keys();
-    for (count, tag) in [(511, 0), (512, 3)] {
-        let pairs = keys[..4 * count].chunks(4).map(|key| (key, 0));
-        let tagged = ZeroTrie::try_from_iter(rt.alloc(), pairs)?.to_tagged_bytes(rt.alloc())?;
-        same(&rt, tagged[0], tag);
-    }
-    Ok(())
+fn tags_stand_in_front(rt: HostRuntime) -> Result<(), Fail> {
+    let alloc = rt.alloc();
+    has_tag(&rt, ascii_tagged::<Simple>(alloc, &FEW), 0)?;
+    has_tag(&rt, ascii_tagged::<Ignore>(alloc, &FEW), 8)?;
+    has_tag(&rt, hashed_tagged::<Hash>(alloc, &FEW), 3)?;
+    has_tag(&rt, hashed_tagged::<Ext>(alloc, &FEW), 7)?;
+    has_tag(&rt, any_tagged(alloc, &FEW), 0)
 }
 
 #[test]
@@ -112,31 +108,42 @@ fn tagged_bytes_are_read(rt: HostRuntime) -> Result<(), Fail> {
     Ok(())
 }
 
+/// Why each type refuses tagged bytes: simple, without case, hashed, extended, of unknown kind.
+fn refusals_of(bytes: &[u8]) -> [Option<TagError>; 5] {
+    [
+        ZeroTrieSimpleAscii::try_from_tagged_bytes(bytes).err(),
+        ZeroAsciiIgnoreCaseTrie::try_from_tagged_bytes(bytes).err(),
+        ZeroTriePerfectHash::try_from_tagged_bytes(bytes).err(),
+        ZeroTrieExtendedCapacity::try_from_tagged_bytes(bytes).err(),
+        ZeroTrie::try_from_tagged_bytes(bytes).err(),
+    ]
+}
+
+/// Why tagged bytes are refused, which are read if the tag is one of the type's.
+fn refusal(is_read: bool) -> Option<TagError> {
+    if is_read {
+        None
+    } else {
+        Some(TagError::InvalidTag)
+    }
+}
+
 /// Each kind reads its own tag alone, and `ZeroTrie` all but the one without case.
 #[test]
 fn other_tags_are_refused(rt: HostRuntime) {
     for tag in 0..=255 {
-        let bytes = [tag, 0x81];
-        let read = [
-            (0, ZeroTrieSimpleAscii::try_from_tagged_bytes(&bytes).err()),
-            (
-                8,
-                ZeroAsciiIgnoreCaseTrie::try_from_tagged_bytes(&bytes).err(),
-            ),
-            (3, ZeroTriePerfectHash::try_from_tagged_bytes(&bytes).err()),
-            (
-                7,
-                ZeroTrieExtendedCapacity::try_from_tagged_bytes(&bytes).err(),
-            ),
+        let refusals = [
+            refusal(tag == 0),
+            refusal(tag == 8),
+            refusal(tag == 3),
+            refusal(tag == 7),
+            refusal(tag == 0 || tag == 3 || tag == 7),
         ];
-        for (own, error) in read {
-            assert!(rt; (error == Some(TagError::InvalidTag)) == (tag != own));
-        }
-        let any = ZeroTrie::try_from_tagged_bytes(&bytes).err();
-        assert!(rt; (any == Some(TagError::InvalidTag)) == (tag != 0 && tag != 3 && tag != 7));
+        same(&rt, refusals_of(&[tag, 0x81]), refusals);
     }
-    assert!(rt; ZeroTrieSimpleAscii::try_from_tagged_bytes(b"").err() == Some(TagError::Empty));
-    assert!(rt; ZeroTrie::try_from_tagged_bytes(b"").err() == Some(TagError::Empty));
+    for why in refusals_of(b"") {
+        same(&rt, why, Some(TagError::Empty));
+    }
 }
 
 fn value_of(alloc: Global, text: &str) -> Result<Value, serde_json::Error> {
@@ -153,25 +160,18 @@ fn hashed_from_json<K: HashedKind>(alloc: Global, value: &Value) -> Result<Vec<u
     Ok(trie.into_store())
 }
 
+fn has_bytes<H: Abort>(rt: &H, read: Result<Vec<u8>, JsonError>, bytes: &[u8]) -> Result<(), Fail> {
+    same(rt, read?.as_slice(), bytes);
+    Ok(())
+}
+
 /// Each kind reads the JSON value as this text.
 fn is_read_as<H: AllocGlobal + Abort>(rt: &H, value: &Value, bytes: &[u8]) -> Result<(), Fail> {
     let alloc = rt.alloc();
-    same(
-        rt,
-        ascii_from_json::<Simple>(alloc, value)?.as_slice(),
-        bytes,
-    );
-    same(
-        rt,
-        ascii_from_json::<Ignore>(alloc, value)?.as_slice(),
-        bytes,
-    );
-    same(
-        rt,
-        hashed_from_json::<Hash>(alloc, value)?.as_slice(),
-        bytes,
-    );
-    same(rt, hashed_from_json::<Ext>(alloc, value)?.as_slice(), bytes);
+    has_bytes(rt, ascii_from_json::<Simple>(alloc, value), bytes)?;
+    has_bytes(rt, ascii_from_json::<Ignore>(alloc, value), bytes)?;
+    has_bytes(rt, hashed_from_json::<Hash>(alloc, value), bytes)?;
+    has_bytes(rt, hashed_from_json::<Ext>(alloc, value), bytes)?;
     let any = ZeroTrie::try_from_json_value(alloc, value)?;
     assert!(rt; any.flavor == ZeroTrieFlavor::SimpleAscii && any.store.as_slice() == bytes);
     Ok(())
@@ -211,6 +211,20 @@ fn hashed_json<K: HashedKind>(alloc: Global, bytes: &[u8]) -> Result<String, Jso
     Ok(trie.to_json_value(alloc)?.to_string(alloc)?)
 }
 
+fn any_json(alloc: Global, bytes: &[u8]) -> Result<String, JsonError> {
+    let trie = ZeroTrie::of_kind::<Simple>(bytes);
+    Ok(trie.to_json_value(alloc)?.to_string(alloc)?)
+}
+
+fn is_written_as<H: Abort>(
+    rt: &H,
+    json: Result<String, JsonError>,
+    text: &str,
+) -> Result<(), Fail> {
+    same(rt, json?.as_str(), text);
+    Ok(())
+}
+
 /// Texts of all kinds, and their JSON.
 #[test]
 fn json_is_written(rt: HostRuntime) -> Result<(), Fail> {
@@ -221,12 +235,11 @@ fn json_is_written(rt: HostRuntime) -> Result<(), Fail> {
         (FEW_TEXT, r#"{"abc":11,"axyb":33,"xyz":22}"#),
     ];
     for (bytes, text) in rows {
-        let any = ZeroTrie::of_kind::<Simple>(bytes).to_json_value(rt.alloc())?;
-        same(&rt, any.to_string(rt.alloc())?.as_str(), text);
-        same(&rt, ascii_json::<Simple>(rt.alloc(), bytes)?.as_str(), text);
-        same(&rt, ascii_json::<Ignore>(rt.alloc(), bytes)?.as_str(), text);
-        same(&rt, hashed_json::<Hash>(rt.alloc(), bytes)?.as_str(), text);
-        same(&rt, hashed_json::<Ext>(rt.alloc(), bytes)?.as_str(), text);
+        is_written_as(&rt, any_json(rt.alloc(), bytes), text)?;
+        is_written_as(&rt, ascii_json::<Simple>(rt.alloc(), bytes), text)?;
+        is_written_as(&rt, ascii_json::<Ignore>(rt.alloc(), bytes), text)?;
+        is_written_as(&rt, hashed_json::<Hash>(rt.alloc(), bytes), text)?;
+        is_written_as(&rt, hashed_json::<Ext>(rt.alloc(), bytes), text)?;
     }
     Ok(())
 }
@@ -304,16 +317,18 @@ fn json_is_refused(rt: HostRuntime) -> Result<(), Fail> {
 
 #[test]
 fn texts_of_errors(rt: HostRuntime) -> Result<(), Fail> {
-    same(
-        &rt,
-        format!(in rt.alloc(); "{}", TagError::Empty)?.as_str(),
-        "Empty",
-    );
-    same(
-        &rt,
-        format!(in rt.alloc(); "{}", TagError::InvalidTag)?.as_str(),
-        "InvalidTag",
-    );
+    let rows = [
+        (TagError::Empty, "Empty"),
+        (TagError::InvalidTag, "InvalidTag"),
+    ];
+    for (error, text) in rows {
+        same(&rt, format!(in rt.alloc(); "{error}")?.as_str(), text);
+    }
+    Ok(())
+}
+
+#[test]
+fn texts_of_json_errors(rt: HostRuntime) -> Result<(), Fail> {
     let rows = [
         (JsonError::Shape, "Shape"),
         (JsonError::Build(ZeroTrieBuildError::Unsorted), "Build"),

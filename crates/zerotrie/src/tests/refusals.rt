@@ -36,8 +36,10 @@ fn refused_with_case(rt: HostRuntime) {
         (high, ZeroTrieBuildError::NonAsciiError),
     ];
     refused_in_any_order::<Simple, HostRuntime>(&rt, &rows);
+    let unsorted: &[(&[u8], usize)] = &[(b"foo", 1), (b"bar", 2), (b"bazzoo", 3)];
     let rows = [
         (TWICE, ZeroTrieBuildError::Unsorted),
+        (unsorted, ZeroTrieBuildError::Unsorted),
         (high, ZeroTrieBuildError::NonAsciiError),
     ];
     refused_as_slices::<Simple, HostRuntime>(&rt, &rows);
@@ -70,7 +72,13 @@ fn refused_without_case(rt: HostRuntime) {
     ];
     refused_in_any_order::<Ignore, HostRuntime>(&rt, &rows);
     // The keys of a slice ascend by their bytes.
-    let rows: [Row<'_>; 1] = [(&[(b"bar", 1), (b"baZ", 2)], ZeroTrieBuildError::Unsorted)];
+    let rows: [Row<'_>; 2] = [
+        (&[(b"bar", 1), (b"baZ", 2)], ZeroTrieBuildError::Unsorted),
+        (
+            &[(b"Ac", 2), (b"Ad", 3), (b"ab", 1), (b"ae", 4)],
+            ZeroTrieBuildError::MixedCase,
+        ),
+    ];
     refused_as_slices::<Ignore, HostRuntime>(&rt, &rows);
 }
 

@@ -94,31 +94,32 @@ type Row<'a> = (&'a [(&'a str, usize)], &'a [u8]);
 /// Whether the bytes of a trie are the text, in which the keys are found.
 fn has_ascii<K: AsciiKind>(trie: &AsciiTrie<K, Vec<u8>>, row: Row<'_>) -> bool {
     let (items, text) = row;
-    trie.as_bytes() == text
-        && trie.is_empty() == text.is_empty()
-        && trie.get(b"unknown").is_none()
-        && items
-            .iter()
-            .all(|(key, value)| trie.get(key.as_bytes()) == Some(*value))
+    for (key, value) in items {
+        if trie.get(key.as_bytes()) != Some(*value) {
+            return false;
+        }
+    }
+    trie.as_bytes() == text && trie.is_empty() == text.is_empty() && trie.get(b"unknown").is_none()
 }
 
 fn has_hashed<K: HashedKind>(trie: &HashedTrie<K, Vec<u8>>, row: Row<'_>) -> bool {
     let (items, text) = row;
-    trie.as_bytes() == text
-        && trie.is_empty() == text.is_empty()
-        && trie.get(b"unknown").is_none()
-        && items
-            .iter()
-            .all(|(key, value)| trie.get(key.as_bytes()) == Some(*value))
+    for (key, value) in items {
+        if trie.get(key.as_bytes()) != Some(*value) {
+            return false;
+        }
+    }
+    trie.as_bytes() == text && trie.is_empty() == text.is_empty() && trie.get(b"unknown").is_none()
 }
 
 fn has_auto(trie: &ZeroTrie<Vec<u8>>, row: Row<'_>) -> bool {
     let (items, text) = row;
-    trie.store.as_slice() == text
-        && trie.get(b"unknown").is_none()
-        && items
-            .iter()
-            .all(|(key, value)| trie.get(key.as_bytes()) == Some(*value))
+    for (key, value) in items {
+        if trie.get(key.as_bytes()) != Some(*value) {
+            return false;
+        }
+    }
+    trie.store.as_slice() == text && trie.get(b"unknown").is_none()
 }
 
 /// Every route over ASCII keys builds these texts.
@@ -146,9 +147,19 @@ fn hashed_texts<K: HashedKind, H: AllocGlobal + Abort>(
     Ok(())
 }
 
+/// The plain encoder writes these texts, too, which are the ones of their maps.
+fn plain_texts<H: AllocGlobal + Abort>(rt: &H, rows: &[Row<'_>]) -> Result<(), Fail> {
+    for row in rows {
+        let items = as_bytes(rt.alloc(), row.0)?;
+        let plain = plain_encode(rt.alloc(), items.as_slice())?;
+        same(rt, plain.as_slice(), row.1);
+    }
+    Ok(())
+}
+
 #[test]
 fn simple_texts(rt: HostRuntime) -> Result<(), Fail> {
-    let rows: [Row<'_>; 11] = [
+    let rows: [Row<'_>; 13] = [
         (&[], &[]),
         (
             &[("", 11), ("ad", 22), ("adef", 33), ("adghk", 44)],
@@ -176,14 +187,37 @@ fn simple_texts(rt: HostRuntime) -> Result<(), Fail> {
             &[("", usize::MAX)],
             &[0x91, 0xEF, 0xEF, 0xEF, 0xEF, 0xEF, 0xEF, 0xEF, 0xEF, 0x6F],
         ),
+        (
+            &[("a", 1), ("abc", 2), ("abd", 3)],
+            b"a\x81b\xC2cd\x01\x82\x83",
+        ),
+        (
+            &[
+                ("", 0),
+                ("axb", 100),
+                ("ayc", 2),
+                ("azd", 3),
+                ("bxe", 4),
+                ("bxefg", 500),
+                ("bxefh", 6),
+                ("bxei", 7),
+                ("bxeikl", 8),
+            ],
+            &[
+                0x80, 0xC2, 0x61, 0x62, 0x0D, 0xC3, 0x78, 0x79, 0x7A, 0x03, 0x05, 0x62, 0x90, 0x54,
+                0x63, 0x82, 0x64, 0x83, 0x78, 0x65, 0x84, 0xC2, 0x66, 0x69, 0x07, 0xC2, 0x67, 0x68,
+                0x02, 0x93, 0x64, 0x86, 0x87, 0x6B, 0x6C, 0x88,
+            ],
+        ),
     ];
+    plain_texts(&rt, &rows)?;
     ascii_texts::<Simple, HostRuntime>(&rt, &rows)
 }
 
 /// Keys keep their case, and edges ascend by lower case.
 #[test]
 fn texts_without_case(rt: HostRuntime) -> Result<(), Fail> {
-    let rows: [Row<'_>; 5] = [
+    let rows: [Row<'_>; 6] = [
         (&[], &[]),
         LOWERED,
         (
@@ -201,24 +235,27 @@ fn texts_without_case(rt: HostRuntime) -> Result<(), Fail> {
                 0x83, 0x84, 0x68, 0x69, 0x85,
             ],
         ),
+        (
+            &[
+                ("@", 5),
+                ("B", 3),
+                ("[", 4),
+                ("_", 1),
+                ("`", 6),
+                ("a", 2),
+                ("{", 7),
+            ],
+            b"\xC7@[_`aB{\x01\x02\x03\x04\x05\x06\x85\x84\x81\x86\x82\x83\x87",
+        ),
     ];
     ascii_texts::<Ignore, HostRuntime>(&rt, &rows)
 }
 
-/// The plain encoder, whose text is the one of the map.
-#[test]
-fn plain_text(rt: HostRuntime) -> Result<(), Fail> {
-    let items: [(&[u8], usize); 4] = [(b"", 11), (b"ad", 22), (b"adef", 33), (b"adghk", 44)];
-    let trie = ZeroTrieSimpleAscii::try_from_sorted_slice(rt.alloc(), &items)?;
-    let plain = plain_encode(rt.alloc(), &items)?;
-    same(&rt, trie.as_bytes(), plain.as_slice());
-    Ok(())
-}
-
 /// Spans, and the tables of branches of 16 edges: all parameters are zero where no two edges are equal modulo
 /// their number, and searched where two are.
-const HASHED: [Row<'static>; 5] = [
+const HASHED: [Row<'static>; 6] = [
     (&[], &[]),
+    (&[("", 3), ("é", 4)], b"\x83\xA2\xC3\xA9\x84"),
     (
         &[("bår", 2), ("båzzøø", 3), ("foo", 1)],
         &[
@@ -284,6 +321,7 @@ fn long_spans(rt: HostRuntime) -> Result<(), Fail> {
     for (length, text) in rows {
         let trie = ZeroTriePerfectHash::try_from_iter(rt.alloc(), [(&run[..length], 1)])?;
         same(&rt, trie.as_bytes(), text);
+        same(&rt, trie.get(&run[..length]), Some(1));
     }
     Ok(())
 }
@@ -342,18 +380,20 @@ fn auto_texts(rt: HostRuntime) -> Result<(), Fail> {
     Ok(())
 }
 
-/// Up to 511 keys are few.
+/// Up to 511 keys are few: they make a trie of the kind whose tag is 0, and one more makes one of tag 3.
 #[test]
 fn many_keys_are_hashed(rt: HostRuntime) -> Result<(), Fail> {
     let keys = many_keys();
     let rows = [
-        (511, ZeroTrieFlavor::SimpleAscii),
-        (512, ZeroTrieFlavor::PerfectHash),
+        (511, ZeroTrieFlavor::SimpleAscii, 0),
+        (512, ZeroTrieFlavor::PerfectHash, 3),
     ];
-    for (count, flavor) in rows {
+    for (count, flavor, tag) in rows {
         let pairs = keys[..4 * count].chunks(4).map(|key| (key, 0));
         let trie = ZeroTrie::try_from_iter(rt.alloc(), pairs)?;
         assert!(rt; trie.flavor == flavor && trie.get(b"k510") == Some(0));
+        let tagged = trie.to_tagged_bytes(rt.alloc())?;
+        assert!(rt; tagged.as_slice().starts_with(&[tag]));
     }
     Ok(())
 }
@@ -371,11 +411,11 @@ fn a_wide_branch_has_wide_offsets(rt: HostRuntime) -> Result<(), Fail> {
         let items = [(&long[..count], 0), (b"b".as_slice(), 0)];
         let trie = ZeroTrieSimpleAscii::try_from_sorted_slice(rt.alloc(), &items)?;
         assert!(rt; trie.byte_len() == length && trie.as_bytes().starts_with(front));
-        assert!(rt;
-            items
-                .iter()
-                .all(|(key, value)| trie.get(*key) == Some(*value))
-        );
+        let plain = plain_encode(rt.alloc(), &items)?;
+        same(&rt, trie.as_bytes(), plain.as_slice());
+        for (key, value) in items {
+            same(&rt, trie.get(key), Some(value));
+        }
     }
     Ok(())
 }

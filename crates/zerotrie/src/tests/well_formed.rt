@@ -98,12 +98,12 @@ fn hashed_tables_with_any_perfect_parameters(rt: HostRuntime) -> Result<(), Fail
 #[test]
 fn bytes_are_taken_or_refused(rt: HostRuntime) -> Result<(), Fail> {
     let bytes = b"abc\x85".as_slice();
-    let simple = ZeroTrieSimpleAscii::try_from_bytes(bytes).ok();
-    same(&rt, simple.and_then(|trie| trie.get(b"abc")), Some(5));
-    let hashed = ZeroTrieExtendedCapacity::try_from_bytes(bytes).ok();
-    same(&rt, hashed.and_then(|trie| trie.get(b"abc")), Some(5));
-    let any = ZeroTrie::try_from_bytes::<Hash>(bytes).ok();
-    same(&rt, any.and_then(|trie| trie.get(b"abc")), Some(5));
+    let simple = ZeroTrieSimpleAscii::try_from_bytes(bytes)?;
+    same(&rt, simple.get(b"abc"), Some(5));
+    let hashed = ZeroTrieExtendedCapacity::try_from_bytes(bytes)?;
+    same(&rt, hashed.get(b"abc"), Some(5));
+    let any = ZeroTrie::try_from_bytes::<Hash>(bytes)?;
+    same(&rt, any.get(b"abc"), Some(5));
     for wrong in WRONG {
         assert!(rt; ZeroAsciiIgnoreCaseTrie::try_from_bytes(wrong).is_err());
         assert!(rt; ZeroTriePerfectHash::try_from_bytes(wrong).is_err());

@@ -16,7 +16,7 @@ use std::marker::Model;
 
 /// Tables by the keys that they were made for, in memory of any allocator.
 #[derive(Debug, Drop)]
-struct HeldTables<A: Allocator> {
+pub struct HeldTables<A: Allocator> {
     alloc: A,
     tables: BTreeMap<Vec<u8, A>, Vec<u8, A>, A>,
 }
@@ -30,8 +30,8 @@ impl<A: Allocator> Model for HeldTables<A> {
 }
 
 impl<A: Allocator + Copy> HeldTables<A> {
-    /// No table.
-    fn new_empty(alloc: A) -> Self
+    /// No table. It takes no memory.
+    pub fn new_empty(alloc: A) -> Self
         ensures { result ≡ [] }
     {
         HeldTables {
@@ -41,7 +41,7 @@ impl<A: Allocator + Copy> HeldTables<A> {
     }
 
     /// Whether there is a table for these keys.
-    fn has(&self, keys: &[u8]) -> bool
+    pub fn has(&self, keys: &[u8]) -> bool
         ensures { result ≡ is_some (find keys.now self.now) }
     {
         self.tables.contains_key(keys)
@@ -60,9 +60,10 @@ impl<A: Allocator + Copy> HeldTables<A> {
         Ok(())
     }
 
-    /// Makes and holds the table where it is not held.
+    /// Makes and holds the table where it is not held. Keys are refused as by [`PerfectByteHashMap::try_new`], and then
+    /// nothing changes.
     #[tactic(auto, using(crate::proofs::CacheLemmas::there_after))]
-    fn hold(&mut self, keys: &[u8]) -> Result<(), ZeroTrieBuildError>
+    pub fn hold(&mut self, keys: &[u8]) -> Result<(), ZeroTrieBuildError>
         requires { IsDistinct nat_eq keys.now }
         ensures held { IsSome (find keys.now self.old) → IsOk result × (self.new ≡ self.old) }
         ensures new { IfNone (find keys.now self.old)
@@ -78,7 +79,7 @@ impl<A: Allocator + Copy> HeldTables<A> {
     }
 
     /// The table of keys that are held.
-    fn held_table(&self, keys: &[u8]) -> PerfectByteHashMap<&[u8]>
+    pub fn held_table(&self, keys: &[u8]) -> PerfectByteHashMap<&[u8]>
         requires { IsSome (find keys.now self.now) }
         ensures found { find keys.now self.now ≡ Some result.store.now }
         ensures perfect { IsPerfectTable keys.now result.store.now }
@@ -162,42 +163,5 @@ impl PerfectByteHashMapCacheOwned {
         ensures perfect { IsPerfectTable keys.now result.store.now }
     {
         self.tables.held_table(keys)
-    }
-}
-
-#[cfg(test)]
-mod tests {
-    use super::super::are_distinct;
-    use super::*;
-    use crate::testing::same;
-    use linked_list_allocator::LocalHeap;
-    use std::test::Fail;
-
-    /// Over heaps of rising size a table is refused for want of memory, until it is held, and the keys whose table was
-    /// held before are answered as at first.
-    #[test]
-    fn every_size_of_heap(rt: HostRuntime) -> Result<(), Fail> {
-        assert!(rt; are_distinct(b"aceg"));
-        assert!(rt; are_distinct(b"JFNv"));
-        let mut refused = 0usize;
-        for size in 0..200usize {
-            let heap = LocalHeap::new(rt.alloc(), size * 16)?;
-            let mut tables = HeldTables::new_empty(&heap);
-            if tables.hold(b"aceg").is_err() {
-                assert!(rt; !tables.has(b"aceg"));
-                refused = refused.saturating_add(1);
-                continue;
-            }
-            let second = tables.hold(b"JFNv");
-            same(&rt, second.is_ok(), tables.has(b"JFNv"));
-            if let Err(why) = second {
-                assert!(rt; why == ZeroTrieBuildError::OutOfMemory);
-                refused = refused.saturating_add(1);
-            }
-            assert!(rt; tables.has(b"aceg"));
-            same(&rt, tables.held_table(b"aceg").get(b'e'), Some(0));
-        }
-        assert!(rt; refused > 3 && refused < 190);
-        Ok(())
     }
 }

@@ -20,7 +20,7 @@ ghost use Rattle.zerotrie_base.specs.Refusals.{IsTableRefusal};
 use crate::error::ZeroTrieBuildError;
 use crate::store::TrieStore;
 use builder::{find, placed_keys};
-pub use cached_owned::PerfectByteHashMapCacheOwned;
+pub use cached_owned::{HeldTables, PerfectByteHashMapCacheOwned};
 use reciprocals::remainder;
 use std::alloc::{AllocError, Allocator, Global};
 
@@ -281,6 +281,3 @@ impl<S: TrieStore> PartialEq for PerfectByteHashMap<S> {
 impl<S: TrieStore> Eq for PerfectByteHashMap<S> {
     ghost laws = { on_equiv (λ x. S.stored x.store) nat_list_eq_equiv };
 }
-
-#[cfg(test)]
-mod tests;

@@ -2,9 +2,9 @@
 
 ghost use Rattle.std.specs.Prelude.{◌≡◌};
 
-use crate::store::TrieBuilderStore;
 use std::alloc::{AllocError, Global};
 use std::collections::VecDeque;
+use zerotrie_build::TrieBuilderStore;
 
 /// A store that counts how often it grew, and knows whether the places that were written ascend strictly.
 #[derive(Drop)]

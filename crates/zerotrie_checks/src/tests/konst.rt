@@ -1,7 +1,7 @@
+//! Builds in buffers.
+
 use super::*;
-use crate::slice_indices::ByteSliceWithIndices;
-use crate::testing::same;
-use std::test::Fail;
+use zerotrie_build::{ByteSliceWithIndices, ZeroTrieBuilderConst, bytes_within, fill_from_end};
 use zerotrie_core::ZeroTrieBuildError;
 
 const ITEMS: [(&str, usize); 2] = [("ad", 22), ("adef", 33)];

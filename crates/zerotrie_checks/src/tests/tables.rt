@@ -1,6 +1,9 @@
+//! Perfect hashes of bytes.
+
 use super::*;
-use crate::testing::same;
-use std::test::Fail;
+use zerotrie_base::{
+    PerfectByteHashMap, PerfectByteHashMapCacheOwned, TrieStore, are_distinct, f1, f2,
+};
 
 /// Whether the table answers each of its keys' places, and nothing at other bytes.
 fn finds_its_keys<S: TrieStore>(table: &PerfectByteHashMap<S>) -> bool {
@@ -136,20 +139,6 @@ fn f2_gives_the_place(rt: HostRuntime) {
 fn are_distinct_tells_whether_a_byte_comes_twice(rt: HostRuntime) {
     assert!(rt; are_distinct(b"aceg"));
     assert!(rt; !are_distinct(b"abca"));
-}
-
-#[test]
-fn try_new_makes_a_table(rt: HostRuntime) -> Result<(), Fail> {
-    assert!(rt; are_distinct(b"aceg"));
-    let table = PerfectByteHashMap::try_new(rt.alloc(), b"aceg")?;
-    same(
-        &rt,
-        table.as_bytes(),
-        b"\x01\x00\x00\x01\x01eacg".as_slice(),
-    );
-    same(&rt, table.get(b'c'), Some(2));
-    same(&rt, table.get(b'd'), None);
-    Ok(())
 }
 
 #[test]

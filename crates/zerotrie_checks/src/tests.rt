@@ -1,0 +1,28 @@
+mod builder;
+mod caches;
+mod counting;
+mod cursor;
+mod errors;
+mod front;
+mod items;
+mod konst;
+mod listing;
+mod numbers;
+mod plain;
+mod prefixes;
+mod reader;
+mod span_cursor;
+mod stores;
+mod tables;
+mod well_formed;
+
+use std::alloc::Global;
+use std::fmt::Debug;
+use std::process::Abort;
+use std::test::Fail;
+
+/// Ends the test where the two differ, and writes both: `assert_eq!` in a function of its own, since the proof of what
+/// it writes is long, and made anew wherever it stands.
+fn same<T: Debug + PartialEq + Drop, H: Abort>(rt: &H, left: T, right: T) {
+    assert_eq!(rt; left, right);
+}

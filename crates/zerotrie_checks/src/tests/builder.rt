@@ -1,0 +1,153 @@
+//! Builds.
+
+use super::*;
+use counting::Counting;
+use linked_list_allocator::LocalHeap;
+use std::collections::VecDeque;
+use zerotrie_build::{
+    ByteSliceWithIndices, TrieBuilderStore, ZeroTrieBuilder, encoded_len, grow_slice,
+};
+use zerotrie_core::{
+    Ext, Hash, Ignore, Simple, ZeroTrieBuildError, ZeroTrieBuilderOptions, ZeroTrieWithOptions,
+};
+
+type Builder = ZeroTrieBuilder<VecDeque<u8>>;
+
+/// The text of sorted items.
+fn text_of<K: ZeroTrieWithOptions>(
+    alloc: Global,
+    items: ByteSliceWithIndices<'_>,
+) -> Result<Vec<u8>, ZeroTrieBuildError> {
+    let options = ZeroTrieBuilderOptions::of::<K>();
+    let builder: Builder = ZeroTrieBuilder::from_sorted_tuple_slice(alloc, items, options)?;
+    Ok(builder.to_bytes(alloc)?)
+}
+
+/// The text by the slice route.
+fn by_slice<K: ZeroTrieWithOptions>(
+    alloc: Global,
+    items: &[(&[u8], usize)],
+) -> Result<Vec<u8>, ZeroTrieBuildError> {
+    text_of::<K>(alloc, ByteSliceWithIndices::from_byte_slice(items))
+}
+
+/// The lengths that are told beforehand are those of the texts.
+fn has_len<K: ZeroTrieWithOptions>(
+    alloc: Global,
+    items: &[(&[u8], usize)],
+    len: usize,
+) -> Result<bool, Fail> {
+    let given = ByteSliceWithIndices::from_byte_slice(items);
+    let told = encoded_len(alloc, given, ZeroTrieBuilderOptions::of::<K>())?;
+    Ok(told == len && text_of::<K>(alloc, given)?.len() == len)
+}
+
+/// The keys of one byte each, with value 0.
+fn keys_of(alloc: Global, bytes: &[u8]) -> Result<Vec<(&[u8], usize)>, Fail> {
+    let mut items: Vec<(&[u8], usize)> = Vec::new(alloc);
+    for byte in bytes.chunks(1) {
+        items.push((byte, 0))?;
+    }
+    Ok(items)
+}
+
+#[test]
+fn lengths_beforehand(rt: HostRuntime) -> Result<(), Fail> {
+    let alloc = rt.alloc();
+    let all: Vec<u8> = (0..=255u8).collect(alloc)?;
+    let items = keys_of(alloc, all.as_slice())?;
+    let bytes = items.as_slice();
+    let letters = bytes.get(97..113).ok_or("short")?;
+    assert!(rt; has_len::<Hash>(alloc, bytes, 1281)?);
+    assert!(rt; has_len::<Ext>(alloc, bytes, 1281)?);
+    assert!(rt; has_len::<Hash>(alloc, letters, 65)?);
+    assert!(rt; has_len::<Simple>(alloc, letters, 48)?);
+    Ok(())
+}
+
+#[test]
+fn lengths_of_long_keys(rt: HostRuntime) -> Result<(), Fail> {
+    let alloc = rt.alloc();
+    let key = vec![in alloc; b'a'; 100000]?;
+    let long: [(&[u8], usize); 1] = [(key.as_slice(), 0)];
+    assert!(rt; has_len::<Simple>(alloc, &long, 100001)?);
+    assert!(rt; has_len::<Ignore>(alloc, &long, 100001)?);
+    assert!(rt; has_len::<Hash>(alloc, &long, 100001)?);
+    assert!(rt; has_len::<Ext>(alloc, &long, 100001)?);
+    assert!(rt; has_len::<Ext>(alloc, &[], 0)?);
+    Ok(())
+}
+
+/// A build grows its store once, and writes each byte at a place behind those written before.
+#[test]
+fn a_build_grows_once(rt: HostRuntime) -> Result<(), Fail> {
+    let rows: [&[(&str, usize)]; 3] = [
+        &[("", 11), ("ad", 22), ("adef", 33), ("adghk", 44)],
+        &[("bår", 2), ("båzzøø", 3), ("foo", 1)],
+        &[
+            ("a", 0),
+            ("b", 1),
+            ("c", 2),
+            ("d", 3),
+            ("e", 4),
+            ("f", 5),
+            ("g", 6),
+            ("h", 7),
+            ("i", 8),
+            ("j", 9),
+            ("k", 10),
+            ("l", 11),
+            ("m", 12),
+            ("n", 13),
+            ("o", 14),
+            ("p", 15),
+        ],
+    ];
+    for items in rows {
+        let builder: ZeroTrieBuilder<Counting> = ZeroTrieBuilder::from_sorted_tuple_slice(
+            rt.alloc(),
+            ByteSliceWithIndices::from_str_slice(items),
+            ZeroTrieBuilderOptions::of::<Hash>(),
+        )?;
+        assert!(rt; builder.data.grew == 1 && builder.data.ascends);
+    }
+    Ok(())
+}
+
+/// The text, with the memory of both passes from the heap.
+fn over_heap<K: ZeroTrieWithOptions>(
+    alloc: Global,
+    heap: &LocalHeap,
+    items: &[(&[u8], usize)],
+) -> Result<Vec<u8>, ZeroTrieBuildError> {
+    let items = ByteSliceWithIndices::from_byte_slice(items);
+    if !items.is_sorted() {
+        return Err(ZeroTrieBuildError::Unsorted);
+    }
+    let store: VecDeque<u8> = grow_slice(alloc, heap, items, ZeroTrieBuilderOptions::of::<K>())?;
+    Ok(store.atbs_to_bytes(alloc)?)
+}
+
+/// Over heaps of rising size a build is refused for want of memory, at a later request each time, until it has
+/// its text. All memory is given back.
+#[test]
+fn every_size_of_heap(rt: HostRuntime) -> Result<(), Fail> {
+    let alloc = rt.alloc();
+    let bytes: Vec<u8> = (96..112u8).collect(alloc)?;
+    let items = keys_of(alloc, bytes.as_slice())?;
+    let text = by_slice::<Hash>(alloc, items.as_slice())?;
+    let mut refused = 0usize;
+    for size in 0..200usize {
+        let heap = LocalHeap::new(alloc, size * 64)?;
+        match over_heap::<Hash>(alloc, &heap, items.as_slice()) {
+            Ok(built) => same(&rt, built.as_slice(), text.as_slice()),
+            Err(why) => {
+                assert!(rt; why == ZeroTrieBuildError::OutOfMemory);
+                refused = refused.saturating_add(1);
+            }
+        }
+        same(&rt, heap.used(), 0);
+    }
+    assert!(rt; refused > 10 && refused < 190);
+    Ok(())
+}

@@ -1,0 +1,50 @@
+//! Stores and keys.
+
+use super::*;
+use std::borrow::CowSlice;
+use zerotrie_base::{ConvertStore, TrieKey, TrieStore};
+
+fn bytes_of<S: TrieStore>(store: &S) -> &[u8] {
+    store.bytes()
+}
+
+fn key_of<K: TrieKey>(pair: &(K, usize)) -> &[u8] {
+    pair.0.key_bytes()
+}
+
+#[test]
+fn bytes_of_each_store(rt: HostRuntime) -> Result<(), Fail> {
+    let store = [0x61, 0x81];
+    same(&rt, store.bytes().len(), 2);
+    let bytes = b"a\x81".as_slice();
+    let owned = Vec::from_slice(rt.alloc(), bytes)?;
+    same(&rt, bytes_of(&store), bytes);
+    same(&rt, bytes_of(&bytes), bytes);
+    same(&rt, bytes_of(&owned), bytes);
+    same(&rt, bytes_of(&owned.into_boxed_slice()), bytes);
+    Ok(())
+}
+
+#[test]
+fn convert_keeps_the_bytes(rt: HostRuntime) -> Result<(), Fail> {
+    let store: CowSlice<u8> = ConvertStore::convert(Vec::from_slice(rt.alloc(), b"a\x81")?);
+    same(&rt, store.bytes(), b"a\x81".as_slice());
+    let lent: CowSlice<u8> = ConvertStore::convert(b"a\x81".as_slice());
+    same(&rt, bytes_of(&lent), b"a\x81".as_slice());
+    Ok(())
+}
+
+#[test]
+fn key_bytes_of_each_key(rt: HostRuntime) -> Result<(), Fail> {
+    same(&rt, "ad".key_bytes(), b"ad".as_slice());
+    same(&rt, b"ad".key_bytes(), b"ad".as_slice());
+    same(&rt, key_of(&("ab", 1)), b"ab".as_slice());
+    same(&rt, key_of(&(b"ab", 1)), b"ab".as_slice());
+    same(&rt, key_of(&(b"ab".as_slice(), 1)), b"ab".as_slice());
+    same(
+        &rt,
+        key_of(&(Vec::from_slice(rt.alloc(), b"ab")?, 1)),
+        b"ab".as_slice(),
+    );
+    Ok(())
+}
