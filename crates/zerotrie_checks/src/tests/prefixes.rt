@@ -30,8 +30,16 @@ fn keys_that_a_text_begins_with(rt: HostRuntime) {
         same(&rt, keys.next(), found);
     }
     same(&rt, longest_prefix::<Hash>(bytes, b"a\xC3"), Some((1, 1)));
-    same(&rt, longest_prefix::<Ext>(bytes, b"a\xC3\xA9"), Some((3, 2)));
-    same(&rt, longest_prefix::<Ignore>(b"aB\x81", b"Abc"), Some((2, 1)));
+    same(
+        &rt,
+        longest_prefix::<Ext>(bytes, b"a\xC3\xA9"),
+        Some((3, 2)),
+    );
+    same(
+        &rt,
+        longest_prefix::<Ignore>(b"aB\x81", b"Abc"),
+        Some((2, 1)),
+    );
     same(&rt, longest_prefix::<Simple>(b"aB\x81", b"Abc"), None);
 }
 
