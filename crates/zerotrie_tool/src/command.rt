@@ -40,7 +40,7 @@ pub enum Request<'a> {
     Walk(Vec<CursorOp>),
 }
 
-/// The number with one more digit behind it. `None` where it is not below 2^64.
+/// The number with one more digit after it. `None` if that is 2^64 or more.
 fn with_digit(value: usize, digit: u8) -> Option<usize>
     requires { (48 ≤ digit) × (digit ≤ 57) }
     ensures some { IfSome result (λ more. more ≡ 10 * value + (digit - 48)) }
@@ -190,7 +190,7 @@ fn choice_named(name: &[u8]) -> Option<Choice>
     }
 }
 
-/// The value and the key that stand behind a plus sign.
+/// The value and the key after the plus sign of a line.
 fn parse_pair(text: &[u8]) -> Result<(usize, &[u8]), BadLine>
     ensures ok { IfOk result (λ pair. IsCommand (codes "+ " ++ text.now) (add pair.0 pair.1.now)) }
     ensures err { IfErr result (IsNoPair (codes "+ " ++ text.now)) }
