@@ -1,6 +1,7 @@
 pub mod Builds
 pub mod Fallbacks
 pub mod Forms
+pub mod Found
 pub mod Lookups
 mod WindowLaws
 mod RecordLemmas

@@ -1,0 +1,17 @@
+//! Functions over `zerotrie` to copy: each says by its contract what it answers, and is proved from the
+//! contracts of the library's calls.
+//!
+//! Copy a function, the words of `specs/` that its contract cites, and the folder of its name in `proofs/`.
+//! They stand on `zerotrie` alone: the definitions of `Rattle.zerotrie.specs` and the lemmas of
+//! `Rattle.zerotrie.proofs`.
+#![tactic(auto)]
+
+mod headers;
+mod json;
+mod keywords;
+#[cfg(test)]
+mod tests;
+
+pub use headers::find_header;
+pub use json::{find_in_json, find_in_json_of_any};
+pub use keywords::{find_keyword, record_of, second_of_three};
