@@ -57,27 +57,35 @@ auto_keeps pairs = by (is_simple pairs)
     by true = tt
     by false = tt
 
--- by a build whose pairs have distinct keys
-answered_by : {kind : Kind} {pairs : Pairs} {bytes key : List ℕ} {answer : Option ℕ} → (RepeatsKey pairs → ⊥) → IsBuilt kind pairs bytes
-    → ((m : Map) → Means kind bytes m → answer ≡ look kind m key) → Answer kind pairs key answer
-answered_by {kind = kind} {pairs = pairs} {bytes = bytes} {key = key} distinct built get =
-    let is = get (map_of pairs) built.means in
-    record {
-      value = is ∙ look_is kind pairs bytes key built;
-      present = λ own v has same. is ∙ present kind pairs bytes key own v built distinct has same;
-      absent = λ none. is ∙ absent kind pairs bytes key built none;
-      found = λ v some. found kind pairs bytes key v built (sym is ∙ some);
-    }
+-- of pairs with distinct keys
+by_map : {kind : Kind} {pairs : Pairs} {bytes key : List ℕ} {answer : Option ℕ} → (RepeatsKey pairs → ⊥) → IsBuilt kind pairs bytes
+    → answer ≡ look kind (map_of pairs) key → Answer kind pairs key answer
+by_map {kind = kind} {pairs = pairs} {bytes = bytes} {key = key} distinct built is = record {
+  value = is ∙ look_is kind pairs bytes key built;
+  present = λ own v has same. is ∙ present kind pairs bytes key own v built distinct has same;
+  absent = λ none. is ∙ absent kind pairs bytes key built none;
+  found = λ v some. found kind pairs bytes key v built (sym is ∙ some);
+}
 
--- by what a route answers
+-- of pairs of which there is a build, by what the look-up answers in their map
+pub answered_by_map : {kind : Kind} {pairs : Pairs} {bytes key : List ℕ} {answer : Option ℕ} (route : Route) → Takes route pairs × IsBuilt kind pairs bytes
+    → answer ≡ look kind (map_of pairs) key → Answer kind pairs key answer
+answered_by_map {pairs = pairs} route build is = by_map (takes_distinct route pairs build.0) build.1 is
+
+-- by what a route answers, and the clause of `get` on its trie
 pub answered : {kind : Kind} {pairs : Pairs} {bytes key : List ℕ} {answer : Option ℕ} (route : Route) → Takes route pairs × IsBuilt kind pairs bytes
     → ((m : Map) → Means kind bytes m → answer ≡ look kind m key) → Answer kind pairs key answer
-answered {pairs = pairs} route build get = answered_by (takes_distinct route pairs build.0) build.1 get
+answered {pairs = pairs} route build get = answered_by_map route build (get (map_of pairs) build.1.means)
 
--- by what a route into an array answers
+-- by what a route into an array answers, and that clause
 pub array_answered : {k : ℕ} {pairs : Pairs} {bytes key : List ℕ} {answer : Option ℕ} → IsArrayBuilt k pairs bytes
     → ((m : Map) → Means simple_ascii bytes m → answer ≡ look simple_ascii m key) → Answer simple_ascii pairs key answer
-array_answered {pairs = pairs} build get = answered_by (ascends_apart pairs build.ascends) build.built get
+array_answered {pairs = pairs} build get = by_map (ascends_apart pairs build.ascends) build.built (get (map_of pairs) build.built.means)
+
+-- the clause of `get` where the trie's kind is another word for this one, as of a `ZeroTrie`
+pub get_by_kind : {own kind : Kind} (bytes key : List ℕ) (answer : Option ℕ) → own ≡ kind → ((m : Map) → Means own bytes m → answer ≡ look own m key)
+    → (m : Map) → Means kind bytes m → answer ≡ look kind m key
+get_by_kind bytes key answer is get = subst (λ k. (m : Map) → Means k bytes m → answer ≡ look k m key) is get
 
 exact : (kind : Kind) (pairs : Pairs) (key : List ℕ) (answer : Option ℕ) → KeepsCase kind → Answer kind pairs key answer → Exactly pairs key answer
 exact kind pairs key (Some v) keeps a = let f = a.found v refl in subst (λ k. Contains pairs (k, v)) (same_kept kind keeps f.0 key f.2) f.1
