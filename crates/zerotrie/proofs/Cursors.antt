@@ -1,6 +1,6 @@
 -- What a cursor finds behind the bytes that it stepped.
-use Rattle.std.proofs.Common.{◌≡◌, ℕ, ◌<◌, List, [], ◌++◌, length, refl, sym, ap, subst, ◌∙◌, Option}
-use Rattle.std.specs.Prelude.{◌^◌}
+use Rattle.std.proofs.Common.{◌≡◌, ℕ, ◌<◌, List, [], ◌++◌, length, refl, sym, ap, subst, ◌∙◌, Option, None, Result, Ok, Err}
+use Rattle.std.specs.Prelude.{◌^◌, IsOk, MatchResult}
 use Rattle.std.proofs.lemmas.List.{append-nil}
 use Rattle.zerotrie_core.specs.Kind.{Kind}
 use Rattle.zerotrie_core.specs.Maps.{Pairs, Map, map_of, look, value_at}
@@ -32,8 +32,11 @@ suffixes_mean kind bytes rest m means law front short lists =
     let left = after_steps kind front means.pairs in
     (map_of left, record { short = short; pairs = left; lists = lists; is = refl }, λ key. law kind bytes rest m means front key lists)
 
--- The value of a key that was written to a fresh cursor: the last four are the parts of the clause of `get_with_write_fn` and of what the closure's write did.
-pub written_value : (kind : Kind) (bytes fresh left : List ℕ) (m : Map) (means : Means kind bytes m) → StepsAnswer → (key : List ℕ) (answer : Option ℕ)
-    → fresh ≡ bytes → StepsBy kind fresh key left → HasValue kind left answer → answer ≡ look kind m key
-written_value kind bytes fresh left m means law key answer same steps value =
-    value_after kind bytes m means law key answer (value (after_steps kind key means.pairs) (steps means.pairs (subst (λ b. Lists kind b means.pairs) (sym same) means.lists)))
+-- The value of a key that was written to a fresh cursor, by the parts of the clause of `get_with_write_fn`: what the closure's one write answered and left, and what followed.
+pub written_value : {E : Type 0} (kind : Kind) (bytes fresh left : List ℕ) (m : Map) (means : Means kind bytes m) → StepsAnswer → (key : List ℕ) (answer : Option ℕ)
+    (wrote : Result (Unit {0}) E) → fresh ≡ bytes → IsOk wrote → (IsOk wrote → StepsBy kind fresh key left)
+    → MatchResult wrote (λ _. HasValue kind left answer) (λ _. answer ≡ None) → answer ≡ look kind m key
+written_value kind bytes fresh left m means law key answer (Ok _) same ok steps value =
+    let start = subst (λ b. Lists kind b means.pairs) (sym same) means.lists in
+    value_after kind bytes m means law key answer (value (after_steps kind key means.pairs) (steps ok means.pairs start))
+written_value kind bytes fresh left m means law key answer (Err e) same ok steps value = absurd (cc)

@@ -7,6 +7,9 @@ ghost use Rattle.zerotrie_uses.specs.Fallback.{IsFallback, IsLongestKey};
 
 use zerotrie::{TrieStore, ZeroTrieSimpleAscii, laws};
 
+/// The byte between the parts of a locale.
+const HYPHEN: u8 = b'-';
+
 /// The value that a locale falls back to: that of the longest key that is the name itself or the front of it
 /// before one of its hyphens. So `en-Latn-GB` falls back to `en-Latn`, and `fil-PH` to `fil` and never to `fi`.
 ///
@@ -19,7 +22,7 @@ pub fn fall_back<S: TrieStore>(trie: &ZeroTrieSimpleAscii<S>, name: &[u8]) -> Op
     let mut found = trie.get(b"");
     let mut cursor = trie.cursor();
     for byte in name {
-        if *byte == b'-' {
+        if *byte == HYPHEN {
             found = cursor.take_value().or(found);
         }
         cursor.step(*byte);
@@ -36,11 +39,11 @@ pub fn longest_key<S: TrieStore>(trie: &ZeroTrieSimpleAscii<S>, text: &[u8]) -> 
         → IsLongestKey simple_ascii m text.now result }
 {
     laws::steps_look_ahead();
-    let mut found = None;
+    let mut longest = None;
     let mut cursor = trie.cursor();
     for byte in text {
-        found = cursor.take_value().or(found);
+        longest = cursor.take_value().or(longest);
         cursor.step(*byte);
     }
-    cursor.take_value().or(found)
+    cursor.take_value().or(longest)
 }

@@ -19,7 +19,7 @@ mod tables;
 mod tests;
 mod written;
 
-pub use any::find_word;
+pub use any::{find_owned, find_word};
 pub use fallbacks::{fall_back, longest_key};
 pub use headers::find_header;
 pub use json::{find_in_json, find_in_json_of_any};

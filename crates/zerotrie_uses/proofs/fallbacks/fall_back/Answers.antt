@@ -10,7 +10,7 @@ use Rattle.zerotrie.specs.Texts.{Lists}
 use Rattle.zerotrie.proofs.Fallbacks.{EndsAt, IsFront, OrEmpty, going, going_in_map, is_longest_or_empty, longest_same, steps_on, takes_on}
 use Rattle.zerotrie_uses.specs.Fallback.{hyphen, EndsPart, BeginsWithParts}
 use Rattle.zerotrie_uses.proofs.fallbacks.fall_back.Goals as goal
-use Rattle.zerotrie_uses.proofs.fallbacks.fall_back.Goals.{then-byte-eq45, else-byte-eq45}
+use Rattle.zerotrie_uses.proofs.fallbacks.fall_back.Goals.{then-byte-eqHYPHEN, else-byte-eqHYPHEN}
 
 pub loop-byte-preserved : goal.loop-byte-preserved
 loop-byte-preserved g c pairs lists =
@@ -20,20 +20,20 @@ loop-byte-preserved g c pairs lists =
     let rest = drop (c.loop-byte.byte-index + 1) c.args.name.now in
     let before =
     ap (going (λ d. d == hyphen) c.loop-byte.found (value_at simple_ascii old.0)) (sym (drop_more c.args.name.now c.loop-byte.byte-index 0 (omega arith))) ∙ old.2 in
-    elim c.if-byte-eq45.branch [
-      | then-byte-eq45 w ↦
+    elim c.if-byte-eqHYPHEN.branch [
+      | then-byte-eqHYPHEN w ↦
           let taken = w.take_value.ensures.meaning old.0 old.1 in (
             after_steps simple_ascii (byte ∷ []) (without_value old.0),
             c.step.ensures (without_value old.0) (subst (λ bytes. Lists simple_ascii bytes (without_value old.0)) (sym w.cursor-is) taken.1),
-            takes_on simple_ascii (λ d. d == hyphen) (record { run = []; trie = w.take_value.new.self }) old.0 law taken.1 c.loop-byte.found w.take_value.result c.if-byte-eq45.found byte rest
-                (eq-eqb byte 45 w.if-byte-eq45.true) taken.0 (w.found-is ∙ w.or-found.ensures)
+            takes_on simple_ascii (λ d. d == hyphen) (record { run = []; trie = w.take_value.new.self }) old.0 law taken.1 c.loop-byte.found w.take_value.result c.if-byte-eqHYPHEN.found byte rest
+                (eq-eqb byte 45 w.if-byte-eqHYPHEN.true) taken.0 (w.found-is ∙ w.or-found.ensures)
                 ∙ before,
           )
-      | else-byte-eq45 w ↦
+      | else-byte-eqHYPHEN w ↦
           let other : (byte == 45) ≡ false = grind arith in (
             after_steps simple_ascii (byte ∷ []) old.0,
             c.step.ensures old.0 (subst (λ bytes. Lists simple_ascii bytes old.0) (sym w.cursor-is) old.1),
-            steps_on simple_ascii (λ d. d == hyphen) (record { run = []; trie = c.loop-byte.cursor }) old.0 law old.1 c.loop-byte.found c.if-byte-eq45.found byte rest other w.found-is ∙ before,
+            steps_on simple_ascii (λ d. d == hyphen) (record { run = []; trie = c.loop-byte.cursor }) old.0 law old.1 c.loop-byte.found c.if-byte-eqHYPHEN.found byte rest other w.found-is ∙ before,
           )
     ]
 

@@ -15,11 +15,11 @@ loop-byte-preserved g c pairs lists =
     let byte = get_or c.args.text.now c.loop-byte.byte-index 0 in
     let rest = drop (c.loop-byte.byte-index + 1) c.args.text.now in
     let going_on =
-    takes_on simple_ascii (λ d. true) (record { run = []; trie = c.take_value.new.self }) old.0 c.steps_look_ahead.ensures.pairs taken.1 c.loop-byte.found c.take_value.result
-    c.or-found.result byte rest refl taken.0 c.or-found.ensures in (
+    takes_on simple_ascii (λ d. true) (record { run = []; trie = c.take_value.new.self }) old.0 c.steps_look_ahead.ensures.pairs taken.1 c.loop-byte.longest c.take_value.result
+    c.or-longest.result byte rest refl taken.0 c.or-longest.ensures in (
       after_steps simple_ascii (byte ∷ []) (without_value old.0),
       c.step.ensures (without_value old.0) taken.1,
-      going_on ∙ ap (going (λ d. true) c.loop-byte.found (value_at simple_ascii old.0)) (sym (drop_more c.args.text.now c.loop-byte.byte-index 0 (omega arith))) ∙ old.2,
+      going_on ∙ ap (going (λ d. true) c.loop-byte.longest (value_at simple_ascii old.0)) (sym (drop_more c.args.text.now c.loop-byte.byte-index 0 (omega arith))) ∙ old.2,
     )
 
 pub returns : goal.returns
@@ -29,5 +29,5 @@ returns g c m means =
     let taken = c.take_value-2.ensures.meaning end.0 end.1 in
     longest_same (look simple_ascii m) c.or.result (λ key front. (front.0, front.1)) (λ key begins. (begins.0, begins.1, ends_always begins.0))
     (is_longest (λ d. true) (look simple_ascii m) c.args.text.now c.or.result
-    (c.or.ensures ∙ ap (λ o. option_or o c.loop-byte.found) taken.0 ∙ ap (going (λ d. true) c.loop-byte.found (value_at simple_ascii end.0)) (sym none) ∙ end.2
+    (c.or.ensures ∙ ap (λ o. option_or o c.loop-byte.longest) taken.0 ∙ ap (going (λ d. true) c.loop-byte.longest (value_at simple_ascii end.0)) (sym none) ∙ end.2
     ∙ going_in_map (λ d. true) simple_ascii _ c.args.text.now m means None))
