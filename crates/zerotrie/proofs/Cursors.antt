@@ -1,12 +1,12 @@
 -- What a cursor finds behind the bytes that it stepped.
-use Rattle.std.proofs.Common.{◌≡◌, ℕ, ◌<◌, List, [], ◌++◌, length, refl, sym, ap, subst, ◌∙◌, Option, None, Result, Ok, Err}
+use Rattle.std.proofs.Common.{◌≡◌, ℕ, ◌<◌, List, [], ◌∷◌, ◌++◌, length, refl, sym, ap, subst, ◌∙◌, Option, None, Result, Ok, Err}
 use Rattle.std.specs.Prelude.{◌^◌, IsOk, MatchResult}
 use Rattle.std.proofs.lemmas.List.{append-nil}
 use Rattle.zerotrie_core.specs.Kind.{Kind}
 use Rattle.zerotrie_core.specs.Maps.{Pairs, Map, map_of, look, value_at}
 use Rattle.zerotrie_core.specs.Texts.{Lists, Means}
-use Rattle.zerotrie_core.specs.Machine.{after_steps}
-use Rattle.zerotrie_core.specs.Places.{Place, ListsAt}
+use Rattle.zerotrie_core.specs.Machine.{behind, after_steps}
+use Rattle.zerotrie_core.specs.Places.{Place, ListsAt, IsStep}
 use Rattle.zerotrie_core.specs.CursorLaws.{StepsAnswer, SuffixAnswers}
 use Rattle.zerotrie_ascii.specs.Writing.{StepsBy, HasValue}
 use Rattle.zerotrie.proofs.Lookups.{listed_answer}
@@ -24,6 +24,11 @@ pub value_behind : (kind : Kind) (bytes : List ℕ) (m : Map) (means : Means kin
 value_behind kind bytes m means law place front key answer lists is =
     is ∙ law kind place (after_steps kind front means.pairs) lists key [] ∙ ap (value_at kind (after_steps kind front means.pairs)) (append-nil _)
     ∙ law kind (record { run = []; trie = bytes }) means.pairs means.lists front key ∙ listed_answer kind bytes m means (front ++ key)
+
+-- a step leaves what the machine does after a step by the byte: `step` is the clause `meaning`
+pub steps_along : (kind : Kind) (Before : Pairs → Type 0) (c : ℕ) (answer : Option ℕ) (After : Pairs → Type 0) → IsStep kind Before c answer After
+    → (pairs : Pairs) → Before pairs → After (after_steps kind (c ∷ []) pairs)
+steps_along kind Before c answer After step pairs before = let s = step pairs before in subst (λ edge. After (behind edge pairs)) s.0 s.1
 
 -- what a suffix trie means, and that its map answers as the whole does: `law` is the clause `maps` of `laws::steps_look_ahead`
 pub suffixes_mean : (kind : Kind) (bytes rest : List ℕ) (m : Map) (means : Means kind bytes m) → SuffixAnswers → (front : List ℕ) → length rest < 2 ^ 64

@@ -1,11 +1,11 @@
 //! Tables with a fallback: names whose parts are left off from the end, and texts that begin with a key.
 
-ghost use Rattle.zerotrie.specs.Kind.{simple_ascii};
+ghost use Rattle.zerotrie.specs.Kind.{simple_ascii, perfect_hash};
 ghost use Rattle.zerotrie.specs.Maps.{Map};
 ghost use Rattle.zerotrie.specs.Texts.{Means};
 ghost use Rattle.zerotrie_uses.specs.Fallback.{IsFallback, IsLongestKey};
 
-use zerotrie::{TrieStore, ZeroTrieSimpleAscii, laws};
+use zerotrie::{TrieStore, ZeroTriePerfectHash, ZeroTrieSimpleAscii, laws};
 
 /// The byte between the parts of a locale.
 const HYPHEN: u8 = b'-';
@@ -17,6 +17,26 @@ const HYPHEN: u8 = b'-';
 pub fn fall_back<S: TrieStore>(trie: &ZeroTrieSimpleAscii<S>, name: &[u8]) -> Option<usize>
     ensures { (m : Map) → Means simple_ascii (S.stored trie.now.store) m
         → IsFallback simple_ascii m name.now result }
+{
+    laws::steps_look_ahead();
+    let mut found = trie.get(b"");
+    let mut cursor = trie.cursor();
+    for byte in name {
+        if *byte == HYPHEN {
+            found = cursor.take_value().or(found);
+        }
+        cursor.step(*byte);
+    }
+    cursor.take_value().or(found)
+}
+
+/// The same among keys of any bytes. On its way the cursor may stand inside a span, where no key ends.
+pub fn fall_back_in_hashed<S: TrieStore>(
+    trie: &ZeroTriePerfectHash<S>,
+    name: &[u8],
+) -> Option<usize>
+    ensures { (m : Map) → Means perfect_hash (S.stored trie.now.store) m
+        → IsFallback perfect_hash m name.now result }
 {
     laws::steps_look_ahead();
     let mut found = trie.get(b"");

@@ -20,7 +20,7 @@ mod tests;
 mod written;
 
 pub use any::{find_owned, find_word};
-pub use fallbacks::{fall_back, longest_key};
+pub use fallbacks::{fall_back, fall_back_in_hashed, longest_key};
 pub use headers::find_header;
 pub use json::{find_in_json, find_in_json_of_any};
 pub use keywords::{find_keyword, record_of, second_of_three};

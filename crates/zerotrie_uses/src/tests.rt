@@ -123,6 +123,9 @@ fn names_fall_back(rt: HostRuntime) -> Result<(), Fail> {
     }
     let bare = ZeroTrieSimpleAscii::from_bytes(b"fi\x84");
     same(&rt, fall_back(&bare, b"fil-PH"), None);
+    let bytes = ZeroTriePerfectHash::try_from_iter(rt.alloc(), [("å", 1), ("åøb", 2)])?;
+    same(&rt, fall_back_in_hashed(&bytes, "å-ø".as_bytes()), Some(1));
+    same(&rt, fall_back_in_hashed(&bytes, "åø-b".as_bytes()), None);
     Ok(())
 }
 
