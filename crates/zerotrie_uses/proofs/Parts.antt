@@ -1,5 +1,5 @@
 -- The keys that a name begins with by whole parts, as fronts of it that end in front of a hyphen.
-use Rattle.std.proofs.Common.{◌≡◌, ℕ, List, [], ◌∷◌, Bool, true, eq-eqb, eqb-true}
+use Rattle.std.proofs.Common.{ℕ, List, [], ◌∷◌, Bool, eq-eqb, eqb-true}
 use Rattle.std.specs.Prelude.{◌==◌}
 use Rattle.zerotrie.proofs.Fallbacks.{EndsAt, IsFront, OrEmpty}
 use Rattle.zerotrie_uses.specs.Fallback.{hyphen, EndsPart, BeginsWithParts}

@@ -1,11 +1,11 @@
-use Rattle.std.proofs.Common.{◌≡◌, ◌+◌, List, ℕ, [], ◌∷◌, drop, get_or, refl, sym, ◌∙◌, ap, subst, arith, true, false, eq-eqb}
+use Rattle.std.proofs.Common.{◌≡◌, ◌+◌, [], ◌∷◌, drop, get_or, refl, sym, ◌∙◌, ap, subst, arith, false, eq-eqb}
 use Rattle.std.proofs.lemmas.List.{drop_more}
 use Rattle.std.proofs.Math.ListN.{drop_of_length-le}
 use Rattle.std.specs.Option.{option_or}
 use Rattle.std.specs.Prelude.{◌==◌}
 use Rattle.zerotrie.specs.Kind.{perfect_hash}
 use Rattle.zerotrie.specs.Machine.{without_value, after_steps}
-use Rattle.zerotrie.specs.Maps.{Map, look, value_at}
+use Rattle.zerotrie.specs.Maps.{look, value_at}
 use Rattle.zerotrie.specs.Places.{ListsAt}
 use Rattle.zerotrie.proofs.Cursors.{steps_along}
 use Rattle.zerotrie.proofs.Fallbacks.{going, going_in_map, is_longest_or_empty, longest_same, steps_on, takes_on}

@@ -1,10 +1,10 @@
-use Rattle.std.proofs.Common.{◌≡◌, ◌+◌, List, ℕ, [], ◌∷◌, drop, get_or, refl, sym, ◌∙◌, ap, subst, arith, true, None}
+use Rattle.std.proofs.Common.{◌≡◌, ◌+◌, [], ◌∷◌, drop, get_or, refl, sym, ◌∙◌, ap, arith, true, None}
 use Rattle.std.proofs.lemmas.List.{drop_more}
 use Rattle.std.proofs.Math.ListN.{drop_of_length-le}
 use Rattle.std.specs.Option.{option_or}
 use Rattle.zerotrie.specs.Kind.{simple_ascii}
 use Rattle.zerotrie.specs.Machine.{without_value, after_steps}
-use Rattle.zerotrie.specs.Maps.{Map, look, value_at}
+use Rattle.zerotrie.specs.Maps.{look, value_at}
 use Rattle.zerotrie.proofs.Fallbacks.{ends_always, going, going_in_map, is_longest, longest_same, takes_on}
 use Rattle.zerotrie_uses.proofs.fallbacks.longest_key.Goals as goal
 

@@ -1,8 +1,7 @@
-use Rattle.std.proofs.Common.{◌≡◌}
 use Rattle.serde_json.specs.View.{view}
 use Rattle.zerotrie.specs.Items.{pairs_of}
 use Rattle.zerotrie.specs.Kind.{simple_ascii}
-use Rattle.zerotrie.specs.Maps.{map_of, look}
+use Rattle.zerotrie.specs.Maps.{map_of}
 use Rattle.zerotrie.specs.Routes.{ascending}
 use Rattle.zerotrie.proofs.Forms.{read_back}
 use Rattle.zerotrie.proofs.Found.{answered_by_map, exactly}

@@ -1,9 +1,8 @@
-use Rattle.std.proofs.Common.{◌≡◌, subst, sym}
+use Rattle.std.proofs.Common.{subst, sym}
 use Rattle.serde_json.specs.View.{view}
-use Rattle.zerotrie.specs.Auto.{auto_kind}
 use Rattle.zerotrie.specs.Flavors.{flavor_kind}
 use Rattle.zerotrie.specs.Items.{pairs_of}
-use Rattle.zerotrie.specs.Maps.{map_of, look}
+use Rattle.zerotrie.specs.Maps.{map_of}
 use Rattle.zerotrie.specs.Routes.{ascending}
 use Rattle.zerotrie.specs.Texts.{Means}
 use Rattle.zerotrie.proofs.Forms.{auto_read_back}

@@ -1,4 +1,4 @@
-use Rattle.std.proofs.Common.{◌<◌, length, subst, sym, rules, arith}
+use Rattle.std.proofs.Common.{◌<◌, length, subst, sym, rules}
 use Rattle.std.specs.Prelude.{◌^◌}
 use Rattle.zerotrie.specs.Kind.{perfect_hash}
 use Rattle.zerotrie.specs.Places.{ListsAt}
