@@ -1,8 +1,14 @@
 -- What a build of all that an iterator gives says of the list that the iterator goes over.
-use Rattle.std.proofs.Common.{◌≡◌, ℕ, List, Option, Result, Ok, Err, Iter, inl, inr, ap, subst, ◌∙◌}
+use Rattle.std.proofs.Common.{◌≡◌, ℕ, List, Option, Result, Ok, Err, Iter, inl, inr, length, ap, subst, ◌∙◌}
 use Rattle.std.specs.Borrow.{Bor}
-use Rattle.std.specs.Prelude.{IfOk}
-use Rattle.std.specs.Iterator.Runs.{SomeRun, WholeRun, EachRunFrom, EveryRun, IsCopiedRun, ItemsMapTo}
+use Rattle.std.specs.Prelude.{◌<◌, ◌^◌, IfOk}
+use Rattle.std.specs.Iterator.Runs.{SomeRun, WholeRun, EachRunFrom, EveryRun, IsCopiedRun, ItemsMapTo, ItemsAre, ItemsAreReversed}
+use Rattle.std.specs.Array.Iter.{array_into_iter_items, array_steps, array_steps_back}
+use Rattle.std.specs.declared.array.IntoIter.{IntoIter as ArrayIter}
+use Rattle.std.specs.Vec.{vec_len}
+use Rattle.std.specs.Vec.Iter.{into_iter_items, into_iter_len, into_iter_steps}
+use Rattle.std.specs.declared.vec.IntoIter.{IntoIter as VecIter}
+use Rattle.std.specs.declared.vec.Vec.{Vec}
 use Rattle.std.specs.Slice.Iter.{iter_rest, iter_steps}
 use Rattle.zerotrie_core.specs.Items.{keyed}
 use Rattle.zerotrie_core.specs.Kind.{Kind}
@@ -51,3 +57,34 @@ auto_build_of_copies key kind_of bytes (Err e) items iter copies is all copied r
         (of_copies iter_rest (λ xs. HasCause any_order (auto_kind (keyed key xs)) (keyed key xs) e) h.0 copies iter copied all h.1 h.2)),
   )
 ]
+
+-- A build of what an iterator over the elements of a list gives is one of the list.
+pub build_of_elements : {B U S K : Type 0} (gives : U → S → Type 0) (steps : S → Option (K × ℕ) → S → Type 0) (rest : S → List (K × ℕ)) (key : K → List ℕ) (kind : Kind) (bytes : B → List ℕ)
+    (items : List (K × ℕ)) (given : U) (r : Result B ZeroTrieBuildError) → ((it : S) → gives given it → (rest it ≡ items) × EveryRun steps (λ p. ItemsAre p (rest p.from)))
+    → IsBuildOfAll (OfAllGiven gives steps key given) kind bytes r → IsBuild any_order kind bytes (keyed key items) r
+build_of_elements gives steps rest key kind bytes items given r all build =
+    build_of {OfAll = OfAllGiven gives steps key given} kind bytes (keyed key items) r
+    (λ Fact h. let a = all h.0 h.1 in of_elements rest (λ xs. Fact (keyed key xs)) items h.0 a.0 a.1 h.2) build
+
+-- what std says of an array of n items and an iterator over it
+abbrev pub GivesArray : {A : Type 0} (n : ℕ) → List A → ArrayIter A n → Type 0
+GivesArray {A = A} n xs it =
+    (array_into_iter_items it ≡ xs) × (length (array_into_iter_items it) ≡ n) × EveryRun (array_steps {A = A} {n = n}) (λ p. ItemsAre p (array_into_iter_items p.from))
+    × EveryRun (array_steps_back {A = A} {n = n}) (λ p. ItemsAreReversed p (array_into_iter_items p.from))
+
+-- A build of an array of n items is one of these items.
+pub build_of_array : {B K : Type 0} (n : ℕ) (key : K → List ℕ) (kind : Kind) (bytes : B → List ℕ) (items : List (K × ℕ)) (r : Result B ZeroTrieBuildError)
+    → IsBuildOfAll (OfAllGiven (GivesArray {A = K × ℕ} n) (array_steps {A = K × ℕ} {n = n}) key items) kind bytes r → IsBuild any_order kind bytes (keyed key items) r
+build_of_array {K = K} n key kind bytes items r build =
+    build_of_elements (GivesArray {A = K × ℕ} n) (array_steps {A = K × ℕ} {n = n}) array_into_iter_items key kind bytes items items r (λ it g. (g.0, g.2)) build
+
+-- what std says of a Vec and an iterator over its elements
+abbrev pub GivesVec : {A Z : Type 0} → Vec A Z → VecIter A Z → Type 0
+GivesVec {A = A} {Z = Z} v it =
+    (into_iter_items it ≡ v.items) × (into_iter_len it ≡ vec_len v) × (into_iter_len it < 2 ^ 64) × EveryRun (into_iter_steps {X = A} {Z = Z}) (λ p. ItemsAre p (into_iter_items p.from))
+
+-- A build of a Vec is one of its elements.
+pub build_of_vec : {B K Z : Type 0} (key : K → List ℕ) (kind : Kind) (bytes : B → List ℕ) (items : Vec (K × ℕ) Z) (r : Result B ZeroTrieBuildError)
+    → IsBuildOfAll (OfAllGiven (GivesVec {A = K × ℕ} {Z = Z}) (into_iter_steps {X = K × ℕ} {Z = Z}) key items) kind bytes r → IsBuild any_order kind bytes (keyed key items.items) r
+build_of_vec {K = K} {Z = Z} key kind bytes items r build =
+    build_of_elements (GivesVec {A = K × ℕ} {Z = Z}) (into_iter_steps {X = K × ℕ} {Z = Z}) into_iter_items key kind bytes items.items items r (λ it g. (g.0, g.3)) build

@@ -1,14 +1,17 @@
--- What a trie is that was written in another form and read again.
+-- What a trie is that was written in another form and read again, and what a build lists.
 use Rattle.std.proofs.Common.{◌≡◌, List, ℕ, Ok, Some, sym, ap, subst, ◌∙◌}
 use Rattle.std.specs.FinMap.{entries, same_map, get-from_entries, get-entries, slice_cmp-IsAntisymmetric, nat_cmp-IsAntisymmetric}
 use Rattle.std.specs.Cmp.Lexicographic.{nat_list_cmp_total}
 use Rattle.serde_json.specs.Data.{Data}
-use Rattle.zerotrie_core.specs.Kind.{Kind}
-use Rattle.zerotrie_core.specs.Maps.{Pairs, Map, map_of}
-use Rattle.zerotrie_core.specs.Texts.{Means}
+use Rattle.zerotrie_core.specs.Kind.{Kind, simple_ascii}
+use Rattle.zerotrie_core.specs.Maps.{Pairs, Map, Ascends, map_of}
+use Rattle.zerotrie_core.specs.Texts.{Lists, Means}
+use Rattle.zerotrie_core.specs.Built.{IsBuilt}
 use Rattle.zerotrie_core.specs.Fits.{Fits}
+pub use Rattle.zerotrie_core.proofs.CallerLemmas.{entries-map_of}
+use Rattle.zerotrie_any.specs.Auto.{auto_kind}
 use Rattle.zerotrie_any.specs.Json.{json, pairs_in, JsonKeepsPairs}
-use Rattle.zerotrie_any.specs.JsonCalls.{IsBuildOfJson}
+use Rattle.zerotrie_any.specs.JsonCalls.{HasPairs, IsBuildOfJson}
 
 -- the map of a map's entries is the map
 pub map_of-entries : (m : Map) → map_of (entries m) ≡ m
@@ -24,3 +27,30 @@ pub read_back : {B : Type 0} (kind : Kind) (bytes : B → List ℕ) (m : Map) (d
 read_back kind bytes m d b law fits is h =
     let same : h.0 ≡ entries m = same_pairs h.0 (entries m) (sym h.1 ∙ ap pairs_in is ∙ law kind m fits) in
     subst (Means kind (bytes b)) (ap map_of same ∙ map_of-entries m) h.2.1.means
+
+-- The same of a trie of the kind that is taken for the pairs, and that it is of the kind that is taken for the map's entries.
+pub auto_read_back_map : {B : Type 0} (kind : Kind) (kind_of : B → Kind) (bytes : B → List ℕ) (m : Map) (d : Data) (b : B) → JsonKeepsPairs → Fits kind m → d ≡ json m
+    → HasPairs d (λ pairs. kind_of b ≡ auto_kind pairs) → IsBuildOfJson auto_kind bytes d (Ok b)
+    → (kind_of b ≡ auto_kind (entries m)) × Means (auto_kind (entries m)) (bytes b) m
+auto_read_back_map kind kind_of bytes m d b law fits is of h =
+    let there = ap pairs_in is ∙ law kind m fits in
+    let same : h.0 ≡ entries m = same_pairs h.0 (entries m) (sym h.1 ∙ there) in
+    let other : of.0 ≡ entries m = same_pairs of.0 (entries m) (sym of.1 ∙ there) in
+    let means : Means (auto_kind h.0) (bytes b) m = subst (Means (auto_kind h.0) (bytes b)) (ap map_of same ∙ map_of-entries m) h.2.1.means in
+    (of.2 ∙ ap auto_kind other, subst (λ pairs. Means (auto_kind pairs) (bytes b) m) same means)
+
+-- The same of pairs that ascend: the trie that was read is of the kind that is taken for them, as the one that was written.
+pub auto_read_back : {B : Type 0} (kind_of : B → Kind) (bytes : B → List ℕ) (pairs : Pairs) (d : Data) (b : B) → JsonKeepsPairs → Ascends pairs
+    → Fits (auto_kind pairs) (map_of pairs) → d ≡ json (map_of pairs) → HasPairs d (λ given. kind_of b ≡ auto_kind given) → IsBuildOfJson auto_kind bytes d (Ok b)
+    → (kind_of b ≡ auto_kind pairs) × Means (auto_kind pairs) (bytes b) (map_of pairs)
+auto_read_back kind_of bytes pairs d b law ascends fits is of h =
+    subst (λ own. (kind_of b ≡ auto_kind own) × Means (auto_kind own) (bytes b) (map_of pairs)) (entries-map_of pairs ascends)
+    (auto_read_back_map (auto_kind pairs) kind_of bytes (map_of pairs) d b law fits is of h)
+
+-- A build of pairs that ascend lists these pairs, in this order: `law` is the clause `by_bytes` of `laws::listing_is_the_map`.
+pub lists_pairs : (pairs : Pairs) (bytes : List ℕ) → ((other : List ℕ) (own : Pairs) → Lists simple_ascii other own → Ascends own) → Ascends pairs
+    → IsBuilt simple_ascii pairs bytes → Lists simple_ascii bytes pairs
+lists_pairs pairs bytes law ascends built =
+    let means = built.means in
+    let same : means.pairs ≡ pairs = sym (entries-map_of means.pairs (law bytes means.pairs means.lists)) ∙ ap entries (sym means.is) ∙ entries-map_of pairs ascends in
+    subst (Lists simple_ascii bytes) same means.lists

@@ -1,7 +1,10 @@
 pub mod Builds
+pub mod Cursors
 pub mod Fallbacks
 pub mod Forms
+pub mod Found
 pub mod Lookups
+pub mod Tables
 mod WindowLaws
 mod RecordLemmas
 mod StepLemmas

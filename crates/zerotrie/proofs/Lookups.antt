@@ -7,8 +7,9 @@ use Rattle.std.specs.List.{AllByRecursion}
 use Rattle.std.specs.Cmp.Lexicographic.{pointwise}
 use Rattle.std.specs.Str.{str_eq_ignore_ascii_case}
 use Rattle.zerotrie_core.specs.Kind.{Kind, simple_ascii, ignore_case}
-use Rattle.zerotrie_core.specs.Maps.{Pairs, map_of, look, value_at, same_key, RepeatsKey}
+use Rattle.zerotrie_core.specs.Maps.{Pairs, Map, map_of, look, value_at, same_key, RepeatsKey}
 use Rattle.zerotrie_core.specs.Built.{IsBuilt}
+use Rattle.zerotrie_core.specs.Texts.{Means}
 use Rattle.zerotrie_core.specs.Routes.{Route, ascending, in_order, any_order, Takes}
 use Rattle.zerotrie_core.proofs.CallerLemmas.{same_equiv, lists_apart, lists_found, same_answers}
 use Rattle.zerotrie_core.proofs.CallerLemmas.{look-map_of}
@@ -114,3 +115,7 @@ folded_first f (a ∷ p) (b ∷ q) = ap (λ t. (f a == f b) && t) (folded_first 
 -- the kind without case takes keys as one where std's comparison without case does
 pub same_ignoring_case : (p q : List ℕ) → same_key ignore_case p q ≡ str_eq_ignore_ascii_case p q
 same_ignoring_case p q = folded_first to_ascii_lowercase p q
+
+-- what the pairs that bytes list answer is what the map that they mean does
+pub listed_answer : (kind : Kind) (bytes : List ℕ) (m : Map) (means : Means kind bytes m) (key : List ℕ) → value_at kind means.pairs key ≡ look kind m key
+listed_answer kind bytes m means key = sym (look-map_of means.lists key) ∙ ap (λ n. look kind n key) (sym means.is)

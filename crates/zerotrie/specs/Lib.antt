@@ -32,4 +32,3 @@ pub use Rattle.zerotrie_any.specs.Listed
 pub use Rattle.zerotrie_ascii.specs.ListedTexts
 pub use Rattle.zerotrie_core.specs.CursorLaws
 pub mod dense
-pub mod Fallback

@@ -1,9 +1,7 @@
 mod arrays;
-mod callers;
 mod cursors;
 mod dense;
 mod examples;
-mod fallback;
 mod listings;
 mod outer;
 mod refusals;

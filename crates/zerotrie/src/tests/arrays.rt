@@ -1,8 +1,5 @@
 //! Tries in arrays.
 
-ghost use Rattle.std.specs.Prelude.{◌≡◌, ◌<◌, ℕ, Some, IfOk, All, Contains, length, slice_index};
-ghost use Rattle.zerotrie_core.specs.Items.{pairs_of};
-
 use super::*;
 
 /// Keys, of which the second and the third part behind the first byte.
@@ -29,34 +26,6 @@ fn is_refused<S: Drop>(
         Ok(_) => false,
         Err(why) => why == error,
     }
-}
-
-/// The record of a keyword, from keywords that ascend, each with the index of its record, whose trie has 15
-/// bytes.
-fn record_of(
-    keywords: &[(&[u8], usize)],
-    records: &[u8],
-    word: &[u8],
-) -> Result<Option<u8>, ZeroTrieBuildError>
-    requires { All (λ e. e.1 < length records.now) (pairs_of keywords.now) }
-    ensures { IfOk result (λ answer. (index : ℕ) → Contains (pairs_of keywords.now) (word.now, index)
-        → answer ≡ Some (slice_index records.now index)) }
-{
-    let trie: ZeroTrieSimpleAscii<[u8; 15]> = ZeroTrieSimpleAscii::from_sorted_u8_tuples(keywords)?;
-    match trie.get(word) {
-        Some(index) => Ok(Some(records[index])),
-        None => Ok(None),
-    }
-}
-
-#[test]
-fn keywords_are_recognised(rt: HostRuntime) -> Result<(), Fail> {
-    let keywords: [(&[u8], usize); 3] = [(b"else", 2), (b"if", 0), (b"let", 1)];
-    let records = [10, 20, 30];
-    for (word, record) in [(b"let".as_slice(), Some(20)), (b"le", None)] {
-        same(&rt, record_of(&keywords, &records, word)?, record);
-    }
-    Ok(())
 }
 
 #[test]

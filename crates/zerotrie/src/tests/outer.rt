@@ -2,7 +2,7 @@
 
 ghost use Rattle.std.specs.Prelude.{◌≡◌, IfOk};
 ghost use Rattle.zerotrie_core.specs.Items.{pairs_of};
-ghost use Rattle.zerotrie_core.specs.Kind.{simple_ascii, perfect_hash};
+ghost use Rattle.zerotrie_core.specs.Kind.{perfect_hash};
 ghost use Rattle.zerotrie_core.specs.Maps.{look, map_of};
 
 use super::*;
@@ -24,26 +24,10 @@ fn find_tagged(
     }
 }
 
-/// A look-up in a trie that was written as JSON and read again.
-fn find_in_json(
-    alloc: Global,
-    pairs: &[(&[u8], usize)],
-    word: &[u8],
-) -> Result<Option<usize>, JsonError>
-    ensures { IfOk result (λ answer. answer ≡ look simple_ascii (map_of (pairs_of pairs.now)) word.now) }
-{
-    let trie = ZeroTrieSimpleAscii::try_from_sorted_slice(alloc, pairs)?;
-    let value = trie.to_json_value(alloc)?;
-    json_keeps_the_pairs();
-    let read = ZeroTrieSimpleAscii::try_from_json_value(alloc, &value)?;
-    Ok(read.get(word))
-}
-
 #[test]
 fn what_was_written_reads_back(rt: HostRuntime) -> Result<(), Fail> {
     let pairs: [(&[u8], usize); 2] = [(b"ad", 22), (b"adef", 33)];
     same(&rt, find_tagged(rt.alloc(), &pairs, b"adef")?, Some(33));
-    same(&rt, find_in_json(rt.alloc(), &pairs, b"adef")?, Some(33));
     Ok(())
 }
 

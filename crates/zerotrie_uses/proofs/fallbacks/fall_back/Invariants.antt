@@ -1,0 +1,12 @@
+use Rattle.std.proofs.Common.{◌≡◌, drop}
+use Rattle.zerotrie.specs.Kind.{simple_ascii}
+use Rattle.zerotrie.specs.Maps.{Pairs, value_at}
+use Rattle.zerotrie.specs.Texts.{Lists}
+use Rattle.zerotrie.proofs.Fallbacks.{going}
+use Rattle.zerotrie_uses.proofs.Parts.{is_hyphen}
+use Rattle.zerotrie_uses.proofs.fallbacks.fall_back.Given as goal
+
+abbrev pub invariant-loop-byte : goal.invariant-loop-byte
+invariant-loop-byte g l = (pairs : Pairs) → Lists simple_ascii (g.S.TrieStore.stored l.trie.store) pairs
+    → (left : Pairs) × Lists simple_ascii l.cursor left
+    × (going is_hyphen l.found (value_at simple_ascii left) (drop l.byte-index l.name) ≡ going is_hyphen l.initial.found (value_at simple_ascii pairs) l.name)
