@@ -1,5 +1,6 @@
 mod arrays;
 mod callers;
+mod calls;
 mod cursors;
 mod dense;
 mod examples;
