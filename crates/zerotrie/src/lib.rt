@@ -42,10 +42,11 @@ mod tests;
 
 pub use zerotrie_any::{
     CursorAnswer, CursorOp, HasFlavor, JsonError, NotWellFormed, TagError, TextKey, ZeroTrie,
-    ZeroTrieFlavor, json_keeps_the_pairs,
+    ZeroTrieFlavor, ZeroTrieKeys, ZeroTrieValues, json_keeps_the_pairs,
 };
 pub use zerotrie_ascii::{
     AsciiKind, AsciiTrie, ZeroAsciiIgnoreCaseTrie, ZeroTrieSimpleAscii, ZeroTrieStringIterator,
+    ZeroTrieStringKeys,
 };
 pub use zerotrie_core::{
     ConvertStore, Ext, Hash, Ignore, ListError, Simple, TrieKey, TrieStore, ZeroTrieBuildError,
