@@ -66,6 +66,21 @@ fn first_keys_of_values(rt: HostRuntime) -> Result<(), Fail> {
     Ok(())
 }
 
+/// The first key of a trie and its first value, in each type.
+#[test]
+fn keys_and_values(rt: HostRuntime) -> Result<(), Fail> {
+    let alloc = rt.alloc();
+    let simple = ZeroTrieSimpleAscii::from_bytes(b"ab\x81");
+    let key = simple.keys(alloc).next().ok_or("no key")??;
+    same(&rt, key.as_str(), "ab");
+    same(&rt, simple.values(alloc).next().ok_or("no value")??, 1);
+    let hashed = ZeroTriePerfectHash::from_bytes(b"ab\x81");
+    let key = hashed.keys(alloc).next().ok_or("no key")??;
+    same(&rt, key.as_slice(), b"ab".as_slice());
+    same(&rt, hashed.values(alloc).next().ok_or("no value")??, 1);
+    Ok(())
+}
+
 /// A cursor steps, probes and takes as that of its kind, and goes inside a span.
 fn any_cursor<K: HasFlavor, H: Abort>(rt: &H, bytes: &[u8], steps: &[u8]) -> Result<(), Fail> {
     let mut cursor: ZeroTrieCursor<'_> = ZeroTrie::of_kind::<K>(bytes).into_cursor();
