@@ -27,6 +27,8 @@ pub use Rattle.zerotrie_any.specs.Tagged
 pub use Rattle.zerotrie_any.specs.Json
 pub use Rattle.zerotrie_any.specs.JsonCalls
 pub use Rattle.zerotrie_any.specs.Walks
+pub use Rattle.zerotrie_any.specs.Stands
+pub use Rattle.zerotrie_any.specs.Parts
 pub use Rattle.zerotrie_ascii.specs.Writing
 pub use Rattle.zerotrie_any.specs.Listed
 pub use Rattle.zerotrie_ascii.specs.ListedTexts

@@ -47,10 +47,11 @@ mod tests;
 
 pub use zerotrie_any::{
     CursorAnswer, CursorOp, HasFlavor, JsonError, NotWellFormed, TagError, TextKey, ZeroTrie,
-    ZeroTrieFlavor, json_keeps_the_pairs,
+    ZeroTrieFlavor, ZeroTrieKeys, ZeroTrieValues, json_keeps_the_pairs,
 };
 pub use zerotrie_ascii::{
     AsciiKind, AsciiTrie, ZeroAsciiIgnoreCaseTrie, ZeroTrieSimpleAscii, ZeroTrieStringIterator,
+    ZeroTrieStringKeys,
 };
 pub use zerotrie_core::{
     ConvertStore, Ext, Hash, Ignore, ListError, Simple, TrieKey, TrieStore, ZeroTrieBuildError,
@@ -60,6 +61,7 @@ pub use zerotrie_hashed::{HashedKind, HashedTrie, ZeroTrieExtendedCapacity, Zero
 
 /// Cursors, which go down a trie edge by edge.
 pub mod cursor {
+    pub use zerotrie_any::ZeroTrieCursor;
     pub use zerotrie_ascii::{
         AsciiCursor, ZeroAsciiIgnoreCaseTrieCursor, ZeroTrieSimpleAsciiCursor,
     };
@@ -69,7 +71,37 @@ pub mod cursor {
     };
 }
 
-/// The perfect hash of bytes, on which hashed branches rest.
+/// The same over bare bytes, for any kind: builds into bytes, into a buffer that is lent and by a builder, with the
+/// length beforehand; look-ups, tests, counts and listings of bytes; cursors and walks; tagged bytes and JSON.
+///
+/// ```
+/// let items = [("ad", 22), ("adef", 33)];
+/// let items = ByteSliceWithIndices::from_str_slice(&items);
+/// let mut buffer = [0; 8];
+/// let len = encoded_len(rt.alloc(), items, ZeroTrieBuilderOptions::of::<Simple>())?;
+/// let start = fill_from_end::<0>(&mut buffer, items)?;
+/// assert_eq!(rt; buffer.len() - start, len);
+/// assert_eq!(rt; get_counted::<Simple>(&buffer[start..], b"adef"), (Some(33), 6));
+/// ```
+pub mod bytes {
+    pub use zerotrie_any::{
+        bytes_from_iter, bytes_from_json, bytes_from_map, bytes_from_slice, first_key_of, json_of,
+        map_of, tagged, untagged, walk,
+    };
+    pub use zerotrie_build::{
+        ByteSliceWithIndices, TrieBuilderStore, ZeroTrieBuilder, ZeroTrieBuilderConst,
+        bytes_within, encoded_len, fill_from_end,
+    };
+    pub use zerotrie_core::{
+        SpanCursor, count_pairs, get_counted, is_well_formed, is_well_formed_counted, plain_encode,
+        probe, read_varint_meta2, read_varint_meta3, step, take_value, write_varint_meta2,
+        write_varint_meta3,
+    };
+}
+
+/// The perfect hash of bytes, on which hashed branches rest. `are_distinct` tests what a table asks of its keys.
 pub mod _internal {
-    pub use zerotrie_core::{PerfectByteHashMap, f1, f2};
+    pub use zerotrie_core::{
+        PerfectByteHashMap, PerfectByteHashMapCacheOwned, are_distinct, f1, f2,
+    };
 }

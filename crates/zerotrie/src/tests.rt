@@ -1,4 +1,5 @@
 mod arrays;
+mod calls;
 mod cursors;
 mod dense;
 mod examples;

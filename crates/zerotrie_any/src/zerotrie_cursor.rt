@@ -5,7 +5,7 @@ ghost use Rattle.std.specs.Option.{option_map};
 ghost use Rattle.zerotrie_core.specs.Maps.{Pairs};
 ghost use Rattle.zerotrie_core.specs.Texts.{Lists};
 ghost use Rattle.zerotrie_core.specs.Places.{nowhere, IsStep, IsTake, IsProbe};
-ghost use Rattle.zerotrie_any.specs.Cursors.{in_front, ListsFrom};
+ghost use Rattle.zerotrie_any.specs.Stands.{in_front, ListsFrom};
 ghost use Rattle.zerotrie_any.specs.Flavors.{flavor_kind};
 ghost use Rattle.zerotrie_any.specs.Walks.{IsWalk};
 
@@ -35,7 +35,7 @@ pub struct ZeroTrieCursor<'a> {
 }
 
 impl<'a> Model for ZeroTrieCursor<'a> {
-    ghost use Rattle.zerotrie_any.specs.Cursors.{Stand};
+    ghost use Rattle.zerotrie_any.specs.Stands.{Stand};
 
     ghost Value = { Stand };
 

@@ -15,6 +15,7 @@ impl<const N: usize> ZeroTrieSimpleAscii<[u8; N]> {
     /// a stack of 100.
     ///
     /// It is `from_sorted_u8_tuples_with_stack` with room for 100 targets that wait for their branch.
+    /// `encoded_len` of the slice tells the length of the array beforehand.
     pub fn from_sorted_u8_tuples(items: &[(&[u8], usize)]) -> Result<Self, ZeroTrieBuildError>
         ensures { IsArrayBuild N 100 (λ trie. trie.store) (pairs_of items.now) result }
     {

@@ -12,5 +12,5 @@ mod prefixes;
 
 pub use ascii_trie::{AsciiTrie, ZeroAsciiIgnoreCaseTrie, ZeroTrieSimpleAscii};
 pub use cursor::{AsciiCursor, ZeroAsciiIgnoreCaseTrieCursor, ZeroTrieSimpleAsciiCursor};
-pub use listed::ZeroTrieStringIterator;
+pub use listed::{ZeroTrieStringIterator, ZeroTrieStringKeys};
 pub use options::AsciiKind;

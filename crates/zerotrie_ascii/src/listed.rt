@@ -17,7 +17,7 @@ use crate::options::AsciiKind;
 use std::alloc::{AllocError, Global};
 use std::collections::BTreeMap;
 use std::marker::Model;
-use zerotrie_any::first_key_of;
+use zerotrie_any::{ZeroTrieValues, first_key_of};
 use zerotrie_core::{ListError, TrieStore, ZeroTrieIterator, count_pairs};
 
 /// The pairs of a trie over ASCII keys, one after another: a value comes before what follows it, and the
@@ -66,6 +66,41 @@ impl<'a> Iterator for ZeroTrieStringIterator<'a> {
                     Some(Err(ListError::NotText))
                 }
             },
+        }
+    }
+}
+
+/// The keys of a trie over ASCII keys, one after another, in the order in which `ZeroTrieStringIterator` gives their
+/// pairs.
+///
+/// An item is a key, or an error as there. After an error, and after the end, nothing more comes.
+#[derive(Drop)]
+pub struct ZeroTrieStringKeys<'a> {
+    pairs: ZeroTrieStringIterator<'a>,
+}
+
+impl<'a> Model for ZeroTrieStringKeys<'a> {
+    ghost use Rattle.zerotrie_core.specs.Listings.{Left};
+
+    ghost Value = { Left };
+
+    ghost view = { λ s. s.pairs };
+}
+
+impl<'a> Iterator for ZeroTrieStringKeys<'a> {
+    type Item = Result<String, ListError>;
+
+    ghost use Rattle.zerotrie_any.specs.Parts.{ListsPart};
+
+    ghost next_gives = { ListsPart (λ e key. e.0 ≡ string_bytes key) TextError };
+
+    ghost remaining = { λ s. at_most (turns_left s) };
+
+    fn next(&mut self) -> Option<Result<String, ListError>> {
+        match self.pairs.next() {
+            None => None,
+            Some(Ok((key, _value))) => Some(Ok(key)),
+            Some(Err(error)) => Some(Err(error)),
         }
     }
 }
@@ -120,6 +155,35 @@ impl<K: AsciiKind, S: TrieStore> AsciiTrie<K, S> {
             inner: ZeroTrieIterator::with_prefix::<K>(alloc, self.as_bytes(), prefix)?,
             ended: false,
         })
+    }
+
+    /// The keys of the trie, in the order of `iter`. It takes no memory before the first item is asked for.
+    ///
+    /// ```
+    /// let trie = ZeroTrieSimpleAscii::try_from_iter(rt.alloc(), [("xyz", 22), ("abc", 11)])?;
+    /// let first = trie.keys(rt.alloc()).next().ok_or("no key")??;
+    /// assert_eq!(rt; first.as_str(), "abc");
+    /// ```
+    pub fn keys(&self, alloc: Global) -> ZeroTrieStringKeys<'_>
+        ensures lists { (pairs : Pairs) → Lists K.kind (S.stored self.now.store) pairs → result ≡ to_come pairs }
+        ensures most { length result.pairs ≤ length (S.stored self.now.store) }
+    {
+        ZeroTrieStringKeys {
+            pairs: self.iter(alloc),
+        }
+    }
+
+    /// The values of the trie, in the order of `iter`. It takes no memory before the first item is asked for.
+    ///
+    /// ```
+    /// let trie = ZeroTrieSimpleAscii::try_from_iter(rt.alloc(), [("xyz", 22), ("abc", 11)])?;
+    /// assert_eq!(rt; trie.values(rt.alloc()).next().ok_or("no value")??, 11);
+    /// ```
+    pub fn values(&self, alloc: Global) -> ZeroTrieValues<'_>
+        ensures lists { (pairs : Pairs) → Lists K.kind (S.stored self.now.store) pairs → result ≡ to_come pairs }
+        ensures most { length result.pairs ≤ length (S.stored self.now.store) }
+    {
+        ZeroTrieValues::new::<K>(alloc, self.as_bytes())
     }
 
     /// How many keys the trie has. It goes over the bytes once and takes no memory.

@@ -13,7 +13,7 @@ use crate::hashed_trie::HashedTrie;
 use crate::options::HashedKind;
 use std::alloc::Global;
 use std::collections::BTreeMap;
-use zerotrie_any::{first_key_of, map_of};
+use zerotrie_any::{ZeroTrieKeys, ZeroTrieValues, first_key_of, map_of};
 use zerotrie_core::{ListError, TrieStore, ZeroTrieIterator, count_pairs};
 
 impl<K: HashedKind, S: TrieStore> HashedTrie<K, S> {
@@ -35,6 +35,33 @@ impl<K: HashedKind, S: TrieStore> HashedTrie<K, S> {
         ensures most { length result.pairs ≤ length (S.stored self.now.store) }
     {
         ZeroTrieIterator::new::<K>(alloc, self.as_bytes())
+    }
+
+    /// The keys of the trie, in the order of `iter`. It takes no memory before the first item is asked for.
+    ///
+    /// ```
+    /// let trie = ZeroTriePerfectHash::try_from_iter(rt.alloc(), [("xyz", 22), ("abc", 11)])?;
+    /// let first = trie.keys(rt.alloc()).next().ok_or("no key")??;
+    /// assert_eq!(rt; first.as_slice(), b"abc".as_slice());
+    /// ```
+    pub fn keys(&self, alloc: Global) -> ZeroTrieKeys<'_>
+        ensures lists { (pairs : Pairs) → Lists K.kind (S.stored self.now.store) pairs → result ≡ to_come pairs }
+        ensures most { length result.pairs ≤ length (S.stored self.now.store) }
+    {
+        ZeroTrieKeys::new::<K>(alloc, self.as_bytes())
+    }
+
+    /// The values of the trie, in the order of `iter`. It takes no memory before the first item is asked for.
+    ///
+    /// ```
+    /// let trie = ZeroTriePerfectHash::try_from_iter(rt.alloc(), [("xyz", 22), ("abc", 11)])?;
+    /// assert_eq!(rt; trie.values(rt.alloc()).next().ok_or("no value")??, 11);
+    /// ```
+    pub fn values(&self, alloc: Global) -> ZeroTrieValues<'_>
+        ensures lists { (pairs : Pairs) → Lists K.kind (S.stored self.now.store) pairs → result ≡ to_come pairs }
+        ensures most { length result.pairs ≤ length (S.stored self.now.store) }
+    {
+        ZeroTrieValues::new::<K>(alloc, self.as_bytes())
     }
 
     /// How many keys the trie has. It goes over the bytes once and takes no memory.

@@ -139,9 +139,25 @@ fn kinds_have_their_tags(rt: HostRuntime) {
     }
 }
 
-#[test]
-fn a_trie_has_a_debug_text(rt: HostRuntime) -> Result<(), Fail> {
-    let trie = ZeroTrieSimpleAscii::from_bytes(b"a\x85");
-    assert!(rt; !format!(in rt.alloc(); "{trie:?}")?.is_empty());
+/// What `{:?}` writes of a value.
+fn shows<T: Debug, H: AllocGlobal + Abort>(rt: &H, value: &T, text: &str) -> Result<(), Fail> {
+    same(rt, format!(in rt.alloc(); "{value:?}")?.as_str(), text);
     Ok(())
+}
+
+#[test]
+fn tries_show_their_names(rt: HostRuntime) -> Result<(), Fail> {
+    let simple = ZeroTrieSimpleAscii::from_bytes(b"a\x85");
+    shows(&rt, &simple, "ZeroTrieSimpleAscii(2 bytes)")?;
+    let ignore = ZeroAsciiIgnoreCaseTrie::from_bytes(b"");
+    shows(&rt, &ignore, "ZeroAsciiIgnoreCaseTrie(0 bytes)")?;
+    let hash = ZeroTriePerfectHash::from_bytes(b"a\x85");
+    shows(&rt, &hash, "ZeroTriePerfectHash(2 bytes)")?;
+    let ext = ZeroTrieExtendedCapacity::from_bytes(b"a\x85");
+    shows(&rt, &ext, "ZeroTrieExtendedCapacity(2 bytes)")?;
+    shows(
+        &rt,
+        &ext.into_zerotrie(),
+        "ZeroTrie(ExtendedCapacity, 2 bytes)",
+    )
 }

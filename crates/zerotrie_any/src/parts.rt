@@ -1,0 +1,148 @@
+//! The keys of a trie of any kind, and its values.
+
+ghost use Rattle.std.specs.Prelude.{◌≡◌, ◌≤◌, length};
+ghost use Rattle.std.specs.Iterator.{at_most};
+ghost use Rattle.zerotrie_core.specs.Listings.{to_come};
+ghost use Rattle.zerotrie_core.specs.Maps.{Pairs};
+ghost use Rattle.zerotrie_core.specs.Texts.{Lists};
+ghost use Rattle.zerotrie_any.specs.Flavors.{flavor_kind};
+
+use crate::zerotrie::ZeroTrie;
+use std::alloc::Global;
+use std::marker::Model;
+use zerotrie_core::{ListError, TrieStore, ZeroTrieIterator, ZeroTrieWithOptions};
+
+/// The keys of a trie, one after another, in the order in which `ZeroTrieIterator` gives their pairs.
+///
+/// An item is a key, or `ListError::OutOfMemory` where a growth was refused. After an error, and after the end,
+/// nothing more comes.
+#[derive(Drop)]
+pub struct ZeroTrieKeys<'a> {
+    pairs: ZeroTrieIterator<'a>,
+}
+
+impl<'a> Model for ZeroTrieKeys<'a> {
+    ghost use Rattle.zerotrie_core.specs.Listings.{Left};
+
+    ghost Value = { Left };
+
+    ghost view = { λ s. s.pairs };
+}
+
+impl<'a> ZeroTrieKeys<'a> {
+    ghost use Rattle.zerotrie_core.specs.Listings.{to_come};
+
+    /// Those of these bytes. It takes no memory before the first `next`.
+    pub fn new<K: ZeroTrieWithOptions>(alloc: Global, bytes: &'a [u8]) -> Self
+        ensures lists { (pairs : Pairs) → Lists K.kind bytes.now pairs → result ≡ to_come pairs }
+        ensures most { length result.pairs ≤ length bytes.now }
+    {
+        ZeroTrieKeys {
+            pairs: ZeroTrieIterator::new::<K>(alloc, bytes),
+        }
+    }
+}
+
+impl<'a> Iterator for ZeroTrieKeys<'a> {
+    type Item = Result<Vec<u8>, ListError>;
+
+    ghost use Rattle.zerotrie_core.specs.Listings.{MemoryOnly, turns_left};
+    ghost use Rattle.zerotrie_any.specs.Parts.{ListsPart};
+
+    ghost next_gives = { ListsPart (λ e key. e.0 ≡ key.items) MemoryOnly };
+
+    ghost remaining = { λ s. at_most (turns_left s) };
+
+    fn next(&mut self) -> Option<Result<Vec<u8>, ListError>> {
+        match self.pairs.next() {
+            None => None,
+            Some(Ok((key, _value))) => Some(Ok(key)),
+            Some(Err(error)) => Some(Err(error)),
+        }
+    }
+}
+
+/// The values of a trie, one after another, in the order in which `ZeroTrieIterator` gives their pairs.
+///
+/// An item is a value, or `ListError::OutOfMemory` where a growth was refused, since a listing keeps the key that it
+/// stands at. After an error, and after the end, nothing more comes.
+#[derive(Drop)]
+pub struct ZeroTrieValues<'a> {
+    pairs: ZeroTrieIterator<'a>,
+}
+
+impl<'a> Model for ZeroTrieValues<'a> {
+    ghost use Rattle.zerotrie_core.specs.Listings.{Left};
+
+    ghost Value = { Left };
+
+    ghost view = { λ s. s.pairs };
+}
+
+impl<'a> ZeroTrieValues<'a> {
+    ghost use Rattle.zerotrie_core.specs.Listings.{to_come};
+
+    /// Those of these bytes. It takes no memory before the first `next`.
+    pub fn new<K: ZeroTrieWithOptions>(alloc: Global, bytes: &'a [u8]) -> Self
+        ensures lists { (pairs : Pairs) → Lists K.kind bytes.now pairs → result ≡ to_come pairs }
+        ensures most { length result.pairs ≤ length bytes.now }
+    {
+        ZeroTrieValues {
+            pairs: ZeroTrieIterator::new::<K>(alloc, bytes),
+        }
+    }
+}
+
+impl<'a> Iterator for ZeroTrieValues<'a> {
+    type Item = Result<usize, ListError>;
+
+    ghost use Rattle.zerotrie_core.specs.Listings.{MemoryOnly, turns_left};
+    ghost use Rattle.zerotrie_any.specs.Parts.{ListsPart};
+
+    ghost next_gives = { ListsPart (λ e value. e.1 ≡ value) MemoryOnly };
+
+    ghost remaining = { λ s. at_most (turns_left s) };
+
+    fn next(&mut self) -> Option<Result<usize, ListError>> {
+        match self.pairs.next() {
+            None => None,
+            Some(Ok((_key, value))) => Some(Ok(value)),
+            Some(Err(error)) => Some(Err(error)),
+        }
+    }
+}
+
+impl<S: TrieStore> ZeroTrie<S> {
+    /// The keys of the trie, in the order of `iter`. It takes no memory before the first item is asked for.
+    ///
+    /// ```
+    /// let trie = ZeroTrie::try_from_iter(rt.alloc(), [("xyz", 22), ("abc", 11)])?;
+    /// let first = trie.keys(rt.alloc()).next().ok_or("no key")??;
+    /// assert_eq!(rt; first.as_slice(), b"abc".as_slice());
+    /// ```
+    pub fn keys(&self, alloc: Global) -> ZeroTrieKeys<'_>
+        ensures lists { (pairs : Pairs) → Lists (flavor_kind self.now.flavor) (S.stored self.now.store) pairs
+            → result ≡ to_come pairs }
+        ensures most { length result.pairs ≤ length (S.stored self.now.store) }
+    {
+        ZeroTrieKeys {
+            pairs: self.iter(alloc),
+        }
+    }
+
+    /// The values of the trie, in the order of `iter`. It takes no memory before the first item is asked for.
+    ///
+    /// ```
+    /// let trie = ZeroTrie::try_from_iter(rt.alloc(), [("xyz", 22), ("abc", 11)])?;
+    /// assert_eq!(rt; trie.values(rt.alloc()).next().ok_or("no value")??, 11);
+    /// ```
+    pub fn values(&self, alloc: Global) -> ZeroTrieValues<'_>
+        ensures lists { (pairs : Pairs) → Lists (flavor_kind self.now.flavor) (S.stored self.now.store) pairs
+            → result ≡ to_come pairs }
+        ensures most { length result.pairs ≤ length (S.stored self.now.store) }
+    {
+        ZeroTrieValues {
+            pairs: self.iter(alloc),
+        }
+    }
+}
