@@ -20,10 +20,12 @@ pub use Rattle.zerotrie_core.specs.Stack
 pub use Rattle.zerotrie_core.specs.ArrayRoutes
 pub use Rattle.zerotrie_core.specs.Laws
 pub use Rattle.zerotrie_core.specs.WellFormed
+pub use Rattle.zerotrie_build.specs.Refused
 pub use Rattle.zerotrie_any.specs.Order
 pub use Rattle.zerotrie_any.specs.Auto
 pub use Rattle.zerotrie_any.specs.Flavors
 pub use Rattle.zerotrie_any.specs.Tagged
+pub use Rattle.zerotrie_any.specs.Loaded
 pub use Rattle.zerotrie_any.specs.Json
 pub use Rattle.zerotrie_any.specs.JsonCalls
 pub use Rattle.zerotrie_any.specs.Walks

@@ -42,17 +42,20 @@
 #![tactic(auto)]
 
 pub mod dense;
+mod error;
 #[cfg(test)]
 mod tests;
 
+pub use error::Error;
 pub use zerotrie_any::{
-    CursorAnswer, CursorOp, HasFlavor, JsonError, NotWellFormed, TagError, TextKey, ZeroTrie,
-    ZeroTrieFlavor, ZeroTrieKeys, ZeroTrieValues, json_keeps_the_pairs,
+    CursorAnswer, CursorOp, HasFlavor, JsonError, LoadError, NotWellFormed, TagError, TextKey,
+    ZeroTrie, ZeroTrieFlavor, ZeroTrieKeys, ZeroTrieValues, json_keeps_the_pairs,
 };
 pub use zerotrie_ascii::{
     AsciiKind, AsciiTrie, ZeroAsciiIgnoreCaseTrie, ZeroTrieSimpleAscii, ZeroTrieStringIterator,
     ZeroTrieStringKeys,
 };
+pub use zerotrie_build::{Refusal, why_iter_refused, why_slice_refused};
 pub use zerotrie_core::{
     ConvertStore, Ext, Hash, Ignore, ListError, Simple, TrieKey, TrieStore, ZeroTrieBuildError,
     ZeroTrieBuilderOptions, ZeroTrieIterator, ZeroTrieWithOptions, laws,

@@ -15,7 +15,7 @@ use zerotrie_core::{Ext, Hash, Simple, TrieStore, is_well_formed};
 /// assert!(rt; refused == Some(NotWellFormed));
 /// ```
 #[derive(Clone, Copy, PartialEq, Eq, Debug, Error)]
-#[error("NotWellFormed")]
+#[error("the bytes are no trie of the kind: they were changed, cut or written as another kind")]
 pub struct NotWellFormed;
 
 impl<'a> ZeroTrie<&'a [u8]> {

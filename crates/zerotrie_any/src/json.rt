@@ -18,18 +18,19 @@ use zerotrie_core::ZeroTrieBuildError;
 ///
 /// ```
 /// let error = JsonError::Build(ZeroTrieBuildError::DuplicateKey);
-/// assert_eq!(rt; format!(in rt.alloc(); "{error}")?.as_str(), "Build");
+/// let text = format!(in rt.alloc(); "{error}")?;
+/// assert!(rt; text.as_str().ends_with("give each key once"));
 /// ```
 #[derive(Clone, PartialEq, Eq, Debug, Drop, Error)]
 pub enum JsonError {
     /// There are no pairs in the value: it is no object from text to number and no list of pairs.
-    #[error("Shape")]
+    #[error("the value has no pairs: give an object from text to number, or a list of pairs of a key and a number")]
     Shape,
     /// The pairs in the value make no trie of the kind, for this reason, which is never want of memory.
-    #[error("Build")]
+    #[error("the pairs in the value make no trie: {0}")]
     Build(ZeroTrieBuildError),
     /// A growth was refused.
-    #[error("OutOfMemory")]
+    #[error("out of memory")]
     OutOfMemory,
 }
 

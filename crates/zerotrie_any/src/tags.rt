@@ -18,10 +18,10 @@ use zerotrie_core::{Ext, Hash, Simple, TrieStore, ZeroTrieWithOptions};
 #[derive(Clone, PartialEq, Eq, Debug, Drop, Error)]
 pub enum TagError {
     /// There are no bytes.
-    #[error("Empty")]
+    #[error("there are no bytes, and so no tag: give all of the tagged bytes")]
     Empty,
     /// The first byte is the tag of another kind, or of none.
-    #[error("InvalidTag")]
+    #[error("the first byte is no tag of the kind that is read: read the bytes as the kind that wrote them")]
     InvalidTag,
 }
 

@@ -6,6 +6,7 @@ mod ascii_trie;
 mod checked;
 mod cursor;
 mod listed;
+mod load;
 mod options;
 mod outer;
 mod prefixes;

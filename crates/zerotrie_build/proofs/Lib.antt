@@ -36,3 +36,6 @@ mod ArraySteps
 mod ArrayAdding
 mod ArrayBuilding
 mod BelowLemmas
+mod TurnLemmas
+mod RefusalLemmas
+mod NumberedLemmas

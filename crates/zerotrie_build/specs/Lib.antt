@@ -1,5 +1,6 @@
 pub mod Items
 pub mod Ranges
 pub mod Order
+pub mod Refused
 pub mod passes
 pub mod konst

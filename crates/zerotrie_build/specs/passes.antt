@@ -5,3 +5,4 @@ pub mod Puts
 pub mod Writing
 pub mod Walking
 pub mod Sorts
+pub mod Turns

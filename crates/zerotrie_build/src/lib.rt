@@ -8,6 +8,7 @@ mod konst;
 mod laying;
 mod measuring;
 mod order;
+mod refusal;
 mod slice_indices;
 mod steps;
 mod store;
@@ -15,5 +16,6 @@ mod writing;
 
 pub use builder::{ZeroTrieBuilder, encoded_len, grow_slice};
 pub use konst::{ZeroTrieBuilderConst, bytes_within, fill_from_end};
+pub use refusal::{Refusal, why_iter_refused, why_slice_refused};
 pub use slice_indices::ByteSliceWithIndices;
 pub use store::TrieBuilderStore;

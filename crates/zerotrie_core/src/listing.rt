@@ -16,10 +16,10 @@ use thiserror::Error;
 #[derive(Clone, PartialEq, Eq, Debug, Drop, Error)]
 pub enum ListError {
     /// A growth was refused.
-    #[error("OutOfMemory")]
+    #[error("out of memory")]
     OutOfMemory,
     /// A key is no text, which is so on bytes alone that mean no map of an ASCII kind.
-    #[error("NotText")]
+    #[error("a key is not text: the bytes are no trie, so test them with is_well_formed")]
     NotText,
 }
 

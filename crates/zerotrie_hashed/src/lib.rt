@@ -5,6 +5,7 @@ mod checked;
 mod cursor;
 mod hashed_trie;
 mod listed;
+mod load;
 mod options;
 mod outer;
 mod prefixes;

@@ -15,13 +15,13 @@ use thiserror::Error;
 #[derive(Clone, PartialEq, Eq, Debug, Drop, Error)]
 pub enum RunError {
     /// The reader failed.
-    #[error("Read")]
+    #[error("read failed")]
     Read,
     /// The writer failed.
-    #[error("Write")]
+    #[error("write failed")]
     Write,
     /// A growth was refused, outside of a build.
-    #[error("OutOfMemory")]
+    #[error("out of memory")]
     OutOfMemory,
 }
 

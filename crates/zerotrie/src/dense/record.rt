@@ -15,10 +15,10 @@ use zerotrie_ascii::ZeroTrieSimpleAscii;
 #[derive(Clone, PartialEq, Eq, Debug, Drop, Error)]
 pub enum RecordError {
     /// There are fewer bytes than the record asks for.
-    #[error("Truncated")]
+    #[error("the record is cut: give all of its bytes")]
     Truncated,
     /// There are more bytes than the record asks for.
-    #[error("TrailingBytes")]
+    #[error("bytes follow the record: give its bytes alone")]
     TrailingBytes,
 }
 

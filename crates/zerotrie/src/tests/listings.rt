@@ -156,8 +156,11 @@ fn a_key_that_is_no_text(rt: HostRuntime) -> Result<(), Fail> {
 #[test]
 fn texts_of_errors(rt: HostRuntime) -> Result<(), Fail> {
     for (error, text) in [
-        (ListError::OutOfMemory, "OutOfMemory"),
-        (ListError::NotText, "NotText"),
+        (ListError::OutOfMemory, "out of memory"),
+        (
+            ListError::NotText,
+            "a key is not text: the bytes are no trie, so test them with is_well_formed",
+        ),
     ] {
         same(&rt, format!(in rt.alloc(); "{error}")?.as_str(), text);
     }

@@ -299,11 +299,38 @@ fn json_is_refused(rt: HostRuntime) -> Result<(), Fail> {
     Ok(())
 }
 
+/// What a program does that keeps a trie, with one error for all of its calls.
+fn shipped(alloc: Global) -> Result<usize, Error> {
+    let trie = ZeroTrieSimpleAscii::try_from_iter(alloc, [("bar", 2), ("foo", 1)])?;
+    let bytes = trie.to_tagged_bytes(alloc)?;
+    let loaded = ZeroTrieSimpleAscii::load(bytes.as_slice())?;
+    let value = loaded.to_json_value(alloc)?;
+    let again = ZeroTrieSimpleAscii::try_from_json_value(alloc, &value)?;
+    Ok(again.to_btreemap(alloc)?.len())
+}
+
+#[test]
+fn tagged_bytes_are_loaded(rt: HostRuntime) -> Result<(), Fail> {
+    same(&rt, shipped(rt.alloc())?, 2);
+    let damaged = ZeroTrieSimpleAscii::load(b"\x00a").err();
+    assert!(rt; damaged == Some(LoadError::NotWellFormed));
+    let foreign = ZeroTriePerfectHash::load(b"\x00a\x85").err();
+    assert!(rt; foreign == Some(LoadError::Tag(TagError::InvalidTag)));
+    assert!(rt; ZeroTrie::load(b"\x07a\x85").is_ok());
+    Ok(())
+}
+
 #[test]
 fn texts_of_errors(rt: HostRuntime) -> Result<(), Fail> {
     let rows = [
-        (TagError::Empty, "Empty"),
-        (TagError::InvalidTag, "InvalidTag"),
+        (
+            TagError::Empty,
+            "there are no bytes, and so no tag: give all of the tagged bytes",
+        ),
+        (
+            TagError::InvalidTag,
+            "the first byte is no tag of the kind that is read: read the bytes as the kind that wrote them",
+        ),
     ];
     for (error, text) in rows {
         same(&rt, format!(in rt.alloc(); "{error}")?.as_str(), text);
@@ -314,9 +341,15 @@ fn texts_of_errors(rt: HostRuntime) -> Result<(), Fail> {
 #[test]
 fn texts_of_json_errors(rt: HostRuntime) -> Result<(), Fail> {
     let rows = [
-        (JsonError::Shape, "Shape"),
-        (JsonError::Build(ZeroTrieBuildError::Unsorted), "Build"),
-        (JsonError::OutOfMemory, "OutOfMemory"),
+        (
+            JsonError::Shape,
+            "the value has no pairs: give an object from text to number, or a list of pairs of a key and a number",
+        ),
+        (
+            JsonError::Build(ZeroTrieBuildError::DuplicateKey),
+            "the pairs in the value make no trie: a key was given twice: give each key once",
+        ),
+        (JsonError::OutOfMemory, "out of memory"),
     ];
     for (error, text) in rows {
         same(&rt, format!(in rt.alloc(); "{error}")?.as_str(), text);

@@ -110,7 +110,11 @@ fn bytes_are_taken_or_refused(rt: HostRuntime) -> Result<(), Fail> {
         assert!(rt; ZeroTrie::try_from_bytes::<Ext>(wrong).is_err());
     }
     let text = format!(in rt.alloc(); "{}", NotWellFormed)?;
-    same(&rt, text.as_str(), "NotWellFormed");
+    same(
+        &rt,
+        text.as_str(),
+        "the bytes are no trie of the kind: they were changed, cut or written as another kind",
+    );
     Ok(())
 }
 

@@ -1,0 +1,25 @@
+-- Where a key parts from the next by a letter, and another goes on with the letter's other case.
+use Rattle.std.specs.Prelude.{◌≡◌, ◌≢◌, ◌==◌, ℕ, List, [], ◌∷◌, All, MatchBool}
+use Rattle.zerotrie_core.specs.Kind.{Kind, fold_byte}
+use Rattle.zerotrie_core.specs.Maps.{Pairs}
+
+-- the key begins with the front and then the byte
+abbrev pub Begins : List ℕ → ℕ → List ℕ → Type 0
+Begins front byte [] = ⊥
+Begins [] byte (b ∷ key) = b ≡ byte
+Begins (a ∷ front) byte (b ∷ key) = (b ≡ a) × Begins front byte key
+
+abbrev pub NoneBegins : List ℕ → ℕ → Pairs → Type 0
+NoneBegins front byte pairs = All (λ e. Begins front byte e.0 → ⊥) pairs
+
+-- the key parts from the next, and the other goes on with the fold of its byte there, which is another byte
+abbrev pub Turns : Kind → List ℕ → List ℕ → List ℕ → Type 0
+Turns kind [] next other = ⊥
+Turns kind (a ∷ key) [] [] = ⊥
+Turns kind (a ∷ key) [] (c ∷ other) = (fold_byte kind a ≢ a) × (c ≡ fold_byte kind a)
+Turns kind (a ∷ key) (b ∷ next) [] = ⊥
+Turns kind (a ∷ key) (b ∷ next) (c ∷ other) = MatchBool (a == b) ((c ≡ a) × Turns kind key next other)
+    ((fold_byte kind a ≢ a) × (c ≡ fold_byte kind a))
+
+abbrev pub NoneTurns : Kind → List ℕ → List ℕ → Pairs → Type 0
+NoneTurns kind key next pairs = All (λ e. Turns kind key next e.0 → ⊥) pairs

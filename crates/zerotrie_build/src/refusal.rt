@@ -1,0 +1,397 @@
+//! Which keys show why a build is refused.
+
+ghost use Rattle.std.specs.Ordering.{nat_cmp, is_lt};
+ghost use Rattle.std.specs.Cmp.Lexicographic.{slice_cmp};
+ghost use Rattle.std.specs.Prelude.{◌≡◌, ◌↔◌, ◌+◌, ◌<◌, ◌++◌, [], ◌∷◌, length, min, max, IsTrue, IfOk, IfSome, IfNone};
+ghost use Rattle.zerotrie_core.specs.Items.{keyed, pairs_of};
+ghost use Rattle.zerotrie_core.specs.Maps.{Ascends, IsCaseConsistent};
+ghost use Rattle.zerotrie_core.specs.Kind.{simple_ascii};
+ghost use Rattle.zerotrie_core.specs.Routes.{ascending, any_order};
+ghost use Rattle.zerotrie_build.specs.Order.{Before, AreKeys, Ordered, RepeatsNext};
+ghost use Rattle.zerotrie_build.specs.passes.Turns.{Begins, NoneBegins, NoneTurns};
+ghost use Rattle.zerotrie_build.specs.Refused.{key_at, DifferInCase, AreShown, IsWhyRefused};
+
+use crate::order::{
+    comes_before, common_front_len, folded, is_key, item_at, items_at, sorted_fronts,
+};
+use std::alloc::{AllocError, Global};
+use std::fmt;
+use zerotrie_core::{Simple, TrieKey, ZeroTrieBuildError, ZeroTrieWithOptions};
+
+/// Which keys show why a build is refused, by their numbers, counted from 0 in the order in which they are given.
+///
+/// ```
+/// let refusal = why_slice_refused::<Simple, _>(&[("to", 1), ("in", 2)]).ok_or("taken")?;
+/// let text = format!(in rt.alloc(); "{refusal}")?;
+/// assert_eq!(rt; text.as_str(), "key 1 is not above key 0: sort the keys by their bytes, each once");
+/// ```
+#[derive(Clone, PartialEq, Eq, Debug, Drop)]
+pub struct Refusal {
+    /// Why: `Unsorted`, `DuplicateKey`, `NonAsciiError` or `MixedCase`.
+    pub error: ZeroTrieBuildError,
+    /// The number of the key, or of the first of two.
+    pub first: usize,
+    /// The number of the second key. For `NonAsciiError`, which one key shows, it is that of the first.
+    pub second: usize,
+}
+
+impl Refusal {
+    /// The error that two keys show, whichever is the first.
+    fn between(error: ZeroTrieBuildError, one: usize, other: usize) -> Self
+        ensures error { result.error ≡ error }
+        ensures first { result.first ≡ min one other }
+        ensures second { result.second ≡ max one other }
+    {
+        Refusal {
+            error,
+            first: one.min(other),
+            second: one.max(other),
+        }
+    }
+}
+
+impl fmt::Display for Refusal {
+    fn fmt<W: fmt::Write>(&self, f: &mut fmt::Formatter<W>) -> fmt::Result {
+        let first = self.first;
+        let second = self.second;
+        match &self.error {
+            ZeroTrieBuildError::Unsorted => write!(
+                f,
+                "key {second} is not above key {first}: sort the keys by their bytes, each once"
+            ),
+            ZeroTrieBuildError::DuplicateKey => {
+                write!(
+                    f,
+                    "keys {first} and {second} are the same: give each key once"
+                )
+            }
+            ZeroTrieBuildError::NonAsciiError => write!(
+                f,
+                "key {first} is not ASCII: take a kind of trie for keys of any bytes"
+            ),
+            ZeroTrieBuildError::MixedCase => write!(
+                f,
+                "keys {first} and {second} begin alike but for the case of a letter: lower-case the keys first"
+            ),
+            other => write!(f, "{other}"),
+        }
+    }
+}
+
+/// The first two neighbours that do not ascend.
+fn unsorted<Key: TrieKey>(items: &[(Key, usize)]) -> Option<Refusal>
+    ensures some { IfSome result (λ r. (r.error ≡ ZeroTrieBuildError.Unsorted)
+        × AreShown simple_ascii (keyed Key.key items.now) r.error r.first r.second) }
+    ensures none { IfNone result (Ascends (keyed Key.key items.now)) }
+{
+    for second in 1..items.len() {
+        let first = second - 1;
+        let (key, _) = item_at(items, first);
+        let (next, _) = item_at(items, second);
+        if !comes_before::<Simple>(key, next) {
+            let error = ZeroTrieBuildError::Unsorted;
+            return Some(Refusal {
+                error,
+                first,
+                second,
+            });
+        }
+    }
+    None
+}
+
+/// The first key with a byte that is none of the kind's.
+fn foreign<K: ZeroTrieWithOptions, Key: TrieKey>(items: &[(Key, usize)]) -> Option<Refusal>
+    ensures some { IfSome result (λ r. (r.error ≡ ZeroTrieBuildError.NonAsciiError)
+        × AreShown K.kind (keyed Key.key items.now) r.error r.first r.second) }
+    ensures none { IfNone result (AreKeys K.kind (keyed Key.key items.now)) }
+{
+    for first in 0..items.len() {
+        let (key, _) = item_at(items, first);
+        if !is_key::<K>(key) {
+            let error = ZeroTrieBuildError::NonAsciiError;
+            let second = first;
+            return Some(Refusal {
+                error,
+                first,
+                second,
+            });
+        }
+    }
+    None
+}
+
+/// Whether the key is below all that begin with the front and then the byte.
+fn is_below(key: &[u8], front: &[u8], byte: u8) -> bool
+    ensures { result ≡ is_lt (slice_cmp nat_cmp key.now (front.now ++ byte ∷ [])) }
+{
+    let common = common_front_len(key, front);
+    if common == key.len() {
+        return true;
+    }
+    if common < front.len() {
+        key[common] < front[common]
+    } else {
+        key[common] < byte
+    }
+}
+
+/// Whether the key begins with the front and then the byte.
+fn begins(key: &[u8], front: &[u8], byte: u8) -> bool
+    ensures { IsTrue result ↔ Begins front.now byte key.now }
+{
+    let common = common_front_len(key, front);
+    if common < front.len() {
+        return false;
+    }
+    if common == key.len() {
+        return false;
+    }
+    key[common] == byte
+}
+
+/// The number of a key that begins with the front and then the byte, of keys that ascend.
+fn key_after<Key: TrieKey>(items: &[(Key, usize)], front: &[u8], byte: u8) -> Option<usize>
+    requires { Ascends (keyed Key.key items.now) }
+    ensures some { IfSome result (λ i. Begins front.now byte (key_at (keyed Key.key items.now) i)) }
+    ensures none { IfNone result (NoneBegins front.now byte (keyed Key.key items.now)) }
+{
+    let place = items.partition_point(|item| is_below(item.0.key_bytes(), front, byte));
+    let (key, _) = item_at(items, place);
+    if begins(key, front, byte) {
+        Some(place)
+    } else {
+        None
+    }
+}
+
+/// The number of a key that goes on with the other case of the letter by which the key parts from the next, of keys
+/// that ascend.
+fn other_case<K: ZeroTrieWithOptions, Key: TrieKey>(
+    items: &[(Key, usize)],
+    key: &[u8],
+    next: &[u8],
+) -> Option<usize>
+    requires { Ascends (keyed Key.key items.now) }
+    ensures some { IfSome result (λ i. DifferInCase K.kind key.now (key_at (keyed Key.key items.now) i)) }
+    ensures none { IfNone result (NoneTurns K.kind key.now next.now (keyed Key.key items.now)) }
+{
+    let common = common_front_len(key, next);
+    if common == key.len() {
+        return None;
+    }
+    let fold = folded::<K>(key[common]);
+    if fold == key[common] {
+        return None;
+    }
+    key_after(items, &key[..common], fold)
+}
+
+/// Two keys that differ in case, of keys that ascend. It takes no memory: where a key parts from the next by a letter
+/// in upper case, those that go on with this letter in lower case stand together, and are searched for.
+fn mixed<K: ZeroTrieWithOptions, Key: TrieKey>(items: &[(Key, usize)]) -> Option<Refusal>
+    requires { Ascends (keyed Key.key items.now) }
+    ensures some { IfSome result (λ r. (r.error ≡ ZeroTrieBuildError.MixedCase)
+        × AreShown K.kind (keyed Key.key items.now) r.error r.first r.second) }
+    ensures none { IfNone result (IsCaseConsistent K.kind (keyed Key.key items.now)) }
+{
+    for number in 1..items.len() {
+        let (key, _) = item_at(items, number - 1);
+        let (next, _) = item_at(items, number);
+        if let Some(other) = other_case::<K, Key>(items, key, next) {
+            let error = ZeroTrieBuildError::MixedCase;
+            return Some(Refusal::between(error, number - 1, other));
+        }
+    }
+    None
+}
+
+/// Which keys show why a build of a slice is refused, as `try_from_sorted_slice` of the kind's tries, whose keys are to
+/// ascend strictly by their bytes. `None` if none do.
+///
+/// ```
+/// let items = [("Accept-CH", 1), ("Accept-Charset", 2), ("Host", 3)];
+/// let refusal = why_slice_refused::<Ignore, _>(&items).ok_or("taken")?;
+/// assert!(rt; refusal.error == ZeroTrieBuildError::MixedCase);
+/// assert_eq!(rt; (refusal.first, refusal.second), (0, 1));
+/// ```
+///
+/// It asks first for keys that do not ascend, `Unsorted`, then for one with a byte from 128 on in a kind for ASCII,
+/// `NonAsciiError`, and then for two that the kind without case refuses together, `MixedCase`. On `None` a build
+/// is refused for its length, for a hashed table or for want of memory at most.
+///
+/// It takes no memory, and time as the keys' bytes in kinds with case. In the kind without case, each key that parts
+/// from the next by an upper-case letter costs a binary search besides.
+pub fn why_slice_refused<K: ZeroTrieWithOptions, Key: TrieKey>(
+    items: &[(Key, usize)],
+) -> Option<Refusal>
+    ensures { IsWhyRefused ascending K.kind (keyed Key.key items.now) result }
+{
+    if let Some(refusal) = unsorted(items) {
+        return Some(refusal);
+    }
+    if let Some(refusal) = foreign::<K, Key>(items) {
+        return Some(refusal);
+    }
+    mixed::<K, Key>(items)
+}
+
+/// The place of the first of the items whose key is that of the next.
+fn first_repeated(items: &[(&[u8], usize)]) -> Option<usize>
+    ensures some { IfSome result (λ i. (i + 1 < length items.now)
+        × (key_at (pairs_of items.now) i ≡ key_at (pairs_of items.now) (i + 1))) }
+    ensures none { IfNone result (RepeatsNext (pairs_of items.now) → ⊥) }
+{
+    for place in 1..items.len() {
+        let (key, _) = item_at(items, place - 1);
+        let (next, _) = item_at(items, place);
+        if key == next {
+            return Some(place - 1);
+        }
+    }
+    None
+}
+
+/// The place of the first of the items whose key does not come before the next in the kind.
+fn first_mixed<K: ZeroTrieWithOptions>(items: &[(&[u8], usize)]) -> Option<usize>
+    ensures some { IfSome result (λ i. (i + 1 < length items.now)
+        × (Before K.kind (key_at (pairs_of items.now) i) (key_at (pairs_of items.now) (i + 1)) → ⊥)) }
+    ensures none { IfNone result (Ordered K.kind (pairs_of items.now)) }
+{
+    for place in 1..items.len() {
+        let (key, _) = item_at(items, place - 1);
+        let (next, _) = item_at(items, place);
+        if !comes_before::<K>(key, next) {
+            return Some(place - 1);
+        }
+    }
+    None
+}
+
+/// Which keys show why a build of the pairs that an iterator gives is refused, as `try_from_iter` of the kind's tries,
+/// which takes them in any order. `None` if none do.
+///
+/// ```
+/// let items = [("to", 1), ("in", 2), ("to", 3)];
+/// let refusal = why_iter_refused::<Simple, _>(rt.alloc(), &items)?.ok_or("taken")?;
+/// assert!(rt; refusal.error == ZeroTrieBuildError::DuplicateKey);
+/// assert_eq!(rt; (refusal.first, refusal.second), (0, 2));
+/// ```
+///
+/// It asks first for two keys that are the same, `DuplicateKey`, then for one with a byte from 128 on in a kind for
+/// ASCII, `NonAsciiError`, and then for two that the kind without case refuses together, `MixedCase`. On `None` a build
+/// is refused for its length, for a hashed table or for want of memory at most.
+///
+/// It sorts the keys as a build does, in about the same time and memory. The only error is want of memory.
+pub fn why_iter_refused<K: ZeroTrieWithOptions, Key: TrieKey>(
+    alloc: Global,
+    items: &[(Key, usize)],
+) -> Result<Option<Refusal>, AllocError>
+    ensures { IfOk result (IsWhyRefused any_order K.kind (keyed Key.key items.now)) }
+{
+    let fronts = sorted_fronts::<K, Key, Global>(alloc, items)?;
+    let sorted = items_at(alloc, items, fronts.as_slice())?;
+    if let Some(place) = first_repeated(sorted.as_slice()) {
+        let error = ZeroTrieBuildError::DuplicateKey;
+        return Ok(Some(Refusal::between(error, fronts[place].index, fronts[place + 1].index)));
+    }
+    if let Some(refusal) = foreign::<K, Key>(items) {
+        return Ok(Some(refusal));
+    }
+    match first_mixed::<K>(sorted.as_slice()) {
+        Some(place) => {
+            let error = ZeroTrieBuildError::MixedCase;
+            Ok(Some(Refusal::between(error, fronts[place].index, fronts[place + 1].index)))
+        }
+        None => Ok(None),
+    }
+}
+
+#[cfg(test)]
+mod tests {
+    use super::*;
+    use crate::testing::same;
+    use std::test::Fail;
+    use zerotrie_core::Ignore;
+
+    const CASE: &str = "begin alike but for the case of a letter: lower-case the keys first";
+
+    /// The sentence, or nothing where no keys show a cause.
+    fn text_of(alloc: Global, answer: Option<Refusal>) -> Result<String, AllocError> {
+        match answer {
+            Some(refusal) => format!(in alloc; "{refusal}"),
+            None => Ok(String::new(alloc)),
+        }
+    }
+
+    #[test]
+    fn keys_of_slices(rt: HostRuntime) -> Result<(), Fail> {
+        let rows: [(&[(&[u8], usize)], &str, &str); 6] = [
+            (&[(b"A", 1), (b"B", 2), (b"bc", 3)], "keys 1 and 2 ", CASE),
+            (
+                &[(b"DAV", 1), (b"DB", 2), (b"Date", 3)],
+                "keys 0 and 2 ",
+                CASE,
+            ),
+            (
+                &[(b"Ac", 1), (b"Ad", 2), (b"Host", 3), (b"ae", 4)],
+                "keys 1 and 3 ",
+                CASE,
+            ),
+            (
+                &[(b"a", 1), (b"b", 2), (b"b", 3)],
+                "key 2 is not above key 1: ",
+                "sort the keys by their bytes, each once",
+            ),
+            (
+                &[(b"a", 1), (b"\xC3", 2)],
+                "key 1 is not ASCII: ",
+                "take a kind of trie for keys of any bytes",
+            ),
+            (&[(b"A", 1), (b"b", 2)], "", ""),
+        ];
+        for (items, keys, rest) in rows {
+            let answer = text_of(rt.alloc(), why_slice_refused::<Ignore, _>(items))?;
+            same(
+                &rt,
+                answer.as_str(),
+                format!(in rt.alloc(); "{keys}{rest}")?.as_str(),
+            );
+        }
+        Ok(())
+    }
+
+    #[test]
+    fn keys_of_iterators(rt: HostRuntime) -> Result<(), Fail> {
+        let rows: [(&[(&[u8], usize)], &str, &str); 4] = [
+            (
+                &[(b"to", 1), (b"in", 2), (b"to", 3)],
+                "keys 0 and 2 are the same: ",
+                "give each key once",
+            ),
+            (
+                &[(b"b", 1), (b"Date", 2), (b"a", 3), (b"DAV", 4)],
+                "keys 1 and 3 ",
+                CASE,
+            ),
+            (
+                &[(b"b", 1), (b"\xC3", 2), (b"a", 3)],
+                "key 1 is not ASCII: ",
+                "take a kind of trie for keys of any bytes",
+            ),
+            (&[(b"b", 1), (b"A", 2)], "", ""),
+        ];
+        for (items, keys, rest) in rows {
+            let answer = text_of(
+                rt.alloc(),
+                why_iter_refused::<Ignore, _>(rt.alloc(), items)?,
+            )?;
+            same(
+                &rt,
+                answer.as_str(),
+                format!(in rt.alloc(); "{keys}{rest}")?.as_str(),
+            );
+        }
+        Ok(())
+    }
+}
