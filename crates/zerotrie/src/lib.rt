@@ -1,30 +1,33 @@
 //! Maps from byte strings to numbers, as flat lists of bytes that are read where they lie.
 //!
 //! ```
-//! use zerotrie::{ZeroTrieBuildError, ZeroTrieSimpleAscii};
+//! use zerotrie::ZeroTrieSimpleAscii;
 //!
-//! fn main(rt: HostRuntime) -> Result<(), ZeroTrieBuildError> {
+//! fn main(rt: HostRuntime) -> anyhow::Result<()> {
 //!     let pairs = [("foo", 1), ("bar", 2), ("bazzoo", 3)];
 //!     let trie = ZeroTrieSimpleAscii::try_from_iter(rt.alloc(), pairs)?;
-//!     assert_eq!(rt; trie.get(b"bar"), Some(2));
-//!     assert_eq!(rt; trie.get(b"unknown"), None);
-//!     assert_eq!(rt; trie.byte_len(), 17);
+//!     println!(rt; "{:?}", trie.get(b"bar"))?;        // Some(2)
+//!     println!(rt; "{:?}", trie.get(b"unknown"))?;    // None
+//!     println!(rt; "{}", trie.byte_len())?;           // 17
 //!
 //!     // The bytes are the whole trie: keep them, and read them again where they lie.
 //!     let bytes = trie.into_store();
 //!     let again = ZeroTrieSimpleAscii::from_bytes(bytes.as_slice());
-//!     assert_eq!(rt; again.get(b"bazzoo"), Some(3));
+//!     println!(rt; "{:?}", again.get(b"bazzoo"))?;    // Some(3)
 //!     Ok(())
 //! }
 //! ```
 //!
-//! Each kind of trie has the same calls:
+//! The types, which share builds from pairs, look-ups, tests of bytes, conversions and outer forms:
 //!
 //! - `ZeroTrieSimpleAscii` for ASCII keys,
 //! - `ZeroAsciiIgnoreCaseTrie` for ASCII keys that are found without the case of their letters,
 //! - `ZeroTriePerfectHash` for keys of any bytes,
 //! - `ZeroTrieExtendedCapacity` for keys of any bytes in texts of any length,
 //! - `ZeroTrie`, of a kind that is known when the program runs: any of these but the one without case.
+//!
+//! Only `ZeroTrieSimpleAscii` is built into an array, and of bare bytes or a store `ZeroTrie` is made with its kind
+//! named.
 //!
 //! A look-up takes no memory and copies nothing. In the kinds over ASCII a build answers the one text of the
 //! map, whichever way the pairs came, so tries of one map have equal bytes.

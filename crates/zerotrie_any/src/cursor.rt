@@ -51,7 +51,10 @@ fn turn<K: ZeroTrieWithOptions>(cursor: &mut SpanCursor<'_>, op: &CursorOp) -> C
 /// let bytes = [0x61, 0x85];                           // the key "a" with value 5
 /// let ops = [CursorOp::Step(b'a'), CursorOp::Take, CursorOp::Take, CursorOp::Probe(0)];
 /// let answers = walk::<Simple>(rt.alloc(), &bytes, &ops)?;
-/// // Stepped(Some(b'a')), Taken(Some(5)), Taken(None), Probed(None)
+/// assert_eq!(rt; answers[0], CursorAnswer::Stepped(Some(b'a')));
+/// assert_eq!(rt; answers[1], CursorAnswer::Taken(Some(5)));
+/// assert_eq!(rt; answers[2], CursorAnswer::Taken(None));
+/// assert_eq!(rt; answers[3], CursorAnswer::Probed(None));
 /// ```
 ///
 /// On bytes that mean a map the answers are those of the machine over the map's pairs, in the order in which

@@ -1,12 +1,14 @@
 //! A trie of one of the kinds that keep case, whichever it is.
 
 ghost use Rattle.std.specs.Prelude.{◌≡◌, ◌==◌, ◌↔◌, IsTrue, IfOk, List, ℕ, length, []};
+ghost use Rattle.std.specs.FinMap.{empty};
+ghost use Rattle.std.specs.Option.{is_some};
 ghost use Rattle.std.specs.Iterator.{IsFiniteIterable};
 ghost use Rattle.std.specs.Ordering.{on, eq_of_both};
 ghost use Rattle.std.specs.Cmp.Rules.{comparing};
 ghost use Rattle.std.specs.Cmp.Lexicographic.{pointwise};
 ghost use Rattle.std.proofs.Common.{rules, refl};
-ghost use Rattle.zerotrie_core.specs.Kind.{Kind, tag};
+ghost use Rattle.zerotrie_core.specs.Kind.{Kind, simple_ascii, tag};
 ghost use Rattle.zerotrie_core.specs.Maps.{Map, look};
 ghost use Rattle.zerotrie_core.specs.Texts.{Means};
 ghost use Rattle.zerotrie_core.specs.Items.{pairs_of, keyed};
@@ -19,6 +21,7 @@ use crate::keys::TextKey;
 use crate::routes::{bytes_from_iter, bytes_from_slice, items_of};
 use std::alloc::{AllocError, Global};
 use std::collections::BTreeMap;
+use std::fmt;
 use zerotrie_core::{
     ConvertStore, Ext, Hash, Simple, TrieKey, TrieStore, ZeroTrieBuildError, ZeroTrieWithOptions,
     get_counted,
@@ -67,11 +70,12 @@ impl HasFlavor for Ext {
 /// ```
 ///
 /// Any kind and store of bytes are a trie: nothing is tested and no call panics. On bytes that mean a map of
-/// the kind, as those of every build do, each call answers as that map.
+/// the kind, as those of every build do, each call answers as that map. Its `Debug` text has the kind and the
+/// number of bytes, as `ZeroTrie(SimpleAscii, 18 bytes)`.
 ///
 /// Built from pairs it is of the kind `ZeroTrieSimpleAscii` if all keys are ASCII and there are fewer than
 /// 512, and else of the kind `ZeroTriePerfectHash`.
-#[derive(Debug, Drop)]
+#[derive(Drop)]
 pub struct ZeroTrie<S> {
     /// The kind of the trie.
     pub flavor: ZeroTrieFlavor,
@@ -128,6 +132,33 @@ impl<S: TrieStore> ZeroTrie<S> {
         value
     }
 
+    /// The value of the key that is this text, or `None` where the trie has no such key: `get` of its bytes.
+    ///
+    /// ```
+    /// let trie = ZeroTrie::try_from_iter(rt.alloc(), [("å", 1), ("ø", 2)])?;
+    /// assert_eq!(rt; trie.get_str("ø"), Some(2));
+    /// ```
+    pub fn get_str(&self, key: &str) -> Option<usize>
+        ensures { (m : Map) → Means (flavor_kind self.now.flavor) (S.stored self.now.store) m
+            → result ≡ look (flavor_kind self.now.flavor) m key.now }
+    {
+        self.get(key.as_bytes())
+    }
+
+    /// Whether the trie has the key. It takes no memory.
+    ///
+    /// ```
+    /// let trie = ZeroTrie::of_kind::<Simple>(b"abc\x85".as_slice());
+    /// assert!(rt; trie.contains_key(b"abc"));
+    /// assert!(rt; !trie.contains_key(b"ab"));
+    /// ```
+    pub fn contains_key(&self, key: &[u8]) -> bool
+        ensures { (m : Map) → Means (flavor_kind self.now.flavor) (S.stored self.now.store) m
+            → result ≡ is_some (look (flavor_kind self.now.flavor) m key.now) }
+    {
+        self.get(key).is_some()
+    }
+
     /// Whether there are no bytes, as of a trie with no keys.
     pub fn is_empty(&self) -> bool
         ensures { IsTrue result ↔ (S.stored self.now.store ≡ []) }
@@ -142,15 +173,64 @@ impl<S: TrieStore> ZeroTrie<S> {
         self.store.bytes().len()
     }
 
+    /// The bytes of the trie.
+    pub fn as_bytes(&self) -> &[u8]
+        ensures { result.now ≡ S.stored self.now.store }
+    {
+        self.store.bytes()
+    }
+
     /// The same trie over these bytes where they lie.
-    pub fn as_borrowed_slice(&self) -> ZeroTrie<&[u8]>
+    pub fn as_borrowed(&self) -> ZeroTrie<&[u8]>
         ensures kind { result.flavor ≡ self.now.flavor }
         ensures bytes { result.store.now ≡ S.stored self.now.store }
     {
         ZeroTrie {
             flavor: self.flavor,
-            store: self.store.bytes(),
+            store: self.as_bytes(),
         }
+    }
+
+    /// The same trie over these bytes where they lie, as `as_borrowed`.
+    pub fn as_borrowed_slice(&self) -> ZeroTrie<&[u8]>
+        ensures kind { result.flavor ≡ self.now.flavor }
+        ensures bytes { result.store.now ≡ S.stored self.now.store }
+    {
+        self.as_borrowed()
+    }
+
+    /// The same trie over a copy of its bytes.
+    ///
+    /// ```
+    /// let trie = ZeroTrie::of_kind::<Hash>(b"abc\x85".as_slice());
+    /// assert_eq!(rt; trie.to_owned(rt.alloc())?.get(b"abc"), Some(5));
+    /// ```
+    ///
+    /// The only error is want of memory.
+    pub fn to_owned(&self, alloc: Global) -> Result<ZeroTrie<Vec<u8>>, AllocError>
+        ensures kind { IfOk result (λ trie. trie.flavor ≡ self.now.flavor) }
+        ensures bytes { IfOk result (λ trie. trie.store.items ≡ S.stored self.now.store) }
+    {
+        let store = Vec::from_slice(alloc, self.as_bytes())?;
+        Ok(ZeroTrie {
+            flavor: self.flavor,
+            store,
+        })
+    }
+}
+
+impl<'a> ZeroTrie<&'a [u8]> {
+    /// The trie with no keys, of the kind that a build of no pairs has. It takes no memory.
+    ///
+    /// ```
+    /// assert_eq!(rt; ZeroTrie::empty().get(b""), None);
+    /// ```
+    pub fn empty() -> Self
+        ensures kind { flavor_kind result.flavor ≡ simple_ascii }
+        ensures bytes { result.store.now ≡ [] }
+        ensures map { Means simple_ascii result.store.now empty }
+    {
+        ZeroTrie::of_kind::<Simple>(&[])
     }
 }
 
@@ -295,6 +375,21 @@ impl<S: Copy> Clone for ZeroTrie<S> {
 }
 
 impl<S: Copy> Copy for ZeroTrie<S> {}
+
+/// The kind and the number of bytes, as `ZeroTrie(SimpleAscii, 18 bytes)`.
+impl<S: TrieStore> fmt::Debug for ZeroTrie<S> {
+    fn fmt<W: fmt::Write>(&self, f: &mut fmt::Formatter<W>) -> fmt::Result {
+        write!(f, "ZeroTrie({:?}, {} bytes)", self.flavor, self.byte_len())
+    }
+}
+
+impl<'a> Default for ZeroTrie<&'a [u8]> {
+    ghost is_default = { λ t. (flavor_kind t.flavor ≡ simple_ascii) × (t.store.now ≡ []) };
+
+    fn default() -> Self {
+        ZeroTrie::empty()
+    }
+}
 
 impl<S: TrieStore> PartialEq for ZeroTrie<S> {
     ghost eq = { eq_of_both (on (λ x. tag (flavor_kind x.flavor)) ◌==◌) (on (λ x. S.stored x.store) (pointwise ◌==◌)) };

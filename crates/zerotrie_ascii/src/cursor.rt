@@ -217,6 +217,8 @@ impl<K: AsciiKind, S: TrieStore> AsciiTrie<K, S> {
     /// or `None` where the closure fails.
     ///
     /// ```
+    /// use std::fmt::Write;
+    ///
     /// let trie = ZeroTrieSimpleAscii::from_bytes(b"abc\x85");
     /// assert_eq!(rt; trie.get_with_write_fn(|cursor| write!(cursor, "a{}", "bc")), Some(5));
     /// ```

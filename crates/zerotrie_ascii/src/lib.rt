@@ -8,6 +8,7 @@ mod cursor;
 mod listed;
 mod options;
 mod outer;
+mod prefixes;
 
 pub use ascii_trie::{AsciiTrie, ZeroAsciiIgnoreCaseTrie, ZeroTrieSimpleAscii};
 pub use cursor::{AsciiCursor, ZeroAsciiIgnoreCaseTrieCursor, ZeroTrieSimpleAsciiCursor};

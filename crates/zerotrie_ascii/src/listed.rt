@@ -1,20 +1,24 @@
 //! The pairs of a trie over ASCII keys, whose keys are text.
 
-ghost use Rattle.std.specs.Prelude.{◌≡◌, ◌≤◌, length};
+ghost use Rattle.std.specs.Prelude.{◌≡◌, ◌≤◌, IfErr, IfOk, length};
+ghost use Rattle.std.specs.FinMap.{len};
 ghost use Rattle.std.specs.Iterator.{at_most};
+ghost use Rattle.std.specs.Option.{option_map};
 ghost use Rattle.std.specs.String.{string_bytes};
-ghost use Rattle.zerotrie_core.specs.Maps.{Map, Pairs};
+ghost use Rattle.zerotrie_core.specs.Maps.{Map, Pairs, beginning};
 ghost use Rattle.zerotrie_core.specs.Texts.{Lists, Means};
 ghost use Rattle.zerotrie_core.specs.Listings.{to_come, turns_left, ListsOne};
-ghost use Rattle.zerotrie_any.specs.Listed.{IsListed};
+ghost use Rattle.zerotrie_core.specs.declared.listing.ListError.TheVariants.{OutOfMemory};
+ghost use Rattle.zerotrie_any.specs.Listed.{IsListed, first_key_of};
 ghost use Rattle.zerotrie_ascii.specs.ListedTexts.{AreTexts, TextError};
 
 use crate::ascii_trie::AsciiTrie;
 use crate::options::AsciiKind;
-use std::alloc::Global;
+use std::alloc::{AllocError, Global};
 use std::collections::BTreeMap;
 use std::marker::Model;
-use zerotrie_core::{ListError, TrieStore, ZeroTrieIterator};
+use zerotrie_any::first_key_of;
+use zerotrie_core::{ListError, TrieStore, ZeroTrieIterator, count_pairs};
 
 /// The pairs of a trie over ASCII keys, one after another: a value comes before what follows it, and the
 /// targets of a branch come in the order of its table. So the keys ascend by their bytes, or in the kind
@@ -23,7 +27,7 @@ use zerotrie_core::{ListError, TrieStore, ZeroTrieIterator};
 /// An item is a key with its value, or `ListError::OutOfMemory` where a growth was refused. On bytes that mean
 /// no map it may be `ListError::NotText`, where a key is no text. After an error, and after the end, nothing
 /// more comes.
-#[derive(Drop)]
+#[derive(Debug, Drop)]
 pub struct ZeroTrieStringIterator<'a> {
     inner: ZeroTrieIterator<'a>,
     ended: bool,
@@ -72,8 +76,9 @@ impl<K: AsciiKind, S: TrieStore> AsciiTrie<K, S> {
     ///
     /// ```
     /// let trie = ZeroTrieSimpleAscii::try_from_iter(rt.alloc(), [("xyz", 22), ("abc", 11)])?;
-    /// for item in trie.iter(rt.alloc()) {
-    ///     let (key, value) = item?;       // ("abc", 11), then ("xyz", 22)
+    /// for (item, pair) in trie.iter(rt.alloc()).zip([("abc", 11), ("xyz", 22)]) {
+    ///     let (key, value) = item?;
+    ///     assert_eq!(rt; (key.as_str(), value), pair);
     /// }
     /// ```
     ///
@@ -88,6 +93,65 @@ impl<K: AsciiKind, S: TrieStore> AsciiTrie<K, S> {
             inner: ZeroTrieIterator::new::<K>(alloc, self.as_bytes()),
             ended: false,
         }
+    }
+
+    /// The pairs whose keys begin with a prefix, as `iter` lists them: each with its whole key.
+    ///
+    /// ```
+    /// let trie = ZeroTrieSimpleAscii::try_from_iter(rt.alloc(), [("xyz", 22), ("abc", 11)])?;
+    /// let mut pairs = trie.iter_prefix(rt.alloc(), b"ab")?;
+    /// let (key, value) = pairs.next().ok_or("no key")??;
+    /// assert_eq!(rt; (key.as_str(), value), ("abc", 11));
+    /// assert!(rt; pairs.next().is_none());
+    /// ```
+    ///
+    /// It goes down to the prefix and reads no other part of the trie. The only error is that it is out of memory.
+    pub fn iter_prefix(
+        &self,
+        alloc: Global,
+        prefix: &[u8],
+    ) -> Result<ZeroTrieStringIterator<'_>, AllocError>
+        ensures lists { IfOk result (λ it. (pairs : Pairs) → Lists K.kind (S.stored self.now.store) pairs
+            → it ≡ to_come (beginning K.kind prefix.now pairs)) }
+        ensures texts { (pairs : Pairs) → Lists K.kind (S.stored self.now.store) pairs
+            → AreTexts (beginning K.kind prefix.now pairs) }
+    {
+        Ok(ZeroTrieStringIterator {
+            inner: ZeroTrieIterator::with_prefix::<K>(alloc, self.as_bytes(), prefix)?,
+            ended: false,
+        })
+    }
+
+    /// How many keys the trie has. It goes over the bytes once and takes no memory.
+    ///
+    /// ```
+    /// let trie = ZeroTrieSimpleAscii::try_from_iter(rt.alloc(), [("xyz", 22), ("abc", 11)])?;
+    /// assert_eq!(rt; trie.count(), 2);
+    /// ```
+    ///
+    /// On bytes that mean no map it gives some number.
+    pub fn count(&self) -> usize
+        ensures map { (m : Map) → Means K.kind (S.stored self.now.store) m → result ≡ len m }
+        ensures most { result ≤ length (S.stored self.now.store) }
+    {
+        count_pairs::<K>(self.as_bytes())
+    }
+
+    /// The first key in the order of `iter` that has this value, or `None` where no key has it.
+    ///
+    /// ```
+    /// let trie = ZeroTrieSimpleAscii::try_from_iter(rt.alloc(), [("xyz", 22), ("abc", 11)])?;
+    /// let key = trie.first_key_of(rt.alloc(), 22)?.ok_or("no key")?;
+    /// assert_eq!(rt; key.as_slice(), b"xyz".as_slice());
+    /// ```
+    ///
+    /// The only error is `OutOfMemory`.
+    pub fn first_key_of(&self, alloc: Global, value: usize) -> Result<Option<Vec<u8>>, ListError>
+        ensures first { (pairs : Pairs) → Lists K.kind (S.stored self.now.store) pairs
+            → IfOk result (λ key. option_map (λ k. k.items) key ≡ first_key_of value pairs) }
+        ensures refused { IfErr result (λ e. e ≡ OutOfMemory) }
+    {
+        first_key_of::<K>(alloc, self.as_bytes(), value)
     }
 
     /// The map that the trie is of, in the order of the keys' bytes.

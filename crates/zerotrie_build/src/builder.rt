@@ -212,7 +212,7 @@ fn len_slice<A: Allocator + Copy>(
 /// ```
 /// let items = [("ad", 22), ("adef", 33)];
 /// let items = ByteSliceWithIndices::from_str_slice(&items);
-/// assert_eq!(rt; encoded_len(rt.alloc(), items, ZeroTrieBuilderOptions::of::<Simple>())?, 7);
+/// assert_eq!(rt; encoded_len(rt.alloc(), items, ZeroTrieBuilderOptions::of::<Simple>())?, 8);
 /// ```
 ///
 /// It is refused with `Unsorted`, `NonAsciiError`, `MixedCase`, `CapacityExceeded` or `OutOfMemory`, each for

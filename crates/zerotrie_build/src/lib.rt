@@ -1,4 +1,6 @@
-//! The builder of a trie's bytes, which measures them first and then writes them from the first to the last.
+//! The builders of a trie's bytes. `ZeroTrieBuilder` measures them first, which `encoded_len` does alone, and then
+//! writes them from the first to the last into a store that grows once. `ZeroTrieBuilderConst` and `fill_from_end`
+//! take no memory: they write them from the last to the first into an array or a buffer.
 #![tactic(auto)]
 
 mod builder;

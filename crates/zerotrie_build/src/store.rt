@@ -12,10 +12,10 @@ use std::collections::VecDeque;
 /// A list of bytes that grows at its front.
 ///
 /// ```
-/// let mut store: VecDeque<u8> = TrieBuilderStore::atbs_new_empty(alloc);
+/// let mut store: VecDeque<u8> = TrieBuilderStore::atbs_new_empty(rt.alloc());
 /// store.atbs_extend_front(b"bc")?;
 /// store.atbs_push_front(b'a')?;
-/// assert_eq!(store.atbs_to_bytes(alloc)?.as_slice(), b"abc");
+/// assert_eq!(rt; store.atbs_to_bytes(rt.alloc())?.as_slice(), b"abc".as_slice());
 /// ```
 ///
 /// Each call that grows is refused for want of memory alone, and the list is then as it was.
@@ -63,8 +63,10 @@ pub trait TrieBuilderStore: Sized {
     /// of number `order[0]` comes first. What lies behind the ranges stays.
     ///
     /// ```
-    /// // ab|cdefg|hijklmn-- turns into ab|hijklmn|cdefg--
+    /// let mut store: VecDeque<u8> = TrieBuilderStore::atbs_new_empty(rt.alloc());
+    /// store.atbs_extend_front(b"abcdefghijklmn--")?;
     /// store.atbs_permute_front(&[2, 5, 7], &[0, 2, 1])?;
+    /// assert_eq!(rt; store.atbs_to_bytes(rt.alloc())?.as_slice(), b"abhijklmncdefg--".as_slice());
     /// ```
     fn atbs_permute_front(&mut self, lengths: &[usize], order: &[usize]) -> Result<(), AllocError>
         requires fit { total lengths.now ≤ length (list self.old) }

@@ -9,6 +9,7 @@ mod konst;
 mod listing;
 mod numbers;
 mod plain;
+mod prefixes;
 mod reader;
 mod span_cursor;
 mod stores;

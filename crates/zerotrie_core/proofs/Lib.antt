@@ -13,8 +13,10 @@ mod EachLemmas
 mod GoingLemmas
 mod LaneLemmas
 mod PlaceLemmas
+mod PrefixLemmas
 mod ReaderLemmas
 mod LiteralLemmas
+mod LongestLemmas
 mod CursorLemmas
 mod CaseLemmas
 mod MapLemmas
@@ -25,6 +27,7 @@ mod EdgeLemmas
 mod OrderedLemmas
 mod SameLemmas
 mod FrontLemmas
+mod FrontsLemmas
 mod CanonLaws
 mod SizeLemmas
 mod EncodeLaws
@@ -53,3 +56,4 @@ mod SoundLemmas
 mod BehindLemmas
 mod TestLemmas
 mod StackLemmas
+mod CountLemmas

@@ -1,6 +1,6 @@
 -- The map of listed pairs, put in one after another.
-use Rattle.std.proofs.Common.{◌≡◌, ℕ, List, [], ◌∷◌, refl, sym, ◌∙◌, ap, subst, arith, zero, suc, Bool, true, false, cond, Option, Some, None, Ordering, Less, Equal, Greater}
-use Rattle.std.specs.FinMap.{entries, insert, get, put, find, entries-insert, get-insert, get-empty, get-from_entries, same_map, slice_cmp-IsAntisymmetric, nat_cmp-IsAntisymmetric, len-entries, len-empty}
+use Rattle.std.proofs.Common.{◌≡◌, ℕ, List, [], ◌∷◌, length, refl, sym, ◌∙◌, ap, subst, arith, zero, suc, Bool, true, false, cond, Option, Some, None, Ordering, Less, Equal, Greater}
+use Rattle.std.specs.FinMap.{entries, insert, get, put, find, entries-insert, get-insert, get-empty, get-from_entries, same_map, slice_cmp-IsAntisymmetric, nat_cmp-IsAntisymmetric, len, len-entries, len-empty, len-insert}
 use Rattle.std.specs.Ordering.{nat_cmp, eq_by_cmp, is_eq}
 use Rattle.std.specs.Cmp.Lexicographic.{slice_cmp, nat_list_cmp_total}
 use Rattle.std.specs.List.{AllByRecursion}
@@ -81,6 +81,17 @@ listed_entries {kind = kind} {pairs = pairs} text =
     ∙ first_alone (find (slice_cmp nat_cmp) q pairs) (get (map_of []) q) (get-empty (slice_cmp nat_cmp) q)
     ∙ sym (get-from_entries nat_list_cmp_total pairs q)) in
     ap (put_all pairs) (sym none) ∙ put_all-entries pairs (map_of []) ∙ ap entries same
+
+-- a map of pairs whose keys are apart has as many
+apart_len : (kind : Kind) (pairs : Pairs) → Apart kind pairs → len (map_of pairs) ≡ length pairs
+apart_len kind [] apart = len-empty (slice_cmp nat_cmp) ℕ
+apart_len kind (e ∷ pairs) apart =
+    let none : get (map_of pairs) e.0 ≡ None = get-from_entries nat_list_cmp_total pairs e.0 ∙ absent kind e.0 pairs apart.0 in
+    len-insert nat_list_cmp_total (map_of pairs) e.0 e.1 ∙ rw none (omega (arith, apart_len kind pairs apart.1))
+
+-- the map that bytes mean has as many keys as a text lists pairs
+pub meant_len : {kind : Kind} {bytes : List ℕ} {m : Map} (means : Means kind bytes m) → len m ≡ length means.pairs
+meant_len {kind = kind} means = ap len means.is ∙ apart_len kind means.pairs (lists_apart means.lists)
 
 -- and those of the map that the bytes mean
 pub meant_entries : {kind : Kind} {bytes : List ℕ} {m : Map} (means : Means kind bytes m) → put_all means.pairs [] ≡ entries m

@@ -75,7 +75,7 @@ body_of {targets = targets} b = b.table ++ (blocks (b.width + 1) (offsets target
 pub head_begins : {kind : Kind} {edges : List ℕ} {targets : List (List ℕ)} {bytes : List ℕ} (b : IsBranch kind edges targets bytes) → BeginsWith 32 3 (256 * b.width + length edges % 256) bytes (body_of b)
 head_begins b = record { spelling = b.head; spells = b.is_head; bytes_are = b.bytes_are }
 
-body_long : {kind : Kind} {edges : List ℕ} {targets : List (List ℕ)} {bytes : List ℕ} (b : IsBranch kind edges targets bytes) → table_size kind (length edges) + (b.width + 1) * (length edges - 1) ≤ length (body_of b)
+pub body_long : {kind : Kind} {edges : List ℕ} {targets : List (List ℕ)} {bytes : List ℕ} (b : IsBranch kind edges targets bytes) → table_size kind (length edges) + (b.width + 1) * (length edges - 1) ≤ length (body_of b)
 body_long {kind = kind} {edges = edges} {targets = targets} b =
     let table = length-table b.is_table in
     let all = length-append b.table (blocks (b.width + 1) (offsets targets) ++ concat targets) in
@@ -87,7 +87,7 @@ pub width_is : (w x n e : ℕ) → 1 ≤ w → 2 ≤ e → e ≤ 256 → 2 ≤ n
 width_is w x n e some two most two' most' is = (omega arith, omega arith)
 
 -- from the edges on, the table is in front of the offsets
-from_edges : (kind : Kind) (n : ℕ) (edges table more : List ℕ) → IsTable kind edges table → length edges ≡ n → drop (before_edges kind n) (table ++ more) ≡ edges ++ more
+pub from_edges : (kind : Kind) (n : ℕ) (edges table more : List ℕ) → IsTable kind edges table → length edges ≡ n → drop (before_edges kind n) (table ++ more) ≡ edges ++ more
 from_edges kind n edges table more is count =
     let within = before_within is in
     ap (λ k. drop (before_edges kind k) (table ++ more)) (sym count)

@@ -7,6 +7,7 @@ pub mod Texts
 pub mod Nodes
 pub mod Shapes
 pub mod Cursors
+pub mod Prefixes
 pub mod Machine
 pub mod Places
 pub mod Canonical
@@ -22,6 +23,7 @@ pub mod reader
 pub mod Listings
 pub mod listing
 pub mod cursor
+pub mod count
 pub mod Laws
 pub mod CursorLaws
 pub mod WellFormed

@@ -41,11 +41,13 @@ fn first_value(bytes: &[u8]) -> Option<(usize, &[u8])>
 
 /// Goes along the edge that is the byte to the kind, and answers its byte.
 ///
-/// ```text
+/// ```
 /// let mut trie = &[0x61, 0x42, 0x85][..];      // the key "aB" with value 5
-/// step::<Ignore>(&mut trie, b'A')             // Some(b'a')
-/// step::<Ignore>(&mut trie, b'b')             // Some(b'B'), and the value is left
-/// step::<Ignore>(&mut trie, b'c')             // None, and no byte is left
+/// assert_eq!(rt; step::<Ignore>(&mut trie, b'A'), Some(b'a'));
+/// assert_eq!(rt; step::<Ignore>(&mut trie, b'b'), Some(b'B'));
+/// assert_eq!(rt; trie, [0x85].as_slice());
+/// assert_eq!(rt; step::<Ignore>(&mut trie, b'c'), None);
+/// assert!(rt; trie.is_empty());
 /// ```
 ///
 /// A value is passed over. Where no edge is the byte, the answer is `None`, and no byte is left. In `Ignore`
@@ -74,10 +76,11 @@ pub fn step<K: ZeroTrieWithOptions>(bytes: &mut &[u8], byte: u8) -> Option<u8>
 /// Takes the value of the empty key off the front of the bytes of a trie of any kind. `None` where there is
 /// none, and then nothing changes.
 ///
-/// ```text
+/// ```
 /// let mut trie = &[0x85, 0x61, 0x86][..];      // the keys "" and "a" with values 5 and 6
-/// take_value(&mut trie)                       // Some(5), and 61 86 are left
-/// take_value(&mut trie)                       // None
+/// assert_eq!(rt; take_value(&mut trie), Some(5));
+/// assert_eq!(rt; trie, [0x61, 0x86].as_slice());
+/// assert_eq!(rt; take_value(&mut trie), None);
 /// ```
 ///
 /// It returns on any bytes, and takes no memory.
@@ -97,10 +100,12 @@ pub fn take_value(bytes: &mut &[u8]) -> Option<usize>
 
 /// Goes along the edge of this number, and answers its byte and how many edges there are.
 ///
-/// ```text
+/// ```
 /// let mut trie = &[0xC2, 0x61, 0x62, 0x01, 0x85, 0x86][..];    // "a" and "b" with values 5 and 6
-/// probe::<Simple>(&mut trie, 1)               // Some(AsciiProbeResult { byte: b'b', total_siblings: 2 })
-/// probe::<Simple>(&mut trie, 1)               // None, and no byte is left
+/// let edge = AsciiProbeResult { byte: b'b', total_siblings: 2 };
+/// assert_eq!(rt; probe::<Simple>(&mut trie, 1), Some(edge));
+/// assert_eq!(rt; probe::<Simple>(&mut trie, 1), None);
+/// assert!(rt; trie.is_empty());
 /// ```
 ///
 /// A value is passed over. The edges of a branch are numbered as they stand, and a literal is one edge.

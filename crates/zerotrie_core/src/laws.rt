@@ -48,7 +48,7 @@ pub fn length_is_size()
     ensures { (kind : Kind) → LengthIsSize kind }
 {}
 
-/// A look-up of a key of n bytes reads at most 2n + 1 nodes.
+/// On bytes that mean a map a look-up of a key of n bytes reads at most 2n + 1 nodes.
 pub fn few_nodes()
     ensures { FewNodes }
 {}

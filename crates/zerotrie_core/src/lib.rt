@@ -1,7 +1,9 @@
-//! Tries as flat lists of bytes: numbers, the grammar, look-up and the plain encoder.
+//! Tries as flat lists of bytes, and what reads them where they lie: look-ups, listings, cursors and the test of bytes.
+//! Besides the numbers that the bytes have, the kinds with their options, the plain encoder, and the laws of the format.
 #![tactic(auto)]
 
 mod branch;
+mod count;
 mod cursor;
 mod edges;
 mod lanes;
@@ -10,17 +12,22 @@ mod listing;
 mod node;
 mod options;
 mod plain;
+mod prefixes;
 mod reader;
 mod span_cursor;
+mod stream;
 mod varint;
 mod well_formed;
 
+pub use count::count_pairs;
 pub use cursor::{AsciiProbeResult, probe, step, take_value};
-pub use listing::{ListError, Listing, ZeroTrieIterator};
+pub use listing::{ListError, ZeroTrieIterator};
 pub use options::{Ext, Hash, Ignore, Simple, ZeroTrieBuilderOptions, ZeroTrieWithOptions};
 pub use plain::plain_encode;
+pub use prefixes::{CommonPrefixes, longest_prefix};
 pub use reader::get_counted;
 pub use span_cursor::{ByteProbeResult, SpanCursor};
+pub use stream::ZeroTrieStream;
 pub use varint::{read_varint_meta2, read_varint_meta3, write_varint_meta2, write_varint_meta3};
 pub use well_formed::{is_well_formed, is_well_formed_counted};
 pub use zerotrie_base::{

@@ -182,7 +182,7 @@ impl ZeroTrieWithOptions for Ext {
 ///
 /// ```
 /// let options = ZeroTrieBuilderOptions::of::<Simple>();
-/// assert!(!options.ignore_case());
+/// assert!(rt; !options.ignore_case());
 /// ```
 #[derive(Clone, Copy, Debug, PartialEq, Eq)]
 pub struct ZeroTrieBuilderOptions {

@@ -195,15 +195,15 @@ fn descend<'a, K: ZeroTrieWithOptions>(node: Node<'a>, key: &'a [u8]) -> Descent
 
 /// The value of a key, and how many nodes the look-up read.
 ///
-/// ```text
+/// ```
 /// let bytes = [0x61, 0x85];               // the key "a" with value 5
-/// get_counted::<Simple>(&bytes, b"a")     // (Some(5), 2)
-/// get_counted::<Simple>(&bytes, b"A")     // (None, 1)
-/// get_counted::<Ignore>(&bytes, b"A")     // (Some(5), 2)
-/// get_counted::<Ignore>(&bytes, b"b")     // (None, 1)
+/// assert_eq!(rt; get_counted::<Simple>(&bytes, b"a"), (Some(5), 2));
+/// assert_eq!(rt; get_counted::<Simple>(&bytes, b"A"), (None, 1));
+/// assert_eq!(rt; get_counted::<Ignore>(&bytes, b"A"), (Some(5), 2));
+/// assert_eq!(rt; get_counted::<Ignore>(&bytes, b"b"), (None, 1));
 ///
 /// let bytes = [0xA2, 0xC3, 0xA9, 0x85];   // the key "é" with value 5
-/// get_counted::<Hash>(&bytes, "é".as_bytes())     // (Some(5), 2)
+/// assert_eq!(rt; get_counted::<Hash>(&bytes, "é".as_bytes()), (Some(5), 2));
 /// ```
 ///
 /// In `Ignore` an ASCII letter of the key matches in either case. Every other byte, and in the other kinds
@@ -211,7 +211,8 @@ fn descend<'a, K: ZeroTrieWithOptions>(node: Node<'a>, key: &'a [u8]) -> Descent
 /// of a branch of 16 edges or more by a perfect hash.
 ///
 /// It returns on any bytes, and takes no memory. On bytes that mean a map the first part is the key's value
-/// in that map. A key of n bytes makes it read at most 2n + 1 nodes.
+/// in that map, and the second is at most 2n + 1 for a key of n bytes. On other bytes it may be more: in
+/// `[0x80, 0x80, 0x80, 0x80]`, four values one after another, it is 4 for the key "a".
 pub fn get_counted<K: ZeroTrieWithOptions>(bytes: &[u8], key: &[u8]) -> (Option<usize>, usize)
     ensures value { (m : Map) → Means K.kind bytes.now m → result.0 ≡ look K.kind m key.now }
     ensures count { (m : Map) (means : Means K.kind bytes.now m) → result.1 ≡ nodes means.lists key.now }

@@ -39,8 +39,8 @@ fn read_number(latent: u8, start: u8, rest: &[u8]) -> Option<(usize, &[u8])>
 
 /// Reads a number with three bits of metadata, which are ignored: the number, and the bytes behind it.
 ///
-/// ```text
-/// read_varint_meta3(0x10, [0x00, 0x85]) is Some((16, [0x85]))
+/// ```
+/// assert_eq!(rt; read_varint_meta3(0x10, &[0x00, 0x85]), Some((16, [0x85].as_slice())));
 /// ```
 ///
 /// `None` exactly where no front of `start` and `rest` spells a number below 2^64: the bytes end too soon,
@@ -55,8 +55,8 @@ pub fn read_varint_meta3(start: u8, rest: &[u8]) -> Option<(usize, &[u8])>
 
 /// Reads a number with two bits of metadata, which are ignored: the number, and the bytes behind it.
 ///
-/// ```text
-/// read_varint_meta2(0x20, [0x44]) is Some((100, []))
+/// ```
+/// assert_eq!(rt; read_varint_meta2(0x20, &[0x44]), Some((100, [].as_slice())));
 /// ```
 ///
 /// `None` exactly where no front of `start` and `rest` spells a number below 2^64.
@@ -90,8 +90,8 @@ fn write_number(latent: u8, v: usize) -> ArrayVec<u8, 10>
 
 /// The spelling of a number with three bits of metadata, all 0: at most ten bytes.
 ///
-/// ```text
-/// write_varint_meta3(16) is [0x10, 0x00]
+/// ```
+/// assert_eq!(rt; write_varint_meta3(16).as_slice(), [0x10, 0x00].as_slice());
 /// ```
 pub fn write_varint_meta3(v: usize) -> ArrayVec<u8, 10>
     ensures { Spells 16 0 v result.items }
@@ -101,8 +101,8 @@ pub fn write_varint_meta3(v: usize) -> ArrayVec<u8, 10>
 
 /// The spelling of a number with two bits of metadata, both 0: at most ten bytes.
 ///
-/// ```text
-/// write_varint_meta2(500) is [0x23, 0x54]
+/// ```
+/// assert_eq!(rt; write_varint_meta2(500).as_slice(), [0x23, 0x54].as_slice());
 /// ```
 pub fn write_varint_meta2(v: usize) -> ArrayVec<u8, 10>
     ensures { Spells 32 0 v result.items }

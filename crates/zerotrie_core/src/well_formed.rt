@@ -145,10 +145,10 @@ fn go_behind<'a, K: ZeroTrieWithOptions>(branch: Branch<'a>) -> Option<(&'a [u8]
 /// Whether the bytes are a trie of the kind, and how many calls of this test were open at once, this one
 /// counted.
 ///
-/// ```text
-/// is_well_formed_counted::<Simple>(&[0x61, 0x85])                         // (true, 1)
-/// is_well_formed_counted::<Simple>(&[0xC2, 0x61, 0x62, 1, 0x80, 0x81])    // (true, 2)
-/// is_well_formed_counted::<Simple>(&[0x61]).0                             // false
+/// ```
+/// assert_eq!(rt; is_well_formed_counted::<Simple>(&[0x61, 0x85]), (true, 1));
+/// assert_eq!(rt; is_well_formed_counted::<Simple>(&[0xC2, 0x61, 0x62, 1, 0x80, 0x81]), (true, 2));
+/// assert!(rt; !is_well_formed_counted::<Simple>(&[0x61]).0);
 /// ```
 ///
 /// The test calls itself for every target of a branch but the longest, and goes on with that one; of equal ones
@@ -185,10 +185,10 @@ pub fn is_well_formed_counted<K: ZeroTrieWithOptions>(bytes: &[u8]) -> (bool, u3
 
 /// Whether the bytes are a trie of the kind, every rule of the format kept.
 ///
-/// ```text
-/// is_well_formed::<Simple>(&[0x61, 0x85])         // true: the key "a" with value 5
-/// is_well_formed::<Simple>(&[0x61])               // false: nothing follows the key's byte
-/// is_well_formed::<Simple>(&[])                   // true: no keys
+/// ```
+/// assert!(rt; is_well_formed::<Simple>(&[0x61, 0x85]));   // the key "a" with value 5
+/// assert!(rt; !is_well_formed::<Simple>(&[0x61]));        // nothing follows the key's byte
+/// assert!(rt; is_well_formed::<Simple>(&[]));             // no keys
 /// ```
 ///
 /// Yes exactly if the bytes mean some map. It returns on any bytes, and takes no memory.

@@ -1,6 +1,8 @@
 //! The tries over keys of any bytes: one type, of which each kind is an alias.
 
 ghost use Rattle.std.specs.Prelude.{◌≡◌, ◌==◌, ◌↔◌, IsTrue, IfOk, length, []};
+ghost use Rattle.std.specs.FinMap.{empty};
+ghost use Rattle.std.specs.Option.{is_some};
 ghost use Rattle.std.specs.Cmp.{on_equiv, on_per};
 ghost use Rattle.std.specs.Cmp as cmp;
 ghost use Rattle.std.specs.Cmp.Lexicographic.{pointwise, nat_list_eq_equiv};
@@ -8,17 +10,20 @@ ghost use Rattle.std.specs.Iterator.{IsFiniteIterable};
 ghost use Rattle.zerotrie_core.specs.Maps.{Map, look};
 ghost use Rattle.zerotrie_core.specs.Texts.{Means};
 ghost use Rattle.zerotrie_core.specs.Items.{pairs_of, keyed};
-ghost use Rattle.zerotrie_core.specs.Routes.{ascending, in_order, IsBuild, OfAllGiven, IsBuildOfAll};
+ghost use Rattle.zerotrie_core.specs.Routes.{ascending, in_order, IsBuild, IsLength, OfAllGiven, IsBuildOfAll};
 ghost use Rattle.zerotrie_any.specs.Flavors.{flavor_kind};
 ghost use Rattle.zerotrie_any.specs.Order.{IsByBytes};
 
 use crate::options::HashedKind;
 use std::alloc::{AllocError, Global};
 use std::collections::BTreeMap;
+use std::fmt;
 use std::marker::PhantomData;
 use zerotrie_any::{TextKey, ZeroTrie, bytes_from_iter, bytes_from_map, bytes_from_slice};
+use zerotrie_build::{ByteSliceWithIndices, encoded_len};
 use zerotrie_core::{
-    ConvertStore, Ext, Hash, TrieKey, TrieStore, ZeroTrieBuildError, get_counted, laws,
+    ConvertStore, Ext, Hash, TrieKey, TrieStore, ZeroTrieBuildError, ZeroTrieBuilderOptions,
+    get_counted, laws,
 };
 
 /// A map from keys of any bytes to numbers, as a flat list of bytes that is read where it lies. `K` is its
@@ -29,8 +34,9 @@ use zerotrie_core::{
 /// Any store of bytes is a trie: nothing is tested and no call panics. On bytes that mean a map, as those
 /// of every build do, each call answers as that map. A branch of 16 edges or more has a perfect hash, whose
 /// parameters are searched, so a map may have several texts of a kind: tries with equal bytes have equal maps,
-/// and tries of one map may differ in their bytes.
-#[derive(Debug, Drop)]
+/// and tries of one map may differ in their bytes. The `Debug` text has the name of the kind and the number of
+/// bytes, as `ZeroTriePerfectHash(17 bytes)`.
+#[derive(Drop)]
 pub struct HashedTrie<K, S> {
     /// The bytes of the trie.
     pub store: S,
@@ -164,6 +170,32 @@ impl<K: HashedKind, S: TrieStore> HashedTrie<K, S> {
         let (value, _nodes) = get_counted::<K>(self.as_bytes(), key);
         value
     }
+
+    /// The value of the key that is this text, or `None` where the trie has no such key: `get` of its bytes.
+    ///
+    /// ```
+    /// let trie = ZeroTriePerfectHash::from_bytes(b"abc\x85");
+    /// assert_eq!(rt; trie.get_str("abc"), Some(5));
+    /// ```
+    pub fn get_str(&self, key: &str) -> Option<usize>
+        ensures { (m : Map) → Means K.kind (S.stored self.now.store) m → result ≡ look K.kind m key.now }
+    {
+        self.get(key.as_bytes())
+    }
+
+    /// Whether the trie has the key. It takes no memory.
+    ///
+    /// ```
+    /// let trie = ZeroTriePerfectHash::from_bytes(b"abc\x85");
+    /// assert!(rt; trie.contains_key(b"abc"));
+    /// assert!(rt; !trie.contains_key(b"ab"));
+    /// ```
+    pub fn contains_key(&self, key: &[u8]) -> bool
+        ensures { (m : Map) → Means K.kind (S.stored self.now.store) m
+            → result ≡ is_some (look K.kind m key.now) }
+    {
+        self.get(key).is_some()
+    }
 }
 
 impl<'a, K> HashedTrie<K, &'a [u8]> {
@@ -180,7 +212,54 @@ impl<'a, K> HashedTrie<K, &'a [u8]> {
     }
 }
 
+impl<'a, K: HashedKind> HashedTrie<K, &'a [u8]> {
+    /// The trie with no keys. It takes no memory.
+    ///
+    /// ```
+    /// assert_eq!(rt; ZeroTriePerfectHash::empty().get(b""), None);
+    /// ```
+    pub fn empty() -> Self
+        ensures bytes { result.store.now ≡ [] }
+        ensures map { Means K.kind result.store.now empty }
+    {
+        HashedTrie::from_bytes(&[])
+    }
+}
+
 impl<K: HashedKind> HashedTrie<K, Vec<u8>> {
+    /// How many bytes the trie of a slice has, whose keys ascend strictly by their bytes. It
+    /// builds none of them.
+    ///
+    /// ```
+    /// let items: [(&[u8], usize); 2] = [(b"ad", 22), (b"adef", 33)];
+    /// assert_eq!(rt; ZeroTriePerfectHash::encoded_len(rt.alloc(), &items)?, 8);
+    /// ```
+    ///
+    /// It is refused with `Unsorted`, `CapacityExceeded` or `OutOfMemory`, each for the reason that
+    /// `ZeroTrieBuildError` gives, and so just where a build is, but for a hashed table that isn't found.
+    pub fn encoded_len(alloc: Global, items: &[(&[u8], usize)]) -> Result<usize, ZeroTrieBuildError>
+        ensures { IsLength ascending K.kind (pairs_of items.now) result }
+    {
+        let items = ByteSliceWithIndices::from_byte_slice(items);
+        encoded_len(alloc, items, ZeroTrieBuilderOptions::of::<K>())
+    }
+
+    /// How many bytes the trie of a slice has, as `encoded_len`, with keys that are text.
+    ///
+    /// ```
+    /// let items = [("ad", 22), ("adef", 33)];
+    /// assert_eq!(rt; ZeroTriePerfectHash::encoded_len_str(rt.alloc(), &items)?, 8);
+    /// ```
+    pub fn encoded_len_str(
+        alloc: Global,
+        items: &[(&str, usize)],
+    ) -> Result<usize, ZeroTrieBuildError>
+        ensures { IsLength ascending K.kind (pairs_of items.now) result }
+    {
+        let items = ByteSliceWithIndices::from_str_slice(items);
+        encoded_len(alloc, items, ZeroTrieBuilderOptions::of::<K>())
+    }
+
     /// Builds the trie of a map whose keys are text, `&str` or `String`. An empty map gives an empty trie.
     ///
     /// ```
@@ -273,6 +352,26 @@ impl<K, S: Copy> Clone for HashedTrie<K, S> {
 }
 
 impl<K, S: Copy> Copy for HashedTrie<K, S> {}
+
+/// The name of the kind and the number of bytes, as `ZeroTriePerfectHash(17 bytes)`.
+impl<K: HashedKind, S: TrieStore> fmt::Debug for HashedTrie<K, S> {
+    fn fmt<W: fmt::Write>(&self, f: &mut fmt::Formatter<W>) -> fmt::Result {
+        let name = if K::EXTENDED {
+            "ZeroTrieExtendedCapacity"
+        } else {
+            "ZeroTriePerfectHash"
+        };
+        write!(f, "{name}({} bytes)", self.byte_len())
+    }
+}
+
+impl<'a, K> Default for HashedTrie<K, &'a [u8]> {
+    ghost is_default = { λ t. t.store.now ≡ [] };
+
+    fn default() -> Self {
+        HashedTrie::from_bytes(&[])
+    }
+}
 
 impl<K: HashedKind, S: TrieStore> PartialEq for HashedTrie<K, S> {
     ghost eq = { λ x y. pointwise ◌==◌ (S.stored x.store) (S.stored y.store) };

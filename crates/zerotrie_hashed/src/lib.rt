@@ -7,6 +7,7 @@ mod hashed_trie;
 mod listed;
 mod options;
 mod outer;
+mod prefixes;
 
 pub use cursor::{HashedCursor, ZeroTrieExtendedCapacityCursor, ZeroTriePerfectHashCursor};
 pub use hashed_trie::{HashedTrie, ZeroTrieExtendedCapacity, ZeroTriePerfectHash};

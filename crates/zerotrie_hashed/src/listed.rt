@@ -1,18 +1,20 @@
 //! The pairs of a trie over keys of any bytes.
 
-ghost use Rattle.std.specs.Prelude.{◌≡◌, ◌≤◌, IfErr, length};
+ghost use Rattle.std.specs.Prelude.{◌≡◌, ◌≤◌, IfErr, IfOk, length};
+ghost use Rattle.std.specs.FinMap.{len};
+ghost use Rattle.std.specs.Option.{option_map};
 ghost use Rattle.zerotrie_core.specs.Maps.{Map, Pairs};
 ghost use Rattle.zerotrie_core.specs.Texts.{Lists, Means};
 ghost use Rattle.zerotrie_core.specs.Listings.{to_come};
 ghost use Rattle.zerotrie_core.specs.declared.listing.ListError.TheVariants.{OutOfMemory};
-ghost use Rattle.zerotrie_any.specs.Listed.{IsListed};
+ghost use Rattle.zerotrie_any.specs.Listed.{IsListed, first_key_of};
 
 use crate::hashed_trie::HashedTrie;
 use crate::options::HashedKind;
 use std::alloc::Global;
 use std::collections::BTreeMap;
-use zerotrie_any::map_of;
-use zerotrie_core::{ListError, TrieStore, ZeroTrieIterator};
+use zerotrie_any::{first_key_of, map_of};
+use zerotrie_core::{ListError, TrieStore, ZeroTrieIterator, count_pairs};
 
 impl<K: HashedKind, S: TrieStore> HashedTrie<K, S> {
     /// The pairs of the trie, one after another, in the order of its nodes. It takes no memory before the first
@@ -22,6 +24,7 @@ impl<K: HashedKind, S: TrieStore> HashedTrie<K, S> {
     /// let trie = ZeroTriePerfectHash::try_from_iter(rt.alloc(), [("å", 1), ("ø", 2)])?;
     /// for item in trie.iter(rt.alloc()) {
     ///     let (key, value) = item?;
+    ///     assert_eq!(rt; trie.get(key.as_slice()), Some(value));
     /// }
     /// ```
     ///
@@ -32,6 +35,38 @@ impl<K: HashedKind, S: TrieStore> HashedTrie<K, S> {
         ensures most { length result.pairs ≤ length (S.stored self.now.store) }
     {
         ZeroTrieIterator::new::<K>(alloc, self.as_bytes())
+    }
+
+    /// How many keys the trie has. It goes over the bytes once and takes no memory.
+    ///
+    /// ```
+    /// let trie = ZeroTriePerfectHash::try_from_iter(rt.alloc(), [("xyz", 22), ("abc", 11)])?;
+    /// assert_eq!(rt; trie.count(), 2);
+    /// ```
+    ///
+    /// On bytes that mean no map it gives some number.
+    pub fn count(&self) -> usize
+        ensures map { (m : Map) → Means K.kind (S.stored self.now.store) m → result ≡ len m }
+        ensures most { result ≤ length (S.stored self.now.store) }
+    {
+        count_pairs::<K>(self.as_bytes())
+    }
+
+    /// The first key in the order of `iter` that has this value, or `None` where no key has it.
+    ///
+    /// ```
+    /// let trie = ZeroTriePerfectHash::try_from_iter(rt.alloc(), [("xyz", 22), ("abc", 11)])?;
+    /// let key = trie.first_key_of(rt.alloc(), 22)?.ok_or("no key")?;
+    /// assert_eq!(rt; key.as_slice(), b"xyz".as_slice());
+    /// ```
+    ///
+    /// The only error is `OutOfMemory`.
+    pub fn first_key_of(&self, alloc: Global, value: usize) -> Result<Option<Vec<u8>>, ListError>
+        ensures first { (pairs : Pairs) → Lists K.kind (S.stored self.now.store) pairs
+            → IfOk result (λ key. option_map (λ k. k.items) key ≡ first_key_of value pairs) }
+        ensures refused { IfErr result (λ e. e ≡ OutOfMemory) }
+    {
+        first_key_of::<K>(alloc, self.as_bytes(), value)
     }
 
     /// The map that the trie is of, in the order of the keys' bytes.

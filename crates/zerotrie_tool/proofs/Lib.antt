@@ -1,5 +1,6 @@
 pub mod NumberLemmas
 pub mod LineLemmas
+pub mod BadLineLemmas
 pub mod SessionLemmas
 pub mod HexLemmas
 pub mod RunLemmas

@@ -14,7 +14,6 @@ use Rattle.std.proofs.lemmas.Slice.Eq.{strip_prefix_is}
 use Rattle.std.proofs.lemmas.Bool.Decides.{Decides-eqb}
 use Rattle.std.proofs.lemmas.List.{append-nil, length-drop}
 use Rattle.zerotrie_tool.specs.Numbers.{AreDigits, IsNumber}
-use Rattle.zerotrie_tool.specs.declared.command.Choice.{Choice}
 use Rattle.zerotrie_tool.specs.Commands.{HasKey, IsCommand, Command, choose, add, build, query, list, walk}
 use Rattle.zerotrie_tool.specs.answer.Parsing.{IsWalking}
 
@@ -100,7 +99,7 @@ pub key_alone : (line words rest key : List ℕ) → line ≡ words ++ rest → 
 key_alone line words [] key e h k = inl (e ∙ append-nil words, k)
 key_alone line words (b ∷ rest) key e h k = absurd (omega arith)
 
-same_rest : (words rest more : List ℕ) → words ++ rest ≡ words ++ more → rest ≡ more
+pub same_rest : (words rest more : List ℕ) → words ++ rest ≡ words ++ more → rest ≡ more
 same_rest [] rest more e = e
 same_rest (w ∷ words) rest more e = same_rest words rest more (cc)
 
@@ -115,15 +114,6 @@ other_key line words rest b behind e is other key h = elim h [
 pub no_pair_line : (line : List ℕ) (a b : ℕ) (text word : List ℕ) → line ≡ a ∷ b ∷ text → word ≡ before_first is_space text → ((value : ℕ) → IsNumber word value → ⊥) → (digits key : List ℕ) (value : ℕ) → IsNumber digits value → HasKey (a ∷ b ∷ digits) key line → ⊥
 no_pair_line line a b text word e w none digits key value number h =
     no_pair text word w none digits key value number (HasKey-tail a b digits key text (let P : List ℕ → Type 0 = λ l. HasKey (a ∷ b ∷ digits) key l in subst P e h))
-
--- a line that is none of the commands but a walk
-pub no_command : (line : List ℕ) → ((choice : Choice) → IsCommand line (choose choice) → ⊥) → ((value : ℕ) (key : List ℕ) → IsCommand line (add value key) → ⊥) → (line ≡ codes "build" → ⊥) → (line ≡ codes "list" → ⊥) → ((key : List ℕ) → HasKey (codes "?") key line → ⊥) → (command : Command) → IsCommand line command → IsWalking command
-no_command line no_choice no_add no_build no_list no_query (choose choice) h = absurd (no_choice choice h)
-no_command line no_choice no_add no_build no_list no_query (add value key) h = absurd (no_add value key h)
-no_command line no_choice no_add no_build no_list no_query build h = absurd (no_build h)
-no_command line no_choice no_add no_build no_list no_query (query key) h = absurd (no_query key h)
-no_command line no_choice no_add no_build no_list no_query list h = absurd (no_list h)
-no_command line no_choice no_add no_build no_list no_query (walk ops) h = (ops, refl)
 
 -- two texts with different first bytes
 apart : (line one other : List ℕ) → line ≡ one → line ≡ other → (get_or one 0 0 ≡ get_or other 0 0 → ⊥) → ⊥

@@ -18,10 +18,10 @@ at_digit : (digits : List ℕ) (i : ℕ) → i < length digits → drop i digits
 at_digit digits i h = rw (add-one, drop-cons digits i 0) refl
 
 -- a number that is too large already
-pub too_large : (digits : List ℕ) (i value : ℕ) → ReadTo digits i value → i < length digits → 2 ^ 64 ≤ value * 10 + (get_or digits i 0 - 48) → (v : ℕ) → IsNumber digits v → ⊥
-too_large digits i value r h large v number =
-    let e : number_behind (10 * value + (get_or digits i 0 - 48)) (drop (i + 1) digits) ≡ v = sym (ap (number_behind value) (at_digit digits i h)) ∙ r.is ∙ sym number.is in
-    omega (arith, number_behind-ge (10 * value + (get_or digits i 0 - 48)) (drop (i + 1) digits), number.below)
+pub too_large : (digits : List ℕ) (i value : ℕ) → ReadTo digits i value → i < length digits → 2 ^ 64 ≤ 10 * value + (get_or digits i 0 - 48) → 2 ^ 64 ≤ number_behind 0 digits
+too_large digits i value r h large =
+    let e : number_behind (10 * value + (get_or digits i 0 - 48)) (drop (i + 1) digits) ≡ number_behind 0 digits = sym (ap (number_behind value) (at_digit digits i h)) ∙ r.is in
+    omega (arith, number_behind-ge (10 * value + (get_or digits i 0 - 48)) (drop (i + 1) digits))
 
 pub read_all : (digits : List ℕ) (i value : ℕ) → ReadTo digits i value → length digits ≤ i → 1 ≤ length digits → length digits ≤ 20 → IsNumber digits value
 read_all digits i value r h some few = let none : drop i digits ≡ [] = drop_of_length-le digits h in record {

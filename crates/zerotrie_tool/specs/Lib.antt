@@ -2,6 +2,7 @@ pub mod Lines
 pub mod Numbers
 pub mod Calls
 pub mod Commands
+pub mod BadLines
 pub mod Replies
 pub mod Answers
 pub mod Noted

@@ -1,6 +1,6 @@
 //! The answers to an input.
 
-ghost use Rattle.std.specs.Prelude.{◌≡◌, ◌++◌, ◌∷◌, [], map, OnOk, OnErr, IfOk, string_bytes};
+ghost use Rattle.std.specs.Prelude.{◌≡◌, ◌↔◌, ◌++◌, ◌∷◌, [], map, OnOk, OnErr, IfOk, IsSome, string_bytes};
 ghost use Rattle.zerotrie.specs.Routes.{any_order, IsBuild};
 ghost use Rattle.zerotrie_tool.specs.Lines.{lines_of};
 ghost use Rattle.zerotrie_tool.specs.Commands.{kind_of, build, walk};
@@ -10,24 +10,27 @@ ghost use Rattle.zerotrie_tool.specs.answer.Parsing.{meaning};
 ghost use Rattle.zerotrie_tool.specs.answer.Tries.{trie_bytes};
 ghost use Rattle.zerotrie_tool.specs.answer.Sessions.{Holds, AfterLine, AfterRequest};
 
+use crate::bad_line::BadLine;
 use crate::command::{Choice, Request, parse};
 use crate::reply::{write_bad, write_number, write_ok, write_refused, write_walk};
 use crate::trie::Trie;
 use std::alloc::{AllocError, Global};
 use zerotrie::{CursorOp, ZeroTrieBuildError};
 
-/// What is printed for an input, and the status that the run ends with.
+/// What is printed for an input, the status that the run ends with, and after a bad line its number and what is
+/// bad in it.
 #[derive(Debug, Drop)]
 pub struct Answered {
     pub output: String,
     pub status: u8,
+    pub bad: Option<(usize, BadLine)>,
 }
 
 /// How a line ended.
 enum Outcome {
     Done,
     Refused,
-    Bad,
+    Bad(BadLine),
 }
 
 /// What is held from the first `kind` line on. The pairs are those since the last, in order.
@@ -97,7 +100,7 @@ impl<'a> Session<'a> {
             (string_bytes output.old) (string_bytes output.new)) }
     {
         match self.trie.walk(alloc, ops)? {
-            None => Ok(Outcome::Bad),
+            None => Ok(Outcome::Bad(BadLine::WalkUnderAuto)),
             Some(answers) => {
                 write_walk(output, answers.as_slice())?;
                 Ok(Outcome::Done)
@@ -136,14 +139,15 @@ fn answer_line<'a>(
     ensures { IfOk result (AfterLine line.now held.old held.new
         (string_bytes output.old) (string_bytes output.new)) }
 {
-    let Some(request) = parse(alloc, line)? else {
-        return Ok(Outcome::Bad);
+    let request = match parse(alloc, line)? {
+        Ok(request) => request,
+        Err(bad) => return Ok(Outcome::Bad(bad)),
     };
     if let Some(session) = held {
         return session.answer(alloc, request, output);
     }
     let Request::Kind(choice) = request else {
-        return Ok(Outcome::Bad);
+        return Ok(Outcome::Bad(BadLine::NoKind));
     };
     *held = Some(Session::new(alloc, choice));
     Ok(Outcome::Done)
@@ -157,8 +161,9 @@ fn split_lines(alloc: Global, input: &[u8]) -> Result<Vec<&[u8]>, AllocError>
 
 /// All answers to an input, up to the first bad line.
 pub fn answer_all(alloc: Global, input: &[u8]) -> Result<Answered, AllocError>
-    ensures { IfOk result (λ answered.
+    ensures answers { IfOk result (λ answered.
         Answers input.now (string_bytes answered.output) answered.status) }
+    ensures bad { IfOk result (λ answered. IsSome answered.bad ↔ (answered.status ≡ 2)) }
 {
     let lines = split_lines(alloc, input)?;
     let mut held = None;
@@ -171,11 +176,20 @@ pub fn answer_all(alloc: Global, input: &[u8]) -> Result<Answered, AllocError>
         match answer_line(alloc, &mut held, line, &mut output)? {
             Outcome::Done => {}
             Outcome::Refused => status = 1,
-            Outcome::Bad => {
-                write_bad(&mut output, index + 1)?;
-                return Ok(Answered { output, status: 2 });
+            Outcome::Bad(bad) => {
+                let number = index + 1;
+                write_bad(&mut output, number)?;
+                return Ok(Answered {
+                    output,
+                    status: 2,
+                    bad: Some((number, bad)),
+                });
             }
         }
     }
-    Ok(Answered { output, status })
+    Ok(Answered {
+        output,
+        status,
+        bad: None,
+    })
 }

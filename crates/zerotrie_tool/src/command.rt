@@ -1,14 +1,16 @@
 //! The commands that lines are.
 
-ghost use Rattle.std.specs.Prelude.{◌≡◌, ◌==◌, ℕ, List, map, IfSome, IfNone, IfOk};
+ghost use Rattle.std.specs.Prelude.{◌≡◌, ◌≢◌, ◌==◌, ◌≤◌, ◌+◌, ◌-◌, ◌*◌, ◌^◌, ◌++◌, ℕ, List, map, codes, IfSome, IfNone, IfOk, IfErr, OnErr, IsTrue, ◌↔◌};
 ghost use Rattle.std.specs.List.{before_first, position};
 ghost use Rattle.zerotrie.specs.Machine.{Op};
 ghost use Rattle.zerotrie.specs.Walks.{op_of, ops_of};
 ghost use Rattle.zerotrie_tool.specs.Numbers.{IsNumber};
 ghost use Rattle.zerotrie_tool.specs.Calls.{IsHexDigit, IsHexByte, IsOp, AreOps, words_of};
-ghost use Rattle.zerotrie_tool.specs.Commands.{Command, name_of, choose, add, HasKey, IsCommand};
-ghost use Rattle.zerotrie_tool.specs.answer.Parsing.{meaning, IsWalking};
+ghost use Rattle.zerotrie_tool.specs.Commands.{name_of, add, HasKey, IsCommand};
+ghost use Rattle.zerotrie_tool.specs.BadLines.{IsNoNumber, IsNoPair, IsNoCommand, EndsInReturn, IsBadAs};
+ghost use Rattle.zerotrie_tool.specs.answer.Parsing.{meaning};
 
+use crate::bad_line::BadLine;
 use std::alloc::{AllocError, Global};
 use zerotrie::CursorOp;
 
@@ -38,24 +40,37 @@ pub enum Request<'a> {
     Walk(Vec<CursorOp>),
 }
 
-/// The number that 1 to 20 decimal digits spell.
-fn parse_number(digits: &[u8]) -> Option<usize>
-    ensures some { IfSome result (IsNumber digits.now) }
-    ensures none { IfNone result ((value : ℕ) → IsNumber digits.now value → ⊥) }
+/// The number with one more digit behind it. `None` where it is not below 2^64.
+fn with_digit(value: usize, digit: u8) -> Option<usize>
+    requires { (48 ≤ digit) × (digit ≤ 57) }
+    ensures some { IfSome result (λ more. more ≡ 10 * value + (digit - 48)) }
+    ensures none { IfNone result (2 ^ 64 ≤ 10 * value + (digit - 48)) }
 {
-    if digits.is_empty() || digits.len() > 20 {
-        return None;
+    value.checked_mul(10)?.checked_add((digit - b'0') as usize)
+}
+
+/// The number that 1 to 20 decimal digits spell.
+fn parse_number(digits: &[u8]) -> Result<usize, BadLine>
+    ensures ok { IfOk result (IsNumber digits.now) }
+    ensures err { IfErr result (IsNoNumber digits.now) }
+{
+    if digits.is_empty() {
+        return Err(BadLine::NoValue);
+    }
+    if digits.len() > 20 {
+        return Err(BadLine::TooManyDigits);
     }
     let mut value: usize = 0;
     for digit in digits {
         if !digit.is_ascii_digit() {
-            return None;
+            return Err(BadLine::NoNumber);
         }
-        value = value
-            .checked_mul(10)?
-            .checked_add((*digit - b'0') as usize)?;
+        let Some(more) = with_digit(value, *digit) else {
+            return Err(BadLine::TooLarge);
+        };
+        value = more;
     }
-    Some(value)
+    Ok(value)
 }
 
 fn first_space(text: &[u8]) -> Option<usize>
@@ -126,7 +141,7 @@ fn parse_op(word: &[u8]) -> Option<CursorOp>
         }
         b't' if digits.is_empty() => Some(CursorOp::Take),
         b'p' => {
-            let index = parse_number(digits)?;
+            let index = parse_number(digits).ok()?;
             Some(CursorOp::Probe(index))
         }
         _ => None,
@@ -175,51 +190,72 @@ fn choice_named(name: &[u8]) -> Option<Choice>
     }
 }
 
-fn parse_choice(line: &[u8]) -> Option<Choice>
-    ensures some { IfSome result (λ choice. IsCommand line.now (choose choice)) }
-    ensures none { IfNone result ((choice : Choice) → IsCommand line.now (choose choice) → ⊥) }
+/// The value and the key that stand behind a plus sign.
+fn parse_pair(text: &[u8]) -> Result<(usize, &[u8]), BadLine>
+    ensures ok { IfOk result (λ pair. IsCommand (codes "+ " ++ text.now) (add pair.0 pair.1.now)) }
+    ensures err { IfErr result (IsNoPair (codes "+ " ++ text.now)) }
 {
-    choice_named(line.strip_prefix(b"kind ")?)
-}
-
-fn parse_pair(line: &[u8]) -> Option<(usize, &[u8])>
-    ensures some { IfSome result (λ pair. IsCommand line.now (add pair.0 pair.1.now)) }
-    ensures none { IfNone result ((value : ℕ) (key : List ℕ) → IsCommand line.now (add value key) → ⊥) }
-{
-    let (digits, key) = split_word(line.strip_prefix(b"+ ")?);
+    let (digits, key) = split_word(text);
     let value = parse_number(digits)?;
-    Some((value, key))
+    Ok((value, key))
 }
 
-/// What a line asks for that is no walk; `None` for a line that is no other command.
-fn parse_plain(line: &[u8]) -> Option<Request<'_>>
-    ensures some { IfSome result (λ request. IsCommand line.now (meaning request)) }
-    ensures none { IfNone result ((command : Command) → IsCommand line.now command → IsWalking command) }
+/// What a line asks for that is no walk.
+fn parse_plain(line: &[u8]) -> Result<Request<'_>, BadLine>
+    ensures ok { IfOk result (λ request. IsCommand line.now (meaning request)) }
+    ensures err { IfErr result (λ bad. ((text : List ℕ) → line.now ≢ codes "walk " ++ text)
+        → IsBadAs line.now bad) }
 {
-    if let Some(choice) = parse_choice(line) {
-        Some(Request::Kind(choice))
-    } else if let Some((value, key)) = parse_pair(line) {
-        Some(Request::Add { value, key })
+    if let Some(name) = line.strip_prefix(b"kind ") {
+        match choice_named(name) {
+            Some(choice) => Ok(Request::Kind(choice)),
+            None => Err(BadLine::UnknownKind),
+        }
+    } else if let Some(text) = line.strip_prefix(b"+ ") {
+        let (value, key) = parse_pair(text)?;
+        Ok(Request::Add { value, key })
     } else if line == b"build".as_slice() {
-        Some(Request::Build)
+        Ok(Request::Build)
     } else if line == b"list".as_slice() {
-        Some(Request::List)
+        Ok(Request::List)
+    } else if let Some(key) = key_behind(b"?", line) {
+        Ok(Request::Query(key))
     } else {
-        let key = key_behind(b"?", line)?;
-        Some(Request::Query(key))
+        Err(BadLine::NoCommand)
     }
 }
 
-/// What a line asks for; `None` for a line that is no command.
-pub fn parse(alloc: Global, line: &[u8]) -> Result<Option<Request<'_>>, AllocError>
-    ensures some { IfOk result (λ r. IfSome r (λ request. IsCommand line.now (meaning request))) }
-    ensures none { IfOk result (λ r. IfNone r ((command : Command) → IsCommand line.now command → ⊥)) }
+/// What a line asks for, if it is a command.
+fn parse_line(alloc: Global, line: &[u8]) -> Result<Result<Request<'_>, BadLine>, AllocError>
+    ensures ok { IfOk result (λ r. IfOk r (λ request. IsCommand line.now (meaning request))) }
+    ensures err { IfOk result (λ r. IfErr r (IsBadAs line.now)) }
 {
     match line.strip_prefix(b"walk ") {
         None => Ok(parse_plain(line)),
         Some(text) => match parse_ops(alloc, text)? {
-            None => Ok(None),
-            Some(ops) => Ok(Some(Request::Walk(ops))),
+            None => Ok(Err(BadLine::NoCall)),
+            Some(ops) => Ok(Ok(Request::Walk(ops))),
         },
+    }
+}
+
+/// Whether a carriage return stands at the line's end.
+fn ends_in_return(line: &[u8]) -> bool
+    ensures { IsTrue result ↔ EndsInReturn line.now }
+{
+    line.ends_with(b"\r")
+}
+
+/// What a line asks for, or what is bad in it. That is the carriage return at its end, if it has one.
+pub fn parse(alloc: Global, line: &[u8]) -> Result<Result<Request<'_>, BadLine>, AllocError>
+    ensures ok { IfOk result (λ r. IfOk r (λ request. IsCommand line.now (meaning request))) }
+    ensures none { IfOk result (λ r. OnErr r (IsNoCommand line.now)) }
+    ensures why { IfOk result (λ r. IfErr r (IsBadAs line.now)) }
+    ensures named { IfOk result (λ r. IfErr r (λ bad. EndsInReturn line.now → bad ≡ BadLine.CarriageReturn)) }
+{
+    match parse_line(alloc, line)? {
+        Ok(request) => Ok(Ok(request)),
+        Err(_) if ends_in_return(line) => Ok(Err(BadLine::CarriageReturn)),
+        Err(bad) => Ok(Err(bad)),
     }
 }

@@ -2,6 +2,7 @@
 #![tactic(auto)]
 
 mod answer;
+mod bad_line;
 mod command;
 mod listing;
 mod noted;
@@ -18,7 +19,7 @@ use std::process::ExitCode;
 fn main(rt: HostRuntime) -> ExitCode {
     let mut reader = Noted::new(rt.stdin());
     let mut writer = Noted::new(rt.stdout());
-    match run(rt.alloc(), &mut reader, &mut writer) {
+    match run(rt.alloc(), &mut reader, &mut writer, &mut rt.stderr()) {
         Ok(status) => ExitCode::from(status),
         Err(error) => {
             let message = error.message();

@@ -1,6 +1,6 @@
 //! One run of the program, over a reader and a writer.
 
-ghost use Rattle.std.specs.Prelude.{◌≡◌, ◌≢◌, ◌↔◌, ℕ, List, false, true, IfOk, IfErr, IfSome, IsErrOf};
+ghost use Rattle.std.specs.Prelude.{◌≡◌, ◌≢◌, ◌↔◌, ℕ, List, false, true, Ok, IfOk, IfErr, IfSome, IsErrOf};
 ghost use Rattle.std.specs.Io.KnownBytes.{Appends};
 ghost use Rattle.zerotrie_tool.specs.Answers.{Answers};
 ghost use Rattle.zerotrie_tool.specs.declared.run.RunError.TheVariants.{OutOfMemory};
@@ -85,15 +85,16 @@ fn read_all<R: Read>(alloc: Global, reader: &mut Noted<R>) -> Result<Vec<u8>, Ru
 /// - A listing has the order of the trie, or of the bytes of the keys where the kind is `auto`.
 /// - A walk has one or more calls of a cursor with one space between. Where the kind is `auto` there is none.
 /// - Any other line is bad, and before the first `kind` every line but an empty one is. `bad line N`
-///   ends the run.
+///   ends the run, and a message says what is bad in it, as `line 2: the value is not below 2^64`.
 /// - The status is 2 after a bad line, even where a build was refused before. Else it is 1 where a
 ///   build was refused, and 0 where none was.
 ///
-/// An error but `Write` has written nothing.
-pub fn run<R: Read, W: Write>(
+/// An error but `Write` has written nothing. A fault of the writer for messages is ignored.
+pub fn run<R: Read, W: Write, M: Write>(
     alloc: Global,
     reader: &mut Noted<R>,
     writer: &mut Noted<W>,
+    messages: &mut M,
 ) -> Result<u8, RunError>
     requires reader_is_fresh { reader.old.failed ≡ false }
     requires writer_is_fresh { writer.old.failed ≡ false }
@@ -103,11 +104,16 @@ pub fn run<R: Read, W: Write>(
         (output : List ℕ) × Answers input output status
         × Appends (W.contents writer.old.inner) (W.contents writer.new.inner) output)) }
     ensures unwritten { IfErr result (λ e. e ≢ RunError.Write → writer.new ≡ writer.old) }
+    ensures quiet { result ≢ Ok 2 → messages.new ≡ messages.old }
 {
     let input = read_all(alloc, reader)?;
     let answered = answer_all(alloc, input.as_slice())?;
     if writer.write_all(answered.output.as_bytes()).is_err() || writer.flush().is_err() {
         return Err(RunError::Write);
+    }
+    if let Some((number, bad)) = answered.bad {
+        // The answer is given, so a fault here changes nothing.
+        let _ = writeln!(messages, "line {number}: {bad}");
     }
     Ok(answered.status)
 }

@@ -23,9 +23,11 @@ fn runs<H: AllocGlobal + Abort>(
 ) -> Result<(), Fail> {
     let mut reader = Noted::new(input);
     let mut writer = Noted::new(Vec::new(rt.alloc()));
-    let answer = run(rt.alloc(), &mut reader, &mut writer);
+    let mut messages: Vec<u8> = Vec::new(rt.alloc());
+    let answer = run(rt.alloc(), &mut reader, &mut writer, &mut messages);
     same(rt, writer.into_inner().as_slice(), output);
     same(rt, answer, Ok(status));
+    same(rt, messages.is_empty(), status != 2);
     Ok(())
 }
 
@@ -157,6 +159,58 @@ fn bad_lines(rt: HostRuntime) -> Result<(), Fail> {
     Ok(())
 }
 
+/// What is said of a bad line, which is the second of an input.
+#[test]
+fn reasons_of_bad_lines(rt: HostRuntime) -> Result<(), Fail> {
+    let rows: [(&[u8], &str); 9] = [
+        (
+            b"\nbuild",
+            "line 2: no kind is chosen yet: begin with kind NAME\n",
+        ),
+        (
+            b"kind simple\n+ 1 a\x0D\nbuild\x0D\n",
+            "line 3: it ends in a carriage return: end lines in a line feed alone\n",
+        ),
+        (
+            b"kind auto\nbuild ",
+            "line 2: it is none of: kind NAME, + VALUE KEY, build, ? KEY, list, walk CALLS\n",
+        ),
+        (
+            b"kind auto\nkind Auto\n",
+            "line 2: the kind is none of: simple, ignore, hash, ext, auto\n",
+        ),
+        (
+            b"kind simple\n+  1\n",
+            "line 2: there is no value: write + VALUE KEY, with one space between\n",
+        ),
+        (
+            b"kind simple\n+ 1x a\n",
+            "line 2: the value is not a decimal number\n",
+        ),
+        (
+            b"kind simple\n+ 000000000000000000001\n",
+            "line 2: the value has more than 20 digits\n",
+        ),
+        (
+            b"kind simple\n+ 18446744073709551616 a\n",
+            "line 2: the value is not below 2^64\n",
+        ),
+        (
+            b"kind simple\nwalk t  t\n",
+            "line 2: a call is none of: sHH, t, pN, with one space between two\n",
+        ),
+    ];
+    for (input, message) in rows {
+        let mut reader = Noted::new(input);
+        let mut writer = Noted::new(Vec::new(rt.alloc()));
+        let mut messages: Vec<u8> = Vec::new(rt.alloc());
+        let answer = run(rt.alloc(), &mut reader, &mut writer, &mut messages);
+        same(&rt, answer, Ok(2));
+        same(&rt, messages.as_slice(), message.as_bytes());
+    }
+    Ok(())
+}
+
 /// Gives its bytes eight at a time, and a fault where it has given its calls.
 #[derive(Drop)]
 struct FailingReader<'a> {
@@ -182,7 +236,8 @@ fn faults_of_readers(rt: HostRuntime) -> Result<(), Fail> {
         let bytes = b"kind simple\n?\n".as_slice();
         let mut reader = Noted::new(FailingReader { bytes, calls });
         let mut writer = Noted::new(Vec::new(rt.alloc()));
-        let answer = run(rt.alloc(), &mut reader, &mut writer);
+        let mut messages: Vec<u8> = Vec::new(rt.alloc());
+        let answer = run(rt.alloc(), &mut reader, &mut writer, &mut messages);
         let output = writer.into_inner();
         if calls < 3 {
             assert!(rt; answer == Err(RunError::Read) && reader.failed());
@@ -229,7 +284,8 @@ fn faults_of_writers(rt: HostRuntime) -> Result<(), Fail> {
     for calls in 0..6 {
         let mut reader = Noted::new(input.as_slice());
         let mut writer = Noted::new(FailingWriter { calls });
-        let answer = run(rt.alloc(), &mut reader, &mut writer);
+        let mut messages: Vec<u8> = Vec::new(rt.alloc());
+        let answer = run(rt.alloc(), &mut reader, &mut writer, &mut messages);
         let status = if calls < 4 {
             Err(RunError::Write)
         } else {
@@ -238,6 +294,36 @@ fn faults_of_writers(rt: HostRuntime) -> Result<(), Fail> {
         same(&rt, answer, status);
         assert!(rt; writer.failed() == (calls < 4) && !reader.failed());
     }
+    Ok(())
+}
+
+/// Shows what it has taken when it is flushed, and nothing before.
+#[derive(Drop)]
+struct BufferedCount {
+    taken: usize,
+    shown: usize,
+}
+
+impl Write for BufferedCount {
+    fn write(&mut self, buf: &[u8]) -> io::Result<usize> {
+        self.taken = self.taken.wrapping_add(buf.len());
+        Ok(buf.len())
+    }
+
+    fn flush(&mut self) -> io::Result<()> {
+        self.shown = self.taken;
+        Ok(())
+    }
+}
+
+#[test]
+fn what_is_written_is_flushed(rt: HostRuntime) -> Result<(), Fail> {
+    let mut reader = Noted::new(b"kind simple\n?\n".as_slice());
+    let mut writer = Noted::new(BufferedCount { taken: 0, shown: 0 });
+    let mut messages: Vec<u8> = Vec::new(rt.alloc());
+    let answer = run(rt.alloc(), &mut reader, &mut writer, &mut messages);
+    same(&rt, answer, Ok(0));
+    same(&rt, writer.into_inner().shown, b"none\n".len());
     Ok(())
 }
 

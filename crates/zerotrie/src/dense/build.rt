@@ -312,6 +312,8 @@ impl ZeroAsciiDenseSparse2dTrieOwned {
     /// nothing.
     ///
     /// ```
+    /// use zerotrie::dense::ZeroAsciiDenseSparse2dTrieOwned;
+    ///
     /// let mut row: BTreeMap<&str, usize> = BTreeMap::new(rt.alloc());
     /// row.insert("US", 8)?;
     /// let mut rows: BTreeMap<&str, BTreeMap<&str, usize>> = BTreeMap::new(rt.alloc());

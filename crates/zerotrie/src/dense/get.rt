@@ -57,6 +57,14 @@ impl<'a> ZeroAsciiDenseSparse2dTrieBorrowed<'a> {
     /// The value of a suffix in the row of a prefix, or `None` where it is not there.
     ///
     /// ```
+    /// use zerotrie::dense::ZeroAsciiDenseSparse2dTrieOwned;
+    ///
+    /// let mut row: BTreeMap<&str, usize> = BTreeMap::new(rt.alloc());
+    /// row.insert("US", 8)?;
+    /// let mut rows: BTreeMap<&str, BTreeMap<&str, usize>> = BTreeMap::new(rt.alloc());
+    /// rows.insert("en", row)?;
+    /// let table = ZeroAsciiDenseSparse2dTrieOwned::try_from_btree_map_str(rt.alloc(), &rows, b'/')?;
+    /// let table = table.as_borrowed();
     /// assert_eq!(rt; table.get("en", "US"), Some(8));
     /// assert_eq!(rt; table.get("en", "UK"), None);
     /// ```

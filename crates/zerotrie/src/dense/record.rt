@@ -61,9 +61,16 @@ impl<'a> ZeroAsciiDenseSparse2dTrieBorrowed<'a> {
     /// The table of a record, over its bytes. It takes no memory.
     ///
     /// ```
-    /// let record = table.to_record_bytes(rt.alloc())?;
-    /// let again = ZeroAsciiDenseSparse2dTrieBorrowed::try_from_record_bytes(record.as_slice());
-    /// assert!(rt; again.is_ok_and(|read| read == table));
+    /// use zerotrie::dense::{ZeroAsciiDenseSparse2dTrieBorrowed, ZeroAsciiDenseSparse2dTrieOwned};
+    ///
+    /// let mut row: BTreeMap<&str, usize> = BTreeMap::new(rt.alloc());
+    /// row.insert("US", 8)?;
+    /// let mut rows: BTreeMap<&str, BTreeMap<&str, usize>> = BTreeMap::new(rt.alloc());
+    /// rows.insert("en", row)?;
+    /// let table = ZeroAsciiDenseSparse2dTrieOwned::try_from_btree_map_str(rt.alloc(), &rows, b'/')?;
+    /// let record = table.as_borrowed().to_record_bytes(rt.alloc())?;
+    /// let again = ZeroAsciiDenseSparse2dTrieBorrowed::try_from_record_bytes(record.as_slice())?;
+    /// assert!(rt; again == table.as_borrowed());
     /// ```
     ///
     /// A record asks for as many bytes as its first 27 say. With fewer the error is `Truncated`, with more

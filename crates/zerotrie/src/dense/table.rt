@@ -12,6 +12,8 @@ use zerotrie_ascii::ZeroTrieSimpleAscii;
 /// A map from two texts to numbers, in memory of its own.
 ///
 /// ```
+/// use zerotrie::dense::ZeroAsciiDenseSparse2dTrieOwned;
+///
 /// let mut row: BTreeMap<&str, usize> = BTreeMap::new(rt.alloc());
 /// row.insert("US", 8)?;
 /// let mut rows: BTreeMap<&str, BTreeMap<&str, usize>> = BTreeMap::new(rt.alloc());

@@ -128,7 +128,11 @@ fn pairs_of(alloc: Global, value: &Value) -> Result<OwnedPairs, JsonError>
 /// ```
 ///
 /// The value is an object from keys to numbers, or a list of pairs. A pair is a list of exactly two, a key
-/// and a number, and a key is a text or a list of bytes. Numbers are whole, from 0 to 2^64 - 1.
+/// and a number, and a key is a text or a list of bytes. Numbers are whole, from 0 to 2^64 - 1. In the text that
+/// a value was read from they have no sign, point or exponent: `-0`, `1.0` and `1e2` are floats.
+///
+/// An object has each key once. If a text gives one key twice in an object, `Value::from_str` keeps the last
+/// number. A list may have a key twice, and then its build is refused with `DuplicateKey`.
 ///
 /// The error is `Shape` where the value is anything else, `Build` where a build of its pairs by an iterator
 /// is refused, with the reason, and `OutOfMemory`.

@@ -12,7 +12,7 @@ use zerotrie_core::{ZeroTrieBuildError, laws};
 
 /// Writes the text of the trie of the items, whose keys ascend strictly by their bytes, at the end of a buffer,
 /// with a stack of `K`, and answers where it begins. The bytes from there on are the one text of the map of the
-/// items, and those before stay. Where it is refused, the buffer may hold bytes of the text. It takes no memory.
+/// items, and those before stay. If it is refused, any of the buffer's bytes may have changed. It takes no memory.
 ///
 /// ```
 /// let items = [("ad", 22), ("adef", 33)];

@@ -2,14 +2,14 @@
 
 use super::*;
 use linked_list_allocator::LocalHeap;
-use zerotrie_core::{Hash, ListError, Listing, ZeroTrieIterator};
+use zerotrie_core::{Hash, ListError, ZeroTrieIterator};
 
 /// A listing over a heap gives a beginning of the pairs, then perhaps one error, and nothing more. Answers how many
 /// errors came.
 fn refusals<H: AllocGlobal + Abort>(rt: &H, heap: &LocalHeap, bytes: &[u8]) -> Result<usize, Fail> {
     let mut all = ZeroTrieIterator::new::<Hash>(rt.alloc(), bytes);
     let mut refused = 0_usize;
-    for item in Listing::new::<Hash>(heap, bytes) {
+    for item in ZeroTrieIterator::new::<Hash>(heap, bytes) {
         same(rt, refused, 0);
         match item {
             Ok((key, value)) => {

@@ -38,7 +38,7 @@ pub record Performed (command : Command) (held : Option State) (after : Option S
 abbrev pub AfterRequest : Command → Session → Session → List ℕ → List ℕ → Outcome → Type 0
 AfterRequest command before after old new Done = (s : State) → Holds before s → Performed command (Some s) (Some after) old new 0
 AfterRequest command before after old new Refused = (s : State) → Holds before s → Performed command (Some s) (Some after) old new 1
-AfterRequest command before after old new Bad = (new ≡ old) × ((s : State) → Holds before s → CanDo (Some s) command → ⊥)
+AfterRequest command before after old new (Bad bad) = (new ≡ old) × ((s : State) → Holds before s → CanDo (Some s) command → ⊥)
 
 -- a line that is a command was done
 abbrev pub AfterCommand : List ℕ → Option Session → Option Session → List ℕ → List ℕ → ℕ → Type 0
@@ -49,5 +49,5 @@ AfterCommand line before after old new least = (held : Option State) → HoldsSo
 abbrev pub AfterLine : List ℕ → Option Session → Option Session → List ℕ → List ℕ → Outcome → Type 0
 AfterLine line before after old new Done = AfterCommand line before after old new 0
 AfterLine line before after old new Refused = AfterCommand line before after old new 1
-AfterLine line before after old new Bad = (new ≡ old)
+AfterLine line before after old new (Bad bad) = (new ≡ old)
     × ((held : Option State) → HoldsSome before held → (command : Command) → IsCommand line command → CanDo held command → ⊥)

@@ -16,8 +16,8 @@ loop-index-preserved-then-is_empty c = record {
       c.loop-index.invariant.answering c.loop-index-test.true (is_nil (line_at c.deref-line-items.result.now c.loop-index.index) c.if-is_empty.ensures);
 }
 
-pub returns-in-Bad : goal.returns-in-Bad
-returns-in-Bad c =
+pub returns-in-Bad-clause-answers : goal.returns-in-Bad-clause-answers
+returns-in-Bad-clause-answers c =
     let after = rw c.in-Bad.is at c.in_ok-answer_line.ensures in
     answering_bad c.args.input.now c.deref-line-items.result.now c.loop-index.index c.loop-index.held (string_bytes c.loop-index.output) (string_bytes c.answer_line.new.output) (string_bytes c.write_bad.new.output) c.loop-index.status
     c.loop-index.invariant.answering c.loop-index-test.true (not_nil (line_at c.deref-line-items.result.now c.loop-index.index) c.if-is_empty.ensures)
@@ -39,5 +39,5 @@ loop-index-preserved c = elim c.match-branch-3.branch [
       }
 ]
 
-pub returns : goal.returns
-returns c = answering_all c.args.input.now c.deref-line-items.result.now c.loop-index.index c.loop-index.held (string_bytes c.loop-index.output) c.loop-index.status c.loop-index.invariant.answering c.loop-index-test.false
+pub returns-clause-answers : goal.returns-clause-answers
+returns-clause-answers c = answering_all c.args.input.now c.deref-line-items.result.now c.loop-index.index c.loop-index.held (string_bytes c.loop-index.output) c.loop-index.status c.loop-index.invariant.answering c.loop-index-test.false

@@ -4,10 +4,10 @@ use Rattle.zerotrie_tool.specs.answer.Parsing.{meaning}
 use Rattle.zerotrie_tool.proofs.SessionLemmas.{performed_chosen, after_request}
 use Rattle.zerotrie_tool.proofs.answer.answer_line.Goals as goal
 
-pub returns-in-Some-held : goal.returns-in-Some-held
-returns-in-Some-held c = rw c.in-Some-held.is
-    (after_request c.args.line.now (meaning c.in-Some.request) (rw c.in-Some.is at c.in_ok-request.ensures.some) c.in-Some-held.session c.answer.new.self
+pub returns-in-Some : goal.returns-in-Some
+returns-in-Some c = rw c.in-Some.is
+    (after_request c.args.line.now (meaning c.in-Ok.request) (rw c.in-Ok.is at c.in_ok-request.ensures.ok) c.in-Some.session c.answer.new.self
     (string_bytes c.args.output.now) (string_bytes c.answer.new.output) c.answer.result c.answer.ensures)
 
 pub returns : goal.returns
-returns c = λ held h. (choose c.in-Kind.choice, rw c.in-Kind.is at (rw c.in-Some.is at c.in_ok-request.ensures.some), performed_chosen held c.new.result c.in-Kind.choice (string_bytes c.args.output.now) c.new.ensures)
+returns c = λ held h. (choose c.in-Kind.choice, rw c.in-Kind.is at (rw c.in-Ok.is at c.in_ok-request.ensures.ok), performed_chosen held c.new.result c.in-Kind.choice (string_bytes c.args.output.now) c.new.ensures)

@@ -1,0 +1,91 @@
+#!/usr/bin/env python3
+"""Runs the examples of the docs: each block of code in a doc comment of a crate and in README.md becomes a test.
+
+All are tests of one crate in a copy of the repository, since what costs time is the build of the libraries. An example is a file of
+its own, in which its lines have the numbers that they have in the docs. It sees the public names of its crate and of those that the
+crate stands on, and the names of OTHERS, unless it has a `main` and so is a whole program. A line that prints, `println!(rt; ..)?;
+// TEXT`, must print TEXT. A block that is marked, as ```text, is no example.
+"""
+import pathlib
+import re
+import shutil
+import subprocess
+import sys
+import tempfile
+
+ROOT = pathlib.Path(__file__).resolve().parent.parent
+CRATES = (ROOT / "crates.txt").read_text()
+BELOW = dict(re.findall(r"^(\w+):(.*)", CRATES, re.M))  # what each crate stands on, static libraries aside
+OTHERS = "use serde_json::Value; use std::borrow::CowSlice; use std::collections::{BTreeMap, VecDeque}; use std::test::Fail; "
+PRINTS = re.compile(r"(println!\(rt; (.*)\)\?;) +// (.*)")
+
+
+def blocks(file):
+    """Yields each example of the file: the number of the line before it, and its lines."""
+    code = None
+    for number, line in enumerate(file.read_text().splitlines(), 1):
+        if file.suffix == ".rt":
+            doc = re.match(r"\s*//[/!] ?(.*)", line)
+            line = doc[1] if doc else ""
+        if not line.startswith("```"):
+            if code is not None:
+                code.append(line)
+        elif code is None:
+            start, language, code = number, line[3:].strip(), []
+        else:
+            if language in ("", "rust", "rt"):
+                yield start, code
+            code = None
+
+
+def as_test(crates, start, code):
+    """Returns the source of a test that runs the example."""
+    text = "\n".join(PRINTS.sub(r'\1 assert_eq!(rt; format!(in rt.alloc(); \2)?.as_str(), r#"\3"#);', line) for line in code)
+    if "fn main(" in text:
+        return "\n" * start + text.replace("fn main(", "#[test] fn main(")
+    uses = OTHERS + "".join(f"use {name}::*; " for name in crates)
+    return uses + "#[test] fn main(rt: HostRuntime) -> Result<(), Fail> {" + "\n" * start + text + "\nOk(()) }\n"
+
+
+def found():
+    """Returns the examples by the names of the files that their tests go to: for each where it stands, and its test."""
+    examples = {}
+    for file in [*sorted(ROOT.glob("crates/*/src/**/*.rt")), ROOT / "README.md"]:
+        place = file.relative_to(ROOT)
+        crate = place.parts[1] if file.suffix == ".rt" else ""
+        seen = [it for it in [crate, *BELOW.get(crate, "").split()] if it in BELOW]
+        for start, code in blocks(file):
+            examples[f"e{len(examples) + 1}"] = (place, start, as_test(seen, start, code))
+    return examples
+
+
+def tried(examples):
+    """Runs the tests as one crate of a copy of the repository."""
+    with tempfile.TemporaryDirectory() as folder:
+        copy = pathlib.Path(folder)
+        for source in ROOT.glob("crates/*/src"):
+            shutil.copytree(source, copy / source.relative_to(ROOT))
+        libraries = " ".join(it for it in BELOW if (copy / "crates" / it / "src" / "lib.rt").exists())
+        (copy / "crates.txt").write_text(f"{CRATES}\nexamples: {libraries} serde_json anyhow\n")
+        source = copy / "crates" / "examples" / "src"
+        source.mkdir(parents=True)
+        (source / "lib.rt").write_text("".join(f"#[cfg(test)] mod {name};\n" for name in examples))
+        for name, (_, _, test) in examples.items():
+            (source / f"{name}.rt").write_text(test)
+        return subprocess.run(["rt", "try", "--test"], cwd=source.parent, capture_output=True, text=True)
+
+
+def main():
+    examples = found()
+    run = tried(examples)
+    said = re.sub(r"\bsrc/(e\d+)\.rt\b", lambda it: str(examples[it[1]][0]), run.stdout + run.stderr)
+    said = re.sub(r"\b(e\d+)::main\b", lambda it: "{}:{}".format(*examples[it[1]]), said)
+    passed = len(re.findall(r"^test .* \.\.\. ok$", said, re.M))
+    of = f"{len(examples)} examples of {len({place for place, _, _ in examples.values()})} files"
+    if run.returncode or passed != len(examples):
+        print(re.sub(r"^test .* \.\.\. ok\n(    .*\n)*", "", said, flags=re.M), end="")
+        sys.exit(f"{of}: {passed} passed")
+    print(f"{of}: passed")
+
+
+main()

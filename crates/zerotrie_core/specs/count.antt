@@ -1,0 +1,2 @@
+-- Words of the count's private functions.
+pub mod Row
