@@ -57,8 +57,9 @@ pub use zerotrie_ascii::{
 };
 pub use zerotrie_build::{Refusal, why_iter_refused, why_slice_refused};
 pub use zerotrie_core::{
-    ConvertStore, Ext, Hash, Ignore, ListError, Simple, TrieKey, TrieStore, ZeroTrieBuildError,
-    ZeroTrieBuilderOptions, ZeroTrieIterator, ZeroTrieWithOptions, laws,
+    CommonPrefixes, ConvertStore, Ext, Hash, Ignore, ListError, Simple, TrieKey, TrieStore,
+    ZeroTrieBuildError, ZeroTrieBuilderOptions, ZeroTrieIterator, ZeroTrieStream,
+    ZeroTrieWithOptions, laws,
 };
 pub use zerotrie_hashed::{HashedKind, HashedTrie, ZeroTrieExtendedCapacity, ZeroTriePerfectHash};
 
@@ -96,9 +97,9 @@ pub mod bytes {
         bytes_within, encoded_len, fill_from_end,
     };
     pub use zerotrie_core::{
-        SpanCursor, count_pairs, get_counted, is_well_formed, is_well_formed_counted, plain_encode,
-        probe, read_varint_meta2, read_varint_meta3, step, take_value, write_varint_meta2,
-        write_varint_meta3,
+        SpanCursor, count_pairs, get_counted, is_well_formed, is_well_formed_counted,
+        longest_prefix, plain_encode, probe, read_varint_meta2, read_varint_meta3, step,
+        take_value, write_varint_meta2, write_varint_meta3,
     };
 }
 

@@ -151,3 +151,25 @@ fn lengths_beforehand(rt: HostRuntime) -> Result<(), Fail> {
     same(&rt, found, (Some(33), 6));
     Ok(())
 }
+
+/// Every type has the calls on prefixes; a prefix may end inside a span.
+#[test]
+fn prefixes_of_each_type(rt: HostRuntime) -> Result<(), Fail> {
+    let ascii = ZeroAsciiIgnoreCaseTrie::from_bytes(b"aB\x81c\x82");
+    same(&rt, ascii.longest_prefix(b"ABCD"), Some((3, 2)));
+    same(&rt, ascii.common_prefixes(b"abcd").next(), Some((2, 1)));
+    let (key, value) = ascii
+        .iter_prefix(rt.alloc(), b"ABC")?
+        .next()
+        .ok_or("no key")??;
+    same(&rt, (key.as_str(), value), ("aBc", 2));
+    let hashed = ZeroTriePerfectHash::from_bytes(b"a\xA2\xC3\xA9\x83");
+    same(&rt, hashed.longest_prefix(b"a\xC3\xA9"), Some((3, 3)));
+    let mut pairs = hashed.stream_prefix(rt.alloc(), b"a\xC3")?;
+    assert!(rt; pairs.advance()?);
+    same(&rt, pairs.key(), b"a\xC3\xA9".as_slice());
+    let any = hashed.into_zerotrie();
+    same(&rt, any.longest_prefix(b"a\xC3\xA9b"), Some((3, 3)));
+    assert!(rt; any.iter_prefix(rt.alloc(), b"a\xA9")?.next().is_none());
+    Ok(())
+}

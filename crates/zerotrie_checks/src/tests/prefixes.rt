@@ -1,26 +1,7 @@
-//! Counts, the keys that a text begins with, and listings from a prefix.
+//! The keys that a text begins with, and listings from a prefix.
 
 use super::*;
-use zerotrie_core::{
-    CommonPrefixes, Ext, Hash, Ignore, Simple, ZeroTrieStream, count_pairs, longest_prefix,
-};
-
-#[test]
-fn values_at_any_place_count(rt: HostRuntime) {
-    let rows: [(&[u8], usize); 6] = [
-        (b"", 0),
-        (b"a", 0),
-        (b"\x80a\x85", 2),
-        (b"\xC2ab\x04\x80c\x81d\x82\x83", 4),
-        (b"\x80aBc\x81\xC4DeFg\x01\x02\x03\x82\x83\x84hi\x85", 6),
-        (b"\xC2ab\x03\xC2cd\x01\x80\x81\x82", 3),
-    ];
-    for (bytes, pairs) in rows {
-        same(&rt, count_pairs::<Simple>(bytes), pairs);
-        same(&rt, count_pairs::<Ignore>(bytes), pairs);
-    }
-    same(&rt, count_pairs::<Hash>(b"a\x8Ab\xA3\x81\x91\xA1\x84"), 2);
-}
+use zerotrie_core::{CommonPrefixes, Ext, Hash, Ignore, Simple, ZeroTrieStream, longest_prefix};
 
 #[test]
 fn keys_that_a_text_begins_with(rt: HostRuntime) {
