@@ -11,6 +11,7 @@ mod numbers;
 mod plain;
 mod prefixes;
 mod reader;
+mod refusal;
 mod span_cursor;
 mod stores;
 mod tables;

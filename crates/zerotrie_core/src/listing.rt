@@ -19,7 +19,7 @@ pub enum ListError {
     #[error("out of memory")]
     OutOfMemory,
     /// A key is no text, which is so on bytes alone that mean no map of an ASCII kind.
-    #[error("a key is not text: the bytes are no trie, so test them with is_well_formed")]
+    #[error("a key is not text: the bytes are no trie, so ask is_well_formed of them first")]
     NotText,
 }
 

@@ -119,7 +119,7 @@ fn next_step<'a, K: ZeroTrieWithOptions>(node: Node<'a>, expected: Expected) -> 
 
 /// The longest target of a branch, where the branch and all other targets are well-formed, and how many calls
 /// of the test were open at once for these, the one that goes on with the longest counted.
-#[cycle(test)]
+#[cycle(tested)]
 fn go_behind<'a, K: ZeroTrieWithOptions>(branch: Branch<'a>) -> Option<(&'a [u8], u32)>
     ensures shorter { IfSome result (λ r. length r.0.now < length branch.entry.behind.now) }
     ensures shallow { IfSome result (λ r. IsShallow branch.entry.behind.now r.1) }
@@ -154,7 +154,7 @@ fn go_behind<'a, K: ZeroTrieWithOptions>(branch: Branch<'a>) -> Option<(&'a [u8]
 /// The test calls itself for every target of a branch but the longest, and goes on with that one; of equal ones
 /// it is the first. On any bytes, fewer than 2^d with d at least 1 give a count from 1 to d, so it is never more
 /// than 64. It returns on any bytes, and takes no memory.
-#[cycle(test)]
+#[cycle(tested)]
 pub fn is_well_formed_counted<K: ZeroTrieWithOptions>(bytes: &[u8]) -> (bool, u32)
     ensures yes { IsTrue result.0 ↔ IsWellFormed K.kind bytes.now }
     ensures count { (m : Map) (means : Means K.kind bytes.now m) → result.1 ≡ deep means.lists }

@@ -159,7 +159,7 @@ fn texts_of_errors(rt: HostRuntime) -> Result<(), Fail> {
         (ListError::OutOfMemory, "out of memory"),
         (
             ListError::NotText,
-            "a key is not text: the bytes are no trie, so test them with is_well_formed",
+            "a key is not text: the bytes are no trie, so ask is_well_formed of them first",
         ),
     ] {
         same(&rt, format!(in rt.alloc(); "{error}")?.as_str(), text);

@@ -12,8 +12,8 @@ use Rattle.zerotrie_core.proofs.DeepLemmas.{shallow_one, shallow_max, shallow_lo
 use Rattle.zerotrie_core.proofs.NodeLemmas.{branch_shorter}
 use Rattle.zerotrie_core.proofs.StepLemmas.{onward_none, onward_more}
 use Rattle.zerotrie_core.proofs.BehindLemmas.{Tested, tested_none, tested_place, tested_other, no_target, target_there, goes_on, shallow_target, target_short, text_well, well_text, text_means}
-use Rattle.zerotrie_core.proofs.well_formed.+test.Goals as goal
-use Rattle.zerotrie_core.proofs.well_formed.+test.Goals.{go_behind-then-index-longest+in_ok-target+else-not-yes, go_behind-else-index-longest}
+use Rattle.zerotrie_core.proofs.well_formed.+tested.Goals as goal
+use Rattle.zerotrie_core.proofs.well_formed.+tested.Goals.{go_behind-then-index-longest+in_ok-target+else-not-yes, go_behind-else-index-longest}
 
 pub go_behind-loop-index-init : goal.go_behind-loop-index-init
 go_behind-loop-index-init g t c =

@@ -2,7 +2,7 @@ use Rattle.std.proofs.Common.{◌≤◌, length}
 use Rattle.zerotrie_core.specs.WellFormed.{IsShallow}
 use Rattle.zerotrie_core.specs.well_formed.Testing.{Onward}
 use Rattle.zerotrie_core.proofs.BehindLemmas.{Tested}
-use Rattle.zerotrie_core.proofs.well_formed.+test.Given as goal
+use Rattle.zerotrie_core.proofs.well_formed.+tested.Given as goal
 
 abbrev pub decreases-is_well_formed_counted : goal.decreases-is_well_formed_counted
 decreases-is_well_formed_counted g l = length l.bytes.now
