@@ -101,6 +101,23 @@ impl<'a> SpanCursor<'a> {
         }
     }
 
+    /// A cursor in front of a run, each byte of which is an edge, and of the trie behind it.
+    #[inline]
+    pub fn from_parts(run: &'a [u8], trie: &'a [u8]) -> Self
+        ensures { result ≡ record { run = run.now; trie = trie.now } }
+    {
+        SpanCursor { run, trie }
+    }
+
+    /// The rest of the run that the cursor stands in, which is empty outside of spans, and the trie behind it.
+    #[inline]
+    pub fn parts(&self) -> (&'a [u8], &'a [u8])
+        ensures run { result.0.now ≡ self.now.run }
+        ensures trie { result.1.now ≡ self.now.trie }
+    {
+        (self.run, self.trie)
+    }
+
     /// Whether no key goes on from here. An empty cursor has no value either.
     #[inline]
     pub fn is_empty(&self) -> bool
