@@ -23,7 +23,7 @@ use zerotrie_core::{ListError, TrieStore, ZeroTrieIterator};
 /// An item is a key with its value, or `ListError::OutOfMemory` where a growth was refused. On bytes that mean
 /// no map it may be `ListError::NotText`, where a key is no text. After an error, and after the end, nothing
 /// more comes.
-#[derive(Drop)]
+#[derive(Debug, Drop)]
 pub struct ZeroTrieStringIterator<'a> {
     inner: ZeroTrieIterator<'a>,
     ended: bool,

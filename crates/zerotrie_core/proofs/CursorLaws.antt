@@ -19,7 +19,7 @@ use Rattle.zerotrie_core.proofs.MapLemmas.{look-map_of}
 use Rattle.zerotrie_core.proofs.CursorLemmas.{Parts, before_text, opens_parts, front_parts, inside_span, along, along_none, no_value_first, no_value, front_without, run_without, each_without}
 
 -- The edges that a place has.
-record HasParts (kind : Kind) (pairs : Pairs) : Type 0 where
+pub record HasParts (kind : Kind) (pairs : Pairs) : Type 0 where
   pub edges : List ℕ
   pub places : ℕ → Place
   pub parts : Parts kind pairs edges places
@@ -59,7 +59,7 @@ text_has {kind = kind} (branch {edges = edges} {targets = targets} {bytes = byte
   parts = opens_parts (branch i each) (record { all = pairs; same = refl; each = each; distinct = table_distinct i.is_table; here = refl; counts = λ c key. refl });
 }
 
-place_has : (kind : Kind) (place : Place) (pairs : Pairs) → ListsAt kind place pairs → HasParts kind pairs
+pub place_has : (kind : Kind) (place : Place) (pairs : Pairs) → ListsAt kind place pairs → HasParts kind pairs
 place_has kind place pairs lists = by place.run lists
   where
     by : (run : List ℕ) → ListsBehind kind run place.trie pairs → HasParts kind pairs

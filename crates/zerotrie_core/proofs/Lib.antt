@@ -13,8 +13,10 @@ mod EachLemmas
 mod GoingLemmas
 mod LaneLemmas
 mod PlaceLemmas
+mod PrefixLemmas
 mod ReaderLemmas
 mod LiteralLemmas
+mod LongestLemmas
 mod CursorLemmas
 mod CaseLemmas
 mod MapLemmas

@@ -9,7 +9,7 @@ use Rattle.zerotrie_core.specs.Nodes.{Shape, Begins, targets_behind, begin_of, e
 use Rattle.zerotrie_core.specs.Nodes as shapes
 use Rattle.zerotrie_core.specs.listing.Listed.{listed, of_node, of_targets, node_of, is_in_order, target_of}
 use Rattle.zerotrie_core.specs.listing.Opened.{pairs_behind, pairs_open, pairs_left, Nested, work_open, work_left}
-use Rattle.zerotrie_core.specs.declared.listing.OpenBranch.{OpenBranch}
+use Rattle.zerotrie_core.specs.declared.stream.OpenBranch.{OpenBranch}
 use Rattle.zerotrie_core.proofs.SpanLemmas.{with_run-none}
 use Rattle.zerotrie_core.proofs.ListingLemmas.{listed_node, listed_read, order_is, is_order}
 use Rattle.zerotrie_core.proofs.NodeOfLemmas.{InSome, Within, node_within}

@@ -7,6 +7,7 @@ pub mod Texts
 pub mod Nodes
 pub mod Shapes
 pub mod Cursors
+pub mod Prefixes
 pub mod Machine
 pub mod Places
 pub mod Canonical

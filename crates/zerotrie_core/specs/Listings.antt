@@ -1,6 +1,7 @@
 -- Listings: what is left of one, and what a call of `next` gives.
 use Rattle.std.specs.Prelude.{◌≡◌, ℕ, ◌+◌, List, [], ◌∷◌, Bool, true, false, Option, Some, None, Result, Ok, Err, length, if◌then◌else◌}
 use Rattle.zerotrie_core.specs.Maps.{Pairs}
+use Rattle.std.specs.declared.alloc.AllocError.{AllocError}
 use Rattle.zerotrie_core.specs.declared.listing.ListError.{ListError}
 use Rattle.zerotrie_core.specs.declared.listing.ListError.TheVariants.{OutOfMemory}
 
@@ -8,6 +9,12 @@ use Rattle.zerotrie_core.specs.declared.listing.ListError.TheVariants.{OutOfMemo
 pub record Left : Type 0 where
   pub pairs : Pairs
   pub ended : Bool
+
+-- Where a stream stands: the key and the value in hand, and what is left.
+pub record Standing : Type 0 where
+  pub key : List ℕ
+  pub value : ℕ
+  pub left : Left
 
 -- these pairs still come
 abbrev pub to_come : Pairs → Left
@@ -32,3 +39,9 @@ module _ {K E : Type 0} (key : K → List ℕ) (MayEnd : E → Pairs → Type 0)
 -- the one error of a listing whose keys are bytes
 abbrev pub MemoryOnly : ListError → Pairs → Type 0
 MemoryOnly e pairs = e ≡ OutOfMemory
+
+-- what a call of `advance` answers, as an item of the listing: the pair in hand after it, or the error, or the end
+abbrev pub item_of : Result Bool AllocError → Standing → Option (Result (List ℕ × ℕ) ListError)
+item_of (Ok true) after = Some (Ok (after.key, after.value))
+item_of (Ok false) after = None
+item_of (Err e) after = Some (Err OutOfMemory)

@@ -1,7 +1,7 @@
 -- Maps from byte lists to numbers, and lists of pairs.
 use Rattle.std.specs.List.{range_with_len}
 use Rattle.std.proofs.Common.{zero, suc}
-use Rattle.std.specs.Prelude.{nat_le, is_some, ◌==◌, ◌||◌, ◌+◌, filter, max, length, ◌≡◌, ℕ, List, [], ◌∷◌, ◌++◌, map, Option, Some, None, if◌then◌else◌, Bool, false, ◌⊎◌, All, Contains}
+use Rattle.std.specs.Prelude.{nat_le, is_some, ◌==◌, ◌||◌, ◌+◌, filter, max, length, ◌≡◌, ℕ, List, [], ◌∷◌, ◌++◌, map, Option, Some, None, if◌then◌else◌, Bool, true, false, ◌&&◌, ◌⊎◌, All, Contains}
 use Rattle.std.specs.FinMap.{FinMap, from_entries, entries}
 use Rattle.std.specs.Cmp.Lexicographic.{slice_cmp, pointwise}
 use Rattle.std.specs.Ordering.{nat_cmp}
@@ -52,6 +52,16 @@ after_run (b ∷ run) (c ∷ key) = if b == c then after_run run key else None
 -- two keys are one key to the kind
 abbrev pub same_key : Kind → List ℕ → List ℕ → Bool
 same_key kind p q = pointwise (same_byte kind) p q
+
+-- whether a key begins with all of a front, as the kind compares bytes
+abbrev pub begins_with : Kind → List ℕ → List ℕ → Bool
+begins_with kind [] key = true
+begins_with kind (c ∷ front) [] = false
+begins_with kind (c ∷ front) (b ∷ key) = same_byte kind b c && begins_with kind front key
+
+-- the pairs whose keys begin with a front, in their order
+abbrev pub beginning : Kind → List ℕ → Pairs → Pairs
+beginning kind front pairs = filter (λ e. begins_with kind front e.0) pairs
 
 -- the value of the first pair whose key is this one to the kind
 abbrev pub value_at : Kind → Pairs → List ℕ → Option ℕ

@@ -1,2 +1,3 @@
 -- Words of the cursors' private functions.
 pub mod Edges
+pub mod Fronts

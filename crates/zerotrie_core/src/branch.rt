@@ -159,7 +159,7 @@ fn offset_at(table: &[u8], place: usize, count: usize, width: usize) -> usize
 
 /// A branch: how many edges it has, how many bytes an offset has, its search table, and all bytes from the
 /// edges on, which are the last bytes of the table.
-#[derive(Clone, Copy)]
+#[derive(Clone, Copy, Debug)]
 pub struct Branch<'a> {
     pub edges: usize,
     pub width: usize,

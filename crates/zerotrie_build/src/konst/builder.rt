@@ -19,7 +19,7 @@ use zerotrie_core::ZeroTrieBuildError;
 /// let builder = ZeroTrieBuilderConst::<8>::from_tuple_slice(items)?;
 /// assert_eq!(rt; builder.build()?.as_slice(), b"ad\x90\x06ef\x90\x11".as_slice());
 /// ```
-#[derive(Drop)]
+#[derive(Debug, Drop)]
 pub struct ZeroTrieBuilderConst<const N: usize> {
     data: [u8; N],
     start: usize,

@@ -5,7 +5,7 @@ use Rattle.zerotrie_core.specs.Maps.{Pairs, with_run}
 use Rattle.zerotrie_core.specs.Nodes.{targets_behind, begin_of}
 use Rattle.zerotrie_core.specs.Listings.{Left, to_come, over}
 use Rattle.zerotrie_core.specs.listing.Listed.{listed, of_targets}
-use Rattle.zerotrie_core.specs.declared.listing.OpenBranch.{OpenBranch}
+use Rattle.zerotrie_core.specs.declared.stream.OpenBranch.{OpenBranch}
 
 -- the pairs behind an open branch from its next edge on
 abbrev pub pairs_behind : Kind → OpenBranch → Pairs

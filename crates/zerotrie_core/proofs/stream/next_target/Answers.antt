@@ -3,7 +3,7 @@ use Rattle.std.proofs.lemmas.Grind.{common_steps}
 use Rattle.std.proofs.lemmas.List.{append-nil}
 use Rattle.zerotrie_core.specs.Kind.{simple_ascii}
 use Rattle.zerotrie_core.proofs.ListingStateLemmas.{target_says, at_end, no_bytes, after_fall, nested_top, nested_in, at_last, at_next}
-use Rattle.zerotrie_core.proofs.listing.next_target.Goals as goal
+use Rattle.zerotrie_core.proofs.stream.next_target.Goals as goal
 
 pub returns-in_default-clause-same : goal.returns-in_default-clause-same
 returns-in_default-clause-same g c = λ kind.

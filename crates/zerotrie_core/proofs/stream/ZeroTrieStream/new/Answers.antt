@@ -2,7 +2,7 @@ use Rattle.std.proofs.Common.{◌≤◌, length, ap, sym, subst, ◌∙◌}
 use Rattle.zerotrie_core.specs.Listings.{to_come}
 use Rattle.zerotrie_core.proofs.ListingLemmas.{listed_pairs, listed_most}
 use Rattle.zerotrie_core.proofs.ListingStateLemmas.{fresh_left}
-use Rattle.zerotrie_core.proofs.listing.Listing.new.Goals as goal
+use Rattle.zerotrie_core.proofs.stream.ZeroTrieStream.new.Goals as goal
 
 pub returns-clause-lists : goal.returns-clause-lists
 returns-clause-lists g c = λ pairs text. rw (c.new.ensures.items, c.new-2.ensures.items, c.of.ensures.kind) (ap to_come (fresh_left g.K.ZeroTrieWithOptions.kind c.args.bytes.now ∙ listed_pairs text))

@@ -1,7 +1,7 @@
 use Rattle.std.proofs.Common.{arith, refl, sym, ◌∙◌, length}
 use Rattle.std.proofs.lemmas.Grind.{common_steps}
 use Rattle.zerotrie_core.proofs.ListingStateLemmas.{at_end, at_value, at_literal, at_span, at_branch, read_shorter, branch_less, nested_more, nested_push}
-use Rattle.zerotrie_core.proofs.listing.next_value.Goals as goal
+use Rattle.zerotrie_core.proofs.stream.next_value.Goals as goal
 
 pub returns-then-not-branch-clause-found : goal.returns-then-not-branch-clause-found
 returns-then-not-branch-clause-found g c =

@@ -1,6 +1,6 @@
 use Rattle.std.proofs.Common.{◌≡◌, length, reverse}
 use Rattle.zerotrie_core.specs.listing.Opened.{Nested, pairs_left, work_left}
-use Rattle.zerotrie_core.proofs.listing.next_value.Given as goal
+use Rattle.zerotrie_core.proofs.stream.next_value.Given as goal
 
 abbrev pub invariant-loop-rest : goal.invariant-loop-rest
 invariant-loop-rest g l = record {

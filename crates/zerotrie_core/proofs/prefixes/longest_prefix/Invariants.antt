@@ -1,0 +1,7 @@
+use Rattle.zerotrie_core.specs.Maps.{Pairs}
+use Rattle.zerotrie_core.specs.Texts.{Lists}
+use Rattle.zerotrie_core.proofs.LongestLemmas.{GoesAlong}
+use Rattle.zerotrie_core.proofs.prefixes.longest_prefix.Given as goal
+
+abbrev pub invariant-loop-index : goal.invariant-loop-index
+invariant-loop-index g l = (pairs : Pairs) → Lists g.K.ZeroTrieWithOptions.kind l.bytes pairs → GoesAlong g.K.ZeroTrieWithOptions.kind pairs l.text l.index l.cursor l.longest
