@@ -167,8 +167,10 @@ uint32_t zerotrie_tagged(uint32_t kind, const uint8_t *bytes, size_t len, uint8_
 
 /* Lists the pairs whose keys begin with the prefix (an empty one: all), in the order of the trie's bytes, which in
  * SIMPLE_ASCII is that of the keys. The keys go to `keys` one behind another, where each ends to `ends`, the values to
- * `values`. *key_bytes and *count tell how long these are; with ZEROTRIE_BUFFER_TOO_SMALL how long they would be, and no room
- * is written to. A trie of n bytes has at most n pairs. Takes memory, as much as it lists. */
+ * `values`; the rest of each room stays. *key_bytes and *count tell how long they are. With ZEROTRIE_BUFFER_TOO_SMALL some room
+ * has too few places, and nothing is written to such a one. ZEROTRIE_OUT_OF_MEMORY: the three rooms stay. A trie of n bytes
+ * has at most n pairs. Takes memory, as much as it lists. To list a large trie in parts, list one prefix after another:
+ * zerotrie_cursor_probe() tells the bytes with which keys go on. */
 uint32_t zerotrie_list(uint32_t kind, const uint8_t *bytes, size_t len, const uint8_t *prefix, size_t prefix_len,
                        uint8_t *keys, size_t keys_len, size_t *ends, size_t ends_len, size_t *values, size_t values_len,
                        size_t *key_bytes, size_t *count);
