@@ -1,5 +1,5 @@
 -- Tagged bytes as C is told of them.
-use Rattle.std.specs.Prelude.{◌≡◌, ℕ, ◌⊎◌, List, [], ◌∷◌, Option, Some, None}
+use Rattle.std.specs.Prelude.{◌≡◌, ℕ, ◌⊎◌, List, [], ◌∷◌, None}
 use Rattle.zerotrie_core.specs.Kind.{Kind, tag}
 use Rattle.zerotrie_any.specs.Tagged.{tagged}
 use Rattle.zerotrie_c.specs.Numbers.{kind_of}

@@ -11,9 +11,7 @@ ghost use Rattle.zerotrie_c.specs.Numbers.{kind_of};
 ghost use Rattle.zerotrie_c.specs.Answers.{told, told_both};
 ghost use Rattle.zerotrie_c.specs.Places.{place};
 
-use zerotrie_core::{
-    ByteProbeResult, Ext, Hash, Ignore, Simple, SpanCursor, ZeroTrieWithOptions,
-};
+use zerotrie_core::{ByteProbeResult, Ext, Hash, Ignore, Simple, SpanCursor, ZeroTrieWithOptions};
 
 /// A cursor, as C keeps it: the rest of a run, and the trie behind it. Both lie in the bytes of the trie.
 ///

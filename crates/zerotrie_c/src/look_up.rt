@@ -10,9 +10,7 @@ ghost use Rattle.zerotrie_c.specs.Keys.{keys_from, or_else, values_or, written_o
 ghost use Rattle.zerotrie_c.specs.Statuses.{done, unknown_kind};
 
 use crate::statuses::{DONE, UNKNOWN_KIND};
-use zerotrie_core::{
-    Ext, Hash, Ignore, Simple, ZeroTrieWithOptions, get_counted, longest_prefix,
-};
+use zerotrie_core::{Ext, Hash, Ignore, Simple, ZeroTrieWithOptions, get_counted, longest_prefix};
 
 /// The value of the key in a trie of the kind of this number.
 fn look_up(kind: u32, bytes: &[u8], key: &[u8]) -> Option<usize>
@@ -51,8 +49,16 @@ pub extern "C" fn zerotrie_get(kind: u32, bytes: &[u8], key: &[u8], value: &mut 
 fn key_between(bytes: &[u8], from: usize, to: usize) -> &[u8]
     ensures { result.now ≡ drop from (take to bytes.now) }
 {
-    let front = if to < bytes.len() { &bytes[..to] } else { bytes };
-    if from < front.len() { &front[from..] } else { &[] }
+    let front = if to < bytes.len() {
+        &bytes[..to]
+    } else {
+        bytes
+    };
+    if from < front.len() {
+        &front[from..]
+    } else {
+        &[]
+    }
 }
 
 /// The value of the key, or this number where the trie has no such key.

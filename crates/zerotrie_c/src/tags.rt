@@ -28,12 +28,7 @@ fn put_behind(first: u8, bytes: &[u8], out: &mut [u8])
 
 /// Writes the number of the kind and the bytes to the front of `out`, if there is room, and tells how long they are.
 #[unsafe(no_mangle)]
-pub extern "C" fn zerotrie_tagged(
-    kind: u32,
-    bytes: &[u8],
-    out: &mut [u8],
-    len: &mut usize,
-) -> u32
+pub extern "C" fn zerotrie_tagged(kind: u32, bytes: &[u8], out: &mut [u8], len: &mut usize) -> u32
     ensures known { IfSome (kind_of kind) (λ k. IsHandedOut (tagged k bytes.now) result len.new out.old out.new) }
     ensures unknown { IfNone (kind_of kind) ((result ≡ unknown_kind) × (len.new ≡ len.old) × (out.new ≡ out.old)) }
 {
