@@ -122,7 +122,8 @@ pub extern "C" fn zerotrie_build_sorted(
     out: &mut [u8],
     len: &mut usize,
 ) -> u32
-    ensures known { IfSome (kind_of kind) (λ k. IsBuildTold ascending k (given pairs.now) result len.old len.new out.old out.new) }
+    ensures known { IfSome (kind_of kind) (λ k.
+        IsBuildTold ascending k (given pairs.now) result len.old len.new out.old out.new) }
     ensures unknown { IfNone (kind_of kind) ((result ≡ unknown_kind) × (len.new ≡ len.old) × (out.new ≡ out.old)) }
 {
     match kind {
@@ -144,7 +145,8 @@ pub extern "C" fn zerotrie_build(
     out: &mut [u8],
     len: &mut usize,
 ) -> u32
-    ensures known { IfSome (kind_of kind) (λ k. IsBuildTold any_order k (given pairs.now) result len.old len.new out.old out.new) }
+    ensures known { IfSome (kind_of kind) (λ k.
+        IsBuildTold any_order k (given pairs.now) result len.old len.new out.old out.new) }
     ensures unknown { IfNone (kind_of kind) ((result ≡ unknown_kind) × (len.new ≡ len.old) × (out.new ≡ out.old)) }
 {
     match kind {

@@ -78,7 +78,7 @@ pub extern "C" fn zerotrie_cursor_new<'a>(bytes: &'a [u8], cursor: &mut Cursor<'
     *cursor = kept(&SpanCursor::new(bytes));
 }
 
-/// Goes along the edge that is the byte to the kind. Yes where there is one, and then its byte goes to `edge`; else
+/// Goes along the edge that is the byte to the kind. Yes if there is one, and then its byte goes to `edge`; else
 /// nothing is left.
 #[unsafe(no_mangle)]
 pub extern "C" fn zerotrie_cursor_step(
@@ -107,10 +107,11 @@ pub extern "C" fn zerotrie_cursor_step(
     }
 }
 
-/// Takes the value of the empty key. Yes where there is one, and then it goes to `value`; else nothing changes.
+/// Takes the value of the empty key. Yes if there is one, and then it goes to `value`; else nothing changes.
 #[unsafe(no_mangle)]
 pub extern "C" fn zerotrie_cursor_take_value(cursor: &mut Cursor<'_>, value: &mut usize) -> bool
-    ensures taken { (kind : Kind) → IsTake kind (ListsAt kind (place cursor.old)) (told result value.new) (ListsAt kind (place cursor.new)) }
+    ensures taken { (kind : Kind) → IsTake kind
+        (ListsAt kind (place cursor.old)) (told result value.new) (ListsAt kind (place cursor.new)) }
     ensures run { (place cursor.new).run ≡ (place cursor.old).run }
     ensures none { result ≡ false → (place cursor.new ≡ place cursor.old) × (value.new ≡ value.old) }
 {
@@ -126,7 +127,7 @@ pub extern "C" fn zerotrie_cursor_take_value(cursor: &mut Cursor<'_>, value: &mu
     }
 }
 
-/// Goes along the edge of this number. Yes where there is one, and then its byte goes to `edge`, and how many edges there
+/// Goes along the edge of this number. Yes if there is one, and then its byte goes to `edge`, and how many edges there
 /// are to `siblings`; else nothing is left.
 #[unsafe(no_mangle)]
 pub extern "C" fn zerotrie_cursor_probe(
@@ -137,7 +138,8 @@ pub extern "C" fn zerotrie_cursor_probe(
     siblings: &mut u16,
 ) -> bool
     ensures known { IfSome (kind_of kind) (λ k.
-        IsProbe (ListsAt k (place cursor.old)) index (told_both result edge.new siblings.new) (ListsAt k (place cursor.new))) }
+        IsProbe (ListsAt k (place cursor.old)) index
+        (told_both result edge.new siblings.new) (ListsAt k (place cursor.new))) }
     ensures run { IfSome (kind_of kind) (λ k. IfSome (told result edge.new)
         (λ e. FollowsRun k (place cursor.old) e (place cursor.new))) }
     ensures unknown { IfNone (kind_of kind) (result ≡ false) }
@@ -169,7 +171,7 @@ fn behind_prefix<'a, K: ZeroTrieWithOptions>(bytes: &'a [u8], prefix: &[u8]) -> 
     here
 }
 
-/// Sets the cursor behind a prefix: it stands where a step by each byte of it leads. Yes where some key begins with the
+/// Sets the cursor behind a prefix: it stands where a step by each byte of it leads. Yes if some key begins with the
 /// prefix; else nothing is left.
 #[unsafe(no_mangle)]
 pub extern "C" fn zerotrie_with_prefix<'a>(

@@ -61,7 +61,7 @@ fn key_between(bytes: &[u8], from: usize, to: usize) -> &[u8]
     }
 }
 
-/// The value of the key, or this number where the trie has no such key.
+/// The value of the key, or this number if the trie has no such key.
 fn value_or<K: ZeroTrieWithOptions>(bytes: &[u8], key: &[u8], missing: usize) -> usize
     ensures { (m : Map) → Means K.kind bytes.now m → result ≡ or_else missing (look K.kind m key.now) }
 {
@@ -95,7 +95,7 @@ fn look_up_many<K: ZeroTrieWithOptions>(
 /// that the trie hasn't.
 ///
 /// An end behind all bytes stands for theirs, and an end below the one before it makes an empty key. So many are
-/// answered as there are ends and room for values; the rest of the room stays. Where the number is no kind all of it does.
+/// answered as there are ends and room for values; the rest of the room stays. If the number is no kind, all of it stays.
 #[unsafe(no_mangle)]
 pub extern "C" fn zerotrie_get_many(
     kind: u32,
@@ -121,7 +121,8 @@ pub extern "C" fn zerotrie_get_many(
 
 /// The longest key that a text begins with, in a trie of the kind of this number.
 fn longest_as(kind: u32, bytes: &[u8], text: &[u8]) -> Option<(usize, usize)>
-    ensures known { IfSome (kind_of kind) (λ k. (m : Map) → Means k bytes.now m → IsLongestPrefix k m text.now result) }
+    ensures known { IfSome (kind_of kind) (λ k. (m : Map) → Means k bytes.now m
+        → IsLongestPrefix k m text.now result) }
     ensures unknown { IfNone (kind_of kind) (result ≡ None) }
 {
     match kind {
