@@ -1,0 +1,205 @@
+/* zerotrie for C: maps from byte strings to numbers, as flat bytes that are read where they lie.
+ *
+ *     zerotrie_pair pairs[] = { { ZEROTRIE_TEXT("foo"), 1 }, { ZEROTRIE_TEXT("bar"), 2 }, { ZEROTRIE_TEXT("bazzoo"), 3 } };
+ *     uint8_t trie[64];
+ *     size_t len, value;
+ *     if (zerotrie_build(ZEROTRIE_SIMPLE_ASCII, pairs, 3, trie, sizeof trie, &len) == ZEROTRIE_DONE
+ *         && zerotrie_get(ZEROTRIE_SIMPLE_ASCII, trie, len, (const uint8_t *)"bar", 3, &value))
+ *         printf("bar is %zu, in %zu bytes\n", value, len);
+ *
+ * Link libzerotrie.a or libzerotrie.so (pkg-config --cflags --libs zerotrie). Each function below is proved to meet its
+ * contract over the map that the bytes mean. What a proof can't see is what a caller does:
+ *
+ * A caller owes
+ *   - A pointer and the length after it say where so many readable elements lie, which nothing writes to during the call.
+ *     What a function writes to is writable, and overlaps nothing else that is passed to the call.
+ *   - No pointer is null, also if the length is 0, and each is aligned for its type. zerotrie_bytes_of() makes such a
+ *     pair of any pointer, null among them. A length is at most PTRDIFF_MAX bytes.
+ *   - What a cursor, or zerotrie_untagged(), hands out points into the bytes that were given. It is used only while these
+ *     lie where they lay and are unchanged.
+ *   - "Takes memory" marks the functions that call malloc, realloc and free, and give back all of it before they return.
+ *     These three align blocks as C says. Such a function is not called from a signal handler, nor in the forked child
+ *     of a process with threads.
+ *
+ * What holds then
+ *   - Every function returns, whatever the bytes hold: it reads nothing outside them, and never aborts or throws.
+ *   - It writes nothing but what is said below. Nothing that it hands out is to be freed.
+ *   - There is no state between calls and no lock, so any number of threads may call at once over bytes that none of
+ *     them writes. A cursor belongs to one thread at a time; a copy of it is a cursor of its own.
+ *
+ * What is said of a trie's keys holds of bytes that are a trie of the kind: zerotrie_is_well_formed() tells, and what a
+ * build wrote is one. Test bytes that come from elsewhere once. On other bytes each function answers something.
+ */
+#ifndef ZEROTRIE_H
+#define ZEROTRIE_H
+
+#include <stdbool.h>
+#include <stddef.h>
+#include <stdint.h>
+
+#ifdef __cplusplus
+extern "C" {
+#endif
+
+/* The kind of a trie. The number is also that which stands in front of tagged bytes. A function that is given another
+ * number answers false or ZEROTRIE_UNKNOWN_KIND. */
+typedef enum zerotrie_kind {
+    ZEROTRIE_SIMPLE_ASCII = 0,      /* ASCII keys */
+    ZEROTRIE_PERFECT_HASH = 3,      /* any bytes; a branch of 16 edges or more is a perfect hash */
+    ZEROTRIE_EXTENDED_CAPACITY = 7, /* the same, and a branch may reach 2^32 bytes */
+    ZEROTRIE_IGNORE_CASE = 8        /* ASCII keys, whose letters are found in either case */
+} zerotrie_kind;
+
+/* What a call comes to. */
+typedef enum zerotrie_status {
+    ZEROTRIE_DONE = 0,
+    ZEROTRIE_NON_ASCII = 1,          /* a key holds a byte of 128 or more, and the kind is for ASCII alone */
+    ZEROTRIE_CAPACITY_EXCEEDED = 2,  /* a branch would reach 2^32 bytes (not in EXTENDED_CAPACITY), or the trie 2^64 */
+    ZEROTRIE_NO_PERFECT_HASH = 3,    /* no perfect hash was found for the edges of a branch; this is rare */
+    ZEROTRIE_MIXED_CASE = 4,         /* IGNORE_CASE: two keys begin alike up to case, but not byte by byte */
+    ZEROTRIE_ILLEGAL_DELIMITER = 5,  /* no function here answers this */
+    ZEROTRIE_DUPLICATE_KEY = 6,      /* zerotrie_build: a key comes twice */
+    ZEROTRIE_UNSORTED = 7,           /* zerotrie_build_sorted: the keys don't ascend strictly by their bytes */
+    ZEROTRIE_BUFFER_TOO_SMALL = 8,   /* the room is too small; what is needed is told */
+    ZEROTRIE_BUFFER_TOO_LARGE = 9,   /* no function here answers this */
+    ZEROTRIE_STACK_EXCEEDED = 10,    /* no function here answers this */
+    ZEROTRIE_OUT_OF_MEMORY = 11,
+    ZEROTRIE_UNKNOWN_KIND = 12,
+    ZEROTRIE_NO_TAG = 13,            /* zerotrie_untagged: there are no bytes */
+    ZEROTRIE_INVALID_TAG = 14        /* zerotrie_untagged: the first byte is the number of no kind */
+} zerotrie_status;
+
+/* Bytes that lie elsewhere. */
+typedef struct zerotrie_bytes {
+    const uint8_t *ptr; /* never null */
+    size_t len;
+} zerotrie_bytes;
+
+typedef struct zerotrie_pair {
+    zerotrie_bytes key;
+    size_t value;
+} zerotrie_pair;
+
+/* A place in a trie, between two bytes of keys. While run.len is not 0 it stands inside a span: every key from here on goes
+ * on with all of run, and then with a key of trie. Otherwise trie is a trie by itself: that of what the keys have from here
+ * on. Nothing is left if both are empty. */
+typedef struct zerotrie_cursor {
+    zerotrie_bytes run;
+    zerotrie_bytes trie;
+} zerotrie_cursor;
+
+/* Bytes from any pointer; null stands for none. */
+static inline zerotrie_bytes zerotrie_bytes_of(const void *ptr, size_t len) {
+    zerotrie_bytes made;
+    made.ptr = ptr ? (const uint8_t *)ptr : (const uint8_t *)"";
+    made.len = ptr ? len : 0;
+    return made;
+}
+
+/* The bytes of a string literal, without its end, as an initializer. */
+#define ZEROTRIE_TEXT(literal) { (const uint8_t *)("" literal), sizeof("" literal) - 1 }
+
+/* --- Reading: no memory is taken ------------------------------------------------------------------------------------ */
+
+/* Whether the bytes are a trie of the kind, every rule of the format kept. */
+bool zerotrie_is_well_formed(uint32_t kind, const uint8_t *bytes, size_t len);
+
+/* Whether the trie has the key. If so its value goes to *value, else *value stays. */
+bool zerotrie_get(uint32_t kind, const uint8_t *bytes, size_t len, const uint8_t *key, size_t key_len, size_t *value);
+
+/* Looks up many keys at once, which lie one behind another in `keys`: each goes from where the one before it ended up to its
+ * own end. Writes the value of each, or `missing` for a key that the trie hasn't. An end beyond keys_len stands for
+ * keys_len, and one below the end before it makes an empty key. As many are answered as there are ends and room for
+ * values; the rest of the room stays. Answers ZEROTRIE_DONE, or ZEROTRIE_UNKNOWN_KIND and writes nothing. */
+uint32_t zerotrie_get_many(uint32_t kind, const uint8_t *bytes, size_t len, const uint8_t *keys, size_t keys_len,
+                           const size_t *ends, size_t ends_len, size_t missing, size_t *values, size_t values_len);
+
+/* Whether the text begins with a key, the empty one too. If so, the length of the longest such key goes to *key_len and
+ * its value to *value, else both stay. */
+bool zerotrie_longest_prefix(uint32_t kind, const uint8_t *bytes, size_t len, const uint8_t *text, size_t text_len,
+                             size_t *key_len, size_t *value);
+
+/* Sets the cursor in front of all keys, of a trie of any kind. */
+void zerotrie_cursor_new(const uint8_t *bytes, size_t len, zerotrie_cursor *cursor);
+
+/* Sets the cursor behind a prefix, where a step by each byte of it leads. Answers whether some key begins with it. */
+bool zerotrie_with_prefix(uint32_t kind, const uint8_t *bytes, size_t len, const uint8_t *prefix, size_t prefix_len,
+                          zerotrie_cursor *cursor);
+
+/* Goes along the edge that is this byte to the kind (in IGNORE_CASE a letter in either case). If there is one, its byte as it
+ * is stored goes to *edge. If not, nothing is left and *edge stays. */
+bool zerotrie_cursor_step(uint32_t kind, zerotrie_cursor *cursor, uint8_t byte, uint8_t *edge);
+
+/* Takes the value of the key that ends here, which the cursor then hasn't any more. If there is none nothing changes. */
+bool zerotrie_cursor_take_value(zerotrie_cursor *cursor, size_t *value);
+
+/* Goes along edge number `index`, from 0; its byte goes to *edge, and how many edges there are to *siblings. If there is no
+ * such edge, nothing is left, and *edge and *siblings stay. Edges are numbered in the order of the bytes' listing. */
+bool zerotrie_cursor_probe(uint32_t kind, zerotrie_cursor *cursor, size_t index, uint8_t *edge, uint16_t *siblings);
+
+/* The kind of tagged bytes goes to *kind, and what stands behind the tag, where it lies, to *trie; it is not tested. Or
+ * answers ZEROTRIE_NO_TAG or ZEROTRIE_INVALID_TAG and writes nothing. */
+uint32_t zerotrie_untagged(const uint8_t *tagged, size_t len, uint32_t *kind, zerotrie_bytes *trie);
+
+/* --- Building ------------------------------------------------------------------------------------------------------- */
+
+/* Builds the trie of pairs in any order. ZEROTRIE_DONE: it is the first *len bytes of `out`, and the rest stays.
+ * ZEROTRIE_BUFFER_TOO_SMALL: it has *len bytes, more than out_len, and `out` stays. Otherwise the answer is a reason that is
+ * true of the pairs, or ZEROTRIE_OUT_OF_MEMORY, and nothing is written. Takes memory. */
+uint32_t zerotrie_build(uint32_t kind, const zerotrie_pair *pairs, size_t count, uint8_t *out, size_t out_len, size_t *len);
+
+/* The same of pairs whose keys ascend strictly by their bytes, as memcmp orders them, in IGNORE_CASE too. Takes memory. */
+uint32_t zerotrie_build_sorted(uint32_t kind, const zerotrie_pair *pairs, size_t count, uint8_t *out, size_t out_len,
+                               size_t *len);
+
+/* How many bytes zerotrie_build_sorted() of these pairs would write; it builds nothing. Takes memory. */
+uint32_t zerotrie_encoded_len(uint32_t kind, const zerotrie_pair *pairs, size_t count, size_t *len);
+
+/* The kind for pairs if you have no wish: SIMPLE_ASCII if all keys are ASCII and there are fewer than 512, else
+ * PERFECT_HASH. */
+uint32_t zerotrie_auto_kind(const zerotrie_pair *pairs, size_t count);
+
+/* Writes the kind's number and then the bytes to `out`, so that they tell their kind. ZEROTRIE_DONE and
+ * ZEROTRIE_BUFFER_TOO_SMALL as in a build. */
+uint32_t zerotrie_tagged(uint32_t kind, const uint8_t *bytes, size_t len, uint8_t *out, size_t out_len, size_t *tagged_len);
+
+/* --- Listing -------------------------------------------------------------------------------------------------------- */
+
+/* Lists the pairs whose keys begin with the prefix (an empty one: all), in the order of the trie's bytes, which in
+ * SIMPLE_ASCII is that of the keys. The keys go to `keys` one behind another, where each ends to `ends`, the values to
+ * `values`; the rest of each room stays. *key_bytes and *count tell how long they are. With ZEROTRIE_BUFFER_TOO_SMALL some room
+ * has too few places, and nothing is written to such a one. ZEROTRIE_OUT_OF_MEMORY: the three rooms stay. A trie of n bytes
+ * has at most n pairs. Takes memory, as much as it lists. To list a large trie in parts, list one prefix after another:
+ * zerotrie_cursor_probe() tells the bytes with which keys go on. */
+uint32_t zerotrie_list(uint32_t kind, const uint8_t *bytes, size_t len, const uint8_t *prefix, size_t prefix_len,
+                       uint8_t *keys, size_t keys_len, size_t *ends, size_t ends_len, size_t *values, size_t values_len,
+                       size_t *key_bytes, size_t *count);
+
+/* --- Texts ---------------------------------------------------------------------------------------------------------- */
+
+/* The text of a status. */
+static inline const char *zerotrie_status_text(uint32_t status) {
+    switch (status) {
+    case ZEROTRIE_DONE: return "Done";
+    case ZEROTRIE_NON_ASCII: return "Non-ASCII cannot be added to an ASCII-only trie";
+    case ZEROTRIE_CAPACITY_EXCEEDED: return "Reached maximum capacity of trie";
+    case ZEROTRIE_NO_PERFECT_HASH: return "Failed to solve the perfect hash function. This is rare! Please report your case to the ICU4X team.";
+    case ZEROTRIE_MIXED_CASE: return "Mixed-case data added to case-insensitive trie";
+    case ZEROTRIE_ILLEGAL_DELIMITER: return "Delimiter is contained in one or more strings";
+    case ZEROTRIE_DUPLICATE_KEY: return "The same key was given twice";
+    case ZEROTRIE_UNSORTED: return "Keys are not in strictly ascending order";
+    case ZEROTRIE_BUFFER_TOO_SMALL: return "Buffer too small";
+    case ZEROTRIE_BUFFER_TOO_LARGE: return "Buffer too large";
+    case ZEROTRIE_STACK_EXCEEDED: return "Need more stack";
+    case ZEROTRIE_OUT_OF_MEMORY: return "Out of memory";
+    case ZEROTRIE_UNKNOWN_KIND: return "The number is no kind of trie";
+    case ZEROTRIE_NO_TAG: return "There are no tagged bytes";
+    case ZEROTRIE_INVALID_TAG: return "The first byte is the tag of no kind";
+    default: return "Unknown status";
+    }
+}
+
+#ifdef __cplusplus
+}
+#endif
+#endif

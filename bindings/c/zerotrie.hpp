@@ -1,0 +1,217 @@
+// zerotrie for C++17: views over zerotrie.h, whose rules hold here too. Keys are std::string_view, of any bytes.
+#pragma once
+#include "zerotrie.h"
+
+#include <cstddef>
+#include <iterator>
+#include <optional>
+#include <stdexcept>
+#include <string>
+#include <string_view>
+#include <utility>
+#include <vector>
+
+namespace zerotrie {
+
+enum class Kind : uint32_t {
+    SimpleAscii = ZEROTRIE_SIMPLE_ASCII,
+    PerfectHash = ZEROTRIE_PERFECT_HASH,
+    ExtendedCapacity = ZEROTRIE_EXTENDED_CAPACITY,
+    IgnoreCase = ZEROTRIE_IGNORE_CASE,
+};
+
+// Why something was refused: what() is the text of `status`.
+class Error : public std::runtime_error {
+public:
+    explicit Error(uint32_t number) : std::runtime_error(zerotrie_status_text(number)), status(number) {}
+    uint32_t status;
+};
+
+namespace detail {
+inline zerotrie_bytes of(std::string_view text) { return zerotrie_bytes_of(text.data(), text.size()); }
+inline std::string_view text_of(zerotrie_bytes bytes) { return {reinterpret_cast<const char *>(bytes.ptr), bytes.len}; }
+inline uint8_t *room(std::string &text) { return reinterpret_cast<uint8_t *>(text.data()); }
+inline void check(uint32_t status) {
+    if (status != ZEROTRIE_DONE) throw Error(status);
+}
+} // namespace detail
+
+// A place in a trie. A copy is a place of its own. The trie's bytes have to outlive it.
+class Cursor {
+public:
+    Cursor(Kind kind, std::string_view bytes) : kind_(kind) {
+        const auto at = detail::of(bytes);
+        zerotrie_cursor_new(at.ptr, at.len, &cursor_);
+    }
+    Cursor(Kind kind, zerotrie_cursor cursor) : kind_(kind), cursor_(cursor) {}
+    // Goes along the edge that is the byte to the kind, and answers it as it is stored. None: nothing is left.
+    std::optional<uint8_t> step(uint8_t byte) {
+        uint8_t edge = 0;
+        if (!zerotrie_cursor_step(number(), &cursor_, byte, &edge)) return std::nullopt;
+        return edge;
+    }
+    // The same along edge number `index`; answers its byte and how many edges there are.
+    std::optional<std::pair<uint8_t, uint16_t>> probe(size_t index) {
+        uint8_t edge = 0;
+        uint16_t siblings = 0;
+        if (!zerotrie_cursor_probe(number(), &cursor_, index, &edge, &siblings)) return std::nullopt;
+        return std::pair(edge, siblings);
+    }
+    // Takes the value of the key that ends here.
+    std::optional<size_t> take_value() {
+        size_t value = 0;
+        if (!zerotrie_cursor_take_value(&cursor_, &value)) return std::nullopt;
+        return value;
+    }
+    // What is left of the span that it stands in: every key goes on with it. Empty outside of spans.
+    std::string_view run() const { return detail::text_of(cursor_.run); }
+    bool is_empty() const { return cursor_.run.len == 0 && cursor_.trie.len == 0; }
+
+private:
+    uint32_t number() const { return static_cast<uint32_t>(kind_); }
+    Kind kind_;
+    zerotrie_cursor cursor_{};
+};
+
+// The pairs of a trie, in the order of its bytes: a range whose elements are pairs of a std::string_view and a value.
+class Items {
+public:
+    using value_type = std::pair<std::string_view, size_t>;
+    class iterator {
+    public:
+        using iterator_category = std::input_iterator_tag;
+        using value_type = Items::value_type;
+        using difference_type = std::ptrdiff_t;
+        using pointer = const value_type *;
+        using reference = value_type;
+        iterator(const Items *items, size_t at) : items_(items), at_(at) {}
+        value_type operator*() const { return (*items_)[at_]; }
+        iterator &operator++() { return ++at_, *this; }
+        iterator operator++(int) { auto old = *this; return ++at_, old; }
+        bool operator==(const iterator &other) const { return at_ == other.at_; }
+        bool operator!=(const iterator &other) const { return at_ != other.at_; }
+
+    private:
+        const Items *items_;
+        size_t at_;
+    };
+    Items(Kind kind, std::string_view bytes, std::string_view prefix) {
+        const auto trie = detail::of(bytes), front = detail::of(prefix);
+        size_t key_bytes = 8 * trie.len, count = trie.len;
+        uint32_t status = ZEROTRIE_BUFFER_TOO_SMALL;
+        for (int turn = 0; turn < 2 && status == ZEROTRIE_BUFFER_TOO_SMALL; turn++) {
+            // one place more than is wanted, so that there is one to point at
+            keys_.resize(key_bytes + 1), ends_.resize(count + 1), values_.resize(count + 1);
+            status = zerotrie_list(static_cast<uint32_t>(kind), trie.ptr, trie.len, front.ptr, front.len, detail::room(keys_),
+                                   key_bytes, ends_.data(), count, values_.data(), count, &key_bytes, &count);
+        }
+        detail::check(status);
+        count_ = count;
+    }
+    size_t size() const { return count_; }
+    bool empty() const { return count_ == 0; }
+    value_type operator[](size_t i) const {
+        const size_t from = i == 0 ? 0 : ends_[i - 1];
+        return {std::string_view(keys_).substr(from, ends_[i] - from), values_[i]};
+    }
+    iterator begin() const { return {this, 0}; }
+    iterator end() const { return {this, count_}; }
+
+private:
+    std::string keys_;
+    std::vector<size_t> ends_, values_;
+    size_t count_ = 0;
+};
+
+// A trie over bytes that lie elsewhere, which have to outlive it.
+class Trie {
+public:
+    // The bytes are not tested; if they are no trie of the kind, each call answers something.
+    Trie(Kind kind, std::string_view bytes) : kind_(kind), bytes_(bytes) {}
+    // None if the bytes are no trie of the kind.
+    static std::optional<Trie> checked(Kind kind, std::string_view bytes) {
+        const auto at = detail::of(bytes);
+        if (!zerotrie_is_well_formed(static_cast<uint32_t>(kind), at.ptr, at.len)) return std::nullopt;
+        return Trie(kind, bytes);
+    }
+    // Of tagged bytes. None if they have no tag of a kind, or are no trie of it.
+    static std::optional<Trie> from_tagged(std::string_view tagged) {
+        const auto at = detail::of(tagged);
+        uint32_t kind = 0;
+        zerotrie_bytes behind{};
+        if (zerotrie_untagged(at.ptr, at.len, &kind, &behind) != ZEROTRIE_DONE) return std::nullopt;
+        return checked(static_cast<Kind>(kind), detail::text_of(behind));
+    }
+    Kind kind() const { return kind_; }
+    std::string_view bytes() const { return bytes_; }
+    std::optional<size_t> get(std::string_view key) const {
+        const auto at = detail::of(bytes_), k = detail::of(key);
+        size_t value = 0;
+        if (!zerotrie_get(number(), at.ptr, at.len, k.ptr, k.len, &value)) return std::nullopt;
+        return value;
+    }
+    bool contains(std::string_view key) const { return get(key).has_value(); }
+    // The longest key that the text begins with, and its value.
+    std::optional<std::pair<std::string_view, size_t>> longest_prefix(std::string_view text) const {
+        const auto at = detail::of(bytes_), t = detail::of(text);
+        size_t len = 0, value = 0;
+        if (!zerotrie_longest_prefix(number(), at.ptr, at.len, t.ptr, t.len, &len, &value)) return std::nullopt;
+        return std::pair(text.substr(0, len), value);
+    }
+    Cursor cursor() const { return Cursor(kind_, bytes_); }
+    // A cursor behind a prefix. None if no key begins with it.
+    std::optional<Cursor> with_prefix(std::string_view prefix) const {
+        const auto at = detail::of(bytes_), p = detail::of(prefix);
+        zerotrie_cursor cursor;
+        if (!zerotrie_with_prefix(number(), at.ptr, at.len, p.ptr, p.len, &cursor)) return std::nullopt;
+        return Cursor(kind_, cursor);
+    }
+    // The pairs, or those whose keys begin with a prefix.
+    Items items(std::string_view prefix = {}) const { return Items(kind_, bytes_, prefix); }
+
+private:
+    uint32_t number() const { return static_cast<uint32_t>(kind_); }
+    Kind kind_;
+    std::string_view bytes_;
+};
+
+// Pairs as C has them, of any range whose elements have a key, which makes a std::string_view, and a value.
+template <class Pairs> std::vector<zerotrie_pair> pairs_of(const Pairs &pairs) {
+    std::vector<zerotrie_pair> items;
+    for (const auto &[key, value] : pairs) items.push_back({detail::of(std::string_view(key)), static_cast<size_t>(value)});
+    items.reserve(1);
+    return items;
+}
+
+// The bytes of the trie of pairs in any order. Throws Error.
+template <class Pairs> std::string build(Kind kind, const Pairs &pairs) {
+    const auto items = pairs_of(pairs);
+    size_t len = 16;
+    for (const auto &item : items) len += item.key.len + 4;
+    std::string out;
+    uint32_t status = ZEROTRIE_BUFFER_TOO_SMALL;
+    for (int turn = 0; turn < 2 && status == ZEROTRIE_BUFFER_TOO_SMALL; turn++) {
+        out.resize(len);
+        status = zerotrie_build(static_cast<uint32_t>(kind), items.data(), items.size(), detail::room(out), out.size(), &len);
+    }
+    detail::check(status);
+    out.resize(len);
+    return out;
+}
+
+// The kind for pairs if you have no wish.
+template <class Pairs> Kind auto_kind(const Pairs &pairs) {
+    const auto items = pairs_of(pairs);
+    return static_cast<Kind>(zerotrie_auto_kind(items.data(), items.size()));
+}
+
+// The bytes behind the number of their kind.
+inline std::string tagged(Kind kind, std::string_view bytes) {
+    const auto at = detail::of(bytes);
+    std::string out(bytes.size() + 1, '\0');
+    size_t len = 0;
+    detail::check(zerotrie_tagged(static_cast<uint32_t>(kind), at.ptr, at.len, detail::room(out), out.size(), &len));
+    return out;
+}
+
+} // namespace zerotrie

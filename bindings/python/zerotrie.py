@@ -1,0 +1,377 @@
+"""Maps from byte strings to numbers, read from flat bytes: zerotrie for Python, by ctypes over a library that is proved.
+
+    >>> trie = ZeroTrie(build({"foo": 1, "bar": 2, "bazzoo": 3}, SIMPLE_ASCII), SIMPLE_ASCII)
+    >>> trie["bar"], trie.get("unknown"), trie.longest_prefix("barn")
+    (2, None, (b'bar', 2))
+    >>> dict(trie.items("ba"))
+    {b'bar': 2, b'bazzoo': 3}
+
+A trie lies in anything that lends bytes: `bytes`, a `memoryview`, an `mmap.mmap`. Nothing is copied, so one file can serve
+many processes. Keys are bytes, or text, which stands for its UTF-8.
+
+The library is found by the variable ZEROTRIE_SO, else beside this file, else by the system's loader. Calls let other
+threads run. Values are from 0 to 2**64 - 1.
+"""
+
+from __future__ import annotations
+
+import array
+import ctypes
+import mmap
+import os
+from collections.abc import Iterable, Iterator, Mapping
+from ctypes import POINTER, Structure, c_bool, c_char_p, c_size_t, c_uint8, c_uint16, c_uint32, c_void_p
+from typing import Any, Optional, Union
+
+__all__ = [
+    "SIMPLE_ASCII", "PERFECT_HASH", "EXTENDED_CAPACITY", "IGNORE_CASE",
+    "Cursor", "ZeroTrie", "ZeroTrieError", "auto_kind", "build", "encoded_len", "tagged",
+]
+
+Key = Union[str, bytes, bytearray, memoryview]
+Pairs = Union[Mapping[Any, int], Iterable["tuple[Key, int]"]]
+
+#: The kinds of trie, by the numbers of tagged bytes.
+SIMPLE_ASCII, PERFECT_HASH, EXTENDED_CAPACITY, IGNORE_CASE = 0, 3, 7, 8
+
+_DONE, _TOO_SMALL, _NO_MEMORY = 0, 8, 11
+_TEXTS = {
+    1: "Non-ASCII cannot be added to an ASCII-only trie",
+    2: "Reached maximum capacity of trie",
+    3: "Failed to solve the perfect hash function. This is rare! Please report your case to the ICU4X team.",
+    4: "Mixed-case data added to case-insensitive trie",
+    6: "The same key was given twice",
+    7: "Keys are not in strictly ascending order",
+    12: "The number is no kind of trie",
+    13: "There are no tagged bytes",
+    14: "The first byte is the tag of no kind",
+}
+
+
+class ZeroTrieError(ValueError):
+    """Why something was refused. `status` is the number that zerotrie.h has for it."""
+
+    def __init__(self, status: int) -> None:
+        super().__init__(_TEXTS.get(status, "Unknown status"))
+        self.status = status
+
+
+class _Bytes(Structure):
+    # c_char_p keeps the bytes object that it is given, so that its bytes stay where they lie
+    _fields_ = [("ptr", c_char_p), ("len", c_size_t)]
+
+
+class _Pair(Structure):
+    _fields_ = [("key", _Bytes), ("value", c_size_t)]
+
+
+class _Part(Structure):
+    _fields_ = [("ptr", c_void_p), ("len", c_size_t)]
+
+
+class _Cursor(Structure):
+    _fields_ = [("run", _Part), ("trie", _Part)]
+
+
+_TEXT = [c_char_p, c_size_t]
+_LENT = [c_void_p, c_size_t]
+_ROOM = [POINTER(c_uint8), c_size_t]
+_SIZES = [POINTER(c_size_t), c_size_t]
+_SIZE = POINTER(c_size_t)
+_PAIRS = [POINTER(_Pair), c_size_t]
+
+#: What each function answers and takes. The test compares this with zerotrie.h.
+_DECLARED = {
+    "zerotrie_is_well_formed": (c_bool, [c_uint32, *_LENT]),
+    "zerotrie_get": (c_bool, [c_uint32, *_LENT, *_TEXT, _SIZE]),
+    "zerotrie_get_many": (c_uint32, [c_uint32, *_LENT, *_TEXT, *_SIZES, c_size_t, *_SIZES]),
+    "zerotrie_longest_prefix": (c_bool, [c_uint32, *_LENT, *_TEXT, _SIZE, _SIZE]),
+    "zerotrie_cursor_new": (None, [*_LENT, POINTER(_Cursor)]),
+    "zerotrie_with_prefix": (c_bool, [c_uint32, *_LENT, *_TEXT, POINTER(_Cursor)]),
+    "zerotrie_cursor_step": (c_bool, [c_uint32, POINTER(_Cursor), c_uint8, POINTER(c_uint8)]),
+    "zerotrie_cursor_take_value": (c_bool, [POINTER(_Cursor), _SIZE]),
+    "zerotrie_cursor_probe": (c_bool, [c_uint32, POINTER(_Cursor), c_size_t, POINTER(c_uint8), POINTER(c_uint16)]),
+    "zerotrie_untagged": (c_uint32, [*_LENT, POINTER(c_uint32), POINTER(_Part)]),
+    "zerotrie_build": (c_uint32, [c_uint32, *_PAIRS, *_ROOM, _SIZE]),
+    "zerotrie_build_sorted": (c_uint32, [c_uint32, *_PAIRS, *_ROOM, _SIZE]),
+    "zerotrie_encoded_len": (c_uint32, [c_uint32, *_PAIRS, _SIZE]),
+    "zerotrie_auto_kind": (c_uint32, _PAIRS),
+    "zerotrie_tagged": (c_uint32, [c_uint32, *_LENT, *_ROOM, _SIZE]),
+    "zerotrie_list": (c_uint32, [c_uint32, *_LENT, *_TEXT, *_ROOM, *_SIZES, *_SIZES, _SIZE, _SIZE]),
+}
+
+
+def _load() -> ctypes.CDLL:
+    beside = os.path.join(os.path.dirname(os.path.abspath(__file__)), "libzerotrie.so")
+    lib = ctypes.CDLL(os.environ.get("ZEROTRIE_SO") or (beside if os.path.exists(beside) else "libzerotrie.so.0"))
+    for name, (result, arguments) in _DECLARED.items():
+        function = getattr(lib, name)
+        function.restype, function.argtypes = result, arguments
+    return lib
+
+
+_lib = _load()
+
+
+def _key(key: Key) -> bytes:
+    if type(key) is bytes:
+        return key
+    return key.encode() if isinstance(key, str) else bytes(key)
+
+
+def _raw_pairs(pairs: Pairs) -> "ctypes.Array[_Pair]":
+    given = list(pairs.items() if isinstance(pairs, Mapping) else pairs)
+    raw = (_Pair * max(1, len(given)))()
+    for place, (key, value) in zip(raw, given):
+        if not 0 <= value < 1 << 64:
+            raise OverflowError("a value is from 0 to 2**64 - 1")
+        text = _key(key)
+        place.key.ptr, place.key.len, place.value = text, len(text), value
+    raw.count = len(given)
+    return raw
+
+
+def _check(status: int) -> None:
+    if status == _NO_MEMORY:
+        raise MemoryError
+    if status != _DONE:
+        raise ZeroTrieError(status)
+
+
+def build(pairs: Pairs, kind: Optional[int] = None) -> bytes:
+    """The bytes of the trie of pairs in any order, or of a mapping. With no kind it is that of auto_kind()."""
+    raw = _raw_pairs(pairs)
+    if kind is None:
+        kind = _lib.zerotrie_auto_kind(raw, raw.count)
+    length = c_size_t(sum(pair.key.len + 4 for pair in raw))
+    for _ in range(2):
+        room = (c_uint8 * max(1, length.value))()
+        status = _lib.zerotrie_build(kind, raw, raw.count, room, len(room), length)
+        if status != _TOO_SMALL:
+            break
+    _check(status)
+    return bytes(memoryview(room)[: length.value])
+
+
+def auto_kind(pairs: Pairs) -> int:
+    """SIMPLE_ASCII if all keys are ASCII and there are fewer than 512, else PERFECT_HASH."""
+    raw = _raw_pairs(pairs)
+    return _lib.zerotrie_auto_kind(raw, raw.count)
+
+
+def encoded_len(pairs: Pairs, kind: int) -> int:
+    """How many bytes the trie has of pairs whose keys ascend by their bytes."""
+    raw, length = _raw_pairs(pairs), c_size_t()
+    _check(_lib.zerotrie_encoded_len(kind, raw, raw.count, length))
+    return length.value
+
+
+def tagged(data: bytes, kind: int) -> bytes:
+    """The number of the kind, then the bytes."""
+    room, length = (c_uint8 * (len(data) + 1))(), c_size_t()
+    lent = ctypes.cast(ctypes.c_char_p(bytes(data)), c_void_p)
+    _check(_lib.zerotrie_tagged(kind, lent, len(data), room, len(room), length))
+    return bytes(room)
+
+
+class Cursor:
+    """A place in a trie, between two bytes of keys."""
+
+    __slots__ = ("_trie", "_raw")
+
+    def __init__(self, trie: ZeroTrie) -> None:
+        self._trie, self._raw = trie, _Cursor()
+        _lib.zerotrie_cursor_new(trie._at, trie._len, self._raw)
+
+    def step(self, byte: int) -> Optional[int]:
+        """Goes along the edge that is the byte to the kind, and answers its byte. None: nothing is left."""
+        edge = c_uint8()
+        return edge.value if _lib.zerotrie_cursor_step(self._trie.kind, self._raw, byte, edge) else None
+
+    def probe(self, index: int) -> Optional[tuple[int, int]]:
+        """Goes along edge number `index`, and answers its byte and how many edges there are. None: nothing is left."""
+        edge, siblings = c_uint8(), c_uint16()
+        found = _lib.zerotrie_cursor_probe(self._trie.kind, self._raw, index, edge, siblings)
+        return (edge.value, siblings.value) if found else None
+
+    def take_value(self) -> Optional[int]:
+        """Takes the value of the key that ends here."""
+        value = c_size_t()
+        return value.value if _lib.zerotrie_cursor_take_value(self._raw, value) else None
+
+    @property
+    def run(self) -> bytes:
+        """What is left of the span that it stands in: each key goes on with it. Empty outside of spans."""
+        return ctypes.string_at(self._raw.run.ptr, self._raw.run.len)
+
+    def copy(self) -> Cursor:
+        made = Cursor.__new__(Cursor)
+        made._trie, made._raw = self._trie, _Cursor.from_buffer_copy(self._raw)
+        return made
+
+    __copy__ = copy
+
+    def __bool__(self) -> bool:
+        """Whether some key goes on from here."""
+        return self._raw.run.len + self._raw.trie.len > 0
+
+
+class ZeroTrie(Mapping):
+    """A map from byte strings to numbers, over bytes that are not copied.
+
+    Unless `check` is false, the bytes are tested first: ValueError if they are no trie of the kind.
+    """
+
+    __slots__ = ("kind", "_data", "_view", "_at", "_len", "__weakref__")
+
+    def __init__(self, data: Any, kind: int = SIMPLE_ASCII, check: bool = True) -> None:
+        self.kind, self._data = kind, data
+        self._view = memoryview(data).cast("B")
+        self._len = len(self._view)
+        if not self._len:
+            self._at = ctypes.cast(c_char_p(b""), c_void_p)
+        elif type(data) is bytes:
+            self._at = ctypes.cast(c_char_p(data), c_void_p)
+        elif self._view.readonly:
+            # ctypes lends no bytes that are read-only: ask the buffer itself where it lies
+            self._at = c_void_p(_address(self._view))
+        else:
+            self._at = c_void_p(ctypes.addressof(c_uint8.from_buffer(self._view)))
+        if check and not self.is_well_formed():
+            raise ValueError("the bytes are no trie of the kind")
+
+    @classmethod
+    def build(cls, pairs: Pairs, kind: Optional[int] = None) -> ZeroTrie:
+        """The trie of pairs in any order, or of a mapping."""
+        raw = list(pairs.items() if isinstance(pairs, Mapping) else pairs)
+        kind = auto_kind(raw) if kind is None else kind
+        return cls(build(raw, kind), kind, check=False)
+
+    @classmethod
+    def from_tagged(cls, data: Any, check: bool = True) -> ZeroTrie:
+        """The trie of tagged bytes, which tell their kind."""
+        view = memoryview(data).cast("B")
+        first = bytes(view[:1])
+        kind, part = c_uint32(), _Part()
+        _check(_lib.zerotrie_untagged(ctypes.cast(c_char_p(first), c_void_p), len(first), kind, part))
+        return cls(data[1:] if type(data) is bytes else view[1:], kind.value, check)
+
+    @classmethod
+    def open(cls, path: Any, kind: Optional[int] = None, check: bool = True) -> ZeroTrie:
+        """The trie that a file holds, mapped into memory: tagged bytes, or, with a kind, the trie alone."""
+        with open(path, "rb") as file:
+            size = os.fstat(file.fileno()).st_size
+            data: Any = mmap.mmap(file.fileno(), 0, access=mmap.ACCESS_READ) if size else b""
+        return cls.from_tagged(data, check) if kind is None else cls(data, kind, check)
+
+    def is_well_formed(self) -> bool:
+        """Whether the bytes are a trie of the kind, every rule of the format kept."""
+        return _lib.zerotrie_is_well_formed(self.kind, self._at, self._len)
+
+    def get(self, key: Key, default: Any = None) -> Any:
+        text, value = _key(key), c_size_t()
+        found = _lib.zerotrie_get(self.kind, self._at, self._len, text, len(text), value)
+        return value.value if found else default
+
+    def get_many(self, keys: Iterable[Key], missing: int = (1 << 64) - 1) -> array.array:
+        """The value of each key, or `missing`, as an array of numbers: one call for all."""
+        texts = [_key(key) for key in keys]
+        ends, at = array.array("Q", bytes(8 * max(1, len(texts)))), 0
+        for number, text in enumerate(texts):
+            at += len(text)
+            ends[number] = at
+        values = array.array("Q", bytes(8 * max(1, len(texts))))
+        sizes = c_size_t * len(values)
+        _check(_lib.zerotrie_get_many(self.kind, self._at, self._len, b"".join(texts), at, sizes.from_buffer(ends), len(texts),
+                                      missing, sizes.from_buffer(values), len(texts)))
+        return values[: len(texts)]
+
+    def longest_prefix(self, text: Key) -> Optional[tuple[bytes, int]]:
+        """The longest key that the text begins with, and its value."""
+        text, length, value = _key(text), c_size_t(), c_size_t()
+        found = _lib.zerotrie_longest_prefix(self.kind, self._at, self._len, text, len(text), length, value)
+        return (text[: length.value], value.value) if found else None
+
+    def __getitem__(self, key: Key) -> int:
+        text, value = _key(key), c_size_t()
+        if not _lib.zerotrie_get(self.kind, self._at, self._len, text, len(text), value):
+            raise KeyError(key)
+        return value.value
+
+    def __contains__(self, key: object) -> bool:
+        return self.get(key) is not None  # type: ignore[arg-type]
+
+    def cursor(self) -> Cursor:
+        """A cursor in front of all keys."""
+        return Cursor(self)
+
+    def with_prefix(self, prefix: Key) -> Optional[Cursor]:
+        """A cursor behind a prefix. None if no key begins with it."""
+        cursor, text = Cursor(self), _key(prefix)
+        found = _lib.zerotrie_with_prefix(self.kind, self._at, self._len, text, len(text), cursor._raw)
+        return cursor if found else None
+
+    def _listed(self, prefix: Key) -> tuple[bytes, Any, Any, int]:
+        front, key_bytes, count = _key(prefix), c_size_t(8 * self._len), c_size_t(self._len)
+        for _ in range(2):
+            n, k = count.value, key_bytes.value
+            keys, ends, values = (c_uint8 * max(1, k))(), (c_size_t * max(1, n))(), (c_size_t * max(1, n))()
+            status = _lib.zerotrie_list(self.kind, self._at, self._len, front, len(front), keys, k, ends, n, values, n,
+                                        key_bytes, count)
+            if status != _TOO_SMALL:
+                break
+        _check(status)
+        return bytes(memoryview(keys)[: key_bytes.value]), ends, values, count.value
+
+    def items(self, prefix: Key = b"") -> Iterator[tuple[bytes, int]]:  # type: ignore[override]
+        """The pairs whose keys begin with the prefix, in the order of the trie's bytes."""
+        keys, ends, values, count = self._listed(prefix)
+        at = 0
+        for number in range(count):
+            yield keys[at : ends[number]], values[number]
+            at = ends[number]
+
+    def keys(self, prefix: Key = b"") -> Iterator[bytes]:  # type: ignore[override]
+        return (key for key, _ in self.items(prefix))
+
+    def values(self, prefix: Key = b"") -> Iterator[int]:  # type: ignore[override]
+        return (value for _, value in self.items(prefix))
+
+    def __iter__(self) -> Iterator[bytes]:
+        return self.keys()
+
+    def __len__(self) -> int:
+        return self._listed(b"")[3]
+
+    def __bool__(self) -> bool:
+        return self._len > 0
+
+    def __bytes__(self) -> bytes:
+        return bytes(self._view)
+
+    def to_tagged(self) -> bytes:
+        return tagged(bytes(self._view), self.kind)
+
+    def __eq__(self, other: object) -> bool:
+        return isinstance(other, ZeroTrie) and (self.kind, self._view) == (other.kind, other._view)
+
+    def __hash__(self) -> int:
+        return hash((self.kind, bytes(self._view)))
+
+    def __repr__(self) -> str:
+        return f"ZeroTrie({bytes(self._view)!r}, kind={self.kind})"
+
+
+class _Buffer(Structure):
+    # the front of CPython's Py_buffer
+    _fields_ = [("buf", c_void_p), ("obj", ctypes.py_object), ("len", ctypes.c_ssize_t), ("rest", c_uint8 * 64)]
+
+
+def _address(view: memoryview) -> int:
+    """Where read-only bytes lie. The view is kept by the trie, and keeps them there."""
+    got = _Buffer()
+    ctypes.pythonapi.PyObject_GetBuffer(ctypes.py_object(view), ctypes.byref(got), 0)
+    try:
+        return got.buf or 0
+    finally:
+        ctypes.pythonapi.PyBuffer_Release(ctypes.byref(got))

@@ -1,0 +1,49 @@
+//! The declarations of `c/zerotrie.h`. `bindings/test` compares them with it.
+
+#[repr(C)]
+#[derive(Clone, Copy)]
+pub struct Bytes {
+    pub ptr: *const u8,
+    pub len: usize,
+}
+
+#[repr(C)]
+#[derive(Clone, Copy)]
+pub struct Pair {
+    pub key: Bytes,
+    pub value: usize,
+}
+
+#[repr(C)]
+#[derive(Clone, Copy)]
+pub struct Cursor {
+    pub run: Bytes,
+    pub trie: Bytes,
+}
+
+#[rustfmt::skip]
+unsafe extern "C" {
+    pub fn zerotrie_is_well_formed(kind: u32, bytes: *const u8, len: usize) -> bool;
+    pub fn zerotrie_get(kind: u32, bytes: *const u8, len: usize, key: *const u8, key_len: usize, value: *mut usize) -> bool;
+    pub fn zerotrie_get_many(kind: u32, bytes: *const u8, len: usize, keys: *const u8, keys_len: usize, ends: *const usize,
+        ends_len: usize, missing: usize, values: *mut usize, values_len: usize) -> u32;
+    pub fn zerotrie_longest_prefix(kind: u32, bytes: *const u8, len: usize, text: *const u8, text_len: usize,
+        key_len: *mut usize, value: *mut usize) -> bool;
+    pub fn zerotrie_cursor_new(bytes: *const u8, len: usize, cursor: *mut Cursor);
+    pub fn zerotrie_with_prefix(kind: u32, bytes: *const u8, len: usize, prefix: *const u8, prefix_len: usize,
+        cursor: *mut Cursor) -> bool;
+    pub fn zerotrie_cursor_step(kind: u32, cursor: *mut Cursor, byte: u8, edge: *mut u8) -> bool;
+    pub fn zerotrie_cursor_take_value(cursor: *mut Cursor, value: *mut usize) -> bool;
+    pub fn zerotrie_cursor_probe(kind: u32, cursor: *mut Cursor, index: usize, edge: *mut u8, siblings: *mut u16) -> bool;
+    pub fn zerotrie_untagged(tagged: *const u8, len: usize, kind: *mut u32, trie: *mut Bytes) -> u32;
+    pub fn zerotrie_build(kind: u32, pairs: *const Pair, count: usize, out: *mut u8, out_len: usize, len: *mut usize) -> u32;
+    pub fn zerotrie_build_sorted(kind: u32, pairs: *const Pair, count: usize, out: *mut u8, out_len: usize,
+        len: *mut usize) -> u32;
+    pub fn zerotrie_encoded_len(kind: u32, pairs: *const Pair, count: usize, len: *mut usize) -> u32;
+    pub fn zerotrie_auto_kind(pairs: *const Pair, count: usize) -> u32;
+    pub fn zerotrie_tagged(kind: u32, bytes: *const u8, len: usize, out: *mut u8, out_len: usize, tagged_len: *mut usize)
+        -> u32;
+    pub fn zerotrie_list(kind: u32, bytes: *const u8, len: usize, prefix: *const u8, prefix_len: usize, keys: *mut u8,
+        keys_len: usize, ends: *mut usize, ends_len: usize, values: *mut usize, values_len: usize, key_bytes: *mut usize,
+        count: *mut usize) -> u32;
+}

@@ -1,0 +1,525 @@
+//! Maps from byte strings to numbers, read from flat bytes: safe Rust over a library that is proved.
+//!
+//! ```
+//! use zerotrie_proved::{Kind, ZeroTrie, build};
+//!
+//! let bytes = build(Kind::SimpleAscii, [("foo", 1), ("bar", 2), ("bazzoo", 3)])?;
+//! let trie = ZeroTrie::try_from_bytes(Kind::SimpleAscii, &bytes)?;
+//! assert_eq!((trie.get("bar"), trie.get("unknown")), (Some(2), None));
+//! assert_eq!(trie.longest_prefix("barn"), Some(("bar".as_bytes(), 2)));
+//! assert_eq!(bytes.len(), 17);
+//! # Ok::<(), zerotrie_proved::Error>(())
+//! ```
+//!
+//! The library asks nothing of a call beside what its pointers owe, and slices of Rust give that. So each function here is
+//! safe: it returns on any bytes, and any number of threads may read one trie at once.
+#![no_std]
+extern crate alloc;
+
+use alloc::{vec, vec::Vec};
+use core::{fmt, iter::FusedIterator, marker::PhantomData};
+
+mod ffi;
+
+/// The kind of a trie. Its number is that of tagged bytes.
+#[derive(Clone, Copy, Debug, PartialEq, Eq, Hash)]
+#[repr(u32)]
+pub enum Kind {
+    /// ASCII keys.
+    SimpleAscii = 0,
+    /// Any bytes; a branch of 16 edges or more is a perfect hash.
+    PerfectHash = 3,
+    /// The same, and a branch may reach 2^32 bytes.
+    ExtendedCapacity = 7,
+    /// ASCII keys, whose letters are found in either case.
+    IgnoreCase = 8,
+}
+
+impl Kind {
+    /// The kind for pairs if you have no wish: `SimpleAscii` if all keys are ASCII and there are fewer than 512, else
+    /// `PerfectHash`.
+    pub fn for_pairs<K: AsRef<[u8]>>(pairs: &[(K, usize)]) -> Kind {
+        let pairs = raw_pairs(pairs);
+        // SAFETY: a slice of pairs, whose keys are borrowed.
+        Kind::of(unsafe { ffi::zerotrie_auto_kind(pairs.as_ptr(), pairs.len()) }).unwrap_or(Kind::PerfectHash)
+    }
+
+    fn of(number: u32) -> Option<Kind> {
+        [Kind::SimpleAscii, Kind::PerfectHash, Kind::ExtendedCapacity, Kind::IgnoreCase]
+            .into_iter()
+            .find(|kind| *kind as u32 == number)
+    }
+}
+
+/// Why something was refused.
+#[derive(Clone, Copy, Debug, PartialEq, Eq, Hash)]
+#[non_exhaustive]
+pub enum Error {
+    /// A key holds a byte of 128 or more, and the kind is for ASCII alone.
+    NonAscii,
+    /// A branch would reach 2^32 bytes, or the trie 2^64.
+    CapacityExceeded,
+    /// No perfect hash was found for the edges of a branch.
+    NoPerfectHash,
+    /// Two keys begin alike up to case but not byte by byte, in the kind that ignores case.
+    MixedCase,
+    /// A key comes twice.
+    DuplicateKey,
+    /// The keys don't ascend strictly by their bytes.
+    Unsorted,
+    /// Memory was refused.
+    OutOfMemory,
+    /// There are no tagged bytes.
+    NoTag,
+    /// The first of tagged bytes is the number of no kind.
+    InvalidTag,
+    /// The bytes are no trie of the kind.
+    NotWellFormed,
+    /// A number that this crate doesn't know, as of another library.
+    Unknown(u32),
+}
+
+impl Error {
+    fn of(status: u32) -> Self {
+        match status {
+            1 => Error::NonAscii,
+            2 => Error::CapacityExceeded,
+            3 => Error::NoPerfectHash,
+            4 => Error::MixedCase,
+            6 => Error::DuplicateKey,
+            7 => Error::Unsorted,
+            11 => Error::OutOfMemory,
+            13 => Error::NoTag,
+            14 => Error::InvalidTag,
+            other => Error::Unknown(other),
+        }
+    }
+}
+
+impl fmt::Display for Error {
+    fn fmt(&self, f: &mut fmt::Formatter<'_>) -> fmt::Result {
+        f.write_str(match self {
+            Error::NonAscii => "Non-ASCII cannot be added to an ASCII-only trie",
+            Error::CapacityExceeded => "Reached maximum capacity of trie",
+            Error::NoPerfectHash => "Failed to solve the perfect hash function. This is rare! Please report your case to the ICU4X team.",
+            Error::MixedCase => "Mixed-case data added to case-insensitive trie",
+            Error::DuplicateKey => "The same key was given twice",
+            Error::Unsorted => "Keys are not in strictly ascending order",
+            Error::OutOfMemory => "Out of memory",
+            Error::NoTag => "There are no tagged bytes",
+            Error::InvalidTag => "The first byte is the tag of no kind",
+            Error::NotWellFormed => "The bytes are no trie of the kind",
+            Error::Unknown(_) => "Unknown status",
+        })
+    }
+}
+
+impl core::error::Error for Error {}
+
+/// A map from byte strings to numbers, read from bytes where they lie.
+#[derive(Clone, Copy, Debug, PartialEq, Eq, Hash)]
+pub struct ZeroTrie<'a> {
+    kind: Kind,
+    bytes: &'a [u8],
+}
+
+impl<'a> ZeroTrie<'a> {
+    /// The trie of these bytes, which are not tested: if they are no trie of the kind, each call gives some answer.
+    pub const fn from_bytes(kind: Kind, bytes: &'a [u8]) -> Self {
+        ZeroTrie { kind, bytes }
+    }
+
+    /// The trie of these bytes, if they are one of the kind, and else `NotWellFormed`.
+    pub fn try_from_bytes(kind: Kind, bytes: &'a [u8]) -> Result<Self, Error> {
+        let trie = ZeroTrie { kind, bytes };
+        if trie.is_well_formed() { Ok(trie) } else { Err(Error::NotWellFormed) }
+    }
+
+    /// The trie of tagged bytes, which tell their kind. What stands behind the tag is not tested.
+    ///
+    /// ```
+    /// # use zerotrie_proved::{Error, Kind, ZeroTrie};
+    /// let trie = ZeroTrie::from_tagged(b"\x03a\x85")?;
+    /// assert_eq!((trie.kind(), trie.get("a")), (Kind::PerfectHash, Some(5)));
+    /// assert_eq!(ZeroTrie::from_tagged(b"\x05"), Err(Error::InvalidTag));
+    /// # Ok::<(), Error>(())
+    /// ```
+    pub fn from_tagged(tagged: &'a [u8]) -> Result<Self, Error> {
+        let (mut number, mut behind) = (0, ffi::Bytes { ptr: tagged.as_ptr(), len: 0 });
+        // SAFETY: a slice, and two places that are this call's own.
+        match unsafe { ffi::zerotrie_untagged(tagged.as_ptr(), tagged.len(), &mut number, &mut behind) } {
+            0 => {
+                let kind = Kind::of(number).ok_or(Error::InvalidTag)?;
+                // SAFETY: the library hands out a part of the bytes that it was given.
+                Ok(ZeroTrie { kind, bytes: unsafe { slice(behind) } })
+            }
+            status => Err(Error::of(status)),
+        }
+    }
+
+    /// The number of the kind, and then the bytes.
+    pub fn to_tagged(&self) -> Vec<u8> {
+        let (mut out, mut len) = (vec![0; self.bytes.len() + 1], 0);
+        // SAFETY: a slice that is read, one that is written and is this call's own, and a place.
+        let status = unsafe {
+            ffi::zerotrie_tagged(self.number(), self.bytes.as_ptr(), self.bytes.len(), out.as_mut_ptr(), out.len(), &mut len)
+        };
+        debug_assert_eq!((status, len), (0, out.len()));
+        out
+    }
+
+    /// Whether the bytes are a trie of the kind, every rule of the format kept.
+    pub fn is_well_formed(&self) -> bool {
+        // SAFETY: a slice, borrowed for the call.
+        unsafe { ffi::zerotrie_is_well_formed(self.number(), self.bytes.as_ptr(), self.bytes.len()) }
+    }
+
+    /// The kind of the trie.
+    pub const fn kind(&self) -> Kind {
+        self.kind
+    }
+
+    /// The bytes of the trie.
+    pub const fn as_bytes(&self) -> &'a [u8] {
+        self.bytes
+    }
+
+    const fn number(&self) -> u32 {
+        self.kind as u32
+    }
+
+    /// The value of the key, or `None` if the trie has no such key.
+    #[inline]
+    pub fn get(&self, key: impl AsRef<[u8]>) -> Option<usize> {
+        let (key, mut value) = (key.as_ref(), 0);
+        // SAFETY: two slices, and a place that is this call's own.
+        let found = unsafe {
+            ffi::zerotrie_get(self.number(), self.bytes.as_ptr(), self.bytes.len(), key.as_ptr(), key.len(), &mut value)
+        };
+        found.then_some(value)
+    }
+
+    /// Looks up keys that lie one behind another, each up to its end. Writes the value of each, or `missing` for a key that
+    /// the trie hasn't, as far as there is room; the rest of the room stays.
+    ///
+    /// ```
+    /// # use zerotrie_proved::{Kind, ZeroTrie};
+    /// let mut values = [0; 2];
+    /// ZeroTrie::from_bytes(Kind::SimpleAscii, b"a\x85").get_many(b"abc", &[1, 3], 99, &mut values);
+    /// assert_eq!(values, [5, 99]);
+    /// ```
+    ///
+    /// An end behind all bytes stands for theirs, and one below the end before it makes an empty key.
+    pub fn get_many(&self, keys: &[u8], ends: &[usize], missing: usize, values: &mut [usize]) {
+        // SAFETY: four slices, of which the one that is written is borrowed alone.
+        let status = unsafe {
+            ffi::zerotrie_get_many(
+                self.number(),
+                self.bytes.as_ptr(),
+                self.bytes.len(),
+                keys.as_ptr(),
+                keys.len(),
+                ends.as_ptr(),
+                ends.len(),
+                missing,
+                values.as_mut_ptr(),
+                values.len(),
+            )
+        };
+        debug_assert_eq!(status, 0);
+    }
+
+    /// The longest key that a text begins with, and its value. `None` if the text begins with no key.
+    pub fn longest_prefix<'t, T: AsRef<[u8]> + ?Sized>(&self, text: &'t T) -> Option<(&'t [u8], usize)> {
+        let (text, mut len, mut value) = (text.as_ref(), 0, 0);
+        // SAFETY: two slices, and two places that are this call's own.
+        let found = unsafe {
+            ffi::zerotrie_longest_prefix(
+                self.number(),
+                self.bytes.as_ptr(),
+                self.bytes.len(),
+                text.as_ptr(),
+                text.len(),
+                &mut len,
+                &mut value,
+            )
+        };
+        found.then(|| (&text[..len], value))
+    }
+
+    /// A cursor in front of all keys.
+    pub fn cursor(&self) -> Cursor<'a> {
+        let mut raw = nowhere(self.bytes);
+        // SAFETY: a slice, and a cursor that is this call's own.
+        unsafe { ffi::zerotrie_cursor_new(self.bytes.as_ptr(), self.bytes.len(), &mut raw) };
+        Cursor { kind: self.kind, raw, bytes: PhantomData }
+    }
+
+    /// A cursor behind a prefix. `None` if no key begins with it.
+    pub fn cursor_behind(&self, prefix: impl AsRef<[u8]>) -> Option<Cursor<'a>> {
+        let (prefix, mut raw) = (prefix.as_ref(), nowhere(self.bytes));
+        // SAFETY: two slices, and a cursor that is this call's own.
+        let some = unsafe {
+            ffi::zerotrie_with_prefix(
+                self.number(),
+                self.bytes.as_ptr(),
+                self.bytes.len(),
+                prefix.as_ptr(),
+                prefix.len(),
+                &mut raw,
+            )
+        };
+        some.then_some(Cursor { kind: self.kind, raw, bytes: PhantomData })
+    }
+
+    /// The pairs, one after another, in the order of the bytes. It goes on as it is asked, and keeps a key and the places
+    /// on the way to it.
+    ///
+    /// ```
+    /// # use zerotrie_proved::{Kind, ZeroTrie};
+    /// let pairs: Vec<_> = ZeroTrie::from_bytes(Kind::SimpleAscii, b"a\x85b\x86").iter().collect();
+    /// assert_eq!(pairs, [(b"a".to_vec(), 5), (b"ab".to_vec(), 6)]);
+    /// ```
+    pub fn iter(&self) -> Iter<'a> {
+        Iter { key: Vec::new(), places: vec![(self.cursor(), 0)] }
+    }
+
+    /// The pairs whose keys begin with a prefix, listed at once; each with its whole key.
+    pub fn prefix(&self, prefix: impl AsRef<[u8]>) -> Result<Items, Error> {
+        let prefix = prefix.as_ref();
+        let (mut key_bytes, mut count) = (0, 0);
+        let mut items = Items { keys: vec![], ends: vec![], values: vec![], next: 0 };
+        loop {
+            // SAFETY: two slices that are read, three that are written and are this call's own, and two places.
+            let status = unsafe {
+                ffi::zerotrie_list(
+                    self.number(),
+                    self.bytes.as_ptr(),
+                    self.bytes.len(),
+                    prefix.as_ptr(),
+                    prefix.len(),
+                    items.keys.as_mut_ptr(),
+                    items.keys.len(),
+                    items.ends.as_mut_ptr(),
+                    items.ends.len(),
+                    items.values.as_mut_ptr(),
+                    items.values.len(),
+                    &mut key_bytes,
+                    &mut count,
+                )
+            };
+            match status {
+                0 => return Ok(items),
+                8 => {
+                    items.keys.resize(key_bytes, 0);
+                    items.ends.resize(count, 0);
+                    items.values.resize(count, 0);
+                }
+                other => return Err(Error::of(other)),
+            }
+        }
+    }
+}
+
+impl<'a> IntoIterator for ZeroTrie<'a> {
+    type Item = (Vec<u8>, usize);
+    type IntoIter = Iter<'a>;
+
+    fn into_iter(self) -> Iter<'a> {
+        self.iter()
+    }
+}
+
+/// A place in a trie, between two bytes of keys. A copy is a place of its own.
+///
+/// ```
+/// # use zerotrie_proved::{Kind, ZeroTrie};
+/// let mut cursor = ZeroTrie::from_bytes(Kind::SimpleAscii, b"a\x85b\x86").cursor();
+/// assert_eq!((cursor.step(b'a'), cursor.take_value(), cursor.probe(0)), (Some(b'a'), Some(5), Some((b'b', 1))));
+/// ```
+#[derive(Clone, Copy)]
+pub struct Cursor<'a> {
+    kind: Kind,
+    raw: ffi::Cursor,
+    bytes: PhantomData<&'a [u8]>,
+}
+
+impl<'a> Cursor<'a> {
+    /// Goes along the edge that is the byte to the kind, and answers its byte. If there is none, nothing is left.
+    pub fn step(&mut self, byte: u8) -> Option<u8> {
+        let mut edge = 0;
+        // SAFETY: the library made the cursor over bytes that are still borrowed.
+        unsafe { ffi::zerotrie_cursor_step(self.kind as u32, &mut self.raw, byte, &mut edge) }.then_some(edge)
+    }
+
+    /// Goes along edge number `index`, and answers its byte and how many edges there are. If there is none, nothing is left.
+    pub fn probe(&mut self, index: usize) -> Option<(u8, u16)> {
+        let (mut edge, mut siblings) = (0, 0);
+        // SAFETY: as in `step`.
+        unsafe { ffi::zerotrie_cursor_probe(self.kind as u32, &mut self.raw, index, &mut edge, &mut siblings) }
+            .then_some((edge, siblings))
+    }
+
+    /// Takes the value of the key that ends here.
+    pub fn take_value(&mut self) -> Option<usize> {
+        let mut value = 0;
+        // SAFETY: as in `step`.
+        unsafe { ffi::zerotrie_cursor_take_value(&mut self.raw, &mut value) }.then_some(value)
+    }
+
+    /// What is left of the span that the cursor stands in: each key goes on with it. It is empty outside of spans.
+    pub fn run(&self) -> &'a [u8] {
+        // SAFETY: both parts of a cursor are parts of the bytes that it was made over.
+        unsafe { slice(self.raw.run) }
+    }
+
+    /// Whether no key goes on from here.
+    pub fn is_empty(&self) -> bool {
+        self.raw.run.len == 0 && self.raw.trie.len == 0
+    }
+}
+
+impl fmt::Debug for Cursor<'_> {
+    fn fmt(&self, f: &mut fmt::Formatter<'_>) -> fmt::Result {
+        f.debug_struct("Cursor").field("kind", &self.kind).field("run", &self.run()).finish_non_exhaustive()
+    }
+}
+
+// SAFETY: a cursor is two slices of bytes that are only read.
+unsafe impl Send for Cursor<'_> {}
+// SAFETY: the same.
+unsafe impl Sync for Cursor<'_> {}
+
+/// The pairs of a trie, by a cursor for each byte of the key in hand.
+#[derive(Clone, Debug)]
+pub struct Iter<'a> {
+    key: Vec<u8>,
+    places: Vec<(Cursor<'a>, usize)>,
+}
+
+impl Iterator for Iter<'_> {
+    type Item = (Vec<u8>, usize);
+
+    fn next(&mut self) -> Option<(Vec<u8>, usize)> {
+        loop {
+            let (place, edges) = self.places.last_mut()?;
+            if *edges == 0
+                && let Some(value) = place.take_value()
+            {
+                return Some((self.key.clone(), value));
+            }
+            let mut below = *place;
+            match below.probe(*edges) {
+                Some((byte, _)) => {
+                    *edges += 1;
+                    self.key.push(byte);
+                    self.places.push((below, 0));
+                }
+                None => {
+                    self.places.pop();
+                    self.key.pop();
+                }
+            }
+        }
+    }
+}
+
+impl FusedIterator for Iter<'_> {}
+
+/// Pairs that were listed at once.
+#[derive(Clone, Debug)]
+pub struct Items {
+    keys: Vec<u8>,
+    ends: Vec<usize>,
+    values: Vec<usize>,
+    next: usize,
+}
+
+impl Items {
+    /// The next pair, whose key is lent.
+    pub fn next_lent(&mut self) -> Option<(&[u8], usize)> {
+        let number = self.next;
+        let value = *self.values.get(number)?;
+        let from = if number == 0 { 0 } else { self.ends[number - 1] };
+        self.next += 1;
+        Some((&self.keys[from..self.ends[number]], value))
+    }
+}
+
+impl Iterator for Items {
+    type Item = (Vec<u8>, usize);
+
+    fn next(&mut self) -> Option<(Vec<u8>, usize)> {
+        self.next_lent().map(|(key, value)| (key.to_vec(), value))
+    }
+
+    fn size_hint(&self) -> (usize, Option<usize>) {
+        let left = self.values.len() - self.next;
+        (left, Some(left))
+    }
+}
+
+impl ExactSizeIterator for Items {}
+impl FusedIterator for Items {}
+
+/// The bytes of the trie of pairs in any order.
+pub fn build<K: AsRef<[u8]>>(kind: Kind, pairs: impl IntoIterator<Item = (K, usize)>) -> Result<Vec<u8>, Error> {
+    let pairs: Vec<(K, usize)> = pairs.into_iter().collect();
+    built(kind, &pairs, ffi::zerotrie_build)
+}
+
+/// The bytes of the trie of pairs whose keys ascend strictly by their bytes.
+pub fn build_sorted<K: AsRef<[u8]>>(kind: Kind, pairs: &[(K, usize)]) -> Result<Vec<u8>, Error> {
+    built(kind, pairs, ffi::zerotrie_build_sorted)
+}
+
+/// How many bytes `build_sorted` of these pairs has.
+pub fn encoded_len<K: AsRef<[u8]>>(kind: Kind, pairs: &[(K, usize)]) -> Result<usize, Error> {
+    let (pairs, mut len) = (raw_pairs(pairs), 0);
+    // SAFETY: a slice of pairs, whose keys are borrowed, and a place that is this call's own.
+    match unsafe { ffi::zerotrie_encoded_len(kind as u32, pairs.as_ptr(), pairs.len(), &mut len) } {
+        0 => Ok(len),
+        status => Err(Error::of(status)),
+    }
+}
+
+type Build = unsafe extern "C" fn(u32, *const ffi::Pair, usize, *mut u8, usize, *mut usize) -> u32;
+
+/// Calls a build with a room that is enough for most pairs, and with the length that it tells if it was not.
+fn built<K: AsRef<[u8]>>(kind: Kind, pairs: &[(K, usize)], build: Build) -> Result<Vec<u8>, Error> {
+    let raw = raw_pairs(pairs);
+    let mut len = raw.iter().map(|pair| pair.key.len + 4).sum();
+    loop {
+        let mut out = vec![0; len];
+        // SAFETY: a slice of pairs whose keys are borrowed, one that is this call's own, and a place.
+        let status =
+            unsafe { build(kind as u32, raw.as_ptr(), raw.len(), out.as_mut_ptr(), out.len(), &mut len) };
+        match status {
+            0 => {
+                out.truncate(len);
+                return Ok(out);
+            }
+            8 => {}
+            other => return Err(Error::of(other)),
+        }
+    }
+}
+
+fn raw_pairs<K: AsRef<[u8]>>(pairs: &[(K, usize)]) -> Vec<ffi::Pair> {
+    let of = |key: &[u8]| ffi::Bytes { ptr: key.as_ptr(), len: key.len() };
+    pairs.iter().map(|(key, value)| ffi::Pair { key: of(key.as_ref()), value: *value }).collect()
+}
+
+/// A cursor with nothing left, for the library to write over.
+fn nowhere(bytes: &[u8]) -> ffi::Cursor {
+    let none = ffi::Bytes { ptr: bytes.as_ptr(), len: 0 };
+    ffi::Cursor { run: none, trie: none }
+}
+
+/// # Safety
+///
+/// The bytes are a part of some that are borrowed for `'a`.
+unsafe fn slice<'a>(bytes: ffi::Bytes) -> &'a [u8] {
+    // SAFETY: as above.
+    unsafe { core::slice::from_raw_parts(bytes.ptr, bytes.len) }
+}

@@ -1,0 +1,91 @@
+//! Calls the proved library from safe Rust.
+use std::collections::BTreeMap;
+use zerotrie_proved::{Error, Kind, ZeroTrie, build, build_sorted, encoded_len};
+
+const KINDS: [Kind; 4] = [Kind::SimpleAscii, Kind::PerfectHash, Kind::ExtendedCapacity, Kind::IgnoreCase];
+
+#[test]
+fn the_map_that_went_in_comes_out() {
+    let map: BTreeMap<String, usize> = (0..2000usize).map(|n| (format!("key-{}", n * 7919 % 10007), n * n)).collect();
+    let pairs: Vec<(&str, usize)> = map.iter().map(|(k, v)| (k.as_str(), *v)).collect();
+    for kind in KINDS {
+        let bytes = build(kind, pairs.iter().rev().copied()).unwrap();
+        assert_eq!(build_sorted(kind, &pairs).map(|b| b.len()), Ok(bytes.len()));
+        assert_eq!(encoded_len(kind, &pairs), Ok(bytes.len()));
+        let trie = ZeroTrie::try_from_bytes(kind, &bytes).unwrap();
+        assert!(map.iter().all(|(key, value)| trie.get(key) == Some(*value)));
+        assert_eq!((trie.get("key-"), trie.get("")), (None, None));
+        let listed: BTreeMap<String, usize> = trie.iter().map(|(k, v)| (String::from_utf8(k).unwrap(), v)).collect();
+        assert_eq!(listed, map);
+        assert!(trie.iter().eq(trie.prefix("").unwrap()));
+        let ones: Vec<_> = trie.prefix("key-1").unwrap().map(|(k, _)| k).collect();
+        assert!(ones.len() > 100 && ones.iter().all(|k| k.starts_with(b"key-1")));
+        let keys: Vec<u8> = map.keys().flat_map(|k| k.bytes()).collect();
+        let ends: Vec<usize> = map.keys().scan(0, |at, k| { *at += k.len(); Some(*at) }).collect();
+        let mut values = vec![0; ends.len()];
+        trie.get_many(&keys, &ends, usize::MAX, &mut values);
+        assert!(values.iter().eq(map.values()));
+        let tagged = trie.to_tagged();
+        assert_eq!(ZeroTrie::from_tagged(&tagged), Ok(trie));
+    }
+    assert_eq!(Kind::for_pairs(&pairs), Kind::PerfectHash);
+    assert_eq!(Kind::for_pairs(&pairs[..511]), Kind::SimpleAscii);
+}
+
+#[test]
+fn refusals() {
+    assert_eq!(build(Kind::SimpleAscii, [("å", 1)]), Err(Error::NonAscii));
+    assert_eq!(build(Kind::IgnoreCase, [("DAV", 1), ("Date", 2)]), Err(Error::MixedCase));
+    for kind in KINDS {
+        assert_eq!(build(kind, [("a", 1), ("a", 2)]), Err(Error::DuplicateKey));
+        assert_eq!(build_sorted(kind, &[("b", 1), ("a", 2)]), Err(Error::Unsorted));
+        assert_eq!(build(kind, [("", 0); 0]), Ok(vec![]));
+    }
+    assert_eq!(ZeroTrie::try_from_bytes(Kind::SimpleAscii, b"into"), Err(Error::NotWellFormed));
+    assert_eq!(Error::DuplicateKey.to_string(), "The same key was given twice");
+}
+
+/// Bytes of every sort: each call returns, and on a trie all ways of reading agree.
+#[test]
+fn any_bytes() {
+    let mut seed = 1u64;
+    let mut byte = || { seed = seed.wrapping_mul(6364136223846793005).wrapping_add(1442695040888963407); (seed >> 33) as u8 };
+    let mut tries = 0;
+    for _ in 0..20_000 {
+        let bytes: Vec<u8> = (0..byte() % 12).map(|_| byte()).collect();
+        let key: Vec<u8> = (0..byte() % 6).map(|_| byte()).collect();
+        for kind in KINDS {
+            let trie = ZeroTrie::from_bytes(kind, &bytes);
+            let found = trie.get(&key);
+            let items: Vec<_> = trie.prefix("").unwrap().collect();
+            let longest = trie.longest_prefix(&key);
+            let mut cursor = trie.cursor();
+            for byte in &key { cursor.step(*byte); }
+            let taken = cursor.take_value();
+            let _ = (trie.cursor_behind(&key).is_some_and(|cursor| cursor.is_empty()), cursor.run().len());
+            if trie.is_well_formed() {
+                tries += 1;
+                assert_eq!(found, taken);
+                assert!(trie.iter().eq(items.iter().cloned()));
+                assert!(items.iter().all(|(k, v)| trie.get(k) == Some(*v)));
+                assert_eq!(longest.map(|(k, v)| (k.len(), v)),
+                    (0..=key.len()).rev().find_map(|n| trie.get(&key[..n]).map(|v| (n, v))));
+            }
+        }
+    }
+    assert!(tries > 1000);
+}
+
+#[test]
+fn many_threads_read_at_once() {
+    let bytes = build(Kind::SimpleAscii, (0..500usize).map(|n| (n.to_string(), n))).unwrap();
+    let trie = ZeroTrie::from_bytes(Kind::SimpleAscii, &bytes);
+    std::thread::scope(|scope| {
+        for _ in 0..4 {
+            scope.spawn(move || {
+                for n in 0..500usize { assert_eq!(trie.get(n.to_string()), Some(n)); }
+                assert_eq!(trie.iter().count(), 500);
+            });
+        }
+    });
+}

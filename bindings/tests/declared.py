@@ -1,0 +1,102 @@
+"""Compares what is declared for C, Rust and Python with what the library exports: names, and each parameter and answer by its
+size, and that of what it points to. Arguments: the folder bindings, and the shared library."""
+
+import ctypes
+import pathlib
+import re
+import subprocess
+import sys
+
+here, library = pathlib.Path(sys.argv[1]), sys.argv[2]
+NUMBERS = {"u8": 1, "u16": 2, "u32": 4, "usize": 8, "bool": "bool", "Bytes": 16, "Cursor": 32, "Pair": 24}
+C_NUMBERS = {"uint8_t": 1, "uint16_t": 2, "uint32_t": 4, "size_t": 8, "bool": "bool", "void": None,
+             "zerotrie_bytes": 16, "zerotrie_cursor": 32, "zerotrie_pair": 24}
+
+
+def parts(text):
+    return [part.strip() for part in re.sub(r"\s+", " ", text).split(",") if part.strip()]
+
+
+def exported():
+    """The exports as they are written in Rattle: a slice is a pointer and a length, and an allocator is nothing."""
+    found = {}
+    for file in (here / "../crates/zerotrie_c/src").glob("*.rt"):
+        for name, taken, answer in re.findall(r'#\[unsafe\(no_mangle\)\]\npub extern "C" fn (\w+)(?:<[^>]*>)?\((.*?)\)(?: -> (\w+))?\n', file.read_text(), re.S):
+            sizes = []
+            for part in parts(re.sub(r"<[^>]*>|'\w+ ", "", taken)):
+                kind = part.split(": ")[1]
+                if kind == "Global":
+                    continue
+                slice_of = re.fullmatch(r"&(?:mut )?\[(\w+)\]", kind)
+                lent = re.fullmatch(r"&(?:mut )?(\w+)", kind)
+                if slice_of:
+                    sizes += [("to", NUMBERS[slice_of[1]]), 8]
+                else:
+                    sizes.append(("to", NUMBERS[lent[1]]) if lent else NUMBERS[kind])
+            found[name] = (sizes, NUMBERS[answer] if answer else None)
+    return found
+
+
+def in_c():
+    found = {}
+    text = re.sub(r"/\*.*?\*/", "", (here / "c/zerotrie.h").read_text(), flags=re.S)
+    for answer, name, taken in re.findall(r"^(\w+) (zerotrie_\w+)\(([^)]*)\);", text, re.M):
+        sizes = []
+        for part in parts(taken):
+            kind, star = re.fullmatch(r"(?:const )?(\w+) (\*?)\w+", part).groups()
+            sizes.append(("to", C_NUMBERS[kind]) if star else C_NUMBERS[kind])
+        found[name] = (sizes, C_NUMBERS[answer])
+    return found
+
+
+def in_rust():
+    found = {}
+    text = (here / "rust/zerotrie-proved/src/ffi.rs").read_text()
+    for name, taken, answer in re.findall(r"pub fn (zerotrie_\w+)\(([^)]*)\)(?:\s*-> (\w+))?;", text):
+        sizes = []
+        for part in parts(taken):
+            star, kind = re.fullmatch(r"\w+: (\*(?:const|mut) )?(\w+)", part).groups()
+            sizes.append(("to", NUMBERS[kind]) if star else NUMBERS[kind])
+        found[name] = (sizes, NUMBERS[answer] if answer else None)
+    return found
+
+
+def in_python():
+    sys.path.insert(0, str(here / "python"))
+    import zerotrie
+
+    def size(kind):
+        if kind is ctypes.c_bool:
+            return "bool"
+        if kind in (ctypes.c_char_p, ctypes.c_void_p):
+            return ("to", 1)
+        to = getattr(kind, "_type_", None)
+        return ("to", ctypes.sizeof(to)) if isinstance(to, type) else ctypes.sizeof(kind)
+
+    return {name: ([size(kind) for kind in taken], answer and size(answer)) for name, (answer, taken) in zerotrie._DECLARED.items()}
+
+
+def statuses():
+    """The number and the text of each status: of the header, of the error that the library builds on, and of Python."""
+    header = (here / "c/zerotrie.h").read_text()
+    numbers = {name: int(number) for name, number in re.findall(r"(ZEROTRIE_\w+) = (\d+)", header)}
+    texts = {numbers[name]: text for name, text in re.findall(r'case (ZEROTRIE_\w+): return "(.*?)";', header)}
+    errors = re.findall(r'#\[error\("(.*?)"\)\]\n\s+(\w+)', (here / "../crates/zerotrie_base/src/error.rt").read_text())
+    for number, (text, name) in enumerate(errors, 1):
+        assert texts[number] == text.split(". Size")[0], (number, name, text, texts[number])
+    import zerotrie
+    assert all(texts[number] == text for number, text in zerotrie._TEXTS.items())
+    in_rust = (here / "rust/zerotrie-proved/src/lib.rs").read_text()
+    numbered = dict(re.findall(r"(\d+) => Error::(\w+),", in_rust))
+    shown = dict(re.findall(r'Error::(\w+) => "(.*?)",', in_rust))
+    assert numbered and all(shown[name] == texts[int(number)] for number, name in numbered.items())
+
+
+want = exported()
+symbols = subprocess.run(["nm", "-D", "--defined-only", library], capture_output=True, text=True, check=True).stdout
+assert sorted(line.split()[2] for line in symbols.splitlines()) == sorted(want), symbols
+for language, have in [("c", in_c()), ("rust", in_rust()), ("python", in_python())]:
+    for name in sorted(set(want) | set(have)):
+        assert want.get(name) == have.get(name), (language, name, want.get(name), have.get(name))
+statuses()
+print(f"declared: {len(want)} functions, in C, Rust and Python as they are exported")

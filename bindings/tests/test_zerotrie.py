@@ -1,0 +1,84 @@
+"""Calls the library from Python."""
+
+import mmap
+import os
+import pathlib
+import random
+import sys
+import tempfile
+import threading
+
+sys.path.insert(0, str(pathlib.Path(__file__).parent / "../python"))
+import zerotrie  # noqa: E402
+from zerotrie import EXTENDED_CAPACITY, IGNORE_CASE, PERFECT_HASH, SIMPLE_ASCII, ZeroTrie, ZeroTrieError, build  # noqa: E402
+
+random.seed(5)
+
+
+def refused(kind, call, *arguments):
+    try:
+        call(*arguments)
+    except kind as error:
+        return error
+    raise AssertionError(f"{call} {arguments}")
+
+
+for kind in (SIMPLE_ASCII, PERFECT_HASH, EXTENDED_CAPACITY, IGNORE_CASE):
+    for size in (0, 1, 30, 2000):
+        high = 256 if kind in (PERFECT_HASH, EXTENDED_CAPACITY) else 128
+        letters = [b for b in range(high) if kind != IGNORE_CASE or not 65 <= b < 91]
+        pairs = {bytes(random.choice(letters) for _ in range(random.randrange(9))): random.randrange(1 << 64) for _ in range(size)}
+        data = build(pairs, kind)
+        assert zerotrie.encoded_len(sorted(pairs.items()), kind) == len(data)
+        for lent in (data, bytearray(data), memoryview(data), memoryview(b"?" + data)[1:]):
+            trie = ZeroTrie(lent, kind)
+            assert dict(trie) == dict(trie.items()) == pairs and len(trie) == len(pairs)
+            keys = [*pairs, b"no such key", "text"]
+            assert list(trie.get_many(keys, 7)) == [pairs.get(key, 7) for key in keys]
+        for text in [b"", *pairs][:300]:
+            text += bytes(random.choice(letters) for _ in range(3))
+            fronts = [text[:n] for n in range(len(text), -1, -1) if text[:n] in pairs]
+            assert trie.longest_prefix(text) == ((fronts[0], pairs[fronts[0]]) if fronts else None)
+        for key in list(pairs)[:50]:
+            front = key[:2]
+            assert dict(trie.items(front)) == {k: v for k, v in pairs.items() if k.startswith(front)}
+            cursor = trie.with_prefix(key)
+            assert cursor is not None and cursor.copy().take_value() == cursor.take_value() == pairs[key] and cursor.take_value() is None
+        assert ZeroTrie.from_tagged(trie.to_tagged()) == trie
+        assert hash(trie) == hash(ZeroTrie(data, kind)) and bytes(trie) == data
+
+trie = ZeroTrie.build({"foo": 1, "bar": 2})
+assert trie.kind == SIMPLE_ASCII and "foo" in trie and "fo" not in trie and trie and sorted(trie.values()) == [1, 2]
+assert ZeroTrie.build([("å", 1)]).kind == PERFECT_HASH
+refused(KeyError, trie.__getitem__, "fo")
+refused(ValueError, ZeroTrie, b"into")
+refused(OverflowError, build, {"a": -1})
+assert refused(ZeroTrieError, build, [("a", 1), ("a", 2)]).status == 6
+assert str(refused(ZeroTrieError, build, {"å": 1}, SIMPLE_ASCII)) == "Non-ASCII cannot be added to an ASCII-only trie"
+assert refused(ZeroTrieError, build, {}, 9).status == 12
+assert refused(ZeroTrieError, ZeroTrie.from_tagged, b"\1").status == 14
+cursor = trie.cursor()
+assert (cursor.step(ord("f")), cursor.probe(0), cursor.run, bool(cursor)) == (ord("f"), (ord("o"), 1), b"", True)
+assert cursor.step(ord("x")) is None and not cursor
+
+with tempfile.TemporaryDirectory() as room:
+    path = os.path.join(room, "tagged")
+    pathlib.Path(path).write_bytes(trie.to_tagged())
+    assert dict(ZeroTrie.open(path)) == dict(trie)
+    pathlib.Path(path).write_bytes(bytes(trie))
+    assert ZeroTrie.open(path, SIMPLE_ASCII)["foo"] == 1
+    with open(path, "r+b") as file:
+        assert ZeroTrie(mmap.mmap(file.fileno(), 0), SIMPLE_ASCII)["foo"] == 1
+
+
+def read():
+    for n in range(2000):
+        assert trie["bar"] == 2 and trie.get("no") is None
+
+
+threads = [threading.Thread(target=read) for _ in range(4)]
+for thread in threads:
+    thread.start()
+for thread in threads:
+    thread.join()
+print("python: ok")

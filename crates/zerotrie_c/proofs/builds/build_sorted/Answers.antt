@@ -1,0 +1,19 @@
+use Rattle.std.specs.Prelude.{Ok, Err}
+use Rattle.std.proofs.Common.{subst, refl}
+use Rattle.zerotrie_core.specs.Routes.{ascending, IsBuild}
+use Rattle.zerotrie_c.specs.Builds.{given}
+use Rattle.zerotrie_c.proofs.builds.build_sorted.Goals as goal
+
+pub returns-in-Ok : goal.returns-in-Ok
+returns-in-Ok g c = (
+  Ok c.in-Ok.bytes.items,
+  subst (IsBuild ascending g.K.ZeroTrieWithOptions.kind (λ b. b.items) (given c.args.pairs.now)) c.in-Ok.is c.bytes_sorted.ensures,
+  rw c.as_slice.ensures.value at c.hand_out.ensures,
+)
+
+pub returns-in-Err : goal.returns-in-Err
+returns-in-Err g c = (
+  Err c.in-Err.error,
+  subst (IsBuild ascending g.K.ZeroTrieWithOptions.kind (λ b. b.items) (given c.args.pairs.now)) c.in-Err.is c.bytes_sorted.ensures,
+  (c.status_of.ensures, refl, refl),
+)

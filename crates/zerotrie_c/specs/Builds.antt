@@ -1,0 +1,39 @@
+-- Builds as C is told of them.
+use Rattle.std.specs.Prelude.{◌≡◌, ℕ, ◌≤◌, ◌<◌, ◌⊎◌, List, Result, Ok, Err, length, drop, ◌++◌, map}
+use Rattle.zerotrie_core.specs.Kind.{Kind}
+use Rattle.zerotrie_core.specs.Maps.{Pairs}
+use Rattle.zerotrie_core.specs.Routes.{Route, IsBuild, IsLength}
+use Rattle.zerotrie_core.specs.declared.ZeroTrieBuildError.{ZeroTrieBuildError}
+use Rattle.zerotrie_core.specs.declared.ZeroTrieBuildError.TheVariants.{BufferTooSmall}
+use Rattle.zerotrie_c.specs.Statuses.{done, status_of}
+use Rattle.zerotrie_c.specs.declared.builds.Pair.{Pair}
+
+-- the pairs that were given
+abbrev pub given : List Pair → Pairs
+given pairs = map {B = List ℕ × ℕ} (λ p. (p.key.now, p.value)) pairs
+
+-- The bytes stand at the front of the room, and the rest of it stays; or it has no room for them, and all of it
+-- stays. Their length is told.
+abbrev pub IsHandedOut : List ℕ → ℕ → ℕ → List ℕ → List ℕ → Type 0
+IsHandedOut bytes status len old out = (len ≡ length bytes)
+    × (((status ≡ done) × (length bytes ≤ length old) × (out ≡ bytes ++ drop (length bytes) old))
+    ⊎ ((status ≡ status_of BufferTooSmall) × (length old < length bytes) × (out ≡ old)))
+
+-- what an answer of a build is told as: a refusal by its number, and then nothing is written
+abbrev pub IsTold : Result (List ℕ) ZeroTrieBuildError → ℕ → ℕ → ℕ → List ℕ → List ℕ → Type 0
+IsTold (Ok bytes) status old_len len old out = IsHandedOut bytes status len old out
+IsTold (Err e) status old_len len old out = (status ≡ status_of e) × (len ≡ old_len) × (out ≡ old)
+
+-- what C is told of a build of the pairs by the route: an answer that it may have
+abbrev pub IsBuildTold : Route → Kind → Pairs → ℕ → ℕ → ℕ → List ℕ → List ℕ → Type 0
+IsBuildTold route kind pairs status old_len len old out =
+    (answer : Result (List ℕ) ZeroTrieBuildError) × IsBuild route kind (λ bytes. bytes) pairs answer × IsTold answer status old_len len old out
+
+-- what C is told of the length that a build would have
+abbrev pub IsNumberTold : Result ℕ ZeroTrieBuildError → ℕ → ℕ → ℕ → Type 0
+IsNumberTold (Ok n) status old_len len = (status ≡ done) × (len ≡ n)
+IsNumberTold (Err e) status old_len len = (status ≡ status_of e) × (len ≡ old_len)
+
+abbrev pub IsLengthTold : Route → Kind → Pairs → ℕ → ℕ → ℕ → Type 0
+IsLengthTold route kind pairs status old_len len =
+    (answer : Result ℕ ZeroTrieBuildError) × IsLength route kind pairs answer × IsNumberTold answer status old_len len

@@ -1,0 +1,34 @@
+-- The numbers that stand for what a call comes to.
+use Rattle.std.specs.Prelude.{ℕ}
+use Rattle.zerotrie_core.specs.declared.ZeroTrieBuildError.{ZeroTrieBuildError}
+use Rattle.zerotrie_core.specs.declared.ZeroTrieBuildError.TheVariants.{NonAsciiError, CapacityExceeded, CouldNotSolvePerfectHash, MixedCase, IllegalDelimiter, DuplicateKey, Unsorted, BufferTooSmall, BufferTooLarge, StackExceeded, OutOfMemory}
+
+-- it was done
+abbrev pub done : ℕ
+done = 0
+
+-- a refusal, by its place among the cases of the error, from 1 on
+abbrev pub status_of : ZeroTrieBuildError → ℕ
+status_of NonAsciiError = 1
+status_of CapacityExceeded = 2
+status_of CouldNotSolvePerfectHash = 3
+status_of MixedCase = 4
+status_of IllegalDelimiter = 5
+status_of DuplicateKey = 6
+status_of Unsorted = 7
+status_of BufferTooSmall = 8
+status_of (BufferTooLarge needed) = 9
+status_of StackExceeded = 10
+status_of OutOfMemory = 11
+
+-- the number given for a kind is that of none
+abbrev pub unknown_kind : ℕ
+unknown_kind = 12
+
+-- tagged bytes are empty
+abbrev pub no_tag : ℕ
+no_tag = 13
+
+-- the first of tagged bytes is no kind's number
+abbrev pub invalid_tag : ℕ
+invalid_tag = 14

@@ -1,0 +1,231 @@
+//! Builds.
+
+ghost use Rattle.std.specs.Prelude.{◌≡◌, IfOk, IfSome, IfNone};
+ghost use Rattle.zerotrie_core.specs.Kind.{tag};
+ghost use Rattle.zerotrie_core.specs.Items.{pairs_of};
+ghost use Rattle.zerotrie_core.specs.Routes.{ascending, any_order, IsBuild, IsLength};
+ghost use Rattle.zerotrie_any.specs.Auto.{is_ascii, are_ascii, auto_kind};
+ghost use Rattle.zerotrie_c.specs.Numbers.{kind_of};
+ghost use Rattle.zerotrie_c.specs.Statuses.{unknown_kind};
+ghost use Rattle.zerotrie_c.specs.Builds.{given, IsHandedOut, IsBuildTold, IsLengthTold};
+
+use crate::statuses::{BUFFER_TOO_SMALL, DONE, UNKNOWN_KIND, status_of};
+use std::alloc::{AllocError, Global};
+use zerotrie_any::{bytes_from_iter, bytes_from_slice};
+use zerotrie_build::{ByteSliceWithIndices, encoded_len};
+use zerotrie_core::{
+    Ext, Hash, Ignore, Simple, ZeroTrieBuildError, ZeroTrieBuilderOptions, ZeroTrieWithOptions,
+};
+
+/// A pair, as C gives it.
+#[repr(C)]
+#[derive(Clone, Copy)]
+pub struct Pair<'a> {
+    pub key: &'a [u8],
+    pub value: usize,
+}
+
+/// The pairs as items. The keys' bytes are not copied.
+fn items_of<'a>(alloc: Global, pairs: &[Pair<'a>]) -> Result<Vec<(&'a [u8], usize)>, AllocError>
+    ensures { IfOk result (λ items. pairs_of items.items ≡ given pairs.now) }
+{
+    let mut items = Vec::with_capacity(alloc, pairs.len())?;
+    for pair in pairs {
+        items.push((pair.key, pair.value))?;
+    }
+    Ok(items)
+}
+
+/// Hands out bytes if there is room for them, and tells their length.
+pub fn hand_out(bytes: &[u8], out: &mut [u8], len: &mut usize) -> u32
+    ensures { IsHandedOut bytes.now result len.new out.old out.new }
+{
+    *len = bytes.len();
+    if out.len() < bytes.len() {
+        return BUFFER_TOO_SMALL;
+    }
+    let (front, _) = out.split_at_mut(bytes.len());
+    front.copy_from_slice(bytes);
+    DONE
+}
+
+/// Builds the trie of pairs whose keys ascend, in the kind `K`.
+fn bytes_sorted<K: ZeroTrieWithOptions>(
+    alloc: Global,
+    pairs: &[Pair<'_>],
+) -> Result<Vec<u8>, ZeroTrieBuildError>
+    ensures { IsBuild ascending K.kind (λ bytes. bytes.items) (given pairs.now) result }
+{
+    let items = items_of(alloc, pairs)?;
+    bytes_from_slice::<K>(alloc, items.as_slice())
+}
+
+/// Builds the trie of items in any order, in the kind `K`.
+fn bytes_of_items<K: ZeroTrieWithOptions>(
+    alloc: Global,
+    items: Vec<(&[u8], usize)>,
+) -> Result<Vec<u8>, ZeroTrieBuildError>
+    ensures { IsBuild any_order K.kind (λ bytes. bytes.items) (pairs_of items.entry.items) result }
+{
+    let bytes = bytes_from_iter::<K, &[u8], Vec<(&[u8], usize)>>(alloc, items)?;
+    Ok(bytes)
+}
+
+/// Builds the trie of pairs in any order, in the kind `K`.
+fn bytes_unsorted<K: ZeroTrieWithOptions>(
+    alloc: Global,
+    pairs: &[Pair<'_>],
+) -> Result<Vec<u8>, ZeroTrieBuildError>
+    ensures { IsBuild any_order K.kind (λ bytes. bytes.items) (given pairs.now) result }
+{
+    let items = items_of(alloc, pairs)?;
+    bytes_of_items::<K>(alloc, items)
+}
+
+/// Builds the trie of pairs whose keys ascend, in the kind `K`, and hands it out.
+fn build_sorted<K: ZeroTrieWithOptions>(
+    alloc: Global,
+    pairs: &[Pair<'_>],
+    out: &mut [u8],
+    len: &mut usize,
+) -> u32
+    ensures { IsBuildTold ascending K.kind (given pairs.now) result len.old len.new out.old out.new }
+{
+    match bytes_sorted::<K>(alloc, pairs) {
+        Ok(bytes) => hand_out(bytes.as_slice(), out, len),
+        Err(error) => status_of(error),
+    }
+}
+
+/// Builds the trie of pairs in any order, in the kind `K`, and hands it out.
+fn build_unsorted<K: ZeroTrieWithOptions>(
+    alloc: Global,
+    pairs: &[Pair<'_>],
+    out: &mut [u8],
+    len: &mut usize,
+) -> u32
+    ensures { IsBuildTold any_order K.kind (given pairs.now) result len.old len.new out.old out.new }
+{
+    match bytes_unsorted::<K>(alloc, pairs) {
+        Ok(bytes) => hand_out(bytes.as_slice(), out, len),
+        Err(error) => status_of(error),
+    }
+}
+
+/// Builds the trie of pairs whose keys ascend strictly by their bytes, in the kind of this number. Its bytes go to the
+/// front of `out` if there is room for them, and how many they are to `len`.
+#[unsafe(no_mangle)]
+pub extern "C" fn zerotrie_build_sorted(
+    alloc: Global,
+    kind: u32,
+    pairs: &[Pair<'_>],
+    out: &mut [u8],
+    len: &mut usize,
+) -> u32
+    ensures known { IfSome (kind_of kind) (λ k.
+        IsBuildTold ascending k (given pairs.now) result len.old len.new out.old out.new) }
+    ensures unknown { IfNone (kind_of kind) ((result ≡ unknown_kind) × (len.new ≡ len.old) × (out.new ≡ out.old)) }
+{
+    match kind {
+        0 => build_sorted::<Simple>(alloc, pairs, out, len),
+        3 => build_sorted::<Hash>(alloc, pairs, out, len),
+        7 => build_sorted::<Ext>(alloc, pairs, out, len),
+        8 => build_sorted::<Ignore>(alloc, pairs, out, len),
+        _ => UNKNOWN_KIND,
+    }
+}
+
+/// Builds the trie of pairs in any order, in the kind of this number. Its bytes go to the front of `out` if there is room
+/// for them, and how many they are to `len`.
+#[unsafe(no_mangle)]
+pub extern "C" fn zerotrie_build(
+    alloc: Global,
+    kind: u32,
+    pairs: &[Pair<'_>],
+    out: &mut [u8],
+    len: &mut usize,
+) -> u32
+    ensures known { IfSome (kind_of kind) (λ k.
+        IsBuildTold any_order k (given pairs.now) result len.old len.new out.old out.new) }
+    ensures unknown { IfNone (kind_of kind) ((result ≡ unknown_kind) × (len.new ≡ len.old) × (out.new ≡ out.old)) }
+{
+    match kind {
+        0 => build_unsorted::<Simple>(alloc, pairs, out, len),
+        3 => build_unsorted::<Hash>(alloc, pairs, out, len),
+        7 => build_unsorted::<Ext>(alloc, pairs, out, len),
+        8 => build_unsorted::<Ignore>(alloc, pairs, out, len),
+        _ => UNKNOWN_KIND,
+    }
+}
+
+/// The length of the text of pairs whose keys ascend, in the kind `K`.
+fn len_sorted<K: ZeroTrieWithOptions>(
+    alloc: Global,
+    pairs: &[Pair<'_>],
+) -> Result<usize, ZeroTrieBuildError>
+    ensures { IsLength ascending K.kind (given pairs.now) result }
+{
+    let items = items_of(alloc, pairs)?;
+    let items = ByteSliceWithIndices::from_byte_slice(items.as_slice());
+    encoded_len(alloc, items, ZeroTrieBuilderOptions::of::<K>())
+}
+
+/// Tells the length of the text of pairs whose keys ascend, in the kind `K`.
+fn tell_len<K: ZeroTrieWithOptions>(alloc: Global, pairs: &[Pair<'_>], len: &mut usize) -> u32
+    ensures { IsLengthTold ascending K.kind (given pairs.now) result len.old len.new }
+{
+    match len_sorted::<K>(alloc, pairs) {
+        Ok(found) => {
+            *len = found;
+            DONE
+        }
+        Err(error) => status_of(error),
+    }
+}
+
+/// How many bytes a build of these pairs would have, whose keys ascend strictly by their bytes. It builds nothing.
+#[unsafe(no_mangle)]
+pub extern "C" fn zerotrie_encoded_len(
+    alloc: Global,
+    kind: u32,
+    pairs: &[Pair<'_>],
+    len: &mut usize,
+) -> u32
+    ensures known { IfSome (kind_of kind) (λ k. IsLengthTold ascending k (given pairs.now) result len.old len.new) }
+    ensures unknown { IfNone (kind_of kind) ((result ≡ unknown_kind) × (len.new ≡ len.old)) }
+{
+    match kind {
+        0 => tell_len::<Simple>(alloc, pairs, len),
+        3 => tell_len::<Hash>(alloc, pairs, len),
+        7 => tell_len::<Ext>(alloc, pairs, len),
+        8 => tell_len::<Ignore>(alloc, pairs, len),
+        _ => UNKNOWN_KIND,
+    }
+}
+
+/// Whether all bytes of a key are below 128.
+fn is_ascii(key: &[u8]) -> bool
+    ensures { result ≡ is_ascii key.now }
+{
+    key.iter().all(|b| b.is_ascii())
+}
+
+/// Whether all keys are ASCII.
+fn are_ascii(pairs: &[Pair<'_>]) -> bool
+    ensures { result ≡ are_ascii (given pairs.now) }
+{
+    pairs.iter().all(|pair| is_ascii(pair.key))
+}
+
+/// The number of the kind that is taken for the pairs if none is named: 0 if all keys are ASCII and there are fewer than
+/// 512, and else 3.
+#[unsafe(no_mangle)]
+pub extern "C" fn zerotrie_auto_kind(pairs: &[Pair<'_>]) -> u32
+    ensures { result ≡ tag (auto_kind (given pairs.now)) }
+{
+    if pairs.len() < 512 && are_ascii(pairs) {
+        0
+    } else {
+        3
+    }
+}

@@ -1,0 +1,160 @@
+//! Listings.
+
+ghost use Rattle.std.specs.Prelude.{◌≡◌, ◌&&◌, IfOk, IfErr, IfSome, IfNone};
+ghost use Rattle.zerotrie_core.specs.Maps.{Pairs, beginning};
+ghost use Rattle.zerotrie_core.specs.Texts.{Lists};
+ghost use Rattle.zerotrie_core.specs.declared.listing.ListError.TheVariants.{OutOfMemory};
+ghost use Rattle.zerotrie_c.specs.Numbers.{kind_of};
+ghost use Rattle.zerotrie_c.specs.Statuses.{unknown_kind};
+ghost use Rattle.zerotrie_c.specs.Listed.{joined, ends_from, values_of, status_if, IsFlat, IsPut, IsGiven, IsListed};
+
+use crate::statuses::{BUFFER_TOO_SMALL, DONE, OUT_OF_MEMORY, UNKNOWN_KIND};
+use std::alloc::Global;
+use zerotrie_core::{Ext, Hash, Ignore, ListError, Simple, ZeroTrieIterator, ZeroTrieWithOptions};
+
+/// Keys that lie one behind another, where each ends, and their values.
+#[derive(Drop)]
+struct Flat {
+    keys: Vec<u8>,
+    ends: Vec<usize>,
+    values: Vec<usize>,
+}
+
+/// The pairs that a listing gives.
+fn flat_of(alloc: Global, items: ZeroTrieIterator<'_>) -> Result<Flat, ListError>
+    ensures listed { IfOk result (λ f. IsFlat items.entry.pairs f.keys.items f.ends.items f.values.items) }
+    ensures refused { IfErr result (λ e. e ≡ OutOfMemory) }
+{
+    let mut keys = Vec::new(alloc);
+    let mut ends = Vec::new(alloc);
+    let mut values = Vec::new(alloc);
+    for item in items {
+        let (key, value) = item?;
+        keys.extend_from_slice(key.as_slice())?;
+        ends.push(keys.len())?;
+        values.push(value)?;
+    }
+    Ok(Flat { keys, ends, values })
+}
+
+/// The pairs of a trie whose keys begin with a prefix.
+fn list<K: ZeroTrieWithOptions>(
+    alloc: Global,
+    bytes: &[u8],
+    prefix: &[u8],
+) -> Result<Flat, ListError>
+    ensures listed { (pairs : Pairs) → Lists K.kind bytes.now pairs
+        → IfOk result (λ f. IsFlat (beginning K.kind prefix.now pairs) f.keys.items f.ends.items f.values.items) }
+    ensures refused { IfErr result (λ e. e ≡ OutOfMemory) }
+{
+    let items = ZeroTrieIterator::with_prefix::<K>(alloc, bytes, prefix)?;
+    flat_of(alloc, items)
+}
+
+/// Puts numbers at the front of the room, if there is enough.
+fn put(numbers: &[usize], room: &mut [usize]) -> bool
+    ensures { IsPut numbers.now result room.old room.new }
+{
+    if room.len() < numbers.len() {
+        return false;
+    }
+    let (front, _) = room.split_at_mut(numbers.len());
+    front.copy_from_slice(numbers);
+    true
+}
+
+/// Puts bytes at the front of the room, if there is enough.
+fn put_bytes(bytes: &[u8], room: &mut [u8]) -> bool
+    ensures { IsPut bytes.now result room.old room.new }
+{
+    if room.len() < bytes.len() {
+        return false;
+    }
+    let (front, _) = room.split_at_mut(bytes.len());
+    front.copy_from_slice(bytes);
+    true
+}
+
+/// What three rooms come to.
+fn status_of_rooms(keys: bool, ends: bool, values: bool) -> u32
+    ensures { result ≡ status_if (keys && ends && values) }
+{
+    if keys && ends && values {
+        DONE
+    } else {
+        BUFFER_TOO_SMALL
+    }
+}
+
+/// Hands out what was listed, and tells how long it is.
+fn give(
+    listed: &Flat,
+    keys: &mut [u8],
+    ends: &mut [usize],
+    values: &mut [usize],
+    key_bytes: &mut usize,
+    count: &mut usize,
+) -> u32
+    ensures { (pairs : Pairs) → IsFlat pairs listed.now.keys.items listed.now.ends.items listed.now.values.items
+        → IsGiven (joined pairs) (ends_from 0 pairs) (values_of pairs) result
+        keys.old keys.new ends.old ends.new values.old values.new key_bytes.new count.new }
+{
+    *key_bytes = listed.keys.len();
+    *count = listed.values.len();
+    let whole_keys = put_bytes(listed.keys.as_slice(), keys);
+    let whole_ends = put(listed.ends.as_slice(), ends);
+    let whole_values = put(listed.values.as_slice(), values);
+    status_of_rooms(whole_keys, whole_ends, whole_values)
+}
+
+/// Lists the pairs of a trie of the kind `K` whose keys begin with a prefix, and hands them out.
+fn list_out<K: ZeroTrieWithOptions>(
+    alloc: Global,
+    bytes: &[u8],
+    prefix: &[u8],
+    keys: &mut [u8],
+    ends: &mut [usize],
+    values: &mut [usize],
+    key_bytes: &mut usize,
+    count: &mut usize,
+) -> u32
+    ensures { (pairs : Pairs) → Lists K.kind bytes.now pairs
+        → IsListed (beginning K.kind prefix.now pairs) result keys.old keys.new ends.old ends.new values.old values.new
+        key_bytes.new count.new }
+{
+    match list::<K>(alloc, bytes, prefix) {
+        Ok(listed) => give(&listed, keys, ends, values, key_bytes, count),
+        Err(_) => OUT_OF_MEMORY,
+    }
+}
+
+/// Lists the pairs of a trie whose keys begin with a prefix, with the empty prefix all of them: their keys one behind
+/// another, where each ends, and their values.
+///
+/// How many bytes the keys have together and how many there are is told also if a room is too small; a room that is has
+/// nothing written to it.
+#[unsafe(no_mangle)]
+pub extern "C" fn zerotrie_list(
+    alloc: Global,
+    kind: u32,
+    bytes: &[u8],
+    prefix: &[u8],
+    keys: &mut [u8],
+    ends: &mut [usize],
+    values: &mut [usize],
+    key_bytes: &mut usize,
+    count: &mut usize,
+) -> u32
+    ensures known { IfSome (kind_of kind) (λ k. (pairs : Pairs) → Lists k bytes.now pairs
+        → IsListed (beginning k prefix.now pairs) result keys.old keys.new ends.old ends.new values.old values.new
+        key_bytes.new count.new) }
+    ensures unknown { IfNone (kind_of kind) (result ≡ unknown_kind) }
+{
+    match kind {
+        0 => list_out::<Simple>(alloc, bytes, prefix, keys, ends, values, key_bytes, count),
+        3 => list_out::<Hash>(alloc, bytes, prefix, keys, ends, values, key_bytes, count),
+        7 => list_out::<Ext>(alloc, bytes, prefix, keys, ends, values, key_bytes, count),
+        8 => list_out::<Ignore>(alloc, bytes, prefix, keys, ends, values, key_bytes, count),
+        _ => UNKNOWN_KIND,
+    }
+}

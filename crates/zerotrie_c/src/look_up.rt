@@ -1,0 +1,160 @@
+//! Look-ups.
+
+ghost use Rattle.std.specs.Prelude.{◌≡◌, ◌≤◌, ℕ, false, None, IfSome, IfNone, length, take, drop};
+ghost use Rattle.zerotrie_core.specs.Maps.{Map, look};
+ghost use Rattle.zerotrie_core.specs.Texts.{Means};
+ghost use Rattle.zerotrie_core.specs.Prefixes.{IsLongestPrefix};
+ghost use Rattle.zerotrie_c.specs.Numbers.{kind_of};
+ghost use Rattle.zerotrie_c.specs.Answers.{told, told_both};
+ghost use Rattle.zerotrie_c.specs.Keys.{keys_from, or_else, values_or, written_over};
+ghost use Rattle.zerotrie_c.specs.Statuses.{done, unknown_kind};
+
+use crate::statuses::{DONE, UNKNOWN_KIND};
+use zerotrie_core::{Ext, Hash, Ignore, Simple, ZeroTrieWithOptions, get_counted, longest_prefix};
+
+/// The value of the key in a trie of the kind of this number.
+fn look_up(kind: u32, bytes: &[u8], key: &[u8]) -> Option<usize>
+    ensures known { IfSome (kind_of kind) (λ k. (m : Map) → Means k bytes.now m → result ≡ look k m key.now) }
+    ensures unknown { IfNone (kind_of kind) (result ≡ None) }
+{
+    match kind {
+        0 => get_counted::<Simple>(bytes, key).0,
+        3 => get_counted::<Hash>(bytes, key).0,
+        7 => get_counted::<Ext>(bytes, key).0,
+        8 => get_counted::<Ignore>(bytes, key).0,
+        _ => None,
+    }
+}
+
+/// Whether the trie has the key. If so, its value goes to `value`, and else that stays.
+///
+/// A number that is no kind has no keys.
+#[unsafe(no_mangle)]
+pub extern "C" fn zerotrie_get(kind: u32, bytes: &[u8], key: &[u8], value: &mut usize) -> bool
+    ensures known { IfSome (kind_of kind) (λ k. (m : Map) → Means k bytes.now m
+        → told result value.new ≡ look k m key.now) }
+    ensures unknown { IfNone (kind_of kind) (result ≡ false) }
+    ensures kept { result ≡ false → value.new ≡ value.old }
+{
+    match look_up(kind, bytes, key) {
+        Some(found) => {
+            *value = found;
+            true
+        }
+        None => false,
+    }
+}
+
+/// The bytes from one place up to another. A place behind all bytes stands for their end.
+fn key_between(bytes: &[u8], from: usize, to: usize) -> &[u8]
+    ensures { result.now ≡ drop from (take to bytes.now) }
+{
+    let front = if to < bytes.len() {
+        &bytes[..to]
+    } else {
+        bytes
+    };
+    if from < front.len() {
+        &front[from..]
+    } else {
+        &[]
+    }
+}
+
+/// The value of the key, or this number if the trie has no such key.
+fn value_or<K: ZeroTrieWithOptions>(bytes: &[u8], key: &[u8], missing: usize) -> usize
+    ensures { (m : Map) → Means K.kind bytes.now m → result ≡ or_else missing (look K.kind m key.now) }
+{
+    match get_counted::<K>(bytes, key).0 {
+        Some(value) => value,
+        None => missing,
+    }
+}
+
+/// Looks up keys in a trie of the kind `K`.
+fn look_up_many<K: ZeroTrieWithOptions>(
+    bytes: &[u8],
+    keys: &[u8],
+    ends: &[usize],
+    missing: usize,
+    values: &mut [usize],
+)
+    ensures { (m : Map) → Means K.kind bytes.now m
+        → values.new ≡ written_over (values_or missing K.kind m (keys_from 0 keys.now ends.now)) values.old }
+{
+    let mut from = 0;
+    let count = ends.len().min(values.len());
+    for number in 0..count {
+        let to = ends[number];
+        values[number] = value_or::<K>(bytes, key_between(keys, from, to), missing);
+        from = to;
+    }
+}
+
+/// Looks up keys that lie one behind another, each up to its end, and writes the value of each, or `missing` for a key
+/// that the trie hasn't.
+///
+/// An end behind all bytes stands for theirs, and an end below the one before it makes an empty key. So many are
+/// answered as there are ends and room for values; the rest of the room stays. If the number is no kind, all of it stays.
+#[unsafe(no_mangle)]
+pub extern "C" fn zerotrie_get_many(
+    kind: u32,
+    bytes: &[u8],
+    keys: &[u8],
+    ends: &[usize],
+    missing: usize,
+    values: &mut [usize],
+) -> u32
+    ensures known { IfSome (kind_of kind) (λ k. (result ≡ done) × ((m : Map) → Means k bytes.now m
+        → values.new ≡ written_over (values_or missing k m (keys_from 0 keys.now ends.now)) values.old)) }
+    ensures unknown { IfNone (kind_of kind) ((result ≡ unknown_kind) × (values.new ≡ values.old)) }
+{
+    match kind {
+        0 => look_up_many::<Simple>(bytes, keys, ends, missing, values),
+        3 => look_up_many::<Hash>(bytes, keys, ends, missing, values),
+        7 => look_up_many::<Ext>(bytes, keys, ends, missing, values),
+        8 => look_up_many::<Ignore>(bytes, keys, ends, missing, values),
+        _ => return UNKNOWN_KIND,
+    }
+    DONE
+}
+
+/// The longest key that a text begins with, in a trie of the kind of this number.
+fn longest_as(kind: u32, bytes: &[u8], text: &[u8]) -> Option<(usize, usize)>
+    ensures known { IfSome (kind_of kind) (λ k. (m : Map) → Means k bytes.now m
+        → IsLongestPrefix k m text.now result) }
+    ensures unknown { IfNone (kind_of kind) (result ≡ None) }
+{
+    match kind {
+        0 => longest_prefix::<Simple>(bytes, text),
+        3 => longest_prefix::<Hash>(bytes, text),
+        7 => longest_prefix::<Ext>(bytes, text),
+        8 => longest_prefix::<Ignore>(bytes, text),
+        _ => None,
+    }
+}
+
+/// Whether the text begins with a key. If so, the length of the longest such key goes to `len` and its value to `value`,
+/// and else both stay.
+#[unsafe(no_mangle)]
+pub extern "C" fn zerotrie_longest_prefix(
+    kind: u32,
+    bytes: &[u8],
+    text: &[u8],
+    len: &mut usize,
+    value: &mut usize,
+) -> bool
+    ensures known { IfSome (kind_of kind) (λ k. (m : Map) → Means k bytes.now m
+        → IsLongestPrefix k m text.now (told_both result len.new value.new)) }
+    ensures unknown { IfNone (kind_of kind) (result ≡ false) }
+    ensures kept { result ≡ false → (len.new ≡ len.old) × (value.new ≡ value.old) }
+{
+    match longest_as(kind, bytes, text) {
+        Some((length, found)) => {
+            *len = length;
+            *value = found;
+            true
+        }
+        None => false,
+    }
+}
