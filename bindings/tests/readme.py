@@ -10,7 +10,7 @@ import sys
 here, room = pathlib.Path(sys.argv[1]), pathlib.Path(sys.argv[2])
 build = pathlib.Path(os.environ["ZEROTRIE_LIB"])
 section = (here / "../README.md").read_text().split("## From C, C++, Rust and Python")[1].split("\n## ")[0]
-shown = {language: body for language, body in re.findall(r"```(c|cpp|rust|python)\n(.*?)```", section, re.S)}
+shown = {language: body for language, body in re.findall(r"```(c|cpp|rs|python)\n(.*?)```", section, re.S)}
 
 
 def compiled(command, name, text):
@@ -39,10 +39,10 @@ def program(language, body):
     if language == "cpp":
         text = '#include "zerotrie.hpp"\n#include <iostream>\n#include <map>\nint main() {\n' + body + "}\n"
         return compiled([os.environ.get("CXX", "c++"), "-std=c++17"], "shown.cpp", text)
-    return in_rust(body) if language == "rust" else [sys.executable, "-c", body]
+    return in_rust(body) if language == "rs" else [sys.executable, "-c", body]
 
 
-assert set(shown) == {"c", "cpp", "rust", "python"}, set(shown)
+assert set(shown) == {"c", "cpp", "rs", "python"}, set(shown)
 for language, body in shown.items():
     want = re.findall(r"(?:print|cout).*?(?://|#) (.*)", body)
     environment = {**os.environ, "PYTHONPATH": str(here / "python")}
