@@ -79,6 +79,8 @@ unsafe extern "C" {
     ) -> usize;
     #[link_name = "list_many"]
     fn list_many_(kind: u8, bytes: *const u8, len: usize, times: usize) -> usize;
+    #[link_name = "lend_many"]
+    fn lend_many_(kind: u8, bytes: *const u8, len: usize, times: usize) -> usize;
     #[link_name = "map_many"]
     fn map_many_(kind: u8, bytes: *const u8, len: usize, times: usize) -> usize;
     #[link_name = "build_many"]
@@ -142,6 +144,11 @@ pub fn is_well_formed(kind: Kind, bytes: &[u8]) -> bool {
 pub fn list_many(kind: Kind, bytes: &[u8], times: usize) -> usize {
     // SAFETY: the function reads the slice.
     unsafe { list_many_(kind as u8, bytes.as_ptr(), bytes.len(), times) }
+}
+
+pub fn lend_many(kind: Kind, bytes: &[u8], times: usize) -> usize {
+    // SAFETY: the function reads the slice.
+    unsafe { lend_many_(kind as u8, bytes.as_ptr(), bytes.len(), times) }
 }
 
 pub fn map_many(kind: Kind, bytes: &[u8], times: usize) -> usize {

@@ -73,6 +73,7 @@ fn listings(set: &Set, kind: Kind, rounds: usize) {
     let turns = (20_000 / set.keys.len()).max(1);
     let mut contestants: Vec<(&str, Box<dyn FnMut() -> usize + '_>)> = Vec::new();
     contestants.push(("ours", Box::new(move || calls::list_many(kind, bytes, turns))));
+    contestants.push(("lending", Box::new(move || calls::lend_many(kind, bytes, turns))));
     #[cfg(original)]
     contestants.push(("the crate", Box::new(move || (0..turns).map(|_| calls::original::listed(kind, bytes)).sum())));
     run_line(&format!("{}, {}, listing", set.name, kind.name()), rounds, turns * set.keys.len(), contestants);
