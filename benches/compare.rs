@@ -45,6 +45,8 @@ fn run_line(name: &str, rounds: usize, items: usize, mut contestants: Vec<(&str,
 /// The maps own their keys, as those of a program do. The keys that are asked for lie elsewhere, one behind another.
 fn look_ups(set: &Set, kind: Kind, rounds: usize) {
     let bytes = calls::built(kind, 0, &set.keys);
+    let a_key = bytes.len() as f64 / set.keys.len() as f64;
+    println!("{:<46} {:>9} bytes, {a_key:.1} a key", format!("{}, {}", set.name, kind.name()), bytes.len());
     let ordered: BTreeMap<Vec<u8>, usize> = pairs(set).map(|(key, value)| (key.to_vec(), value)).collect();
     let hashed: HashMap<Vec<u8>, usize> = pairs(set).map(|(key, value)| (key.to_vec(), value)).collect();
     let mut shuffled = set.keys.clone();

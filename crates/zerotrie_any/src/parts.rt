@@ -16,7 +16,7 @@ use zerotrie_core::{ListError, TrieStore, ZeroTrieIterator, ZeroTrieWithOptions}
 ///
 /// An item is a key, or `ListError::OutOfMemory` where a growth was refused. After an error, and after the end,
 /// nothing more comes.
-#[derive(Drop)]
+#[derive(Debug, Drop)]
 pub struct ZeroTrieKeys<'a> {
     pairs: ZeroTrieIterator<'a>,
 }
@@ -66,7 +66,7 @@ impl<'a> Iterator for ZeroTrieKeys<'a> {
 ///
 /// An item is a value, or `ListError::OutOfMemory` where a growth was refused, since a listing keeps the key that it
 /// stands at. After an error, and after the end, nothing more comes.
-#[derive(Drop)]
+#[derive(Debug, Drop)]
 pub struct ZeroTrieValues<'a> {
     pairs: ZeroTrieIterator<'a>,
 }

@@ -74,7 +74,7 @@ impl<'a> Iterator for ZeroTrieStringIterator<'a> {
 /// pairs.
 ///
 /// An item is a key, or an error as there. After an error, and after the end, nothing more comes.
-#[derive(Drop)]
+#[derive(Debug, Drop)]
 pub struct ZeroTrieStringKeys<'a> {
     pairs: ZeroTrieStringIterator<'a>,
 }
