@@ -181,20 +181,20 @@ uint32_t zerotrie_list(uint32_t kind, const uint8_t *bytes, size_t len, const ui
 static inline const char *zerotrie_status_text(uint32_t status) {
     switch (status) {
     case ZEROTRIE_DONE: return "Done";
-    case ZEROTRIE_NON_ASCII: return "Non-ASCII cannot be added to an ASCII-only trie";
-    case ZEROTRIE_CAPACITY_EXCEEDED: return "Reached maximum capacity of trie";
-    case ZEROTRIE_NO_PERFECT_HASH: return "Failed to solve the perfect hash function. This is rare! Please report your case to the ICU4X team.";
-    case ZEROTRIE_MIXED_CASE: return "Mixed-case data added to case-insensitive trie";
-    case ZEROTRIE_ILLEGAL_DELIMITER: return "Delimiter is contained in one or more strings";
-    case ZEROTRIE_DUPLICATE_KEY: return "The same key was given twice";
-    case ZEROTRIE_UNSORTED: return "Keys are not in strictly ascending order";
-    case ZEROTRIE_BUFFER_TOO_SMALL: return "Buffer too small";
-    case ZEROTRIE_BUFFER_TOO_LARGE: return "Buffer too large";
-    case ZEROTRIE_STACK_EXCEEDED: return "Need more stack";
-    case ZEROTRIE_OUT_OF_MEMORY: return "Out of memory";
-    case ZEROTRIE_UNKNOWN_KIND: return "The number is no kind of trie";
-    case ZEROTRIE_NO_TAG: return "There are no tagged bytes";
-    case ZEROTRIE_INVALID_TAG: return "The first byte is the tag of no kind";
+    case ZEROTRIE_NON_ASCII: return "a key has a byte that is not ASCII: take a kind of trie for keys of any bytes";
+    case ZEROTRIE_CAPACITY_EXCEEDED: return "the text of the trie would be too long for its kind: take ZeroTrieExtendedCapacity, or fewer pairs";
+    case ZEROTRIE_NO_PERFECT_HASH: return "no perfect hash was found for the edges of a branch: take a kind without hashed tables, or change a key";
+    case ZEROTRIE_MIXED_CASE: return "two keys begin alike but for the case of a letter: lower-case the keys first";
+    case ZEROTRIE_ILLEGAL_DELIMITER: return "a text has the delimiter in it: take a delimiter that none has";
+    case ZEROTRIE_DUPLICATE_KEY: return "a key was given twice: give each key once";
+    case ZEROTRIE_UNSORTED: return "the keys do not ascend: sort them by their bytes, each once";
+    case ZEROTRIE_BUFFER_TOO_SMALL: return "the array is too small for the trie: take a larger one";
+    case ZEROTRIE_BUFFER_TOO_LARGE: return "the array is too large for the trie: take a smaller one";
+    case ZEROTRIE_STACK_EXCEEDED: return "the stack is too small for the trie: take a larger one";
+    case ZEROTRIE_OUT_OF_MEMORY: return "out of memory";
+    case ZEROTRIE_UNKNOWN_KIND: return "the number is no kind of trie: take 0, 3, 7 or 8";
+    case ZEROTRIE_NO_TAG: return "there are no bytes, and so no tag: give all of the tagged bytes";
+    case ZEROTRIE_INVALID_TAG: return "the first byte is the tag of no kind: give bytes that were written with a tag";
     default: return "Unknown status";
     }
 }

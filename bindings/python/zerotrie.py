@@ -36,15 +36,15 @@ SIMPLE_ASCII, PERFECT_HASH, EXTENDED_CAPACITY, IGNORE_CASE = 0, 3, 7, 8
 
 _DONE, _TOO_SMALL, _NO_MEMORY = 0, 8, 11
 _TEXTS = {
-    1: "Non-ASCII cannot be added to an ASCII-only trie",
-    2: "Reached maximum capacity of trie",
-    3: "Failed to solve the perfect hash function. This is rare! Please report your case to the ICU4X team.",
-    4: "Mixed-case data added to case-insensitive trie",
-    6: "The same key was given twice",
-    7: "Keys are not in strictly ascending order",
-    12: "The number is no kind of trie",
-    13: "There are no tagged bytes",
-    14: "The first byte is the tag of no kind",
+    1: "a key has a byte that is not ASCII: take a kind of trie for keys of any bytes",
+    2: "the text of the trie would be too long for its kind: take ZeroTrieExtendedCapacity, or fewer pairs",
+    3: "no perfect hash was found for the edges of a branch: take a kind without hashed tables, or change a key",
+    4: "two keys begin alike but for the case of a letter: lower-case the keys first",
+    6: "a key was given twice: give each key once",
+    7: "the keys do not ascend: sort them by their bytes, each once",
+    12: "the number is no kind of trie: take 0, 3, 7 or 8",
+    13: "there are no bytes, and so no tag: give all of the tagged bytes",
+    14: "the first byte is the tag of no kind: give bytes that were written with a tag",
 }
 
 

@@ -88,7 +88,7 @@ int main(int count, char **arguments) {
         zerotrie::build(Kind::SimpleAscii, std::vector<std::pair<const char *, int>>{{"a", 1}, {"a", 2}});
         CHECK(false);
     } catch (const zerotrie::Error &error) {
-        CHECK(error.status == ZEROTRIE_DUPLICATE_KEY && std::string(error.what()) == "The same key was given twice");
+        CHECK(error.status == ZEROTRIE_DUPLICATE_KEY && std::string(error.what()) == "a key was given twice: give each key once");
     }
     const size_t calls = count > 1 ? std::strtoul(arguments[1], nullptr, 10) : 1000000;
     against_a_map(calls);

@@ -99,15 +99,15 @@ impl Error {
 impl fmt::Display for Error {
     fn fmt(&self, f: &mut fmt::Formatter<'_>) -> fmt::Result {
         f.write_str(match self {
-            Error::NonAscii => "Non-ASCII cannot be added to an ASCII-only trie",
-            Error::CapacityExceeded => "Reached maximum capacity of trie",
-            Error::NoPerfectHash => "Failed to solve the perfect hash function. This is rare! Please report your case to the ICU4X team.",
-            Error::MixedCase => "Mixed-case data added to case-insensitive trie",
-            Error::DuplicateKey => "The same key was given twice",
-            Error::Unsorted => "Keys are not in strictly ascending order",
-            Error::OutOfMemory => "Out of memory",
-            Error::NoTag => "There are no tagged bytes",
-            Error::InvalidTag => "The first byte is the tag of no kind",
+            Error::NonAscii => "a key has a byte that is not ASCII: take a kind of trie for keys of any bytes",
+            Error::CapacityExceeded => "the text of the trie would be too long for its kind: take ZeroTrieExtendedCapacity, or fewer pairs",
+            Error::NoPerfectHash => "no perfect hash was found for the edges of a branch: take a kind without hashed tables, or change a key",
+            Error::MixedCase => "two keys begin alike but for the case of a letter: lower-case the keys first",
+            Error::DuplicateKey => "a key was given twice: give each key once",
+            Error::Unsorted => "the keys do not ascend: sort them by their bytes, each once",
+            Error::OutOfMemory => "out of memory",
+            Error::NoTag => "there are no bytes, and so no tag: give all of the tagged bytes",
+            Error::InvalidTag => "the first byte is the tag of no kind: give bytes that were written with a tag",
             Error::NotWellFormed => "The bytes are no trie of the kind",
             Error::Unknown(_) => "Unknown status",
         })

@@ -42,7 +42,7 @@ fn refusals() {
         assert_eq!(build(kind, [("", 0); 0]), Ok(vec![]));
     }
     assert_eq!(ZeroTrie::try_from_bytes(Kind::SimpleAscii, b"into"), Err(Error::NotWellFormed));
-    assert_eq!(Error::DuplicateKey.to_string(), "The same key was given twice");
+    assert_eq!(Error::DuplicateKey.to_string(), "a key was given twice: give each key once");
 }
 
 /// Bytes of every sort: each call returns, and on a trie all ways of reading agree.
