@@ -26,7 +26,8 @@ impl<'a> ZeroTrie<&'a [u8]> {
     /// assert_eq!(rt; trie.get(b"abc"), Some(5));
     /// ```
     ///
-    /// Refused with `NotWellFormed` exactly where the bytes mean no map.
+    /// Refused with `NotWellFormed` exactly if the bytes mean no map. Tagged bytes go to `load`: here their tag would be
+    /// read as the first byte of every key.
     pub fn try_from_bytes<K: HasFlavor>(bytes: &'a [u8]) -> Result<Self, NotWellFormed>
         ensures kind { IfOk result (λ trie. flavor_kind trie.flavor ≡ K.kind) }
         ensures bytes { IfOk result (λ trie. trie.store.now ≡ bytes.now) }

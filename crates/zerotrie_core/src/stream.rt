@@ -42,7 +42,8 @@ struct OpenBranch<'a> {
 /// ```
 ///
 /// It takes memory only as its longest key and its deepest branches grow, and none for a pair. On any bytes it lists
-/// what their nodes give, up to the first place at which none begins: at most n pairs of n bytes.
+/// what their nodes give, up to the first place at which none begins: at most n pairs of n bytes. So a loop with no
+/// measure of its own is `for _ in 0..=bytes.len()`, with a `break` after the last pair.
 #[derive(Debug, Drop)]
 pub struct ZeroTrieStream<'a, A: Allocator = Global> {
     options: ZeroTrieBuilderOptions,

@@ -17,7 +17,8 @@ impl<'a, K: HashedKind> HashedTrie<K, &'a [u8]> {
     /// assert!(rt; ZeroTriePerfectHash::try_from_bytes(b"into").is_err());
     /// ```
     ///
-    /// Refused with `NotWellFormed` exactly where the bytes mean no map.
+    /// Refused with `NotWellFormed` exactly if the bytes mean no map. Tagged bytes go to `load`: here their tag would be
+    /// read as the first byte of every key.
     pub fn try_from_bytes(bytes: &'a [u8]) -> Result<Self, NotWellFormed>
         ensures bytes { IfOk result (λ trie. trie.store.now ≡ bytes.now) }
         ensures ok { IfOk result (λ _. IsWellFormed K.kind bytes.now) }
