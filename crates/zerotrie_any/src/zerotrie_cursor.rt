@@ -4,7 +4,7 @@ ghost use Rattle.std.specs.Prelude.{⊤, ◌≡◌, ◌≢◌, ◌↔◌, [], �
 ghost use Rattle.std.specs.Option.{option_map};
 ghost use Rattle.zerotrie_core.specs.Maps.{Pairs};
 ghost use Rattle.zerotrie_core.specs.Texts.{Lists};
-ghost use Rattle.zerotrie_core.specs.Places.{nowhere, IsStep, IsTake, IsProbe};
+ghost use Rattle.zerotrie_core.specs.Places.{nowhere, IsStep, IsTake, IsProbe, FollowsRun};
 ghost use Rattle.zerotrie_any.specs.Stands.{in_front, ListsFrom};
 ghost use Rattle.zerotrie_any.specs.Flavors.{flavor_kind};
 ghost use Rattle.zerotrie_any.specs.Walks.{IsWalk};
@@ -90,6 +90,7 @@ impl<'a> ZeroTrieCursor<'a> {
     pub fn take_value(&mut self) -> Option<usize>
         ensures kind { self.new.flavor ≡ self.old.flavor }
         ensures meaning { IsTake (flavor_kind self.old.flavor) (ListsFrom self.old) result (ListsFrom self.new) }
+        ensures run { self.new.place.run ≡ self.old.place.run }
         ensures none { IfNone result (self.new ≡ self.old) }
     {
         self.place.take_value()
@@ -101,6 +102,7 @@ impl<'a> ZeroTrieCursor<'a> {
     pub fn step(&mut self, byte: u8) -> Option<u8>
         ensures kind { self.new.flavor ≡ self.old.flavor }
         ensures meaning { IsStep (flavor_kind self.old.flavor) (ListsFrom self.old) byte result (ListsFrom self.new) }
+        ensures run { IfSome result (λ edge. FollowsRun (flavor_kind self.old.flavor) self.old.place edge self.new.place) }
         ensures empty { IfNone result (self.new.place ≡ nowhere) }
     {
         match self.flavor {
@@ -128,6 +130,8 @@ impl<'a> ZeroTrieCursor<'a> {
         ensures kind { self.new.flavor ≡ self.old.flavor }
         ensures meaning { IsProbe (ListsFrom self.old) index
             (option_map {U = ℕ × ℕ} (λ r. (r.byte, r.total_siblings)) result) (ListsFrom self.new) }
+        ensures run { IfSome result
+            (λ r. FollowsRun (flavor_kind self.old.flavor) self.old.place r.byte self.new.place) }
         ensures empty { IfNone result (self.new.place ≡ nowhere) }
     {
         match self.flavor {
