@@ -1,10 +1,10 @@
 #!/usr/bin/env python3
-"""Runs the examples of the docs: each block of code in a doc comment of a crate and in README.md becomes a test.
+"""Runs the examples of the docs: each block of code in a doc comment of a crate, in README.md and in docs/CALLING.md becomes a test.
 
 All are tests of one crate in a copy of the repository, since what costs time is the build of the libraries. An example is a file of
 its own, in which its lines have the numbers that they have in the docs. It sees the public names of its crate and of those that the
 crate stands on, and the names of OTHERS, unless it has a `main` and so is a whole program. A line that prints, `println!(rt; ..)?;
-// TEXT`, must print TEXT. A block that is marked, as ```text, is no example.
+// TEXT`, must print TEXT. A block that is marked, as ```text, is no example; if its first line is `// FILE`, it must stand in that file.
 """
 import pathlib
 import re
@@ -14,6 +14,7 @@ import sys
 import tempfile
 
 ROOT = pathlib.Path(__file__).resolve().parent.parent
+PAGES = [ROOT / "README.md", ROOT / "docs" / "CALLING.md"]
 CRATES = (ROOT / "crates.txt").read_text()
 BELOW = dict(re.findall(r"^(\w+):(.*)", CRATES, re.M))  # what each crate stands on, static libraries aside
 OTHERS = "use serde_json::Value; use std::borrow::CowSlice; use std::collections::{BTreeMap, VecDeque}; use std::test::Fail; "
@@ -50,13 +51,21 @@ def as_test(crates, start, code):
 def found():
     """Returns the examples by the names of the files that their tests go to: for each where it stands, and its test."""
     examples = {}
-    for file in [*sorted(ROOT.glob("crates/*/src/**/*.rt")), ROOT / "README.md"]:
+    for file in [*sorted(ROOT.glob("crates/*/src/**/*.rt")), *PAGES]:
         place = file.relative_to(ROOT)
         crate = place.parts[1] if file.suffix == ".rt" else ""
         seen = [it for it in [crate, *BELOW.get(crate, "").split()] if it in BELOW]
         for start, code in blocks(file):
             examples[f"e{len(examples) + 1}"] = (place, start, as_test(seen, start, code))
     return examples
+
+
+def misquoted():
+    """Yields the files of which a page quotes what doesn't stand in them."""
+    for page in PAGES:
+        for name, code in re.findall(r"^```text\n// (crates/\S+)\n(.*?)^```$", page.read_text(), re.M | re.S):
+            if code not in (ROOT / name).read_text():
+                yield f"{page.relative_to(ROOT)}: {name} has no such lines"
 
 
 def tried(examples):
@@ -76,6 +85,8 @@ def tried(examples):
 
 
 def main():
+    if wrong := [*misquoted()]:
+        sys.exit("\n".join(wrong))
     examples = found()
     run = tried(examples)
     said = re.sub(r"\bsrc/(e\d+)\.rt\b", lambda it: str(examples[it[1]][0]), run.stdout + run.stderr)

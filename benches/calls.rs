@@ -33,18 +33,25 @@ impl Kind {
     }
 }
 
-/// Keys in a row, and where each of them ends.
+/// Keys in a row, where each of them ends, and their values.
 pub struct Flat {
     pub keys: Vec<u8>,
     pub ends: Vec<usize>,
+    pub values: Vec<usize>,
 }
 
 impl Flat {
-    pub fn of(keys: &[Vec<u8>]) -> Flat {
-        let mut flat = Flat { keys: Vec::new(), ends: Vec::new() };
-        for key in keys {
+    /// The keys, each with its number as its value.
+    pub fn of<K: AsRef<[u8]>>(keys: &[K]) -> Flat {
+        Flat::of_pairs(keys.iter().enumerate().map(|(number, key)| (key.as_ref(), number)))
+    }
+
+    pub fn of_pairs<'a>(pairs: impl Iterator<Item = (&'a [u8], usize)>) -> Flat {
+        let mut flat = Flat { keys: Vec::new(), ends: Vec::new(), values: Vec::new() };
+        for (key, value) in pairs {
             flat.keys.extend_from_slice(key);
             flat.ends.push(flat.keys.len());
+            flat.values.push(value);
         }
         flat
     }
@@ -85,12 +92,13 @@ unsafe extern "C" {
     fn map_many_(kind: u8, bytes: *const u8, len: usize, times: usize) -> usize;
     #[link_name = "build_many"]
     fn build_many_(
-        kind: u8, route: u8, keys: *const u8, keys_len: usize, ends: *const usize, ends_len: usize,
-        times: usize, out: *mut u8, out_len: usize,
+        kind: u8, route: u8, keys: *const u8, keys_len: usize, ends: *const usize, ends_len: usize, values: *const usize,
+        values_len: usize, times: usize, out: *mut u8, out_len: usize,
     ) -> usize;
     #[link_name = "build_map_many"]
     fn build_map_many_(
-        kind: u8, keys: *const u8, keys_len: usize, ends: *const usize, ends_len: usize, times: usize,
+        kind: u8, keys: *const u8, keys_len: usize, ends: *const usize, ends_len: usize, values: *const usize,
+        values_len: usize, times: usize,
     ) -> usize;
     #[link_name = "hash_many"]
     fn hash_many_(keys: *const u8, keys_len: usize, times: usize) -> usize;
@@ -188,29 +196,30 @@ pub fn answers(kind: Kind, bytes: &[u8], calls: &[u8]) -> Vec<(usize, usize)> {
 }
 
 pub fn build_many(kind: Kind, route: u8, flat: &Flat, times: usize, out: &mut [u8]) -> usize {
-    // SAFETY: the function reads the two slices and writes the third.
+    // SAFETY: the function reads the three slices and writes the fourth.
     unsafe {
         build_many_(
-            kind as u8, route, flat.keys.as_ptr(), flat.keys.len(), flat.ends.as_ptr(), flat.ends.len(),
-            times, out.as_mut_ptr(), out.len(),
+            kind as u8, route, flat.keys.as_ptr(), flat.keys.len(), flat.ends.as_ptr(), flat.ends.len(), flat.values.as_ptr(),
+            flat.values.len(), times, out.as_mut_ptr(), out.len(),
         )
     }
 }
 
 pub fn build_map_many(kind: Kind, flat: &Flat, times: usize) -> usize {
-    // SAFETY: the function reads the two slices.
+    // SAFETY: the function reads the three slices.
     unsafe {
         build_map_many_(
-            kind as u8, flat.keys.as_ptr(), flat.keys.len(), flat.ends.as_ptr(), flat.ends.len(), times,
+            kind as u8, flat.keys.as_ptr(), flat.keys.len(), flat.ends.as_ptr(), flat.ends.len(), flat.values.as_ptr(),
+            flat.values.len(), times,
         )
     }
 }
 
-/// The bytes of a trie of the keys, each with its number as its value.
-pub fn built(kind: Kind, route: u8, keys: &[Vec<u8>]) -> Vec<u8> {
-    let flat = Flat::of(keys);
+/// The bytes of a trie of the pairs, which ascend.
+pub fn built<'a>(kind: Kind, pairs: impl Iterator<Item = (&'a [u8], usize)>) -> Vec<u8> {
+    let flat = Flat::of_pairs(pairs);
     let mut out = vec![0; 64 * flat.bytes() + 64];
-    let len = build_many(kind, route, &flat, 1, &mut out);
+    let len = build_many(kind, 0, &flat, 1, &mut out);
     assert!(len <= out.len(), "the build was refused");
     out.truncate(len);
     out

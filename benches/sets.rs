@@ -1,11 +1,51 @@
-//! The sets of keys that are measured, the same in every run.
+//! The sets of keys that are measured: made ones, the same in every run, and those of files.
 
 use std::collections::{BTreeMap, BTreeSet};
+use std::path::Path;
 
-/// A set of keys, each with its number in the order of bytes as its value.
+/// A set of keys in the order of their bytes, each with a value.
 pub struct Set {
-    pub name: &'static str,
+    pub name: String,
     pub keys: Vec<Vec<u8>>,
+    pub values: Vec<usize>,
+}
+
+impl Set {
+    /// The keys, each with its number in the order of bytes as its value.
+    pub fn numbered(name: &str, keys: Vec<Vec<u8>>) -> Set {
+        let values = (0..keys.len()).collect();
+        Set { name: String::from(name), keys, values }
+    }
+
+    /// The lines of a file, each with its number from 1 on as its value. A line that came before is left out.
+    pub fn of_file(path: &Path) -> std::io::Result<Set> {
+        let text = std::fs::read(path)?;
+        let text = text.strip_suffix(b"\n").unwrap_or(&text);
+        let mut pairs = BTreeMap::new();
+        for (line, key) in text.split(|byte| *byte == b'\n').enumerate() {
+            pairs.entry(key.to_vec()).or_insert(line + 1);
+        }
+        let name = path.file_stem().unwrap_or_default().to_string_lossy();
+        let (keys, values): (Vec<_>, Vec<_>) = pairs.into_iter().unzip();
+        Ok(Set { name: format!("{} {name}", grouped(keys.len())), keys, values })
+    }
+
+    pub fn pairs(&self) -> impl Iterator<Item = (&[u8], usize)> {
+        self.keys.iter().map(Vec::as_slice).zip(self.values.iter().copied())
+    }
+}
+
+/// A number with a comma between thousands.
+pub fn grouped(number: usize) -> String {
+    let digits = number.to_string();
+    let mut text = String::new();
+    for (place, digit) in digits.chars().enumerate() {
+        if place > 0 && (digits.len() - place) % 3 == 0 {
+            text.push(',');
+        }
+        text.push(digit);
+    }
+    text
 }
 
 /// Numbers that look random and are the same in every run.
@@ -141,17 +181,30 @@ fn paths() -> Vec<Vec<u8>> {
     })
 }
 
-/// All sets. Those of other bytes than ASCII are for the hashed kinds alone.
-pub fn all() -> Vec<Set> {
+/// The made sets. Those of other bytes than ASCII are for the hashed kinds alone.
+fn made() -> Vec<Set> {
     let headers = HEADERS.iter().map(|name| name.as_bytes().to_vec()).collect();
     vec![
-        Set { name: "500 locale tags", keys: tags() },
-        Set { name: "83 header names", keys: headers },
-        Set { name: "5,000 words", keys: words(17, 5_000) },
-        Set { name: "1,000 long paths", keys: paths() },
-        Set { name: "200,000 words", keys: words(19, 200_000) },
-        Set { name: "2,000 UTF-8 words", keys: beyond_ascii(2_000) },
+        Set::numbered("83 header names", headers),
+        Set::numbered("500 locale tags", tags()),
+        Set::numbered("5,000 words", words(17, 5_000)),
+        Set::numbered("200,000 words", words(19, 200_000)),
+        Set::numbered("1,000 long paths", paths()),
+        Set::numbered("2,000 UTF-8 words", beyond_ascii(2_000)),
     ]
+}
+
+/// The sets that benches/data wrote, if it did.
+fn written() -> Vec<Set> {
+    let Ok(folder) = std::fs::read_dir(std::env::temp_dir().join("zerotrie-sets")) else { return Vec::new() };
+    let mut files: Vec<_> = folder.flatten().map(|file| file.path()).filter(|path| path.extension().is_some_and(|end| end == "txt")).collect();
+    files.sort();
+    files.iter().filter_map(|path| Set::of_file(path).ok()).collect()
+}
+
+/// The made sets and those that benches/data wrote.
+pub fn all() -> Vec<Set> {
+    made().into_iter().chain(written()).collect()
 }
 
 /// A set of values, each of a prefix and a suffix, in the order of both.
@@ -225,18 +278,20 @@ pub fn absent(table: &Table) -> Vec<(String, String)> {
     missing
 }
 
-/// Keys that are not in the set: each is a key of it with one byte changed.
+/// As many keys that are not in the set: each is a key of it with one byte changed, and, should that be a key, more bytes behind it.
 pub fn misses(set: &Set) -> Vec<Vec<u8>> {
     let mut random = Random::new(41);
-    let held: BTreeMap<&[u8], ()> = set.keys.iter().map(|key| (key.as_slice(), ())).collect();
-    let mut missing = Vec::new();
-    while missing.len() < set.keys.len() {
+    let held: BTreeSet<&[u8]> = set.keys.iter().map(Vec::as_slice).collect();
+    let missing = |_| {
         let mut key = set.keys[random.below(set.keys.len())].clone();
-        let place = random.below(key.len());
-        key[place] = b'a' + random.below(26) as u8;
-        if !held.contains_key(key.as_slice()) {
-            missing.push(key);
+        if !key.is_empty() {
+            let place = random.below(key.len());
+            key[place] = b'a' + random.below(26) as u8;
         }
-    }
-    missing
+        while held.contains(key.as_slice()) {
+            key.push(b'a' + random.below(26) as u8);
+        }
+        key
+    };
+    set.keys.iter().map(missing).collect()
 }

@@ -179,6 +179,10 @@ impl<K: AsciiKind, S: TrieStore> AsciiTrie<K, S> {
     ///
     /// In the kind without case, keys that differ in the case of ASCII letters alone are one. The call takes
     /// no memory. On bytes that mean no map it gives some answer.
+    ///
+    /// Its code, some 3 KB, stands wherever it is called. A program that wants it once calls it from a function
+    /// of its own that is `#[inline(never)]`; so for `get_str`, `contains_key` and a cursor's `step`.
+    #[inline(always)]
     pub fn get(&self, key: &[u8]) -> Option<usize>
         ensures { (m : Map) → Means K.kind (S.stored self.now.store) m → result ≡ look K.kind m key.now }
     {
@@ -192,6 +196,7 @@ impl<K: AsciiKind, S: TrieStore> AsciiTrie<K, S> {
     /// let trie = ZeroTrieSimpleAscii::from_bytes(b"abc\x85");
     /// assert_eq!(rt; trie.get_str("abc"), Some(5));
     /// ```
+    #[inline(always)]
     pub fn get_str(&self, key: &str) -> Option<usize>
         ensures { (m : Map) → Means K.kind (S.stored self.now.store) m → result ≡ look K.kind m key.now }
     {
@@ -205,6 +210,7 @@ impl<K: AsciiKind, S: TrieStore> AsciiTrie<K, S> {
     /// assert!(rt; trie.contains_key(b"abc"));
     /// assert!(rt; !trie.contains_key(b"ab"));
     /// ```
+    #[inline(always)]
     pub fn contains_key(&self, key: &[u8]) -> bool
         ensures { (m : Map) → Means K.kind (S.stored self.now.store) m
             → result ≡ is_some (look K.kind m key.now) }

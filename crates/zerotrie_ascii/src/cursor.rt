@@ -129,6 +129,7 @@ impl<'a, K: AsciiKind> AsciiCursor<'a, K> {
         probe::<K>(&mut self.trie, index)
     }
 
+    #[inline(always)]
     fn step_edge(&mut self, byte: u8) -> Option<u8>
         ensures meaning { IsStep K.kind (Lists K.kind self.old) byte result (Lists K.kind self.new) }
         ensures empty { IfNone result (self.new ≡ []) }
@@ -154,6 +155,7 @@ impl<'a> AsciiCursor<'a, Simple> {
     /// Goes along the edge of this byte.
     ///
     /// A value is passed over. Where no edge is the byte, the cursor is empty.
+    #[inline(always)]
     pub fn step(&mut self, byte: u8)
         ensures { StepsBy simple_ascii self.old (byte ∷ []) self.new }
     {
@@ -165,6 +167,7 @@ impl<'a> AsciiCursor<'a, Ignore> {
     /// Goes along the edge that is this byte but for the case of a letter, and answers it as it is stored.
     ///
     /// A value is passed over. Where no edge is the byte, the answer is `None`, and the cursor is empty.
+    #[inline(always)]
     pub fn step(&mut self, byte: u8) -> Option<u8>
         ensures meaning { IsStep ignore_case (Lists ignore_case self.old) byte result (Lists ignore_case self.new) }
         ensures empty { IfNone result (self.new ≡ []) }

@@ -10,6 +10,7 @@ ghost use Rattle.zerotrie_core.specs.Routes.{ascending, any_order, IsRefusal, Is
 ghost use Rattle.zerotrie_build.specs.Items.{pairs};
 ghost use Rattle.zerotrie_build.specs.Order.{Ordered, AreKeys, AreValues};
 
+use crate::indexed::IndexedItems;
 use crate::measuring::measure_all;
 use crate::order::{are_ascii, are_in_order, are_keys, is_ordered, repeats_next, sorted_by_fold};
 use crate::slice_indices::ByteSliceWithIndices;
@@ -38,30 +39,32 @@ fn in_order<K: ZeroTrieWithOptions, Key: TrieKey, A: Allocator + Copy>(
         return Err(ZeroTrieBuildError::DuplicateKey);
     }
     let sorted = ByteSliceWithIndices::from_byte_slice(items.as_slice());
-    if !are_keys::<K>(sorted) {
+    if !are_keys::<K, _>(sorted) {
         return Err(ZeroTrieBuildError::NonAsciiError);
     }
-    if K::IGNORE_CASE && !is_ordered::<K>(sorted) {
+    if K::IGNORE_CASE && !is_ordered::<K, _>(sorted) {
         return Err(ZeroTrieBuildError::MixedCase);
     }
     Ok(items)
 }
 
 /// The bytes of the trie of items in the order of the kind.
-fn grow_ordered<K: ZeroTrieWithOptions, S: TrieBuilderStore + Drop, A: Allocator + Copy>(
-    alloc: Global,
-    spare: A,
-    items: ByteSliceWithIndices<'_>,
-) -> Result<S, ZeroTrieBuildError>
-    requires ordered { Ordered K.kind (pairs items) }
-    requires keys { AreKeys K.kind (pairs items) }
-    ensures { IsBuild any_order K.kind S.list (pairs items.entry) result }
+fn grow_ordered<
+    'a,
+    K: ZeroTrieWithOptions,
+    I: IndexedItems<'a>,
+    S: TrieBuilderStore + Drop,
+    A: Allocator + Copy,
+>(alloc: Global, spare: A, items: I) -> Result<S, ZeroTrieBuildError>
+    requires ordered { Ordered K.kind (I.pairs items) }
+    requires keys { AreKeys K.kind (I.pairs items) }
+    ensures { IsBuild any_order K.kind S.list (I.pairs items) result }
 {
     laws::canonical_exactly();
     laws::meant_fits();
-    let ascii = are_ascii::<K>(items);
-    let measured = measure_all::<K, A>(spare, items, ascii)?;
-    write::<K, S, A>(alloc, spare, items, &measured, ascii)
+    let ascii = are_ascii::<K, I>(items);
+    let measured = measure_all::<K, I, A>(spare, items, ascii)?;
+    write::<K, I, S, A>(alloc, spare, items, &measured, ascii)
 }
 
 /// The bytes of the trie of items in any order, which are put in the order of the kind.
@@ -75,7 +78,7 @@ fn grow_sorted<
 {
     let items = in_order::<K, Key, A>(spare, given)?;
     let items = ByteSliceWithIndices::from_byte_slice(items.as_slice());
-    grow_ordered::<K, S, A>(alloc, spare, items)
+    grow_ordered::<K, _, S, A>(alloc, spare, items)
 }
 
 /// The bytes of the trie of items that ascend by the bytes of their keys. Where the kind has another order,
@@ -89,7 +92,7 @@ fn grow_ascending<K: ZeroTrieWithOptions, S: TrieBuilderStore + Drop, A: Allocat
     ensures { IsBuild any_order K.kind S.list (pairs items.entry) result }
 {
     if are_in_order::<K>(items)? {
-        return grow_ordered::<K, S, A>(alloc, spare, items);
+        return grow_ordered::<K, _, S, A>(alloc, spare, items);
     }
     match items {
         ByteSliceWithIndices::Bytes(items) => grow_sorted::<K, &[u8], S, A>(alloc, spare, items),
@@ -121,6 +124,25 @@ pub fn grow_slice<S: TrieBuilderStore + Drop, A: Allocator + Copy>(
     }
 }
 
+/// The bytes of the trie of items in any order. If they are in the order of the kind, they are read where they stand, and
+/// else they are sorted.
+fn grow_given<
+    K: ZeroTrieWithOptions,
+    Key: TrieKey,
+    S: TrieBuilderStore + Drop,
+    A: Allocator + Copy,
+>(alloc: Global, spare: A, given: &[(Key, usize)]) -> Result<S, ZeroTrieBuildError>
+    ensures { IsBuild any_order K.kind S.list (keyed Key.key given.now) result }
+{
+    if !is_ordered::<K, _>(given) {
+        return grow_sorted::<K, Key, S, A>(alloc, spare, given);
+    }
+    if !are_keys::<K, _>(given) {
+        return Err(ZeroTrieBuildError::NonAsciiError);
+    }
+    grow_ordered::<K, _, S, A>(alloc, spare, given)
+}
+
 /// The bytes of the trie of items in any order, in the kind of the options.
 fn grow_any<Key: TrieKey, S: TrieBuilderStore + Drop, A: Allocator + Copy>(
     alloc: Global,
@@ -131,13 +153,13 @@ fn grow_any<Key: TrieKey, S: TrieBuilderStore + Drop, A: Allocator + Copy>(
     ensures { IsBuild any_order (kind_with options) S.list (keyed Key.key given.now) result }
 {
     if options.ignore_case() {
-        grow_sorted::<Ignore, Key, S, A>(alloc, spare, given)
+        grow_given::<Ignore, Key, S, A>(alloc, spare, given)
     } else if options.extended() {
-        grow_sorted::<Ext, Key, S, A>(alloc, spare, given)
+        grow_given::<Ext, Key, S, A>(alloc, spare, given)
     } else if options.use_phf() {
-        grow_sorted::<Hash, Key, S, A>(alloc, spare, given)
+        grow_given::<Hash, Key, S, A>(alloc, spare, given)
     } else {
-        grow_sorted::<Simple, Key, S, A>(alloc, spare, given)
+        grow_given::<Simple, Key, S, A>(alloc, spare, given)
     }
 }
 
@@ -151,7 +173,7 @@ fn len_ordered<K: ZeroTrieWithOptions, A: Allocator + Copy>(
     requires values { AreValues (pairs items) }
     ensures { IsLength any_order K.kind (pairs items.entry) result }
 {
-    let measured = measure_all::<K, A>(alloc, items, are_ascii::<K>(items))?;
+    let measured = measure_all::<K, _, A>(alloc, items, are_ascii::<K, _>(items))?;
     Ok(measured.len)
 }
 

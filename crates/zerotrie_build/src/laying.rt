@@ -5,14 +5,13 @@ ghost use Rattle.std.specs.List.{range_with_len};
 ghost use Rattle.std.specs.List.Sorted.{IsPermutation, IsStrictlyIncreasing};
 ghost use Rattle.zerotrie_base.specs.Refusals.{IsTableRefusal};
 ghost use Rattle.zerotrie_core.specs.Causes.{AreCrooked};
-ghost use Rattle.zerotrie_build.specs.Items.{pairs};
 ghost use Rattle.zerotrie_build.specs.Order.{Ordered};
 ghost use Rattle.zerotrie_build.specs.passes.Windows.{window as window_of, edge_of, IsGroup};
 ghost use Rattle.zerotrie_build.specs.passes.Measured.{Parts};
 ghost use Rattle.zerotrie_build.specs.passes.Writing.{window_at, edge_no, place_in, place_at, text_of, placed_next, next_of, IsSearched, IsLaid, HasSlots};
 
+use crate::indexed::IndexedItems;
 use crate::measuring::is_hashed;
-use crate::slice_indices::ByteSliceWithIndices;
 use crate::steps::{Window, edge_at, group_end, group_end_near};
 use std::alloc::{AllocError, Allocator, Global};
 use zerotrie_core::{PerfectByteHashMapCacheOwned, ZeroTrieBuildError, ZeroTrieWithOptions};
@@ -43,10 +42,9 @@ pub(crate) enum Next {
     Text(Piece),
 }
 
-/// What the second pass goes by: the items, and what the first pass found of them.
+/// What the second pass goes by besides the items: what the first pass found of them.
 #[derive(Clone, Copy, Debug)]
 pub(crate) struct Plan<'a> {
-    pub(crate) items: ByteSliceWithIndices<'a>,
     /// The slots, and beside them guesses how many items the targets have.
     pub(crate) slots: &'a [usize],
     pub(crate) counts: &'a [u8],
@@ -98,18 +96,18 @@ impl<A: Allocator + Copy> Layout<A> {
 
     /// Lays the targets of the branch that stands first in the window out in the order of their edges. The counts
     /// of their items are guesses.
-    fn set_sorted<K: ZeroTrieWithOptions>(
+    fn set_sorted<'a, K: ZeroTrieWithOptions, I: IndexedItems<'a>>(
         &mut self,
-        items: ByteSliceWithIndices<'_>,
+        items: I,
         window: Window,
         counts: &[u8],
     ) -> Result<(), AllocError>
         requires order { window.from ≤ window.to }
-        requires items { window.to ≤ length (pairs items) }
+        requires items { window.to ≤ length (I.pairs items) }
         requires room { window.depth + 1 < 2 ^ 64 }
-        requires ordered { Ordered K.kind (window_of (pairs items) window) }
-        ensures parts { OnOk result (Parts (pairs items.entry) window self.new.windows.items) }
-        ensures table { OnOk result (self.new.table.items ≡ map (edge_of (pairs items.entry)) self.new.windows.items) }
+        requires ordered { Ordered K.kind (window_of (I.pairs items) window) }
+        ensures parts { OnOk result (Parts (I.pairs items) window self.new.windows.items) }
+        ensures table { OnOk result (self.new.table.items ≡ map (edge_of (I.pairs items)) self.new.windows.items) }
         ensures numbers { OnOk result (self.new.numbers.items ≡ range_with_len 0 (length self.new.windows.items)) }
         ensures pending { self.new.pending.items ≡ self.old.pending.items }
     {
@@ -118,7 +116,7 @@ impl<A: Allocator + Copy> Layout<A> {
         while rest.from < rest.to {
             let target = Window {
                 from: rest.from,
-                to: target_end::<K>(items, rest, counts, self.windows.len()),
+                to: target_end::<K, I>(items, rest, counts, self.windows.len()),
                 depth: rest.depth + 1,
             };
             let edge = edge_at(items, target);
@@ -147,32 +145,33 @@ impl<A: Allocator + Copy> Layout<A> {
     }
 
     /// Lays the targets of the branch out that stands first in the window, whose slots begin at `slot`.
-    pub(crate) fn set<K: ZeroTrieWithOptions>(
+    pub(crate) fn set<'a, K: ZeroTrieWithOptions, I: IndexedItems<'a>>(
         &mut self,
+        items: I,
         plan: Plan<'_>,
         window: Window,
         slot: usize,
     ) -> Result<(), ZeroTrieBuildError>
         requires order { window.from ≤ window.to }
-        requires items { window.to ≤ length (pairs plan.items) }
+        requires items { window.to ≤ length (I.pairs items) }
         requires room { window.depth + 1 < 2 ^ 64 }
-        requires ordered { Ordered K.kind (window_of (pairs plan.items) window) }
-        requires slots { HasSlots K.kind (pairs plan.items) window plan.slots.now slot }
-        ensures parts { OnOk result (Parts (pairs plan.entry.items) window self.new.windows.items) }
-        ensures laid { OnOk result (IsLaid K.kind (edge_no (pairs plan.entry.items) self.new.windows.items)
+        requires ordered { Ordered K.kind (window_of (I.pairs items) window) }
+        requires slots { HasSlots K.kind (I.pairs items) window plan.slots.now slot }
+        ensures parts { OnOk result (Parts (I.pairs items) window self.new.windows.items) }
+        ensures laid { OnOk result (IsLaid K.kind (edge_no (I.pairs items) self.new.windows.items)
             (length self.new.windows.items) self.new.table.items self.new.numbers.items) }
         ensures pending { OnOk result (reverse self.new.pending.items
             ≡ next_of K.kind plan.entry.slots.now slot self.new.windows.items self.new.numbers.items
             ++ reverse self.old.pending.items) }
         ensures refused { IfErr result (λ e. e ≢ ZeroTrieBuildError.OutOfMemory
             → (e ≡ ZeroTrieBuildError.CouldNotSolvePerfectHash)
-            × ((cs : List Window) → Parts (pairs plan.entry.items) window cs
-            → AreCrooked K.kind (map (edge_of (pairs plan.entry.items)) cs))) }
+            × ((cs : List Window) → Parts (I.pairs items) window cs
+            → AreCrooked K.kind (map (edge_of (I.pairs items)) cs))) }
     {
         let slots = plan.slots;
         // That a length is below 2^64 tells the proof that so are the places of the slots.
         let _len = slots.len();
-        self.set_sorted::<K>(plan.items, window, plan.counts.get(slot..).unwrap_or(&[]))?;
+        self.set_sorted::<K, I>(items, window, plan.counts.get(slot..).unwrap_or(&[]))?;
         let edges = self.windows.len();
         if is_hashed::<K>(edges) {
             self.set_hashed()?;
@@ -194,21 +193,21 @@ impl<A: Allocator + Copy> Layout<A> {
 /// Where the items of the branch's next target end, which has this number. The counts of the items are guesses, and
 /// the kinds with hashed tables have none.
 #[inline(always)]
-fn target_end<K: ZeroTrieWithOptions>(
-    items: ByteSliceWithIndices<'_>,
+fn target_end<'a, K: ZeroTrieWithOptions, I: IndexedItems<'a>>(
+    items: I,
     rest: Window,
     counts: &[u8],
     number: usize,
 ) -> usize
     requires within { rest.from < rest.to }
-    requires items { rest.to ≤ length (pairs items) }
-    requires ordered { Ordered K.kind (window_of (pairs items) rest) }
-    ensures { IsGroup (pairs items.entry) rest result }
+    requires items { rest.to ≤ length (I.pairs items) }
+    requires ordered { Ordered K.kind (window_of (I.pairs items) rest) }
+    ensures { IsGroup (I.pairs items) rest result }
 {
     if K::USE_PHF {
-        group_end::<K>(items, rest)
+        group_end::<K, I>(items, rest)
     } else {
-        group_end_near::<K>(items, rest, counts.get(number).copied().unwrap_or(0))
+        group_end_near::<K, I>(items, rest, counts.get(number).copied().unwrap_or(0))
     }
 }
 

@@ -4,6 +4,7 @@
 #![tactic(auto)]
 
 mod builder;
+mod indexed;
 mod konst;
 mod laying;
 mod measuring;

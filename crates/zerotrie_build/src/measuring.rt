@@ -7,13 +7,12 @@ ghost use Rattle.zerotrie_core.specs.Maps.{map_of};
 ghost use Rattle.zerotrie_core.specs.Branches.{IsWidth, total as sum};
 ghost use Rattle.zerotrie_core.specs.Canonical.{size_of, branch_size};
 ghost use Rattle.zerotrie_core.specs.Fits.{ExceedsCapacity};
-ghost use Rattle.zerotrie_build.specs.Items.{pairs};
 ghost use Rattle.zerotrie_build.specs.Order.{Ordered, AreKeys, AreLow};
 ghost use Rattle.zerotrie_build.specs.passes.Windows.{window as window_of, step_of};
 ghost use Rattle.zerotrie_build.specs.passes.Measured.{Run, Stops, Parts, IsMeasured};
 ghost use Rattle.zerotrie_build.specs.passes.Walking.{tos, spare_len, with_len, left_open, IsOpened, Closing, IsTurn, IsNext};
 
-use crate::slice_indices::ByteSliceWithIndices;
+use crate::indexed::IndexedItems;
 use crate::steps::{Step, Window, first_step, group_end, literals_end, one_item, rest_len};
 use std::alloc::{AllocError, Allocator};
 use zerotrie_core::{ZeroTrieBuildError, ZeroTrieWithOptions};
@@ -58,8 +57,8 @@ enum Turn {
 
 /// The slots, and the branches that the window stands in which is measured, the innermost last.
 #[derive(Drop)]
-struct Measuring<'a, A: Allocator> {
-    items: ByteSliceWithIndices<'a>,
+struct Measuring<I, A: Allocator> {
+    items: I,
     slots: Vec<usize, A>,
     counts: Vec<u8, A>,
     branches: Vec<Open, A>,
@@ -104,24 +103,24 @@ fn count_len(count: usize) -> usize
 
 /// The window behind the values, literals and spans that stand first, and how many bytes these have.
 #[inline(always)]
-fn behind_nodes<K: ZeroTrieWithOptions>(
-    items: ByteSliceWithIndices<'_>,
+fn behind_nodes<'a, K: ZeroTrieWithOptions, I: IndexedItems<'a>>(
+    items: I,
     start: Window,
 ) -> Result<(Window, usize), ZeroTrieBuildError>
-    requires keys { AreKeys K.kind (pairs items) }
-    requires within { start.to ≤ length (pairs items) }
-    requires ordered { Ordered K.kind (window_of (pairs items) start) }
-    ensures run { IfOk result (λ r. Run K.kind (pairs items.entry) start r.0 r.1) }
-    ensures stops { IfOk result (λ r. Stops K.kind (pairs items.entry) r.0) }
-    ensures room { IfOk result (λ r. step_of K.kind (pairs items.entry) r.0 ≡ Step.Branch
+    requires keys { AreKeys K.kind (I.pairs items) }
+    requires within { start.to ≤ length (I.pairs items) }
+    requires ordered { Ordered K.kind (window_of (I.pairs items) start) }
+    ensures run { IfOk result (λ r. Run K.kind (I.pairs items) start r.0 r.1) }
+    ensures stops { IfOk result (λ r. Stops K.kind (I.pairs items) r.0) }
+    ensures room { IfOk result (λ r. step_of K.kind (I.pairs items) r.0 ≡ Step.Branch
         → r.0.depth + 1 < 2 ^ 64) }
     ensures refused { IfErr result (λ e. (e ≡ ZeroTrieBuildError.CapacityExceeded)
-        × (2 ^ 64 ≤ size_of K.kind (window_of (pairs items.entry) start))) }
+        × (2 ^ 64 ≤ size_of K.kind (window_of (I.pairs items) start))) }
 {
     let mut rest = start;
     let mut len = 0;
     loop {
-        match first_step::<K>(items, rest) {
+        match first_step::<K, I>(items, rest) {
             Step::Value(value) => {
                 len = plus(len, value_len(value))?;
                 rest.from += 1;
@@ -143,27 +142,27 @@ fn behind_nodes<K: ZeroTrieWithOptions>(
 
 /// The same. Most windows have one item, whose text is told at once. Where `ascii` is true, all keys are ASCII.
 #[inline(always)]
-fn behind_run<K: ZeroTrieWithOptions>(
-    items: ByteSliceWithIndices<'_>,
+fn behind_run<'a, K: ZeroTrieWithOptions, I: IndexedItems<'a>>(
+    items: I,
     start: Window,
     ascii: bool,
 ) -> Result<(Window, usize), ZeroTrieBuildError>
-    requires keys { AreKeys K.kind (pairs items) }
-    requires ascii { IsTrue ascii → AreLow (pairs items) }
-    requires within { start.to ≤ length (pairs items) }
-    requires ordered { Ordered K.kind (window_of (pairs items) start) }
-    ensures run { IfOk result (λ r. Run K.kind (pairs items.entry) start r.0 r.1) }
-    ensures stops { IfOk result (λ r. Stops K.kind (pairs items.entry) r.0) }
-    ensures room { IfOk result (λ r. step_of K.kind (pairs items.entry) r.0 ≡ Step.Branch
+    requires keys { AreKeys K.kind (I.pairs items) }
+    requires ascii { IsTrue ascii → AreLow (I.pairs items) }
+    requires within { start.to ≤ length (I.pairs items) }
+    requires ordered { Ordered K.kind (window_of (I.pairs items) start) }
+    ensures run { IfOk result (λ r. Run K.kind (I.pairs items) start r.0 r.1) }
+    ensures stops { IfOk result (λ r. Stops K.kind (I.pairs items) r.0) }
+    ensures room { IfOk result (λ r. step_of K.kind (I.pairs items) r.0 ≡ Step.Branch
         → r.0.depth + 1 < 2 ^ 64) }
     ensures refused { IfErr result (λ e. (e ≡ ZeroTrieBuildError.CapacityExceeded)
-        × (2 ^ 64 ≤ size_of K.kind (window_of (pairs items.entry) start))) }
+        × (2 ^ 64 ≤ size_of K.kind (window_of (I.pairs items) start))) }
 {
     let Some((rest, value)) = one_item(items, start) else {
-        return behind_nodes::<K>(items, start);
+        return behind_nodes::<K, I>(items, start);
     };
     let Some(len) = rest_len::<K>(rest, ascii) else {
-        return behind_nodes::<K>(items, start);
+        return behind_nodes::<K, I>(items, start);
     };
     let behind = Window {
         from: start.to,
@@ -249,13 +248,10 @@ fn branch_len<K: ZeroTrieWithOptions>(edges: usize, total: usize) -> usize
     number_len(32, 256 * width + edges % 256) + table + (width + 1) * (edges - 1)
 }
 
-impl<'a, A: Allocator + Copy> Measuring<'a, A> {
+impl<'a, I: IndexedItems<'a>, A: Allocator + Copy> Measuring<I, A> {
     /// No branch. Most sets of keys have fewer targets than there is room for.
-    fn new<K: ZeroTrieWithOptions>(
-        alloc: A,
-        items: ByteSliceWithIndices<'a>,
-    ) -> Result<Self, AllocError>
-        ensures items { IfOk result (λ m. m.items ≡ items.entry) }
+    fn new<K: ZeroTrieWithOptions>(alloc: A, items: I) -> Result<Self, AllocError>
+        ensures items { IfOk result (λ m. m.items ≡ items) }
         ensures slots { IfOk result (λ m. m.slots.items ≡ []) }
         ensures branches { IfOk result (λ m. m.branches.items ≡ []) }
     {
@@ -288,17 +284,17 @@ impl<'a, A: Allocator + Copy> Measuring<'a, A> {
     /// Adds a slot for each target of the branch that stands first in the window. Until the target is measured,
     /// it tells where its items end.
     fn push_ends<K: ZeroTrieWithOptions>(&mut self, window: Window) -> Result<(), AllocError>
-        requires within { window.to ≤ length (pairs self.old.items) }
+        requires within { window.to ≤ length (I.pairs self.old.items) }
         requires order { window.from ≤ window.to }
-        requires ordered { Ordered K.kind (window_of (pairs self.old.items) window) }
-        ensures ends { OnOk result ((targets : List Window) × Parts (pairs self.old.items) window targets
+        requires ordered { Ordered K.kind (window_of (I.pairs self.old.items) window) }
+        ensures ends { OnOk result ((targets : List Window) × Parts (I.pairs self.old.items) window targets
             × (self.new.slots.items ≡ self.old.slots.items ++ tos targets)) }
         ensures items { self.new.items ≡ self.old.items }
         ensures branches { self.new.branches.items ≡ self.old.branches.items }
     {
         let mut rest = window;
         while rest.from < rest.to {
-            let end = group_end::<K>(self.items, rest);
+            let end = group_end::<K, I>(self.items, rest);
             self.push_end::<K>(end, end - rest.from)?;
             rest.from = end;
         }
@@ -328,11 +324,11 @@ impl<'a, A: Allocator + Copy> Measuring<'a, A> {
         window: Window,
         len: usize,
     ) -> Result<Window, AllocError>
-        requires within { window.to ≤ length (pairs self.old.items) }
+        requires within { window.to ≤ length (I.pairs self.old.items) }
         requires some { window.from < window.to }
         requires room { window.depth + 1 < 2 ^ 64 }
-        requires ordered { Ordered K.kind (window_of (pairs self.old.items) window) }
-        ensures opened { IfOk result (λ first. IsOpened K.kind (pairs self.old.items) window len first
+        requires ordered { Ordered K.kind (window_of (I.pairs self.old.items) window) }
+        ensures opened { IfOk result (λ first. IsOpened K.kind (I.pairs self.old.items) window len first
             self.old.slots.items self.old.branches.items self.new.slots.items self.new.branches.items) }
         ensures few { OnOk result (length self.new.slots.items < 2 ^ 64) }
         ensures items { self.new.items ≡ self.old.items }
@@ -374,7 +370,7 @@ impl<'a, A: Allocator + Copy> Measuring<'a, A> {
 
     /// The slots, when the whole is measured and so long.
     fn measured(self, len: usize) -> Measured<A>
-        ensures slots { result.slots.items ≡ self.entry.slots.items }
+        ensures slots { result.slots.items ≡ self.slots.items }
         ensures len { result.len ≡ len }
     {
         let Measuring {
@@ -391,10 +387,10 @@ impl<'a, A: Allocator + Copy> Measuring<'a, A> {
 
     /// Takes in how long the window is that was measured, and the branches whose last target it ends.
     fn close<K: ZeroTrieWithOptions>(&mut self, measured: usize) -> Result<Turn, ZeroTrieBuildError>
-        requires keys { AreKeys K.kind (pairs self.old.items) }
-        requires ordered { Ordered K.kind (pairs self.old.items) }
-        requires closing { Closing K.kind (pairs self.old.items) (reverse self.old.branches.items) self.old.slots.items measured }
-        ensures turn { IfOk result (λ t. IsTurn K.kind (pairs self.old.items) t
+        requires keys { AreKeys K.kind (I.pairs self.old.items) }
+        requires ordered { Ordered K.kind (I.pairs self.old.items) }
+        requires closing { Closing K.kind (I.pairs self.old.items) (reverse self.old.branches.items) self.old.slots.items measured }
+        ensures turn { IfOk result (λ t. IsTurn K.kind (I.pairs self.old.items) t
             (reverse self.new.branches.items) self.new.slots.items) }
         ensures less { IfOk result (λ t. IsNext t → left_open (reverse self.new.branches.items)
             < left_open (reverse self.old.branches.items)) }
@@ -402,7 +398,7 @@ impl<'a, A: Allocator + Copy> Measuring<'a, A> {
         ensures items { self.new.items ≡ self.old.items }
         ensures refused { IfErr result (λ e. e ≢ ZeroTrieBuildError.OutOfMemory
             → (e ≡ ZeroTrieBuildError.CapacityExceeded)
-            × ExceedsCapacity K.kind (map_of (pairs self.old.items))) }
+            × ExceedsCapacity K.kind (map_of (I.pairs self.old.items))) }
     {
         let mut len = measured;
         while let Some(branch) = self.branches.pop() {
@@ -424,17 +420,17 @@ impl<'a, A: Allocator + Copy> Measuring<'a, A> {
 }
 
 /// The lengths of the text of the items and of all targets. Where `ascii` is true, all keys are ASCII.
-pub(crate) fn measure_all<K: ZeroTrieWithOptions, A: Allocator + Copy>(
+pub(crate) fn measure_all<'a, K: ZeroTrieWithOptions, I: IndexedItems<'a>, A: Allocator + Copy>(
     alloc: A,
-    items: ByteSliceWithIndices<'_>,
+    items: I,
     ascii: bool,
 ) -> Result<Measured<A>, ZeroTrieBuildError>
-    requires ordered { Ordered K.kind (pairs items) }
-    requires keys { AreKeys K.kind (pairs items) }
-    requires ascii { IsTrue ascii → AreLow (pairs items) }
-    ensures measured { IfOk result (λ m. IsMeasured K.kind (pairs items.entry) m.slots.items m.len) }
+    requires ordered { Ordered K.kind (I.pairs items) }
+    requires keys { AreKeys K.kind (I.pairs items) }
+    requires ascii { IsTrue ascii → AreLow (I.pairs items) }
+    ensures measured { IfOk result (λ m. IsMeasured K.kind (I.pairs items) m.slots.items m.len) }
     ensures refused { IfErr result (λ e. e ≢ ZeroTrieBuildError.OutOfMemory
-        → (e ≡ ZeroTrieBuildError.CapacityExceeded) × ExceedsCapacity K.kind (map_of (pairs items.entry))) }
+        → (e ≡ ZeroTrieBuildError.CapacityExceeded) × ExceedsCapacity K.kind (map_of (I.pairs items))) }
 {
     let mut measuring = Measuring::new::<K>(alloc, items)?;
     let mut window = Window {
@@ -443,7 +439,7 @@ pub(crate) fn measure_all<K: ZeroTrieWithOptions, A: Allocator + Copy>(
         depth: 0,
     };
     loop {
-        let (rest, len) = behind_run::<K>(items, window, ascii)?;
+        let (rest, len) = behind_run::<K, I>(items, window, ascii)?;
         if rest.from < rest.to {
             window = measuring.push_branch::<K>(rest, len)?;
         } else {

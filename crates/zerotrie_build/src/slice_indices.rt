@@ -5,7 +5,7 @@ ghost use Rattle.zerotrie_core.specs.Maps.{Ascends};
 ghost use Rattle.zerotrie_core.specs.Items.{pairs_of};
 ghost use Rattle.zerotrie_build.specs.Items.{pairs};
 
-use crate::order::comes_before;
+use crate::order::{comes_before, is_all_ascii};
 use std::alloc::{AllocError, Global};
 use zerotrie_core::Simple;
 
@@ -105,12 +105,6 @@ impl<'a> ByteSliceWithIndices<'a> {
     pub fn is_all_ascii(self) -> bool
         ensures { IsTrue result ↔ All (λ e. All (λ b. b < 128) e.0) (pairs self.entry) }
     {
-        for index in 0..self.len() {
-            let (bytes, _) = self.get(index);
-            if !bytes.is_ascii() {
-                return false;
-            }
-        }
-        true
+        is_all_ascii(self)
     }
 }

@@ -1,11 +1,10 @@
 //! What stands first in the text of a window of the items.
 
 ghost use Rattle.std.specs.Prelude.{◌≡◌, ℕ, ◌+◌, ◌-◌, ◌^◌, ◌<◌, ◌≤◌, IfSome, Some, All, IsTrue, false, drop, slice_index, length};
-ghost use Rattle.zerotrie_build.specs.Items.{pairs};
 ghost use Rattle.zerotrie_build.specs.Order.{Ordered, AreLow};
 ghost use Rattle.zerotrie_build.specs.passes.Windows.{window as window_of, step_of, item_of, byte_of, edge_of, high_front, byte_size, short_size, IsLow, IsOne, IsRestLen, IsLone, IsGroup};
 
-use crate::slice_indices::ByteSliceWithIndices;
+use crate::indexed::IndexedItems;
 use zerotrie_core::ZeroTrieWithOptions;
 
 /// The items from one number to below another, each key without its first `depth` bytes.
@@ -32,9 +31,9 @@ pub(crate) enum Step {
 }
 
 /// The byte of the item's key at the depth, if there is one.
-pub(crate) fn byte_at(items: ByteSliceWithIndices<'_>, index: usize, depth: usize) -> Option<u8>
-    requires { index < length (pairs items) }
-    ensures is { result ≡ byte_of (pairs items.entry) index depth }
+pub(crate) fn byte_at<'a, I: IndexedItems<'a>>(items: I, index: usize, depth: usize) -> Option<u8>
+    requires { index < length (I.pairs items) }
+    ensures is { result ≡ byte_of (I.pairs items) index depth }
     ensures room { IfSome result (λ _. depth + 1 < 2 ^ 64) }
 {
     let (key, _) = items.get(index);
@@ -58,11 +57,14 @@ fn are_literals(bytes: &[u8]) -> bool
 
 /// The rest of the key and the value of the one item of a window, if there is but one.
 #[inline(always)]
-pub(crate) fn one_item(items: ByteSliceWithIndices<'_>, window: Window) -> Option<(&[u8], usize)>
-    requires items { window.to ≤ length (pairs items) }
-    ensures is { IfSome result (λ r. IsOne (pairs items.entry) window r.0.now r.1) }
+pub(crate) fn one_item<'a, I: IndexedItems<'a>>(
+    items: I,
+    window: Window,
+) -> Option<(&'a [u8], usize)>
+    requires items { window.to ≤ length (I.pairs items) }
+    ensures is { IfSome result (λ r. IsOne (I.pairs items) window r.0.now r.1) }
     ensures room { IfSome result (λ r. window.depth + length r.0.now < 2 ^ 64) }
-    ensures low { IfSome result (λ r. AreLow (pairs items.entry) → All (λ b. b < 128) r.0.now) }
+    ensures low { IfSome result (λ r. AreLow (I.pairs items) → All (λ b. b < 128) r.0.now) }
 {
     if window.to.saturating_sub(window.from) != 1 {
         return None;
@@ -77,14 +79,14 @@ pub(crate) fn one_item(items: ByteSliceWithIndices<'_>, window: Window) -> Optio
 /// The same, if the rest is ASCII: then they are all of the window's text, as literals and a value. Where all keys are
 /// known to be ASCII, the rest is not looked at.
 #[inline(always)]
-pub(crate) fn lone_item(
-    items: ByteSliceWithIndices<'_>,
+pub(crate) fn lone_item<'a, I: IndexedItems<'a>>(
+    items: I,
     window: Window,
     ascii: bool,
-) -> Option<(&[u8], usize)>
-    requires items { window.to ≤ length (pairs items) }
-    requires ascii { IsTrue ascii → AreLow (pairs items) }
-    ensures is { IfSome result (λ r. IsLone (pairs items.entry) window r.0.now r.1) }
+) -> Option<(&'a [u8], usize)>
+    requires items { window.to ≤ length (I.pairs items) }
+    requires ascii { IsTrue ascii → AreLow (I.pairs items) }
+    ensures is { IfSome result (λ r. IsLone (I.pairs items) window r.0.now r.1) }
     ensures room { IfSome result (λ r. window.depth + length r.0.now < 2 ^ 64) }
 {
     let (rest, value) = one_item(items, window)?;
@@ -174,13 +176,13 @@ fn low_end(key: &[u8], other: &[u8], from: usize) -> usize
 
 /// At which depth the literals end that stand first in the text of the window, which has one item.
 #[inline(always)]
-fn literals_of_one(items: ByteSliceWithIndices<'_>, window: Window) -> usize
+fn literals_of_one<'a, I: IndexedItems<'a>>(items: I, window: Window) -> usize
     requires one { window.to ≡ window.from + 1 }
-    requires items { window.to ≤ length (pairs items) }
-    requires literal { IsLow (pairs items) window window.depth }
+    requires items { window.to ≤ length (I.pairs items) }
+    requires literal { IsLow (I.pairs items) window window.depth }
     ensures past { window.depth < result }
-    ensures within { result ≤ length (item_of (pairs items.entry) window.from).0 }
-    ensures low { (i : ℕ) → window.depth ≤ i → i < result → IsLow (pairs items.entry) window i }
+    ensures within { result ≤ length (item_of (I.pairs items) window.from).0 }
+    ensures low { (i : ℕ) → window.depth ≤ i → i < result → IsLow (I.pairs items) window i }
     ensures room { result < 2 ^ 64 }
 {
     let (key, _) = items.get(window.from);
@@ -189,13 +191,13 @@ fn literals_of_one(items: ByteSliceWithIndices<'_>, window: Window) -> usize
 
 /// At which depth the literals end that stand first in the text of the window, by its first and its last item.
 #[inline(always)]
-fn literals_of_many(items: ByteSliceWithIndices<'_>, window: Window) -> usize
+fn literals_of_many<'a, I: IndexedItems<'a>>(items: I, window: Window) -> usize
     requires some { window.from < window.to }
-    requires items { window.to ≤ length (pairs items) }
-    requires literal { IsLow (pairs items) window window.depth }
+    requires items { window.to ≤ length (I.pairs items) }
+    requires literal { IsLow (I.pairs items) window window.depth }
     ensures past { window.depth < result }
-    ensures within { result ≤ length (item_of (pairs items.entry) window.from).0 }
-    ensures low { (i : ℕ) → window.depth ≤ i → i < result → IsLow (pairs items.entry) window i }
+    ensures within { result ≤ length (item_of (I.pairs items) window.from).0 }
+    ensures low { (i : ℕ) → window.depth ≤ i → i < result → IsLow (I.pairs items) window i }
     ensures room { result < 2 ^ 64 }
 {
     let (first, _) = items.get(window.from);
@@ -204,13 +206,13 @@ fn literals_of_many(items: ByteSliceWithIndices<'_>, window: Window) -> usize
 }
 
 /// At which depth the literals end that stand first in the text of the window, of which there is one.
-pub(crate) fn literals_end(items: ByteSliceWithIndices<'_>, window: Window) -> usize
+pub(crate) fn literals_end<'a, I: IndexedItems<'a>>(items: I, window: Window) -> usize
     requires some { window.from < window.to }
-    requires items { window.to ≤ length (pairs items) }
-    requires literal { IsLow (pairs items) window window.depth }
+    requires items { window.to ≤ length (I.pairs items) }
+    requires literal { IsLow (I.pairs items) window window.depth }
     ensures past { window.depth < result }
-    ensures within { result ≤ length (item_of (pairs items.entry) window.from).0 }
-    ensures low { (i : ℕ) → window.depth ≤ i → i < result → IsLow (pairs items.entry) window i }
+    ensures within { result ≤ length (item_of (I.pairs items) window.from).0 }
+    ensures low { (i : ℕ) → window.depth ≤ i → i < result → IsLow (I.pairs items) window i }
     ensures room { result < 2 ^ 64 }
 {
     if window.to - window.from == 1 {
@@ -222,12 +224,12 @@ pub(crate) fn literals_end(items: ByteSliceWithIndices<'_>, window: Window) -> u
 
 /// How many bytes from 128 on all keys of the window have in common in front, which has one item.
 #[inline(always)]
-fn span_of_one(items: ByteSliceWithIndices<'_>, window: Window, byte: u8) -> usize
+fn span_of_one<'a, I: IndexedItems<'a>>(items: I, window: Window, byte: u8) -> usize
     requires one { window.to ≡ window.from + 1 }
-    requires items { window.to ≤ length (pairs items) }
-    requires first { byte_of (pairs items) window.from window.depth ≡ Some byte }
-    ensures is { result ≡ high_front (drop window.depth (item_of (pairs items.entry) window.from).0)
-        (drop window.depth (item_of (pairs items.entry) (window.to - 1)).0) }
+    requires items { window.to ≤ length (I.pairs items) }
+    requires first { byte_of (I.pairs items) window.from window.depth ≡ Some byte }
+    ensures is { result ≡ high_front (drop window.depth (item_of (I.pairs items) window.from).0)
+        (drop window.depth (item_of (I.pairs items) (window.to - 1)).0) }
     ensures room { window.depth + result < 2 ^ 64 }
 {
     let (key, _) = items.get(window.from);
@@ -238,13 +240,13 @@ fn span_of_one(items: ByteSliceWithIndices<'_>, window: Window, byte: u8) -> usi
 
 /// The same, by the first and the last item.
 #[inline(always)]
-fn span_of_many(items: ByteSliceWithIndices<'_>, window: Window, byte: u8) -> usize
+fn span_of_many<'a, I: IndexedItems<'a>>(items: I, window: Window, byte: u8) -> usize
     requires some { window.from < window.to }
-    requires items { window.to ≤ length (pairs items) }
-    requires first { byte_of (pairs items) window.from window.depth ≡ Some byte }
-    requires last { byte_of (pairs items) (window.to - 1) window.depth ≡ Some byte }
-    ensures is { result ≡ high_front (drop window.depth (item_of (pairs items.entry) window.from).0)
-        (drop window.depth (item_of (pairs items.entry) (window.to - 1)).0) }
+    requires items { window.to ≤ length (I.pairs items) }
+    requires first { byte_of (I.pairs items) window.from window.depth ≡ Some byte }
+    requires last { byte_of (I.pairs items) (window.to - 1) window.depth ≡ Some byte }
+    ensures is { result ≡ high_front (drop window.depth (item_of (I.pairs items) window.from).0)
+        (drop window.depth (item_of (I.pairs items) (window.to - 1)).0) }
     ensures room { window.depth + result < 2 ^ 64 }
 {
     let (first, _) = items.get(window.from);
@@ -254,13 +256,13 @@ fn span_of_many(items: ByteSliceWithIndices<'_>, window: Window, byte: u8) -> us
 }
 
 /// How many bytes from 128 on all keys of the window have in common in front, where they go on with this byte.
-fn span_len(items: ByteSliceWithIndices<'_>, window: Window, byte: u8) -> usize
+fn span_len<'a, I: IndexedItems<'a>>(items: I, window: Window, byte: u8) -> usize
     requires some { window.from < window.to }
-    requires items { window.to ≤ length (pairs items) }
-    requires first { byte_of (pairs items) window.from window.depth ≡ Some byte }
-    requires last { byte_of (pairs items) (window.to - 1) window.depth ≡ Some byte }
-    ensures is { result ≡ high_front (drop window.depth (item_of (pairs items.entry) window.from).0)
-        (drop window.depth (item_of (pairs items.entry) (window.to - 1)).0) }
+    requires items { window.to ≤ length (I.pairs items) }
+    requires first { byte_of (I.pairs items) window.from window.depth ≡ Some byte }
+    requires last { byte_of (I.pairs items) (window.to - 1) window.depth ≡ Some byte }
+    ensures is { result ≡ high_front (drop window.depth (item_of (I.pairs items) window.from).0)
+        (drop window.depth (item_of (I.pairs items) (window.to - 1)).0) }
     ensures room { window.depth + result < 2 ^ 64 }
 {
     if window.to - window.from == 1 {
@@ -271,16 +273,16 @@ fn span_len(items: ByteSliceWithIndices<'_>, window: Window, byte: u8) -> usize
 }
 
 /// What stands first in the text of the window, where its first and its last key both go on with this byte.
-fn common_step<K: ZeroTrieWithOptions>(
-    items: ByteSliceWithIndices<'_>,
+fn common_step<'a, K: ZeroTrieWithOptions, I: IndexedItems<'a>>(
+    items: I,
     window: Window,
     byte: u8,
 ) -> Step
     requires some { window.from < window.to }
-    requires items { window.to ≤ length (pairs items) }
-    requires first { byte_of (pairs items) window.from window.depth ≡ Some byte }
-    requires last { byte_of (pairs items) (window.to - 1) window.depth ≡ Some byte }
-    ensures is { result ≡ step_of K.kind (pairs items.entry) window }
+    requires items { window.to ≤ length (I.pairs items) }
+    requires first { byte_of (I.pairs items) window.from window.depth ≡ Some byte }
+    requires last { byte_of (I.pairs items) (window.to - 1) window.depth ≡ Some byte }
+    ensures is { result ≡ step_of K.kind (I.pairs items) window }
     ensures span { (n : ℕ) → result ≡ Step.Span n → window.depth + n < 2 ^ 64 }
 {
     if !K::SPANS || byte < 128 {
@@ -290,12 +292,12 @@ fn common_step<K: ZeroTrieWithOptions>(
 }
 
 /// What stands first in the text of the window.
-pub(crate) fn first_step<K: ZeroTrieWithOptions>(
-    items: ByteSliceWithIndices<'_>,
+pub(crate) fn first_step<'a, K: ZeroTrieWithOptions, I: IndexedItems<'a>>(
+    items: I,
     window: Window,
 ) -> Step
-    requires { window.to ≤ length (pairs items) }
-    ensures is { result ≡ step_of K.kind (pairs items.entry) window }
+    requires { window.to ≤ length (I.pairs items) }
+    ensures is { result ≡ step_of K.kind (I.pairs items) window }
     ensures literal { (b : ℕ) → result ≡ Step.Literal b → window.depth + 1 < 2 ^ 64 }
     ensures span { (n : ℕ) → result ≡ Step.Span n → window.depth + n < 2 ^ 64 }
     ensures branch { result ≡ Step.Branch → window.depth + 1 < 2 ^ 64 }
@@ -307,7 +309,7 @@ pub(crate) fn first_step<K: ZeroTrieWithOptions>(
         None => Step::Value(items.get(window.from).1),
         Some(byte) => {
             if byte_at(items, window.to - 1, window.depth) == Some(byte) {
-                common_step::<K>(items, window, byte)
+                common_step::<K, I>(items, window, byte)
             } else {
                 Step::Branch
             }
@@ -317,14 +319,14 @@ pub(crate) fn first_step<K: ZeroTrieWithOptions>(
 
 /// Where the first items that have one byte at the depth end. It looks ever further ahead, and halves what is left
 /// once it was too far.
-pub(crate) fn group_end<K: ZeroTrieWithOptions>(
-    items: ByteSliceWithIndices<'_>,
+pub(crate) fn group_end<'a, K: ZeroTrieWithOptions, I: IndexedItems<'a>>(
+    items: I,
     window: Window,
 ) -> usize
     requires within { window.from < window.to }
-    requires items { window.to ≤ length (pairs items) }
-    requires ordered { Ordered K.kind (window_of (pairs items) window) }
-    ensures { IsGroup (pairs items.entry) window result }
+    requires items { window.to ≤ length (I.pairs items) }
+    requires ordered { Ordered K.kind (window_of (I.pairs items) window) }
+    ensures { IsGroup (I.pairs items) window result }
 {
     let byte = byte_at(items, window.from, window.depth);
     // All items below `low` have the byte, and none from `high` on has it.
@@ -345,33 +347,33 @@ pub(crate) fn group_end<K: ZeroTrieWithOptions>(
 }
 
 /// The same. It asks first whether there are so many.
-pub(crate) fn group_end_near<K: ZeroTrieWithOptions>(
-    items: ByteSliceWithIndices<'_>,
+pub(crate) fn group_end_near<'a, K: ZeroTrieWithOptions, I: IndexedItems<'a>>(
+    items: I,
     window: Window,
     count: u8,
 ) -> usize
     requires within { window.from < window.to }
-    requires items { window.to ≤ length (pairs items) }
-    requires ordered { Ordered K.kind (window_of (pairs items) window) }
-    ensures { IsGroup (pairs items.entry) window result }
+    requires items { window.to ≤ length (I.pairs items) }
+    requires ordered { Ordered K.kind (window_of (I.pairs items) window) }
+    ensures { IsGroup (I.pairs items) window result }
 {
     let end = window.from.saturating_add(count as usize);
     if count == 0 || end > window.to {
-        return group_end::<K>(items, window);
+        return group_end::<K, I>(items, window);
     }
     let byte = byte_at(items, window.from, window.depth);
     let is_last = end == window.to || byte_at(items, end, window.depth) != byte;
     if is_last && byte_at(items, end - 1, window.depth) == byte {
         end
     } else {
-        group_end::<K>(items, window)
+        group_end::<K, I>(items, window)
     }
 }
 
 /// The byte in front of the window.
-pub(crate) fn edge_at(items: ByteSliceWithIndices<'_>, window: Window) -> u8
-    requires { window.from < length (pairs items) }
-    ensures { result ≡ edge_of (pairs items.entry) window }
+pub(crate) fn edge_at<'a, I: IndexedItems<'a>>(items: I, window: Window) -> u8
+    requires { window.from < length (I.pairs items) }
+    ensures { result ≡ edge_of (I.pairs items) window }
 {
     byte_at(items, window.from, window.depth.saturating_sub(1)).unwrap_or(0)
 }

@@ -7,16 +7,15 @@ ghost use Rattle.zerotrie_core.specs.Branches.{total as total_of, ends, blocks, 
 ghost use Rattle.zerotrie_core.specs.Canonical.{size_of};
 ghost use Rattle.zerotrie_core.specs.Texts.{Means};
 ghost use Rattle.zerotrie_core.specs.Causes.{Cause};
-ghost use Rattle.zerotrie_build.specs.Items.{pairs};
 ghost use Rattle.zerotrie_build.specs.Order.{Ordered, AreKeys, AreLow};
 ghost use Rattle.zerotrie_build.specs.passes.Windows.{window as window_of, item_of};
 ghost use Rattle.zerotrie_build.specs.passes.Measured.{IsMeasured};
 ghost use Rattle.zerotrie_build.specs.passes.Puts.{Puts};
 ghost use Rattle.zerotrie_build.specs.passes.Writing.{with_bits, IsLead, spelled_behind, lens_of, KeptTo, FrontPut};
 
+use crate::indexed::IndexedItems;
 use crate::laying::{Layout, Next, Piece, Place, Plan};
 use crate::measuring::{Measured, width_of};
-use crate::slice_indices::ByteSliceWithIndices;
 use crate::steps::{Step, Window, first_step, literals_end, lone_item};
 use crate::store::TrieBuilderStore;
 use std::alloc::{AllocError, Allocator, Global};
@@ -146,13 +145,13 @@ impl<S: TrieBuilderStore + Drop> Writing<S> {
 
     /// Writes the literals that the window's keys go on with up to a depth.
     #[inline(always)]
-    fn put_literals(&mut self, items: ByteSliceWithIndices<'_>, window: Window, end: usize)
-        requires item { window.from < length (pairs items) }
+    fn put_literals<'a, I: IndexedItems<'a>>(&mut self, items: I, window: Window, end: usize)
+        requires item { window.from < length (I.pairs items) }
         requires order { window.depth ≤ end }
-        requires within { end ≤ length (item_of (pairs items) window.from).0 }
+        requires within { end ≤ length (item_of (I.pairs items) window.from).0 }
         requires room { self.old.at + (end - window.depth) ≤ length (S.list self.old.data) }
         ensures { Puts (S.list self.old.data) self.old.at (S.list self.new.data) self.new.at
-            (take (end - window.depth) (drop window.depth (item_of (pairs items.entry) window.from).0)) }
+            (take (end - window.depth) (drop window.depth (item_of (I.pairs items) window.from).0)) }
     {
         let (key, _) = items.get(window.from);
         self.put_all(&key[window.depth..end]);
@@ -160,12 +159,12 @@ impl<S: TrieBuilderStore + Drop> Writing<S> {
 
     /// Writes a span of the bytes that the window's keys go on with.
     #[inline(always)]
-    fn put_span(&mut self, items: ByteSliceWithIndices<'_>, window: Window, run: usize)
-        requires item { window.from < length (pairs items) }
-        requires run { window.depth + run ≤ length (item_of (pairs items) window.from).0 }
+    fn put_span<'a, I: IndexedItems<'a>>(&mut self, items: I, window: Window, run: usize)
+        requires item { window.from < length (I.pairs items) }
+        requires run { window.depth + run ≤ length (item_of (I.pairs items) window.from).0 }
         requires room { self.old.at + (length (spelled_as span_form run) + run) ≤ length (S.list self.old.data) }
         ensures puts { Puts (S.list self.old.data) self.old.at (S.list self.new.data) self.new.at
-            (spelled_as span_form run ++ take run (drop window.depth (item_of (pairs items.entry) window.from).0)) }
+            (spelled_as span_form run ++ take run (drop window.depth (item_of (I.pairs items) window.from).0)) }
         ensures spells { SpellsAs span_form run (spelled_as span_form run) }
     {
         let (key, _) = items.get(window.from);
@@ -225,31 +224,31 @@ impl<S: TrieBuilderStore + Drop> Writing<S> {
     /// Writes a window, whose slots begin at `slot`, node after node up to the targets of its first branch, and lays
     /// these out.
     #[inline(always)]
-    fn put_nodes<K: ZeroTrieWithOptions, A: Allocator + Copy>(
+    fn put_nodes<'a, K: ZeroTrieWithOptions, I: IndexedItems<'a>, A: Allocator + Copy>(
         &mut self,
+        items: I,
         plan: Plan<'_>,
         window: Window,
         slot: usize,
         layout: &mut Layout<A>,
     ) -> Result<(), ZeroTrieBuildError>
-        requires keys { AreKeys K.kind (pairs plan.items) }
-        requires ordered { Ordered K.kind (pairs plan.items) }
-        requires kept { (end : ℕ) × KeptTo K.kind (pairs plan.items) plan.slots.now slot end window }
-        requires room { self.old.at + size_of K.kind (window_of (pairs plan.items) window)
+        requires keys { AreKeys K.kind (I.pairs items) }
+        requires ordered { Ordered K.kind (I.pairs items) }
+        requires kept { (end : ℕ) × KeptTo K.kind (I.pairs items) plan.slots.now slot end window }
+        requires room { self.old.at + size_of K.kind (window_of (I.pairs items) window)
             ≤ length (S.list self.old.data) }
         ensures put { OnOk result ((next : List Next) × (reverse layout.new.pending.items
             ≡ next ++ reverse layout.old.pending.items)
-            × FrontPut K.kind (pairs plan.entry.items) plan.entry.slots.now slot window next
+            × FrontPut K.kind (I.pairs items) plan.entry.slots.now slot window next
             (S.list self.old.data) self.old.at (S.list self.new.data) self.new.at) }
         ensures refused { IfErr result (λ e. e ≢ ZeroTrieBuildError.OutOfMemory
-            → (e ≡ ZeroTrieBuildError.CouldNotSolvePerfectHash) × Cause K.kind (pairs plan.entry.items) e) }
+            → (e ≡ ZeroTrieBuildError.CouldNotSolvePerfectHash) × Cause K.kind (I.pairs items) e) }
     {
         // That a length is below 2^64 tells the proof that so are the places of the slots.
         let _len = plan.slots.len();
-        let items = plan.items;
         let mut rest = window;
         loop {
-            match first_step::<K>(items, rest) {
+            match first_step::<K, I>(items, rest) {
                 Step::End => return Ok(()),
                 Step::Value(value) => {
                     self.put_value(value);
@@ -265,7 +264,7 @@ impl<S: TrieBuilderStore + Drop> Writing<S> {
                     rest.depth += count;
                 }
                 Step::Branch => {
-                    layout.set::<K>(plan, rest, slot)?;
+                    layout.set::<K, I>(items, plan, rest, slot)?;
                     let numbers = layout.numbers.as_slice();
                     let lens = &plan.slots[slot..slot + numbers.len()];
                     self.put_branch(layout.table.as_slice(), lens, numbers);
@@ -277,28 +276,29 @@ impl<S: TrieBuilderStore + Drop> Writing<S> {
 
     /// The same. Most windows have one item whose rest is ASCII, and are written at once.
     #[inline(always)]
-    fn put_front<K: ZeroTrieWithOptions, A: Allocator + Copy>(
+    fn put_front<'a, K: ZeroTrieWithOptions, I: IndexedItems<'a>, A: Allocator + Copy>(
         &mut self,
+        items: I,
         plan: Plan<'_>,
         window: Window,
         slot: usize,
         layout: &mut Layout<A>,
     ) -> Result<(), ZeroTrieBuildError>
-        requires keys { AreKeys K.kind (pairs plan.items) }
-        requires ascii { IsTrue plan.ascii → AreLow (pairs plan.items) }
-        requires ordered { Ordered K.kind (pairs plan.items) }
-        requires kept { (end : ℕ) × KeptTo K.kind (pairs plan.items) plan.slots.now slot end window }
-        requires room { self.old.at + size_of K.kind (window_of (pairs plan.items) window)
+        requires keys { AreKeys K.kind (I.pairs items) }
+        requires ascii { IsTrue plan.ascii → AreLow (I.pairs items) }
+        requires ordered { Ordered K.kind (I.pairs items) }
+        requires kept { (end : ℕ) × KeptTo K.kind (I.pairs items) plan.slots.now slot end window }
+        requires room { self.old.at + size_of K.kind (window_of (I.pairs items) window)
             ≤ length (S.list self.old.data) }
         ensures put { OnOk result ((next : List Next) × (reverse layout.new.pending.items
             ≡ next ++ reverse layout.old.pending.items)
-            × FrontPut K.kind (pairs plan.entry.items) plan.entry.slots.now slot window next
+            × FrontPut K.kind (I.pairs items) plan.entry.slots.now slot window next
             (S.list self.old.data) self.old.at (S.list self.new.data) self.new.at) }
         ensures refused { IfErr result (λ e. e ≢ ZeroTrieBuildError.OutOfMemory
-            → (e ≡ ZeroTrieBuildError.CouldNotSolvePerfectHash) × Cause K.kind (pairs plan.entry.items) e) }
+            → (e ≡ ZeroTrieBuildError.CouldNotSolvePerfectHash) × Cause K.kind (I.pairs items) e) }
     {
-        let Some((literals, value)) = lone_item(plan.items, window, plan.ascii) else {
-            return self.put_nodes::<K, A>(plan, window, slot, layout);
+        let Some((literals, value)) = lone_item(items, window, plan.ascii) else {
+            return self.put_nodes::<K, I, A>(items, plan, window, slot, layout);
         };
         self.put_lone(literals, value);
         Ok(())
@@ -327,18 +327,24 @@ fn take_next<A: Allocator>(pending: &mut Vec<Next, A>) -> Option<Next>
 }
 
 /// Writes the text of the items. The store and hashed tables take their memory from `alloc`.
-pub(crate) fn write<K: ZeroTrieWithOptions, S: TrieBuilderStore + Drop, A: Allocator + Copy>(
+pub(crate) fn write<
+    'a,
+    K: ZeroTrieWithOptions,
+    I: IndexedItems<'a>,
+    S: TrieBuilderStore + Drop,
+    A: Allocator + Copy,
+>(
     alloc: Global,
     spare: A,
-    items: ByteSliceWithIndices<'_>,
+    items: I,
     measured: &Measured<A>,
     ascii: bool,
 ) -> Result<S, ZeroTrieBuildError>
-    requires measured { IsMeasured K.kind (pairs items) measured.now.slots.items measured.now.len }
-    requires ascii { IsTrue ascii → AreLow (pairs items) }
-    ensures means { IfOk result (λ store. Means K.kind (S.list store) (map_of (pairs items.entry))) }
+    requires measured { IsMeasured K.kind (I.pairs items) measured.now.slots.items measured.now.len }
+    requires ascii { IsTrue ascii → AreLow (I.pairs items) }
+    ensures means { IfOk result (λ store. Means K.kind (S.list store) (map_of (I.pairs items))) }
     ensures refused { IfErr result (λ e. e ≢ ZeroTrieBuildError.OutOfMemory
-        → (e ≡ ZeroTrieBuildError.CouldNotSolvePerfectHash) × Cause K.kind (pairs items.entry) e) }
+        → (e ≡ ZeroTrieBuildError.CouldNotSolvePerfectHash) × Cause K.kind (I.pairs items) e) }
 {
     let mut data = S::atbs_new_empty(alloc);
     data.atbs_prepend_n_zeros(measured.len)?;
@@ -350,7 +356,6 @@ pub(crate) fn write<K: ZeroTrieWithOptions, S: TrieBuilderStore + Drop, A: Alloc
     }))?;
     let slots = measured.slots.as_slice();
     let plan = Plan {
-        items,
         slots,
         counts: measured.counts.as_slice(),
         ascii,
@@ -365,7 +370,7 @@ pub(crate) fn write<K: ZeroTrieWithOptions, S: TrieBuilderStore + Drop, A: Alloc
                     to: piece.to,
                     depth: piece.depth,
                 };
-                writing.put_front::<K, A>(plan, window, place.slot, &mut layout)?;
+                writing.put_front::<K, I, A>(items, plan, window, place.slot, &mut layout)?;
                 place.from = window.to;
             }
         }

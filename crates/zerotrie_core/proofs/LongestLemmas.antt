@@ -1,12 +1,11 @@
 -- The longest key that a text begins with, found by steps and takes.
-use Rattle.std.proofs.Common.{◌≡◌, ℕ, ◌+◌, ◌<◌, ◌≤◌, ◌⊎◌, zero, suc, inl, inr, List, [], ◌∷◌, ◌++◌, length, take, get_or, refl, sym, ◌∙◌, ap, subst, arith, Option, Some, None}
+use Rattle.std.proofs.Common.{◌≡◌, ℕ, ◌+◌, ◌<◌, ◌≤◌, zero, suc, inl, inr, List, [], ◌∷◌, ◌++◌, length, take, get_or, refl, sym, ◌∙◌, ap, subst, arith, Option, Some, None}
 use Rattle.std.proofs.lemmas.Bool.Decides.{eqb_tells, leb_tells}
 use Rattle.std.proofs.lemmas.List.{append-nil}
 use Rattle.std.specs.Prelude.{is_some, not, true}
 use Rattle.zerotrie_core.specs.Kind.{Kind}
 use Rattle.zerotrie_core.specs.Maps.{Pairs, Map, look, value_at}
-use Rattle.zerotrie_core.specs.Texts.{Lists, Means}
-use Rattle.zerotrie_core.specs.Cursors.{met, edge_like}
+use Rattle.zerotrie_core.specs.Texts.{Means}
 use Rattle.zerotrie_core.specs.Machine.{behind, without_value, after_steps}
 use Rattle.zerotrie_core.specs.Places.{Place, ListsAt, IsStep, IsTake}
 use Rattle.zerotrie_core.specs.CursorLaws.{StepsAnswer}

@@ -1,9 +1,8 @@
 -- The pairs whose keys begin with a prefix, found by steps.
-use Rattle.std.proofs.Common.{◌≡◌, ℕ, zero, suc, ◌+◌, ◌<◌, ◌≤◌, List, [], ◌∷◌, ◌++◌, refl, sym, ◌∙◌, ap, subst, arith, Option, Some, None, Bool, true, false, cond, inl, inr, drop, get_or, length}
-use Rattle.std.specs.Prelude.{filter, not, ◌==◌, ◌&&◌, find}
+use Rattle.std.proofs.Common.{◌≡◌, ℕ, ◌+◌, ◌≤◌, List, [], ◌∷◌, ◌++◌, refl, sym, ◌∙◌, ap, subst, Option, Some, None, Bool, true, false, cond, inl, inr, drop, get_or, length}
+use Rattle.std.specs.Prelude.{filter, not, ◌==◌}
 use Rattle.std.specs.List.{AllByRecursion}
 use Rattle.std.proofs.lemmas.Bool.{eq-eqb, ne_eqb, cases_eq}
-use Rattle.std.proofs.lemmas.List.{append-nil}
 use Rattle.std.proofs.Math.ListN.{drop_of_length-le}
 use Rattle.zerotrie_core.specs.Kind.{Kind, fold_byte, same_byte}
 use Rattle.zerotrie_core.specs.Maps.{Pairs, residual, with_front, with_run, begins_with, beginning}
@@ -16,8 +15,9 @@ use Rattle.zerotrie_core.specs.listing.Opened.{pairs_left}
 use Rattle.zerotrie_core.proofs.TableLemmas.{NoneLike, Distinct}
 use Rattle.zerotrie_core.proofs.SpanLemmas.{with_run-none, with_run-front}
 use Rattle.zerotrie_core.proofs.ListingLemmas.{listed_pairs}
-use Rattle.zerotrie_core.proofs.ListingStateLemmas.{run_front, run_run}
-use Rattle.zerotrie_core.proofs.CursorLaws.{HasParts, place_has}
+use Rattle.zerotrie_core.specs.declared.stream.opened.OpenBranch.{OpenBranch}
+use Rattle.zerotrie_core.proofs.ListingStateLemmas.{run_front, run_run, fresh_left}
+use Rattle.zerotrie_core.proofs.CursorLaws.{place_has}
 
 -- What holds of each edge that pairs meet holds of the first byte of each key.
 abbrev AllFirst : (ℕ → Type 0) → Pairs → Type 0
@@ -129,9 +129,10 @@ place_listed kind (b ∷ run) trie pairs lists =
     with_run-front b run (listed kind trie) ∙ ap (with_front b) (place_listed kind run trie lists.0 lists.3) ∙ sym lists.2
 
 -- what is left of a listing that begins at a place, behind a front
-pub place_left : (kind : Kind) (front run trie : List ℕ) (pairs : Pairs) → ListsBehind kind run trie pairs → pairs_left kind (front ++ run) trie [] ≡ with_run front pairs
-place_left kind front run trie pairs lists =
-    append-nil (with_run (front ++ run) (listed kind trie)) ∙ sym (run_run front run (listed kind trie)) ∙ ap (with_run front) (place_listed kind run trie pairs lists)
+pub place_left : (kind : Kind) (front run trie : List ℕ) (pairs : Pairs) (o : OpenBranch) → o.edges ≤ o.next → ListsBehind kind run trie pairs
+    → pairs_left kind (front ++ run) trie (o ∷ []) ≡ with_run front pairs
+place_left kind front run trie pairs o over lists =
+    fresh_left kind (front ++ run) trie o over ∙ sym (run_run front run (listed kind trie)) ∙ ap (with_run front) (place_listed kind run trie pairs lists)
 
 -- Where steps by the first bytes of a prefix lead: what is left of the prefix, of the pairs there, is what all of it is of all pairs.
 pub record Stepped (kind : Kind) (all : Pairs) (prefix front : List ℕ) (i : ℕ) (place : Place) : Type 0 where

@@ -1,3 +1,4 @@
 -- words for private functions of the listing
 pub mod Listed
 pub mod Opened
+pub mod Runs

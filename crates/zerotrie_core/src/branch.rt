@@ -138,7 +138,7 @@ fn short_offset_at(table: &[u8], place: usize, count: usize, width: usize) -> us
 
 /// The number whose bytes stand at one place of each block, the highest first.
 #[inline(always)]
-fn offset_at(table: &[u8], place: usize, count: usize, width: usize) -> usize
+pub(crate) fn offset_at(table: &[u8], place: usize, count: usize, width: usize) -> usize
     requires place { place < count }
     requires width { (1 ≤ width) × (width ≤ 8) }
     requires len { length table.now ≡ width * count }

@@ -55,7 +55,7 @@ fn first_value(bytes: &[u8]) -> Option<(usize, &[u8])>
 ///
 /// It returns on any bytes, and takes no memory. Only a kind over ASCII keys is stepped so; `SpanCursor` is
 /// the cursor of any kind.
-#[inline]
+#[inline(always)]
 pub fn step<K: ZeroTrieWithOptions>(bytes: &mut &[u8], byte: u8) -> Option<u8>
     requires { IsAscii K.kind }
     ensures meaning { IsStep K.kind (Lists K.kind bytes.old.now) byte result (Lists K.kind bytes.new.now) }

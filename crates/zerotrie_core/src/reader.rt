@@ -108,8 +108,9 @@ fn are_all_same(bytes: &[u8], key: &[u8]) -> bool
 /// How many literals the bytes begin with that the key goes on with, where both are long: not always all of them.
 ///
 /// Where no more than a value can lie behind as many bytes as the key has, they are as a rule the key's end, and
-/// all of it is compared at once.
-#[inline(always)]
+/// all of it is compared at once. It stays a call, as few runs are so long, and a look-up is expanded wherever it is
+/// called: with this code in it, the compiler would find it too large for that.
+#[inline(never)]
 fn common_in_long<K: ZeroTrieWithOptions>(bytes: &[u8], key: &[u8]) -> usize
     requires bytes { 16 ≤ length bytes.now }
     requires key { 16 ≤ length key.now }
@@ -213,6 +214,7 @@ fn descend<'a, K: ZeroTrieWithOptions>(node: Node<'a>, key: &'a [u8]) -> Descent
 /// It returns on any bytes, and takes no memory. On bytes that mean a map the first part is the key's value
 /// in that map, and the second is at most 2n + 1 for a key of n bytes. On other bytes it may be more: in
 /// `[0x80, 0x80, 0x80, 0x80]`, four values one after another, it is 4 for the key "a".
+#[inline(always)]
 pub fn get_counted<K: ZeroTrieWithOptions>(bytes: &[u8], key: &[u8]) -> (Option<usize>, usize)
     ensures value { (m : Map) → Means K.kind bytes.now m → result.0 ≡ look K.kind m key.now }
     ensures count { (m : Map) (means : Means K.kind bytes.now m) → result.1 ≡ nodes means.lists key.now }

@@ -158,7 +158,7 @@ impl<'a> SpanCursor<'a> {
     }
 
     /// Goes along the edge that is the byte to the kind, and answers its byte.
-    #[inline]
+    #[inline(always)]
     pub fn step<K: ZeroTrieWithOptions>(&mut self, byte: u8) -> Option<u8>
         ensures meaning { IsStep K.kind (ListsAt K.kind self.old) byte result (ListsAt K.kind self.new) }
         ensures run { IfSome result (λ edge. FollowsRun K.kind self.old edge self.new) }

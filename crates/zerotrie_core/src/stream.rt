@@ -1,9 +1,10 @@
 //! The pairs of a trie, one after another, each key lent from one buffer.
 //!
 //! A stream goes over the nodes in the order in which they stand. It keeps the bytes in front of the rest, and the
-//! branches that still have targets to come; it never calls itself, so texts of any depth are listed.
+//! branches that still have targets to come, the innermost one beside the others; it never calls itself, so texts of any
+//! depth are listed.
 
-ghost use Rattle.std.specs.Prelude.{◌≡◌, ◌≤◌, ◌<◌, length, reverse, IfOk, true, false, []};
+ghost use Rattle.std.specs.Prelude.{◌≡◌, ◌≤◌, ◌<◌, ◌∷◌, List, ℕ, length, reverse, slice_index, IfOk, OnOk, IfSome, IsTrue, true, false, []};
 ghost use Rattle.std.specs.Option.{option_map};
 ghost use Rattle.zerotrie_core.specs.Kind.{Kind, kind_with};
 ghost use Rattle.zerotrie_core.specs.Maps.{Pairs, with_run, beginning};
@@ -11,22 +12,20 @@ ghost use Rattle.zerotrie_core.specs.Texts.{Lists};
 ghost use Rattle.zerotrie_core.specs.Places.{ListsAt};
 ghost use Rattle.zerotrie_core.specs.Shapes.{shape};
 ghost use Rattle.zerotrie_core.specs.listing.Listed.{node_of};
-ghost use Rattle.zerotrie_core.specs.listing.Opened.{Nested, pairs_left, pairs_open, work_open, work_left, IsFound};
+ghost use Rattle.zerotrie_core.specs.Nodes.{Begins};
+ghost use Rattle.zerotrie_core.specs.declared.stream.opened.OpenBranch.{OpenBranch};
+ghost use Rattle.zerotrie_core.specs.listing.Runs.{MovesLiterals};
+ghost use Rattle.zerotrie_core.specs.listing.Opened.{IsOpen, Nested, Stands, pairs_left, pairs_open, work_open, work_left, IsFound};
 
-use crate::branch::Branch;
+mod opened;
+
+use crate::lanes::first_other_in_16;
 use crate::node::{Node, first_node};
 use crate::options::{Ext, Hash, Ignore, Simple, ZeroTrieBuilderOptions, ZeroTrieWithOptions};
 use crate::span_cursor::SpanCursor;
+use opened::{Here, OpenBranch};
 use std::alloc::{AllocError, Allocator, Global};
 use std::marker::Model;
-
-/// A branch with targets to come: the edge of the next one, and how much of the prefix stands in front of it.
-#[derive(Debug, Drop)]
-struct OpenBranch<'a> {
-    branch: Branch<'a>,
-    next: usize,
-    depth: usize,
-}
 
 /// The pairs of a text, one after another, each key lent from one buffer: a value comes before what follows it, and the
 /// targets of a branch come in the order of its table.
@@ -47,28 +46,29 @@ struct OpenBranch<'a> {
 #[derive(Debug, Drop)]
 pub struct ZeroTrieStream<'a, A: Allocator = Global> {
     options: ZeroTrieBuilderOptions,
-    rest: &'a [u8],
+    here: Here<'a>,
     key: Vec<u8, A>,
     value: usize,
+    top: OpenBranch<'a>,
     branches: Vec<OpenBranch<'a>, A>,
     ended: bool,
 }
 
 impl<'a, A: Allocator> Model for ZeroTrieStream<'a, A> {
-    ghost use Rattle.std.specs.Prelude.{◌≡◌, false, reverse, length};
+    ghost use Rattle.std.specs.Prelude.{◌≡◌, ◌∷◌, false, reverse, length};
     ghost use Rattle.zerotrie_core.specs.Kind.{kind_with};
     ghost use Rattle.zerotrie_core.specs.Listings.{Standing};
-    ghost use Rattle.zerotrie_core.specs.listing.Opened.{left_in, Nested};
+    ghost use Rattle.zerotrie_core.specs.listing.Opened.{left_in, Stands};
 
     ghost Value = { Standing };
 
     ghost view = { λ s. record {
       key = s.key.items;
       value = s.value;
-      left = left_in s.ended (kind_with s.options) s.key.items s.rest.now s.branches.items;
+      left = left_in s.ended (kind_with s.options) s.key.items s.here.rest.now (s.top ∷ reverse s.branches.items);
     } };
 
-    ghost invariant = { λ s. s.ended ≡ false → Nested (length s.key.items) (reverse s.branches.items) };
+    ghost invariant = { λ s. s.ended ≡ false → Stands (length s.key.items) s.top (reverse s.branches.items) };
 }
 
 impl<'a, A: Allocator> ZeroTrieStream<'a, A> {
@@ -85,8 +85,9 @@ impl<'a, A: Allocator> ZeroTrieStream<'a, A> {
         }
         match next_value_of(
             self.options,
-            &mut self.rest,
+            &mut self.here,
             &mut self.key,
+            &mut self.top,
             &mut self.branches,
         ) {
             Ok(Some(value)) => {
@@ -140,9 +141,10 @@ impl<'a, A: Allocator + Copy> ZeroTrieStream<'a, A> {
     {
         ZeroTrieStream {
             options: ZeroTrieBuilderOptions::of::<K>(),
-            rest: bytes,
+            here: Here::at(bytes),
             key: Vec::new(alloc),
             value: 0,
+            top: OpenBranch::closed(),
             branches: Vec::new(alloc),
             ended: false,
         }
@@ -167,10 +169,11 @@ impl<'a, A: Allocator + Copy> ZeroTrieStream<'a, A> {
         front.extend_from_slice(run)?;
         Ok(ZeroTrieStream {
             options: ZeroTrieBuilderOptions::of::<K>(),
-            rest,
+            here: Here::at(rest),
             branches: Vec::new(*front.allocator()),
             key: front,
             value: 0,
+            top: OpenBranch::closed(),
             ended: false,
         })
     }
@@ -207,92 +210,157 @@ impl<'a, A: Allocator + Copy> ZeroTrieStream<'a, A> {
     }
 }
 
-/// Goes into the next target of the innermost open branch, and tells whether there was one.
-///
-/// Where its offsets fall, nothing more of the branch is listed. So no byte is gone over twice.
-fn next_target<'a, A: Allocator>(
-    rest: &mut &'a [u8],
-    prefix: &mut Vec<u8, A>,
-    branches: &mut Vec<OpenBranch<'a>, A>,
-) -> Result<bool, AllocError>
-    requires nested { Nested (length prefix.old.items) (reverse branches.old.items) }
-    ensures nested { IfOk result (λ _. Nested (length prefix.new.items) (reverse branches.new.items)) }
-    ensures same { (kind : Kind) → IfOk result (λ _.
-        pairs_left kind prefix.new.items rest.new.now branches.new.items
-        ≡ pairs_open kind prefix.old.items (reverse branches.old.items)) }
-    ensures none { IfOk result (λ more. more ≡ false → (kind : Kind)
-        → pairs_left kind prefix.new.items rest.new.now branches.new.items ≡ []) }
-    ensures less { IfOk result (λ more. more ≡ true
-        → work_left rest.new.now branches.new.items < work_open (reverse branches.old.items)) }
+/// Moves literals from the rest to the end of the key, of which there is at least one: all that stand there, but at most
+/// sixteen at once.
+#[inline(always)]
+fn push_literals<'a, A: Allocator>(
+    here: Here<'a>,
+    key: &mut Vec<u8, A>,
+) -> Result<Here<'a>, AllocError>
+    requires some { 0 < length here.rest.now }
+    requires literal { slice_index here.rest.now 0 < 128 }
+    ensures { IfOk result (λ next. MovesLiterals here.entry.rest.now key.old.items next.rest.now key.new.items) }
 {
-    *rest = &[];
-    let Some(top) = branches.pop() else {
-        return Ok(false);
-    };
-    prefix.truncate(top.depth);
-    let Some(target) = top.branch.target_at(top.next) else {
-        return Ok(true);
-    };
-    prefix.push(top.branch.edge_at(top.next))?;
-    let next = top.next + 1;
-    if next < top.branch.edges {
-        branches.push(OpenBranch {
-            branch: top.branch,
-            next,
-            depth: top.depth,
-        })?;
+    if here.tail.len() < 16 {
+        key.push(here.rest[0])?;
+        let (_, rest) = here.rest.split_at(1);
+        return Ok(here.behind(rest));
     }
-    *rest = target;
-    Ok(true)
+    let (sixteen, _) = here.tail.split_at(16);
+    let count = first_other_in_16(sixteen, sixteen)
+        .min(16)
+        .min(here.rest.len())
+        .max(1);
+    let len = key.len();
+    key.extend_from_slice(sixteen)?;
+    key.truncate(len + count);
+    let (_, rest) = here.rest.split_at(count);
+    Ok(here.behind(rest))
+}
+
+/// Goes into the next target of a branch. Where its offsets fall, no more of the branch is listed. So no byte is gone
+/// over twice.
+#[inline(always)]
+fn enter<'a, A: Allocator>(
+    key: &mut Vec<u8, A>,
+    top: &mut OpenBranch<'a>,
+) -> Result<Here<'a>, AllocError>
+    requires some { top.old.next < top.old.edges }
+    requires open { IsOpen (length key.old.items) top.old }
+    ensures stands { IfOk result (λ _. (outer : List OpenBranch) → Nested top.old.depth outer
+        → Stands (length key.new.items) top.new outer) }
+    ensures same { (kind : Kind) (outer : List OpenBranch) → Nested top.old.depth outer → IfOk result (λ here.
+        pairs_left kind key.new.items here.rest.now (top.new ∷ outer) ≡ pairs_open kind key.old.items (top.old ∷ outer)) }
+    ensures less { IfOk result (λ here. (outer : List OpenBranch)
+        → work_left here.rest.now (top.new ∷ outer) < work_open (top.old ∷ outer)) }
+{
+    key.truncate(top.depth);
+    let Some(target) = top.target() else {
+        top.next = top.edges;
+        return Ok(Here::nowhere());
+    };
+    key.push(top.behind[top.next])?;
+    top.begin += target.rest.len();
+    top.next += 1;
+    Ok(target)
+}
+
+/// Leaves the innermost branch if none of its targets is left, and tells whether the one at hand has some.
+#[inline(always)]
+fn has_target<'a, A: Allocator>(
+    top: &mut OpenBranch<'a>,
+    branches: &mut Vec<OpenBranch<'a>, A>,
+) -> bool
+    ensures stands { (depth : ℕ) → Stands depth top.old (reverse branches.old.items)
+        → Stands depth top.new (reverse branches.new.items) }
+    ensures some { (depth : ℕ) → Stands depth top.old (reverse branches.old.items)
+        → IsTrue result → top.new.next < top.new.edges }
+    ensures same { (kind : Kind) (prefix : List ℕ) → Stands (length prefix) top.old (reverse branches.old.items)
+        → pairs_open kind prefix (top.new ∷ reverse branches.new.items)
+        ≡ pairs_open kind prefix (top.old ∷ reverse branches.old.items) }
+    ensures none { (kind : Kind) (prefix : List ℕ) → Stands (length prefix) top.old (reverse branches.old.items)
+        → result ≡ false → pairs_open kind prefix (top.new ∷ reverse branches.new.items) ≡ [] }
+    ensures less { work_open (top.new ∷ reverse branches.new.items)
+        ≤ work_open (top.old ∷ reverse branches.old.items) }
+{
+    if top.has_next() {
+        return true;
+    }
+    match branches.pop() {
+        Some(outer) => {
+            *top = outer;
+            true
+        }
+        None => false,
+    }
+}
+
+/// Opens a branch with which the rest begins. The one around it is kept as long as targets of it are left.
+#[inline(always)]
+fn open<'a, A: Allocator>(
+    inner: OpenBranch<'a>,
+    top: &mut OpenBranch<'a>,
+    branches: &mut Vec<OpenBranch<'a>, A>,
+) -> Result<(), AllocError>
+    ensures inner { OnOk result (top.new ≡ inner.entry) }
+    ensures stands { OnOk result ((prefix : List ℕ) → Stands (length prefix) top.old (reverse branches.old.items)
+        → inner.entry.depth ≡ length prefix → inner.entry.next < inner.entry.edges → inner.entry.begin ≡ 0 → inner.entry.next ≡ 0
+        → Stands (length prefix) inner.entry (reverse branches.new.items)) }
+    ensures same { OnOk result ((kind : Kind) (prefix : List ℕ) → Stands (length prefix) top.old (reverse branches.old.items)
+        → pairs_open kind prefix (reverse branches.new.items) ≡ pairs_open kind prefix (top.old ∷ reverse branches.old.items)) }
+    ensures less { OnOk result (work_open (reverse branches.new.items) ≤ work_open (top.old ∷ reverse branches.old.items)) }
+{
+    if top.has_next() {
+        branches.push(*top)?;
+    }
+    *top = inner;
+    Ok(())
 }
 
 /// The first node of the bytes.
 #[inline(always)]
 pub fn node_at<K: ZeroTrieWithOptions>(bytes: &[u8]) -> Option<Node<'_>>
-    ensures { node_of K.kind bytes.now ≡ option_map shape result }
+    ensures node { node_of K.kind bytes.now ≡ option_map shape result }
+    ensures begins { IfSome result (λ node. Begins K.kind bytes.now (shape node)) }
 {
     first_node::<K>(bytes)
 }
 
 /// Goes on to the next value, and answers it, or `None` at the end. What stands in front of it is its key.
 fn next_value<'a, K: ZeroTrieWithOptions, A: Allocator>(
-    rest: &mut &'a [u8],
-    prefix: &mut Vec<u8, A>,
+    here: &mut Here<'a>,
+    key: &mut Vec<u8, A>,
+    top: &mut OpenBranch<'a>,
     branches: &mut Vec<OpenBranch<'a>, A>,
 ) -> Result<Option<usize>, AllocError>
-    requires nested { Nested (length prefix.old.items) (reverse branches.old.items) }
-    ensures nested { IfOk result (λ _. Nested (length prefix.new.items) (reverse branches.new.items)) }
+    requires stands { Stands (length key.old.items) top.old (reverse branches.old.items) }
+    ensures stands { IfOk result (λ _. Stands (length key.new.items) top.new (reverse branches.new.items)) }
     ensures found { IfOk result (IsFound
-        (pairs_left K.kind prefix.old.items rest.old.now branches.old.items) prefix.new.items
-        (pairs_left K.kind prefix.new.items rest.new.now branches.new.items)) }
+        (pairs_left K.kind key.old.items here.old.rest.now (top.old ∷ reverse branches.old.items)) key.new.items
+        (pairs_left K.kind key.new.items here.new.rest.now (top.new ∷ reverse branches.new.items))) }
 {
+    let mut at = *here;
     loop {
-        match node_at::<K>(*rest) {
+        match node_at::<K>(at.rest) {
             None => {
-                if !next_target(rest, prefix, branches)? {
+                if !has_target(top, branches) {
+                    *here = Here::nowhere();
                     return Ok(None);
                 }
+                at = enter(key, top)?;
             }
             Some(Node::Value(value, after)) => {
-                *rest = after;
+                *here = at.behind(after);
                 return Ok(Some(value));
             }
-            Some(Node::Literal(byte, after)) => {
-                prefix.push(byte)?;
-                *rest = after;
-            }
+            Some(Node::Literal(_byte, _after)) => at = push_literals(at, key)?,
             Some(Node::Span(run, after)) => {
-                prefix.extend_from_slice(run)?;
-                *rest = after;
+                key.extend_from_slice(run)?;
+                at = at.behind(after);
             }
             Some(Node::Branch(branch)) => {
-                let depth = prefix.len();
-                branches.push(OpenBranch {
-                    branch,
-                    next: 0,
-                    depth,
-                })?;
-                *rest = &[];
+                open(OpenBranch::new(at, branch, key.len()), top, branches)?;
+                at = Here::nowhere();
             }
         }
     }
@@ -301,23 +369,24 @@ fn next_value<'a, K: ZeroTrieWithOptions, A: Allocator>(
 /// Goes on to the next value, by the kind that the options are of.
 fn next_value_of<'a, A: Allocator>(
     options: ZeroTrieBuilderOptions,
-    rest: &mut &'a [u8],
-    prefix: &mut Vec<u8, A>,
+    here: &mut Here<'a>,
+    key: &mut Vec<u8, A>,
+    top: &mut OpenBranch<'a>,
     branches: &mut Vec<OpenBranch<'a>, A>,
 ) -> Result<Option<usize>, AllocError>
-    requires nested { Nested (length prefix.old.items) (reverse branches.old.items) }
-    ensures nested { IfOk result (λ _. Nested (length prefix.new.items) (reverse branches.new.items)) }
-    ensures found { IfOk result (IsFound
-        (pairs_left (kind_with options) prefix.old.items rest.old.now branches.old.items) prefix.new.items
-        (pairs_left (kind_with options) prefix.new.items rest.new.now branches.new.items)) }
+    requires stands { Stands (length key.old.items) top.old (reverse branches.old.items) }
+    ensures stands { IfOk result (λ _. Stands (length key.new.items) top.new (reverse branches.new.items)) }
+    ensures found { let kind = kind_with options in IfOk result (IsFound
+        (pairs_left kind key.old.items here.old.rest.now (top.old ∷ reverse branches.old.items)) key.new.items
+        (pairs_left kind key.new.items here.new.rest.now (top.new ∷ reverse branches.new.items))) }
 {
     if options.ignore_case() {
-        next_value::<Ignore, A>(rest, prefix, branches)
+        next_value::<Ignore, A>(here, key, top, branches)
     } else if options.extended() {
-        next_value::<Ext, A>(rest, prefix, branches)
+        next_value::<Ext, A>(here, key, top, branches)
     } else if options.use_phf() {
-        next_value::<Hash, A>(rest, prefix, branches)
+        next_value::<Hash, A>(here, key, top, branches)
     } else {
-        next_value::<Simple, A>(rest, prefix, branches)
+        next_value::<Simple, A>(here, key, top, branches)
     }
 }

@@ -112,6 +112,7 @@ impl<'a, K: HashedKind> HashedCursor<'a, K> {
     /// Goes along the edge of this byte, and answers it.
     ///
     /// A value is passed over. Where no edge is the byte, the answer is `None`, and the cursor is empty.
+    #[inline(always)]
     pub fn step(&mut self, byte: u8) -> Option<u8>
         ensures meaning { IsStep K.kind (ListsAt K.kind self.old) byte result (ListsAt K.kind self.new) }
         ensures run { IfSome result (λ edge. FollowsRun K.kind self.old edge self.new) }

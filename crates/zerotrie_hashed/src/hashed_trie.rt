@@ -164,6 +164,10 @@ impl<K: HashedKind, S: TrieStore> HashedTrie<K, S> {
     /// The value of the key, or `None` where the trie has no such key.
     ///
     /// The call takes no memory. On bytes that mean no map it gives some answer.
+    ///
+    /// Its code, some 3 KB, stands wherever it is called. A program that wants it once calls it from a function
+    /// of its own that is `#[inline(never)]`; so for `get_str`, `contains_key` and a cursor's `step`.
+    #[inline(always)]
     pub fn get(&self, key: &[u8]) -> Option<usize>
         ensures { (m : Map) → Means K.kind (S.stored self.now.store) m → result ≡ look K.kind m key.now }
     {
@@ -177,6 +181,7 @@ impl<K: HashedKind, S: TrieStore> HashedTrie<K, S> {
     /// let trie = ZeroTriePerfectHash::from_bytes(b"abc\x85");
     /// assert_eq!(rt; trie.get_str("abc"), Some(5));
     /// ```
+    #[inline(always)]
     pub fn get_str(&self, key: &str) -> Option<usize>
         ensures { (m : Map) → Means K.kind (S.stored self.now.store) m → result ≡ look K.kind m key.now }
     {
@@ -190,6 +195,7 @@ impl<K: HashedKind, S: TrieStore> HashedTrie<K, S> {
     /// assert!(rt; trie.contains_key(b"abc"));
     /// assert!(rt; !trie.contains_key(b"ab"));
     /// ```
+    #[inline(always)]
     pub fn contains_key(&self, key: &[u8]) -> bool
         ensures { (m : Map) → Means K.kind (S.stored self.now.store) m
             → result ≡ is_some (look K.kind m key.now) }

@@ -1,15 +1,15 @@
 -- The state of a listing: the text that it stands in, and the branches that are open.
-use Rattle.std.specs.Prelude.{◌≡◌, ℕ, Option, Some, None, ◌+◌, ◌-◌, ◌<◌, ◌≤◌, List, [], ◌∷◌, ◌++◌, length, take, reverse, Bool, if◌then◌else◌}
+use Rattle.std.specs.Prelude.{◌≡◌, ℕ, Option, Some, None, ◌+◌, ◌-◌, ◌<◌, ◌≤◌, List, [], ◌∷◌, ◌++◌, length, take, Bool, if◌then◌else◌}
 use Rattle.zerotrie_core.specs.Kind.{Kind}
 use Rattle.zerotrie_core.specs.Maps.{Pairs, with_run}
 use Rattle.zerotrie_core.specs.Nodes.{targets_behind, begin_of}
 use Rattle.zerotrie_core.specs.Listings.{Left, to_come, over}
 use Rattle.zerotrie_core.specs.listing.Listed.{listed, of_targets}
-use Rattle.zerotrie_core.specs.declared.stream.OpenBranch.{OpenBranch}
+use Rattle.zerotrie_core.specs.declared.stream.opened.OpenBranch.{OpenBranch}
 
 -- the pairs behind an open branch from its next edge on
 abbrev pub pairs_behind : Kind → OpenBranch → Pairs
-pairs_behind kind o = of_targets (listed kind) o.branch.edges o.branch.width o.branch.behind.now (o.branch.edges - o.next)
+pairs_behind kind o = of_targets (listed kind) o.edges o.width o.behind.now (o.edges - o.next)
 
 -- the pairs behind open branches, the innermost first: what is in front of a branch is a beginning of the prefix
 abbrev pub pairs_open : Kind → List ℕ → List OpenBranch → Pairs
@@ -18,24 +18,33 @@ pairs_open kind prefix (o ∷ branches) = let front = take o.depth prefix in wit
 
 -- the pairs that are left
 abbrev pub pairs_left : Kind → List ℕ → List ℕ → List OpenBranch → Pairs
-pairs_left kind prefix rest branches = with_run prefix (listed kind rest) ++ pairs_open kind prefix (reverse branches)
+pairs_left kind prefix rest branches = with_run prefix (listed kind rest) ++ pairs_open kind prefix branches
 
 abbrev pub left_in : Bool → Kind → List ℕ → List ℕ → List OpenBranch → Left
 left_in ended kind prefix rest branches = if ended then over else to_come (pairs_left kind prefix rest branches)
 
--- each open branch stands behind a beginning of the prefix, inner ones behind no shorter one, and has an edge to come
+-- An open branch stands behind a beginning of the prefix, and knows where its next target begins, if one is left.
+pub record IsOpen (depth : ℕ) (o : OpenBranch) : Type 0 where
+  pub low : o.depth ≤ depth
+  pub inside : o.next ≤ o.edges
+  pub begins : o.next < o.edges → o.begin ≡ begin_of o.edges o.width o.behind.now o.next
+
+-- each open branch has a target left, and inner ones stand behind no shorter beginning
 abbrev pub Nested : ℕ → List OpenBranch → Type 0
 Nested depth [] = Unit {0}
-Nested depth (o ∷ branches) = (o.depth ≤ depth) × (o.next < o.branch.edges) × Nested o.depth branches
+Nested depth (o ∷ branches) = IsOpen depth o × (o.next < o.edges) × Nested o.depth branches
+
+-- the same, where the innermost one may have none left
+abbrev pub Stands : ℕ → OpenBranch → List OpenBranch → Type 0
+Stands depth top branches = IsOpen depth top × Nested top.depth branches
 
 -- how many bytes of targets, edges and branches are still to be gone over
 abbrev pub work_open : List OpenBranch → ℕ
 work_open [] = 0
-work_open (o ∷ branches) = length (targets_behind o.branch.edges o.branch.width o.branch.behind.now) - begin_of o.branch.edges o.branch.width o.branch.behind.now o.next
-    + (o.branch.edges - o.next) + 1 + work_open branches
+work_open (o ∷ branches) = length (targets_behind o.edges o.width o.behind.now) - o.begin + (o.edges - o.next) + 1 + work_open branches
 
 abbrev pub work_left : List ℕ → List OpenBranch → ℕ
-work_left rest branches = length rest + work_open (reverse branches)
+work_left rest branches = length rest + work_open branches
 
 -- What going on to the next value comes to: the first pair with the key in hand, or the end.
 abbrev pub IsFound : Pairs → List ℕ → Pairs → Option ℕ → Type 0

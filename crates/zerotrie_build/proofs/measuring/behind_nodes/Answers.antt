@@ -1,7 +1,6 @@
-use Rattle.std.proofs.Common.{◌≡◌, ◌+◌, ◌-◌, sym, ◌∙◌, subst, length, arith}
+use Rattle.std.proofs.Common.{refl, ◌≡◌, ◌+◌, ◌-◌, sym, ◌∙◌, subst, length, arith}
 use Rattle.std.proofs.lemmas.Result.{err_from_is_err_and}
 use Rattle.zerotrie_core.specs.Numbers.{value_form, span_form, spelled_as}
-use Rattle.zerotrie_build.specs.Items.{pairs}
 use Rattle.zerotrie_build.specs.passes.Measured.{Run}
 use Rattle.zerotrie_build.specs.passes.Measured.Run.{here, value, span}
 use Rattle.zerotrie_build.proofs.WindowLemmas.{span_some}
@@ -12,7 +11,7 @@ pub loop-value-preserved-in-Value : goal.loop-value-preserved-in-Value
 loop-value-preserved-in-Value g c =
     let v = c.loop-value.invariant in
     record {
-      goes_on = λ n last r. subst (Run g.K.ZeroTrieWithOptions.kind (pairs c.args.items) c.args.start last) (let s = c.in_ok-len-in-Value.ensures.sum in let k = c.value_len.ensures in omega arith)
+      goes_on = λ n last r. subst (Run g.K.ZeroTrieWithOptions.kind (g.I.IndexedItems.pairs c.args.items) c.args.start last) (let s = c.in_ok-len-in-Value.ensures.sum in let k = c.value_len.ensures in omega arith)
           (v.goes_on (length (spelled_as value_form c.in-Value.value) + n) last (value c.in-Value.value (sym c.first_step.ensures.is ∙ c.in-Value.is) r));
       to_is = v.to_is;
     }
@@ -22,8 +21,8 @@ literals_end-end-requires g c =
     let v = c.loop-value.invariant in
     let to = v.to_is in
     let within = c.requires.within in
-    let l = literal_low g.K.ZeroTrieWithOptions.kind (pairs c.args.items) c.loop-value.rest c.in-Literal.field-0 (omega arith) c.requires.keys (sym c.first_step.ensures.is ∙ c.in-Literal.is) in
-    record { some = l.0; items = omega arith; literal = l.1 }
+    let l = literal_low g.K.ZeroTrieWithOptions.kind (g.I.IndexedItems.pairs c.args.items) c.loop-value.rest c.in-Literal.field-0 (omega arith) c.requires.keys (sym c.first_step.ensures.is ∙ c.in-Literal.is) in
+    λ k. ((refl, tt), (l.0, (omega arith, l.1)))
 
 pub loop-value-preserved-in-Literal : goal.loop-value-preserved-in-Literal
 loop-value-preserved-in-Literal g c =
@@ -32,9 +31,9 @@ loop-value-preserved-in-Literal g c =
     let past = e.past in
     let to = v.to_is in
     let within = c.requires.within in
-    let l = literal_low g.K.ZeroTrieWithOptions.kind (pairs c.args.items) c.loop-value.rest c.in-Literal.field-0 (omega arith) c.requires.keys (sym c.first_step.ensures.is ∙ c.in-Literal.is) in
+    let l = literal_low g.K.ZeroTrieWithOptions.kind (g.I.IndexedItems.pairs c.args.items) c.loop-value.rest c.in-Literal.field-0 (omega arith) c.requires.keys (sym c.first_step.ensures.is ∙ c.in-Literal.is) in
     record {
-      goes_on = λ n last r. subst (Run g.K.ZeroTrieWithOptions.kind (pairs c.args.items) c.args.start last) (let s = c.in_ok-len-in-Literal.ensures.sum in omega arith)
+      goes_on = λ n last r. subst (Run g.K.ZeroTrieWithOptions.kind (g.I.IndexedItems.pairs c.args.items) c.args.start last) (let s = c.in_ok-len-in-Literal.ensures.sum in omega arith)
           (v.goes_on (c.literals_end-end.result - c.loop-value.rest.depth + n) last (literals_to c.literals_end-end.result l.0 (omega arith) e.low r));
       to_is = v.to_is;
     }
@@ -43,7 +42,7 @@ pub loop-value-preserved : goal.loop-value-preserved
 loop-value-preserved g c =
     let v = c.loop-value.invariant in
     record {
-      goes_on = λ n last r. subst (Run g.K.ZeroTrieWithOptions.kind (pairs c.args.items) c.args.start last)
+      goes_on = λ n last r. subst (Run g.K.ZeroTrieWithOptions.kind (g.I.IndexedItems.pairs c.args.items) c.args.start last)
           (let s = c.in_ok-len-in-Span.ensures.sum in let t = c.in_ok-lead-in-Span.ensures.sum in let k = c.count_len.ensures in omega arith)
           (v.goes_on (length (spelled_as span_form c.in-Span.count) + c.in-Span.count + n) last (span c.in-Span.count (sym c.first_step.ensures.is ∙ c.in-Span.is) r));
       to_is = v.to_is;
@@ -51,14 +50,14 @@ loop-value-preserved g c =
 
 pub loop-value-smaller : goal.loop-value-smaller
 loop-value-smaller g c =
-    let some = span_some g.K.ZeroTrieWithOptions.kind (pairs c.args.items) c.loop-value.rest c.in-Span.count (sym c.first_step.ensures.is ∙ c.in-Span.is) in
+    let some = span_some g.K.ZeroTrieWithOptions.kind (g.I.IndexedItems.pairs c.args.items) c.loop-value.rest c.in-Span.count (sym c.first_step.ensures.is ∙ c.in-Span.is) in
     let room = c.first_step.ensures.span c.in-Span.count c.in-Span.is in
     omega (arith, some.0)
 
 pub returns-in-Branch-clause-run : goal.returns-in-Branch-clause-run
 returns-in-Branch-clause-run g c =
     let v = c.loop-value.invariant in
-    subst (Run g.K.ZeroTrieWithOptions.kind (pairs c.args.items) c.args.start c.loop-value.rest) (let e : c.loop-value.len + 0 ≡ c.loop-value.len = omega arith in e) (v.goes_on 0 c.loop-value.rest here)
+    subst (Run g.K.ZeroTrieWithOptions.kind (g.I.IndexedItems.pairs c.args.items) c.args.start c.loop-value.rest) (let e : c.loop-value.len + 0 ≡ c.loop-value.len = omega arith in e) (v.goes_on 0 c.loop-value.rest here)
 
 pub returns-in_err-len-in-Value-clause-refused : goal.returns-in_err-len-in-Value-clause-refused
 returns-in_err-len-in-Value-clause-refused g c =
@@ -79,7 +78,7 @@ returns-in_err-len-in-Literal-clause-refused g c =
     let end = c.literals_end-end.result in
     let to = v.to_is in
     let within = c.requires.within in
-    let l = literal_low g.K.ZeroTrieWithOptions.kind (pairs c.args.items) c.loop-value.rest c.in-Literal.field-0 (omega arith) c.requires.keys (sym c.first_step.ensures.is ∙ c.in-Literal.is) in
+    let l = literal_low g.K.ZeroTrieWithOptions.kind (g.I.IndexedItems.pairs c.args.items) c.loop-value.rest c.in-Literal.field-0 (omega arith) c.requires.keys (sym c.first_step.ensures.is ∙ c.in-Literal.is) in
     let run = v.goes_on (end - c.loop-value.rest.depth + 0) (record c.loop-value.rest { depth = end }) (literals_to end l.0 (omega arith) e.low here) in
     rw (p.1, p.2) (f.0, too_long run c.requires.within c.requires.keys c.requires.ordered (omega (arith, f.1)))
 

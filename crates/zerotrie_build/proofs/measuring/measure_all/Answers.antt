@@ -1,10 +1,9 @@
-use Rattle.std.proofs.Common.{rules, ◌≡◌, ◌≤◌, [], sym, ◌∙◌, ap, subst, arith, length, reverse}
+use Rattle.std.proofs.Common.{refl, rules, ◌≡◌, ◌≤◌, [], sym, ◌∙◌, ap, subst, arith, length, reverse}
 use Rattle.std.proofs.lemmas.List.{append-nil}
 use Rattle.std.proofs.lemmas.Result.{err_from_is_err_and}
 use Rattle.zerotrie_core.specs.Canonical.{size_of}
 use Rattle.zerotrie_core.specs.Maps.{map_of}
 use Rattle.zerotrie_core.specs.Fits.{ExceedsCapacity}
-use Rattle.zerotrie_build.specs.Items.{pairs}
 use Rattle.zerotrie_build.specs.declared.measuring.Turn.TheVariants.{Window as NextWindow, Whole}
 use Rattle.zerotrie_build.specs.Order.{Ordered, AreKeys}
 use Rattle.zerotrie_build.specs.passes.Windows.{window}
@@ -23,39 +22,34 @@ loop-measuring-init g c = record {
       let m = c.in_ok-measuring.measuring in
       let e = c.in_ok-measuring.ensures in
       let kind = g.K.ZeroTrieWithOptions.kind in
-      let all = pairs c.args.items in
+      let all = g.I.IndexedItems.pairs c.args.items in
       let to : c.len.result ≡ length all = search rules in
       subst (λ x. Waits kind all (record { from = 0; to = x; depth = 0 }) (reverse m.branches.items) m.slots.items) (sym to)
       (subst (λ x. Waits kind all (whole all) (reverse x) m.slots.items) (sym e.branches) (subst (Waits kind all (whole all) []) (sym e.slots) outside));
 }
 
-pub behind_run-requires-clause-within : goal.behind_run-requires-clause-within
-behind_run-requires-clause-within g c = (waits_placed c.loop-measuring.invariant.waits c.requires.keys c.requires.ordered).within
-
-pub behind_run-requires-clause-ordered : goal.behind_run-requires-clause-ordered
-behind_run-requires-clause-ordered g c = (waits_placed c.loop-measuring.invariant.waits c.requires.keys c.requires.ordered).ordered
+pub behind_run-requires : goal.behind_run-requires
+behind_run-requires g c =
+    let p = waits_placed c.loop-measuring.invariant.waits c.requires.keys c.requires.ordered in
+    λ k. ((refl, tt), (c.requires.keys, (c.requires.ascii, (p.within, p.ordered))))
 
 pub returns-in_err-rest-clause-refused : goal.returns-in_err-rest-clause-refused
 returns-in_err-rest-clause-refused g c =
     let small = (waits_placed c.loop-measuring.invariant.waits c.requires.keys c.requires.ordered).small in
     let p = err_from_is_err_and c.from_residual-in_err-rest.result c.from_residual-in_err-rest.ensures.1 in
     let r = c.in_err-rest.ensures.refused in
-    rw (p.1, p.2) (λ memory. (r.0, (let large = r.1 in exceeds_size g.K.ZeroTrieWithOptions.kind (pairs c.args.items) (omega arith))))
+    rw (p.1, p.2) (λ memory. (r.0, (let large = r.1 in exceeds_size g.K.ZeroTrieWithOptions.kind (g.I.IndexedItems.pairs c.args.items) (omega arith))))
 
-pub push_branch-requires-clause-within : goal.push_branch-requires-clause-within
-push_branch-requires-clause-within g c =
+pub push_branch-requires : goal.push_branch-requires
+push_branch-requires g c =
     let v = c.loop-measuring.invariant in
     let p = waits_placed v.waits c.requires.keys c.requires.ordered in
     let a = along c.in_ok-rest.ensures.run p.within c.requires.keys p.ordered in
     let to = a.to_is in let within = p.within in
-    subst (λ x. c.in_ok-rest.rest.to ≤ length (pairs x)) (sym v.items) (omega arith)
-
-pub push_branch-requires-clause-ordered : goal.push_branch-requires-clause-ordered
-push_branch-requires-clause-ordered g c =
-    let v = c.loop-measuring.invariant in
-    let p = waits_placed v.waits c.requires.keys c.requires.ordered in
-    let a = along c.in_ok-rest.ensures.run p.within c.requires.keys p.ordered in
-    subst (λ x. Ordered g.K.ZeroTrieWithOptions.kind (window (pairs x) c.in_ok-rest.rest)) (sym v.items) a.ordered
+    let all = subst (λ x. c.in_ok-rest.rest.to ≤ length (g.I.IndexedItems.pairs x)) (sym v.items) (omega arith) in
+    let ordered = subst (λ x. Ordered g.K.ZeroTrieWithOptions.kind (window (g.I.IndexedItems.pairs x) c.in_ok-rest.rest)) (sym v.items) a.ordered in
+    let branch = stopped g.K.ZeroTrieWithOptions.kind (g.I.IndexedItems.pairs c.args.items) c.in_ok-rest.rest c.in_ok-rest.ensures.stops c.if-rest.true in
+    λ k. ((refl, tt), (all, (c.if-rest.true, (c.in_ok-rest.ensures.room branch, ordered))))
 
 pub loop-measuring-smaller-then-rest : goal.loop-measuring-smaller-then-rest
 loop-measuring-smaller-then-rest g c =
@@ -64,35 +58,33 @@ loop-measuring-smaller-then-rest g c =
 pub loop-measuring-preserved-then-rest : goal.loop-measuring-preserved-then-rest
 loop-measuring-preserved-then-rest g c =
     let kind = g.K.ZeroTrieWithOptions.kind in
-    let all = pairs c.args.items in
+    let all = g.I.IndexedItems.pairs c.args.items in
     let v = c.loop-measuring.invariant in
     let o = c.in_ok-window.ensures.opened in
     let m = c.loop-measuring.measuring in
     let n = c.push_branch.new.self in
     let placed = waits_placed v.waits c.requires.keys c.requires.ordered in
     let branch = stopped kind all c.in_ok-rest.rest c.in_ok-rest.ensures.stops c.if-rest.true in
-    let opened = subst (λ x. IsOpened kind (pairs x) c.in_ok-rest.rest c.in_ok-rest.len c.in_ok-window.window m.slots.items m.branches.items n.slots.items n.branches.items) v.items o in
+    let opened = subst (λ x. IsOpened kind (g.I.IndexedItems.pairs x) c.in_ok-rest.rest c.in_ok-rest.len c.in_ok-window.window m.slots.items m.branches.items n.slots.items n.branches.items) v.items o in
     record {
       items = c.in_ok-window.ensures.items ∙ v.items;
       waits = subst (λ x. Waits kind all c.in_ok-window.window x n.slots.items) (sym (popped n.branches.items m.branches.items _ opened.branches_are))
           (waits_opened v.waits placed c.in_ok-rest.ensures.run branch c.if-rest.true (c.in_ok-rest.ensures.room branch) opened);
     }
 
-pub close-requires-clause-keys : goal.close-requires-clause-keys
-close-requires-clause-keys g c = subst (λ x. AreKeys g.K.ZeroTrieWithOptions.kind (pairs x)) (sym c.loop-measuring.invariant.items) c.requires.keys
-
-pub close-requires-clause-ordered : goal.close-requires-clause-ordered
-close-requires-clause-ordered g c = subst (λ x. Ordered g.K.ZeroTrieWithOptions.kind (pairs x)) (sym c.loop-measuring.invariant.items) c.requires.ordered
-
-pub close-requires-clause-closing : goal.close-requires-clause-closing
-close-requires-clause-closing g c =
+pub close-requires : goal.close-requires
+close-requires g c =
     let kind = g.K.ZeroTrieWithOptions.kind in
     let v = c.loop-measuring.invariant in
     let placed = waits_placed v.waits c.requires.keys c.requires.ordered in
     let slots = c.loop-measuring.measuring.slots.items in
-    let k = kept_end kind (pairs c.args.items) c.loop-measuring.window c.in_ok-rest.rest c.in_ok-rest.len placed c.requires.keys c.in_ok-rest.ensures.run c.in_ok-rest.ensures.stops (let t = c.if-rest.false in omega arith) in
-    subst (λ x. Closing kind (pairs x) (reverse c.loop-measuring.measuring.branches.items) slots c.in_ok-rest.len) (sym v.items)
-    (record { w = c.loop-measuring.window; before = slots; own = []; waits = v.waits; kept = k.0; slots_are = sym (append-nil slots); len_is = k.1 })
+    let k = kept_end kind (g.I.IndexedItems.pairs c.args.items) c.loop-measuring.window c.in_ok-rest.rest c.in_ok-rest.len placed c.requires.keys c.in_ok-rest.ensures.run c.in_ok-rest.ensures.stops (let t = c.if-rest.false in omega arith) in
+    let closing =
+    subst (λ x. Closing kind (g.I.IndexedItems.pairs x) (reverse c.loop-measuring.measuring.branches.items) slots c.in_ok-rest.len) (sym v.items)
+    (record { w = c.loop-measuring.window; before = slots; own = []; waits = v.waits; kept = k.0; slots_are = sym (append-nil slots); len_is = k.1 }) in
+    let keys = subst (λ x. AreKeys kind (g.I.IndexedItems.pairs x)) (sym v.items) c.requires.keys in
+    let ordered = subst (λ x. Ordered kind (g.I.IndexedItems.pairs x)) (sym v.items) c.requires.ordered in
+    λ k. ((refl, tt), (keys, (ordered, closing)))
 
 pub returns-in_err-next-clause-refused : goal.returns-in_err-next-clause-refused
 returns-in_err-next-clause-refused g c =
@@ -100,7 +92,7 @@ returns-in_err-next-clause-refused g c =
     let v = c.loop-measuring.invariant in
     rw (p.1, p.2) (λ memory.
     let r = c.in_err-next.ensures.refused memory in
-    (r.0, subst (λ x. ExceedsCapacity g.K.ZeroTrieWithOptions.kind (map_of (pairs x))) v.items r.1))
+    (r.0, subst (λ x. ExceedsCapacity g.K.ZeroTrieWithOptions.kind (map_of (g.I.IndexedItems.pairs x))) v.items r.1))
 
 pub loop-measuring-smaller : goal.loop-measuring-smaller
 loop-measuring-smaller g c =
@@ -113,17 +105,17 @@ loop-measuring-preserved g c =
     let v = c.loop-measuring.invariant in
     record {
       items = c.close.ensures.items ∙ v.items;
-      waits = subst (λ x. IsTurn g.K.ZeroTrieWithOptions.kind (pairs x) (NextWindow c.in-Window.next) (reverse c.close.new.self.branches.items) c.close.new.self.slots.items) v.items
-          (subst (λ t. IsTurn g.K.ZeroTrieWithOptions.kind (pairs c.loop-measuring.measuring.items) t (reverse c.close.new.self.branches.items) c.close.new.self.slots.items) c.in-Window.is c.in_ok-next.ensures.turn);
+      waits = subst (λ x. IsTurn g.K.ZeroTrieWithOptions.kind (g.I.IndexedItems.pairs x) (NextWindow c.in-Window.next) (reverse c.close.new.self.branches.items) c.close.new.self.slots.items) v.items
+          (subst (λ t. IsTurn g.K.ZeroTrieWithOptions.kind (g.I.IndexedItems.pairs c.loop-measuring.measuring.items) t (reverse c.close.new.self.branches.items) c.close.new.self.slots.items) c.in-Window.is c.in_ok-next.ensures.turn);
     }
 
 pub returns-in-Whole-clause-measured : goal.returns-in-Whole-clause-measured
 returns-in-Whole-clause-measured g c =
     let v = c.loop-measuring.invariant in
     let kind = g.K.ZeroTrieWithOptions.kind in
-    let all = pairs c.args.items in
-    let t = subst (λ x. IsTurn kind (pairs x) (Whole c.in-Whole.len) (reverse c.close.new.self.branches.items) c.close.new.self.slots.items) v.items
-    (subst (λ t. IsTurn kind (pairs c.loop-measuring.measuring.items) t (reverse c.close.new.self.branches.items) c.close.new.self.slots.items) c.in-Whole.is c.in_ok-next.ensures.turn) in
+    let all = g.I.IndexedItems.pairs c.args.items in
+    let t = subst (λ x. IsTurn kind (g.I.IndexedItems.pairs x) (Whole c.in-Whole.len) (reverse c.close.new.self.branches.items) c.close.new.self.slots.items) v.items
+    (subst (λ t. IsTurn kind (g.I.IndexedItems.pairs c.loop-measuring.measuring.items) t (reverse c.close.new.self.branches.items) c.close.new.self.slots.items) c.in-Whole.is c.in_ok-next.ensures.turn) in
     record {
       keys = c.requires.keys;
       slots_are = subst (Kept kind all (whole all)) (sym c.measured.ensures.slots) t.0;

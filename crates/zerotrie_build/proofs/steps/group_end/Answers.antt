@@ -1,5 +1,4 @@
 use Rattle.std.proofs.Common.{rules, ◌≡◌, ◌+◌, ◌<◌, arith}
-use Rattle.zerotrie_build.specs.Items.{pairs}
 use Rattle.zerotrie_build.specs.passes.Windows.{byte_of}
 use Rattle.zerotrie_build.proofs.EndLemmas.{same_between}
 use Rattle.zerotrie_build.proofs.steps.group_end.Goals as goal
@@ -7,7 +6,7 @@ use Rattle.zerotrie_build.proofs.steps.group_end.Goals as goal
 pub loop-low-preserved-then-eq : goal.loop-low-preserved-then-eq
 loop-low-preserved-then-eq g c =
     let v = c.loop-low.invariant in
-    let all = pairs c.args.items in
+    let all = g.I.IndexedItems.pairs c.args.items in
     let w = c.args.window in
     let place = c.loop-low.low + c.min-step.result in
     let some = v.some in let order = v.order in let within = v.within in let t = c.loop-low-test.true in

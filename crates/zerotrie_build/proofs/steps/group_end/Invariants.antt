@@ -1,5 +1,4 @@
 use Rattle.std.proofs.Common.{◌≡◌, ◌≢◌, ℕ, ◌-◌, ◌<◌, ◌≤◌}
-use Rattle.zerotrie_build.specs.Items.{pairs}
 use Rattle.zerotrie_build.specs.passes.Windows.{byte_of}
 use Rattle.zerotrie_build.proofs.steps.group_end.Given as goal
 
@@ -8,8 +7,8 @@ invariant-loop-low g l = record {
   some : l.window.from < l.low;
   order : l.low ≤ l.high;
   within : l.high ≤ l.window.to;
-  same : (i : ℕ) → l.window.from ≤ i → i < l.low → byte_of (pairs l.items) i l.window.depth ≡ byte_of (pairs l.items) l.window.from l.window.depth;
-  other : l.high < l.window.to → byte_of (pairs l.items) l.high l.window.depth ≢ byte_of (pairs l.items) l.window.from l.window.depth;
+  same : (i : ℕ) → l.window.from ≤ i → i < l.low → byte_of (g.I.IndexedItems.pairs l.items) i l.window.depth ≡ byte_of (g.I.IndexedItems.pairs l.items) l.window.from l.window.depth;
+  other : l.high < l.window.to → byte_of (g.I.IndexedItems.pairs l.items) l.high l.window.depth ≢ byte_of (g.I.IndexedItems.pairs l.items) l.window.from l.window.depth;
 }
 
 abbrev pub decreases-loop-low : goal.decreases-loop-low

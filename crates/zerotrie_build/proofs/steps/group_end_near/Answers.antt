@@ -1,6 +1,5 @@
 use Rattle.std.proofs.Common.{rules, ◌≡◌, ◌-◌, ◌<◌, ◌≤◌, inl, inr, ap, arith}
 use Rattle.std.proofs.Math.Nat.{eq-or-lt_of_le}
-use Rattle.zerotrie_build.specs.Items.{pairs}
 use Rattle.zerotrie_build.specs.passes.Windows.{byte_of}
 use Rattle.zerotrie_build.proofs.EndLemmas.{same_between}
 use Rattle.zerotrie_build.proofs.steps.group_end_near.Goals as goal
@@ -8,7 +7,7 @@ use Rattle.zerotrie_build.proofs.steps.group_end_near.Goals.{then-end-window-2, 
 
 pub returns-then-eq : goal.returns-then-eq
 returns-then-eq g c =
-    let all = pairs c.args.items in
+    let all = g.I.IndexedItems.pairs c.args.items in
     let w = c.args.window in
     let end = c.saturating_add-end.result in
     let most : end ≤ w.to = omega (arith, c.if-end-window.false) in

@@ -1,5 +1,4 @@
-use Rattle.std.proofs.Common.{◌≡◌, [], ◌∷◌, ◌++◌, length, reverse, arith, sym, ap, subst, ◌∙◌}
-use Rattle.zerotrie_build.specs.Items.{pairs}
+use Rattle.std.proofs.Common.{refl, ◌≡◌, [], ◌∷◌, ◌++◌, length, reverse, arith, sym, ap, subst, ◌∙◌}
 use Rattle.zerotrie_build.specs.declared.steps.Window.{Window}
 use Rattle.zerotrie_build.specs.passes.Measured.{whole}
 use Rattle.zerotrie_build.specs.passes.Writing.{place_at, KeptTo, Leads, FrontPut, Left}
@@ -9,7 +8,7 @@ use Rattle.zerotrie_build.proofs.writing.write.Goals as goal
 pub loop-next-init : goal.loop-next-init
 loop-next-init g c =
     let kind = g.K.ZeroTrieWithOptions.kind in
-    let all = pairs c.args.items in
+    let all = g.I.IndexedItems.pairs c.args.items in
     let slots = c.args.measured.now.slots.items in
     let list = g.S.TrieBuilderStore.list in
     let none = c.atbs_new_empty-data.result in
@@ -26,24 +25,10 @@ loop-next-preserved-in-Go g c =
     let rest = reverse c.take_next.new.pending.items in
     (v.0, v.1, leads_go c.in-Go.there rest v.2 (c.in-Some.ensures.some ∙ ap (λ x. x ∷ rest) c.in-Go.is))
 
-pub put_front-requires-clause-ordered : goal.put_front-requires-clause-ordered
-put_front-requires-clause-ordered g c = measured_ordered c.requires.measured
-
-pub put_front-requires-clause-kept : goal.put_front-requires-clause-kept
-put_front-requires-clause-kept g c =
+pub put_front-requires : goal.put_front-requires
+put_front-requires g c =
     let kind = g.K.ZeroTrieWithOptions.kind in
-    let all = pairs c.args.items in
-    let v = c.loop-next.invariant in
-    let piece = c.in-Text.piece in
-    let w : Window = record { from = c.loop-next.place.from; to = piece.to; depth = piece.depth } in
-    let rest = reverse c.take_next.new.pending.items in
-    let t = leads_text piece rest v.2 (c.in-Some.ensures.some ∙ ap (λ x. x ∷ rest) c.in-Text.is) in
-    (t.end, subst (λ x. KeptTo kind all x c.loop-next.place.slot t.end w) (sym c.as_slice-slots.ensures.value) t.kept)
-
-pub put_front-requires-clause-room : goal.put_front-requires-clause-room
-put_front-requires-clause-room g c =
-    let kind = g.K.ZeroTrieWithOptions.kind in
-    let all = pairs c.args.items in
+    let all = g.I.IndexedItems.pairs c.args.items in
     let slots = c.args.measured.now.slots.items in
     let v = c.loop-next.invariant in
     let piece = c.in-Text.piece in
@@ -52,12 +37,13 @@ put_front-requires-clause-room g c =
     let first = c.in-Some.ensures.some ∙ ap (λ x. x ∷ rest) c.in-Text.is in
     let t = leads_text piece rest v.2 first in
     let left : Left kind all (g.S.TrieBuilderStore.list c.loop-next.writing.data) c.loop-next.writing.at (w ∷ t.behind) = subst (Left kind all (g.S.TrieBuilderStore.list c.loop-next.writing.data) c.loop-next.writing.at) t.is v.1 in
-    left_room left
+    let kept = subst (λ x. KeptTo kind all x c.loop-next.place.slot t.end w) (sym c.as_slice-slots.ensures.value) t.kept in
+    λ k. ((refl, tt), (c.requires.measured.keys, (c.requires.ascii, (measured_ordered c.requires.measured, ((t.end, kept), left_room left)))))
 
 pub loop-next-smaller : goal.loop-next-smaller
 loop-next-smaller g c =
     let kind = g.K.ZeroTrieWithOptions.kind in
-    let all = pairs c.args.items in
+    let all = g.I.IndexedItems.pairs c.args.items in
     let slots = c.args.measured.now.slots.items in
     let v = c.loop-next.invariant in
     let piece = c.in-Text.piece in
@@ -78,7 +64,7 @@ loop-next-smaller g c =
 pub loop-next-preserved : goal.loop-next-preserved
 loop-next-preserved g c =
     let kind = g.K.ZeroTrieWithOptions.kind in
-    let all = pairs c.args.items in
+    let all = g.I.IndexedItems.pairs c.args.items in
     let slots = c.args.measured.now.slots.items in
     let v = c.loop-next.invariant in
     let piece = c.in-Text.piece in

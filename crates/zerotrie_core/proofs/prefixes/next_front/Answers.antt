@@ -1,8 +1,8 @@
-use Rattle.std.proofs.Common.{◌≡◌, ◌<◌, ◌≤◌, true, refl, sym, ◌∙◌, subst, arith, get_or, length, Some, None}
-use Rattle.std.proofs.lemmas.Bool.{ltb-true, ltb-false}
+use Rattle.std.proofs.Common.{◌≡◌, ◌≤◌, sym, subst, arith, length, Some, None}
+use Rattle.std.proofs.lemmas.Bool.{ltb-false}
 use Rattle.zerotrie_core.specs.Kind.{kind_with}
 use Rattle.zerotrie_core.specs.Places.{ListsAt, IsStep}
-use Rattle.zerotrie_core.specs.Prefixes.{along, NextFront}
+use Rattle.zerotrie_core.specs.Prefixes.{along}
 use Rattle.zerotrie_core.proofs.FrontsLemmas.{stays, found, passed, stepped, stopped, ended}
 use Rattle.zerotrie_core.proofs.prefixes.next_front.Goals as goal
 

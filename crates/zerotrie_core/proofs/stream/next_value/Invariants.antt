@@ -1,13 +1,14 @@
-use Rattle.std.proofs.Common.{◌≡◌, length, reverse}
-use Rattle.zerotrie_core.specs.listing.Opened.{Nested, pairs_left, work_left}
+use Rattle.std.proofs.Common.{◌≡◌, ◌∷◌, length, reverse, take}
+use Rattle.zerotrie_core.specs.listing.Opened.{Stands, pairs_left, work_left}
 use Rattle.zerotrie_core.proofs.stream.next_value.Given as goal
 
-abbrev pub invariant-loop-rest : goal.invariant-loop-rest
-invariant-loop-rest g l = record {
-  nested : Nested (length l.prefix.items) (reverse l.branches.items);
-  same : pairs_left g.K.ZeroTrieWithOptions.kind l.initial.prefix.items l.initial.rest.now l.initial.branches.items
-      ≡ pairs_left g.K.ZeroTrieWithOptions.kind l.prefix.items l.rest.now l.branches.items;
+abbrev pub invariant-loop-top : goal.invariant-loop-top
+invariant-loop-top g l = record {
+  lies : l.at.0.now ≡ take (length l.at.0.now) l.at.1.0.now;
+  stands : Stands (length l.key.items) l.top (reverse l.branches.items);
+  same : pairs_left g.K.ZeroTrieWithOptions.kind l.initial.key.items l.initial.here.rest.now (l.initial.top ∷ reverse l.initial.branches.items)
+      ≡ pairs_left g.K.ZeroTrieWithOptions.kind l.key.items l.at.0.now (l.top ∷ reverse l.branches.items);
 }
 
-abbrev pub decreases-loop-rest : goal.decreases-loop-rest
-decreases-loop-rest g l = work_left l.rest.now l.branches.items
+abbrev pub decreases-loop-top : goal.decreases-loop-top
+decreases-loop-top g l = work_left l.at.0.now (l.top ∷ reverse l.branches.items)

@@ -2,5 +2,5 @@ use Rattle.std.proofs.Common.{arith}
 use Rattle.zerotrie_core.proofs.NodeOfLemmas.{node_read}
 use Rattle.zerotrie_core.proofs.stream.node_at.Goals as goal
 
-pub returns : goal.returns
-returns g c = node_read g.K.ZeroTrieWithOptions.kind c.args.bytes.now c.first_node.result (λ i. omega (arith, c.type_inv.bytes i)) c.first_node.ensures.some c.first_node.ensures.none
+pub returns-clause-node : goal.returns-clause-node
+returns-clause-node g c = node_read g.K.ZeroTrieWithOptions.kind c.args.bytes.now c.first_node.result (λ i. omega (arith, c.type_inv.bytes i)) c.first_node.ensures.some c.first_node.ensures.none

@@ -3,7 +3,6 @@ use Rattle.std.specs.List.Sorted.{IsStrictlyIncreasing}
 use Rattle.zerotrie_base.specs.Refusals.{IsTableRefusal}
 use Rattle.zerotrie_core.specs.Kind.{is_hashed}
 use Rattle.zerotrie_core.specs.Causes.{AreCrooked, CouldNotSolvePerfectHash, OutOfMemory}
-use Rattle.zerotrie_build.specs.Items.{pairs}
 use Rattle.zerotrie_build.specs.declared.steps.Window.{Window}
 use Rattle.zerotrie_build.specs.passes.Windows.{edge_of}
 use Rattle.zerotrie_build.specs.passes.Measured.{Parts}
@@ -17,14 +16,14 @@ pub set_hashed-requires : goal.set_hashed-requires
 set_hashed-requires g c =
     let count : c.len-edges.result ≡ length c.set_sorted.new.self.windows.items = (let n = c.len-edges.ensures in let m = c.set_sorted.new.self.windows.ok in omega arith) in
     let k = branch_known c.requires.slots _ c.len-edges.result c.in_ok-set_sorted.ensures.parts count in
-    let es = map (edge_of (pairs c.args.plan.items)) c.set_sorted.new.self.windows.items in
+    let es = map (edge_of (g.I.IndexedItems.pairs c.args.items)) c.set_sorted.new.self.windows.items in
     let table : c.set_sorted.new.self.table.items ≡ es = c.in_ok-set_sorted.ensures.table in
     subst IsStrictlyIncreasing (sym table) (hashed_up g.K.ZeroTrieWithOptions.kind c.len-edges.result es (sym c.is_hashed.ensures ∙ c.if-is_hashed.true) k.3)
 
 pub returns-in_err-set_hashed-clause-refused : goal.returns-in_err-set_hashed-clause-refused
 returns-in_err-set_hashed-clause-refused g c =
     let kind = g.K.ZeroTrieWithOptions.kind in
-    let all = pairs c.args.plan.items in
+    let all = g.I.IndexedItems.pairs c.args.items in
     let ws = c.set_sorted.new.self.windows.items in
     let n = c.len-edges.result in
     let e = c.in_err-set_hashed.field-0.0 in
@@ -78,7 +77,7 @@ push_hashed-requires-clause-within g c =
     let n = c.len-edges.result in
     let count : n ≡ length ws = (let n = c.len-edges.ensures in let m = c.set_sorted.new.self.windows.ok in omega arith) in
     let k = branch_known c.requires.slots ws n c.in_ok-set_sorted.ensures.parts count in
-    let laid = branch_hashed_laid kind (pairs c.args.plan.items) ws _ _ _ (ap (is_hashed kind) (sym count) ∙ sym c.is_hashed.ensures ∙ c.if-is_hashed.true) k.3 c.in_ok-set_sorted.ensures.table c.in_ok-set_hashed.ensures.ok in
+    let laid = branch_hashed_laid kind (g.I.IndexedItems.pairs c.args.items) ws _ _ _ (ap (is_hashed kind) (sym count) ∙ sym c.is_hashed.ensures ∙ c.if-is_hashed.true) k.3 c.in_ok-set_sorted.ensures.table c.in_ok-set_hashed.ensures.ok in
     let long = ap length (c.as_slice.ensures.value ∙ c.in_ok-set_hashed.ensures.windows) in
     subst (λ x. (k d : ℕ) → k < length x → get_or x k d < length c.as_slice.result.now) (sym c.as_slice-then-is_hashed.ensures.value) (λ k d h. let w = numbers_within (length ws) _ laid.permutation k d h in omega arith)
 
@@ -91,7 +90,7 @@ overflow_add-slot-else-is_hashed g c =
 pub returns-in_ok-push_hashed-clause-laid : goal.returns-in_ok-push_hashed-clause-laid
 returns-in_ok-push_hashed-clause-laid g c =
     let kind = g.K.ZeroTrieWithOptions.kind in
-    let all = pairs c.args.plan.items in
+    let all = g.I.IndexedItems.pairs c.args.items in
     let ws = c.set_sorted.new.self.windows.items in
     let n = c.len-edges.result in
     let count : n ≡ length ws = (let n = c.len-edges.ensures in let m = c.set_sorted.new.self.windows.ok in omega arith) in
@@ -107,7 +106,7 @@ returns-in_ok-push_sorted-clause-laid g c =
     let n = c.len-edges.result in
     let count : n ≡ length ws = (let n = c.len-edges.ensures in let m = c.set_sorted.new.self.windows.ok in omega arith) in
     let k = branch_known c.requires.slots ws n c.in_ok-set_sorted.ensures.parts count in
-    branch_sorted_laid kind (pairs c.args.plan.items) ws _ _ (ap (is_hashed kind) (sym count) ∙ sym c.is_hashed.ensures ∙ c.if-is_hashed.false) k.3 c.in_ok-set_sorted.ensures.table c.in_ok-set_sorted.ensures.numbers
+    branch_sorted_laid kind (g.I.IndexedItems.pairs c.args.items) ws _ _ (ap (is_hashed kind) (sym count) ∙ sym c.is_hashed.ensures ∙ c.if-is_hashed.false) k.3 c.in_ok-set_sorted.ensures.table c.in_ok-set_sorted.ensures.numbers
 
 pub push_sorted-requires : goal.push_sorted-requires
 push_sorted-requires g c =

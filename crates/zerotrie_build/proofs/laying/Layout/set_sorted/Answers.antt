@@ -1,6 +1,5 @@
 use Rattle.std.proofs.Common.{[], ◌∷◌, ◌+◌, refl, subst, arith}
 use Rattle.std.proofs.lemmas.List.{append-nil}
-use Rattle.zerotrie_build.specs.Items.{pairs}
 use Rattle.zerotrie_build.specs.declared.steps.Window.{Window}
 use Rattle.zerotrie_build.specs.passes.Measured.{Parts}
 use Rattle.zerotrie_build.proofs.EndLemmas.{ordered_rest}
@@ -11,7 +10,7 @@ pub loop-rest-preserved : goal.loop-rest-preserved
 loop-rest-preserved g c =
     let v = c.loop-rest.invariant in
     let rest = c.loop-rest.rest in
-    let all = pairs c.args.items in
+    let all = g.I.IndexedItems.pairs c.args.items in
     let ws = c.loop-rest.self.windows.items in
     let ws' = c.push-in-loop-rest-2.new.self.items in
     let target : Window = record { from = rest.from; to = c.target_end.result; depth = rest.depth + 1 } in
@@ -32,5 +31,5 @@ loop-rest-preserved g c =
 pub returns-clause-parts : goal.returns-clause-parts
 returns-clause-parts g c =
     let v = c.loop-rest.invariant in
-    subst (Parts (pairs c.args.items) c.args.window) (append-nil c.loop-rest.self.windows.items)
+    subst (Parts (g.I.IndexedItems.pairs c.args.items) c.args.window) (append-nil c.loop-rest.self.windows.items)
     (v.parts [] (let o = v.order in let t = c.loop-rest-test.false in omega arith))

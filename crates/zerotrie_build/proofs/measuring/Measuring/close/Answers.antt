@@ -4,7 +4,6 @@ use Rattle.std.proofs.lemmas.Result.{err_from_is_err_and}
 use Rattle.zerotrie_core.specs.Kind.{greatest_width}
 use Rattle.zerotrie_core.specs.Branches.{total}
 use Rattle.zerotrie_core.specs.Canonical.{branch_size}
-use Rattle.zerotrie_build.specs.Items.{pairs}
 use Rattle.zerotrie_build.specs.declared.measuring.Open.{Open}
 use Rattle.zerotrie_build.specs.passes.Walking.{Waits, Closing, left_open}
 use Rattle.zerotrie_build.proofs.MeasureLemmas.{inner, inner_within, popped, waits_next, last, last_lens, last_count, last_closing, last_refused, all_closed, with_len_long}
@@ -17,26 +16,12 @@ index-from-requires g c =
     let w = inner_within i in
     let within = w.2 in let below = w.1 in search rules
 
-pub keep-requires-clause-order : goal.keep-requires-clause-order
-keep-requires-clause-order g c =
+pub keep-requires : goal.keep-requires
+keep-requires g c =
     let f = c.in-Some.branch in
     let i = inner f (reverse c.pop.new.self.items) c.loop-branch.invariant.closing (popped c.loop-branch.self.branches.items c.pop.new.self.items f c.in-Some.ensures.items) in
     let w = inner_within i in
-    w.0
-
-pub keep-requires-clause-some : goal.keep-requires-clause-some
-keep-requires-clause-some g c =
-    let f = c.in-Some.branch in
-    let i = inner f (reverse c.pop.new.self.items) c.loop-branch.invariant.closing (popped c.loop-branch.self.branches.items c.pop.new.self.items f c.in-Some.ensures.items) in
-    let w = inner_within i in
-    w.1
-
-pub keep-requires-clause-within : goal.keep-requires-clause-within
-keep-requires-clause-within g c =
-    let f = c.in-Some.branch in
-    let i = inner f (reverse c.pop.new.self.items) c.loop-branch.invariant.closing (popped c.loop-branch.self.branches.items c.pop.new.self.items f c.in-Some.ensures.items) in
-    let w = inner_within i in
-    w.2
+    λ k. ((refl, tt), (w.0, (w.1, w.2)))
 
 pub overflow_add-branch : goal.overflow_add-branch
 overflow_add-branch g c =
@@ -45,20 +30,14 @@ overflow_add-branch g c =
     let w = inner_within i in
     let within = w.2 in let below = w.1 in record { fits = search rules }
 
-pub target_of-requires-clause-slot : goal.target_of-requires-clause-slot
-target_of-requires-clause-slot g c =
+pub target_of-requires : goal.target_of-requires
+target_of-requires g c =
     let f = c.in-Some.branch in
     let i = inner f (reverse c.pop.new.self.items) c.loop-branch.invariant.closing (popped c.loop-branch.self.branches.items c.pop.new.self.items f c.in-Some.ensures.items) in
     let w = inner_within i in
     let long : length c.keep.new.self.slots.items ≡ length c.loop-branch.self.slots.items = ap length c.keep.ensures.slots ∙ with_len_long _ f c.loop-branch.len c.loop-branch.self.slots.items in
-    let t = c.if-branch.true in let within = w.2 in omega arith
-
-pub target_of-requires-clause-room : goal.target_of-requires-clause-room
-target_of-requires-clause-room g c =
-    let f = c.in-Some.branch in
-    let i = inner f (reverse c.pop.new.self.items) c.loop-branch.invariant.closing (popped c.loop-branch.self.branches.items c.pop.new.self.items f c.in-Some.ensures.items) in
-    let w = inner_within i in
-    i.counting.room
+    let t = c.if-branch.true in let within = w.2 in
+    λ k. ((refl, tt), (omega arith, i.counting.room))
 
 pub returns-then-branch-clause-turn : goal.returns-then-branch-clause-turn
 returns-then-branch-clause-turn g c =
@@ -69,8 +48,8 @@ returns-then-branch-clause-turn g c =
     let slots = c.keep.new.self.slots.items in
     let back : reverse c.push.new.self.items ≡ next ∷ reverse c.pop.new.self.items =
     ap reverse c.in_ok-push.ensures.items ∙ reverse-append c.keep.new.self.branches.items (next ∷ []) ∙ ap (λ x. next ∷ reverse x) c.keep.ensures.branches in
-    subst (λ x. Waits g.K.ZeroTrieWithOptions.kind (pairs c.args.self.now.items) c.target_of.result x slots) (sym back)
-    (subst (λ w. Waits g.K.ZeroTrieWithOptions.kind (pairs c.args.self.now.items) w (next ∷ reverse c.pop.new.self.items) slots) (sym c.target_of.ensures)
+    subst (λ x. Waits g.K.ZeroTrieWithOptions.kind (g.I.IndexedItems.pairs c.args.self.now.items) c.target_of.result x slots) (sym back)
+    (subst (λ w. Waits g.K.ZeroTrieWithOptions.kind (g.I.IndexedItems.pairs c.args.self.now.items) w (next ∷ reverse c.pop.new.self.items) slots) (sym c.target_of.ensures)
     (waits_next i slots c.index-from.result.now c.keep.ensures.slots (let within = w.2 in let below = w.1 in get_or_read c.loop-branch.self.slots.items f.next c.index-from.result.now (omega arith) (search rules) 0) c.if-branch.true next refl))
 
 pub offset_bounds-deref-branch : goal.offset_bounds-deref-branch
@@ -151,7 +130,7 @@ loop-branch-preserved g c =
     let v = c.loop-branch.invariant in
     let less = v.fewer in
     record {
-      closing = subst (λ x. Closing g.K.ZeroTrieWithOptions.kind (pairs c.args.self.now.items) (reverse x) slots c.in_ok-len.len) (sym c.keep.ensures.branches)
+      closing = subst (λ x. Closing g.K.ZeroTrieWithOptions.kind (g.I.IndexedItems.pairs c.args.self.now.items) (reverse x) slots c.in_ok-len.len) (sym c.keep.ensures.branches)
           (last_closing i slots l c.in_ok-len.len keys (subst (λ x. c.in_ok-len.len ≡ f.len + (branch_size g.K.ZeroTrieWithOptions.kind x + total x)) lens c.in_ok-len.ensures.len)
           (subst (λ x. total x < 256 ^ (greatest_width g.K.ZeroTrieWithOptions.kind + 1)) lens c.in_ok-len.ensures.narrow));
       items = c.keep.ensures.items ∙ v.items;

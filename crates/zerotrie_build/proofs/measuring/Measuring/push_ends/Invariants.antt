@@ -1,5 +1,4 @@
 use Rattle.std.proofs.Common.{◌≡◌, List, ◌-◌, ◌≤◌, ◌++◌}
-use Rattle.zerotrie_build.specs.Items.{pairs}
 use Rattle.zerotrie_build.specs.declared.steps.Window.{Window}
 use Rattle.zerotrie_build.specs.Order.{Ordered}
 use Rattle.zerotrie_build.specs.passes.Windows.{window}
@@ -13,11 +12,11 @@ invariant-loop-rest g l = record {
   branches : l.self.branches.items ≡ l.initial.self.branches.items;
   added : List Window;
   slots : l.self.slots.items ≡ l.initial.self.slots.items ++ tos added;
-  parts : (more : List Window) → Parts (pairs l.initial.self.items) l.rest more → Parts (pairs l.initial.self.items) l.fn.window (added ++ more);
+  parts : (more : List Window) → Parts (g.I.IndexedItems.pairs l.initial.self.items) l.rest more → Parts (g.I.IndexedItems.pairs l.initial.self.items) l.fn.window (added ++ more);
   order : l.rest.from ≤ l.fn.window.to;
   to : l.rest.to ≡ l.fn.window.to;
   depth : l.rest.depth ≡ l.fn.window.depth;
-  ordered : Ordered g.K.ZeroTrieWithOptions.kind (window (pairs l.initial.self.items) l.rest);
+  ordered : Ordered g.K.ZeroTrieWithOptions.kind (window (g.I.IndexedItems.pairs l.initial.self.items) l.rest);
 }
 
 abbrev pub decreases-loop-rest : goal.decreases-loop-rest

@@ -1,5 +1,4 @@
 use Rattle.std.proofs.Common.{◌+◌, refl, [], length}
-use Rattle.zerotrie_build.specs.Items.{pairs}
 use Rattle.zerotrie_build.proofs.RunLemmas.{lone_end}
 use Rattle.zerotrie_build.proofs.FrontLemmas.{going_start, going_lone, open_bytes, room_lone}
 use Rattle.zerotrie_build.proofs.SlotLemmas.{opened}
@@ -14,7 +13,7 @@ put_lone-requires g c =
 pub returns-clause-put : goal.returns-clause-put
 returns-clause-put g c =
     let kind = g.K.ZeroTrieWithOptions.kind in
-    let all = pairs c.args.plan.items in
+    let all = g.I.IndexedItems.pairs c.args.items in
     let w = c.args.window in
     let k = opened c.requires.kept.1 in
     let o = k.known in

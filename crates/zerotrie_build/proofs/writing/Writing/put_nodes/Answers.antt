@@ -1,7 +1,6 @@
 use Rattle.std.proofs.Common.{◌≡◌, rules, refl, [], ◌++◌, reverse, ap, sym, ◌∙◌, arith, length, length-append, length-drop, take, drop, ◌-◌}
 use Rattle.std.proofs.lemmas.List.{length-take-le}
 use Rattle.zerotrie_core.specs.Numbers.{span_form, spelled_as}
-use Rattle.zerotrie_build.specs.Items.{pairs}
 use Rattle.zerotrie_build.specs.passes.Windows.{item_of}
 use Rattle.zerotrie_build.specs.passes.Writing.{next_of}
 use Rattle.zerotrie_build.proofs.RunLemmas.{literal_low}
@@ -37,32 +36,27 @@ literals_end-end-requires g c =
     let step = sym c.first_step.ensures.is ∙ c.in-Literal.is in
     let to = v.2.to_is in
     let within = o.within in
-    let l = literal_low g.K.ZeroTrieWithOptions.kind (pairs c.args.plan.items) c.loop-value.rest c.in-Literal.field-0 (omega arith) c.requires.keys step in
-    record { some = l.0; items = omega arith; literal = l.1 }
+    let l = literal_low g.K.ZeroTrieWithOptions.kind (g.I.IndexedItems.pairs c.args.items) c.loop-value.rest c.in-Literal.field-0 (omega arith) c.requires.keys step in
+    λ k. ((refl, tt), (l.0, (omega arith, l.1)))
 
-pub put_literals-requires-clause-item : goal.put_literals-requires-clause-item
-put_literals-requires-clause-item g c =
+pub put_literals-requires : goal.put_literals-requires
+put_literals-requires g c =
     let v = c.loop-value.invariant in
     let o = v.1.known in
     let step = sym c.first_step.ensures.is ∙ c.in-Literal.is in
     let to = v.2.to_is in
     let within = o.within in
-    let l = literal_low g.K.ZeroTrieWithOptions.kind (pairs c.args.plan.items) c.loop-value.rest c.in-Literal.field-0 (omega arith) c.requires.keys step in
-    omega (arith, l.0)
+    let l = literal_low g.K.ZeroTrieWithOptions.kind (g.I.IndexedItems.pairs c.args.items) c.loop-value.rest c.in-Literal.field-0 (omega arith) c.requires.keys step in
+    let e = c.literals_end-end.ensures in
+    let room = room_literals c.in-Literal.field-0 c.literals_end-end.result _ v.2 o.stops o.within c.requires.keys step e.past e.low (open_bytes o) c.requires.room in
+    λ k. ((refl, tt), (omega (arith, l.0), (omega (arith, e.past), (e.within, room))))
 
-pub put_literals-requires-clause-room : goal.put_literals-requires-clause-room
-put_literals-requires-clause-room g c =
+pub put_span-requires : goal.put_span-requires
+put_span-requires g c =
     let v = c.loop-value.invariant in
     let o = v.1.known in
-    let step = sym c.first_step.ensures.is ∙ c.in-Literal.is in
-    let e = c.literals_end-end.ensures in
-    room_literals c.in-Literal.field-0 c.literals_end-end.result _ v.2 o.stops o.within c.requires.keys step e.past e.low (open_bytes o) c.requires.room
-
-pub put_span-requires-clause-run : goal.put_span-requires-clause-run
-put_span-requires-clause-run g c = let v = c.loop-value.invariant in (span_within c.in-Span.count v.2 v.1.known.within c.requires.keys (sym c.first_step.ensures.is ∙ c.in-Span.is)).1
-
-pub put_span-requires-clause-room : goal.put_span-requires-clause-room
-put_span-requires-clause-room g c = let v = c.loop-value.invariant in let o = v.1.known in room_span c.in-Span.count _ v.2 o.stops (sym c.first_step.ensures.is ∙ c.in-Span.is) (open_bytes o) c.requires.room
+    let s = span_within c.in-Span.count v.2 o.within c.requires.keys (sym c.first_step.ensures.is ∙ c.in-Span.is) in
+    λ k. ((refl, tt), (s.0, (s.1, room_span c.in-Span.count _ v.2 o.stops (sym c.first_step.ensures.is ∙ c.in-Span.is) (open_bytes o) c.requires.room)))
 
 pub loop-value-preserved : goal.loop-value-preserved
 loop-value-preserved g c =
@@ -79,7 +73,7 @@ loop-value-smaller-in-Literal g c =
     let past = e.past in
     let within = e.within in
     let r = room_literals c.in-Literal.field-0 c.literals_end-end.result _ v.2 o.stops o.within c.requires.keys step e.past e.low (open_bytes o) c.requires.room in
-    let key = (item_of (pairs c.args.plan.items) c.loop-value.rest.from).0 in
+    let key = (item_of (g.I.IndexedItems.pairs c.args.items) c.loop-value.rest.from).0 in
     let d = c.loop-value.rest.depth in
     let n = length-take-le (c.literals_end-end.result - d) (drop d key) (let l = length-drop d key in omega arith) in
     let a = c.put_literals.ensures.at_is in let l = c.put_literals.ensures.same in omega arith
@@ -99,22 +93,21 @@ loop-value-smaller g c =
     let r = room_span c.in-Span.count _ v.2 o.stops (sym c.first_step.ensures.is ∙ c.in-Span.is) (open_bytes o) c.requires.room in
     let p = c.put_span.ensures.puts in let a = p.at_is in let l = p.same in
     let some = ap length c.put_span.ensures.spells.bytes_are in
-    let n = length-append (spelled_as span_form c.in-Span.count) (take c.in-Span.count (drop c.loop-value.rest.depth (item_of (pairs c.args.plan.items) c.loop-value.rest.from).0)) in
+    let n = length-append (spelled_as span_form c.in-Span.count) (take c.in-Span.count (drop c.loop-value.rest.depth (item_of (g.I.IndexedItems.pairs c.args.items) c.loop-value.rest.from).0)) in
     omega arith
 
 pub returns-in-End-clause-put : goal.returns-in-End-clause-put
 returns-in-End-clause-put g c = let v = c.loop-value.invariant in ([], ap reverse v.3, front_end v.1 v.2 (sym c.first_step.ensures.is ∙ c.in-End.is) [] refl)
 
-pub set-requires-clause-ordered : goal.set-requires-clause-ordered
-set-requires-clause-ordered g c = let v = c.loop-value.invariant in v.2.ordered
-
-pub set-requires-clause-slots : goal.set-requires-clause-slots
-set-requires-clause-slots g c = let v = c.loop-value.invariant in branch_slots v.1 v.2 (sym c.first_step.ensures.is ∙ c.in-Branch.is)
+pub set-requires : goal.set-requires
+set-requires g c =
+    let v = c.loop-value.invariant in
+    λ k. ((refl, tt), (search rules, (search rules, (search rules, (v.2.ordered, branch_slots v.1 v.2 (sym c.first_step.ensures.is ∙ c.in-Branch.is))))))
 
 pub returns-in_err-set-in-Branch-clause-refused : goal.returns-in_err-set-in-Branch-clause-refused
 returns-in_err-set-in-Branch-clause-refused g c =
     let kind = g.K.ZeroTrieWithOptions.kind in
-    let all = pairs c.args.plan.items in
+    let all = g.I.IndexedItems.pairs c.args.items in
     let v = c.loop-value.invariant in
     let k = v.1 in
     let step = sym c.first_step.ensures.is ∙ c.in-Branch.is in

@@ -3,7 +3,6 @@ use Rattle.std.proofs.lemmas.List.{length-take-le}
 use Rattle.std.proofs.lemmas.Option.{get_or_from_slice_get}
 use Rattle.zerotrie_core.specs.Numbers.{span_form, spelled_as}
 use Rattle.zerotrie_core.proofs.CallerLemmas.{spells_spelled}
-use Rattle.zerotrie_build.specs.Items.{pairs}
 use Rattle.zerotrie_build.proofs.PutLemmas.{puts_same, puts_then}
 use Rattle.zerotrie_build.proofs.writing.Writing.put_span.Goals as goal
 
@@ -11,7 +10,7 @@ pub put_all-requires : goal.put_all-requires
 put_all-requires g c =
     let key = c.get.result.0.now in
     let d = c.args.window.depth in
-    let is = ap (λ e. length e.0) (get_or_from_slice_get (pairs c.args.items) c.args.window.from (key, c.get.result.1) ([], 0) c.get.ensures) in
+    let is = ap (λ e. length e.0) (get_or_from_slice_get (g.I.IndexedItems.pairs c.args.items) c.args.window.from (key, c.get.result.1) ([], 0) c.get.ensures) in
     let long = length-drop d key in
     let run : (d + c.args.run) - d ≡ c.args.run = omega arith in
     let within = c.requires.run in
@@ -24,7 +23,7 @@ pub returns-clause-puts : goal.returns-clause-puts
 returns-clause-puts g c =
     let key = c.get.result.0.now in
     let d = c.args.window.depth in
-    let is = get_or_from_slice_get (pairs c.args.items) c.args.window.from (key, c.get.result.1) ([], 0) c.get.ensures in
+    let is = get_or_from_slice_get (g.I.IndexedItems.pairs c.args.items) c.args.window.from (key, c.get.result.1) ([], 0) c.get.ensures in
     let run : (d + c.args.run) - d ≡ c.args.run = omega arith in
     puts_same _ _ _ _ _ _ (ap (λ n. spelled_as span_form c.args.run ++ take n (drop d key)) run ∙ ap (λ e. spelled_as span_form c.args.run ++ take c.args.run (drop d e.0)) (sym is))
     (puts_then _ _ _ _ _ _ _ _ c.put_number.ensures c.put_all.ensures)

@@ -1,11 +1,9 @@
-use Rattle.std.proofs.Common.{◌≡◌, ◌∙◌, ap, sym, subst, arith, drop, [], Some}
-use Rattle.std.proofs.lemmas.List.{drop_more, nil_from_length}
+use Rattle.std.proofs.Common.{◌∙◌, ap, arith, []}
+use Rattle.std.proofs.lemmas.List.{drop_more}
 use Rattle.std.proofs.lemmas.Result.{IfOk-weaker}
-use Rattle.std.proofs.Math.ListN.{drop_of_length-le}
 use Rattle.zerotrie_core.specs.Listings.{to_come}
-use Rattle.zerotrie_core.specs.Maps.{with_run, beginning}
 use Rattle.zerotrie_core.specs.Texts.Lists.{nothing}
-use Rattle.zerotrie_core.proofs.PrefixLemmas.{Stepped, starts, goes_on, stops, all_stepped}
+use Rattle.zerotrie_core.proofs.PrefixLemmas.{starts, goes_on, stops, all_stepped}
 use Rattle.zerotrie_core.proofs.stream.ZeroTrieStream.with_prefix.Goals as goal
 
 pub loop-byte-init : goal.loop-byte-init

@@ -1,0 +1,111 @@
+//! What is measured, as tables on standard output and as points of a chart. Standard error tells how far it is.
+
+use std::hint::black_box;
+use std::time::Instant;
+
+pub type Work<'a> = Box<dyn FnMut() -> usize + 'a>;
+/// Who takes part, with the work of a round.
+pub type Contestants<'a> = Vec<(&'static str, Work<'a>)>;
+
+/// How long a round of each takes for one of so many items, in nanoseconds, at best of so many rounds. The contestants take
+/// turns, so that what disturbs the machine disturbs all of them.
+pub fn best(rounds: usize, items: usize, contestants: &mut Contestants<'_>) -> Vec<(&'static str, f64)> {
+    let mut times: Vec<_> = contestants.iter().map(|(name, _)| (*name, f64::INFINITY)).collect();
+    for round in 0..rounds + 1 {
+        for (number, (_, work)) in contestants.iter_mut().enumerate() {
+            let start = Instant::now();
+            black_box(work());
+            let taken = start.elapsed().as_nanos() as f64 / items as f64;
+            if round > 0 {
+                times[number].1 = times[number].1.min(taken);
+            }
+        }
+    }
+    times
+}
+
+/// A row: its name, and what was measured of each contestant, the first of which is ours.
+pub struct Row {
+    pub name: String,
+    pub values: Vec<(&'static str, f64)>,
+}
+
+impl Row {
+    fn value(&self, column: &str) -> Option<f64> {
+        self.values.iter().find(|(name, _)| *name == column).map(|(_, value)| *value)
+    }
+
+    /// Our share of each other contestant's value.
+    pub fn shares(&self) -> Vec<(&'static str, f64)> {
+        let ours = self.values.first().map_or(0.0, |(_, value)| *value);
+        self.values.iter().skip(1).map(|(name, value)| (*name, ours / value)).collect()
+    }
+}
+
+/// A table in Markdown, whose title says what its numbers are.
+pub struct Table {
+    pub title: String,
+    pub rows: Vec<Row>,
+    has_shares: bool,
+}
+
+fn number(value: f64) -> String {
+    match value {
+        v if v < 10.0 => format!("{v:.2}"),
+        v if v < 100.0 => format!("{v:.1}"),
+        v => format!("{v:.0}"),
+    }
+}
+
+impl Table {
+    /// A table whose first column is ours, and the others have our share behind their own number.
+    pub fn of_shares(title: &str) -> Table {
+        Table { title: String::from(title), rows: Vec::new(), has_shares: true }
+    }
+
+    pub fn plain(title: &str) -> Table {
+        Table { title: String::from(title), rows: Vec::new(), has_shares: false }
+    }
+
+    pub fn add(&mut self, name: String, values: Vec<(&'static str, f64)>) {
+        let told: Vec<String> = values.iter().map(|(name, value)| format!("{name} {}", number(*value))).collect();
+        eprintln!("{}: {name}: {}", self.title, told.join(", "));
+        self.rows.push(Row { name, values });
+    }
+
+    /// Measures a row.
+    pub fn measure(&mut self, name: String, rounds: usize, items: usize, mut contestants: Contestants<'_>) {
+        let values = best(rounds, items, &mut contestants);
+        self.add(name, values);
+    }
+
+    fn columns(&self) -> Vec<&'static str> {
+        let mut columns = Vec::new();
+        for (name, _) in self.rows.iter().flat_map(|row| &row.values) {
+            if !columns.contains(name) {
+                columns.push(*name);
+            }
+        }
+        columns
+    }
+
+    fn cell(&self, row: &Row, column: &str, place: usize) -> String {
+        let Some(value) = row.value(column) else { return String::from("–") };
+        match row.values.first() {
+            Some((_, ours)) if self.has_shares && place > 0 => format!("{} ({:.2})", number(value), ours / value),
+            _ => number(value),
+        }
+    }
+
+    pub fn print(&self) {
+        if self.rows.is_empty() {
+            return;
+        }
+        let columns = self.columns();
+        println!("\n| {} | {} |\n|---|{}", self.title, columns.join(" | "), "--:|".repeat(columns.len()));
+        for row in &self.rows {
+            let cells: Vec<String> = columns.iter().enumerate().map(|(place, column)| self.cell(row, column, place)).collect();
+            println!("| {} | {} |", row.name, cells.join(" | "));
+        }
+    }
+}

@@ -1,0 +1,14 @@
+-- Bytes at the front and at the end of others, and runs of literals.
+use Rattle.std.specs.Prelude.{◌≡◌, ℕ, ◌<◌, List, ◌++◌, length, slice_index}
+
+-- the bytes end with these
+abbrev pub EndsWith : List ℕ → List ℕ → Type 0
+EndsWith bytes after = (front : List ℕ) × (bytes ≡ front ++ after)
+
+-- Literals went from the rest to the end of the key.
+pub record MovesLiterals (rest key rest' key' : List ℕ) : Type 0 where
+  pub run : List ℕ
+  pub some : 0 < length run
+  pub literal : (k : ℕ) → k < length run → slice_index run k < 128
+  pub rest_is : rest ≡ run ++ rest'
+  pub key_is : key' ≡ key ++ run

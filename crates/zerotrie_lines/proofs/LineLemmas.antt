@@ -1,0 +1,93 @@
+-- The first line of an input, and places of bytes.
+use Rattle.std.proofs.Common.{◌≡◌, ℕ, ◌+◌, ◌-◌, ◌<◌, zero, suc, List, [], ◌∷◌, ◌++◌, length, take, drop, get_or, refl, sym, ◌∙◌, ap, arith, Bool, true, false, eq-eqb, map, append_assoc}
+use Rattle.std.specs.Borrow.{Bor}
+use Rattle.std.proofs.lemmas.Bool.{eqb-true, eqb-false}
+use Rattle.std.specs.Prelude.{◌≢◌, ◌==◌}
+use Rattle.std.specs.List.{before_first, after_first, position_or_len}
+use Rattle.std.proofs.lemmas.List.{take_all, length-drop}
+use Rattle.memchr.specs.Find.{Nowhere, Passes, is_byte}
+use Rattle.zerotrie_lines.specs.Lines.{is_feed, onto_line, lines_of}
+
+not_true : (b : Bool) → (b ≡ true → ⊥) → b ≡ false
+not_true true h = absurd (h refl)
+not_true false h = refl
+
+add_one : (n : ℕ) → 1 + n ≡ suc n
+add_one n = omega arith
+
+-- the first place that passes
+pub place_is : (test : ℕ → Bool) (hay : List ℕ) (k : ℕ) → k < length hay → Nowhere (Passes test hay) 0 k → Passes test hay k → position_or_len test hay ≡ k
+place_is test [] k l none here = absurd (omega arith)
+place_is test (b ∷ hay) zero l none here = rw here refl
+place_is test (b ∷ hay) (suc k) l none here =
+    let first : test b ≡ false = not_true (test b) (none 0 (omega arith) (omega arith)) in
+    rw first (ap (λ n. 1 + n) (place_is test hay k (omega arith) (λ j low high. none (suc j) (omega arith) (omega arith)) here) ∙ add_one k)
+
+pub no_place : (test : ℕ → Bool) (hay : List ℕ) → Nowhere (Passes test hay) 0 (length hay) → position_or_len test hay ≡ length hay
+no_place test [] none = refl
+no_place test (b ∷ hay) none =
+    let first : test b ≡ false = not_true (test b) (none 0 (omega arith) (omega arith)) in
+    rw first (ap (λ n. 1 + n) (no_place test hay (λ j low high. none (suc j) (omega arith) (omega arith))) ∙ add_one (length hay))
+
+-- no byte from 0 on passes the test that it is a
+pub none_is : (a : ℕ) (hay : List ℕ) → Nowhere (Passes (is_byte a) hay) 0 (length hay) → (k : ℕ) → k < length hay → get_or hay k 0 ≢ a
+none_is a hay none k l is = none k (omega arith) l (ap (λ b. b == a) is ∙ same a)
+  where
+    same : (a : ℕ) → (a == a) ≡ true
+    same a = eq-eqb a a refl
+
+take_next : (b n : ℕ) (xs : List ℕ) → take (1 + n) (b ∷ xs) ≡ b ∷ take n xs
+take_next b n xs = rw (add_one n) refl
+
+drop_next : (b n : ℕ) (xs : List ℕ) → drop (1 + n + 1) (b ∷ xs) ≡ drop (n + 1) xs
+drop_next b n xs = let e : 1 + n + 1 ≡ suc (n + 1) = omega arith in rw e refl
+
+by_first : (b : ℕ) (input : List ℕ) → onto_line b (lines_of input) ≡ (b ∷ before_first is_feed input) ∷ lines_of (after_first is_feed input)
+    → (t : Bool) → is_feed b ≡ t → lines_of (b ∷ input) ≡ before_first is_feed (b ∷ input) ∷ lines_of (after_first is_feed (b ∷ input))
+by_first b input onward true is = rw is refl
+by_first b input onward false is = rw (is, take_next b (position_or_len is_feed input) input, drop_next b (position_or_len is_feed input) input) onward
+
+-- what is not empty begins with a line
+pub first_line : (input : List ℕ) → input ≢ [] → lines_of input ≡ before_first is_feed input ∷ lines_of (after_first is_feed input)
+first_line [] some = absurd (some refl)
+first_line (b ∷ []) some = by_first b [] refl (is_feed b) refl
+first_line (b ∷ c ∷ more) some = by_first b (c ∷ more) (ap (onto_line b) (first_line (c ∷ more) (λ e. absurd (cc)))) (is_feed b) refl
+
+pub first_lines : (rest line after : List ℕ) → rest ≢ [] → line ≡ before_first is_feed rest → after ≡ after_first is_feed rest → lines_of rest ≡ line ∷ lines_of after
+first_lines rest line after some is are = rw (is, are) (first_line rest some)
+
+pub is_nil : (xs : List ℕ) → true ≡ (length xs == 0) → xs ≡ []
+is_nil [] h = refl
+is_nil (x ∷ xs) h = absurd (let n : length (x ∷ xs) ≡ 0 = eqb-true (length (x ∷ xs)) 0 (sym h) in omega arith)
+
+pub not_nil : (xs : List ℕ) → false ≡ (length xs == 0) → xs ≢ []
+not_nil xs h e = eqb-false (length xs) 0 (sym h) (ap length e)
+
+-- what stands before the first place that passes, and what stands behind it
+pub front_is : (test : ℕ → Bool) (hay : List ℕ) (k : ℕ) → k < length hay → Nowhere (Passes test hay) 0 k → Passes test hay k → take k hay ≡ before_first test hay
+front_is test hay k l none here = ap (λ n. take n hay) (sym (place_is test hay k l none here))
+
+pub behind_is : (test : ℕ → Bool) (hay : List ℕ) (k : ℕ) → k < length hay → Nowhere (Passes test hay) 0 k → Passes test hay k
+    → take (length hay - (k + 1)) (drop (k + 1) hay) ≡ after_first test hay
+behind_is test hay k l none here =
+    take_all (length hay - (k + 1)) (drop (k + 1) hay) (omega (arith, length-drop (k + 1) hay))
+    ∙ ap (λ n. drop (n + 1) hay) (sym (place_is test hay k l none here))
+
+texts_push : (lines : List (Bor (List ℕ))) (line : Bor (List ℕ)) → map {B = List ℕ} (λ l. l.now) (lines ++ line ∷ []) ≡ map {B = List ℕ} (λ l. l.now) lines ++ line.now ∷ []
+texts_push [] line = refl
+texts_push (l ∷ lines) line = ap (λ t. l.now ∷ t) (texts_push lines line)
+
+-- one line more
+pub read_on : (all : List (List ℕ)) (done : List (Bor (List ℕ))) (rest after : List ℕ) (line : Bor (List ℕ)) → map {B = List ℕ} (λ l. l.now) done ++ lines_of rest ≡ all → rest ≢ []
+    → line.now ≡ before_first is_feed rest → after ≡ after_first is_feed rest → map {B = List ℕ} (λ l. l.now) (done ++ line ∷ []) ++ lines_of after ≡ all
+read_on all done rest after line old some is are =
+    ap (λ t. t ++ lines_of after) (texts_push done line) ∙ append_assoc (map {B = List ℕ} (λ l. l.now) done) (line.now ∷ []) (lines_of after)
+    ∙ ap (λ t. map {B = List ℕ} (λ l. l.now) done ++ t) (sym (first_lines rest line.now after some is are)) ∙ old
+
+pub after_shorter : (input : List ℕ) → input ≢ [] → length (after_first is_feed input) < length input
+after_shorter [] some = absurd (some refl)
+after_shorter (b ∷ input) some = omega (arith, length-drop (position_or_len is_feed (b ∷ input) + 1) (b ∷ input))
+
+pub nil_of_length : (xs : List ℕ) → length xs ≡ 0 → xs ≡ []
+nil_of_length [] l = refl
+nil_of_length (b ∷ xs) l = absurd (omega (arith, l))

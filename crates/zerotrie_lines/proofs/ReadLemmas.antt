@@ -1,0 +1,42 @@
+-- Lines that are read one after another.
+use Rattle.std.proofs.Common.{◌≡◌, ℕ, ◌+◌, inl, inr, List, [], ◌∷◌, ◌++◌, refl, sym, subst, append_assoc}
+use Rattle.std.proofs.lemmas.List.{append-nil}
+use Rattle.zerotrie_lines.specs.Tables.{Pair, Pairs}
+use Rattle.zerotrie_lines.specs.Lines.{IsPairLine}
+use Rattle.zerotrie_lines.specs.Reads.{IsPairIn, ReadsLines, IsBadLine, IsLineFault}
+use Rattle.zerotrie_lines.specs.declared.reading.Format.{Format}
+use Rattle.zerotrie_lines.specs.declared.fault.BadLine.{BadLine}
+
+-- The lines are the pairs so far, and then what the rest is, from line n on.
+pub record ReadTo (format : Format) (all : List (List ℕ)) (pairs : Pairs) (n : ℕ) (rest : List (List ℕ)) : Type 0 where
+  pub join : (more : Pairs) → ReadsLines format n rest more → ReadsLines format 1 all (pairs ++ more)
+
+-- A line of the rest that is none is one of all lines.
+pub record GoodTo (all : List (List ℕ)) (n : ℕ) (rest : List (List ℕ)) : Type 0 where
+  pub bad : (m : ℕ) (fault : BadLine) → IsBadLine n rest m fault → IsBadLine 1 all m fault
+
+pub read_none : (format : Format) (all : List (List ℕ)) → ReadTo format all [] 1 all
+read_none format all = record { join = λ more h. h }
+
+pub good_none : (all : List (List ℕ)) → GoodTo all 1 all
+good_none all = record { bad = λ m fault h. h }
+
+pub read_more : (format : Format) (all rest after : List (List ℕ)) (pairs : Pairs) (n : ℕ) (line : List ℕ) (e : Pair) → ReadTo format all pairs n rest
+    → rest ≡ line ∷ after → IsPairIn format n line e → ReadTo format all (pairs ++ e ∷ []) (n + 1) after
+read_more format all rest after pairs n line e r is pair = record {
+  join = λ more h. subst (λ p. ReadsLines format 1 all p) (sym (append_assoc pairs (e ∷ []) more))
+      (r.join (e ∷ more) (subst (λ lines. ReadsLines format n lines (e ∷ more)) (sym is) (pair, h)));
+}
+
+pub good_more : (all rest after : List (List ℕ)) (n : ℕ) (line : List ℕ) (e : Pair) → GoodTo all n rest
+    → rest ≡ line ∷ after → IsPairLine line e → GoodTo all (n + 1) after
+good_more all rest after n line e r is pair = record {
+  bad = λ m fault h. r.bad m fault (subst (λ lines. IsBadLine n lines m fault) (sym is) (inr (e, pair, h)));
+}
+
+pub read_all : (format : Format) (all rest : List (List ℕ)) (pairs : Pairs) (n : ℕ) → ReadTo format all pairs n rest → rest ≡ [] → ReadsLines format 1 all pairs
+read_all format all rest pairs n r none = subst (λ p. ReadsLines format 1 all p) (append-nil pairs) (r.join [] (subst (λ lines. ReadsLines format n lines []) (sym none) tt))
+
+pub read_bad : (all rest after : List (List ℕ)) (n : ℕ) (line : List ℕ) (fault : BadLine) → GoodTo all n rest
+    → rest ≡ line ∷ after → IsLineFault line fault → IsBadLine 1 all n fault
+read_bad all rest after n line fault r is h = r.bad n fault (subst (λ lines. IsBadLine n lines n fault) (sym is) (inl (refl, h)))

@@ -1,0 +1,7 @@
+pub mod Numbers
+pub mod Tables
+pub mod Escapes
+pub mod Lines
+pub mod Records
+pub mod Reads
+pub mod Laws

@@ -1,0 +1,64 @@
+-- Which pairs an input is, and which line of it is none, and why.
+use Rattle.std.specs.Prelude.{◌≡◌, ◌≢◌, ℕ, ◌+◌, ◌⊎◌, List, [], ◌∷◌, ◌++◌, length}
+use Rattle.std.specs.List.{before_first, after_first}
+use Rattle.zerotrie_lines.specs.Numbers.{IsNumber}
+use Rattle.zerotrie_lines.specs.Escapes.{Spells}
+use Rattle.zerotrie_lines.specs.Tables.{Pair, Pairs}
+use Rattle.zerotrie_lines.specs.Lines.{is_tab, lines_of, HasTab, IsPairLine}
+use Rattle.zerotrie_lines.specs.Records.{Fields, ArePairRecords, AreRowsOf, AreFirstRowsOf}
+use Rattle.zerotrie_lines.specs.declared.reading.Format.{Format}
+use Rattle.zerotrie_lines.specs.declared.reading.Format.TheVariants.{Lines, Tsv, Csv}
+use Rattle.zerotrie_lines.specs.declared.fault.BadLine.{BadLine}
+use Rattle.zerotrie_lines.specs.declared.fault.BadLine.TheVariants as bad
+use Rattle.zerotrie_lines.specs.declared.fault.ReadError.{ReadError}
+use Rattle.zerotrie_lines.specs.declared.fault.ReadError.TheVariants.{Line, OutOfMemory}
+
+-- line number n is the pair
+abbrev pub IsPairIn : Format → ℕ → List ℕ → Pair → Type 0
+IsPairIn Lines n line e = e ≡ (line, n)
+IsPairIn Tsv n line e = IsPairLine line e
+IsPairIn Csv n line e = ⊥
+
+-- lines, the first of them with number n, are the pairs, one each
+abbrev pub ReadsLines : Format → ℕ → List (List ℕ) → Pairs → Type 0
+ReadsLines format n [] [] = Unit {0}
+ReadsLines format n [] (e ∷ pairs) = ⊥
+ReadsLines format n (line ∷ lines) [] = ⊥
+ReadsLines format n (line ∷ lines) (e ∷ pairs) = IsPairIn format n line e × ReadsLines format (n + 1) lines pairs
+
+-- the input is the pairs, in their order
+abbrev pub Reads : Format → List ℕ → Pairs → Type 0
+Reads Lines input pairs = ReadsLines Lines 1 (lines_of input) pairs
+Reads Tsv input pairs = ReadsLines Tsv 1 (lines_of input) pairs
+Reads Csv input pairs = (rows : List Fields) × AreRowsOf input rows × ArePairRecords rows pairs
+
+-- why a line is no pair: it has no tab, what stands before the tab spells no key, or what stands behind it is no number
+abbrev pub IsLineFault : List ℕ → BadLine → Type 0
+IsLineFault line bad.NoTab = HasTab line → ⊥
+IsLineFault line bad.Escape = HasTab line × ((key : List ℕ) → Spells (before_first is_tab line) key → ⊥)
+IsLineFault line bad.Number = HasTab line × ((value : ℕ) → IsNumber (after_first is_tab line) value → ⊥)
+IsLineFault line bad.Fields = ⊥
+
+-- why a record is none: it has not two fields, or the second is no number
+abbrev pub IsRecordFault : Fields → BadLine → Type 0
+IsRecordFault row bad.NoTab = ⊥
+IsRecordFault row bad.Escape = ⊥
+IsRecordFault row bad.Number = (key digits : List ℕ) × (row ≡ key ∷ digits ∷ []) × ((value : ℕ) → IsNumber digits value → ⊥)
+IsRecordFault row bad.Fields = length row ≢ 2
+
+-- of lines, the first with number n, line number m is no pair for this fault, and each before it is a pair
+abbrev pub IsBadLine : ℕ → List (List ℕ) → ℕ → BadLine → Type 0
+IsBadLine n [] m fault = ⊥
+IsBadLine n (line ∷ lines) m fault = ((m ≡ n) × IsLineFault line fault) ⊎ ((e : Pair) × IsPairLine line e × IsBadLine (n + 1) lines m fault)
+
+-- record number m of the input is no pair for this fault, and each before it is a pair
+abbrev pub IsBadRecord : List ℕ → ℕ → BadLine → Type 0
+IsBadRecord input m fault = (rows : List Fields) × (row : Fields) × (pairs : Pairs) × AreFirstRowsOf input (rows ++ row ∷ []) × ArePairRecords rows pairs
+    × (m ≡ length rows + 1) × IsRecordFault row fault
+
+-- why an input is not read: this line or record is no pair, or memory was wanting
+abbrev pub Explains : Format → List ℕ → ReadError → Type 0
+Explains format input OutOfMemory = Unit {0}
+Explains Lines input (Line m fault) = ⊥
+Explains Tsv input (Line m fault) = IsBadLine 1 (lines_of input) m fault
+Explains Csv input (Line m fault) = IsBadRecord input m fault

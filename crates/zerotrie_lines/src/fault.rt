@@ -1,0 +1,48 @@
+//! Why an input is no pairs.
+
+ghost use Rattle.std.specs.Prelude.{◌≡◌};
+ghost use Rattle.zerotrie_lines.specs.declared.fault.ReadError.TheVariants.{OutOfMemory};
+
+use std::alloc::AllocError;
+use std::fmt;
+
+/// What is bad in a line.
+#[derive(Clone, Copy, PartialEq, Eq, Debug)]
+pub enum BadLine {
+    /// It has no tab.
+    NoTab,
+    /// What stands before its tab spells no key.
+    Escape,
+    /// Its value is no number of decimal digits below 2^64.
+    Number,
+    /// The record has not two fields.
+    Fields,
+}
+
+impl fmt::Display for BadLine {
+    fn fmt<W: fmt::Write>(&self, f: &mut fmt::Formatter<W>) -> fmt::Result {
+        f.write_str(match self {
+            BadLine::NoTab => "no tab between a key and its value",
+            BadLine::Escape => "a backslash that is none of \\t \\n \\r \\\\ \\xHH",
+            BadLine::Number => "no value of 1 to 20 decimal digits below 2^64",
+            BadLine::Fields => "not two fields, a key and its value",
+        })
+    }
+}
+
+/// Why an input is no pairs.
+#[derive(Clone, Copy, PartialEq, Eq, Debug)]
+pub enum ReadError {
+    /// The line with this number is no pair, and why. Of comma-separated fields it is the record with this number.
+    Line(usize, BadLine),
+    /// A growth was refused.
+    OutOfMemory,
+}
+
+impl From<AllocError> for ReadError {
+    ghost from_gives = { λ _ e. e ≡ OutOfMemory };
+
+    fn from(_: AllocError) -> Self {
+        ReadError::OutOfMemory
+    }
+}

@@ -1,0 +1,19 @@
+//! Laws over the definitions alone. A law is a function that does nothing: calling it brings its clause into a caller's
+//! proof.
+
+ghost use Rattle.zerotrie_lines.specs.Laws.{EscapedReadsBack, LinesReadBack, OneReading};
+
+/// A key that was written spells that key, and no other.
+pub fn escaped_reads_back()
+    ensures { EscapedReadsBack }
+{}
+
+/// The lines of pairs, as they are written, are these pairs.
+pub fn lines_read_back()
+    ensures { LinesReadBack }
+{}
+
+/// Lines are one list of pairs at most.
+pub fn one_reading()
+    ensures { OneReading }
+{}

@@ -1,0 +1,21 @@
+//! Pairs of a key and a number, as lines of text.
+//!
+//! A line is a key with escapes, a tab and a number; or two fields with a comma between them, the key and a number; or
+//! a key alone, whose number is that of its line.
+#![tactic(auto)]
+
+mod escapes;
+mod fault;
+pub mod laws;
+mod lines;
+mod numbers;
+mod reading;
+mod records;
+mod table;
+
+pub use escapes::{unescape, write_escaped};
+pub use fault::{BadLine, ReadError};
+pub use lines::{read_lines, take_line, write_pair};
+pub use numbers::{parse_number, write_number};
+pub use reading::{Format, read_pairs};
+pub use table::Table;

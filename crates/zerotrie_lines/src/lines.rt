@@ -1,0 +1,107 @@
+//! Lines, and the pairs that they are.
+
+ghost use Rattle.std.specs.Prelude.{◌≡◌, ◌≢◌, ◌++◌, ◌∷◌, ℕ, List, [], map, true, false, IfOk, IfSome, IfNone, OnOk};
+ghost use Rattle.std.specs.List.{before_first, after_first};
+ghost use Rattle.zerotrie_lines.specs.Tables.{Pair};
+ghost use Rattle.zerotrie_lines.specs.Escapes.{Spells};
+ghost use Rattle.zerotrie_lines.specs.Lines.{is_feed, lines_of, IsPairLine, tsv_line};
+ghost use Rattle.zerotrie_lines.specs.Reads.{IsLineFault};
+
+use crate::escapes::{unescape, write_escaped};
+use crate::fault::BadLine;
+use crate::numbers::{parse_number, write_number};
+use crate::table::Table;
+use memchr::memchr;
+use std::alloc::{AllocError, Global};
+
+/// Takes the first line off: what stands before the first line feed, or all.
+pub fn take_line<'a>(rest: &mut &'a [u8]) -> &'a [u8]
+    ensures line { result.now ≡ before_first is_feed rest.old.now }
+    ensures rest { rest.new.now ≡ after_first is_feed rest.old.now }
+{
+    let all = *rest;
+    match memchr(b'\n', all) {
+        Some(place) => {
+            *rest = &all[place + 1..];
+            &all[..place]
+        }
+        None => {
+            *rest = &[];
+            all
+        }
+    }
+}
+
+/// The lines of an input, each without its line feed. They take no memory but that of the list.
+pub fn read_lines(alloc: Global, input: &[u8]) -> Result<Vec<&[u8]>, AllocError>
+    ensures { IfOk result (λ lines. map (λ line. line.now) lines.items ≡ lines_of input.now) }
+{
+    let mut lines = Vec::new(alloc);
+    let mut rest = input;
+    while !rest.is_empty() {
+        lines.push(take_line(&mut rest))?;
+    }
+    Ok(lines)
+}
+
+/// Adds a pair whose key a text spells, and tells whether it spells one. The first key is room for one that has
+/// escapes.
+fn add_spelled(
+    text: &[u8],
+    value: usize,
+    key: &mut Vec<u8>,
+    table: &mut Table,
+) -> Result<bool, AllocError>
+    ensures yes { IfOk result (λ yes. yes ≡ true
+        → (k : List ℕ) × Spells text.now k × (table.new ≡ table.old ++ (k, value) ∷ [])) }
+    ensures no { IfOk result (λ yes. yes ≡ false → (k : List ℕ) → Spells text.now k → ⊥) }
+{
+    match memchr(b'\\', text) {
+        None => {
+            table.push(text, value)?;
+            Ok(true)
+        }
+        Some(_) => {
+            key.clear();
+            if !unescape(text, key)? {
+                return Ok(false);
+            }
+            table.push(key.as_slice(), value)?;
+            Ok(true)
+        }
+    }
+}
+
+/// Adds the pair that a line is, or answers why it is none. The key is room for one that has escapes.
+pub fn read_pair(
+    line: &[u8],
+    key: &mut Vec<u8>,
+    table: &mut Table,
+) -> Result<Option<BadLine>, AllocError>
+    ensures pair { IfOk result (λ bad. IfNone bad
+        ((e : Pair) × IsPairLine line.now e × (table.new ≡ table.old ++ e ∷ []))) }
+    ensures none { IfOk result (λ bad. IfSome bad (IsLineFault line.now)) }
+{
+    let Some(place) = memchr(b'\t', line) else {
+        return Ok(Some(BadLine::NoTab));
+    };
+    let Some(value) = parse_number(&line[place + 1..]) else {
+        return Ok(Some(BadLine::Number));
+    };
+    if add_spelled(&line[..place], value, key, table)? {
+        Ok(None)
+    } else {
+        Ok(Some(BadLine::Escape))
+    }
+}
+
+/// Writes the line of a pair: the key with escapes, a tab, the value and a line feed.
+pub fn write_pair(output: &mut Vec<u8>, key: &[u8], value: usize) -> Result<(), AllocError>
+    ensures { OnOk result (output.new.items ≡ output.old.items ++ tsv_line (key.now, value)) }
+{
+    write_escaped(output, key)?;
+    output.push(b'\t')?;
+    write_number(output, value)?;
+    output.push(b'\n')?;
+    Ok(())
+}

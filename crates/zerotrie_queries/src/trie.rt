@@ -1,0 +1,78 @@
+//! A trie of a kind that is known when the program runs.
+
+ghost use Rattle.std.specs.Prelude.{◌≡◌, ◌↔◌, IsTrue, IfOk, IfErr};
+ghost use Rattle.zerotrie_core.specs.Maps.{Map, look};
+ghost use Rattle.zerotrie_core.specs.Texts.{Means};
+ghost use Rattle.zerotrie_core.specs.Prefixes.{IsLongestPrefix};
+ghost use Rattle.zerotrie_core.specs.WellFormed.{IsWellFormed};
+ghost use Rattle.zerotrie_any.specs.Tagged.{tagged, IsTagFault};
+ghost use Rattle.zerotrie_queries.specs.Kinds.{kind_of, IsTag};
+
+use crate::kind::TrieKind;
+use zerotrie_any::TagError;
+use zerotrie_core::{Ext, Hash, Ignore, Simple, get_counted, is_well_formed, longest_prefix};
+
+/// The bytes of a trie, where they lie, and its kind.
+#[derive(Clone, Copy, Debug)]
+pub struct Trie<'a> {
+    pub kind: TrieKind,
+    pub bytes: &'a [u8],
+}
+
+impl<'a> Trie<'a> {
+    /// The trie in tagged bytes, whose kind has its number in front. What stands behind the number is not tested.
+    ///
+    /// Refused with `Empty` exactly if there are no bytes, and with `InvalidTag` exactly if the first is the number of no
+    /// kind.
+    pub fn of_tagged(file: &'a [u8]) -> Result<Self, TagError>
+        ensures ok { IfOk result (λ trie. file.now ≡ tagged (kind_of trie.kind) trie.bytes.now) }
+        ensures err { IfErr result (IsTagFault IsTag file.now) }
+    {
+        let [number, bytes @ ..] = file else {
+            return Err(TagError::Empty);
+        };
+        match TrieKind::of_tag(*number) {
+            Some(kind) => Ok(Trie { kind, bytes }),
+            None => Err(TagError::InvalidTag),
+        }
+    }
+
+    /// Whether the bytes are a trie of the kind: whether they mean some map.
+    pub fn is_well_formed(&self) -> bool
+        ensures { IsTrue result ↔ IsWellFormed (kind_of self.now.kind) self.now.bytes.now }
+    {
+        match self.kind {
+            TrieKind::Simple => is_well_formed::<Simple>(self.bytes),
+            TrieKind::Ignore => is_well_formed::<Ignore>(self.bytes),
+            TrieKind::Hash => is_well_formed::<Hash>(self.bytes),
+            TrieKind::Ext => is_well_formed::<Ext>(self.bytes),
+        }
+    }
+
+    /// The value of the key. `None` if the trie has no such key.
+    pub fn get(&self, key: &[u8]) -> Option<usize>
+        ensures { (m : Map) → Means (kind_of self.now.kind) self.now.bytes.now m
+            → result ≡ look (kind_of self.now.kind) m key.now }
+    {
+        let (value, _nodes) = match self.kind {
+            TrieKind::Simple => get_counted::<Simple>(self.bytes, key),
+            TrieKind::Ignore => get_counted::<Ignore>(self.bytes, key),
+            TrieKind::Hash => get_counted::<Hash>(self.bytes, key),
+            TrieKind::Ext => get_counted::<Ext>(self.bytes, key),
+        };
+        value
+    }
+
+    /// The longest key that the text begins with: its length in bytes, and its value. `None` if it begins with no key.
+    pub fn longest(&self, text: &[u8]) -> Option<(usize, usize)>
+        ensures { (m : Map) → Means (kind_of self.now.kind) self.now.bytes.now m
+            → IsLongestPrefix (kind_of self.now.kind) m text.now result }
+    {
+        match self.kind {
+            TrieKind::Simple => longest_prefix::<Simple>(self.bytes, text),
+            TrieKind::Ignore => longest_prefix::<Ignore>(self.bytes, text),
+            TrieKind::Hash => longest_prefix::<Hash>(self.bytes, text),
+            TrieKind::Ext => longest_prefix::<Ext>(self.bytes, text),
+        }
+    }
+}
