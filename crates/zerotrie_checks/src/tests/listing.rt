@@ -34,7 +34,7 @@ fn every_size_of_heap(rt: HostRuntime) -> Result<(), Fail> {
     let bytes = b"\x80abcdefghijklmnopqrstuvwxyz\xC2AB\x04\xA2\xC3\xA9\x81\xC2ab\x01\x82\x83";
     let mut complete = 0_usize;
     for size in 0..40_usize {
-        let heap = LocalHeap::new(rt.alloc(), size * 16)?;
+        let heap = LocalHeap::new(rt.alloc(), size * 8)?;
         let refused = refusals(&rt, &heap, bytes)?;
         same(&rt, heap.used(), 0);
         complete = complete.saturating_add(1 - refused.min(1));
