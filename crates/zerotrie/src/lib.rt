@@ -43,8 +43,6 @@
 
 pub mod dense;
 mod error;
-#[cfg(test)]
-mod tests;
 
 pub use error::Error;
 pub use zerotrie_any::{

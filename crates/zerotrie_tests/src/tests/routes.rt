@@ -1,8 +1,7 @@
 //! The texts that every route builds.
 
 use super::*;
-use zerotrie_build::ByteSliceWithIndices;
-use zerotrie_core::plain_encode;
+use zerotrie::bytes::{ByteSliceWithIndices, plain_encode};
 
 fn text_map<'a>(
     alloc: Global,

@@ -1,10 +1,10 @@
 //! Calls that are short for others, and the cursor of a `ZeroTrie`.
 
 use super::*;
-use crate::bytes::{
+use zerotrie::bytes::{
     ByteSliceWithIndices, count_pairs, encoded_len, fill_from_end, first_key_of, get_counted,
 };
-use crate::cursor::{ByteProbeResult, ZeroTrieCursor};
+use zerotrie::cursor::{ByteProbeResult, ZeroTrieCursor};
 
 /// A look-up of a text, a test for a key, and how many keys there are, of a trie of the keys "ab", "abcd" and
 /// "abce".

@@ -1,7 +1,7 @@
 //! Cursors of the four kinds, walks, and what is written to a cursor.
 
 use super::*;
-use crate::cursor::{AsciiProbeResult, ByteProbeResult, HashedCursor};
+use zerotrie::cursor::{AsciiProbeResult, ByteProbeResult, HashedCursor};
 use std::fmt;
 use std::fmt::Write;
 

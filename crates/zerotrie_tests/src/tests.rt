@@ -11,13 +11,13 @@ mod views;
 mod walks;
 mod well_formed;
 
-use super::*;
 use std::alloc::Global;
 use std::borrow::CowSlice;
 use std::collections::BTreeMap;
 use std::fmt::Debug;
 use std::process::Abort;
 use std::test::Fail;
+use zerotrie::*;
 
 /// Ends the test where the two differ, and writes both: `assert_eq!` in a function of its own, since the proof of what
 /// it writes is long, and made anew wherever it stands.
