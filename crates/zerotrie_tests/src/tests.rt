@@ -7,6 +7,7 @@ mod listings;
 mod outer;
 mod refusals;
 mod routes;
+mod uses;
 mod views;
 mod walks;
 mod well_formed;
