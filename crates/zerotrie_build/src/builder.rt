@@ -81,7 +81,7 @@ fn grow_sorted<
     grow_ordered::<K, _, S, A>(alloc, spare, items)
 }
 
-/// The bytes of the trie of items that ascend by the bytes of their keys. Where the kind has another order,
+/// The bytes of the trie of items that ascend by the bytes of their keys. If the kind has another order,
 /// they are sorted once more, unless they are in that order too.
 fn grow_ascending<K: ZeroTrieWithOptions, S: TrieBuilderStore + Drop, A: Allocator + Copy>(
     alloc: Global,
@@ -238,7 +238,7 @@ fn len_slice<A: Allocator + Copy>(
 /// ```
 ///
 /// It is refused with `Unsorted`, `NonAsciiError`, `MixedCase`, `CapacityExceeded` or `OutOfMemory`, each for
-/// the reason that `ZeroTrieBuildError` gives, and so just where a build is, but for a hashed table that
+/// the reason that `ZeroTrieBuildError` gives, and so exactly if a build is, but for a hashed table that
 /// isn't found.
 pub fn encoded_len(
     alloc: Global,
@@ -318,7 +318,7 @@ impl<S: TrieBuilderStore + Drop> ZeroTrieBuilder<S> {
         Ok(ZeroTrieBuilder { data })
     }
 
-    /// A copy of the bytes of the trie. The only error is want of memory.
+    /// A copy of the bytes of the trie. The only error is out of memory.
     pub fn to_bytes(&self, alloc: Global) -> Result<Vec<u8>, AllocError>
         ensures { IfOk result (λ bytes. bytes.items ≡ S.list self.now.data) }
     {

@@ -18,13 +18,13 @@ use std::alloc::{AllocError, Allocator};
 use zerotrie_core::{ZeroTrieBuildError, ZeroTrieWithOptions};
 
 /// The lengths that are kept for the second pass, in slots. A branch has a slot for each target, in the order of
-/// the edges, with the length of its text. Where its table is hashed, as many follow, with how many slots the
+/// the edges, with the length of its text. If its table is hashed, as many follow, with how many slots the
 /// targets up to each have below them. Then come the slots below the first target, the second, and so on.
 #[derive(Drop)]
 pub(crate) struct Measured<A: Allocator> {
     pub(crate) slots: Vec<usize, A>,
-    /// In the kinds without hashed tables, for each slot how many items its target has, where they are few. The
-    /// second pass asks first whether there are so many. In the other kinds there are none, to save memory.
+    /// In the kinds without hashed tables, for each slot how many items its target has, if they are few. The
+    /// second pass tries that count first. In the other kinds there are none, to save memory.
     pub(crate) counts: Vec<u8, A>,
     /// How long the text is.
     pub(crate) len: usize,
@@ -51,7 +51,7 @@ struct Open {
 enum Turn {
     /// This window is measured.
     Window(Window),
-    /// Nothing: the whole is measured, and so long.
+    /// The whole is measured, and has this length.
     Whole(usize),
 }
 
@@ -101,7 +101,7 @@ fn count_len(count: usize) -> usize
     number_len(16, count)
 }
 
-/// The window behind the values, literals and spans that stand first, and how many bytes these have.
+/// The window after the values, literals and spans that stand first, and how many bytes these have.
 #[inline(always)]
 fn behind_nodes<'a, K: ZeroTrieWithOptions, I: IndexedItems<'a>>(
     items: I,
@@ -140,7 +140,7 @@ fn behind_nodes<'a, K: ZeroTrieWithOptions, I: IndexedItems<'a>>(
     }
 }
 
-/// The same. Most windows have one item, whose text is told at once. Where `ascii` is true, all keys are ASCII.
+/// Like `behind_nodes`, and at once for a window of one item, as most are. If `ascii` is true, all keys are ASCII.
 #[inline(always)]
 fn behind_run<'a, K: ZeroTrieWithOptions, I: IndexedItems<'a>>(
     items: I,
@@ -184,7 +184,7 @@ fn total(lens: &[usize]) -> Result<usize, ZeroTrieBuildError>
     Ok(total)
 }
 
-/// Whether no offset of the kind reaches so many bytes.
+/// Whether this length is beyond every offset of the kind.
 fn is_too_wide<K: ZeroTrieWithOptions>(total: usize) -> bool
     ensures { IsTrue result ↔ (256 ^ (greatest_width K.kind + 1) ≤ total) }
 {
@@ -225,14 +225,14 @@ pub(crate) fn width_of(total: usize) -> usize
     width
 }
 
-/// Whether a branch of so many edges has a hashed table.
+/// Whether a branch with this number of edges has a hashed table.
 pub(crate) fn is_hashed<K: ZeroTrieWithOptions>(edges: usize) -> bool
     ensures { result ≡ is_hashed K.kind edges }
 {
     K::USE_PHF && edges >= 16
 }
 
-/// How many bytes a branch of so many edges has in front of its targets, which together have `total` bytes.
+/// How many bytes a branch with this number of edges has in front of its targets, which together have `total` bytes.
 fn branch_len<K: ZeroTrieWithOptions>(edges: usize, total: usize) -> usize
     requires some { 1 ≤ edges }
     requires few { edges ≤ 256 }
@@ -264,7 +264,7 @@ impl<'a, I: IndexedItems<'a>, A: Allocator + Copy> Measuring<I, A> {
         })
     }
 
-    /// Adds a slot for a target, whose items end there and are so many.
+    /// Adds a slot for a target, with where its items end and how many they are.
     fn push_end<K: ZeroTrieWithOptions>(
         &mut self,
         end: usize,
@@ -318,7 +318,7 @@ impl<'a, I: IndexedItems<'a>, A: Allocator + Copy> Measuring<I, A> {
         }
     }
 
-    /// Opens the branch that stands first in the window, behind so many bytes. The window of its first target.
+    /// Opens the branch that stands first in the window, after `len` bytes. Returns the window of its first target.
     fn push_branch<K: ZeroTrieWithOptions>(
         &mut self,
         window: Window,
@@ -419,7 +419,7 @@ impl<'a, I: IndexedItems<'a>, A: Allocator + Copy> Measuring<I, A> {
     }
 }
 
-/// The lengths of the text of the items and of all targets. Where `ascii` is true, all keys are ASCII.
+/// The lengths of the text of the items and of all targets. If `ascii` is true, all keys are ASCII.
 pub(crate) fn measure_all<'a, K: ZeroTrieWithOptions, I: IndexedItems<'a>, A: Allocator + Copy>(
     alloc: A,
     items: I,

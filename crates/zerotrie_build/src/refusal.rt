@@ -187,7 +187,7 @@ fn other_case<K: ZeroTrieWithOptions, Key: TrieKey>(
     key_after(items, &key[..common], fold)
 }
 
-/// Two keys that differ in case, of keys that ascend. It takes no memory: where a key parts from the next by a letter
+/// Two keys that differ in case, of keys that ascend. It takes no memory: if a key parts from the next by a letter
 /// in upper case, those that go on with this letter in lower case stand together, and are searched for.
 fn mixed<K: ZeroTrieWithOptions, Key: TrieKey>(items: &[(Key, usize)]) -> Option<Refusal>
     requires { Ascends (keyed Key.key items.now) }
@@ -282,7 +282,7 @@ fn first_mixed<K: ZeroTrieWithOptions>(items: &[(&[u8], usize)]) -> Option<usize
 /// ASCII, `NonAsciiError`, and then for two that the kind without case refuses together, `MixedCase`. On `None` a build
 /// is refused for its length, for a hashed table or for want of memory at most.
 ///
-/// It sorts the keys as a build does, in about the same time and memory. The only error is want of memory.
+/// It sorts the keys as a build does, in about the same time and memory. The only error is out of memory.
 pub fn why_iter_refused<K: ZeroTrieWithOptions, Key: TrieKey>(
     alloc: Global,
     items: &[(Key, usize)],

@@ -18,7 +18,7 @@ use std::collections::VecDeque;
 /// assert_eq!(rt; store.atbs_to_bytes(rt.alloc())?.as_slice(), b"abc".as_slice());
 /// ```
 ///
-/// Each call that grows is refused for want of memory alone, and the list is then as it was.
+/// A call that grows fails only if memory runs out, and the list is then as it was.
 pub trait TrieBuilderStore: Sized {
     ghost list: { Self → List ℕ };
 
@@ -60,7 +60,7 @@ pub trait TrieBuilderStore: Sized {
         ensures err { OnErr result (list self.new ≡ list self.old) };
 
     /// Cuts the front into ranges of these lengths, in bytes, and lays them out in this order: the range
-    /// of number `order[0]` comes first. What lies behind the ranges stays.
+    /// of number `order[0]` comes first. What lies after the ranges stays.
     ///
     /// ```
     /// let mut store: VecDeque<u8> = TrieBuilderStore::atbs_new_empty(rt.alloc());

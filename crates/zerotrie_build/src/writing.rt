@@ -46,7 +46,7 @@ impl<S: TrieBuilderStore + Drop> Writing<S> {
         requires { self.old.at < length (S.list self.old.data) }
         ensures { Puts (S.list self.old.data) self.old.at (S.list self.new.data) self.new.at (byte ∷ []) }
     {
-        // That a length is below 2^64 tells the proof that so is the place behind it.
+        // That a length is below 2^64 tells the proof that so is the place after it.
         let _len = self.data.atbs_len();
         self.data.atbs_bitor_assign(self.at, byte);
         self.at += 1;
@@ -90,7 +90,7 @@ impl<S: TrieBuilderStore + Drop> Writing<S> {
         }
     }
 
-    /// Writes a number in the form whose shortest number of two bytes is `latent`, behind these bits. As a rule it
+    /// Writes a number in the form whose shortest number of two bytes is `latent`, after these bits. As a rule it
     /// has no more than three bytes, and these are written as they are found.
     #[inline(always)]
     fn put_number(&mut self, bits: u8, latent: u8, number: usize)
@@ -131,7 +131,7 @@ impl<S: TrieBuilderStore + Drop> Writing<S> {
         self.put_number(VALUE, 16, value);
     }
 
-    /// Writes literals and a value behind them.
+    /// Writes literals and a value after them.
     #[inline(always)]
     fn put_lone(&mut self, rest: &[u8], value: usize)
         requires { self.old.at + (length rest.now + length (spelled_as value_form value)) ≤ length (S.list self.old.data) }
@@ -189,7 +189,7 @@ impl<S: TrieBuilderStore + Drop> Writing<S> {
         }
     }
 
-    /// Writes so many bytes of each offset of a branch to the targets of these numbers, the highest of them
+    /// Writes `bytes` bytes of each offset of a branch to the targets of these numbers, the highest of them
     /// first.
     #[inline(always)]
     fn put_offsets(&mut self, lens: &[usize], numbers: &[usize], bytes: usize)
@@ -274,7 +274,7 @@ impl<S: TrieBuilderStore + Drop> Writing<S> {
         }
     }
 
-    /// The same. Most windows have one item whose rest is ASCII, and are written at once.
+    /// Like `put_nodes`, and at once for a window of one item whose rest is ASCII, as most are.
     #[inline(always)]
     fn put_front<'a, K: ZeroTrieWithOptions, I: IndexedItems<'a>, A: Allocator + Copy>(
         &mut self,
