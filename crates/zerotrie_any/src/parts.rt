@@ -14,7 +14,7 @@ use zerotrie_core::{ListError, TrieStore, ZeroTrieIterator, ZeroTrieWithOptions}
 
 /// The keys of a trie, one after another, in the order in which `ZeroTrieIterator` gives their pairs.
 ///
-/// An item is a key, or `ListError::OutOfMemory` where a growth was refused. After an error, and after the end,
+/// An item is a key, or `ListError::OutOfMemory` if memory runs out. After an error, and after the end,
 /// nothing more comes.
 #[derive(Debug, Drop)]
 pub struct ZeroTrieKeys<'a> {
@@ -64,7 +64,7 @@ impl<'a> Iterator for ZeroTrieKeys<'a> {
 
 /// The values of a trie, one after another, in the order in which `ZeroTrieIterator` gives their pairs.
 ///
-/// An item is a value, or `ListError::OutOfMemory` where a growth was refused, since a listing keeps the key that it
+/// An item is a value, or `ListError::OutOfMemory` if memory runs out, since a listing keeps the key that it
 /// stands at. After an error, and after the end, nothing more comes.
 #[derive(Debug, Drop)]
 pub struct ZeroTrieValues<'a> {

@@ -116,7 +116,7 @@ impl<S: TrieStore> ZeroTrie<S> {
         }
     }
 
-    /// The value of the key, or `None` where the trie has no such key.
+    /// The value of the key, or `None` if the trie has no such key.
     ///
     /// The call takes no memory. On bytes that mean no map it gives some answer.
     pub fn get(&self, key: &[u8]) -> Option<usize>
@@ -132,7 +132,7 @@ impl<S: TrieStore> ZeroTrie<S> {
         value
     }
 
-    /// The value of the key that is this text, or `None` where the trie has no such key: `get` of its bytes.
+    /// The value of the key that is this text, or `None` if the trie has no such key: `get` of its bytes.
     ///
     /// ```
     /// let trie = ZeroTrie::try_from_iter(rt.alloc(), [("å", 1), ("ø", 2)])?;
@@ -206,7 +206,7 @@ impl<S: TrieStore> ZeroTrie<S> {
     /// assert_eq!(rt; trie.to_owned(rt.alloc())?.get(b"abc"), Some(5));
     /// ```
     ///
-    /// The only error is want of memory.
+    /// The only error is out of memory.
     pub fn to_owned(&self, alloc: Global) -> Result<ZeroTrie<Vec<u8>>, AllocError>
         ensures kind { IfOk result (λ trie. trie.flavor ≡ self.now.flavor) }
         ensures bytes { IfOk result (λ trie. trie.store.items ≡ S.stored self.now.store) }
@@ -298,7 +298,7 @@ impl ZeroTrie<Vec<u8>> {
     /// Builds the trie of a map. An empty map gives an empty trie.
     ///
     /// A build is refused with `CapacityExceeded`, `CouldNotSolvePerfectHash` or `OutOfMemory`, each for the
-    /// reason that `ZeroTrieBuildError` gives, or with `Unsorted` where the map's keys are not in the order
+    /// reason that `ZeroTrieBuildError` gives, or with `Unsorted` if the map's keys are not in the order
     /// of their bytes, as keys of bytes and of text are.
     pub fn try_from_btree_map<Key: TrieKey + Ord>(
         alloc: Global,

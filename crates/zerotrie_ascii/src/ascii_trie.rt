@@ -165,7 +165,7 @@ impl<K, S: TrieStore> AsciiTrie<K, S> {
     /// assert_eq!(rt; trie.to_owned(rt.alloc())?.get(b"abc"), Some(5));
     /// ```
     ///
-    /// The only error is want of memory.
+    /// The only error is out of memory.
     pub fn to_owned(&self, alloc: Global) -> Result<AsciiTrie<K, Vec<u8>>, AllocError>
         ensures { IfOk result (λ trie. trie.store.items ≡ S.stored self.now.store) }
     {
@@ -175,7 +175,7 @@ impl<K, S: TrieStore> AsciiTrie<K, S> {
 }
 
 impl<K: AsciiKind, S: TrieStore> AsciiTrie<K, S> {
-    /// The value of the key, or `None` where the trie has no such key.
+    /// The value of the key, or `None` if the trie has no such key.
     ///
     /// In the kind without case, keys that differ in the case of ASCII letters alone are one. The call takes
     /// no memory. On bytes that mean no map it gives some answer.
@@ -190,7 +190,7 @@ impl<K: AsciiKind, S: TrieStore> AsciiTrie<K, S> {
         value
     }
 
-    /// The value of the key that is this text, or `None` where the trie has no such key: `get` of its bytes.
+    /// The value of the key that is this text, or `None` if the trie has no such key: `get` of its bytes.
     ///
     /// ```
     /// let trie = ZeroTrieSimpleAscii::from_bytes(b"abc\x85");
@@ -314,7 +314,7 @@ impl<K: AsciiKind> AsciiTrie<K, Vec<u8>> {
     /// Builds the trie of a map. An empty map gives an empty trie.
     ///
     /// A build is refused with `NonAsciiError`, `MixedCase` (in the kind without case), `CapacityExceeded`
-    /// or `OutOfMemory`, each for the reason that `ZeroTrieBuildError` gives, or with `Unsorted` where the
+    /// or `OutOfMemory`, each for the reason that `ZeroTrieBuildError` gives, or with `Unsorted` if the
     /// map's keys are not in the order of their bytes, as keys of bytes and of text are.
     pub fn try_from_btree_map<Key: TrieKey + Ord>(
         alloc: Global,

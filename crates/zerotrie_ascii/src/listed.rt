@@ -24,8 +24,8 @@ use zerotrie_core::{ListError, TrieStore, ZeroTrieIterator, count_pairs};
 /// targets of a branch come in the order of its table. So the keys ascend by their bytes, or in the kind
 /// without case by their bytes in lower case.
 ///
-/// An item is a key with its value, or `ListError::OutOfMemory` where a growth was refused. On bytes that mean
-/// no map it may be `ListError::NotText`, where a key is no text. After an error, and after the end, nothing
+/// An item is a key with its value, or `ListError::OutOfMemory` if memory runs out. On bytes that mean
+/// no map it may be `ListError::NotText` if a key is no text. After an error, and after the end, nothing
 /// more comes.
 #[derive(Debug, Drop)]
 pub struct ZeroTrieStringIterator<'a> {
@@ -117,7 +117,7 @@ impl<K: AsciiKind, S: TrieStore> AsciiTrie<K, S> {
     /// }
     /// ```
     ///
-    /// An item is `ListError::OutOfMemory` where a growth was refused, and nothing more comes then. Bytes that
+    /// An item is `ListError::OutOfMemory` if memory runs out, and nothing more comes then. Bytes that
     /// mean no map list at most as many pairs as there are bytes.
     pub fn iter(&self, alloc: Global) -> ZeroTrieStringIterator<'_>
         ensures lists { (pairs : Pairs) → Lists K.kind (S.stored self.now.store) pairs → result ≡ to_come pairs }
@@ -201,7 +201,7 @@ impl<K: AsciiKind, S: TrieStore> AsciiTrie<K, S> {
         count_pairs::<K>(self.as_bytes())
     }
 
-    /// The first key in the order of `iter` that has this value, or `None` where no key has it.
+    /// The first key in the order of `iter` that has this value, or `None` if no key has it.
     ///
     /// ```
     /// let trie = ZeroTrieSimpleAscii::try_from_iter(rt.alloc(), [("xyz", 22), ("abc", 11)])?;

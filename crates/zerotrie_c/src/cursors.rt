@@ -13,7 +13,7 @@ ghost use Rattle.zerotrie_c.specs.Places.{place};
 
 use zerotrie_core::{ByteProbeResult, Ext, Hash, Ignore, Simple, SpanCursor, ZeroTrieWithOptions};
 
-/// A cursor, as C keeps it: the rest of a run, and the trie behind it. Both lie in the bytes of the trie.
+/// A cursor, as C keeps it: the rest of a run, and the trie after it. Both lie in the bytes of the trie.
 ///
 /// It stands inside a span while the run is not empty; then no key ends here, and the run is what is left of the span.
 #[repr(C)]
@@ -171,7 +171,7 @@ fn behind_prefix<'a, K: ZeroTrieWithOptions>(bytes: &'a [u8], prefix: &[u8]) -> 
     here
 }
 
-/// Sets the cursor behind a prefix: it stands where a step by each byte of it leads. Yes if some key begins with the
+/// Sets the cursor after a prefix: it stands where a step by each byte of it leads. Yes if some key begins with the
 /// prefix; else nothing is left.
 #[unsafe(no_mangle)]
 pub extern "C" fn zerotrie_with_prefix<'a>(

@@ -45,7 +45,7 @@ pub extern "C" fn zerotrie_get(kind: u32, bytes: &[u8], key: &[u8], value: &mut 
     }
 }
 
-/// The bytes from one place up to another. A place behind all bytes stands for their end.
+/// The bytes from one place up to another. A place past all bytes stands for their end.
 fn key_between(bytes: &[u8], from: usize, to: usize) -> &[u8]
     ensures { result.now ≡ drop from (take to bytes.now) }
 {
@@ -91,10 +91,10 @@ fn look_up_many<K: ZeroTrieWithOptions>(
     }
 }
 
-/// Looks up keys that lie one behind another, each up to its end, and writes the value of each, or `missing` for a key
+/// Looks up keys that lie one after another, each up to its end, and writes the value of each, or `missing` for a key
 /// that the trie hasn't.
 ///
-/// An end behind all bytes stands for theirs, and an end below the one before it makes an empty key. So many are
+/// An end past all bytes stands for theirs, and an end below the one before it makes an empty key. As many are
 /// answered as there are ends and room for values; the rest of the room stays. If the number is no kind, all of it stays.
 #[unsafe(no_mangle)]
 pub extern "C" fn zerotrie_get_many(

@@ -17,7 +17,7 @@ pub struct Bytes<'a> {
     pub bytes: &'a [u8],
 }
 
-/// Puts a byte and others behind it at the front of the room, which has enough.
+/// Puts a byte and others after it at the front of the room, which has enough.
 fn put_behind(first: u8, bytes: &[u8], out: &mut [u8])
     requires { length bytes.now < length out.old }
     ensures { out.new ≡ first ∷ bytes.now ++ drop (length bytes.now + 1) out.old }
@@ -43,7 +43,7 @@ pub extern "C" fn zerotrie_tagged(kind: u32, bytes: &[u8], out: &mut [u8], len: 
     DONE
 }
 
-/// The kind of tagged bytes, and the bytes behind the tag where they lie. They are not tested.
+/// The kind of tagged bytes, and the bytes after the tag where they lie. They are not tested.
 #[unsafe(no_mangle)]
 pub extern "C" fn zerotrie_untagged<'a>(
     tagged: &'a [u8],

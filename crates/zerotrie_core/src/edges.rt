@@ -1,6 +1,6 @@
 //! The edges of a trie, by byte and by number.
 //!
-//! A literal is one edge, and so is each byte of a span, which has the rest of the run behind it. A branch
+//! A literal is one edge, and so is each byte of a span, which has the rest of the run after it. A branch
 //! has one edge for each of its targets. A value in front of a node is passed over.
 
 ghost use Rattle.std.specs.Prelude.{◌≡◌, ◌≤◌, ℕ, [], ◌∷◌, IfSome, IfNone, false};
@@ -14,7 +14,7 @@ use crate::branch::folded;
 use crate::node::{Node, first_node};
 use crate::options::ZeroTrieWithOptions;
 
-/// An edge, and what lies behind it: the rest of a run of bytes that all keys go on with, and a trie.
+/// An edge, and what follows it: the rest of a run of bytes that all keys go on with, and a trie.
 #[derive(Clone, Copy)]
 pub struct Along<'a> {
     pub edge: u8,

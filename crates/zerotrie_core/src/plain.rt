@@ -155,7 +155,7 @@ fn encode(
 /// ```
 ///
 /// Each item is a key, of bytes, and its value. The text is the canonical one: no other bytes mean the
-/// map of the items. For no items it has no bytes. A value stands behind its key, in one to ten bytes,
+/// map of the items. For no items it has no bytes. A value stands after its key, in one to ten bytes,
 /// and a byte that all keys have in common there stands for itself. Where keys part there is a branch: a
 /// head that tells the number of edges and the width of an offset, the edges in ascending order, where
 /// each target but the first begins, in bytes from the first one on, and the targets.
@@ -165,7 +165,7 @@ fn encode(
 ///
 /// # Errors
 ///
-/// - `Unsorted`: the keys are not strictly ascending by their bytes, as where one comes twice.
+/// - `Unsorted`: the keys are not strictly ascending by their bytes, as if one comes twice.
 /// - `NonAsciiError`: the keys ascend, and one has a byte of 128 or more.
 /// - `CapacityExceeded`: else, if the targets of a branch together have 2^32 bytes or more, past what an
 ///   offset of four bytes reaches.

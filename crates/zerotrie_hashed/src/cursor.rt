@@ -14,7 +14,7 @@ use std::marker::{Model, PhantomData};
 use zerotrie_any::{CursorAnswer, CursorOp, walk};
 use zerotrie_core::{ByteProbeResult, Ext, Hash, SpanCursor, TrieStore};
 
-/// A place in a trie over keys of any bytes: what all keys have behind the bytes that were stepped. `K` is
+/// A place in a trie over keys of any bytes: what all keys have after the bytes that were stepped. `K` is
 /// the kind.
 ///
 /// Use it by the name of a kind, `ZeroTriePerfectHashCursor` or `ZeroTrieExtendedCapacityCursor`.
@@ -100,7 +100,7 @@ impl<'a, K: HashedKind> HashedCursor<'a, K> {
         self.place.is_empty()
     }
 
-    /// Takes the value of the empty key. `None` where there is none, and then nothing changes.
+    /// Takes the value of the empty key. `None` if there is none, and then nothing changes.
     pub fn take_value(&mut self) -> Option<usize>
         ensures meaning { IsTake K.kind (ListsAt K.kind self.old) result (ListsAt K.kind self.new) }
         ensures run { self.new.run ≡ self.old.run }
@@ -111,7 +111,7 @@ impl<'a, K: HashedKind> HashedCursor<'a, K> {
 
     /// Goes along the edge of this byte, and answers it.
     ///
-    /// A value is passed over. Where no edge is the byte, the answer is `None`, and the cursor is empty.
+    /// A value is passed over. If no edge is the byte, the answer is `None`, and the cursor is empty.
     #[inline(always)]
     pub fn step(&mut self, byte: u8) -> Option<u8>
         ensures meaning { IsStep K.kind (ListsAt K.kind self.old) byte result (ListsAt K.kind self.new) }
@@ -133,7 +133,7 @@ impl<'a, K: HashedKind> HashedCursor<'a, K> {
     /// ```
     ///
     /// A value is passed over. The edges of a branch are numbered as they stand, and a literal and a byte
-    /// of a span are one edge. Where there is no edge of this number, the answer is `None`, and the cursor
+    /// of a span are one edge. If there is no edge of this number, the answer is `None`, and the cursor
     /// is empty.
     pub fn probe(&mut self, index: usize) -> Option<ByteProbeResult>
         ensures meaning { IsProbe (ListsAt K.kind self.old) index
@@ -175,7 +175,7 @@ impl<K: HashedKind, S: TrieStore> HashedTrie<K, S> {
     /// assert_eq!(rt; answers[1], CursorAnswer::Taken(Some(5)));
     /// ```
     ///
-    /// The only error is want of memory.
+    /// The only error is out of memory.
     pub fn walk(&self, alloc: Global, ops: &[CursorOp]) -> Result<Vec<CursorAnswer>, AllocError>
         ensures { IfOk result (λ answers. IsWalk K.kind (S.stored self.now.store) ops.now answers.items) }
     {

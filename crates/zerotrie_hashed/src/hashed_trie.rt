@@ -141,7 +141,7 @@ impl<K, S: TrieStore> HashedTrie<K, S> {
     /// assert_eq!(rt; trie.to_owned(rt.alloc())?.get(b"abc"), Some(5));
     /// ```
     ///
-    /// The only error is want of memory.
+    /// The only error is out of memory.
     pub fn to_owned(&self, alloc: Global) -> Result<HashedTrie<K, Vec<u8>>, AllocError>
         ensures { IfOk result (λ trie. trie.store.items ≡ S.stored self.now.store) }
     {
@@ -161,7 +161,7 @@ impl<K: HashedKind, S> HashedTrie<K, S> {
 }
 
 impl<K: HashedKind, S: TrieStore> HashedTrie<K, S> {
-    /// The value of the key, or `None` where the trie has no such key.
+    /// The value of the key, or `None` if the trie has no such key.
     ///
     /// The call takes no memory. On bytes that mean no map it gives some answer.
     ///
@@ -175,7 +175,7 @@ impl<K: HashedKind, S: TrieStore> HashedTrie<K, S> {
         value
     }
 
-    /// The value of the key that is this text, or `None` where the trie has no such key: `get` of its bytes.
+    /// The value of the key that is this text, or `None` if the trie has no such key: `get` of its bytes.
     ///
     /// ```
     /// let trie = ZeroTriePerfectHash::from_bytes(b"abc\x85");
@@ -242,7 +242,7 @@ impl<K: HashedKind> HashedTrie<K, Vec<u8>> {
     /// ```
     ///
     /// It is refused with `Unsorted`, `CapacityExceeded` or `OutOfMemory`, each for the reason that
-    /// `ZeroTrieBuildError` gives, and so just where a build is, but for a hashed table that isn't found.
+    /// `ZeroTrieBuildError` gives, and so exactly if a build is, but for a hashed table that isn't found.
     pub fn encoded_len(alloc: Global, items: &[(&[u8], usize)]) -> Result<usize, ZeroTrieBuildError>
         ensures { IsLength ascending K.kind (pairs_of items.now) result }
     {
@@ -289,7 +289,7 @@ impl<K: HashedKind> HashedTrie<K, Vec<u8>> {
     /// Builds the trie of a map. An empty map gives an empty trie.
     ///
     /// A build is refused with `CapacityExceeded`, `CouldNotSolvePerfectHash` or `OutOfMemory`, each for the
-    /// reason that `ZeroTrieBuildError` gives, or with `Unsorted` where the map's keys are not in the order
+    /// reason that `ZeroTrieBuildError` gives, or with `Unsorted` if the map's keys are not in the order
     /// of their bytes, as keys of bytes and of text are.
     pub fn try_from_btree_map<Key: TrieKey + Ord>(
         alloc: Global,

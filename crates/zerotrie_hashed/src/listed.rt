@@ -28,7 +28,7 @@ impl<K: HashedKind, S: TrieStore> HashedTrie<K, S> {
     /// }
     /// ```
     ///
-    /// An item is `ListError::OutOfMemory` where a growth was refused, and nothing more comes then. Bytes that
+    /// An item is `ListError::OutOfMemory` if memory runs out, and nothing more comes then. Bytes that
     /// mean no map list at most as many pairs as there are bytes.
     pub fn iter(&self, alloc: Global) -> ZeroTrieIterator<'_>
         ensures lists { (pairs : Pairs) → Lists K.kind (S.stored self.now.store) pairs → result ≡ to_come pairs }
@@ -79,7 +79,7 @@ impl<K: HashedKind, S: TrieStore> HashedTrie<K, S> {
         count_pairs::<K>(self.as_bytes())
     }
 
-    /// The first key in the order of `iter` that has this value, or `None` where no key has it.
+    /// The first key in the order of `iter` that has this value, or `None` if no key has it.
     ///
     /// ```
     /// let trie = ZeroTriePerfectHash::try_from_iter(rt.alloc(), [("xyz", 22), ("abc", 11)])?;

@@ -26,7 +26,7 @@ pub fn find_in_json(
     Ok(read.get(word))
 }
 
-/// The same of a trie whose kind is taken for the pairs, which may have keys of any bytes.
+/// Like `find_in_json`, of a trie whose kind is taken for the pairs, which may have keys of any bytes.
 pub fn find_in_json_of_any(
     alloc: Global,
     pairs: &[(&[u8], usize)],

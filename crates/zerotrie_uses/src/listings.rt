@@ -13,7 +13,7 @@ use zerotrie::{CursorAnswer, CursorOp, ZeroTrieBuildError, ZeroTrieSimpleAscii, 
 
 /// The pairs of a trie that was built of them, as an ordered map: these pairs, which ascend.
 ///
-/// It is refused as `ZeroTrieSimpleAscii::try_from_sorted_slice` is, and for want of memory.
+/// It is refused as `ZeroTrieSimpleAscii::try_from_sorted_slice` is, and if memory runs out.
 pub fn listed_again(
     alloc: Global,
     pairs: &[(&[u8], usize)],
@@ -30,7 +30,7 @@ pub fn listed_again(
 /// What a cursor answers that is taken through a list of calls over pairs, which ascend: the machine's answers
 /// over these very pairs.
 ///
-/// It is refused as `ZeroTrieSimpleAscii::try_from_sorted_slice` is, and for want of memory.
+/// It is refused as `ZeroTrieSimpleAscii::try_from_sorted_slice` is, and if memory runs out.
 pub fn walk_over(
     alloc: Global,
     pairs: &[(&[u8], usize)],

@@ -127,7 +127,7 @@ fn columns_of<'s>(
     Ok(columns)
 }
 
-/// A prefix, the delimiter and a suffix, one behind another.
+/// A prefix, the delimiter and a suffix, one after another.
 fn key_of(alloc: Global, prefix: &str, delimiter: u8, suffix: &str) -> Result<Vec<u8>, AllocError>
     ensures { IfOk result (λ key. key.items ≡ prefix.now ++ (delimiter ∷ suffix.now)) }
 {
@@ -325,11 +325,11 @@ impl ZeroAsciiDenseSparse2dTrieOwned {
     ///
     /// # Errors
     ///
-    /// - `NonAsciiError` where a text or the delimiter is not ASCII,
-    /// - `IllegalDelimiter` where a text holds the delimiter,
-    /// - `CapacityExceeded` where there are more than 65,535 suffixes, or the primary trie, the trie of the
+    /// - `NonAsciiError` if a text or the delimiter is not ASCII,
+    /// - `IllegalDelimiter` if a text holds the delimiter,
+    /// - `CapacityExceeded` if there are more than 65,535 suffixes, or the primary trie, the trie of the
     ///   suffixes or the trie of a row's window would exceed the capacity of its kind,
-    /// - `OutOfMemory` where a growth was refused.
+    /// - `OutOfMemory` if memory runs out.
     pub fn try_from_btree_map_str(
         alloc: Global,
         entries: &BTreeMap<&str, BTreeMap<&str, usize>>,

@@ -54,7 +54,7 @@ fn holds(text: &[u8], byte: u8) -> bool
 }
 
 impl<'a> ZeroAsciiDenseSparse2dTrieBorrowed<'a> {
-    /// The value of a suffix in the row of a prefix, or `None` where it is not there.
+    /// The value of a suffix in the row of a prefix, or `None` if it is not there.
     ///
     /// ```
     /// use zerotrie::dense::ZeroAsciiDenseSparse2dTrieOwned;

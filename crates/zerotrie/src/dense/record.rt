@@ -40,7 +40,7 @@ impl<'a> ZeroAsciiDenseSparse2dTrieBorrowed<'a> {
     /// the lengths of the two tries and the number of cells in eight bytes each. The tries and the cells of
     /// the matrix follow, two bytes a cell.
     ///
-    /// The only error is want of memory.
+    /// The only error is out of memory.
     pub fn to_record_bytes(&self, alloc: Global) -> Result<Vec<u8>, AllocError>
         ensures { IfOk result (λ bytes. bytes.items ≡ record_of (parts_of self.now)) }
     {

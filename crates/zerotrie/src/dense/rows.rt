@@ -107,7 +107,7 @@ fn window_len(
     Ok(len)
 }
 
-/// Whether a row of a table of so many suffixes stands in the matrix: its window would be longer as a trie,
+/// Whether a row stands in the matrix of a table with this number of suffixes: its window would be longer as a trie,
 /// and the empty suffix is not outside the window.
 fn is_dense_row(
     alloc: Global,
@@ -126,7 +126,7 @@ fn is_dense_row(
     Ok(len > 2 * columns && !has_empty_outside(entries, start))
 }
 
-/// A row of a table of so many suffixes.
+/// A row of a table with this number of suffixes.
 fn row_of<'m, 's>(
     alloc: Global,
     prefix: &'m str,
@@ -149,7 +149,7 @@ fn row_of<'m, 's>(
     })
 }
 
-/// The rows of a table of so many suffixes, in their order.
+/// The rows of a table with this number of suffixes, in their order.
 #[tactic(auto, using(crate::proofs::RowsLemmas::plain_left, crate::proofs::RowsLemmas::plain_right))]
 pub(crate) fn rows_of<'m, 's>(
     alloc: Global,

@@ -134,7 +134,7 @@ fn pairs_of(alloc: Global, value: &Value) -> Result<OwnedPairs, JsonError>
 /// An object has each key once. If a text gives one key twice in an object, `Value::from_str` keeps the last
 /// number. A list may have a key twice, and then its build is refused with `DuplicateKey`.
 ///
-/// The error is `Shape` where the value is anything else, `Build` where a build of its pairs by an iterator
+/// The error is `Shape` if the value is anything else, `Build` if a build of its pairs by an iterator
 /// is refused, with the reason, and `OutOfMemory`.
 pub fn bytes_from_json<K: ZeroTrieWithOptions>(
     alloc: Global,
@@ -156,7 +156,7 @@ impl ZeroTrie<Vec<u8>> {
     /// assert_eq!(rt; trie.get(b"\xFF"), Some(3));
     /// ```
     ///
-    /// The value is as `bytes_from_json` says. The error is `Shape` where it is anything else, `Build` where
+    /// The value is as `bytes_from_json` says. The error is `Shape` if it is anything else, `Build` if
     /// `try_from_iter` of its pairs is refused, with the reason, and `OutOfMemory`.
     pub fn try_from_json_value(alloc: Global, value: &Value) -> Result<Self, JsonError>
         ensures kind { IfOk result (λ trie. HasPairs (view value.now) (λ pairs. flavor_kind trie.flavor ≡ auto_kind pairs)) }

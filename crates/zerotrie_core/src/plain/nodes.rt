@@ -58,7 +58,7 @@ fn push_offsets(
     Ok(())
 }
 
-/// The width field of a branch whose targets together have so many bytes.
+/// The width field of a branch whose targets have this number of bytes together.
 fn width_of(total: usize) -> Option<usize>
     ensures width { IfSome result (λ w. (w ≤ 3) × IsWidth total w) }
     ensures none { IfNone result (2 ^ 32 ≤ total) }

@@ -35,7 +35,7 @@ fn texts_keys_and_counts(rt: HostRuntime) {
     assert!(rt; ZeroTrie::empty() == Default::default() && ZeroTrie::empty().is_empty());
 }
 
-/// Values at the front, behind literals and spans, and in branches below branches count.
+/// Values at the front, after literals and spans, and in branches below branches count.
 #[test]
 fn values_at_any_place_count(rt: HostRuntime) {
     let rows: [(&[u8], usize); 5] = [

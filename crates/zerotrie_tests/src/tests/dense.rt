@@ -235,7 +235,11 @@ fn the_empty_suffix_is_found(rt: HostRuntime) -> Result<(), Fail> {
         let table = table_of(rt.alloc(), entries)??;
         finds(&rt, &table.as_borrowed(), entries);
         let record = table.as_borrowed().to_record_bytes(rt.alloc())?;
-        same(&rt, record.as_slice().get(19..27), Some(cells.to_le_bytes().as_slice()));
+        same(
+            &rt,
+            record.as_slice().get(19..27),
+            Some(cells.to_le_bytes().as_slice()),
+        );
     }
     Ok(())
 }

@@ -250,8 +250,8 @@ fn texts_without_case(rt: HostRuntime) -> Result<(), Fail> {
     ascii_texts::<Ignore, HostRuntime>(&rt, &rows)
 }
 
-/// Spans, and the tables of branches of 16 edges: all parameters are zero where no two edges are equal modulo
-/// their number, and searched where two are.
+/// Spans, and the tables of branches of 16 edges: all parameters are zero if no two edges are equal modulo
+/// their number, and searched if two are.
 const HASHED: [Row<'static>; 6] = [
     (&[], &[]),
     (&[("", 3), ("é", 4)], b"\x83\xA2\xC3\xA9\x84"),
