@@ -46,7 +46,8 @@ impl<S: TrieStore> ZeroTrie<S> {
     /// Whether the bytes are a trie of its kind, every rule of the format kept: yes exactly if they mean a
     /// map. It takes no memory.
     pub fn is_well_formed(&self) -> bool
-        ensures { IsTrue result ↔ IsWellFormed (flavor_kind self.now.flavor) (S.stored self.now.store) }
+        ensures { IsTrue result ↔ IsWellFormed (flavor_kind self.now.flavor)
+            (S.stored self.now.store) }
     {
         let bytes = self.store.bytes();
         match self.flavor {

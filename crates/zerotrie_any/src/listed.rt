@@ -79,7 +79,8 @@ impl<S: TrieStore> ZeroTrie<S> {
     /// An item is `ListError::OutOfMemory` if memory runs out, and nothing more comes then. Bytes that
     /// mean no map list at most as many pairs as there are bytes.
     pub fn iter(&self, alloc: Global) -> ZeroTrieIterator<'_>
-        ensures lists { (pairs : Pairs) → Lists (flavor_kind self.now.flavor) (S.stored self.now.store) pairs
+        ensures lists { (pairs : Pairs)
+            → Lists (flavor_kind self.now.flavor) (S.stored self.now.store) pairs
             → result ≡ to_come pairs }
         ensures most { length result.pairs ≤ length (S.stored self.now.store) }
     {
@@ -122,7 +123,8 @@ impl<S: TrieStore> ZeroTrie<S> {
     ///
     /// The only error is `OutOfMemory`.
     pub fn first_key_of(&self, alloc: Global, value: usize) -> Result<Option<Vec<u8>>, ListError>
-        ensures first { (pairs : Pairs) → Lists (flavor_kind self.now.flavor) (S.stored self.now.store) pairs
+        ensures first { (pairs : Pairs)
+            → Lists (flavor_kind self.now.flavor) (S.stored self.now.store) pairs
             → IfOk result (λ key. option_map (λ k. k.items) key ≡ first_key_of value pairs) }
         ensures refused { IfErr result (λ e. e ≡ OutOfMemory) }
     {

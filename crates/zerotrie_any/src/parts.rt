@@ -121,7 +121,8 @@ impl<S: TrieStore> ZeroTrie<S> {
     /// assert_eq!(rt; first.as_slice(), b"abc".as_slice());
     /// ```
     pub fn keys(&self, alloc: Global) -> ZeroTrieKeys<'_>
-        ensures lists { (pairs : Pairs) → Lists (flavor_kind self.now.flavor) (S.stored self.now.store) pairs
+        ensures lists { (pairs : Pairs)
+            → Lists (flavor_kind self.now.flavor) (S.stored self.now.store) pairs
             → result ≡ to_come pairs }
         ensures most { length result.pairs ≤ length (S.stored self.now.store) }
     {
@@ -137,7 +138,8 @@ impl<S: TrieStore> ZeroTrie<S> {
     /// assert_eq!(rt; trie.values(rt.alloc()).next().ok_or("no value")??, 11);
     /// ```
     pub fn values(&self, alloc: Global) -> ZeroTrieValues<'_>
-        ensures lists { (pairs : Pairs) → Lists (flavor_kind self.now.flavor) (S.stored self.now.store) pairs
+        ensures lists { (pairs : Pairs)
+            → Lists (flavor_kind self.now.flavor) (S.stored self.now.store) pairs
             → result ≡ to_come pairs }
         ensures most { length result.pairs ≤ length (S.stored self.now.store) }
     {

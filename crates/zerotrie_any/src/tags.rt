@@ -84,7 +84,8 @@ impl<S: TrieStore> ZeroTrie<S> {
     ///
     /// The only error is out of memory.
     pub fn to_tagged_bytes(&self, alloc: Global) -> Result<Vec<u8>, AllocError>
-        ensures { IfOk result (λ t. t.items ≡ tagged (flavor_kind self.now.flavor) (S.stored self.now.store)) }
+        ensures { IfOk result (λ t.
+            t.items ≡ tagged (flavor_kind self.now.flavor) (S.stored self.now.store)) }
     {
         let bytes = self.store.bytes();
         match self.flavor {
@@ -107,7 +108,8 @@ impl<'a> ZeroTrie<&'a [u8]> {
     /// no tag of a kind that a `ZeroTrie` may have, which are 0, 3 and 7. What stands after the tag is not
     /// tested.
     pub fn try_from_tagged_bytes(bytes: &'a [u8]) -> Result<Self, TagError>
-        ensures ok { IfOk result (λ trie. bytes.now ≡ tagged (flavor_kind trie.flavor) trie.store.now) }
+        ensures ok { IfOk result (λ trie.
+            bytes.now ≡ tagged (flavor_kind trie.flavor) trie.store.now) }
         ensures err { IfErr result (λ e. IsTagFault IsFlavorTag bytes.now e) }
     {
         let [first, store @ ..] = bytes else {

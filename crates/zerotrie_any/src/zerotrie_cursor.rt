@@ -65,7 +65,8 @@ impl<'a> ZeroTrieCursor<'a> {
     ///
     /// `None` inside a span, where what is left has no bytes of its own in the store.
     pub fn into_suffix_trie(self) -> Option<ZeroTrie<&'a [u8]>>
-        ensures some { IfSome result (λ t. (self.entry.place.run ≡ []) × (t.store.now ≡ self.entry.place.trie)) }
+        ensures some { IfSome result (λ t.
+            (self.entry.place.run ≡ []) × (t.store.now ≡ self.entry.place.trie)) }
         ensures kind { IfSome result (λ t. t.flavor ≡ self.entry.flavor) }
         ensures none { IfNone result (self.entry.place.run ≢ []) }
         ensures lists { IfSome result (λ t. (pairs : Pairs) → ListsFrom self.entry pairs
@@ -89,7 +90,8 @@ impl<'a> ZeroTrieCursor<'a> {
     /// Takes the value of the empty key. `None` if there is none, and then nothing changes.
     pub fn take_value(&mut self) -> Option<usize>
         ensures kind { self.new.flavor ≡ self.old.flavor }
-        ensures meaning { IsTake (flavor_kind self.old.flavor) (ListsFrom self.old) result (ListsFrom self.new) }
+        ensures meaning { IsTake (flavor_kind self.old.flavor) (ListsFrom self.old) result
+            (ListsFrom self.new) }
         ensures run { self.new.place.run ≡ self.old.place.run }
         ensures none { IfNone result (self.new ≡ self.old) }
     {
@@ -101,8 +103,10 @@ impl<'a> ZeroTrieCursor<'a> {
     /// A value is passed over. If no edge is the byte, the answer is `None`, and the cursor is empty.
     pub fn step(&mut self, byte: u8) -> Option<u8>
         ensures kind { self.new.flavor ≡ self.old.flavor }
-        ensures meaning { IsStep (flavor_kind self.old.flavor) (ListsFrom self.old) byte result (ListsFrom self.new) }
-        ensures run { IfSome result (λ edge. FollowsRun (flavor_kind self.old.flavor) self.old.place edge self.new.place) }
+        ensures meaning { IsStep (flavor_kind self.old.flavor) (ListsFrom self.old) byte result
+            (ListsFrom self.new) }
+        ensures run { IfSome result (λ edge.
+            FollowsRun (flavor_kind self.old.flavor) self.old.place edge self.new.place) }
         ensures empty { IfNone result (self.new.place ≡ nowhere) }
     {
         match self.flavor {
@@ -174,7 +178,8 @@ impl<S: TrieStore> ZeroTrie<S> {
     ///
     /// The only error is out of memory.
     pub fn walk(&self, alloc: Global, ops: &[CursorOp]) -> Result<Vec<CursorAnswer>, AllocError>
-        ensures { IfOk result (λ answers. IsWalk (flavor_kind self.now.flavor) (S.stored self.now.store)
+        ensures { IfOk result (λ answers.
+            IsWalk (flavor_kind self.now.flavor) (S.stored self.now.store)
             ops.now answers.items) }
     {
         let bytes = self.as_bytes();

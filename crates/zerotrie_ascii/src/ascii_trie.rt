@@ -184,7 +184,8 @@ impl<K: AsciiKind, S: TrieStore> AsciiTrie<K, S> {
     /// of its own that is `#[inline(never)]`; so for `get_str`, `contains_key` and a cursor's `step`.
     #[inline(always)]
     pub fn get(&self, key: &[u8]) -> Option<usize>
-        ensures { (m : Map) → Means K.kind (S.stored self.now.store) m → result ≡ look K.kind m key.now }
+        ensures { (m : Map) → Means K.kind (S.stored self.now.store) m
+            → result ≡ look K.kind m key.now }
     {
         let (value, _nodes) = get_counted::<K>(self.as_bytes(), key);
         value
@@ -198,7 +199,8 @@ impl<K: AsciiKind, S: TrieStore> AsciiTrie<K, S> {
     /// ```
     #[inline(always)]
     pub fn get_str(&self, key: &str) -> Option<usize>
-        ensures { (m : Map) → Means K.kind (S.stored self.now.store) m → result ≡ look K.kind m key.now }
+        ensures { (m : Map) → Means K.kind (S.stored self.now.store) m
+            → result ≡ look K.kind m key.now }
     {
         self.get(key.as_bytes())
     }
@@ -306,7 +308,8 @@ impl<K: AsciiKind> AsciiTrie<K, Vec<u8>> {
         alloc: Global,
         entries: &BTreeMap<Key, usize>,
     ) -> Result<Self, ZeroTrieBuildError>
-        ensures { IsBuild in_order K.kind (λ trie. trie.store.items) (keyed Key.key entries.now.entries) result }
+        ensures { IsBuild in_order K.kind (λ trie. trie.store.items)
+            (keyed Key.key entries.now.entries) result }
     {
         Self::try_from_btree_map(alloc, entries)
     }
@@ -320,9 +323,11 @@ impl<K: AsciiKind> AsciiTrie<K, Vec<u8>> {
         alloc: Global,
         entries: &BTreeMap<Key, usize>,
     ) -> Result<Self, ZeroTrieBuildError>
-        ensures build { IsBuild ascending K.kind (λ trie. trie.store.items) (keyed Key.key entries.now.entries) result }
+        ensures build { IsBuild ascending K.kind (λ trie. trie.store.items)
+            (keyed Key.key entries.now.entries) result }
         ensures by_bytes { IsByBytes Key.cmp Key.key
-            → IsBuild in_order K.kind (λ trie. trie.store.items) (keyed Key.key entries.now.entries) result }
+            → IsBuild in_order K.kind (λ trie. trie.store.items) (keyed Key.key entries.now.entries)
+            result }
     {
         let store = bytes_from_map::<K, Key>(alloc, entries)?;
         Ok(AsciiTrie::from_store(store))
@@ -365,7 +370,8 @@ impl<K: AsciiKind> AsciiTrie<K, Vec<u8>> {
     ) -> Result<Self, ZeroTrieBuildError>
     where
         U::IntoIter: Drop,
-        requires { IsFiniteIterable U.into_iter_gives U.IntoIter.can_next U.IntoIter.remaining iter }
+        requires { IsFiniteIterable U.into_iter_gives U.IntoIter.can_next U.IntoIter.remaining
+            iter }
         ensures { IsBuildOfAll (OfAllGiven U.into_iter_gives U.IntoIter.next_gives Key.key iter)
             K.kind (λ trie. trie.store.items) result }
     {

@@ -95,7 +95,8 @@ impl<'a, K: AsciiKind> AsciiCursor<'a, K> {
     /// Whether no key goes on from here. An empty cursor has no value either.
     pub fn is_empty(&self) -> bool
         ensures exact { IsTrue result ↔ (self.now ≡ []) }
-        ensures pairs { (pairs : Pairs) → Lists K.kind self.now pairs → IsTrue result ↔ (pairs ≡ []) }
+        ensures pairs { (pairs : Pairs) → Lists K.kind self.now pairs → IsTrue result
+            ↔ (pairs ≡ []) }
     {
         self.trie.is_empty()
     }
@@ -123,7 +124,8 @@ impl<'a, K: AsciiKind> AsciiCursor<'a, K> {
     /// If there is no edge of this number, the answer is `None`, and the cursor is empty.
     pub fn probe(&mut self, index: usize) -> Option<AsciiProbeResult>
         ensures meaning { IsProbe (Lists K.kind self.old) index
-            (option_map {U = ℕ × ℕ} (λ r. (r.byte, r.total_siblings)) result) (Lists K.kind self.new) }
+            (option_map {U = ℕ × ℕ} (λ r. (r.byte, r.total_siblings)) result)
+            (Lists K.kind self.new) }
         ensures empty { IfNone result (self.new ≡ []) }
     {
         probe::<K>(&mut self.trie, index)
@@ -131,7 +133,8 @@ impl<'a, K: AsciiKind> AsciiCursor<'a, K> {
 
     #[inline(always)]
     fn step_edge(&mut self, byte: u8) -> Option<u8>
-        ensures meaning { IsStep K.kind (Lists K.kind self.old) byte result (Lists K.kind self.new) }
+        ensures meaning { IsStep K.kind (Lists K.kind self.old) byte result
+            (Lists K.kind self.new) }
         ensures empty { IfNone result (self.new ≡ []) }
     {
         step::<K>(&mut self.trie, byte)
@@ -169,7 +172,8 @@ impl<'a> AsciiCursor<'a, Ignore> {
     /// A value is passed over. If no edge is the byte, the answer is `None`, and the cursor is empty.
     #[inline(always)]
     pub fn step(&mut self, byte: u8) -> Option<u8>
-        ensures meaning { IsStep ignore_case (Lists ignore_case self.old) byte result (Lists ignore_case self.new) }
+        ensures meaning { IsStep ignore_case (Lists ignore_case self.old) byte result
+            (Lists ignore_case self.new) }
         ensures empty { IfNone result (self.new ≡ []) }
     {
         self.step_edge(byte)
@@ -232,7 +236,8 @@ impl<K: AsciiKind, S: TrieStore> AsciiTrie<K, S> {
         write: F,
     ) -> Option<usize>
         requires { F.IsAlwaysCallable write }
-        ensures { (fresh : List ℕ) × (left : List ℕ) × (answer : _) × (fresh ≡ S.stored self.now.store)
+        ensures { (fresh : List ℕ) × (left : List ℕ) × (answer : _)
+            × (fresh ≡ S.stored self.now.store)
             × FnOnceReturnsAtMut F.FnOnce write fresh answer left
             × MatchResult answer (λ _. HasValue K.kind left result) (λ _. result ≡ None) }
     {
@@ -254,7 +259,8 @@ impl<K: AsciiKind, S: TrieStore> AsciiTrie<K, S> {
     ///
     /// The only error is out of memory.
     pub fn walk(&self, alloc: Global, ops: &[CursorOp]) -> Result<Vec<CursorAnswer>, AllocError>
-        ensures { IfOk result (λ answers. IsWalk K.kind (S.stored self.now.store) ops.now answers.items) }
+        ensures { IfOk result (λ answers.
+            IsWalk K.kind (S.stored self.now.store) ops.now answers.items) }
     {
         walk::<K>(alloc, self.as_bytes(), ops)
     }

@@ -45,7 +45,8 @@ impl<K: AsciiKind, S: TrieStore> AsciiTrie<K, S> {
     ///
     /// The only error is `OutOfMemory`. On bytes that mean no map some value is answered.
     pub fn to_json_value(&self, alloc: Global) -> Result<Value, JsonError>
-        ensures json { (m : Map) → Means K.kind (S.stored self.now.store) m → IfOk result (λ v. view v ≡ json m) }
+        ensures json { (m : Map) → Means K.kind (S.stored self.now.store) m
+            → IfOk result (λ v. view v ≡ json m) }
         ensures refused { IfErr result (λ e. e ≡ OutOfMemory) }
     {
         json_of::<K>(alloc, self.as_bytes())

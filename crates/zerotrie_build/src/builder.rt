@@ -27,7 +27,8 @@ fn in_order<K: ZeroTrieWithOptions, Key: TrieKey, A: Allocator + Copy>(
     alloc: A,
     given: &[(Key, usize)],
 ) -> Result<Vec<(&[u8], usize), A>, ZeroTrieBuildError>
-    ensures same { IfOk result (λ items. IsPermutation (keyed Key.key given.now) (pairs_of items.items)) }
+    ensures same { IfOk result (λ items.
+        IsPermutation (keyed Key.key given.now) (pairs_of items.items)) }
     ensures ordered { IfOk result (λ items. Ordered K.kind (pairs_of items.items)) }
     ensures keys { IfOk result (λ items. AreKeys K.kind (pairs_of items.items)) }
     ensures values { IfOk result (λ items. AreValues (pairs_of items.items)) }
@@ -287,7 +288,8 @@ impl<S: TrieBuilderStore + Drop> ZeroTrieBuilder<S> {
         items: ByteSliceWithIndices<'_>,
         options: ZeroTrieBuilderOptions,
     ) -> Result<Self, ZeroTrieBuildError>
-        ensures { IsBuild ascending (kind_with options) (λ b. S.list b.data) (pairs items.entry) result }
+        ensures { IsBuild ascending (kind_with options) (λ b. S.list b.data) (pairs items.entry)
+            result }
     {
         if !items.is_sorted() {
             return Err(ZeroTrieBuildError::Unsorted);
@@ -308,7 +310,8 @@ impl<S: TrieBuilderStore + Drop> ZeroTrieBuilder<S> {
     ) -> Result<Self, ZeroTrieBuildError>
     where
         U::IntoIter: Drop,
-        requires { IsFiniteIterable U.into_iter_gives U.IntoIter.can_next U.IntoIter.remaining iter }
+        requires { IsFiniteIterable U.into_iter_gives U.IntoIter.can_next U.IntoIter.remaining
+            iter }
         ensures { IsBuildOfAll (OfAllGiven U.into_iter_gives U.IntoIter.next_gives K.key iter)
             (kind_with options) (λ b. S.list b.data) result }
     {

@@ -67,7 +67,8 @@ struct Measuring<I, A: Allocator> {
 /// The sum, if it is below 2^64.
 fn plus(a: usize, b: usize) -> Result<usize, ZeroTrieBuildError>
     ensures sum { IfOk result (λ c. c ≡ a + b) }
-    ensures refused { IfErr result (λ e. (e ≡ ZeroTrieBuildError.CapacityExceeded) × (2 ^ 64 ≤ a + b)) }
+    ensures refused { IfErr result (λ e.
+        (e ≡ ZeroTrieBuildError.CapacityExceeded) × (2 ^ 64 ≤ a + b)) }
 {
     a.checked_add(b).ok_or(ZeroTrieBuildError::CapacityExceeded)
 }
@@ -75,7 +76,8 @@ fn plus(a: usize, b: usize) -> Result<usize, ZeroTrieBuildError>
 /// How many bytes a number has in the form whose shortest number of two bytes is `latent`.
 fn number_len(latent: usize, number: usize) -> usize
     requires { (latent ≡ 16) ⊎ (latent ≡ 32) }
-    ensures len { (form : Form) → form.latent_value ≡ latent → result ≡ length (spelled_as form number) }
+    ensures len { (form : Form) → form.latent_value ≡ latent
+        → result ≡ length (spelled_as form number) }
     ensures few { result ≤ 10 }
 {
     let mut len = 1;
@@ -175,7 +177,8 @@ fn behind_run<'a, K: ZeroTrieWithOptions, I: IndexedItems<'a>>(
 /// The sum of these lengths.
 fn total(lens: &[usize]) -> Result<usize, ZeroTrieBuildError>
     ensures sum { IfOk result (λ n. n ≡ sum lens.now) }
-    ensures refused { IfErr result (λ e. (e ≡ ZeroTrieBuildError.CapacityExceeded) × (2 ^ 64 ≤ sum lens.now)) }
+    ensures refused { IfErr result (λ e.
+        (e ≡ ZeroTrieBuildError.CapacityExceeded) × (2 ^ 64 ≤ sum lens.now)) }
 {
     let mut total = 0;
     for len in lens {
@@ -287,7 +290,8 @@ impl<'a, I: IndexedItems<'a>, A: Allocator + Copy> Measuring<I, A> {
         requires within { window.to ≤ length (I.pairs self.old.items) }
         requires order { window.from ≤ window.to }
         requires ordered { Ordered K.kind (window_of (I.pairs self.old.items) window) }
-        ensures ends { OnOk result ((targets : List Window) × Parts (I.pairs self.old.items) window targets
+        ensures ends { OnOk result ((targets : List Window)
+            × Parts (I.pairs self.old.items) window targets
             × (self.new.slots.items ≡ self.old.slots.items ++ tos targets)) }
         ensures items { self.new.items ≡ self.old.items }
         ensures branches { self.new.branches.items ≡ self.old.branches.items }
@@ -328,8 +332,10 @@ impl<'a, I: IndexedItems<'a>, A: Allocator + Copy> Measuring<I, A> {
         requires some { window.from < window.to }
         requires room { window.depth + 1 < 2 ^ 64 }
         requires ordered { Ordered K.kind (window_of (I.pairs self.old.items) window) }
-        ensures opened { IfOk result (λ first. IsOpened K.kind (I.pairs self.old.items) window len first
-            self.old.slots.items self.old.branches.items self.new.slots.items self.new.branches.items) }
+        ensures opened { IfOk result (λ first.
+            IsOpened K.kind (I.pairs self.old.items) window len first
+            self.old.slots.items self.old.branches.items self.new.slots.items
+            self.new.branches.items) }
         ensures few { OnOk result (length self.new.slots.items < 2 ^ 64) }
         ensures items { self.new.items ≡ self.old.items }
     {
@@ -389,7 +395,8 @@ impl<'a, I: IndexedItems<'a>, A: Allocator + Copy> Measuring<I, A> {
     fn close<K: ZeroTrieWithOptions>(&mut self, measured: usize) -> Result<Turn, ZeroTrieBuildError>
         requires keys { AreKeys K.kind (I.pairs self.old.items) }
         requires ordered { Ordered K.kind (I.pairs self.old.items) }
-        requires closing { Closing K.kind (I.pairs self.old.items) (reverse self.old.branches.items) self.old.slots.items measured }
+        requires closing { Closing K.kind (I.pairs self.old.items) (reverse self.old.branches.items)
+            self.old.slots.items measured }
         ensures turn { IfOk result (λ t. IsTurn K.kind (I.pairs self.old.items) t
             (reverse self.new.branches.items) self.new.slots.items) }
         ensures less { IfOk result (λ t. IsNext t → left_open (reverse self.new.branches.items)
@@ -430,7 +437,8 @@ pub(crate) fn measure_all<'a, K: ZeroTrieWithOptions, I: IndexedItems<'a>, A: Al
     requires ascii { IsTrue ascii → AreLow (I.pairs items) }
     ensures measured { IfOk result (λ m. IsMeasured K.kind (I.pairs items) m.slots.items m.len) }
     ensures refused { IfErr result (λ e. e ≢ ZeroTrieBuildError.OutOfMemory
-        → (e ≡ ZeroTrieBuildError.CapacityExceeded) × ExceedsCapacity K.kind (map_of (I.pairs items))) }
+        → (e ≡ ZeroTrieBuildError.CapacityExceeded)
+        × ExceedsCapacity K.kind (map_of (I.pairs items))) }
 {
     let mut measuring = Measuring::new::<K>(alloc, items)?;
     let mut window = Window {

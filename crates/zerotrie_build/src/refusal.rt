@@ -173,7 +173,8 @@ fn other_case<K: ZeroTrieWithOptions, Key: TrieKey>(
     next: &[u8],
 ) -> Option<usize>
     requires { Ascends (keyed Key.key items.now) }
-    ensures some { IfSome result (λ i. DifferInCase K.kind key.now (key_at (keyed Key.key items.now) i)) }
+    ensures some { IfSome result (λ i.
+        DifferInCase K.kind key.now (key_at (keyed Key.key items.now) i)) }
     ensures none { IfNone result (NoneTurns K.kind key.now next.now (keyed Key.key items.now)) }
 {
     let common = common_front_len(key, next);
@@ -255,7 +256,8 @@ fn first_repeated(items: &[(&[u8], usize)]) -> Option<usize>
 /// The place of the first of the items whose key does not come before the next in the kind.
 fn first_mixed<K: ZeroTrieWithOptions>(items: &[(&[u8], usize)]) -> Option<usize>
     ensures some { IfSome result (λ i. (i + 1 < length items.now)
-        × (Before K.kind (key_at (pairs_of items.now) i) (key_at (pairs_of items.now) (i + 1)) → ⊥)) }
+        × (Before K.kind (key_at (pairs_of items.now) i) (key_at (pairs_of items.now) (i + 1))
+        → ⊥)) }
     ensures none { IfNone result (Ordered K.kind (pairs_of items.now)) }
 {
     for place in 1..items.len() {

@@ -65,7 +65,8 @@ impl<'a> ByteSliceWithIndices<'a> {
 
     /// The last item, or `None` if there is none.
     pub fn last(self) -> Option<(&'a [u8], usize)>
-        ensures { option_map (λ e. (e.0.now, e.1)) result ≡ slice_get (pairs self.entry) (length (pairs self.entry) - 1) }
+        ensures { option_map (λ e. (e.0.now, e.1)) result
+            ≡ slice_get (pairs self.entry) (length (pairs self.entry) - 1) }
     {
         let count = self.len();
         if count == 0 {

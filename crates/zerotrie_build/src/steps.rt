@@ -165,7 +165,8 @@ fn low_end(key: &[u8], other: &[u8], from: usize) -> usize
     ensures same { (i : ℕ) → from ≤ i → i < result
         → (slice_index key.now i ≡ slice_index other.now i) × (slice_index key.now i < 128) }
     ensures stops { result < length key.now → result < length other.now
-        → slice_index key.now result ≡ slice_index other.now result → 128 ≤ slice_index key.now result }
+        → slice_index key.now result ≡ slice_index other.now result
+        → 128 ≤ slice_index key.now result }
 {
     let mut end = from;
     while end < key.len() && end < other.len() && key[end] == other[end] && key[end] < 128 {

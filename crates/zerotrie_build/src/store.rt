@@ -47,7 +47,8 @@ pub trait TrieBuilderStore: Sized {
     /// Sets these bits in the byte of number `index`, counted from 0 at the front.
     fn atbs_bitor_assign(&mut self, index: usize, bits: u8)
         requires { index < length (list self.old) }
-        ensures { list self.new ≡ slice_set (list self.old) index (bit_or (slice_index (list self.old) index) bits) };
+        ensures { list self.new ≡ slice_set (list self.old) index
+            (bit_or (slice_index (list self.old) index) bits) };
 
     /// Takes the first byte off and answers it.
     fn atbs_pop_front(&mut self) -> u8
@@ -108,7 +109,8 @@ fn ranges_in_order(
 ) -> Result<Vec<u8>, AllocError>
     requires fits { total lengths.now ≤ length bytes.now }
     requires in_range { All (λ i. i < length lengths.now) order.now }
-    ensures { IfOk result (λ out. out.items ≡ concat (map (range_at lengths.now bytes.now) order.now)) }
+    ensures { IfOk result (λ out.
+        out.items ≡ concat (map (range_at lengths.now bytes.now) order.now)) }
 {
     let mut out = Vec::new(alloc);
     for index in order {

@@ -29,8 +29,10 @@ fn put_behind(first: u8, bytes: &[u8], out: &mut [u8])
 /// Writes the number of the kind and the bytes to the front of `out`, if there is room, and tells how long they are.
 #[unsafe(no_mangle)]
 pub extern "C" fn zerotrie_tagged(kind: u32, bytes: &[u8], out: &mut [u8], len: &mut usize) -> u32
-    ensures known { IfSome (kind_of kind) (λ k. IsHandedOut (tagged k bytes.now) result len.new out.old out.new) }
-    ensures unknown { IfNone (kind_of kind) ((result ≡ unknown_kind) × (len.new ≡ len.old) × (out.new ≡ out.old)) }
+    ensures known { IfSome (kind_of kind) (λ k.
+        IsHandedOut (tagged k bytes.now) result len.new out.old out.new) }
+    ensures unknown { IfNone (kind_of kind) ((result ≡ unknown_kind) × (len.new ≡ len.old)
+        × (out.new ≡ out.old)) }
 {
     if !is_kind(kind) {
         return UNKNOWN_KIND;
@@ -50,7 +52,8 @@ pub extern "C" fn zerotrie_untagged<'a>(
     kind: &mut u32,
     behind: &mut Bytes<'a>,
 ) -> u32
-    ensures { IsUntagged tagged.now result kind.old kind.new behind.old.bytes.now behind.new.bytes.now }
+    ensures { IsUntagged tagged.now result kind.old kind.new behind.old.bytes.now
+        behind.new.bytes.now }
 {
     match tagged {
         [] => NO_TAG,

@@ -58,7 +58,8 @@ fn first_value(bytes: &[u8]) -> Option<(usize, &[u8])>
 #[inline(always)]
 pub fn step<K: ZeroTrieWithOptions>(bytes: &mut &[u8], byte: u8) -> Option<u8>
     requires { IsAscii K.kind }
-    ensures meaning { IsStep K.kind (Lists K.kind bytes.old.now) byte result (Lists K.kind bytes.new.now) }
+    ensures meaning { IsStep K.kind (Lists K.kind bytes.old.now) byte result
+        (Lists K.kind bytes.new.now) }
     ensures empty { IfNone result (bytes.new.now ≡ []) }
 {
     match edge_like::<K>(bytes, byte) {
@@ -86,7 +87,8 @@ pub fn step<K: ZeroTrieWithOptions>(bytes: &mut &[u8], byte: u8) -> Option<u8>
 /// It returns on any bytes, and takes no memory.
 #[inline]
 pub fn take_value(bytes: &mut &[u8]) -> Option<usize>
-    ensures meaning { (kind : Kind) → IsTake kind (Lists kind bytes.old.now) result (Lists kind bytes.new.now) }
+    ensures meaning { (kind : Kind)
+        → IsTake kind (Lists kind bytes.old.now) result (Lists kind bytes.new.now) }
     ensures none { IfNone result (bytes.new ≡ bytes.old) }
 {
     match first_value(bytes) {
@@ -116,7 +118,8 @@ pub fn take_value(bytes: &mut &[u8]) -> Option<usize>
 pub fn probe<K: ZeroTrieWithOptions>(bytes: &mut &[u8], index: usize) -> Option<AsciiProbeResult>
     requires { IsAscii K.kind }
     ensures meaning { IsProbe (Lists K.kind bytes.old.now) index
-        (option_map {U = ℕ × ℕ} (λ r. (r.byte, r.total_siblings)) result) (Lists K.kind bytes.new.now) }
+        (option_map {U = ℕ × ℕ} (λ r. (r.byte, r.total_siblings)) result)
+        (Lists K.kind bytes.new.now) }
     ensures empty { IfNone result (bytes.new.now ≡ []) }
 {
     match edge_numbered::<K>(bytes, index) {

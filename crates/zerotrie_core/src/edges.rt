@@ -92,7 +92,8 @@ pub fn run_edge_numbered<'a>(
     ensures probe { (kind : Kind) → IsProbe (ListsInside kind run.now trie.now) index
         (option_map {U = ℕ × ℕ} (λ r. (r.0.edge, r.1)) result)
         (ListsAt kind (place_along (option_map (λ r. r.0) result))) }
-    ensures run { IfSome result (λ r. (run.now ≡ r.0.edge ∷ r.0.run.now) × (r.0.trie.now ≡ trie.now)) }
+    ensures run { IfSome result (λ r.
+        (run.now ≡ r.0.edge ∷ r.0.run.now) × (r.0.trie.now ≡ trie.now)) }
     ensures few { IfSome result (λ r. r.1 ≤ 256) }
 {
     let (edge, run) = run.split_first()?;

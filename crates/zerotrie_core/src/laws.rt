@@ -75,7 +75,8 @@ pub fn steps_answer_stored_bytes()
 pub fn listing_is_the_map()
     ensures map { ListsTheMap }
     ensures in_order { (kind : Kind) → IsAscii kind → ListsInOrder kind }
-    ensures by_bytes { (bytes : List ℕ) (pairs : Pairs) → Lists simple_ascii bytes pairs → Ascends pairs }
+    ensures by_bytes { (bytes : List ℕ) (pairs : Pairs) → Lists simple_ascii bytes pairs
+        → Ascends pairs }
 {}
 
 /// Keys that are one to the kind get the same answer: equal ones, and in the kind without case those that differ

@@ -88,7 +88,8 @@ impl<'a, A: Allocator + Copy> ZeroTrieIterator<'a, A> {
         alloc: A,
         cursor: SpanCursor<'a>,
     ) -> Result<Self, AllocError>
-        ensures { IfOk result (λ it. (pairs : Pairs) → ListsAt K.kind cursor.entry pairs → it ≡ to_come pairs) }
+        ensures { IfOk result (λ it.
+            (pairs : Pairs) → ListsAt K.kind cursor.entry pairs → it ≡ to_come pairs) }
     {
         Ok(ZeroTrieIterator {
             stream: ZeroTrieStream::from_cursor::<K>(alloc, cursor)?,

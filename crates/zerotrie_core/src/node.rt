@@ -93,7 +93,8 @@ fn table_in<K: ZeroTrieWithOptions>(
 #[inline(always)]
 fn read_plain_head(lead: u8, rest: &[u8]) -> Option<(usize, usize, &[u8])>
     requires { 192 ≤ lead }
-    ensures begins { IfSome result (λ r. BeginsWith 32 3 (256 * (r.1 - 1) + r.0 % 256) (lead ∷ rest.now) r.2.now) }
+    ensures begins { IfSome result (λ r.
+        BeginsWith 32 3 (256 * (r.1 - 1) + r.0 % 256) (lead ∷ rest.now) r.2.now) }
     ensures edges { IfSome result (λ r. (2 ≤ r.0) × (r.0 ≤ 256)) }
     ensures width { IfSome result (λ r. 1 ≤ r.1) }
 {
@@ -118,7 +119,8 @@ fn branch_in<K: ZeroTrieWithOptions>(edges: usize, width: usize, body: &[u8]) ->
     requires edges { (1 ≤ edges) × (edges ≤ 256) }
     requires width { 1 ≤ width }
     ensures some { IfSome result (λ b. (bytes : List ℕ)
-        → BeginsWith 32 3 (256 * (width - 1) + edges % 256) bytes body.now → Begins K.kind bytes (branch_shape b)) }
+        → BeginsWith 32 3 (256 * (width - 1) + edges % 256) bytes body.now
+        → Begins K.kind bytes (branch_shape b)) }
     ensures none { IfNone result ((bytes table behind : List ℕ) (e w : ℕ)
         → BeginsWith 32 3 (256 * (width - 1) + edges % 256) bytes body.now
         → BeginsBranch K.kind bytes e w table behind → ⊥) }

@@ -85,9 +85,12 @@ fn push_run(
     requires ascii { AsciiKeys (pairs_from depth items.now) }
     ensures within { IfOk result (λ r. r.0 ≤ length items.now) }
     ensures deep { IfOk result (λ r. Deep (r.1 + 1) (drop r.0 items.now)) }
-    ensures leads { IfOk result (λ r. Leads out.old.items (pairs_from depth items.now) out.new.items (pairs_from r.1 (drop r.0 items.now))) }
+    ensures leads { IfOk result (λ r.
+        Leads out.old.items (pairs_from depth items.now) out.new.items
+        (pairs_from r.1 (drop r.0 items.now))) }
     ensures room { IfOk result (λ r. r.0 < length items.now → r.1 + 1 < 2 ^ 64) }
-    ensures branching { IfOk result (λ r. r.0 < length items.now → IsBranching (pairs_from r.1 (drop r.0 items.now))) }
+    ensures branching { IfOk result (λ r.
+        r.0 < length items.now → IsBranching (pairs_from r.1 (drop r.0 items.now))) }
     ensures err { IfErr result (λ e. e ≡ ZeroTrieBuildError.OutOfMemory) }
 {
     let mut at = 0;

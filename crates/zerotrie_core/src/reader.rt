@@ -217,7 +217,8 @@ fn descend<'a, K: ZeroTrieWithOptions>(node: Node<'a>, key: &'a [u8]) -> Descent
 #[inline(always)]
 pub fn get_counted<K: ZeroTrieWithOptions>(bytes: &[u8], key: &[u8]) -> (Option<usize>, usize)
     ensures value { (m : Map) → Means K.kind bytes.now m → result.0 ≡ look K.kind m key.now }
-    ensures count { (m : Map) (means : Means K.kind bytes.now m) → result.1 ≡ nodes means.lists key.now }
+    ensures count { (m : Map) (means : Means K.kind bytes.now m)
+        → result.1 ≡ nodes means.lists key.now }
 {
     let mut trie = bytes;
     let mut key = key;

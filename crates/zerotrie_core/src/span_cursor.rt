@@ -146,7 +146,8 @@ impl<'a> SpanCursor<'a> {
     /// Takes the value of the empty key. `None` if there is none, and then nothing changes.
     #[inline]
     pub fn take_value(&mut self) -> Option<usize>
-        ensures meaning { (kind : Kind) → IsTake kind (ListsAt kind self.old) result (ListsAt kind self.new) }
+        ensures meaning { (kind : Kind)
+            → IsTake kind (ListsAt kind self.old) result (ListsAt kind self.new) }
         ensures run { self.new.run ≡ self.old.run }
         ensures none { IfNone result (self.new ≡ self.old) }
     {
@@ -160,7 +161,8 @@ impl<'a> SpanCursor<'a> {
     /// Goes along the edge that is the byte to the kind, and answers its byte.
     #[inline(always)]
     pub fn step<K: ZeroTrieWithOptions>(&mut self, byte: u8) -> Option<u8>
-        ensures meaning { IsStep K.kind (ListsAt K.kind self.old) byte result (ListsAt K.kind self.new) }
+        ensures meaning { IsStep K.kind (ListsAt K.kind self.old) byte result
+            (ListsAt K.kind self.new) }
         ensures run { IfSome result (λ edge. FollowsRun K.kind self.old edge self.new) }
         ensures empty { IfNone result (self.new ≡ nowhere) }
     {
@@ -180,7 +182,8 @@ impl<'a> SpanCursor<'a> {
     #[inline]
     pub fn probe<K: ZeroTrieWithOptions>(&mut self, index: usize) -> Option<ByteProbeResult>
         ensures meaning { IsProbe (ListsAt K.kind self.old) index
-            (option_map {U = ℕ × ℕ} (λ r. (r.byte, r.total_siblings)) result) (ListsAt K.kind self.new) }
+            (option_map {U = ℕ × ℕ} (λ r. (r.byte, r.total_siblings)) result)
+            (ListsAt K.kind self.new) }
         ensures run { IfSome result (λ r. FollowsRun K.kind self.old r.byte self.new) }
         ensures empty { IfNone result (self.new ≡ nowhere) }
     {

@@ -19,8 +19,10 @@ use arrayvec::ArrayVec;
 #[inline(always)]
 fn read_number(latent: u8, start: u8, rest: &[u8]) -> Option<(usize, &[u8])>
     requires { (latent ≡ 16) ⊎ (latent ≡ 32) }
-    ensures found { IfSome result (λ r. BeginsWith latent (start / (2 * latent)) r.0 (start ∷ rest.now) r.1.now) }
-    ensures none { IfNone result ((metadata v : ℕ) (after : List ℕ) → BeginsWith latent metadata v (start ∷ rest.now) after → ⊥) }
+    ensures found { IfSome result (λ r.
+        BeginsWith latent (start / (2 * latent)) r.0 (start ∷ rest.now) r.1.now) }
+    ensures none { IfNone result ((metadata v : ℕ) (after : List ℕ)
+        → BeginsWith latent metadata v (start ∷ rest.now) after → ⊥) }
 {
     let mut value = (start % latent) as usize;
     if start / latent % 2 == 0 {
@@ -48,7 +50,8 @@ fn read_number(latent: u8, start: u8, rest: &[u8]) -> Option<(usize, &[u8])>
 #[inline]
 pub fn read_varint_meta3(start: u8, rest: &[u8]) -> Option<(usize, &[u8])>
     ensures found { IfSome result (λ r. BeginsWith 16 (start / 32) r.0 (start ∷ rest.now) r.1.now) }
-    ensures none { IfNone result ((metadata v : ℕ) (after : List ℕ) → BeginsWith 16 metadata v (start ∷ rest.now) after → ⊥) }
+    ensures none { IfNone result ((metadata v : ℕ) (after : List ℕ)
+        → BeginsWith 16 metadata v (start ∷ rest.now) after → ⊥) }
 {
     read_number(16, start, rest)
 }
@@ -63,7 +66,8 @@ pub fn read_varint_meta3(start: u8, rest: &[u8]) -> Option<(usize, &[u8])>
 #[inline]
 pub fn read_varint_meta2(start: u8, rest: &[u8]) -> Option<(usize, &[u8])>
     ensures found { IfSome result (λ r. BeginsWith 32 (start / 64) r.0 (start ∷ rest.now) r.1.now) }
-    ensures none { IfNone result ((metadata v : ℕ) (after : List ℕ) → BeginsWith 32 metadata v (start ∷ rest.now) after → ⊥) }
+    ensures none { IfNone result ((metadata v : ℕ) (after : List ℕ)
+        → BeginsWith 32 metadata v (start ∷ rest.now) after → ⊥) }
 {
     read_number(32, start, rest)
 }

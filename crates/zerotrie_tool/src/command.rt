@@ -156,8 +156,10 @@ fn split_words(alloc: Global, text: &[u8]) -> Result<Vec<&[u8]>, AllocError>
 
 /// The calls that the words of a text are; `None` if one of them is none.
 fn parse_ops(alloc: Global, text: &[u8]) -> Result<Option<Vec<CursorOp>>, AllocError>
-    ensures some { IfOk result (λ r. IfSome r (λ ops. AreOps (words_of text.now) (ops_of ops.items))) }
-    ensures none { IfOk result (λ r. IfNone r ((ops : List Op) → AreOps (words_of text.now) ops → ⊥)) }
+    ensures some { IfOk result (λ r.
+        IfSome r (λ ops. AreOps (words_of text.now) (ops_of ops.items))) }
+    ensures none { IfOk result (λ r.
+        IfNone r ((ops : List Op) → AreOps (words_of text.now) ops → ⊥)) }
 {
     let words = split_words(alloc, text)?;
     let mut ops = Vec::new(alloc);
@@ -251,7 +253,8 @@ pub fn parse(alloc: Global, line: &[u8]) -> Result<Result<Request<'_>, BadLine>,
     ensures ok { IfOk result (λ r. IfOk r (λ request. IsCommand line.now (meaning request))) }
     ensures none { IfOk result (λ r. OnErr r (IsNoCommand line.now)) }
     ensures why { IfOk result (λ r. IfErr r (IsBadAs line.now)) }
-    ensures named { IfOk result (λ r. IfErr r (λ bad. EndsInReturn line.now → bad ≡ BadLine.CarriageReturn)) }
+    ensures named { IfOk result (λ r.
+        IfErr r (λ bad. EndsInReturn line.now → bad ≡ BadLine.CarriageReturn)) }
 {
     match parse_line(alloc, line)? {
         Ok(request) => Ok(Ok(request)),

@@ -52,7 +52,8 @@ impl From<AllocError> for RunError {
 fn read_all<R: Read>(alloc: Global, reader: &mut Noted<R>) -> Result<Vec<u8>, RunError>
     requires { reader.old.failed ≡ false }
     ensures flag { reader.new.failed ≡ true ↔ IsErrOf result RunError.Read }
-    ensures ok { IfOk result (λ input. IfSome (R.remaining reader.old.inner) (λ known. input.items ≡ known)) }
+    ensures ok { IfOk result (λ input.
+        IfSome (R.remaining reader.old.inner) (λ known. input.items ≡ known)) }
     ensures err { IfErr result (λ e. e ≢ RunError.Write) }
 {
     let mut input: Vec<u8> = Vec::new(alloc);

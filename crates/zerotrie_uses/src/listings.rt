@@ -18,7 +18,8 @@ pub fn listed_again(
     alloc: Global,
     pairs: &[(&[u8], usize)],
 ) -> Result<BTreeMap<String, usize>, ZeroTrieBuildError>
-    ensures { IfOk result (λ map. keyed (λ key. string_bytes key) map.entries ≡ pairs_of pairs.now) }
+    ensures { IfOk result (λ map.
+        keyed (λ key. string_bytes key) map.entries ≡ pairs_of pairs.now) }
 {
     let trie = ZeroTrieSimpleAscii::try_from_sorted_slice(alloc, pairs)?;
     match trie.to_btreemap(alloc) {
@@ -36,7 +37,8 @@ pub fn walk_over(
     pairs: &[(&[u8], usize)],
     calls: &[CursorOp],
 ) -> Result<Vec<CursorAnswer>, ZeroTrieBuildError>
-    ensures { IfOk result (λ answers. answers_of answers.items ≡ run simple_ascii (ops_of calls.now) (pairs_of pairs.now)) }
+    ensures { IfOk result (λ answers.
+        answers_of answers.items ≡ run simple_ascii (ops_of calls.now) (pairs_of pairs.now)) }
 {
     laws::listing_is_the_map();
     let trie = ZeroTrieSimpleAscii::try_from_sorted_slice(alloc, pairs)?;

@@ -77,10 +77,12 @@ impl<'a> ZeroAsciiDenseSparse2dTrieBorrowed<'a> {
     /// `TrailingBytes`. The tries and the matrix are not tested: on any table `get` gives some answer.
     pub fn try_from_record_bytes(bytes: &'a [u8]) -> Result<Self, RecordError>
         ensures read { IfOk result (λ t. bytes.now ≡ record_of (parts_of t)) }
-        ensures truncated { IsErrOf result RecordError.Truncated ↔ (length bytes.now < asked bytes.now) }
+        ensures truncated { IsErrOf result RecordError.Truncated
+            ↔ (length bytes.now < asked bytes.now) }
         ensures written { (parts : Parts) → IsWhole parts → bytes.now ≡ record_of parts
             → IsOkAnd result (λ t. parts_of t ≡ parts) }
-        ensures trailing { IsErrOf result RecordError.TrailingBytes ↔ (asked bytes.now < length bytes.now) }
+        ensures trailing { IsErrOf result RecordError.TrailingBytes
+            ↔ (asked bytes.now < length bytes.now) }
     {
         if bytes.len() < 27 {
             return Err(RecordError::Truncated);

@@ -23,7 +23,8 @@ fn members_of(
     entries: &BTreeMap<Vec<u8>, usize>,
 ) -> Result<Option<Map<String, Value>>, AllocError>
     ensures { let pairs = keyed (λ key. key.items) entries.now.entries in IfOk result (λ answer.
-        option_map (λ ms. members_view ms.entries) answer ≡ if are_text pairs then Some (members pairs) else None) }
+        option_map (λ ms. members_view ms.entries) answer
+        ≡ if are_text pairs then Some (members pairs) else None) }
 {
     let mut members = Map::new(alloc);
     for (key, value) in entries {
@@ -58,7 +59,8 @@ fn pair_list(alloc: Global, key: &[u8], value: usize) -> Result<Value, AllocErro
 
 /// A list of pairs.
 fn pairs_list(alloc: Global, entries: &BTreeMap<Vec<u8>, usize>) -> Result<Value, AllocError>
-    ensures { IfOk result (λ v. view v ≡ list_of (map pair_list (keyed (λ key. key.items) entries.now.entries))) }
+    ensures { IfOk result (λ v.
+        view v ≡ list_of (map pair_list (keyed (λ key. key.items) entries.now.entries))) }
 {
     let mut items = Vec::new(alloc);
     for (key, value) in entries {

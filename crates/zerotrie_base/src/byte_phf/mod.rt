@@ -183,7 +183,8 @@ impl PerfectByteHashMap<Vec<u8>> {
         requires { IsDistinct nat_eq keys.now }
         ensures table { IfOk result (λ table. IsPerfectTable keys.now table.store.items) }
         ensures plain { IfOk result (λ table. IsPlain keys.now
-            → (placed : List ℕ) × (table.store.items ≡ replicate (1 + length keys.now) 0 ++ placed)) }
+            → (placed : List ℕ) × (table.store.items
+            ≡ replicate (1 + length keys.now) 0 ++ placed)) }
         ensures refused { IfErr result (IsTableRefusal keys.now) }
     {
         let store = table_of(alloc, keys)?;
@@ -218,7 +219,8 @@ impl<S: TrieStore> PerfectByteHashMap<S> {
     pub fn get(&self, key: u8) -> Option<usize>
         ensures any { result ≡ number_of (S.stored self.now.store) key }
         ensures perfect { (p : ℕ) (qs keys : List ℕ) → S.stored self.now.store ≡ p ∷ (qs ++ keys)
-            → IsPerfect p qs keys → (i : ℕ) → (result ≡ Some i) ↔ ((i < length keys) × (slice_index keys i ≡ key)) }
+            → IsPerfect p qs keys → (i : ℕ) → (result ≡ Some i)
+            ↔ ((i < length keys) × (slice_index keys i ≡ key)) }
     {
         number_of(self.store.bytes(), key)
     }
@@ -233,7 +235,8 @@ impl<S: TrieStore> PerfectByteHashMap<S> {
     /// The keys in the order of their places: what follows the first `1 + num_items` bytes, and nothing
     /// if there are fewer.
     pub fn keys(&self) -> &[u8]
-        ensures { let bytes = S.stored self.now.store in result.now ≡ drop (1 + length bytes / 2) bytes }
+        ensures { let bytes = S.stored self.now.store in result.now
+            ≡ drop (1 + length bytes / 2) bytes }
     {
         let bytes = self.store.bytes();
         bytes.get(1 + bytes.len() / 2..).unwrap_or(&[])

@@ -183,7 +183,8 @@ fn add<const K: usize>(
     requires ascii { All (λ e. All (λ b. b < 128) e.0) (pairs items) }
     requires built { BuiltFrom K (suc index) (pairs items) text.old siblings.old.items }
     ensures keeps { OnOk result (Keeps text.old text.new) }
-    ensures built { OnOk result (BuiltFrom K index (pairs items.entry) text.new siblings.new.items) }
+    ensures built { OnOk result
+        (BuiltFrom K index (pairs items.entry) text.new siblings.new.items) }
     ensures refused { IfErr result (IsStuck K (pairs items.entry)) }
 {
     let (key, value) = items.get(index);
