@@ -69,6 +69,30 @@ takes_on kind ends place pairs law lists found taken next c text test takes is =
     (is ∙ ap (λ o. option_or o found) takes ∙ sym (ap (λ b. cond b (option_or (value_at kind pairs []) found) found) test))
     (λ key. law kind place (without_value pairs) lists (c ∷ []) key ∙ others_stay kind pairs c key)
 
+-- what was found stays where no key goes on
+pub stays : (ends : ℕ → Bool) (found : Option ℕ) (at : List ℕ → Option ℕ) (text : List ℕ) → ((key : List ℕ) → at key ≡ None) → going ends found at text ≡ found
+stays ends found at [] none = ap (λ o. option_or o found) (none [])
+stays ends found at (c ∷ text) none =
+    going_same ends found (cond (ends c) (option_or (at []) found) found) (λ key. at (c ∷ key)) (λ key. at (c ∷ key)) text (same (ends c)) (λ key. refl)
+    ∙ stays ends found (λ key. at (c ∷ key)) text (λ key. none (c ∷ key))
+  where
+    same : (b : Bool) → cond b (option_or (at []) found) found ≡ found
+    same true = ap (λ o. option_or o found) (none [])
+    same false = refl
+
+-- no pairs are left, where no value was asked for
+pub stays_on : (kind : Kind) (ends : ℕ → Bool) (pairs : Pairs) → pairs ≡ [] → (found next : Option ℕ) (text : List ℕ) → next ≡ found
+    → next ≡ going ends found (value_at kind pairs) text
+stays_on kind ends pairs none found next text is = is ∙ sym (stays ends found (value_at kind pairs) text (λ key. rw none refl))
+
+-- no pairs are left without the value that was taken
+pub stays_taken : (kind : Kind) (ends : ℕ → Bool) (pairs : Pairs) → without_value pairs ≡ [] → (found taken next : Option ℕ) (c : ℕ) (text : List ℕ)
+    → ends c ≡ true → taken ≡ value_at kind pairs [] → next ≡ option_or taken found → next ≡ going ends found (value_at kind pairs) (c ∷ text)
+stays_taken kind ends pairs none found taken next c text test takes is =
+    sym (stays ends next (λ key. value_at kind pairs (c ∷ key)) text (λ key. sym (others_stay kind pairs c key) ∙ ap (λ ps. value_at kind ps (c ∷ key)) none))
+    ∙ going_same ends (cond (ends c) (option_or (value_at kind pairs []) found) found) next (λ key. value_at kind pairs (c ∷ key)) (λ key. value_at kind pairs (c ∷ key)) text
+    (is ∙ ap (λ o. option_or o found) takes ∙ sym (ap (λ b. cond b (option_or (value_at kind pairs []) found) found) test)) (λ key. refl)
+
 -- the longest front that answers, or what was found before if none does
 Gone : (ℕ → Bool) → Option ℕ → (List ℕ → Option ℕ) → List ℕ → Option ℕ → Type 0
 Gone ends found at text answer =

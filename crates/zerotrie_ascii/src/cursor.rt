@@ -1,23 +1,28 @@
 //! Cursors, which go down a trie over ASCII keys edge by edge.
 
-ghost use Rattle.std.specs.Prelude.{⊤, ◌≡◌, ◌↔◌, ◌∷◌, [], ℕ, List, None, IsTrue, IfNone, IfOk, IsOk, OnErr, is_ok, MatchResult, nat_lt};
+ghost use Rattle.std.specs.Prelude.{⊤, ◌≡◌, ◌≤◌, length, ◌↔◌, ◌∷◌, [], ℕ, List, None, IsTrue, IfNone, IfOk, IsOk, OnErr, is_ok, MatchResult, nat_lt};
 ghost use Rattle.std.specs.Fn.{FnOnceReturnsAtMut};
 ghost use Rattle.std.specs.Option.{option_map};
 ghost use Rattle.zerotrie_core.specs.Kind.{simple_ascii, ignore_case};
 ghost use Rattle.zerotrie_core.specs.Maps.{Pairs};
 ghost use Rattle.zerotrie_core.specs.Texts.{Lists};
+ghost use Rattle.zerotrie_core.specs.Listings.{to_come};
 ghost use Rattle.zerotrie_core.specs.Places.{IsStep, IsTake, IsProbe};
 ghost use Rattle.zerotrie_any.specs.Auto.{is_ascii};
 ghost use Rattle.zerotrie_any.specs.Walks.{IsWalk};
+ghost use Rattle.zerotrie_ascii.specs.ListedTexts.{AreTexts};
 ghost use Rattle.zerotrie_ascii.specs.Writing.{ascii_front, StepsBy, HasValue};
 
 use crate::ascii_trie::AsciiTrie;
+use crate::listed::ZeroTrieStringIterator;
 use crate::options::AsciiKind;
 use std::alloc::{AllocError, Global};
 use std::fmt;
 use std::marker::{Model, PhantomData};
 use zerotrie_any::{CursorAnswer, CursorOp, walk};
-use zerotrie_core::{AsciiProbeResult, Ignore, Simple, TrieStore, probe, step, take_value};
+use zerotrie_core::{
+    AsciiProbeResult, Ignore, Simple, TrieStore, ZeroTrieStream, probe, step, take_value,
+};
 
 /// A place in a trie over ASCII keys: what all keys have after the bytes that were stepped. `K` is the kind.
 ///
@@ -92,6 +97,36 @@ impl<'a, K> AsciiCursor<'a, K> {
 }
 
 impl<'a, K: AsciiKind> AsciiCursor<'a, K> {
+    /// The pairs of what all keys have from here on, one after another, each key lent from one buffer. It takes no memory
+    /// before the first pair, and none for a pair.
+    ///
+    /// ```
+    /// let trie = ZeroTrieSimpleAscii::from_bytes(b"in\x83to\x84");
+    /// let mut cursor = trie.cursor();
+    /// cursor.step(b'i');
+    /// let mut pairs = cursor.stream(rt.alloc());
+    /// assert!(rt; pairs.advance()?);
+    /// assert_eq!(rt; (pairs.key(), pairs.value()), (b"n".as_slice(), 3));
+    /// ```
+    ///
+    /// The cursor stays as it is.
+    pub fn stream(&self, alloc: Global) -> ZeroTrieStream<'a>
+        ensures lists { (pairs : Pairs) → Lists K.kind self.now pairs
+            → result.left ≡ to_come pairs }
+        ensures most { length result.left.pairs ≤ length self.now }
+    {
+        ZeroTrieStream::new::<K>(alloc, self.trie)
+    }
+
+    /// The same pairs, each key in memory of its own.
+    pub fn iter(&self, alloc: Global) -> ZeroTrieStringIterator<'a>
+        ensures lists { (pairs : Pairs) → Lists K.kind self.now pairs → result ≡ to_come pairs }
+        ensures texts { (pairs : Pairs) → Lists K.kind self.now pairs → AreTexts pairs }
+        ensures most { length result.pairs ≤ length self.now }
+    {
+        ZeroTrieStringIterator::new::<K>(alloc, self.trie)
+    }
+
     /// Whether no key goes on from here. An empty cursor has no value either.
     pub fn is_empty(&self) -> bool
         ensures exact { IsTrue result ↔ (self.now ≡ []) }

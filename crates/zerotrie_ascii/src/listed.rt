@@ -42,6 +42,20 @@ impl<'a> Model for ZeroTrieStringIterator<'a> {
     ghost view = { λ s. cond s.ended over s.inner };
 }
 
+impl<'a> ZeroTrieStringIterator<'a> {
+    /// The pairs of these bytes.
+    pub(crate) fn new<K: AsciiKind>(alloc: Global, bytes: &'a [u8]) -> Self
+        ensures lists { (pairs : Pairs) → Lists K.kind bytes.now pairs → result ≡ to_come pairs }
+        ensures texts { (pairs : Pairs) → Lists K.kind bytes.now pairs → AreTexts pairs }
+        ensures most { length result.pairs ≤ length bytes.now }
+    {
+        ZeroTrieStringIterator {
+            inner: ZeroTrieIterator::new::<K>(alloc, bytes),
+            ended: false,
+        }
+    }
+}
+
 impl<'a> Iterator for ZeroTrieStringIterator<'a> {
     type Item = Result<(String, usize), ListError>;
 
@@ -126,10 +140,7 @@ impl<K: AsciiKind, S: TrieStore> AsciiTrie<K, S> {
             → AreTexts pairs }
         ensures most { length result.pairs ≤ length (S.stored self.now.store) }
     {
-        ZeroTrieStringIterator {
-            inner: ZeroTrieIterator::new::<K>(alloc, self.as_bytes()),
-            ended: false,
-        }
+        ZeroTrieStringIterator::new::<K>(alloc, self.as_bytes())
     }
 
     /// The pairs whose keys begin with a prefix, as `iter` lists them: each with its whole key.

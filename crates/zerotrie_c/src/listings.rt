@@ -10,7 +10,7 @@ ghost use Rattle.zerotrie_c.specs.Listed.{joined, ends_from, values_of, status_i
 
 use crate::statuses::{BUFFER_TOO_SMALL, DONE, OUT_OF_MEMORY, UNKNOWN_KIND};
 use std::alloc::Global;
-use zerotrie_core::{Ext, Hash, Ignore, ListError, Simple, ZeroTrieIterator, ZeroTrieWithOptions};
+use zerotrie_core::{Ext, Hash, Ignore, ListError, Simple, ZeroTrieStream, ZeroTrieWithOptions};
 
 /// Keys that lie one behind another, where each ends, and their values.
 #[derive(Drop)]
@@ -21,18 +21,18 @@ struct Flat {
 }
 
 /// The pairs that a listing gives.
-fn flat_of(alloc: Global, items: ZeroTrieIterator<'_>) -> Result<Flat, ListError>
-    ensures listed { IfOk result (λ f. IsFlat items.entry.pairs f.keys.items f.ends.items f.values.items) }
+fn flat_of(alloc: Global, mut pairs: ZeroTrieStream<'_>) -> Result<Flat, ListError>
+    ensures listed { IfOk result (λ f.
+        IsFlat pairs.entry.left.pairs f.keys.items f.ends.items f.values.items) }
     ensures refused { IfErr result (λ e. e ≡ OutOfMemory) }
 {
     let mut keys = Vec::new(alloc);
     let mut ends = Vec::new(alloc);
     let mut values = Vec::new(alloc);
-    for item in items {
-        let (key, value) = item?;
-        keys.extend_from_slice(key.as_slice())?;
+    while pairs.advance()? {
+        keys.extend_from_slice(pairs.key())?;
         ends.push(keys.len())?;
-        values.push(value)?;
+        values.push(pairs.value())?;
     }
     Ok(Flat { keys, ends, values })
 }
@@ -47,8 +47,8 @@ fn list<K: ZeroTrieWithOptions>(
         → IfOk result (λ f. IsFlat (beginning K.kind prefix.now pairs) f.keys.items f.ends.items f.values.items) }
     ensures refused { IfErr result (λ e. e ≡ OutOfMemory) }
 {
-    let items = ZeroTrieIterator::with_prefix::<K>(alloc, bytes, prefix)?;
-    flat_of(alloc, items)
+    let pairs = ZeroTrieStream::with_prefix::<K>(alloc, bytes, prefix)?;
+    flat_of(alloc, pairs)
 }
 
 /// Puts numbers at the front of the room, if there is enough.

@@ -4,6 +4,7 @@ ghost use Rattle.std.specs.Prelude.{⊤, ◌≡◌, ◌≢◌, ◌↔◌, [], �
 ghost use Rattle.std.specs.Option.{option_map};
 ghost use Rattle.zerotrie_core.specs.Maps.{Pairs};
 ghost use Rattle.zerotrie_core.specs.Texts.{Lists};
+ghost use Rattle.zerotrie_core.specs.Listings.{to_come};
 ghost use Rattle.zerotrie_core.specs.Places.{nowhere, ListsAt, IsStep, IsTake, IsProbe, FollowsRun};
 ghost use Rattle.zerotrie_any.specs.Walks.{IsWalk};
 
@@ -12,7 +13,9 @@ use crate::options::HashedKind;
 use std::alloc::{AllocError, Global};
 use std::marker::{Model, PhantomData};
 use zerotrie_any::{CursorAnswer, CursorOp, walk};
-use zerotrie_core::{ByteProbeResult, Ext, Hash, SpanCursor, TrieStore};
+use zerotrie_core::{
+    ByteProbeResult, Ext, Hash, SpanCursor, TrieStore, ZeroTrieIterator, ZeroTrieStream,
+};
 
 /// A place in a trie over keys of any bytes: what all keys have after the bytes that were stepped. `K` is
 /// the kind.
@@ -91,6 +94,34 @@ impl<'a, K: HashedKind> HashedCursor<'a, K> {
     {
         let trie = self.place.rest()?;
         Some(HashedTrie::from_bytes(trie))
+    }
+
+    /// The pairs of what all keys have from here on, one after another, each key lent from one buffer.
+    ///
+    /// ```
+    /// let trie = ZeroTriePerfectHash::from_bytes(b"a\xA2\xC3\xA5\x85");
+    /// let mut cursor = trie.cursor();
+    /// cursor.step(b'a');
+    /// cursor.step(0xC3);
+    /// let mut pairs = cursor.stream(rt.alloc())?;
+    /// assert!(rt; pairs.advance()?);
+    /// assert_eq!(rt; (pairs.key(), pairs.value()), (b"\xA5".as_slice(), 5));
+    /// ```
+    ///
+    /// The cursor may stand inside a span, and stays as it is. The only error is that it is out of memory.
+    pub fn stream(&self, alloc: Global) -> Result<ZeroTrieStream<'a>, AllocError>
+        ensures { IfOk result (λ s. (pairs : Pairs) → ListsAt K.kind self.now pairs
+            → s.left ≡ to_come pairs) }
+    {
+        ZeroTrieStream::from_cursor::<K>(alloc, self.place.clone()?)
+    }
+
+    /// The same pairs, each key in memory of its own.
+    pub fn iter(&self, alloc: Global) -> Result<ZeroTrieIterator<'a>, AllocError>
+        ensures { IfOk result (λ it. (pairs : Pairs) → ListsAt K.kind self.now pairs
+            → it ≡ to_come pairs) }
+    {
+        ZeroTrieIterator::from_cursor::<K>(alloc, self.place.clone()?)
     }
 
     /// Whether no key goes on from here. An empty cursor has no value either.

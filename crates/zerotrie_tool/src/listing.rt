@@ -9,7 +9,7 @@ ghost use Rattle.zerotrie_tool.specs.Replies.{list_lines};
 use crate::reply::write_pair;
 use std::alloc::{AllocError, Global};
 use std::collections::BTreeMap;
-use zerotrie::{ZeroTrieIterator, ZeroTrieWithOptions};
+use zerotrie::{ZeroTrieStream, ZeroTrieWithOptions};
 
 /// Writes the pairs of a text of the kind, in the order of its nodes.
 pub fn write_pairs<K: ZeroTrieWithOptions>(
@@ -20,11 +20,9 @@ pub fn write_pairs<K: ZeroTrieWithOptions>(
     ensures { OnOk result ((pairs : Pairs) → Lists K.kind bytes.now pairs
         → string_bytes output.new ≡ string_bytes output.old ++ list_lines pairs) }
 {
-    for item in ZeroTrieIterator::new::<K>(alloc, bytes) {
-        let Ok((key, value)) = item else {
-            return Err(AllocError);
-        };
-        write_pair(output, key.as_slice(), value)?;
+    let mut pairs = ZeroTrieStream::new::<K>(alloc, bytes);
+    while pairs.advance()? {
+        write_pair(output, pairs.key(), pairs.value())?;
     }
     Ok(())
 }

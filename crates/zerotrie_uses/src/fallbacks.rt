@@ -25,6 +25,9 @@ pub fn fall_back<S: TrieStore>(trie: &ZeroTrieSimpleAscii<S>, name: &[u8]) -> Op
         if *byte == HYPHEN {
             found = cursor.take_value().or(found);
         }
+        if cursor.is_empty() {
+            return found;
+        }
         cursor.step(*byte);
     }
     cursor.take_value().or(found)
@@ -45,6 +48,9 @@ pub fn fall_back_in_hashed<S: TrieStore>(
         if *byte == HYPHEN {
             found = cursor.take_value().or(found);
         }
+        if cursor.is_empty() {
+            return found;
+        }
         cursor.step(*byte);
     }
     cursor.take_value().or(found)
@@ -63,6 +69,9 @@ pub fn longest_key<S: TrieStore>(trie: &ZeroTrieSimpleAscii<S>, text: &[u8]) -> 
     let mut cursor = trie.cursor();
     for byte in text {
         longest = cursor.take_value().or(longest);
+        if cursor.is_empty() {
+            return longest;
+        }
         cursor.step(*byte);
     }
     cursor.take_value().or(longest)
