@@ -19,11 +19,12 @@ ghost use Rattle.zerotrie_core.specs.listing.Opened.{IsOpen, Nested, Stands, pai
 
 mod opened;
 
+use crate::here::Here;
 use crate::lanes::first_other_in_16;
 use crate::node::{Node, first_node};
 use crate::options::{Ext, Hash, Ignore, Simple, ZeroTrieBuilderOptions, ZeroTrieWithOptions};
 use crate::span_cursor::SpanCursor;
-use opened::{Here, OpenBranch};
+use opened::OpenBranch;
 use std::alloc::{AllocError, Allocator, Global};
 use std::marker::Model;
 

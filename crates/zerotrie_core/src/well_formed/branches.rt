@@ -1,15 +1,17 @@
-//! The test of a branch: its search table, the width of its offsets, and where its targets begin and end.
+//! The test of a branch: its search table, the width of its offsets, and where its targets end.
 
-ghost use Rattle.std.specs.Prelude.{◌≡◌, ◌↔◌, ℕ, ◌+◌, ◌-◌, ◌<◌, ◌≤◌, IsTrue, IfSome, IfNone, List, ◌∷◌, ◌++◌, length, map, take, drop};
+ghost use Rattle.std.specs.Prelude.{◌≡◌, ◌↔◌, ℕ, ◌+◌, ◌-◌, ◌<◌, ◌≤◌, IsTrue, IfSome, IfNone, List, ◌∷◌, ◌++◌, length, map, take, drop, false};
 ghost use Rattle.zerotrie_base.specs.Hashes.{IsPerfect};
 ghost use Rattle.std.specs.List.Sorted.{IsStrictlyIncreasing};
 ghost use Rattle.zerotrie_core.specs.Kind.{fold_byte};
 ghost use Rattle.zerotrie_core.specs.Branches.{IsWidth, table_size};
+ghost use Rattle.zerotrie_core.specs.Nodes.{targets_behind, begin_of};
 ghost use Rattle.zerotrie_core.specs.Shapes.{branch_shape};
-ghost use Rattle.zerotrie_core.specs.well_formed.Branching.{AreBytes, AnswersEach, HasTable, InOrder, IsLongest, IsSound};
+ghost use Rattle.zerotrie_core.specs.well_formed.Branching.{AreBytes, AnswersEach, HasTable, HasFront, IsTarget};
 ghost use Rattle.zerotrie_core.specs.well_formed.Testing.{AlwaysNoText};
 
 use crate::branch::{Branch, folded};
+use crate::here::Here;
 use crate::options::ZeroTrieWithOptions;
 use zerotrie_base::PerfectByteHashMap;
 
@@ -83,43 +85,36 @@ fn has_width(body: &[u8], offsets: usize, width: usize) -> bool
     width - 1 == least_width(targets.len())
 }
 
-/// The place of the longest target, of equal ones the first. `None` where the offsets fall, or pass the end,
-/// or a target is empty.
-fn longest_target(branch: &Branch<'_>) -> Option<usize>
-    ensures order { IfSome result (λ place.
-        InOrder branch.now.edges branch.now.width branch.now.behind.now branch.now.edges) }
-    ensures longest { IfSome result (λ place.
-        IsLongest branch.now.edges branch.now.width branch.now.behind.now branch.now.edges place) }
-    ensures none { IfNone result
-        (InOrder branch.now.edges branch.now.width branch.now.behind.now branch.now.edges → ⊥) }
-{
-    let mut place = 0;
-    let mut most = 0;
-    for index in 0..branch.edges {
-        let target = branch.target_at(index)?;
-        if target.is_empty() {
-            return None;
-        }
-        if most < target.len() {
-            most = target.len();
-            place = index;
-        }
-    }
-    Some(place)
-}
-
-/// The place of the longest target of a branch whose table, width and offsets are well-formed.
-pub(super) fn sound_branch<K: ZeroTrieWithOptions>(branch: &Branch<'_>) -> Option<usize>
-    ensures some { IfSome result (λ place. IsSound K.kind branch.now.edges branch.now.width
-        branch.now.table.now branch.now.behind.now place) }
-    ensures none { IfNone result (AlwaysNoText K.kind (branch_shape branch.now)) }
+/// Whether the search table of a branch and the width of its offsets are well-formed.
+pub(super) fn has_front<K: ZeroTrieWithOptions>(branch: &Branch<'_>) -> bool
+    ensures yes { IsTrue result → HasFront K.kind branch.now.edges branch.now.width
+        branch.now.table.now branch.now.behind.now }
+    ensures no { result ≡ false → AlwaysNoText K.kind (branch_shape branch.now) }
 {
     let (_, body) = branch.behind.split_at(branch.edges);
-    if !has_width(body, branch.width * (branch.edges - 1), branch.width) {
+    has_width(body, branch.width * (branch.edges - 1), branch.width) && has_table::<K>(branch)
+}
+
+/// The target of an edge, which begins at a place among the targets. `None` if its offset falls, or passes the end, or it
+/// is empty.
+#[inline(always)]
+pub(super) fn target_from<'a, K: ZeroTrieWithOptions>(
+    branch: &Branch<'_>,
+    targets: Here<'a>,
+    begin: usize,
+    index: usize,
+) -> Option<Here<'a>>
+    requires index { index < branch.now.edges }
+    requires targets { targets.rest.now
+        ≡ targets_behind branch.now.edges branch.now.width branch.now.behind.now }
+    requires begins { begin ≡ begin_of branch.now.edges branch.now.width branch.now.behind.now index }
+    ensures some { IfSome result (λ target.
+        IsTarget branch.now.edges branch.now.width branch.now.behind.now index target.rest.now) }
+    ensures none { IfNone result (AlwaysNoText K.kind (branch_shape branch.now)) }
+{
+    let target = targets.part(begin, branch.end_at(index))?;
+    if target.rest.is_empty() {
         return None;
     }
-    if !has_table::<K>(branch) {
-        return None;
-    }
-    longest_target(branch)
+    Some(target)
 }
