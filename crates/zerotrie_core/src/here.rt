@@ -65,7 +65,8 @@ impl<'a> Here<'a> {
     /// The bytes of the rest from one place to another, if these are in order and in it.
     #[inline(always)]
     pub fn part(self, begin: usize, end: usize) -> Option<Here<'a>>
-        ensures { IsGetRangeResult self.entry.rest.now begin end (option_map (λ here. here.rest) result) }
+        ensures { IsGetRangeResult self.entry.rest.now begin end
+            (option_map (λ here. here.rest) result) }
     {
         let rest = self.rest.get(begin..end)?;
         let (_, tail) = self.tail.split_at(begin);

@@ -1,8 +1,8 @@
 //! The test of bytes: whether they are a trie at all.
 //!
-//! It goes over the nodes as a look-up does, in one call for all of a text but the shorter targets of a branch:
-//! each of those has a call of its own, and with the longest one the call itself goes on. A shorter target has
-//! less than half of the bytes, so few calls are open at once, and no memory is taken.
+//! It goes over the nodes as a look-up does, in one call for all of a text but the shorter targets of a branch: each of
+//! those that is more than a leaf has a call of its own, and with the longest one the call itself goes on. A shorter target
+//! has less than half of the bytes, so few calls are open at once, and no memory is taken.
 
 ghost use Rattle.std.specs.Prelude.{◌≡◌, ◌≢◌, ◌↔◌, ℕ, ◌<◌, ◌≤◌, IsTrue, IfSome, IfNone, List, [], length};
 ghost use Rattle.zerotrie_core.specs.Kind.{Kind};
@@ -77,9 +77,9 @@ pub(crate) enum Step<'a> {
     Wrong,
     /// Literals stand there, at least one.
     Literals,
-    /// The text goes on in these bytes, where so much may stand.
+    /// The text goes on in these bytes, and this may stand there.
     Over(&'a [u8], Expected),
-    /// It goes on behind a branch.
+    /// It goes on after a branch.
     Behind(Branch<'a>),
 }
 
@@ -98,7 +98,7 @@ fn is_run(run: &[u8]) -> bool
     true
 }
 
-/// What a node comes to, where so much may stand.
+/// What a node comes to, if this may stand there.
 #[inline(always)]
 fn next_step<'a, K: ZeroTrieWithOptions>(node: Node<'a>, expected: Expected) -> Step<'a>
     ensures { Steps K.kind (shape node.entry) expected result }
@@ -156,8 +156,8 @@ fn by_length<'a>(first: Here<'a>, next: Here<'a>) -> (Here<'a>, Here<'a>)
     }
 }
 
-/// The longest target of a branch, if the branch and all other targets are well-formed, and how many calls of the test
-/// were open at once for these, the one that goes on with the longest counted.
+/// The longest target of a branch, if the branch and all other targets are well-formed, and the depth that these give to
+/// the branch.
 ///
 /// Each offset is read once: of the targets so far, all but the longest are tested, and that one comes to its turn when a
 /// longer one is met.
@@ -200,7 +200,7 @@ fn go_behind<'a, K: ZeroTrieWithOptions>(
     Some((longest, most))
 }
 
-/// Whether the bytes that are to be gone over are a trie of the kind, and how many calls of this test were open at once.
+/// Whether the bytes that are to be gone over are a trie of the kind, and its depth.
 #[cycle(tested)]
 fn is_text_counted<K: ZeroTrieWithOptions>(here: Here<'_>) -> (bool, u32)
     ensures yes { IsTrue result.0 ↔ IsWellFormed K.kind here.entry.rest.now }
@@ -236,8 +236,8 @@ fn is_text_counted<K: ZeroTrieWithOptions>(here: Here<'_>) -> (bool, u32)
     (at.rest.is_empty() && expected.takes_end(), most)
 }
 
-/// Whether the bytes are a trie of the kind, and how many calls of this test were open at once, this one
-/// counted.
+/// Whether the bytes are a trie of the kind, and its depth, which no count of calls of this test that are open at once
+/// passes.
 ///
 /// ```
 /// assert_eq!(rt; is_well_formed_counted::<Simple>(&[0x61, 0x85]), (true, 1));
@@ -245,9 +245,9 @@ fn is_text_counted<K: ZeroTrieWithOptions>(here: Here<'_>) -> (bool, u32)
 /// assert!(rt; !is_well_formed_counted::<Simple>(&[0x61]).0);
 /// ```
 ///
-/// The test calls itself for every target of a branch but the longest, and goes on with that one; of equal ones
-/// it is the first. On any bytes, fewer than 2^d with d at least 1 give a count from 1 to d, so it is never more
-/// than 64. It returns on any bytes, and takes no memory.
+/// The test calls itself for each target of a branch but the longest, unless it is a leaf, and goes on with that one; of
+/// equal ones it is the first. A leaf counts as a call. On any bytes, fewer than 2^d with d at least 1 give a depth from
+/// 1 to d, so it is never more than 64. It returns on any bytes, and takes no memory.
 pub fn is_well_formed_counted<K: ZeroTrieWithOptions>(bytes: &[u8]) -> (bool, u32)
     ensures yes { IsTrue result.0 ↔ IsWellFormed K.kind bytes.now }
     ensures count { (m : Map) (means : Means K.kind bytes.now m) → result.1 ≡ deep means.lists }

@@ -32,7 +32,8 @@ fn rises<K: ZeroTrieWithOptions>(edges: &[u8]) -> bool
 fn is_perfect(table: &[u8], edges: &[u8]) -> bool
     ensures bytes { AreBytes table.now × AreBytes edges.now }
     ensures yes { IsTrue result → AnswersEach table.now edges.now }
-    ensures no { (p : ℕ) (qs : List ℕ) → table.now ≡ p ∷ (qs ++ edges.now) → IsPerfect p qs edges.now → IsTrue result }
+    ensures no { (p : ℕ) (qs : List ℕ) → table.now ≡ p ∷ (qs ++ edges.now)
+        → IsPerfect p qs edges.now → IsTrue result }
 {
     for index in 0..edges.len() {
         if PerfectByteHashMap::from_bytes(table).get(edges[index]) != Some(index) {
@@ -45,7 +46,8 @@ fn is_perfect(table: &[u8], edges: &[u8]) -> bool
 /// Whether the search table is one of the kind, and its edges are bytes of the kind.
 fn has_table<K: ZeroTrieWithOptions>(branch: &Branch<'_>) -> bool
     ensures { length branch.now.table.now ≡ table_size K.kind branch.now.edges
-        → (IsTrue result ↔ HasTable K.kind (take branch.now.edges branch.now.behind.now) branch.now.table.now) }
+        → (IsTrue result ↔ HasTable K.kind (take branch.now.edges branch.now.behind.now)
+        branch.now.table.now) }
 {
     let (edges, _) = branch.behind.split_at(branch.edges);
     if !K::USE_PHF {
@@ -57,7 +59,7 @@ fn has_table<K: ZeroTrieWithOptions>(branch: &Branch<'_>) -> bool
     }
 }
 
-/// The width field of a branch with so many bytes of targets.
+/// The width field of a branch whose targets have this number of bytes together.
 fn least_width(total: usize) -> usize
     ensures width { IsWidth total result }
     ensures small { result ≤ 7 }
@@ -74,7 +76,7 @@ fn least_width(total: usize) -> usize
     }
 }
 
-/// Whether so many bytes of offsets have the width that the targets behind them need.
+/// Whether offsets of this many bytes have the width that the targets after them need.
 fn has_width(body: &[u8], offsets: usize, width: usize) -> bool
     requires within { offsets ≤ length body.now }
     requires some { 1 ≤ width }
@@ -107,7 +109,8 @@ pub(super) fn target_from<'a, K: ZeroTrieWithOptions>(
     requires index { index < branch.now.edges }
     requires targets { targets.rest.now
         ≡ targets_behind branch.now.edges branch.now.width branch.now.behind.now }
-    requires begins { begin ≡ begin_of branch.now.edges branch.now.width branch.now.behind.now index }
+    requires begins { begin ≡ begin_of branch.now.edges branch.now.width branch.now.behind.now
+        index }
     ensures some { IfSome result (λ target.
         IsTarget branch.now.edges branch.now.width branch.now.behind.now index target.rest.now) }
     ensures none { IfNone result (AlwaysNoText K.kind (branch_shape branch.now)) }
