@@ -107,7 +107,7 @@ bool zerotrie_is_well_formed(uint32_t kind, const uint8_t *bytes, size_t len);
 /* Whether the trie has the key. If so its value goes to *value, else *value stays. */
 bool zerotrie_get(uint32_t kind, const uint8_t *bytes, size_t len, const uint8_t *key, size_t key_len, size_t *value);
 
-/* Looks up many keys at once, which lie one behind another in `keys`: each goes from where the one before it ended up to its
+/* Looks up many keys at once, which lie one after another in `keys`: each goes from where the one before it ended up to its
  * own end. Writes the value of each, or `missing` for a key that the trie hasn't. An end beyond keys_len stands for
  * keys_len, and one below the end before it makes an empty key. As many are answered as there are ends and room for
  * values; the rest of the room stays. Answers ZEROTRIE_DONE, or ZEROTRIE_UNKNOWN_KIND and writes nothing. */
@@ -122,7 +122,7 @@ bool zerotrie_longest_prefix(uint32_t kind, const uint8_t *bytes, size_t len, co
 /* Sets the cursor in front of all keys, of a trie of any kind. */
 void zerotrie_cursor_new(const uint8_t *bytes, size_t len, zerotrie_cursor *cursor);
 
-/* Sets the cursor behind a prefix, where a step by each byte of it leads. Answers whether some key begins with it. */
+/* Sets the cursor after a prefix, where a step by each byte of it leads. Answers whether some key begins with it. */
 bool zerotrie_with_prefix(uint32_t kind, const uint8_t *bytes, size_t len, const uint8_t *prefix, size_t prefix_len,
                           zerotrie_cursor *cursor);
 
@@ -137,7 +137,7 @@ bool zerotrie_cursor_take_value(zerotrie_cursor *cursor, size_t *value);
  * such edge, nothing is left, and *edge and *siblings stay. Edges are numbered in the order of the bytes' listing. */
 bool zerotrie_cursor_probe(uint32_t kind, zerotrie_cursor *cursor, size_t index, uint8_t *edge, uint16_t *siblings);
 
-/* The kind of tagged bytes goes to *kind, and what stands behind the tag, where it lies, to *trie; it is not tested. Or
+/* The kind of tagged bytes goes to *kind, and what stands after the tag, where it lies, to *trie; it is not tested. Or
  * answers ZEROTRIE_NO_TAG or ZEROTRIE_INVALID_TAG and writes nothing. */
 uint32_t zerotrie_untagged(const uint8_t *tagged, size_t len, uint32_t *kind, zerotrie_bytes *trie);
 
@@ -166,7 +166,7 @@ uint32_t zerotrie_tagged(uint32_t kind, const uint8_t *bytes, size_t len, uint8_
 /* --- Listing -------------------------------------------------------------------------------------------------------- */
 
 /* Lists the pairs whose keys begin with the prefix (an empty one: all), in the order of the trie's bytes, which in
- * SIMPLE_ASCII is that of the keys. The keys go to `keys` one behind another, where each ends to `ends`, the values to
+ * SIMPLE_ASCII is that of the keys. The keys go to `keys` one after another, where each ends to `ends`, the values to
  * `values`; the rest of each room stays. *key_bytes and *count tell how long they are. With ZEROTRIE_BUFFER_TOO_SMALL some room
  * has too few places, and nothing is written to such a one. ZEROTRIE_OUT_OF_MEMORY: the three rooms stay. A trie of n bytes
  * has at most n pairs. Takes memory, as much as it lists. To list a large trie in parts, list one prefix after another:

@@ -159,7 +159,7 @@ public:
         return std::pair(text.substr(0, len), value);
     }
     Cursor cursor() const { return Cursor(kind_, bytes_); }
-    // A cursor behind a prefix. None if no key begins with it.
+    // A cursor after a prefix. None if no key begins with it.
     std::optional<Cursor> with_prefix(std::string_view prefix) const {
         const auto at = detail::of(bytes_), p = detail::of(prefix);
         zerotrie_cursor cursor;
@@ -205,7 +205,7 @@ template <class Pairs> Kind auto_kind(const Pairs &pairs) {
     return static_cast<Kind>(zerotrie_auto_kind(items.data(), items.size()));
 }
 
-// The bytes behind the number of their kind.
+// The bytes after the number of their kind.
 inline std::string tagged(Kind kind, std::string_view bytes) {
     const auto at = detail::of(bytes);
     std::string out(bytes.size() + 1, '\0');

@@ -306,7 +306,7 @@ class ZeroTrie(Mapping):
         return Cursor(self)
 
     def with_prefix(self, prefix: Key) -> Optional[Cursor]:
-        """A cursor behind a prefix. None if no key begins with it."""
+        """A cursor after a prefix. None if no key begins with it."""
         cursor, text = Cursor(self), _key(prefix)
         found = _lib.zerotrie_with_prefix(self.kind, self._at, self._len, text, len(text), cursor._raw)
         return cursor if found else None

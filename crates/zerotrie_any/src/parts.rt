@@ -14,7 +14,7 @@ use zerotrie_core::{ListError, TrieStore, ZeroTrieIterator, ZeroTrieWithOptions}
 
 /// The keys of a trie, one after another, in the order in which `ZeroTrieIterator` gives their pairs.
 ///
-/// An item is a key, or `ListError::OutOfMemory` where a growth was refused. After an error, and after the end,
+/// An item is a key, or `ListError::OutOfMemory` if memory runs out. After an error, and after the end,
 /// nothing more comes.
 #[derive(Debug, Drop)]
 pub struct ZeroTrieKeys<'a> {
@@ -64,7 +64,7 @@ impl<'a> Iterator for ZeroTrieKeys<'a> {
 
 /// The values of a trie, one after another, in the order in which `ZeroTrieIterator` gives their pairs.
 ///
-/// An item is a value, or `ListError::OutOfMemory` where a growth was refused, since a listing keeps the key that it
+/// An item is a value, or `ListError::OutOfMemory` if memory runs out, since a listing keeps the key that it
 /// stands at. After an error, and after the end, nothing more comes.
 #[derive(Debug, Drop)]
 pub struct ZeroTrieValues<'a> {
@@ -121,7 +121,8 @@ impl<S: TrieStore> ZeroTrie<S> {
     /// assert_eq!(rt; first.as_slice(), b"abc".as_slice());
     /// ```
     pub fn keys(&self, alloc: Global) -> ZeroTrieKeys<'_>
-        ensures lists { (pairs : Pairs) → Lists (flavor_kind self.now.flavor) (S.stored self.now.store) pairs
+        ensures lists { (pairs : Pairs)
+            → Lists (flavor_kind self.now.flavor) (S.stored self.now.store) pairs
             → result ≡ to_come pairs }
         ensures most { length result.pairs ≤ length (S.stored self.now.store) }
     {
@@ -137,7 +138,8 @@ impl<S: TrieStore> ZeroTrie<S> {
     /// assert_eq!(rt; trie.values(rt.alloc()).next().ok_or("no value")??, 11);
     /// ```
     pub fn values(&self, alloc: Global) -> ZeroTrieValues<'_>
-        ensures lists { (pairs : Pairs) → Lists (flavor_kind self.now.flavor) (S.stored self.now.store) pairs
+        ensures lists { (pairs : Pairs)
+            → Lists (flavor_kind self.now.flavor) (S.stored self.now.store) pairs
             → result ≡ to_come pairs }
         ensures most { length result.pairs ≤ length (S.stored self.now.store) }
     {

@@ -15,7 +15,7 @@ use std::alloc::{AllocError, Global};
 use std::marker::Model;
 use zerotrie_core::{ByteProbeResult, Ext, Hash, Simple, SpanCursor, TrieStore};
 
-/// A place in a `ZeroTrie`: what all keys have behind the bytes that were stepped.
+/// A place in a `ZeroTrie`: what all keys have after the bytes that were stepped.
 ///
 /// ```
 /// let trie = ZeroTrie::of_kind::<Hash>(b"a\xA2\xC3\xA5\x85".as_slice());
@@ -65,7 +65,8 @@ impl<'a> ZeroTrieCursor<'a> {
     ///
     /// `None` inside a span, where what is left has no bytes of its own in the store.
     pub fn into_suffix_trie(self) -> Option<ZeroTrie<&'a [u8]>>
-        ensures some { IfSome result (λ t. (self.entry.place.run ≡ []) × (t.store.now ≡ self.entry.place.trie)) }
+        ensures some { IfSome result (λ t.
+            (self.entry.place.run ≡ []) × (t.store.now ≡ self.entry.place.trie)) }
         ensures kind { IfSome result (λ t. t.flavor ≡ self.entry.flavor) }
         ensures none { IfNone result (self.entry.place.run ≢ []) }
         ensures lists { IfSome result (λ t. (pairs : Pairs) → ListsFrom self.entry pairs
@@ -86,10 +87,11 @@ impl<'a> ZeroTrieCursor<'a> {
         self.place.is_empty()
     }
 
-    /// Takes the value of the empty key. `None` where there is none, and then nothing changes.
+    /// Takes the value of the empty key. `None` if there is none, and then nothing changes.
     pub fn take_value(&mut self) -> Option<usize>
         ensures kind { self.new.flavor ≡ self.old.flavor }
-        ensures meaning { IsTake (flavor_kind self.old.flavor) (ListsFrom self.old) result (ListsFrom self.new) }
+        ensures meaning { IsTake (flavor_kind self.old.flavor) (ListsFrom self.old) result
+            (ListsFrom self.new) }
         ensures run { self.new.place.run ≡ self.old.place.run }
         ensures none { IfNone result (self.new ≡ self.old) }
     {
@@ -98,11 +100,13 @@ impl<'a> ZeroTrieCursor<'a> {
 
     /// Goes along the edge of this byte, and answers it.
     ///
-    /// A value is passed over. Where no edge is the byte, the answer is `None`, and the cursor is empty.
+    /// A value is passed over. If no edge is the byte, the answer is `None`, and the cursor is empty.
     pub fn step(&mut self, byte: u8) -> Option<u8>
         ensures kind { self.new.flavor ≡ self.old.flavor }
-        ensures meaning { IsStep (flavor_kind self.old.flavor) (ListsFrom self.old) byte result (ListsFrom self.new) }
-        ensures run { IfSome result (λ edge. FollowsRun (flavor_kind self.old.flavor) self.old.place edge self.new.place) }
+        ensures meaning { IsStep (flavor_kind self.old.flavor) (ListsFrom self.old) byte result
+            (ListsFrom self.new) }
+        ensures run { IfSome result (λ edge.
+            FollowsRun (flavor_kind self.old.flavor) self.old.place edge self.new.place) }
         ensures empty { IfNone result (self.new.place ≡ nowhere) }
     {
         match self.flavor {
@@ -124,7 +128,7 @@ impl<'a> ZeroTrieCursor<'a> {
     /// ```
     ///
     /// A value is passed over. The edges of a branch are numbered as they stand, and a literal and a byte
-    /// of a span are one edge. Where there is no edge of this number, the answer is `None`, and the cursor
+    /// of a span are one edge. If there is no edge of this number, the answer is `None`, and the cursor
     /// is empty.
     pub fn probe(&mut self, index: usize) -> Option<ByteProbeResult>
         ensures kind { self.new.flavor ≡ self.old.flavor }
@@ -172,9 +176,10 @@ impl<S: TrieStore> ZeroTrie<S> {
     /// assert_eq!(rt; answers[1], CursorAnswer::Taken(Some(5)));
     /// ```
     ///
-    /// The only error is want of memory.
+    /// The only error is out of memory.
     pub fn walk(&self, alloc: Global, ops: &[CursorOp]) -> Result<Vec<CursorAnswer>, AllocError>
-        ensures { IfOk result (λ answers. IsWalk (flavor_kind self.now.flavor) (S.stored self.now.store)
+        ensures { IfOk result (λ answers.
+            IsWalk (flavor_kind self.now.flavor) (S.stored self.now.store)
             ops.now answers.items) }
     {
         let bytes = self.as_bytes();

@@ -174,6 +174,27 @@ impl<'a, A: Allocator + Copy> ZeroTrieStream<'a, A> {
         }
     }
 
+    /// The pairs at a cursor, wherever it stands: what all keys have from there on.
+    ///
+    /// ```
+    /// let mut cursor = SpanCursor::new(b"a\xA2\xC3\xA5\x85");     // the key "aå" with value 5
+    /// cursor.step::<Hash>(b'a');
+    /// cursor.step::<Hash>(0xC3);
+    /// let mut pairs = ZeroTrieStream::from_cursor::<Hash>(rt.alloc(), cursor)?;
+    /// assert!(rt; pairs.advance()?);
+    /// assert_eq!(rt; (pairs.key(), pairs.value()), (b"\xA5".as_slice(), 5));
+    /// ```
+    ///
+    /// It takes memory only inside a span, whose rest is the front of each key.
+    pub fn from_cursor<K: ZeroTrieWithOptions>(
+        alloc: A,
+        cursor: SpanCursor<'a>,
+    ) -> Result<Self, AllocError>
+        ensures { IfOk result (λ s. (pairs : Pairs) → ListsAt K.kind cursor.entry pairs → s.left ≡ to_come pairs) }
+    {
+        ZeroTrieStream::behind::<K>(Vec::new(alloc), cursor)
+    }
+
     /// The pairs whose keys begin with a prefix, as the kind compares bytes; each with its whole key, and in the order
     /// in which they stand among all pairs.
     ///

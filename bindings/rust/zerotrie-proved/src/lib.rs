@@ -135,7 +135,7 @@ impl<'a> ZeroTrie<'a> {
         if trie.is_well_formed() { Ok(trie) } else { Err(Error::NotWellFormed) }
     }
 
-    /// The trie of tagged bytes, which tell their kind. What stands behind the tag is not tested.
+    /// The trie of tagged bytes, which tell their kind. What stands after the tag is not tested.
     ///
     /// ```
     /// # use zerotrie_proved::{Error, Kind, ZeroTrie};
@@ -199,7 +199,7 @@ impl<'a> ZeroTrie<'a> {
         found.then_some(value)
     }
 
-    /// Looks up keys that lie one behind another, each up to its end. Writes the value of each, or `missing` for a key that
+    /// Looks up keys that lie one after another, each up to its end. Writes the value of each, or `missing` for a key that
     /// the trie hasn't, as far as there is room; the rest of the room stays.
     ///
     /// ```
@@ -209,7 +209,7 @@ impl<'a> ZeroTrie<'a> {
     /// assert_eq!(values, [5, 99]);
     /// ```
     ///
-    /// An end behind all bytes stands for theirs, and one below the end before it makes an empty key.
+    /// An end past all bytes stands for theirs, and one below the end before it makes an empty key.
     pub fn get_many(&self, keys: &[u8], ends: &[usize], missing: usize, values: &mut [usize]) {
         // SAFETY: four slices, of which the one that is written is borrowed alone.
         let status = unsafe {
@@ -255,7 +255,7 @@ impl<'a> ZeroTrie<'a> {
         Cursor { kind: self.kind, raw, bytes: PhantomData }
     }
 
-    /// A cursor behind a prefix. `None` if no key begins with it.
+    /// A cursor after a prefix. `None` if no key begins with it.
     pub fn cursor_behind(&self, prefix: impl AsRef<[u8]>) -> Option<Cursor<'a>> {
         let (prefix, mut raw) = (prefix.as_ref(), nowhere(self.bytes));
         // SAFETY: two slices, and a cursor that is this call's own.

@@ -1,9 +1,9 @@
 //! Walks of a cursor, over bytes of every kind.
 
 use super::*;
-use zerotrie_any::CursorAnswer::{Probed, Stepped, Taken};
-use zerotrie_any::CursorOp::{Probe, Step, Take};
-use zerotrie_any::{CursorAnswer, CursorOp, walk};
+use zerotrie::CursorAnswer::{Probed, Stepped, Taken};
+use zerotrie::CursorOp::{Probe, Step, Take};
+use zerotrie::bytes::walk;
 
 /// A walk, and what it answers.
 type Row<'a> = (&'a [u8], &'a [CursorOp], &'a [CursorAnswer]);

@@ -112,7 +112,7 @@ fn count<K: ZeroTrieWithOptions>(alloc: Global, bytes: &[u8]) -> Result<usize, L
     Ok(pairs)
 }
 
-/// What stands behind offsets that fall, or behind a claim of more bytes than there are, is not listed.
+/// What stands after offsets that fall, or after a claim of more bytes than there are, is not listed.
 #[test]
 fn listings_of_no_trie_end(rt: HostRuntime) -> Result<(), Fail> {
     let rows: [(&[u8], usize); 11] = [

@@ -2,7 +2,7 @@
 
 use super::*;
 
-/// Keys, of which the second and the third part behind the first byte.
+/// Keys, of which the second and the third part after the first byte.
 const BAZ: [(&str, usize); 3] = [("bar", 2), ("bazzoo", 3), ("foo", 1)];
 
 /// Their text.

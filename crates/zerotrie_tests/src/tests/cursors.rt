@@ -1,9 +1,9 @@
 //! Cursors of the four kinds, walks, and what is written to a cursor.
 
 use super::*;
-use crate::cursor::{AsciiProbeResult, ByteProbeResult, HashedCursor};
 use std::fmt;
 use std::fmt::Write;
+use zerotrie::cursor::{AsciiProbeResult, ByteProbeResult, HashedCursor};
 
 /// Two keys of which one goes on from the other.
 const NESTED: &[u8] = b"abc\x80def\x81";

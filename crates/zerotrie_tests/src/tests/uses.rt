@@ -1,17 +1,9 @@
+//! The functions to copy.
+
 use super::*;
-use std::collections::BTreeMap;
-use std::fmt::Debug;
-use std::process::Abort;
-use std::test::Fail;
 use zerotrie::CursorAnswer::{Probed, Stepped, Taken};
 use zerotrie::CursorOp::{Probe, Step, Take};
-use zerotrie::{ZeroTriePerfectHash, ZeroTrieSimpleAscii};
-
-/// Ends the test where the two differ, and writes both: `assert_eq!` in a function of its own, since the proof of what
-/// it writes is long, and made anew wherever it stands.
-fn same<T: Debug + PartialEq + Drop, H: Abort>(rt: &H, left: T, right: T) {
-    assert_eq!(rt; left, right);
-}
+use zerotrie_uses::*;
 
 /// Pairs whose keys ascend.
 const PAIRS: [(&[u8], usize); 2] = [(b"Accept", 1), (b"Content-Type", 2)];

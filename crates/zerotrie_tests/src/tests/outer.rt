@@ -8,7 +8,7 @@ ghost use Rattle.zerotrie_core.specs.Maps.{look, map_of};
 use super::*;
 use serde_json::Value;
 
-/// A look-up in a trie that was put behind its tag and read again, which is never refused.
+/// A look-up in a trie that was put after its tag and read again, which is never refused.
 fn find_tagged(
     alloc: Global,
     pairs: &[(&[u8], usize)],

@@ -1,10 +1,10 @@
 //! Calls that are short for others, and the cursor of a `ZeroTrie`.
 
 use super::*;
-use crate::bytes::{
+use zerotrie::bytes::{
     ByteSliceWithIndices, count_pairs, encoded_len, fill_from_end, first_key_of, get_counted,
 };
-use crate::cursor::{ByteProbeResult, ZeroTrieCursor};
+use zerotrie::cursor::{ByteProbeResult, ZeroTrieCursor};
 
 /// A look-up of a text, a test for a key, and how many keys there are, of a trie of the keys "ab", "abcd" and
 /// "abce".
@@ -35,7 +35,7 @@ fn texts_keys_and_counts(rt: HostRuntime) {
     assert!(rt; ZeroTrie::empty() == Default::default() && ZeroTrie::empty().is_empty());
 }
 
-/// Values at the front, behind literals and spans, and in branches below branches count.
+/// Values at the front, after literals and spans, and in branches below branches count.
 #[test]
 fn values_at_any_place_count(rt: HostRuntime) {
     let rows: [(&[u8], usize); 5] = [

@@ -7,17 +7,18 @@ mod listings;
 mod outer;
 mod refusals;
 mod routes;
+mod uses;
 mod views;
 mod walks;
 mod well_formed;
 
-use super::*;
 use std::alloc::Global;
 use std::borrow::CowSlice;
 use std::collections::BTreeMap;
 use std::fmt::Debug;
 use std::process::Abort;
 use std::test::Fail;
+use zerotrie::*;
 
 /// Ends the test where the two differ, and writes both: `assert_eq!` in a function of its own, since the proof of what
 /// it writes is long, and made anew wherever it stands.
@@ -94,7 +95,7 @@ const LOCALES_TEXT: &[u8] =
     b"\xC4aefi\x16(:r/\xC4FISU\x02\x04\x06R\x80R\x81A\x82\xC2KS\x01\x83\x84n/\xC3AFU\x02\x04\
     U\x85R\x86\xC2KS\x01\x87\x88r/\xC3FSU\x02\x04R\x89A\x8A\xC2KS\x01\x8B\x8Ct/IT\x8D";
 
-/// The keys "k000" to "k511", one behind the other.
+/// The keys "k000" to "k511", one after another.
 fn many_keys() -> [u8; 2048] {
     let mut keys = [b'k'; 2048];
     for n in 0..512 {

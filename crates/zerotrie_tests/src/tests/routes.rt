@@ -1,8 +1,7 @@
 //! The texts that every route builds.
 
 use super::*;
-use zerotrie_build::ByteSliceWithIndices;
-use zerotrie_core::plain_encode;
+use zerotrie::bytes::{ByteSliceWithIndices, plain_encode};
 
 fn text_map<'a>(
     alloc: Global,
@@ -251,8 +250,8 @@ fn texts_without_case(rt: HostRuntime) -> Result<(), Fail> {
     ascii_texts::<Ignore, HostRuntime>(&rt, &rows)
 }
 
-/// Spans, and the tables of branches of 16 edges: all parameters are zero where no two edges are equal modulo
-/// their number, and searched where two are.
+/// Spans, and the tables of branches of 16 edges: all parameters are zero if no two edges are equal modulo
+/// their number, and searched if two are.
 const HASHED: [Row<'static>; 6] = [
     (&[], &[]),
     (&[("", 3), ("é", 4)], b"\x83\xA2\xC3\xA9\x84"),

@@ -1,7 +1,7 @@
 //! The examples of the documentation.
 
 use super::*;
-use zerotrie_build::ByteSliceWithIndices;
+use zerotrie::bytes::ByteSliceWithIndices;
 
 /// The example that the library's page opens with.
 #[test]
