@@ -9,6 +9,7 @@ ghost use Rattle.std.specs.Option.{option_map};
 ghost use Rattle.zerotrie_core.specs.Kind.{Kind, kind_with};
 ghost use Rattle.zerotrie_core.specs.Maps.{Pairs, with_run, beginning};
 ghost use Rattle.zerotrie_core.specs.Texts.{Lists};
+ghost use Rattle.zerotrie_core.specs.Places.{ListsAt};
 ghost use Rattle.zerotrie_core.specs.Shapes.{shape, branch_shape};
 ghost use Rattle.zerotrie_core.specs.listing.Listed.{node_of};
 ghost use Rattle.zerotrie_core.specs.Nodes.{Begins};
@@ -161,7 +162,8 @@ impl<'a, A: Allocator + Copy> ZeroTrieStream<'a, A> {
 
     /// The pairs of these bytes, each key with a front before it.
     fn behind<K: ZeroTrieWithOptions>(front: Vec<u8, A>, bytes: &'a [u8]) -> Self
-        ensures { (pairs : Pairs) → Lists K.kind bytes.now pairs → result.left ≡ to_come (with_run front.items pairs) }
+        ensures { (pairs : Pairs) → Lists K.kind bytes.now pairs
+            → result.left ≡ to_come (with_run front.items pairs) }
     {
         ZeroTrieStream {
             options: ZeroTrieBuilderOptions::of::<K>(),
@@ -192,7 +194,10 @@ impl<'a, A: Allocator + Copy> ZeroTrieStream<'a, A> {
     ) -> Result<Self, AllocError>
         ensures { IfOk result (λ s. (pairs : Pairs) → ListsAt K.kind cursor.entry pairs → s.left ≡ to_come pairs) }
     {
-        ZeroTrieStream::behind::<K>(Vec::new(alloc), cursor)
+        let (run, rest) = cursor.parts();
+        let mut front = Vec::new(alloc);
+        front.extend_from_slice(run)?;
+        Ok(ZeroTrieStream::behind::<K>(front, rest))
     }
 
     /// The pairs whose keys begin with a prefix, as the kind compares bytes; each with its whole key, and in the order
@@ -378,11 +383,13 @@ fn open_at<'a, K: ZeroTrieWithOptions, A: Allocator>(
     requires stands { Stands (length key.old.items) top.old (reverse branches.old.items) }
     ensures stands { IfOk result (λ target. IfSome target
         (λ _. Stands (length key.new.items) top.new (reverse branches.new.items))) }
-    ensures shorter { IfOk result (λ target. IfSome target (λ t. length t.rest.now < length here.entry.rest.now)) }
-    ensures goes { IfOk result (λ target. IfSome target (λ t.
-        GoesInto K.kind (branch_shape branch.entry) byte here.entry.rest.now key.old.items (top.old ∷ reverse branches.old.items)
+    ensures shorter { IfOk result (λ target. IfSome target
+        (λ t. length t.rest.now < length here.entry.rest.now)) }
+    ensures goes { IfOk result (λ target. IfSome target (λ t. GoesInto K.kind (branch_shape branch.entry) byte
+        here.entry.rest.now key.old.items (top.old ∷ reverse branches.old.items)
         t.rest.now key.new.items (top.new ∷ reverse branches.new.items))) }
-    ensures stops { IfOk result (λ target. IfNone target (AlwaysStops K.kind (branch_shape branch.entry) byte)) }
+    ensures stops { IfOk result (λ target. IfNone target
+        (AlwaysStops K.kind (branch_shape branch.entry) byte)) }
 {
     let Some(place) = branch.place_of::<K>(byte) else {
         return Ok(None);
