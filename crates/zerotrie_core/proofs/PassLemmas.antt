@@ -99,7 +99,7 @@ pub value_elsewhere : (kind : Kind) (front key : List ℕ) (pairs : Pairs) → (
 value_elsewhere kind front key [] other = refl
 value_elsewhere kind front key (e ∷ pairs) other = rw (other e.0) (value_elsewhere kind front key pairs other)
 
--- what a key has behind a front, edge by edge
+-- what a key has after a front, edge by edge
 edge_other : (kind : Kind) (edge : ℕ) (more left : List ℕ) → IsAfterEdge kind edge left None → same_key kind (edge ∷ more) left ≡ false
 edge_other kind edge more [] other = refl
 edge_other kind edge more (c ∷ left) other = rw (ne_eqb (fold_byte kind edge) (fold_byte kind c) (other c left refl)) refl

@@ -289,8 +289,8 @@ impl<'a, A: Allocator + Copy> ZeroTrieStream<'a, A> {
         }
     }
 
-    /// The pairs that stand after a key in the listing of a prefix; with the empty prefix, in that of all pairs. None if
-    /// no key of that listing is this one to the kind.
+    /// The pairs that stand after a key in the listing of a prefix; with the empty prefix, in that of all pairs. There are
+    /// none if no key of that listing is this one to the kind.
     ///
     /// ```
     /// let bytes = b"a\x81b\x82c\x83";           // the keys "a" with value 1, "ab" with value 2 and "abc" with value 3
@@ -300,7 +300,7 @@ impl<'a, A: Allocator + Copy> ZeroTrieStream<'a, A> {
     /// assert!(rt; !pairs.advance()?);
     /// ```
     ///
-    /// So a listing that was left can be taken up again, by the last key that it gave. It costs as much as a look-up of
+    /// So a listing that was left can be taken up again with the last key that it gave. It costs as much as a look-up of
     /// this key, and goes over no pair before it.
     pub fn after<K: ZeroTrieWithOptions>(
         alloc: A,
@@ -321,7 +321,7 @@ impl<'a, A: Allocator + Copy> ZeroTrieStream<'a, A> {
     }
 }
 
-/// The bytes behind a prefix, as the kind compares bytes, and what stands in front of them. `None` if no key begins with
+/// The bytes after a prefix, as the kind compares bytes, and what stands in front of them. `None` if no key begins with
 /// the prefix. If it ends inside a span, all of the span stands in front.
 fn down_to<'a, K: ZeroTrieWithOptions, A: Allocator>(
     alloc: A,
@@ -345,7 +345,7 @@ fn down_to<'a, K: ZeroTrieWithOptions, A: Allocator>(
     Ok(Some((front, rest)))
 }
 
-/// What a key has behind a front, as the kind compares bytes. `None` if it does not begin with all of it.
+/// What a key has after a front, as the kind compares bytes. `None` if it does not begin with all of it.
 fn after_front<'k, K: ZeroTrieWithOptions>(front: &[u8], key: &'k [u8]) -> Option<&'k [u8]>
     ensures { IsAfterFront K.kind front.now key.now (option_map (λ left. left.now) result) }
 {
@@ -356,7 +356,7 @@ fn after_front<'k, K: ZeroTrieWithOptions>(front: &[u8], key: &'k [u8]) -> Optio
     Some(left)
 }
 
-/// What a key has behind an edge, as the kind compares bytes. `None` if it does not begin with it.
+/// What a key has after an edge, as the kind compares bytes. `None` if it does not begin with it.
 #[inline(always)]
 fn after_edge<'k, K: ZeroTrieWithOptions>(edge: u8, key: &'k [u8]) -> Option<&'k [u8]>
     ensures { IsAfterEdge K.kind edge key.now (option_map (λ left. left.now) result) }
@@ -369,7 +369,7 @@ fn after_edge<'k, K: ZeroTrieWithOptions>(edge: u8, key: &'k [u8]) -> Option<&'k
     }
 }
 
-/// Opens a branch with which the rest begins, behind the edge that is the byte to the kind, and goes into its target.
+/// Opens a branch with which the rest begins, after the edge that is the byte to the kind, and goes into its target.
 /// `None` if no edge is.
 fn open_at<'a, K: ZeroTrieWithOptions, A: Allocator>(
     here: Here<'a>,

@@ -14,12 +14,12 @@ abbrev pub IsBehind : Kind → Pairs → Option (List ℕ × List ℕ) → Type 
 IsBehind kind pairs None = pairs ≡ []
 IsBehind kind pairs (Some r) = (below : Pairs) × Lists kind r.1 below × (pairs ≡ with_run r.0 below)
 
--- what the key has behind an edge that is its first byte to the kind; or it does not begin with the edge
+-- what the key has after an edge that is its first byte to the kind; or it does not begin with the edge
 abbrev pub IsAfterEdge : Kind → ℕ → List ℕ → Option (List ℕ) → Type 0
 IsAfterEdge kind edge key None = (byte : ℕ) (more : List ℕ) → key ≡ byte ∷ more → fold_byte kind edge ≢ fold_byte kind byte
 IsAfterEdge kind edge key (Some left) = (byte : ℕ) × (key ≡ byte ∷ left) × (fold_byte kind edge ≡ fold_byte kind byte)
 
--- what the key has behind bytes that are the front to the kind; or no key that begins with the front is this one
+-- what the key has after bytes that are the front to the kind; or no key that begins with the front is this one
 abbrev pub IsAfterFront : Kind → List ℕ → List ℕ → Option (List ℕ) → Type 0
 IsAfterFront kind front key None = (more : List ℕ) → same_key kind (front ++ more) key ≡ false
 IsAfterFront kind front key (Some left) = (taken : List ℕ) × (key ≡ taken ++ left) × (same_key kind front taken ≡ true)

@@ -1,4 +1,4 @@
-use Rattle.std.proofs.Common.{◌≡◌, ◌∙◌, ◌++◌, ap, subst, sym}
+use Rattle.std.proofs.Common.{◌∙◌, ◌++◌, ap, subst, sym}
 use Rattle.zerotrie_core.specs.Listings.{to_come}
 use Rattle.zerotrie_core.specs.Maps.{with_run}
 use Rattle.zerotrie_core.specs.Texts.{Lists}
