@@ -67,6 +67,35 @@ impl<'a> OpenBranch<'a> {
         }
     }
 
+    /// The same branch in front of the target of this number.
+    pub fn at_edge(self, place: usize) -> Self
+        requires { place < self.edges }
+        ensures edges { result.edges ≡ self.entry.edges }
+        ensures width { result.width ≡ self.entry.width }
+        ensures behind { result.behind.now ≡ self.entry.behind.now }
+        ensures next { result.next ≡ place }
+        ensures begin { result.begin ≡ begin_of self.entry.edges self.entry.width self.entry.behind.now place }
+        ensures depth { result.depth ≡ self.entry.depth }
+    {
+        let count = self.edges - 1;
+        let (_, body) = self.behind.split_at(self.edges);
+        let (table, _) = body.split_at(self.width * count);
+        let begin = if place == 0 {
+            0
+        } else {
+            offset_at(table, place - 1, count, self.width)
+        };
+        OpenBranch {
+            behind: self.behind,
+            tail: self.tail,
+            edges: self.edges,
+            width: self.width,
+            next: place,
+            begin,
+            depth: self.depth,
+        }
+    }
+
     /// Whether targets are left.
     #[inline(always)]
     pub fn has_next(&self) -> bool
