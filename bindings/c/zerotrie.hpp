@@ -214,4 +214,51 @@ inline std::string tagged(Kind kind, std::string_view bytes) {
     return out;
 }
 
+// A map from two texts to numbers over the record of a dense table, which has to outlive it.
+class DenseTable {
+public:
+    explicit DenseTable(std::string_view record) : record_(record) {}
+    // The value of a suffix under a prefix. Throws Error if the bytes are no record.
+    std::optional<size_t> get(std::string_view prefix, std::string_view suffix) const {
+        const auto at = detail::of(record_), p = detail::of(prefix), s = detail::of(suffix);
+        size_t value = 0;
+        const uint32_t status = zerotrie_dense_get(at.ptr, at.len, p.ptr, p.len, s.ptr, s.len, &value);
+        if (status == ZEROTRIE_NO_ENTRY) return std::nullopt;
+        detail::check(status);
+        return value;
+    }
+
+private:
+    std::string_view record_;
+};
+
+// The record of the dense table of rows: a range of prefixes, each with a range of suffixes and values, both ascending, as a
+// std::map of std::maps. Throws Error.
+template <class Rows> std::string build_dense(const Rows &rows, char delimiter) {
+    std::string prefixes, suffixes;
+    std::vector<size_t> prefix_ends, suffix_ends, values;
+    for (const auto &[prefix, row] : rows) {
+        for (const auto &[suffix, value] : row) {
+            prefixes += std::string_view(prefix), suffixes += std::string_view(suffix);
+            prefix_ends.push_back(prefixes.size()), suffix_ends.push_back(suffixes.size());
+            values.push_back(static_cast<size_t>(value));
+        }
+    }
+    const size_t count = values.size();
+    // so that there is a place to point at
+    prefix_ends.reserve(1), suffix_ends.reserve(1), values.reserve(1);
+    const auto p = detail::of(prefixes), s = detail::of(suffixes);
+    size_t len = 64 + prefixes.size() + suffixes.size() + 8 * count;
+    std::string out;
+    uint32_t status = ZEROTRIE_BUFFER_TOO_SMALL;
+    for (int turn = 0; turn < 2 && status == ZEROTRIE_BUFFER_TOO_SMALL; turn++) {
+        out.resize(len);
+        status = zerotrie_dense_build(p.ptr, p.len, prefix_ends.data(), count, s.ptr, s.len, suffix_ends.data(), count,
+                                      values.data(), count, static_cast<uint8_t>(delimiter), detail::room(out), out.size(), &len);
+    }
+    detail::check(status);
+    out.resize(len);
+    return out;
+}
+
 } // namespace zerotrie

@@ -1,3 +1,6 @@
 pub mod Moved
 pub mod Steps
 pub mod Written
+mod FrontLemmas
+mod EntryLemmas
+mod DenseLemmas
