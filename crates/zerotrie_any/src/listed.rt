@@ -14,7 +14,8 @@ use crate::zerotrie::{ZeroTrie, ZeroTrieFlavor};
 use std::alloc::Global;
 use std::collections::BTreeMap;
 use zerotrie_core::{
-    Ext, Hash, ListError, Simple, TrieStore, ZeroTrieIterator, ZeroTrieWithOptions, count_pairs,
+    Ext, Hash, ListError, Simple, TrieStore, ZeroTrieIterator, ZeroTrieStream, ZeroTrieWithOptions,
+    count_pairs,
 };
 
 /// The map that bytes of the kind mean, in the order of the keys' bytes.
@@ -46,7 +47,7 @@ pub fn map_of<K: ZeroTrieWithOptions>(
 /// assert_eq!(rt; key.as_slice(), b"ad".as_slice());
 /// ```
 ///
-/// It lists the pairs up to that key. The only error is `OutOfMemory`.
+/// It goes over the pairs up to that key, and copies no other. The only error is `OutOfMemory`.
 pub fn first_key_of<K: ZeroTrieWithOptions>(
     alloc: Global,
     bytes: &[u8],
@@ -56,10 +57,10 @@ pub fn first_key_of<K: ZeroTrieWithOptions>(
         → IfOk result (λ key. option_map (λ k. k.items) key ≡ first_key_of value pairs) }
     ensures refused { IfErr result (λ e. e ≡ OutOfMemory) }
 {
-    for item in ZeroTrieIterator::new::<K>(alloc, bytes) {
-        let (key, number) = item?;
-        if number == value {
-            return Ok(Some(key));
+    let mut pairs = ZeroTrieStream::new::<K>(alloc, bytes);
+    while pairs.advance()? {
+        if pairs.value() == value {
+            return Ok(Some(Vec::from_slice(alloc, pairs.key())?));
         }
     }
     Ok(None)

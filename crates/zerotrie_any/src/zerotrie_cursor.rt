@@ -4,6 +4,7 @@ ghost use Rattle.std.specs.Prelude.{⊤, ◌≡◌, ◌≢◌, ◌↔◌, [], �
 ghost use Rattle.std.specs.Option.{option_map};
 ghost use Rattle.zerotrie_core.specs.Maps.{Pairs};
 ghost use Rattle.zerotrie_core.specs.Texts.{Lists};
+ghost use Rattle.zerotrie_core.specs.Listings.{to_come};
 ghost use Rattle.zerotrie_core.specs.Places.{nowhere, IsStep, IsTake, IsProbe, FollowsRun};
 ghost use Rattle.zerotrie_any.specs.Stands.{in_front, ListsFrom};
 ghost use Rattle.zerotrie_any.specs.Flavors.{flavor_kind};
@@ -13,7 +14,9 @@ use crate::cursor::{CursorAnswer, CursorOp, walk};
 use crate::zerotrie::{ZeroTrie, ZeroTrieFlavor};
 use std::alloc::{AllocError, Global};
 use std::marker::Model;
-use zerotrie_core::{ByteProbeResult, Ext, Hash, Simple, SpanCursor, TrieStore};
+use zerotrie_core::{
+    ByteProbeResult, Ext, Hash, Simple, SpanCursor, TrieStore, ZeroTrieIterator, ZeroTrieStream,
+};
 
 /// A place in a `ZeroTrie`: what all keys have after the bytes that were stepped.
 ///
@@ -77,6 +80,43 @@ impl<'a> ZeroTrieCursor<'a> {
             flavor: self.flavor,
             store,
         })
+    }
+
+    /// The pairs of what all keys have from here on, one after another, each key lent from one buffer.
+    ///
+    /// ```
+    /// let trie = ZeroTrie::of_kind::<Simple>(b"in\x83to\x84".as_slice());
+    /// let mut cursor = trie.cursor();
+    /// cursor.step(b'i');
+    /// let mut pairs = cursor.stream(rt.alloc())?;
+    /// assert!(rt; pairs.advance()?);
+    /// assert_eq!(rt; (pairs.key(), pairs.value()), (b"n".as_slice(), 3));
+    /// ```
+    ///
+    /// The cursor may stand inside a span, and stays as it is. The only error is that it is out of memory.
+    pub fn stream(&self, alloc: Global) -> Result<ZeroTrieStream<'a>, AllocError>
+        ensures { IfOk result (λ s. (pairs : Pairs) → ListsFrom self.now pairs
+            → s.left ≡ to_come pairs) }
+    {
+        let place = self.place.clone()?;
+        match self.flavor {
+            ZeroTrieFlavor::SimpleAscii => ZeroTrieStream::from_cursor::<Simple>(alloc, place),
+            ZeroTrieFlavor::PerfectHash => ZeroTrieStream::from_cursor::<Hash>(alloc, place),
+            ZeroTrieFlavor::ExtendedCapacity => ZeroTrieStream::from_cursor::<Ext>(alloc, place),
+        }
+    }
+
+    /// The same pairs, each key in memory of its own.
+    pub fn iter(&self, alloc: Global) -> Result<ZeroTrieIterator<'a>, AllocError>
+        ensures { IfOk result (λ it. (pairs : Pairs) → ListsFrom self.now pairs
+            → it ≡ to_come pairs) }
+    {
+        let place = self.place.clone()?;
+        match self.flavor {
+            ZeroTrieFlavor::SimpleAscii => ZeroTrieIterator::from_cursor::<Simple>(alloc, place),
+            ZeroTrieFlavor::PerfectHash => ZeroTrieIterator::from_cursor::<Hash>(alloc, place),
+            ZeroTrieFlavor::ExtendedCapacity => ZeroTrieIterator::from_cursor::<Ext>(alloc, place),
+        }
     }
 
     /// Whether no key goes on from here. An empty cursor has no value either.
