@@ -98,6 +98,7 @@ _DECLARED = {
     "zerotrie_auto_kind": (c_uint32, _PAIRS),
     "zerotrie_tagged": (c_uint32, [c_uint32, *_LENT, *_ROOM, _SIZE]),
     "zerotrie_list": (c_uint32, [c_uint32, *_LENT, *_TEXT, *_ROOM, *_SIZES, *_SIZES, _SIZE, _SIZE]),
+    "zerotrie_list_some": (c_uint32, [c_uint32, *_LENT, *_TEXT, c_bool, *_TEXT, *_ROOM, *_SIZES, *_SIZES, _SIZE, _SIZE]),
 }
 
 
