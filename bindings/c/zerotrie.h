@@ -205,11 +205,22 @@ uint32_t zerotrie_dense_build(const uint8_t *prefixes, size_t prefixes_len, cons
  * SIMPLE_ASCII is that of the keys. The keys go to `keys` one after another, where each ends to `ends`, the values to
  * `values`; the rest of each room stays. *key_bytes and *count tell how long they are. With ZEROTRIE_BUFFER_TOO_SMALL some room
  * has too few places, and nothing is written to such a one. ZEROTRIE_OUT_OF_MEMORY: the three rooms stay. A trie of n bytes
- * has at most n pairs. Takes memory, as much as it lists. To list a large trie in parts, list one prefix after another:
- * zerotrie_cursor_probe() tells the bytes with which keys go on. */
+ * has at most n pairs. Takes memory, as much as it lists. zerotrie_list_some() lists a large trie in parts. */
 uint32_t zerotrie_list(uint32_t kind, const uint8_t *bytes, size_t len, const uint8_t *prefix, size_t prefix_len,
                        uint8_t *keys, size_t keys_len, size_t *ends, size_t ends_len, size_t *values, size_t values_len,
                        size_t *key_bytes, size_t *count);
+
+/* Lists the next pairs of the same listing, as many as the three rooms have places for: those after the key `last` if
+ * `goes_on`, and else the first ones. `last` is the last key that the call before wrote; if no key of the listing is this
+ * one, nothing comes. It may not lie in `keys`, so copy it. *count tells how many pairs were written; the rest of each room
+ * stays. ZEROTRIE_DONE: none is left. ZEROTRIE_BUFFER_TOO_SMALL: pairs are left, and the key of the next one takes *next_len
+ * bytes; if *count is 0, some room has too few places for even this one. ZEROTRIE_OUT_OF_MEMORY: the pairs that are counted
+ * are written all the same. ZEROTRIE_UNKNOWN_KIND: the rooms and *count stay. A call costs a
+ * look-up of `last` and what it lists. Takes memory, as much as the longest key and the deepest branches. */
+uint32_t zerotrie_list_some(uint32_t kind, const uint8_t *bytes, size_t len, const uint8_t *prefix, size_t prefix_len,
+                            bool goes_on, const uint8_t *last, size_t last_len, uint8_t *keys, size_t keys_len,
+                            size_t *ends, size_t ends_len, size_t *values, size_t values_len, size_t *count,
+                            size_t *next_len);
 
 /* --- Texts ---------------------------------------------------------------------------------------------------------- */
 

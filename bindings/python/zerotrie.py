@@ -103,6 +103,7 @@ _DECLARED = {
     "zerotrie_dense_get": (c_uint32, [*_LENT, *_TEXT, *_TEXT, _SIZE]),
     "zerotrie_dense_build": (c_uint32, [*_TEXT, *_SIZES, *_TEXT, *_SIZES, *_SIZES, c_uint8, *_ROOM, _SIZE]),
     "zerotrie_list": (c_uint32, [c_uint32, *_LENT, *_TEXT, *_ROOM, *_SIZES, *_SIZES, _SIZE, _SIZE]),
+    "zerotrie_list_some": (c_uint32, [c_uint32, *_LENT, *_TEXT, c_bool, *_TEXT, *_ROOM, *_SIZES, *_SIZES, _SIZE, _SIZE]),
 }
 
 

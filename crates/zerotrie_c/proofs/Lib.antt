@@ -4,3 +4,4 @@ pub mod Written
 mod FrontLemmas
 mod EntryLemmas
 mod DenseLemmas
+pub mod Parts

@@ -51,4 +51,7 @@ unsafe extern "C" {
     pub fn zerotrie_list(kind: u32, bytes: *const u8, len: usize, prefix: *const u8, prefix_len: usize, keys: *mut u8,
         keys_len: usize, ends: *mut usize, ends_len: usize, values: *mut usize, values_len: usize, key_bytes: *mut usize,
         count: *mut usize) -> u32;
+    pub fn zerotrie_list_some(kind: u32, bytes: *const u8, len: usize, prefix: *const u8, prefix_len: usize, goes_on: bool,
+        last: *const u8, last_len: usize, keys: *mut u8, keys_len: usize, ends: *mut usize, ends_len: usize,
+        values: *mut usize, values_len: usize, count: *mut usize, next_len: *mut usize) -> u32;
 }
