@@ -330,12 +330,23 @@ class ZeroTrie(Mapping):
         return bytes(memoryview(keys)[: key_bytes.value]), ends, values, count.value
 
     def items(self, prefix: Key = b"") -> Iterator[tuple[bytes, int]]:  # type: ignore[override]
-        """The pairs whose keys begin with the prefix, in the order of the trie's bytes."""
-        keys, ends, values, count = self._listed(prefix)
-        at = 0
-        for number in range(count):
-            yield keys[at : ends[number]], values[number]
-            at = ends[number]
+        """The pairs whose keys begin with the prefix, in the order of the trie's bytes. They are listed a part at a time."""
+        front, last, goes_on = _key(prefix), b"", False
+        room, places = min(1 << 16, 8 * self._len + 1), min(1 << 12, self._len + 1)
+        count, next_len, status = c_size_t(), c_size_t(), _TOO_SMALL
+        while status == _TOO_SMALL:
+            keys, ends, values = (c_uint8 * room)(), (c_size_t * places)(), (c_size_t * places)()
+            status = _lib.zerotrie_list_some(self.kind, self._at, self._len, front, len(front), goes_on, last, len(last),
+                                             keys, room, ends, places, values, places, count, next_len)
+            if status != _TOO_SMALL:
+                _check(status)
+            at, text = 0, bytes(keys)
+            for number in range(count.value):
+                last, goes_on = text[at : ends[number]], True
+                yield last, values[number]
+                at = ends[number]
+            if status == _TOO_SMALL:
+                room = max(room, next_len.value)
 
     def keys(self, prefix: Key = b"") -> Iterator[bytes]:  # type: ignore[override]
         return (key for key, _ in self.items(prefix))
