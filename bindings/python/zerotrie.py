@@ -317,20 +317,8 @@ class ZeroTrie(Mapping):
         found = _lib.zerotrie_with_prefix(self.kind, self._at, self._len, text, len(text), cursor._raw)
         return cursor if found else None
 
-    def _listed(self, prefix: Key) -> tuple[bytes, Any, Any, int]:
-        front, key_bytes, count = _key(prefix), c_size_t(8 * self._len), c_size_t(self._len)
-        for _ in range(2):
-            n, k = count.value, key_bytes.value
-            keys, ends, values = (c_uint8 * max(1, k))(), (c_size_t * max(1, n))(), (c_size_t * max(1, n))()
-            status = _lib.zerotrie_list(self.kind, self._at, self._len, front, len(front), keys, k, ends, n, values, n,
-                                        key_bytes, count)
-            if status != _TOO_SMALL:
-                break
-        _check(status)
-        return bytes(memoryview(keys)[: key_bytes.value]), ends, values, count.value
-
-    def items(self, prefix: Key = b"") -> Iterator[tuple[bytes, int]]:  # type: ignore[override]
-        """The pairs whose keys begin with the prefix, in the order of the trie's bytes. They are listed a part at a time."""
+    def _parts(self, prefix: Key) -> Iterator[tuple[bytes, Any, Any, int]]:
+        """Parts of the listing of a prefix: keys one after another, where each ends, their values, and how many they are."""
         front, last, goes_on = _key(prefix), b"", False
         room, places = min(1 << 16, 8 * self._len + 1), min(1 << 12, self._len + 1)
         count, next_len, status = c_size_t(), c_size_t(), _TOO_SMALL
@@ -340,13 +328,20 @@ class ZeroTrie(Mapping):
                                              keys, room, ends, places, values, places, count, next_len)
             if status != _TOO_SMALL:
                 _check(status)
-            at, text = 0, bytes(keys)
-            for number in range(count.value):
-                last, goes_on = text[at : ends[number]], True
-                yield last, values[number]
-                at = ends[number]
+            text, n = bytes(keys), count.value
+            yield text, ends, values, n
+            if n > 0:
+                last, goes_on = text[ends[n - 2] if n > 1 else 0 : ends[n - 1]], True
             if status == _TOO_SMALL:
                 room = max(room, next_len.value)
+
+    def items(self, prefix: Key = b"") -> Iterator[tuple[bytes, int]]:  # type: ignore[override]
+        """The pairs whose keys begin with the prefix, in the order of the trie's bytes. They are listed a part at a time."""
+        for text, ends, values, count in self._parts(prefix):
+            at = 0
+            for number in range(count):
+                yield text[at : ends[number]], values[number]
+                at = ends[number]
 
     def keys(self, prefix: Key = b"") -> Iterator[bytes]:  # type: ignore[override]
         return (key for key, _ in self.items(prefix))
@@ -358,7 +353,7 @@ class ZeroTrie(Mapping):
         return self.keys()
 
     def __len__(self) -> int:
-        return self._listed(b"")[3]
+        return sum(count for _, _, _, count in self._parts(b""))
 
     def __bool__(self) -> bool:
         return self._len > 0

@@ -299,34 +299,48 @@ impl<'a> ZeroTrie<'a> {
     /// The pairs whose keys begin with a prefix, listed at once; each with its whole key.
     pub fn prefix(&self, prefix: impl AsRef<[u8]>) -> Result<Items, Error> {
         let prefix = prefix.as_ref();
-        let (mut key_bytes, mut count) = (0, 0);
         let mut items = Items { keys: vec![], ends: vec![], values: vec![], next: 0 };
+        // a part at a time, each with twice the room of the one before
+        let mut room = 4096;
         loop {
-            // SAFETY: two slices that are read, three that are written and are this call's own, and two places.
+            let (from, at, places) = (items.keys.len(), items.ends.len(), room / 8);
+            let last_from = if at < 2 { 0 } else { items.ends[at - 2] };
+            items.keys.resize(from + room, 0);
+            items.ends.resize(at + places, 0);
+            items.values.resize(at + places, 0);
+            let (before, keys) = items.keys.split_at_mut(from);
+            let last = &before[last_from..];
+            let (mut count, mut next_len) = (0, 0);
+            // SAFETY: three slices that are read, three beside them that are written, and two places.
             let status = unsafe {
-                ffi::zerotrie_list(
+                ffi::zerotrie_list_some(
                     self.number(),
                     self.bytes.as_ptr(),
                     self.bytes.len(),
                     prefix.as_ptr(),
                     prefix.len(),
-                    items.keys.as_mut_ptr(),
-                    items.keys.len(),
-                    items.ends.as_mut_ptr(),
-                    items.ends.len(),
-                    items.values.as_mut_ptr(),
-                    items.values.len(),
-                    &mut key_bytes,
+                    at > 0,
+                    last.as_ptr(),
+                    last.len(),
+                    keys.as_mut_ptr(),
+                    keys.len(),
+                    items.ends[at..].as_mut_ptr(),
+                    places,
+                    items.values[at..].as_mut_ptr(),
+                    places,
                     &mut count,
+                    &mut next_len,
                 )
             };
+            items.ends.truncate(at + count);
+            items.values.truncate(at + count);
+            for end in &mut items.ends[at..] {
+                *end += from;
+            }
+            items.keys.truncate(items.ends.last().copied().unwrap_or(0));
             match status {
                 0 => return Ok(items),
-                8 => {
-                    items.keys.resize(key_bytes, 0);
-                    items.ends.resize(count, 0);
-                    items.values.resize(count, 0);
-                }
+                8 => room = (2 * room).max(next_len),
                 other => return Err(Error::of(other)),
             }
         }
