@@ -47,7 +47,7 @@ pub extern "C" fn zerotrie_get(kind: u32, bytes: &[u8], key: &[u8], value: &mut 
 }
 
 /// The bytes from one place up to another. A place past all bytes stands for their end.
-fn key_between(bytes: &[u8], from: usize, to: usize) -> &[u8]
+pub fn key_between(bytes: &[u8], from: usize, to: usize) -> &[u8]
     ensures { result.now ≡ drop from (take to bytes.now) }
 {
     let front = if to < bytes.len() {

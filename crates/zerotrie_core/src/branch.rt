@@ -9,7 +9,7 @@ ghost use Rattle.std.specs.Prelude.{◌≡◌, ◌↔◌, ℕ, ◌+◌, ◌-◌,
 ghost use Rattle.std.specs.Char.{to_ascii_lowercase};
 ghost use Rattle.zerotrie_core.specs.Kind.{fold_byte};
 ghost use Rattle.zerotrie_core.specs.Branches.{IsTable};
-ghost use Rattle.zerotrie_core.specs.Nodes.{number_from, offset_in, IsTargetResult};
+ghost use Rattle.zerotrie_core.specs.Nodes.{number_from, offset_in, end_of, IsTargetResult};
 ghost use Rattle.zerotrie_core.specs.reader.Reading.{AlwaysRises, IsPlace, HasNoPlace};
 ghost use Rattle.zerotrie_core.specs.reader.Going.{AlwaysGoes, AlwaysStops};
 
@@ -312,6 +312,22 @@ impl<'a> Branch<'a> {
         let from = if index == 0 { 0 } else { before };
         let to = if index == count { targets.len() } else { next };
         targets.get(from..to)
+    }
+
+    /// Where the target of an edge ends among the targets, as its offset says.
+    #[inline(always)]
+    pub fn end_at(&self, index: usize) -> usize
+        requires { index < self.now.edges }
+        ensures { result ≡ end_of self.now.edges self.now.width self.now.behind.now index }
+    {
+        let count = self.edges - 1;
+        let (_, body) = self.behind.split_at(self.edges);
+        let (table, targets) = body.split_at(self.width * count);
+        if index < count {
+            offset_at(table, index, count, self.width)
+        } else {
+            targets.len()
+        }
     }
 
     /// The edge that is the byte to the kind, and its target.

@@ -77,9 +77,29 @@ impl<'a> ZeroAsciiDenseSparse2dTrieBorrowed<'a> {
         ensures entry { Answers (parts_of self.now) prefix.now suffix.now result }
         ensures maps { AnswersByMaps (parts_of self.now) prefix.now suffix.now result }
     {
+        self.get_bytes(prefix.as_bytes(), suffix.as_bytes())
+    }
+
+    /// The same for texts that are given as bytes, which need not be UTF-8.
+    ///
+    /// ```
+    /// use zerotrie::dense::ZeroAsciiDenseSparse2dTrieOwned;
+    ///
+    /// let mut row: BTreeMap<&str, usize> = BTreeMap::new(rt.alloc());
+    /// row.insert("US", 8)?;
+    /// let mut rows: BTreeMap<&str, BTreeMap<&str, usize>> = BTreeMap::new(rt.alloc());
+    /// rows.insert("en", row)?;
+    /// let table = ZeroAsciiDenseSparse2dTrieOwned::try_from_btree_map_str(rt.alloc(), &rows, b'/')?;
+    /// assert_eq!(rt; table.as_borrowed().get_bytes(b"en", b"US"), Some(8));
+    /// assert_eq!(rt; table.as_borrowed().get_bytes(b"en", b"\xFF"), None);
+    /// ```
+    pub fn get_bytes(&self, prefix: &[u8], suffix: &[u8]) -> Option<usize>
+        ensures entry { Answers (parts_of self.now) prefix.now suffix.now result }
+        ensures maps { AnswersByMaps (parts_of self.now) prefix.now suffix.now result }
+    {
         laws::canonical_exactly();
         answer_is_entry();
-        self.answer(prefix.as_bytes(), suffix.as_bytes())
+        self.answer(prefix, suffix)
     }
 
     /// What the two tries and the matrix answer.

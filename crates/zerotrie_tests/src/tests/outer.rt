@@ -1,9 +1,9 @@
 //! Tagged bytes and JSON.
 
 ghost use Rattle.std.specs.Prelude.{◌≡◌, IfOk};
-ghost use Rattle.zerotrie_core.specs.Items.{pairs_of};
-ghost use Rattle.zerotrie_core.specs.Kind.{perfect_hash};
-ghost use Rattle.zerotrie_core.specs.Maps.{look, map_of};
+ghost use Rattle.zerotrie.specs.Items.{pairs_of};
+ghost use Rattle.zerotrie.specs.Kind.{perfect_hash};
+ghost use Rattle.zerotrie.specs.Maps.{look, map_of};
 
 use super::*;
 use serde_json::Value;

@@ -1,7 +1,7 @@
 use Rattle.zerotrie_core.specs.Maps.{Pairs}
 use Rattle.zerotrie_core.specs.Texts.{Lists}
 use Rattle.zerotrie_core.proofs.PrefixLemmas.{Stepped}
-use Rattle.zerotrie_core.proofs.stream.ZeroTrieStream.with_prefix.Given as goal
+use Rattle.zerotrie_core.proofs.stream.down_to.Given as goal
 
 abbrev pub invariant-loop-byte : goal.invariant-loop-byte
 invariant-loop-byte g l = (pairs : Pairs) → Lists g.K.ZeroTrieWithOptions.kind l.bytes pairs

@@ -1,6 +1,6 @@
 use Rattle.std.proofs.Common.{◌∙◌, ap, sym, take, length}
 use Rattle.zerotrie_core.proofs.ListingStateLemmas.{lies_behind}
-use Rattle.zerotrie_core.proofs.stream.opened.Here.behind.Goals as goal
+use Rattle.zerotrie_core.proofs.here.Here.behind.Goals as goal
 
 pub invariant_of-result : goal.invariant_of-result
 invariant_of-result c = record {
