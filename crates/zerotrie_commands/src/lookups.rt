@@ -23,7 +23,8 @@ pub fn write_values<W: Write>(
 ) -> io::Result<bool>
     ensures { IfOk result (λ all. (m : Map) → Means (kind_of trie.now.kind) trie.now.bytes.now m
         → let answers = map (λ key. look (kind_of trie.now.kind) m key.now) keys.now in
-        Appends (W.contents output.old) (W.contents output.new) (value_lines answers) × (all ≡ are_found answers)) }
+        Appends (W.contents output.old) (W.contents output.new) (value_lines answers)
+        × (all ≡ are_found answers)) }
 {
     let mut line = Vec::new(alloc);
     let mut all = true;
@@ -46,7 +47,8 @@ pub fn write_longest<W: Write>(
     output: &mut W,
 ) -> io::Result<bool>
     ensures { IfOk result (λ all. (m : Map) → Means (kind_of trie.now.kind) trie.now.bytes.now m
-        → (printed : List ℕ) × LongestLines (kind_of trie.now.kind) m (map (λ t. t.now) texts.now) printed all
+        → (printed : List ℕ)
+        × LongestLines (kind_of trie.now.kind) m (map (λ t. t.now) texts.now) printed all
         × Appends (W.contents output.old) (W.contents output.new) printed) }
 {
     let mut line = Vec::new(alloc);

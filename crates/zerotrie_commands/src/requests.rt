@@ -68,7 +68,8 @@ pub fn answer<W: Write>(
     request: Request<'_>,
     output: &mut W,
 ) -> Result<u8, AnswerError>
-    ensures ok { IfOk result (λ status. (printed : List ℕ) × Answers named file.now request.entry printed status
+    ensures ok { IfOk result (λ status. (printed : List ℕ)
+        × Answers named file.now request.entry printed status
         × Appends (W.contents output.old) (W.contents output.new) printed) }
     ensures err { IfErr result (IsRefusal named file.now (output.new ≡ output.old)) }
 {

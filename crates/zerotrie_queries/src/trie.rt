@@ -89,7 +89,8 @@ impl<'a> Trie<'a> {
         alloc: Global,
         prefix: &[u8],
     ) -> Result<ZeroTrieStream<'a>, AllocError>
-        ensures { IfOk result (λ s. (pairs : Pairs) → Lists (kind_of self.now.kind) self.now.bytes.now pairs
+        ensures { IfOk result (λ s. (pairs : Pairs)
+            → Lists (kind_of self.now.kind) self.now.bytes.now pairs
             → s.left ≡ to_come (beginning (kind_of self.now.kind) prefix.now pairs)) }
     {
         match self.kind {
