@@ -1,4 +1,4 @@
-//! Look-ups through the functions for C, one by one and many at once, beside the Rust crate's own and std's maps.
+//! Look-ups through the functions for C, one by one and many at once, and listings, beside the Rust crate's own and std's maps.
 #[allow(dead_code)]
 mod sets;
 
@@ -68,6 +68,38 @@ fn measured(rounds: usize, name: &str, kind: Kind, map: &BTreeMap<Vec<u8>, usize
     println!("{name:<44} {:>8.1} {:>8.1} {:>8.1} {:>8.1} {:>8.1}   {:>6.2}   {:>6.2}", t[0], t[1], t[2], t[3], t[4], t[0] / t[2], t[1] / t[2]);
 }
 
+/// Listings of all pairs: in parts through the functions for C, by the crate's iterator, and of a map that has its keys.
+fn listed(rounds: usize, name: &str, kind: Kind, map: &BTreeMap<Vec<u8>, usize>) {
+    let bytes = build(kind, map.iter().map(|(k, v)| (k, *v))).unwrap();
+    let trie = ZeroTrie::try_from_bytes(kind, &bytes).unwrap();
+    let turns = (20_000 / map.len()).max(1);
+    let parts = || {
+        (0..turns)
+            .map(|_| {
+                let (mut items, mut sum) = (trie.prefix("").unwrap(), 0);
+                while let Some((key, value)) = items.next_lent() {
+                    sum += key.len() + value;
+                }
+                sum
+            })
+            .sum()
+    };
+    let crates: Work<'_> = match kind {
+        Kind::SimpleAscii => {
+            let trie = original::ZeroTrieSimpleAscii::from_bytes(bytes.as_slice());
+            Box::new(move || (0..turns).map(|_| trie.iter().map(|(key, value)| key.len() + value).sum::<usize>()).sum())
+        }
+        Kind::IgnoreCase => return,
+        _ => {
+            let trie = original::ZeroTriePerfectHash::from_bytes(bytes.as_slice());
+            Box::new(move || (0..turns).map(|_| trie.iter().map(|(key, value)| key.len() + value).sum::<usize>()).sum())
+        }
+    };
+    let mut contestants: Vec<Work<'_>> = vec![Box::new(parts), crates, Box::new(|| (0..turns).map(|_| map.iter().map(|(k, v)| k.len() + v).sum::<usize>()).sum())];
+    let t = best(if map.len() > 50_000 { rounds / 3 } else { rounds }, turns * map.len(), &mut contestants);
+    println!("{name:<44} {:>8.1} {:>8.1} {:>8.1}   {:>6.2}", t[0], t[1], t[2], t[0] / t[1]);
+}
+
 fn main() {
     let rounds = std::env::args().nth(1).and_then(|word| word.parse().ok()).unwrap_or(31);
     let wanted = std::env::args().nth(2).unwrap_or_default();
@@ -82,6 +114,16 @@ fn main() {
             if fits {
                 measured(rounds, &format!("{}, {kind:?}, hits", set.name), kind, &map, &shuffled);
                 measured(rounds, &format!("{}, {kind:?}, misses", set.name), kind, &map, &sets::misses(&set));
+            }
+        }
+    }
+    println!("\n{:<44} {:>8} {:>8} {:>8}   parts/crate", "ns a pair of a listing", "parts", "crate", "BTree");
+    for set in sets::all().into_iter().filter(|set| set.name.contains(&wanted)) {
+        let map: BTreeMap<Vec<u8>, usize> = set.keys.iter().enumerate().map(|(n, k)| (k.clone(), n)).collect();
+        let ascii = set.keys.iter().all(|k| k.is_ascii());
+        for (kind, fits) in [(Kind::SimpleAscii, ascii), (Kind::PerfectHash, true)] {
+            if fits {
+                listed(rounds, &format!("{}, {kind:?}", set.name), kind, &map);
             }
         }
     }

@@ -57,7 +57,7 @@ typedef enum zerotrie_status {
     ZEROTRIE_CAPACITY_EXCEEDED = 2,  /* a branch would reach 2^32 bytes (not in EXTENDED_CAPACITY), or the trie 2^64 */
     ZEROTRIE_NO_PERFECT_HASH = 3,    /* no perfect hash was found for the edges of a branch; this is rare */
     ZEROTRIE_MIXED_CASE = 4,         /* IGNORE_CASE: two keys begin alike up to case, but not byte by byte */
-    ZEROTRIE_ILLEGAL_DELIMITER = 5,  /* no function here answers this */
+    ZEROTRIE_ILLEGAL_DELIMITER = 5,  /* zerotrie_dense_build: a text has the delimiter in it */
     ZEROTRIE_DUPLICATE_KEY = 6,      /* zerotrie_build: a key comes twice */
     ZEROTRIE_UNSORTED = 7,           /* zerotrie_build_sorted: the keys don't ascend strictly by their bytes */
     ZEROTRIE_BUFFER_TOO_SMALL = 8,   /* the room is too small; what is needed is told */
@@ -66,7 +66,10 @@ typedef enum zerotrie_status {
     ZEROTRIE_OUT_OF_MEMORY = 11,
     ZEROTRIE_UNKNOWN_KIND = 12,
     ZEROTRIE_NO_TAG = 13,            /* zerotrie_untagged: there are no bytes */
-    ZEROTRIE_INVALID_TAG = 14        /* zerotrie_untagged: the first byte is the number of no kind */
+    ZEROTRIE_INVALID_TAG = 14,       /* zerotrie_untagged: the first byte is the number of no kind */
+    ZEROTRIE_NO_ENTRY = 15,          /* zerotrie_dense_get: the table has no value for the two texts */
+    ZEROTRIE_RECORD_TRUNCATED = 16,  /* zerotrie_dense_get: fewer bytes than a record of a table asks for */
+    ZEROTRIE_TRAILING_BYTES = 17     /* zerotrie_dense_get: more bytes than a record of a table asks for */
 } zerotrie_status;
 
 /* Bytes that lie elsewhere. */
@@ -107,7 +110,7 @@ bool zerotrie_is_well_formed(uint32_t kind, const uint8_t *bytes, size_t len);
 /* Whether the trie has the key. If so its value goes to *value, else *value stays. */
 bool zerotrie_get(uint32_t kind, const uint8_t *bytes, size_t len, const uint8_t *key, size_t key_len, size_t *value);
 
-/* Looks up many keys at once, which lie one behind another in `keys`: each goes from where the one before it ended up to its
+/* Looks up many keys at once, which lie one after another in `keys`: each goes from where the one before it ended up to its
  * own end. Writes the value of each, or `missing` for a key that the trie hasn't. An end beyond keys_len stands for
  * keys_len, and one below the end before it makes an empty key. As many are answered as there are ends and room for
  * values; the rest of the room stays. Answers ZEROTRIE_DONE, or ZEROTRIE_UNKNOWN_KIND and writes nothing. */
@@ -122,7 +125,7 @@ bool zerotrie_longest_prefix(uint32_t kind, const uint8_t *bytes, size_t len, co
 /* Sets the cursor in front of all keys, of a trie of any kind. */
 void zerotrie_cursor_new(const uint8_t *bytes, size_t len, zerotrie_cursor *cursor);
 
-/* Sets the cursor behind a prefix, where a step by each byte of it leads. Answers whether some key begins with it. */
+/* Sets the cursor after a prefix, where a step by each byte of it leads. Answers whether some key begins with it. */
 bool zerotrie_with_prefix(uint32_t kind, const uint8_t *bytes, size_t len, const uint8_t *prefix, size_t prefix_len,
                           zerotrie_cursor *cursor);
 
@@ -137,7 +140,7 @@ bool zerotrie_cursor_take_value(zerotrie_cursor *cursor, size_t *value);
  * such edge, nothing is left, and *edge and *siblings stay. Edges are numbered in the order of the bytes' listing. */
 bool zerotrie_cursor_probe(uint32_t kind, zerotrie_cursor *cursor, size_t index, uint8_t *edge, uint16_t *siblings);
 
-/* The kind of tagged bytes goes to *kind, and what stands behind the tag, where it lies, to *trie; it is not tested. Or
+/* The kind of tagged bytes goes to *kind, and what stands after the tag, where it lies, to *trie; it is not tested. Or
  * answers ZEROTRIE_NO_TAG or ZEROTRIE_INVALID_TAG and writes nothing. */
 uint32_t zerotrie_untagged(const uint8_t *tagged, size_t len, uint32_t *kind, zerotrie_bytes *trie);
 
@@ -163,17 +166,61 @@ uint32_t zerotrie_auto_kind(const zerotrie_pair *pairs, size_t count);
  * ZEROTRIE_BUFFER_TOO_SMALL as in a build. */
 uint32_t zerotrie_tagged(uint32_t kind, const uint8_t *bytes, size_t len, uint8_t *out, size_t out_len, size_t *tagged_len);
 
+/* --- Dense tables --------------------------------------------------------------------------------------------------- */
+
+/* A dense table is a map from two texts, a prefix and a suffix, to numbers, as one record of bytes. It is for many prefixes
+ * that have the same suffixes: each value of such a row takes two bytes. A text is ASCII and hasn't the delimiter, a byte
+ * below 128 that the table was built with. Either text may be empty. */
+
+/* Looks up a suffix under a prefix in the table of a record. ZEROTRIE_DONE: its value goes to *value. ZEROTRIE_NO_ENTRY: there is
+ * none. A record tells its own length: with fewer bytes the answer is ZEROTRIE_RECORD_TRUNCATED, with more
+ * ZEROTRIE_TRAILING_BYTES. In all cases but the first *value stays. What zerotrie_dense_build() wrote is a record; on other
+ * bytes of a record's length, which are not tested, the function answers something. Takes no memory. */
+uint32_t zerotrie_dense_get(const uint8_t *record, size_t len, const uint8_t *prefix, size_t prefix_len,
+                            const uint8_t *suffix, size_t suffix_len, size_t *value);
+
+/* Builds the table of entries, each a prefix, a suffix and the value of both, in the order of the prefixes as memcmp orders
+ * them, a shorter one first, and under one prefix in that of the suffixes; no two are equal in both. The entries are three
+ * lists: the prefix of each lies in `prefixes` from where the one before it ended up to its own end, so a prefix stands
+ * there once for each of its suffixes; the suffixes lie in `suffixes` likewise; and `values` has the values. An end beyond all
+ * bytes stands for theirs, and one below the end before it makes an empty text. There are as many entries as the shortest
+ * of `prefix_ends`, `suffix_ends` and `values` has.
+ *
+ *     const size_t prefix_ends[] = { 2, 4, 6 }, suffix_ends[] = { 2, 4, 6 }, values[] = { 8, 9, 5 };
+ *     zerotrie_dense_build((const uint8_t *)"dedeen", 6, prefix_ends, 3, (const uint8_t *)"ATCHUS", 6, suffix_ends, 3,
+ *                          values, 3, '/', record, sizeof record, &len);
+ *
+ * ZEROTRIE_DONE: the record is the first *len bytes of `out`, and the rest stays. ZEROTRIE_BUFFER_TOO_SMALL: it has *len bytes,
+ * more than out_len, and `out` stays. Otherwise the answer is a reason that is true of the entries, and nothing is written:
+ * ZEROTRIE_UNSORTED; ZEROTRIE_NON_ASCII, of a text or the delimiter; ZEROTRIE_ILLEGAL_DELIMITER; ZEROTRIE_CAPACITY_EXCEEDED, of more
+ * than 65,535 suffixes too; or ZEROTRIE_OUT_OF_MEMORY. Takes memory. */
+uint32_t zerotrie_dense_build(const uint8_t *prefixes, size_t prefixes_len, const size_t *prefix_ends, size_t prefix_count,
+                              const uint8_t *suffixes, size_t suffixes_len, const size_t *suffix_ends, size_t suffix_count,
+                              const size_t *values, size_t value_count, uint8_t delimiter, uint8_t *out, size_t out_len,
+                              size_t *len);
+
 /* --- Listing -------------------------------------------------------------------------------------------------------- */
 
 /* Lists the pairs whose keys begin with the prefix (an empty one: all), in the order of the trie's bytes, which in
- * SIMPLE_ASCII is that of the keys. The keys go to `keys` one behind another, where each ends to `ends`, the values to
+ * SIMPLE_ASCII is that of the keys. The keys go to `keys` one after another, where each ends to `ends`, the values to
  * `values`; the rest of each room stays. *key_bytes and *count tell how long they are. With ZEROTRIE_BUFFER_TOO_SMALL some room
  * has too few places, and nothing is written to such a one. ZEROTRIE_OUT_OF_MEMORY: the three rooms stay. A trie of n bytes
- * has at most n pairs. Takes memory, as much as it lists. To list a large trie in parts, list one prefix after another:
- * zerotrie_cursor_probe() tells the bytes with which keys go on. */
+ * has at most n pairs. Takes memory, as much as it lists. zerotrie_list_some() lists a large trie in parts. */
 uint32_t zerotrie_list(uint32_t kind, const uint8_t *bytes, size_t len, const uint8_t *prefix, size_t prefix_len,
                        uint8_t *keys, size_t keys_len, size_t *ends, size_t ends_len, size_t *values, size_t values_len,
                        size_t *key_bytes, size_t *count);
+
+/* Lists the next pairs of the same listing, as many as the three rooms have places for: those after the key `last` if
+ * `goes_on`, and else the first ones. `last` is the last key that the call before wrote; if no key of the listing is this
+ * one, nothing comes. It may not lie in `keys`, so copy it. *count tells how many pairs were written; the rest of each room
+ * stays. ZEROTRIE_DONE: none is left. ZEROTRIE_BUFFER_TOO_SMALL: pairs are left, and the key of the next one takes *next_len
+ * bytes; if *count is 0, some room has too few places for even this one. ZEROTRIE_OUT_OF_MEMORY: the pairs that are counted
+ * are written all the same. ZEROTRIE_UNKNOWN_KIND: the rooms and *count stay. A call costs a
+ * look-up of `last` and what it lists. Takes memory, as much as the longest key and the deepest branches. */
+uint32_t zerotrie_list_some(uint32_t kind, const uint8_t *bytes, size_t len, const uint8_t *prefix, size_t prefix_len,
+                            bool goes_on, const uint8_t *last, size_t last_len, uint8_t *keys, size_t keys_len,
+                            size_t *ends, size_t ends_len, size_t *values, size_t values_len, size_t *count,
+                            size_t *next_len);
 
 /* --- Texts ---------------------------------------------------------------------------------------------------------- */
 
@@ -195,6 +242,9 @@ static inline const char *zerotrie_status_text(uint32_t status) {
     case ZEROTRIE_UNKNOWN_KIND: return "the number is no kind of trie: take 0, 3, 7 or 8";
     case ZEROTRIE_NO_TAG: return "there are no bytes, and so no tag: give all of the tagged bytes";
     case ZEROTRIE_INVALID_TAG: return "the first byte is the tag of no kind: give bytes that were written with a tag";
+    case ZEROTRIE_NO_ENTRY: return "the table has no such entry";
+    case ZEROTRIE_RECORD_TRUNCATED: return "the record is cut: give all of its bytes";
+    case ZEROTRIE_TRAILING_BYTES: return "bytes follow the record: give its bytes alone";
     default: return "Unknown status";
     }
 }

@@ -2,6 +2,7 @@
 #pragma once
 #include "zerotrie.h"
 
+#include <algorithm>
 #include <cstddef>
 #include <iterator>
 #include <optional>
@@ -97,30 +98,35 @@ public:
     };
     Items(Kind kind, std::string_view bytes, std::string_view prefix) {
         const auto trie = detail::of(bytes), front = detail::of(prefix);
-        size_t key_bytes = 8 * trie.len, count = trie.len;
         uint32_t status = ZEROTRIE_BUFFER_TOO_SMALL;
-        for (int turn = 0; turn < 2 && status == ZEROTRIE_BUFFER_TOO_SMALL; turn++) {
-            // one place more than is wanted, so that there is one to point at
-            keys_.resize(key_bytes + 1), ends_.resize(count + 1), values_.resize(count + 1);
-            status = zerotrie_list(static_cast<uint32_t>(kind), trie.ptr, trie.len, front.ptr, front.len, detail::room(keys_),
-                                   key_bytes, ends_.data(), count, values_.data(), count, &key_bytes, &count);
+        // a part at a time, each with twice the room of the one before
+        for (size_t room = 4096; status == ZEROTRIE_BUFFER_TOO_SMALL; room *= 2) {
+            const size_t from = keys_.size(), at = size(), places = room / 8;
+            const std::string last(at == 0 ? std::string_view() : (*this)[at - 1].first);
+            size_t count = 0, next_len = 0;
+            keys_.resize(from + room), ends_.resize(at + places), values_.resize(at + places);
+            status = zerotrie_list_some(static_cast<uint32_t>(kind), trie.ptr, trie.len, front.ptr, front.len, at > 0,
+                                        detail::of(last).ptr, last.size(), detail::room(keys_) + from, room, ends_.data() + at,
+                                        places, values_.data() + at, places, &count, &next_len);
+            for (size_t i = at; i < at + count; i++) ends_[i] += from;
+            ends_.resize(at + count), values_.resize(at + count);
+            keys_.resize(empty() ? 0 : ends_.back());
+            room = std::max(room, next_len);
         }
         detail::check(status);
-        count_ = count;
     }
-    size_t size() const { return count_; }
-    bool empty() const { return count_ == 0; }
+    size_t size() const { return ends_.size(); }
+    bool empty() const { return ends_.empty(); }
     value_type operator[](size_t i) const {
         const size_t from = i == 0 ? 0 : ends_[i - 1];
         return {std::string_view(keys_).substr(from, ends_[i] - from), values_[i]};
     }
     iterator begin() const { return {this, 0}; }
-    iterator end() const { return {this, count_}; }
+    iterator end() const { return {this, size()}; }
 
 private:
     std::string keys_;
     std::vector<size_t> ends_, values_;
-    size_t count_ = 0;
 };
 
 // A trie over bytes that lie elsewhere, which have to outlive it.
@@ -159,7 +165,7 @@ public:
         return std::pair(text.substr(0, len), value);
     }
     Cursor cursor() const { return Cursor(kind_, bytes_); }
-    // A cursor behind a prefix. None if no key begins with it.
+    // A cursor after a prefix. None if no key begins with it.
     std::optional<Cursor> with_prefix(std::string_view prefix) const {
         const auto at = detail::of(bytes_), p = detail::of(prefix);
         zerotrie_cursor cursor;
@@ -205,12 +211,59 @@ template <class Pairs> Kind auto_kind(const Pairs &pairs) {
     return static_cast<Kind>(zerotrie_auto_kind(items.data(), items.size()));
 }
 
-// The bytes behind the number of their kind.
+// The bytes after the number of their kind.
 inline std::string tagged(Kind kind, std::string_view bytes) {
     const auto at = detail::of(bytes);
     std::string out(bytes.size() + 1, '\0');
     size_t len = 0;
     detail::check(zerotrie_tagged(static_cast<uint32_t>(kind), at.ptr, at.len, detail::room(out), out.size(), &len));
+    return out;
+}
+
+// A map from two texts to numbers over the record of a dense table, which has to outlive it.
+class DenseTable {
+public:
+    explicit DenseTable(std::string_view record) : record_(record) {}
+    // The value of a suffix under a prefix. Throws Error if the bytes are no record.
+    std::optional<size_t> get(std::string_view prefix, std::string_view suffix) const {
+        const auto at = detail::of(record_), p = detail::of(prefix), s = detail::of(suffix);
+        size_t value = 0;
+        const uint32_t status = zerotrie_dense_get(at.ptr, at.len, p.ptr, p.len, s.ptr, s.len, &value);
+        if (status == ZEROTRIE_NO_ENTRY) return std::nullopt;
+        detail::check(status);
+        return value;
+    }
+
+private:
+    std::string_view record_;
+};
+
+// The record of the dense table of rows: a range of prefixes, each with a range of suffixes and values, both ascending, as a
+// std::map of std::maps. Throws Error.
+template <class Rows> std::string build_dense(const Rows &rows, char delimiter) {
+    std::string prefixes, suffixes;
+    std::vector<size_t> prefix_ends, suffix_ends, values;
+    for (const auto &[prefix, row] : rows) {
+        for (const auto &[suffix, value] : row) {
+            prefixes += std::string_view(prefix), suffixes += std::string_view(suffix);
+            prefix_ends.push_back(prefixes.size()), suffix_ends.push_back(suffixes.size());
+            values.push_back(static_cast<size_t>(value));
+        }
+    }
+    const size_t count = values.size();
+    // so that there is a place to point at
+    prefix_ends.reserve(1), suffix_ends.reserve(1), values.reserve(1);
+    const auto p = detail::of(prefixes), s = detail::of(suffixes);
+    size_t len = 64 + prefixes.size() + suffixes.size() + 8 * count;
+    std::string out;
+    uint32_t status = ZEROTRIE_BUFFER_TOO_SMALL;
+    for (int turn = 0; turn < 2 && status == ZEROTRIE_BUFFER_TOO_SMALL; turn++) {
+        out.resize(len);
+        status = zerotrie_dense_build(p.ptr, p.len, prefix_ends.data(), count, s.ptr, s.len, suffix_ends.data(), count,
+                                      values.data(), count, static_cast<uint8_t>(delimiter), detail::room(out), out.size(), &len);
+    }
+    detail::check(status);
+    out.resize(len);
     return out;
 }
 

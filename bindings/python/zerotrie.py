@@ -25,7 +25,7 @@ from typing import Any, Optional, Union
 
 __all__ = [
     "SIMPLE_ASCII", "PERFECT_HASH", "EXTENDED_CAPACITY", "IGNORE_CASE",
-    "Cursor", "ZeroTrie", "ZeroTrieError", "auto_kind", "build", "encoded_len", "tagged",
+    "Cursor", "DenseTable", "ZeroTrie", "ZeroTrieError", "auto_kind", "build", "build_dense", "encoded_len", "tagged",
 ]
 
 Key = Union[str, bytes, bytearray, memoryview]
@@ -34,17 +34,20 @@ Pairs = Union[Mapping[Any, int], Iterable["tuple[Key, int]"]]
 #: The kinds of trie, by the numbers of tagged bytes.
 SIMPLE_ASCII, PERFECT_HASH, EXTENDED_CAPACITY, IGNORE_CASE = 0, 3, 7, 8
 
-_DONE, _TOO_SMALL, _NO_MEMORY = 0, 8, 11
+_DONE, _TOO_SMALL, _NO_MEMORY, _NO_ENTRY = 0, 8, 11, 15
 _TEXTS = {
     1: "a key has a byte that is not ASCII: take a kind of trie for keys of any bytes",
     2: "the text of the trie would be too long for its kind: take ZeroTrieExtendedCapacity, or fewer pairs",
     3: "no perfect hash was found for the edges of a branch: take a kind without hashed tables, or change a key",
     4: "two keys begin alike but for the case of a letter: lower-case the keys first",
+    5: "a text has the delimiter in it: take a delimiter that none has",
     6: "a key was given twice: give each key once",
     7: "the keys do not ascend: sort them by their bytes, each once",
     12: "the number is no kind of trie: take 0, 3, 7 or 8",
     13: "there are no bytes, and so no tag: give all of the tagged bytes",
     14: "the first byte is the tag of no kind: give bytes that were written with a tag",
+    16: "the record is cut: give all of its bytes",
+    17: "bytes follow the record: give its bytes alone",
 }
 
 
@@ -97,7 +100,10 @@ _DECLARED = {
     "zerotrie_encoded_len": (c_uint32, [c_uint32, *_PAIRS, _SIZE]),
     "zerotrie_auto_kind": (c_uint32, _PAIRS),
     "zerotrie_tagged": (c_uint32, [c_uint32, *_LENT, *_ROOM, _SIZE]),
+    "zerotrie_dense_get": (c_uint32, [*_LENT, *_TEXT, *_TEXT, _SIZE]),
+    "zerotrie_dense_build": (c_uint32, [*_TEXT, *_SIZES, *_TEXT, *_SIZES, *_SIZES, c_uint8, *_ROOM, _SIZE]),
     "zerotrie_list": (c_uint32, [c_uint32, *_LENT, *_TEXT, *_ROOM, *_SIZES, *_SIZES, _SIZE, _SIZE]),
+    "zerotrie_list_some": (c_uint32, [c_uint32, *_LENT, *_TEXT, c_bool, *_TEXT, *_ROOM, *_SIZES, *_SIZES, _SIZE, _SIZE]),
 }
 
 
@@ -306,30 +312,36 @@ class ZeroTrie(Mapping):
         return Cursor(self)
 
     def with_prefix(self, prefix: Key) -> Optional[Cursor]:
-        """A cursor behind a prefix. None if no key begins with it."""
+        """A cursor after a prefix. None if no key begins with it."""
         cursor, text = Cursor(self), _key(prefix)
         found = _lib.zerotrie_with_prefix(self.kind, self._at, self._len, text, len(text), cursor._raw)
         return cursor if found else None
 
-    def _listed(self, prefix: Key) -> tuple[bytes, Any, Any, int]:
-        front, key_bytes, count = _key(prefix), c_size_t(8 * self._len), c_size_t(self._len)
-        for _ in range(2):
-            n, k = count.value, key_bytes.value
-            keys, ends, values = (c_uint8 * max(1, k))(), (c_size_t * max(1, n))(), (c_size_t * max(1, n))()
-            status = _lib.zerotrie_list(self.kind, self._at, self._len, front, len(front), keys, k, ends, n, values, n,
-                                        key_bytes, count)
+    def _parts(self, prefix: Key) -> Iterator[tuple[bytes, Any, Any, int]]:
+        """Parts of the listing of a prefix: keys one after another, where each ends, their values, and how many they are."""
+        front, last, goes_on = _key(prefix), b"", False
+        room, places = min(1 << 16, 8 * self._len + 1), min(1 << 12, self._len + 1)
+        count, next_len, status = c_size_t(), c_size_t(), _TOO_SMALL
+        while status == _TOO_SMALL:
+            keys, ends, values = (c_uint8 * room)(), (c_size_t * places)(), (c_size_t * places)()
+            status = _lib.zerotrie_list_some(self.kind, self._at, self._len, front, len(front), goes_on, last, len(last),
+                                             keys, room, ends, places, values, places, count, next_len)
             if status != _TOO_SMALL:
-                break
-        _check(status)
-        return bytes(memoryview(keys)[: key_bytes.value]), ends, values, count.value
+                _check(status)
+            text, n = bytes(keys), count.value
+            yield text, ends, values, n
+            if n > 0:
+                last, goes_on = text[ends[n - 2] if n > 1 else 0 : ends[n - 1]], True
+            if status == _TOO_SMALL:
+                room = max(room, next_len.value)
 
     def items(self, prefix: Key = b"") -> Iterator[tuple[bytes, int]]:  # type: ignore[override]
-        """The pairs whose keys begin with the prefix, in the order of the trie's bytes."""
-        keys, ends, values, count = self._listed(prefix)
-        at = 0
-        for number in range(count):
-            yield keys[at : ends[number]], values[number]
-            at = ends[number]
+        """The pairs whose keys begin with the prefix, in the order of the trie's bytes. They are listed a part at a time."""
+        for text, ends, values, count in self._parts(prefix):
+            at = 0
+            for number in range(count):
+                yield text[at : ends[number]], values[number]
+                at = ends[number]
 
     def keys(self, prefix: Key = b"") -> Iterator[bytes]:  # type: ignore[override]
         return (key for key, _ in self.items(prefix))
@@ -341,7 +353,7 @@ class ZeroTrie(Mapping):
         return self.keys()
 
     def __len__(self) -> int:
-        return self._listed(b"")[3]
+        return sum(count for _, _, _, count in self._parts(b""))
 
     def __bool__(self) -> bool:
         return self._len > 0
@@ -360,6 +372,55 @@ class ZeroTrie(Mapping):
 
     def __repr__(self) -> str:
         return f"ZeroTrie({bytes(self._view)!r}, kind={self.kind})"
+
+
+def build_dense(rows: Mapping[Key, Mapping[Key, int]], delimiter: Key = b"/") -> bytes:
+    """The record of the dense table of a mapping of mappings, in any order, of texts that are ASCII without the delimiter.
+
+    >>> table = DenseTable(build_dense({"de": {"AT": 8, "CH": 9}, "en": {"US": 5}}))
+    >>> table.get("de", "AT"), table.get("en", "AT")
+    (8, None)
+    """
+    entries = sorted(((_key(prefix), _key(suffix)), value) for prefix, row in rows.items() for suffix, value in row.items())
+    count, byte = len(entries), _key(delimiter)
+    if len(byte) != 1:
+        raise ValueError("the delimiter is one byte")
+    prefix_ends, suffix_ends, values = ((c_size_t * max(1, count))() for _ in range(3))
+    at = to = 0
+    for number, ((prefix, suffix), value) in enumerate(entries):
+        if not 0 <= value < 1 << 64:
+            raise OverflowError("a value is from 0 to 2**64 - 1")
+        at, to = at + len(prefix), to + len(suffix)
+        prefix_ends[number], suffix_ends[number], values[number] = at, to, value
+    prefixes, suffixes = (b"".join(texts[which] for texts, _ in entries) for which in (0, 1))
+    length = c_size_t(64 + at + to + 8 * count)
+    for _ in range(2):
+        room = (c_uint8 * length.value)()
+        status = _lib.zerotrie_dense_build(prefixes, at, prefix_ends, count, suffixes, to, suffix_ends, count, values, count,
+                                           byte[0], room, len(room), length)
+        if status != _TOO_SMALL:
+            break
+    _check(status)
+    return bytes(memoryview(room)[: length.value])
+
+
+class DenseTable:
+    """A map from two texts to numbers, over the record of a dense table."""
+
+    __slots__ = ("_record", "_at")
+
+    def __init__(self, record: bytes) -> None:
+        self._record = bytes(record)
+        self._at = ctypes.cast(c_char_p(self._record), c_void_p)
+
+    def get(self, prefix: Key, suffix: Key, default: Any = None) -> Any:
+        """The value of a suffix under a prefix. ZeroTrieError if the bytes are no record."""
+        p, s, value = _key(prefix), _key(suffix), c_size_t()
+        status = _lib.zerotrie_dense_get(self._at, len(self._record), p, len(p), s, len(s), value)
+        if status == _NO_ENTRY:
+            return default
+        _check(status)
+        return value.value
 
 
 class _Buffer(Structure):

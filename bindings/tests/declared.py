@@ -84,6 +84,9 @@ def statuses():
     errors = re.findall(r'#\[error\("(.*?)"\)\]\n\s+(\w+)', (here / "../crates/zerotrie_base/src/error.rt").read_text())
     for number, (text, name) in enumerate(errors, 1):
         assert texts[number] == text.replace("take one of this many bytes: {0}", "take a smaller one"), (number, name, text, texts[number])
+    records = dict(zip(("ZEROTRIE_RECORD_TRUNCATED", "ZEROTRIE_TRAILING_BYTES"),
+                       re.findall(r'#\[error\("(.*?)"\)\]', (here / "../crates/zerotrie/src/dense/record.rt").read_text())))
+    assert len(records) == 2 and all(texts[numbers[name]] == text for name, text in records.items())
     import zerotrie
     assert all(texts[number] == text for number, text in zerotrie._TEXTS.items())
     in_rust = (here / "rust/zerotrie-proved/src/lib.rs").read_text()

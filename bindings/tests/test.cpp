@@ -90,6 +90,17 @@ int main(int count, char **arguments) {
     } catch (const zerotrie::Error &error) {
         CHECK(error.status == ZEROTRIE_DUPLICATE_KEY && std::string(error.what()) == "a key was given twice: give each key once");
     }
+    const std::map<std::string, Map> rows{{"de", {{"AT", 8}, {"CH", 9}}}, {"en", {{"US", 5}}}};
+    const std::string record = zerotrie::build_dense(rows, '/');
+    const zerotrie::DenseTable table(record);
+    CHECK(table.get("de", "CH") == 9 && table.get("en", "US") == 5 && !table.get("en", "AT") && !table.get("CH", "de"));
+    CHECK(!zerotrie::DenseTable(zerotrie::build_dense(std::map<std::string, Map>{}, '/')).get("", ""));
+    try {
+        zerotrie::DenseTable(std::string_view(record).substr(1)).get("de", "CH");
+        CHECK(false);
+    } catch (const zerotrie::Error &error) {
+        CHECK(error.status == ZEROTRIE_RECORD_TRUNCATED || error.status == ZEROTRIE_TRAILING_BYTES);
+    }
     const size_t calls = count > 1 ? std::strtoul(arguments[1], nullptr, 10) : 1000000;
     against_a_map(calls);
     std::printf("c++: ok, %zu calls against a std::map\n", calls);

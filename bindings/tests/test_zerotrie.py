@@ -61,6 +61,21 @@ cursor = trie.cursor()
 assert (cursor.step(ord("f")), cursor.probe(0), cursor.run, bool(cursor)) == (ord("f"), (ord("o"), 1), b"", True)
 assert cursor.step(ord("x")) is None and not cursor
 
+rows = {p: {s: random.choice((70000, 1 << 40)) + random.randrange(50) for s in ("", *map(str, range(p % 30)))} for p in range(40)}
+rows = {str(p): row for p, row in rows.items() if p % 7}
+record = zerotrie.build_dense(rows)
+table = zerotrie.DenseTable(record)
+for p in map(str, range(41)):
+    for s in ("", *map(str, range(31)), "/", "å"):
+        assert table.get(p, s) == rows.get(p, {}).get(s), (p, s)
+assert table.get("0", "0", 7) == 7
+for status, wrong in ((16, record[:-1]), (16, b""), (17, record + b"?")):
+    assert refused(ZeroTrieError, zerotrie.DenseTable(wrong).get, "1", "").status == status
+for status, wrong in ((5, {"a": {"b/c": 1}}), (1, {"a": {"å": 1}}), (1, {b"\xFF": {"b": 1}})):
+    assert refused(ZeroTrieError, zerotrie.build_dense, wrong).status == status
+refused(OverflowError, zerotrie.build_dense, {"a": {"b": -1}})
+assert zerotrie.DenseTable(zerotrie.build_dense({})).get("", "") is None
+
 with tempfile.TemporaryDirectory() as room:
     path = os.path.join(room, "tagged")
     pathlib.Path(path).write_bytes(trie.to_tagged())

@@ -34,7 +34,7 @@
 //!
 //! A crate that stands on `zerotrie` alone can state and prove contracts over it. `Rattle.zerotrie.specs`
 //! has the definitions that the library's clauses cite. Of the lemmas, `Rattle.zerotrie.proofs.Builds` says
-//! what a build over an iterator is of the list behind it, `Rattle.zerotrie.proofs.Lookups` and `Found` what a
+//! what a build over an iterator is of the list under it, `Rattle.zerotrie.proofs.Lookups` and `Found` what a
 //! look-up answers by the pairs alone, `Cursors` and `Fallbacks` what a cursor finds on its way, `Forms` what
 //! was written as JSON and read again, and `Tables` what the record of a dense table keeps. The crate
 //! `zerotrie_uses` has callers to copy.
@@ -43,8 +43,6 @@
 
 pub mod dense;
 mod error;
-#[cfg(test)]
-mod tests;
 
 pub use error::Error;
 pub use zerotrie_any::{

@@ -19,7 +19,7 @@ use zerotrie_core::{Ext, Hash, Simple, TrieStore, is_well_formed};
 pub struct NotWellFormed;
 
 impl<'a> ZeroTrie<&'a [u8]> {
-    /// The trie of these bytes, of the kind `K`, where they mean a map. It takes no memory.
+    /// The trie of these bytes, of the kind `K`, if they mean a map. It takes no memory.
     ///
     /// ```
     /// let trie = ZeroTrie::try_from_bytes::<Simple>(b"abc\x85")?;
@@ -43,10 +43,11 @@ impl<'a> ZeroTrie<&'a [u8]> {
 }
 
 impl<S: TrieStore> ZeroTrie<S> {
-    /// Whether the bytes are a trie of its kind, every rule of the format kept: yes exactly where they mean a
+    /// Whether the bytes are a trie of its kind, every rule of the format kept: yes exactly if they mean a
     /// map. It takes no memory.
     pub fn is_well_formed(&self) -> bool
-        ensures { IsTrue result ↔ IsWellFormed (flavor_kind self.now.flavor) (S.stored self.now.store) }
+        ensures { IsTrue result ↔ IsWellFormed (flavor_kind self.now.flavor)
+            (S.stored self.now.store) }
     {
         let bytes = self.store.bytes();
         match self.flavor {

@@ -58,7 +58,7 @@ fn turn<K: ZeroTrieWithOptions>(cursor: &mut SpanCursor<'_>, op: &CursorOp) -> C
 /// ```
 ///
 /// On bytes that mean a map the answers are those of the machine over the map's pairs, in the order in which
-/// the bytes list them. It returns on any bytes, and is refused for want of memory alone.
+/// the bytes list them. It returns on any bytes, and fails only if memory runs out.
 pub fn walk<K: ZeroTrieWithOptions>(
     alloc: Global,
     bytes: &[u8],

@@ -26,7 +26,7 @@ pub enum JsonError {
     /// There are no pairs in the value: it is no object from text to number and no list of pairs.
     #[error("the value has no pairs: give an object from text to number, or a list of pairs of a key and a number")]
     Shape,
-    /// The pairs in the value make no trie of the kind, for this reason, which is never want of memory.
+    /// The pairs in the value make no trie of the kind, for this reason, which is never out of memory.
     #[error("the pairs in the value make no trie: {0}")]
     Build(ZeroTrieBuildError),
     /// A growth was refused.

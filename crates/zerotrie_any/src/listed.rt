@@ -14,7 +14,8 @@ use crate::zerotrie::{ZeroTrie, ZeroTrieFlavor};
 use std::alloc::Global;
 use std::collections::BTreeMap;
 use zerotrie_core::{
-    Ext, Hash, ListError, Simple, TrieStore, ZeroTrieIterator, ZeroTrieWithOptions, count_pairs,
+    Ext, Hash, ListError, Simple, TrieStore, ZeroTrieIterator, ZeroTrieStream, ZeroTrieWithOptions,
+    count_pairs,
 };
 
 /// The map that bytes of the kind mean, in the order of the keys' bytes.
@@ -39,14 +40,14 @@ pub fn map_of<K: ZeroTrieWithOptions>(
     Ok(BTreeMap::from_iter(alloc, pairs)?)
 }
 
-/// The first key in the order of the listing that has this value, or `None` where no key has it.
+/// The first key in the order of the listing that has this value, or `None` if no key has it.
 ///
 /// ```
 /// let key = first_key_of::<Simple>(rt.alloc(), b"ad\x90\x06ef\x90\x11", 22)?.ok_or("no key")?;
 /// assert_eq!(rt; key.as_slice(), b"ad".as_slice());
 /// ```
 ///
-/// It lists the pairs up to that key. The only error is `OutOfMemory`.
+/// It goes over the pairs up to that key, and copies no other. The only error is `OutOfMemory`.
 pub fn first_key_of<K: ZeroTrieWithOptions>(
     alloc: Global,
     bytes: &[u8],
@@ -56,10 +57,10 @@ pub fn first_key_of<K: ZeroTrieWithOptions>(
         → IfOk result (λ key. option_map (λ k. k.items) key ≡ first_key_of value pairs) }
     ensures refused { IfErr result (λ e. e ≡ OutOfMemory) }
 {
-    for item in ZeroTrieIterator::new::<K>(alloc, bytes) {
-        let (key, number) = item?;
-        if number == value {
-            return Ok(Some(key));
+    let mut pairs = ZeroTrieStream::new::<K>(alloc, bytes);
+    while pairs.advance()? {
+        if pairs.value() == value {
+            return Ok(Some(Vec::from_slice(alloc, pairs.key())?));
         }
     }
     Ok(None)
@@ -76,10 +77,11 @@ impl<S: TrieStore> ZeroTrie<S> {
     /// }
     /// ```
     ///
-    /// An item is `ListError::OutOfMemory` where a growth was refused, and nothing more comes then. Bytes that
+    /// An item is `ListError::OutOfMemory` if memory runs out, and nothing more comes then. Bytes that
     /// mean no map list at most as many pairs as there are bytes.
     pub fn iter(&self, alloc: Global) -> ZeroTrieIterator<'_>
-        ensures lists { (pairs : Pairs) → Lists (flavor_kind self.now.flavor) (S.stored self.now.store) pairs
+        ensures lists { (pairs : Pairs)
+            → Lists (flavor_kind self.now.flavor) (S.stored self.now.store) pairs
             → result ≡ to_come pairs }
         ensures most { length result.pairs ≤ length (S.stored self.now.store) }
     {
@@ -112,7 +114,7 @@ impl<S: TrieStore> ZeroTrie<S> {
         }
     }
 
-    /// The first key in the order of `iter` that has this value, or `None` where no key has it.
+    /// The first key in the order of `iter` that has this value, or `None` if no key has it.
     ///
     /// ```
     /// let trie = ZeroTrie::try_from_iter(rt.alloc(), [("xyz", 22), ("abc", 11)])?;
@@ -122,7 +124,8 @@ impl<S: TrieStore> ZeroTrie<S> {
     ///
     /// The only error is `OutOfMemory`.
     pub fn first_key_of(&self, alloc: Global, value: usize) -> Result<Option<Vec<u8>>, ListError>
-        ensures first { (pairs : Pairs) → Lists (flavor_kind self.now.flavor) (S.stored self.now.store) pairs
+        ensures first { (pairs : Pairs)
+            → Lists (flavor_kind self.now.flavor) (S.stored self.now.store) pairs
             → IfOk result (λ key. option_map (λ k. k.items) key ≡ first_key_of value pairs) }
         ensures refused { IfErr result (λ e. e ≡ OutOfMemory) }
     {

@@ -68,7 +68,8 @@ impl<'a> ZeroTrie<&'a [u8]> {
     /// It is `try_from_tagged_bytes` and `is_well_formed` in one. Refused with `Tag` exactly if the first of these
     /// is, and with `NotWellFormed` exactly if the bytes after the tag mean no map of its kind.
     pub fn load(bytes: &'a [u8]) -> Result<Self, LoadError>
-        ensures ok { IfOk result (λ trie. IsLoaded (flavor_kind trie.flavor) bytes.now trie.store.now) }
+        ensures ok { IfOk result (λ trie.
+            IsLoaded (flavor_kind trie.flavor) bytes.now trie.store.now) }
         ensures err { IfErr result (IsLoadFault IsFlavorTag bytes.now) }
     {
         let trie = ZeroTrie::try_from_tagged_bytes(bytes)?;

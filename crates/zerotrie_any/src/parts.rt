@@ -10,11 +10,11 @@ ghost use Rattle.zerotrie_any.specs.Flavors.{flavor_kind};
 use crate::zerotrie::ZeroTrie;
 use std::alloc::Global;
 use std::marker::Model;
-use zerotrie_core::{ListError, TrieStore, ZeroTrieIterator, ZeroTrieWithOptions};
+use zerotrie_core::{ListError, TrieStore, ZeroTrieIterator, ZeroTrieStream, ZeroTrieWithOptions};
 
 /// The keys of a trie, one after another, in the order in which `ZeroTrieIterator` gives their pairs.
 ///
-/// An item is a key, or `ListError::OutOfMemory` where a growth was refused. After an error, and after the end,
+/// An item is a key, or `ListError::OutOfMemory` if memory runs out. After an error, and after the end,
 /// nothing more comes.
 #[derive(Debug, Drop)]
 pub struct ZeroTrieKeys<'a> {
@@ -64,11 +64,12 @@ impl<'a> Iterator for ZeroTrieKeys<'a> {
 
 /// The values of a trie, one after another, in the order in which `ZeroTrieIterator` gives their pairs.
 ///
-/// An item is a value, or `ListError::OutOfMemory` where a growth was refused, since a listing keeps the key that it
-/// stands at. After an error, and after the end, nothing more comes.
+/// An item is a value, or `ListError::OutOfMemory` if memory runs out, since a listing keeps the key that it
+/// stands at. After an error, and after the end, nothing more comes. It takes memory only as that key grows, and none
+/// for a value.
 #[derive(Debug, Drop)]
 pub struct ZeroTrieValues<'a> {
-    pairs: ZeroTrieIterator<'a>,
+    pairs: ZeroTrieStream<'a>,
 }
 
 impl<'a> Model for ZeroTrieValues<'a> {
@@ -76,7 +77,7 @@ impl<'a> Model for ZeroTrieValues<'a> {
 
     ghost Value = { Left };
 
-    ghost view = { λ s. s.pairs };
+    ghost view = { λ s. s.pairs.left };
 }
 
 impl<'a> ZeroTrieValues<'a> {
@@ -88,7 +89,7 @@ impl<'a> ZeroTrieValues<'a> {
         ensures most { length result.pairs ≤ length bytes.now }
     {
         ZeroTrieValues {
-            pairs: ZeroTrieIterator::new::<K>(alloc, bytes),
+            pairs: ZeroTrieStream::new::<K>(alloc, bytes),
         }
     }
 }
@@ -104,10 +105,10 @@ impl<'a> Iterator for ZeroTrieValues<'a> {
     ghost remaining = { λ s. at_most (turns_left s) };
 
     fn next(&mut self) -> Option<Result<usize, ListError>> {
-        match self.pairs.next() {
-            None => None,
-            Some(Ok((_key, value))) => Some(Ok(value)),
-            Some(Err(error)) => Some(Err(error)),
+        match self.pairs.advance() {
+            Ok(false) => None,
+            Ok(true) => Some(Ok(self.pairs.value())),
+            Err(_) => Some(Err(ListError::OutOfMemory)),
         }
     }
 }
@@ -121,7 +122,8 @@ impl<S: TrieStore> ZeroTrie<S> {
     /// assert_eq!(rt; first.as_slice(), b"abc".as_slice());
     /// ```
     pub fn keys(&self, alloc: Global) -> ZeroTrieKeys<'_>
-        ensures lists { (pairs : Pairs) → Lists (flavor_kind self.now.flavor) (S.stored self.now.store) pairs
+        ensures lists { (pairs : Pairs)
+            → Lists (flavor_kind self.now.flavor) (S.stored self.now.store) pairs
             → result ≡ to_come pairs }
         ensures most { length result.pairs ≤ length (S.stored self.now.store) }
     {
@@ -137,12 +139,13 @@ impl<S: TrieStore> ZeroTrie<S> {
     /// assert_eq!(rt; trie.values(rt.alloc()).next().ok_or("no value")??, 11);
     /// ```
     pub fn values(&self, alloc: Global) -> ZeroTrieValues<'_>
-        ensures lists { (pairs : Pairs) → Lists (flavor_kind self.now.flavor) (S.stored self.now.store) pairs
+        ensures lists { (pairs : Pairs)
+            → Lists (flavor_kind self.now.flavor) (S.stored self.now.store) pairs
             → result ≡ to_come pairs }
         ensures most { length result.pairs ≤ length (S.stored self.now.store) }
     {
         ZeroTrieValues {
-            pairs: self.iter(alloc),
+            pairs: self.stream(alloc),
         }
     }
 }

@@ -24,7 +24,8 @@ impl<S: TrieStore> ZeroTrie<S> {
     /// assert_eq!(rt; (pairs.key(), pairs.value()), (b"en".as_slice(), 1));
     /// ```
     pub fn stream(&self, alloc: Global) -> ZeroTrieStream<'_>
-        ensures lists { (pairs : Pairs) → Lists (flavor_kind self.now.flavor) (S.stored self.now.store) pairs
+        ensures lists { (pairs : Pairs)
+            → Lists (flavor_kind self.now.flavor) (S.stored self.now.store) pairs
             → result.left ≡ to_come pairs }
         ensures most { length result.left.pairs ≤ length (S.stored self.now.store) }
     {
@@ -44,7 +45,8 @@ impl<S: TrieStore> ZeroTrie<S> {
         alloc: Global,
         prefix: &[u8],
     ) -> Result<ZeroTrieStream<'_>, AllocError>
-        ensures { IfOk result (λ s. (pairs : Pairs) → Lists (flavor_kind self.now.flavor) (S.stored self.now.store) pairs
+        ensures { IfOk result (λ s.
+            (pairs : Pairs) → Lists (flavor_kind self.now.flavor) (S.stored self.now.store) pairs
             → s.left ≡ to_come (beginning (flavor_kind self.now.flavor) prefix.now pairs)) }
     {
         let bytes = self.store.bytes();
@@ -70,7 +72,8 @@ impl<S: TrieStore> ZeroTrie<S> {
         alloc: Global,
         prefix: &[u8],
     ) -> Result<ZeroTrieIterator<'_>, AllocError>
-        ensures { IfOk result (λ it. (pairs : Pairs) → Lists (flavor_kind self.now.flavor) (S.stored self.now.store) pairs
+        ensures { IfOk result (λ it.
+            (pairs : Pairs) → Lists (flavor_kind self.now.flavor) (S.stored self.now.store) pairs
             → it ≡ to_come (beginning (flavor_kind self.now.flavor) prefix.now pairs)) }
     {
         let bytes = self.store.bytes();
@@ -120,7 +123,8 @@ impl<S: TrieStore> ZeroTrie<S> {
     ///
     /// It reads the text once, up to the first byte with which no key goes on, and takes no memory.
     pub fn common_prefixes<'t>(&self, text: &'t [u8]) -> CommonPrefixes<'_, 't>
-        ensures { result ≡ at_front (flavor_kind self.now.flavor) (S.stored self.now.store) text.now }
+        ensures { result ≡ at_front (flavor_kind self.now.flavor) (S.stored self.now.store)
+            text.now }
     {
         let bytes = self.store.bytes();
         match self.flavor {

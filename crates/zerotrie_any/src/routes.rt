@@ -45,8 +45,10 @@ pub(crate) fn items_of<Key: TrieKey + Ord>(
     alloc: Global,
     entries: &BTreeMap<Key, usize>,
 ) -> Result<Vec<(&[u8], usize)>, AllocError>
-    ensures items { IfOk result (λ items. pairs_of items.items ≡ keyed Key.key entries.now.entries) }
-    ensures by_bytes { IsByBytes Key.cmp Key.key → OnOk result (Ascends (keyed Key.key entries.now.entries)) }
+    ensures items { IfOk result (λ items.
+        pairs_of items.items ≡ keyed Key.key entries.now.entries) }
+    ensures by_bytes { IsByBytes Key.cmp Key.key
+        → OnOk result (Ascends (keyed Key.key entries.now.entries)) }
 {
     let mut items = Vec::with_capacity(alloc, entries.len())?;
     for (key, value) in entries {
@@ -64,9 +66,11 @@ pub fn bytes_from_map<K: ZeroTrieWithOptions, Key: TrieKey + Ord>(
     alloc: Global,
     entries: &BTreeMap<Key, usize>,
 ) -> Result<Vec<u8>, ZeroTrieBuildError>
-    ensures build { IsBuild ascending K.kind (λ bytes. bytes.items) (keyed Key.key entries.now.entries) result }
+    ensures build { IsBuild ascending K.kind (λ bytes. bytes.items)
+        (keyed Key.key entries.now.entries) result }
     ensures by_bytes { IsByBytes Key.cmp Key.key
-        → IsBuild in_order K.kind (λ bytes. bytes.items) (keyed Key.key entries.now.entries) result }
+        → IsBuild in_order K.kind (λ bytes. bytes.items) (keyed Key.key entries.now.entries)
+        result }
 {
     let items = items_of(alloc, entries)?;
     bytes_from_slice::<K>(alloc, items.as_slice())

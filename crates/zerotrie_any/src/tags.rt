@@ -32,7 +32,7 @@ pub enum TagError {
 /// assert_eq!(rt; tagged.as_slice(), b"\x03a\x85".as_slice());
 /// ```
 ///
-/// The only error is want of memory.
+/// The only error is out of memory.
 pub fn tagged<K: ZeroTrieWithOptions>(alloc: Global, bytes: &[u8]) -> Result<Vec<u8>, AllocError>
     ensures { IfOk result (λ t. t.items ≡ tagged K.kind bytes.now) }
 {
@@ -42,14 +42,14 @@ pub fn tagged<K: ZeroTrieWithOptions>(alloc: Global, bytes: &[u8]) -> Result<Vec
     Ok(tagged)
 }
 
-/// The bytes behind the tag of the kind `K`, where they lie.
+/// The bytes after the tag of the kind `K`, where they lie.
 ///
 /// ```
 /// assert!(rt; untagged::<Hash>(b"\x03a\x85") == Ok(b"a\x85".as_slice()));
 /// ```
 ///
-/// It takes no memory. The error is `Empty` where there are no bytes, and `InvalidTag` where the first is
-/// another than the kind's tag. What stands behind the tag is not tested.
+/// It takes no memory. The error is `Empty` if there are no bytes, and `InvalidTag` if the first is
+/// another than the kind's tag. What stands after the tag is not tested.
 pub fn untagged<K: ZeroTrieWithOptions>(bytes: &[u8]) -> Result<&[u8], TagError>
     ensures ok { IfOk result (λ behind. bytes.now ≡ tagged K.kind behind.now) }
     ensures err { IfErr result (λ e. IsTagFault (λ t. tag K.kind ≡ t) bytes.now e) }
@@ -82,9 +82,10 @@ impl<S: TrieStore> ZeroTrie<S> {
     /// assert_eq!(rt; trie.to_tagged_bytes(rt.alloc())?.as_slice(), b"\x03a\x85".as_slice());
     /// ```
     ///
-    /// The only error is want of memory.
+    /// The only error is out of memory.
     pub fn to_tagged_bytes(&self, alloc: Global) -> Result<Vec<u8>, AllocError>
-        ensures { IfOk result (λ t. t.items ≡ tagged (flavor_kind self.now.flavor) (S.stored self.now.store)) }
+        ensures { IfOk result (λ t.
+            t.items ≡ tagged (flavor_kind self.now.flavor) (S.stored self.now.store)) }
     {
         let bytes = self.store.bytes();
         match self.flavor {
@@ -96,18 +97,19 @@ impl<S: TrieStore> ZeroTrie<S> {
 }
 
 impl<'a> ZeroTrie<&'a [u8]> {
-    /// The trie of the kind whose tag stands in front, over the bytes behind it where they lie.
+    /// The trie of the kind whose tag stands in front, over the bytes after it where they lie.
     ///
     /// ```
     /// let trie = ZeroTrie::try_from_tagged_bytes(b"\x07a\x85")?;
     /// assert_eq!(rt; trie.get(b"a"), Some(5));
     /// ```
     ///
-    /// It takes no memory. The error is `Empty` where there are no bytes, and `InvalidTag` where the first is
-    /// no tag of a kind that a `ZeroTrie` may have, which are 0, 3 and 7. What stands behind the tag is not
+    /// It takes no memory. The error is `Empty` if there are no bytes, and `InvalidTag` if the first is
+    /// no tag of a kind that a `ZeroTrie` may have, which are 0, 3 and 7. What stands after the tag is not
     /// tested.
     pub fn try_from_tagged_bytes(bytes: &'a [u8]) -> Result<Self, TagError>
-        ensures ok { IfOk result (λ trie. bytes.now ≡ tagged (flavor_kind trie.flavor) trie.store.now) }
+        ensures ok { IfOk result (λ trie.
+            bytes.now ≡ tagged (flavor_kind trie.flavor) trie.store.now) }
         ensures err { IfErr result (λ e. IsTagFault IsFlavorTag bytes.now e) }
     {
         let [first, store @ ..] = bytes else {

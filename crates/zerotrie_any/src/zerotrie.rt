@@ -116,7 +116,7 @@ impl<S: TrieStore> ZeroTrie<S> {
         }
     }
 
-    /// The value of the key, or `None` where the trie has no such key.
+    /// The value of the key, or `None` if the trie has no such key.
     ///
     /// The call takes no memory. On bytes that mean no map it gives some answer.
     pub fn get(&self, key: &[u8]) -> Option<usize>
@@ -132,7 +132,7 @@ impl<S: TrieStore> ZeroTrie<S> {
         value
     }
 
-    /// The value of the key that is this text, or `None` where the trie has no such key: `get` of its bytes.
+    /// The value of the key that is this text, or `None` if the trie has no such key: `get` of its bytes.
     ///
     /// ```
     /// let trie = ZeroTrie::try_from_iter(rt.alloc(), [("å", 1), ("ø", 2)])?;
@@ -206,7 +206,7 @@ impl<S: TrieStore> ZeroTrie<S> {
     /// assert_eq!(rt; trie.to_owned(rt.alloc())?.get(b"abc"), Some(5));
     /// ```
     ///
-    /// The only error is want of memory.
+    /// The only error is out of memory.
     pub fn to_owned(&self, alloc: Global) -> Result<ZeroTrie<Vec<u8>>, AllocError>
         ensures kind { IfOk result (λ trie. trie.flavor ≡ self.now.flavor) }
         ensures bytes { IfOk result (λ trie. trie.store.items ≡ S.stored self.now.store) }
@@ -261,7 +261,8 @@ fn build_slice<K: HasFlavor>(
     items: &[(&[u8], usize)],
 ) -> Result<ZeroTrie<Vec<u8>>, ZeroTrieBuildError>
     ensures kind { IfOk result (λ trie. flavor_kind trie.flavor ≡ K.kind) }
-    ensures build { IsBuild ascending K.kind (λ trie. trie.store.items) (pairs_of items.now) result }
+    ensures build { IsBuild ascending K.kind (λ trie. trie.store.items) (pairs_of items.now)
+        result }
 {
     let store = bytes_from_slice::<K>(alloc, items)?;
     Ok(ZeroTrie::of_kind::<K>(store))
@@ -273,7 +274,8 @@ fn build_pairs<K: HasFlavor, Key: TrieKey + Drop>(
     pairs: Vec<(Key, usize)>,
 ) -> Result<ZeroTrie<Vec<u8>>, ZeroTrieBuildError>
     ensures kind { IfOk result (λ trie. flavor_kind trie.flavor ≡ K.kind) }
-    ensures build { IsBuild any_order K.kind (λ trie. trie.store.items) (keyed Key.key pairs.items) result }
+    ensures build { IsBuild any_order K.kind (λ trie. trie.store.items) (keyed Key.key pairs.items)
+        result }
 {
     let store = bytes_from_iter::<K, Key, Vec<(Key, usize)>>(alloc, pairs)?;
     Ok(ZeroTrie::of_kind::<K>(store))
@@ -288,7 +290,8 @@ impl ZeroTrie<Vec<u8>> {
         alloc: Global,
         entries: &BTreeMap<Key, usize>,
     ) -> Result<Self, ZeroTrieBuildError>
-        ensures kind { IfOk result (λ trie. flavor_kind trie.flavor ≡ auto_kind (keyed Key.key entries.now.entries)) }
+        ensures kind { IfOk result (λ trie.
+            flavor_kind trie.flavor ≡ auto_kind (keyed Key.key entries.now.entries)) }
         ensures build { let pairs = keyed Key.key entries.now.entries in
             IsBuild in_order (auto_kind pairs) (λ trie. trie.store.items) pairs result }
     {
@@ -298,16 +301,18 @@ impl ZeroTrie<Vec<u8>> {
     /// Builds the trie of a map. An empty map gives an empty trie.
     ///
     /// A build is refused with `CapacityExceeded`, `CouldNotSolvePerfectHash` or `OutOfMemory`, each for the
-    /// reason that `ZeroTrieBuildError` gives, or with `Unsorted` where the map's keys are not in the order
+    /// reason that `ZeroTrieBuildError` gives, or with `Unsorted` if the map's keys are not in the order
     /// of their bytes, as keys of bytes and of text are.
     pub fn try_from_btree_map<Key: TrieKey + Ord>(
         alloc: Global,
         entries: &BTreeMap<Key, usize>,
     ) -> Result<Self, ZeroTrieBuildError>
-        ensures kind { IfOk result (λ trie. flavor_kind trie.flavor ≡ auto_kind (keyed Key.key entries.now.entries)) }
+        ensures kind { IfOk result (λ trie.
+            flavor_kind trie.flavor ≡ auto_kind (keyed Key.key entries.now.entries)) }
         ensures build { let pairs = keyed Key.key entries.now.entries in
             IsBuild ascending (auto_kind pairs) (λ trie. trie.store.items) pairs result }
-        ensures by_bytes { let pairs = keyed Key.key entries.now.entries in IsByBytes Key.cmp Key.key
+        ensures by_bytes { let pairs = keyed Key.key entries.now.entries in IsByBytes Key.cmp
+            Key.key
             → IsBuild in_order (auto_kind pairs) (λ trie. trie.store.items) pairs result }
     {
         let items = items_of(alloc, entries)?;
@@ -323,7 +328,8 @@ impl ZeroTrie<Vec<u8>> {
         alloc: Global,
         items: &[(&[u8], usize)],
     ) -> Result<Self, ZeroTrieBuildError>
-        ensures kind { IfOk result (λ trie. flavor_kind trie.flavor ≡ auto_kind (pairs_of items.now)) }
+        ensures kind { IfOk result (λ trie.
+            flavor_kind trie.flavor ≡ auto_kind (pairs_of items.now)) }
         ensures build { let pairs = pairs_of items.now in
             IsBuild ascending (auto_kind pairs) (λ trie. trie.store.items) pairs result }
     {
@@ -350,7 +356,8 @@ impl ZeroTrie<Vec<u8>> {
     ) -> Result<Self, ZeroTrieBuildError>
     where
         U::IntoIter: Drop,
-        requires { IsFiniteIterable U.into_iter_gives U.IntoIter.can_next U.IntoIter.remaining iter }
+        requires { IsFiniteIterable U.into_iter_gives U.IntoIter.can_next U.IntoIter.remaining
+            iter }
         ensures { IsAutoBuildOfAll (OfAllGiven U.into_iter_gives U.IntoIter.next_gives Key.key iter)
             (λ trie. flavor_kind trie.flavor) (λ trie. trie.store.items) result }
     {
@@ -397,7 +404,8 @@ impl<S: TrieStore> PartialEq for ZeroTrie<S> {
     ghost laws = { Prim.search (comparing, rules) };
 
     fn eq(&self, other: &Self) -> bool
-        ensures { IsTrue result ↔ (self.now.flavor ≡ other.now.flavor) × (S.stored self.now.store ≡ S.stored other.now.store) }
+        ensures { IsTrue result ↔ (self.now.flavor ≡ other.now.flavor)
+            × (S.stored self.now.store ≡ S.stored other.now.store) }
     {
         self.flavor == other.flavor && self.store.bytes() == other.store.bytes()
     }

@@ -4,6 +4,7 @@ ghost use Rattle.std.specs.Prelude.{⊤, ◌≡◌, ◌≢◌, ◌↔◌, [], �
 ghost use Rattle.std.specs.Option.{option_map};
 ghost use Rattle.zerotrie_core.specs.Maps.{Pairs};
 ghost use Rattle.zerotrie_core.specs.Texts.{Lists};
+ghost use Rattle.zerotrie_core.specs.Listings.{to_come};
 ghost use Rattle.zerotrie_core.specs.Places.{nowhere, IsStep, IsTake, IsProbe, FollowsRun};
 ghost use Rattle.zerotrie_any.specs.Stands.{in_front, ListsFrom};
 ghost use Rattle.zerotrie_any.specs.Flavors.{flavor_kind};
@@ -13,9 +14,11 @@ use crate::cursor::{CursorAnswer, CursorOp, walk};
 use crate::zerotrie::{ZeroTrie, ZeroTrieFlavor};
 use std::alloc::{AllocError, Global};
 use std::marker::Model;
-use zerotrie_core::{ByteProbeResult, Ext, Hash, Simple, SpanCursor, TrieStore};
+use zerotrie_core::{
+    ByteProbeResult, Ext, Hash, Simple, SpanCursor, TrieStore, ZeroTrieIterator, ZeroTrieStream,
+};
 
-/// A place in a `ZeroTrie`: what all keys have behind the bytes that were stepped.
+/// A place in a `ZeroTrie`: what all keys have after the bytes that were stepped.
 ///
 /// ```
 /// let trie = ZeroTrie::of_kind::<Hash>(b"a\xA2\xC3\xA5\x85".as_slice());
@@ -65,7 +68,8 @@ impl<'a> ZeroTrieCursor<'a> {
     ///
     /// `None` inside a span, where what is left has no bytes of its own in the store.
     pub fn into_suffix_trie(self) -> Option<ZeroTrie<&'a [u8]>>
-        ensures some { IfSome result (λ t. (self.entry.place.run ≡ []) × (t.store.now ≡ self.entry.place.trie)) }
+        ensures some { IfSome result (λ t.
+            (self.entry.place.run ≡ []) × (t.store.now ≡ self.entry.place.trie)) }
         ensures kind { IfSome result (λ t. t.flavor ≡ self.entry.flavor) }
         ensures none { IfNone result (self.entry.place.run ≢ []) }
         ensures lists { IfSome result (λ t. (pairs : Pairs) → ListsFrom self.entry pairs
@@ -78,6 +82,43 @@ impl<'a> ZeroTrieCursor<'a> {
         })
     }
 
+    /// The pairs of what all keys have from here on, one after another, each key lent from one buffer.
+    ///
+    /// ```
+    /// let trie = ZeroTrie::of_kind::<Simple>(b"in\x83to\x84".as_slice());
+    /// let mut cursor = trie.cursor();
+    /// cursor.step(b'i');
+    /// let mut pairs = cursor.stream(rt.alloc())?;
+    /// assert!(rt; pairs.advance()?);
+    /// assert_eq!(rt; (pairs.key(), pairs.value()), (b"n".as_slice(), 3));
+    /// ```
+    ///
+    /// The cursor may stand inside a span, and stays as it is. The only error is that it is out of memory.
+    pub fn stream(&self, alloc: Global) -> Result<ZeroTrieStream<'a>, AllocError>
+        ensures { IfOk result (λ s. (pairs : Pairs) → ListsFrom self.now pairs
+            → s.left ≡ to_come pairs) }
+    {
+        let place = self.place.clone()?;
+        match self.flavor {
+            ZeroTrieFlavor::SimpleAscii => ZeroTrieStream::from_cursor::<Simple>(alloc, place),
+            ZeroTrieFlavor::PerfectHash => ZeroTrieStream::from_cursor::<Hash>(alloc, place),
+            ZeroTrieFlavor::ExtendedCapacity => ZeroTrieStream::from_cursor::<Ext>(alloc, place),
+        }
+    }
+
+    /// The same pairs, each key in memory of its own.
+    pub fn iter(&self, alloc: Global) -> Result<ZeroTrieIterator<'a>, AllocError>
+        ensures { IfOk result (λ it. (pairs : Pairs) → ListsFrom self.now pairs
+            → it ≡ to_come pairs) }
+    {
+        let place = self.place.clone()?;
+        match self.flavor {
+            ZeroTrieFlavor::SimpleAscii => ZeroTrieIterator::from_cursor::<Simple>(alloc, place),
+            ZeroTrieFlavor::PerfectHash => ZeroTrieIterator::from_cursor::<Hash>(alloc, place),
+            ZeroTrieFlavor::ExtendedCapacity => ZeroTrieIterator::from_cursor::<Ext>(alloc, place),
+        }
+    }
+
     /// Whether no key goes on from here. An empty cursor has no value either.
     pub fn is_empty(&self) -> bool
         ensures exact { IsTrue result ↔ (self.now.place ≡ nowhere) }
@@ -86,10 +127,11 @@ impl<'a> ZeroTrieCursor<'a> {
         self.place.is_empty()
     }
 
-    /// Takes the value of the empty key. `None` where there is none, and then nothing changes.
+    /// Takes the value of the empty key. `None` if there is none, and then nothing changes.
     pub fn take_value(&mut self) -> Option<usize>
         ensures kind { self.new.flavor ≡ self.old.flavor }
-        ensures meaning { IsTake (flavor_kind self.old.flavor) (ListsFrom self.old) result (ListsFrom self.new) }
+        ensures meaning { IsTake (flavor_kind self.old.flavor) (ListsFrom self.old) result
+            (ListsFrom self.new) }
         ensures run { self.new.place.run ≡ self.old.place.run }
         ensures none { IfNone result (self.new ≡ self.old) }
     {
@@ -98,11 +140,13 @@ impl<'a> ZeroTrieCursor<'a> {
 
     /// Goes along the edge of this byte, and answers it.
     ///
-    /// A value is passed over. Where no edge is the byte, the answer is `None`, and the cursor is empty.
+    /// A value is passed over. If no edge is the byte, the answer is `None`, and the cursor is empty.
     pub fn step(&mut self, byte: u8) -> Option<u8>
         ensures kind { self.new.flavor ≡ self.old.flavor }
-        ensures meaning { IsStep (flavor_kind self.old.flavor) (ListsFrom self.old) byte result (ListsFrom self.new) }
-        ensures run { IfSome result (λ edge. FollowsRun (flavor_kind self.old.flavor) self.old.place edge self.new.place) }
+        ensures meaning { IsStep (flavor_kind self.old.flavor) (ListsFrom self.old) byte result
+            (ListsFrom self.new) }
+        ensures run { IfSome result (λ edge.
+            FollowsRun (flavor_kind self.old.flavor) self.old.place edge self.new.place) }
         ensures empty { IfNone result (self.new.place ≡ nowhere) }
     {
         match self.flavor {
@@ -124,7 +168,7 @@ impl<'a> ZeroTrieCursor<'a> {
     /// ```
     ///
     /// A value is passed over. The edges of a branch are numbered as they stand, and a literal and a byte
-    /// of a span are one edge. Where there is no edge of this number, the answer is `None`, and the cursor
+    /// of a span are one edge. If there is no edge of this number, the answer is `None`, and the cursor
     /// is empty.
     pub fn probe(&mut self, index: usize) -> Option<ByteProbeResult>
         ensures kind { self.new.flavor ≡ self.old.flavor }
@@ -172,9 +216,10 @@ impl<S: TrieStore> ZeroTrie<S> {
     /// assert_eq!(rt; answers[1], CursorAnswer::Taken(Some(5)));
     /// ```
     ///
-    /// The only error is want of memory.
+    /// The only error is out of memory.
     pub fn walk(&self, alloc: Global, ops: &[CursorOp]) -> Result<Vec<CursorAnswer>, AllocError>
-        ensures { IfOk result (λ answers. IsWalk (flavor_kind self.now.flavor) (S.stored self.now.store)
+        ensures { IfOk result (λ answers.
+            IsWalk (flavor_kind self.now.flavor) (S.stored self.now.store)
             ops.now answers.items) }
     {
         let bytes = self.as_bytes();

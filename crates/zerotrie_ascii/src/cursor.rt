@@ -19,7 +19,7 @@ use std::marker::{Model, PhantomData};
 use zerotrie_any::{CursorAnswer, CursorOp, walk};
 use zerotrie_core::{AsciiProbeResult, Ignore, Simple, TrieStore, probe, step, take_value};
 
-/// A place in a trie over ASCII keys: what all keys have behind the bytes that were stepped. `K` is the kind.
+/// A place in a trie over ASCII keys: what all keys have after the bytes that were stepped. `K` is the kind.
 ///
 /// Use it by the name of a kind, `ZeroTrieSimpleAsciiCursor` or `ZeroAsciiIgnoreCaseTrieCursor`.
 ///
@@ -95,12 +95,13 @@ impl<'a, K: AsciiKind> AsciiCursor<'a, K> {
     /// Whether no key goes on from here. An empty cursor has no value either.
     pub fn is_empty(&self) -> bool
         ensures exact { IsTrue result ↔ (self.now ≡ []) }
-        ensures pairs { (pairs : Pairs) → Lists K.kind self.now pairs → IsTrue result ↔ (pairs ≡ []) }
+        ensures pairs { (pairs : Pairs) → Lists K.kind self.now pairs → IsTrue result
+            ↔ (pairs ≡ []) }
     {
         self.trie.is_empty()
     }
 
-    /// Takes the value of the empty key. `None` where there is none, and then nothing changes.
+    /// Takes the value of the empty key. `None` if there is none, and then nothing changes.
     pub fn take_value(&mut self) -> Option<usize>
         ensures meaning { IsTake K.kind (Lists K.kind self.old) result (Lists K.kind self.new) }
         ensures none { IfNone result (self.new ≡ self.old) }
@@ -120,10 +121,11 @@ impl<'a, K: AsciiKind> AsciiCursor<'a, K> {
     /// ```
     ///
     /// A value is passed over. The edges of a branch are numbered as they stand, and a literal is one edge.
-    /// Where there is no edge of this number, the answer is `None`, and the cursor is empty.
+    /// If there is no edge of this number, the answer is `None`, and the cursor is empty.
     pub fn probe(&mut self, index: usize) -> Option<AsciiProbeResult>
         ensures meaning { IsProbe (Lists K.kind self.old) index
-            (option_map {U = ℕ × ℕ} (λ r. (r.byte, r.total_siblings)) result) (Lists K.kind self.new) }
+            (option_map {U = ℕ × ℕ} (λ r. (r.byte, r.total_siblings)) result)
+            (Lists K.kind self.new) }
         ensures empty { IfNone result (self.new ≡ []) }
     {
         probe::<K>(&mut self.trie, index)
@@ -131,7 +133,8 @@ impl<'a, K: AsciiKind> AsciiCursor<'a, K> {
 
     #[inline(always)]
     fn step_edge(&mut self, byte: u8) -> Option<u8>
-        ensures meaning { IsStep K.kind (Lists K.kind self.old) byte result (Lists K.kind self.new) }
+        ensures meaning { IsStep K.kind (Lists K.kind self.old) byte result
+            (Lists K.kind self.new) }
         ensures empty { IfNone result (self.new ≡ []) }
     {
         step::<K>(&mut self.trie, byte)
@@ -154,7 +157,7 @@ impl<'a, K: AsciiKind> AsciiCursor<'a, K> {
 impl<'a> AsciiCursor<'a, Simple> {
     /// Goes along the edge of this byte.
     ///
-    /// A value is passed over. Where no edge is the byte, the cursor is empty.
+    /// A value is passed over. If no edge is the byte, the cursor is empty.
     #[inline(always)]
     pub fn step(&mut self, byte: u8)
         ensures { StepsBy simple_ascii self.old (byte ∷ []) self.new }
@@ -166,10 +169,11 @@ impl<'a> AsciiCursor<'a, Simple> {
 impl<'a> AsciiCursor<'a, Ignore> {
     /// Goes along the edge that is this byte but for the case of a letter, and answers it as it is stored.
     ///
-    /// A value is passed over. Where no edge is the byte, the answer is `None`, and the cursor is empty.
+    /// A value is passed over. If no edge is the byte, the answer is `None`, and the cursor is empty.
     #[inline(always)]
     pub fn step(&mut self, byte: u8) -> Option<u8>
-        ensures meaning { IsStep ignore_case (Lists ignore_case self.old) byte result (Lists ignore_case self.new) }
+        ensures meaning { IsStep ignore_case (Lists ignore_case self.old) byte result
+            (Lists ignore_case self.new) }
         ensures empty { IfNone result (self.new ≡ []) }
     {
         self.step_edge(byte)
@@ -192,7 +196,7 @@ impl<'a, K: AsciiKind> fmt::Write for AsciiCursor<'a, K> {
 
     ghost write_str_gives = { λ s bytes t. StepsBy K.kind s bytes t };
 
-    /// Steps by each byte before the first that is not ASCII, and is the error where there is one.
+    /// Steps by each byte before the first that is not ASCII, and is the error if there is one.
     fn write_str(&mut self, s: &str) -> fmt::Result
         ensures ok { IsOk result → StepsBy K.kind self.old s.now self.new }
         ensures exact { is_ok result ≡ is_ascii s.now }
@@ -217,7 +221,7 @@ impl<K: AsciiKind, S: TrieStore> AsciiTrie<K, S> {
     }
 
     /// The value of the key that a closure writes: that of the cursor which the closure leaves in its place,
-    /// or `None` where the closure fails.
+    /// or `None` if the closure fails.
     ///
     /// ```
     /// use std::fmt::Write;
@@ -232,7 +236,8 @@ impl<K: AsciiKind, S: TrieStore> AsciiTrie<K, S> {
         write: F,
     ) -> Option<usize>
         requires { F.IsAlwaysCallable write }
-        ensures { (fresh : List ℕ) × (left : List ℕ) × (answer : _) × (fresh ≡ S.stored self.now.store)
+        ensures { (fresh : List ℕ) × (left : List ℕ) × (answer : _)
+            × (fresh ≡ S.stored self.now.store)
             × FnOnceReturnsAtMut F.FnOnce write fresh answer left
             × MatchResult answer (λ _. HasValue K.kind left result) (λ _. result ≡ None) }
     {
@@ -252,9 +257,10 @@ impl<K: AsciiKind, S: TrieStore> AsciiTrie<K, S> {
     /// assert_eq!(rt; answers[1], CursorAnswer::Taken(Some(5)));
     /// ```
     ///
-    /// The only error is want of memory.
+    /// The only error is out of memory.
     pub fn walk(&self, alloc: Global, ops: &[CursorOp]) -> Result<Vec<CursorAnswer>, AllocError>
-        ensures { IfOk result (λ answers. IsWalk K.kind (S.stored self.now.store) ops.now answers.items) }
+        ensures { IfOk result (λ answers.
+            IsWalk K.kind (S.stored self.now.store) ops.now answers.items) }
     {
         walk::<K>(alloc, self.as_bytes(), ops)
     }

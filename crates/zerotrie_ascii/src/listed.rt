@@ -24,8 +24,8 @@ use zerotrie_core::{ListError, TrieStore, ZeroTrieIterator, count_pairs};
 /// targets of a branch come in the order of its table. So the keys ascend by their bytes, or in the kind
 /// without case by their bytes in lower case.
 ///
-/// An item is a key with its value, or `ListError::OutOfMemory` where a growth was refused. On bytes that mean
-/// no map it may be `ListError::NotText`, where a key is no text. After an error, and after the end, nothing
+/// An item is a key with its value, or `ListError::OutOfMemory` if memory runs out. On bytes that mean
+/// no map it may be `ListError::NotText` if a key is no text. After an error, and after the end, nothing
 /// more comes.
 #[derive(Debug, Drop)]
 pub struct ZeroTrieStringIterator<'a> {
@@ -117,11 +117,13 @@ impl<K: AsciiKind, S: TrieStore> AsciiTrie<K, S> {
     /// }
     /// ```
     ///
-    /// An item is `ListError::OutOfMemory` where a growth was refused, and nothing more comes then. Bytes that
+    /// An item is `ListError::OutOfMemory` if memory runs out, and nothing more comes then. Bytes that
     /// mean no map list at most as many pairs as there are bytes.
     pub fn iter(&self, alloc: Global) -> ZeroTrieStringIterator<'_>
-        ensures lists { (pairs : Pairs) → Lists K.kind (S.stored self.now.store) pairs → result ≡ to_come pairs }
-        ensures texts { (pairs : Pairs) → Lists K.kind (S.stored self.now.store) pairs → AreTexts pairs }
+        ensures lists { (pairs : Pairs) → Lists K.kind (S.stored self.now.store) pairs
+            → result ≡ to_come pairs }
+        ensures texts { (pairs : Pairs) → Lists K.kind (S.stored self.now.store) pairs
+            → AreTexts pairs }
         ensures most { length result.pairs ≤ length (S.stored self.now.store) }
     {
         ZeroTrieStringIterator {
@@ -146,7 +148,8 @@ impl<K: AsciiKind, S: TrieStore> AsciiTrie<K, S> {
         alloc: Global,
         prefix: &[u8],
     ) -> Result<ZeroTrieStringIterator<'_>, AllocError>
-        ensures lists { IfOk result (λ it. (pairs : Pairs) → Lists K.kind (S.stored self.now.store) pairs
+        ensures lists { IfOk result (λ it.
+            (pairs : Pairs) → Lists K.kind (S.stored self.now.store) pairs
             → it ≡ to_come (beginning K.kind prefix.now pairs)) }
         ensures texts { (pairs : Pairs) → Lists K.kind (S.stored self.now.store) pairs
             → AreTexts (beginning K.kind prefix.now pairs) }
@@ -165,7 +168,8 @@ impl<K: AsciiKind, S: TrieStore> AsciiTrie<K, S> {
     /// assert_eq!(rt; first.as_str(), "abc");
     /// ```
     pub fn keys(&self, alloc: Global) -> ZeroTrieStringKeys<'_>
-        ensures lists { (pairs : Pairs) → Lists K.kind (S.stored self.now.store) pairs → result ≡ to_come pairs }
+        ensures lists { (pairs : Pairs) → Lists K.kind (S.stored self.now.store) pairs
+            → result ≡ to_come pairs }
         ensures most { length result.pairs ≤ length (S.stored self.now.store) }
     {
         ZeroTrieStringKeys {
@@ -180,7 +184,8 @@ impl<K: AsciiKind, S: TrieStore> AsciiTrie<K, S> {
     /// assert_eq!(rt; trie.values(rt.alloc()).next().ok_or("no value")??, 11);
     /// ```
     pub fn values(&self, alloc: Global) -> ZeroTrieValues<'_>
-        ensures lists { (pairs : Pairs) → Lists K.kind (S.stored self.now.store) pairs → result ≡ to_come pairs }
+        ensures lists { (pairs : Pairs) → Lists K.kind (S.stored self.now.store) pairs
+            → result ≡ to_come pairs }
         ensures most { length result.pairs ≤ length (S.stored self.now.store) }
     {
         ZeroTrieValues::new::<K>(alloc, self.as_bytes())
@@ -201,7 +206,7 @@ impl<K: AsciiKind, S: TrieStore> AsciiTrie<K, S> {
         count_pairs::<K>(self.as_bytes())
     }
 
-    /// The first key in the order of `iter` that has this value, or `None` where no key has it.
+    /// The first key in the order of `iter` that has this value, or `None` if no key has it.
     ///
     /// ```
     /// let trie = ZeroTrieSimpleAscii::try_from_iter(rt.alloc(), [("xyz", 22), ("abc", 11)])?;
@@ -227,7 +232,8 @@ impl<K: AsciiKind, S: TrieStore> AsciiTrie<K, S> {
     ///
     /// The error is `OutOfMemory`, or on bytes that mean no map `NotText`.
     pub fn to_btreemap(&self, alloc: Global) -> Result<BTreeMap<String, usize>, ListError>
-        ensures { (m : Map) → Means K.kind (S.stored self.now.store) m → IsListed (λ key. string_bytes key) m result }
+        ensures { (m : Map) → Means K.kind (S.stored self.now.store) m
+            → IsListed (λ key. string_bytes key) m result }
     {
         let mut pairs = Vec::new(alloc);
         for item in self.iter(alloc) {

@@ -27,7 +27,8 @@ fn in_order<K: ZeroTrieWithOptions, Key: TrieKey, A: Allocator + Copy>(
     alloc: A,
     given: &[(Key, usize)],
 ) -> Result<Vec<(&[u8], usize), A>, ZeroTrieBuildError>
-    ensures same { IfOk result (λ items. IsPermutation (keyed Key.key given.now) (pairs_of items.items)) }
+    ensures same { IfOk result (λ items.
+        IsPermutation (keyed Key.key given.now) (pairs_of items.items)) }
     ensures ordered { IfOk result (λ items. Ordered K.kind (pairs_of items.items)) }
     ensures keys { IfOk result (λ items. AreKeys K.kind (pairs_of items.items)) }
     ensures values { IfOk result (λ items. AreValues (pairs_of items.items)) }
@@ -81,7 +82,7 @@ fn grow_sorted<
     grow_ordered::<K, _, S, A>(alloc, spare, items)
 }
 
-/// The bytes of the trie of items that ascend by the bytes of their keys. Where the kind has another order,
+/// The bytes of the trie of items that ascend by the bytes of their keys. If the kind has another order,
 /// they are sorted once more, unless they are in that order too.
 fn grow_ascending<K: ZeroTrieWithOptions, S: TrieBuilderStore + Drop, A: Allocator + Copy>(
     alloc: Global,
@@ -238,7 +239,7 @@ fn len_slice<A: Allocator + Copy>(
 /// ```
 ///
 /// It is refused with `Unsorted`, `NonAsciiError`, `MixedCase`, `CapacityExceeded` or `OutOfMemory`, each for
-/// the reason that `ZeroTrieBuildError` gives, and so just where a build is, but for a hashed table that
+/// the reason that `ZeroTrieBuildError` gives, and so exactly if a build is, but for a hashed table that
 /// isn't found.
 pub fn encoded_len(
     alloc: Global,
@@ -287,7 +288,8 @@ impl<S: TrieBuilderStore + Drop> ZeroTrieBuilder<S> {
         items: ByteSliceWithIndices<'_>,
         options: ZeroTrieBuilderOptions,
     ) -> Result<Self, ZeroTrieBuildError>
-        ensures { IsBuild ascending (kind_with options) (λ b. S.list b.data) (pairs items.entry) result }
+        ensures { IsBuild ascending (kind_with options) (λ b. S.list b.data) (pairs items.entry)
+            result }
     {
         if !items.is_sorted() {
             return Err(ZeroTrieBuildError::Unsorted);
@@ -308,7 +310,8 @@ impl<S: TrieBuilderStore + Drop> ZeroTrieBuilder<S> {
     ) -> Result<Self, ZeroTrieBuildError>
     where
         U::IntoIter: Drop,
-        requires { IsFiniteIterable U.into_iter_gives U.IntoIter.can_next U.IntoIter.remaining iter }
+        requires { IsFiniteIterable U.into_iter_gives U.IntoIter.can_next U.IntoIter.remaining
+            iter }
         ensures { IsBuildOfAll (OfAllGiven U.into_iter_gives U.IntoIter.next_gives K.key iter)
             (kind_with options) (λ b. S.list b.data) result }
     {
@@ -318,7 +321,7 @@ impl<S: TrieBuilderStore + Drop> ZeroTrieBuilder<S> {
         Ok(ZeroTrieBuilder { data })
     }
 
-    /// A copy of the bytes of the trie. The only error is want of memory.
+    /// A copy of the bytes of the trie. The only error is out of memory.
     pub fn to_bytes(&self, alloc: Global) -> Result<Vec<u8>, AllocError>
         ensures { IfOk result (λ bytes. bytes.items ≡ S.list self.now.data) }
     {

@@ -107,8 +107,10 @@ impl<A: Allocator + Copy> Layout<A> {
         requires room { window.depth + 1 < 2 ^ 64 }
         requires ordered { Ordered K.kind (window_of (I.pairs items) window) }
         ensures parts { OnOk result (Parts (I.pairs items) window self.new.windows.items) }
-        ensures table { OnOk result (self.new.table.items ≡ map (edge_of (I.pairs items)) self.new.windows.items) }
-        ensures numbers { OnOk result (self.new.numbers.items ≡ range_with_len 0 (length self.new.windows.items)) }
+        ensures table { OnOk result (self.new.table.items
+            ≡ map (edge_of (I.pairs items)) self.new.windows.items) }
+        ensures numbers { OnOk result (self.new.numbers.items
+            ≡ range_with_len 0 (length self.new.windows.items)) }
         ensures pending { self.new.pending.items ≡ self.old.pending.items }
     {
         self.clear();
@@ -131,7 +133,8 @@ impl<A: Allocator + Copy> Layout<A> {
     /// Lays the targets out in the order of a hashed table.
     fn set_hashed(&mut self) -> Result<(), ZeroTrieBuildError>
         requires { IsStrictlyIncreasing self.old.table.items }
-        ensures ok { OnOk result (IsSearched self.old.table.items self.new.table.items self.new.numbers.items) }
+        ensures ok { OnOk result (IsSearched self.old.table.items self.new.table.items
+            self.new.numbers.items) }
         ensures refused { IfErr result (IsTableRefusal self.old.table.items) }
         ensures windows { self.new.windows.items ≡ self.old.windows.items }
         ensures pending { self.new.pending.items ≡ self.old.pending.items }
@@ -276,9 +279,11 @@ fn push_hashed<A: Allocator>(
     requires each { length ends.now ≡ length windows.now }
     requires room { All (λ e. slot + e < 2 ^ 64) ends.now }
     requires within { All (λ i. i < length windows.now) numbers.now }
-    ensures { OnOk result (reverse pending.new.items ≡ (placed_next ends.now slot windows.now numbers.now
+    ensures { OnOk result (reverse pending.new.items
+        ≡ (placed_next ends.now slot windows.now numbers.now
         ++ Next.Go (place_at (window_at windows.now (length windows.now - 1)).to
-        (slot + slice_index_or ends.now (length ends.now - 1) 0)) ∷ []) ++ reverse pending.old.items) }
+        (slot + slice_index_or ends.now (length ends.now - 1) 0)) ∷ [])
+        ++ reverse pending.old.items) }
 {
     // So there is room too for the targets of a sorted table below the first of them.
     pending.reserve(numbers.len().saturating_mul(2).saturating_add(SORTED))?;

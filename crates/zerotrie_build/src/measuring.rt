@@ -18,13 +18,13 @@ use std::alloc::{AllocError, Allocator};
 use zerotrie_core::{ZeroTrieBuildError, ZeroTrieWithOptions};
 
 /// The lengths that are kept for the second pass, in slots. A branch has a slot for each target, in the order of
-/// the edges, with the length of its text. Where its table is hashed, as many follow, with how many slots the
+/// the edges, with the length of its text. If its table is hashed, as many follow, with how many slots the
 /// targets up to each have below them. Then come the slots below the first target, the second, and so on.
 #[derive(Drop)]
 pub(crate) struct Measured<A: Allocator> {
     pub(crate) slots: Vec<usize, A>,
-    /// In the kinds without hashed tables, for each slot how many items its target has, where they are few. The
-    /// second pass asks first whether there are so many. In the other kinds there are none, to save memory.
+    /// In the kinds without hashed tables, for each slot how many items its target has, if they are few. The
+    /// second pass tries that count first. In the other kinds there are none, to save memory.
     pub(crate) counts: Vec<u8, A>,
     /// How long the text is.
     pub(crate) len: usize,
@@ -51,7 +51,7 @@ struct Open {
 enum Turn {
     /// This window is measured.
     Window(Window),
-    /// Nothing: the whole is measured, and so long.
+    /// The whole is measured, and has this length.
     Whole(usize),
 }
 
@@ -67,7 +67,8 @@ struct Measuring<I, A: Allocator> {
 /// The sum, if it is below 2^64.
 fn plus(a: usize, b: usize) -> Result<usize, ZeroTrieBuildError>
     ensures sum { IfOk result (λ c. c ≡ a + b) }
-    ensures refused { IfErr result (λ e. (e ≡ ZeroTrieBuildError.CapacityExceeded) × (2 ^ 64 ≤ a + b)) }
+    ensures refused { IfErr result (λ e.
+        (e ≡ ZeroTrieBuildError.CapacityExceeded) × (2 ^ 64 ≤ a + b)) }
 {
     a.checked_add(b).ok_or(ZeroTrieBuildError::CapacityExceeded)
 }
@@ -75,7 +76,8 @@ fn plus(a: usize, b: usize) -> Result<usize, ZeroTrieBuildError>
 /// How many bytes a number has in the form whose shortest number of two bytes is `latent`.
 fn number_len(latent: usize, number: usize) -> usize
     requires { (latent ≡ 16) ⊎ (latent ≡ 32) }
-    ensures len { (form : Form) → form.latent_value ≡ latent → result ≡ length (spelled_as form number) }
+    ensures len { (form : Form) → form.latent_value ≡ latent
+        → result ≡ length (spelled_as form number) }
     ensures few { result ≤ 10 }
 {
     let mut len = 1;
@@ -101,7 +103,7 @@ fn count_len(count: usize) -> usize
     number_len(16, count)
 }
 
-/// The window behind the values, literals and spans that stand first, and how many bytes these have.
+/// The window after the values, literals and spans that stand first, and how many bytes these have.
 #[inline(always)]
 fn behind_nodes<'a, K: ZeroTrieWithOptions, I: IndexedItems<'a>>(
     items: I,
@@ -140,7 +142,7 @@ fn behind_nodes<'a, K: ZeroTrieWithOptions, I: IndexedItems<'a>>(
     }
 }
 
-/// The same. Most windows have one item, whose text is told at once. Where `ascii` is true, all keys are ASCII.
+/// Like `behind_nodes`, and at once for a window of one item, as most are. If `ascii` is true, all keys are ASCII.
 #[inline(always)]
 fn behind_run<'a, K: ZeroTrieWithOptions, I: IndexedItems<'a>>(
     items: I,
@@ -175,7 +177,8 @@ fn behind_run<'a, K: ZeroTrieWithOptions, I: IndexedItems<'a>>(
 /// The sum of these lengths.
 fn total(lens: &[usize]) -> Result<usize, ZeroTrieBuildError>
     ensures sum { IfOk result (λ n. n ≡ sum lens.now) }
-    ensures refused { IfErr result (λ e. (e ≡ ZeroTrieBuildError.CapacityExceeded) × (2 ^ 64 ≤ sum lens.now)) }
+    ensures refused { IfErr result (λ e.
+        (e ≡ ZeroTrieBuildError.CapacityExceeded) × (2 ^ 64 ≤ sum lens.now)) }
 {
     let mut total = 0;
     for len in lens {
@@ -184,7 +187,7 @@ fn total(lens: &[usize]) -> Result<usize, ZeroTrieBuildError>
     Ok(total)
 }
 
-/// Whether no offset of the kind reaches so many bytes.
+/// Whether this length is beyond every offset of the kind.
 fn is_too_wide<K: ZeroTrieWithOptions>(total: usize) -> bool
     ensures { IsTrue result ↔ (256 ^ (greatest_width K.kind + 1) ≤ total) }
 {
@@ -225,14 +228,14 @@ pub(crate) fn width_of(total: usize) -> usize
     width
 }
 
-/// Whether a branch of so many edges has a hashed table.
+/// Whether a branch with this number of edges has a hashed table.
 pub(crate) fn is_hashed<K: ZeroTrieWithOptions>(edges: usize) -> bool
     ensures { result ≡ is_hashed K.kind edges }
 {
     K::USE_PHF && edges >= 16
 }
 
-/// How many bytes a branch of so many edges has in front of its targets, which together have `total` bytes.
+/// How many bytes a branch with this number of edges has in front of its targets, which together have `total` bytes.
 fn branch_len<K: ZeroTrieWithOptions>(edges: usize, total: usize) -> usize
     requires some { 1 ≤ edges }
     requires few { edges ≤ 256 }
@@ -264,7 +267,7 @@ impl<'a, I: IndexedItems<'a>, A: Allocator + Copy> Measuring<I, A> {
         })
     }
 
-    /// Adds a slot for a target, whose items end there and are so many.
+    /// Adds a slot for a target, with where its items end and how many they are.
     fn push_end<K: ZeroTrieWithOptions>(
         &mut self,
         end: usize,
@@ -287,7 +290,8 @@ impl<'a, I: IndexedItems<'a>, A: Allocator + Copy> Measuring<I, A> {
         requires within { window.to ≤ length (I.pairs self.old.items) }
         requires order { window.from ≤ window.to }
         requires ordered { Ordered K.kind (window_of (I.pairs self.old.items) window) }
-        ensures ends { OnOk result ((targets : List Window) × Parts (I.pairs self.old.items) window targets
+        ensures ends { OnOk result ((targets : List Window)
+            × Parts (I.pairs self.old.items) window targets
             × (self.new.slots.items ≡ self.old.slots.items ++ tos targets)) }
         ensures items { self.new.items ≡ self.old.items }
         ensures branches { self.new.branches.items ≡ self.old.branches.items }
@@ -318,7 +322,7 @@ impl<'a, I: IndexedItems<'a>, A: Allocator + Copy> Measuring<I, A> {
         }
     }
 
-    /// Opens the branch that stands first in the window, behind so many bytes. The window of its first target.
+    /// Opens the branch that stands first in the window, after `len` bytes. Returns the window of its first target.
     fn push_branch<K: ZeroTrieWithOptions>(
         &mut self,
         window: Window,
@@ -328,8 +332,10 @@ impl<'a, I: IndexedItems<'a>, A: Allocator + Copy> Measuring<I, A> {
         requires some { window.from < window.to }
         requires room { window.depth + 1 < 2 ^ 64 }
         requires ordered { Ordered K.kind (window_of (I.pairs self.old.items) window) }
-        ensures opened { IfOk result (λ first. IsOpened K.kind (I.pairs self.old.items) window len first
-            self.old.slots.items self.old.branches.items self.new.slots.items self.new.branches.items) }
+        ensures opened { IfOk result (λ first.
+            IsOpened K.kind (I.pairs self.old.items) window len first
+            self.old.slots.items self.old.branches.items self.new.slots.items
+            self.new.branches.items) }
         ensures few { OnOk result (length self.new.slots.items < 2 ^ 64) }
         ensures items { self.new.items ≡ self.old.items }
     {
@@ -389,7 +395,8 @@ impl<'a, I: IndexedItems<'a>, A: Allocator + Copy> Measuring<I, A> {
     fn close<K: ZeroTrieWithOptions>(&mut self, measured: usize) -> Result<Turn, ZeroTrieBuildError>
         requires keys { AreKeys K.kind (I.pairs self.old.items) }
         requires ordered { Ordered K.kind (I.pairs self.old.items) }
-        requires closing { Closing K.kind (I.pairs self.old.items) (reverse self.old.branches.items) self.old.slots.items measured }
+        requires closing { Closing K.kind (I.pairs self.old.items) (reverse self.old.branches.items)
+            self.old.slots.items measured }
         ensures turn { IfOk result (λ t. IsTurn K.kind (I.pairs self.old.items) t
             (reverse self.new.branches.items) self.new.slots.items) }
         ensures less { IfOk result (λ t. IsNext t → left_open (reverse self.new.branches.items)
@@ -419,7 +426,7 @@ impl<'a, I: IndexedItems<'a>, A: Allocator + Copy> Measuring<I, A> {
     }
 }
 
-/// The lengths of the text of the items and of all targets. Where `ascii` is true, all keys are ASCII.
+/// The lengths of the text of the items and of all targets. If `ascii` is true, all keys are ASCII.
 pub(crate) fn measure_all<'a, K: ZeroTrieWithOptions, I: IndexedItems<'a>, A: Allocator + Copy>(
     alloc: A,
     items: I,
@@ -430,7 +437,8 @@ pub(crate) fn measure_all<'a, K: ZeroTrieWithOptions, I: IndexedItems<'a>, A: Al
     requires ascii { IsTrue ascii → AreLow (I.pairs items) }
     ensures measured { IfOk result (λ m. IsMeasured K.kind (I.pairs items) m.slots.items m.len) }
     ensures refused { IfErr result (λ e. e ≢ ZeroTrieBuildError.OutOfMemory
-        → (e ≡ ZeroTrieBuildError.CapacityExceeded) × ExceedsCapacity K.kind (map_of (I.pairs items))) }
+        → (e ≡ ZeroTrieBuildError.CapacityExceeded)
+        × ExceedsCapacity K.kind (map_of (I.pairs items))) }
 {
     let mut measuring = Measuring::new::<K>(alloc, items)?;
     let mut window = Window {

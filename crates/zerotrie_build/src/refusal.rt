@@ -173,7 +173,8 @@ fn other_case<K: ZeroTrieWithOptions, Key: TrieKey>(
     next: &[u8],
 ) -> Option<usize>
     requires { Ascends (keyed Key.key items.now) }
-    ensures some { IfSome result (λ i. DifferInCase K.kind key.now (key_at (keyed Key.key items.now) i)) }
+    ensures some { IfSome result (λ i.
+        DifferInCase K.kind key.now (key_at (keyed Key.key items.now) i)) }
     ensures none { IfNone result (NoneTurns K.kind key.now next.now (keyed Key.key items.now)) }
 {
     let common = common_front_len(key, next);
@@ -187,7 +188,7 @@ fn other_case<K: ZeroTrieWithOptions, Key: TrieKey>(
     key_after(items, &key[..common], fold)
 }
 
-/// Two keys that differ in case, of keys that ascend. It takes no memory: where a key parts from the next by a letter
+/// Two keys that differ in case, of keys that ascend. It takes no memory: if a key parts from the next by a letter
 /// in upper case, those that go on with this letter in lower case stand together, and are searched for.
 fn mixed<K: ZeroTrieWithOptions, Key: TrieKey>(items: &[(Key, usize)]) -> Option<Refusal>
     requires { Ascends (keyed Key.key items.now) }
@@ -255,7 +256,8 @@ fn first_repeated(items: &[(&[u8], usize)]) -> Option<usize>
 /// The place of the first of the items whose key does not come before the next in the kind.
 fn first_mixed<K: ZeroTrieWithOptions>(items: &[(&[u8], usize)]) -> Option<usize>
     ensures some { IfSome result (λ i. (i + 1 < length items.now)
-        × (Before K.kind (key_at (pairs_of items.now) i) (key_at (pairs_of items.now) (i + 1)) → ⊥)) }
+        × (Before K.kind (key_at (pairs_of items.now) i) (key_at (pairs_of items.now) (i + 1))
+        → ⊥)) }
     ensures none { IfNone result (Ordered K.kind (pairs_of items.now)) }
 {
     for place in 1..items.len() {
@@ -282,7 +284,7 @@ fn first_mixed<K: ZeroTrieWithOptions>(items: &[(&[u8], usize)]) -> Option<usize
 /// ASCII, `NonAsciiError`, and then for two that the kind without case refuses together, `MixedCase`. On `None` a build
 /// is refused for its length, for a hashed table or for want of memory at most.
 ///
-/// It sorts the keys as a build does, in about the same time and memory. The only error is want of memory.
+/// It sorts the keys as a build does, in about the same time and memory. The only error is out of memory.
 pub fn why_iter_refused<K: ZeroTrieWithOptions, Key: TrieKey>(
     alloc: Global,
     items: &[(Key, usize)],

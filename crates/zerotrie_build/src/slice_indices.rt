@@ -63,9 +63,10 @@ impl<'a> ByteSliceWithIndices<'a> {
         }
     }
 
-    /// The last item, or `None` where there is none.
+    /// The last item, or `None` if there is none.
     pub fn last(self) -> Option<(&'a [u8], usize)>
-        ensures { option_map (λ e. (e.0.now, e.1)) result ≡ slice_get (pairs self.entry) (length (pairs self.entry) - 1) }
+        ensures { option_map (λ e. (e.0.now, e.1)) result
+            ≡ slice_get (pairs self.entry) (length (pairs self.entry) - 1) }
     {
         let count = self.len();
         if count == 0 {
@@ -76,7 +77,7 @@ impl<'a> ByteSliceWithIndices<'a> {
 
     /// The items with their keys as bytes, in memory of their own. The keys' bytes are not copied.
     ///
-    /// The only error is want of memory.
+    /// The only error is out of memory.
     pub fn to_vec_u8(self, alloc: Global) -> Result<Vec<(&'a [u8], usize)>, AllocError>
         ensures { IfOk result (λ items. pairs_of items.items ≡ pairs self.entry) }
     {

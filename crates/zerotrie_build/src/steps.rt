@@ -18,7 +18,7 @@ pub(crate) struct Window {
 /// What stands first in the text of a window.
 #[derive(Clone, Copy, Debug)]
 pub(crate) enum Step {
-    /// Nothing: there are no items.
+    /// There are no items.
     End,
     /// The value of the first item, whose key ends here.
     Value(usize),
@@ -76,8 +76,8 @@ pub(crate) fn one_item<'a, I: IndexedItems<'a>>(
     Some((rest, value))
 }
 
-/// The same, if the rest is ASCII: then they are all of the window's text, as literals and a value. Where all keys are
-/// known to be ASCII, the rest is not looked at.
+/// Like `one_item`, and only if the rest is ASCII: then rest and value are all of the window's text, as literals and a
+/// value. If all keys are known to be ASCII, the rest is not looked at.
 #[inline(always)]
 pub(crate) fn lone_item<'a, I: IndexedItems<'a>>(
     items: I,
@@ -96,7 +96,7 @@ pub(crate) fn lone_item<'a, I: IndexedItems<'a>>(
     Some((rest, value))
 }
 
-/// How many bytes a byte of a short rest makes, behind one from 128 on or not: where it begins a span, it has the
+/// How many bytes a byte of a short rest makes, after one from 128 on or not: if it begins a span, it has the
 /// length of that in front.
 #[inline(always)]
 fn byte_len(high: bool, byte: u8) -> usize
@@ -165,7 +165,8 @@ fn low_end(key: &[u8], other: &[u8], from: usize) -> usize
     ensures same { (i : ℕ) → from ≤ i → i < result
         → (slice_index key.now i ≡ slice_index other.now i) × (slice_index key.now i < 128) }
     ensures stops { result < length key.now → result < length other.now
-        → slice_index key.now result ≡ slice_index other.now result → 128 ≤ slice_index key.now result }
+        → slice_index key.now result ≡ slice_index other.now result
+        → 128 ≤ slice_index key.now result }
 {
     let mut end = from;
     while end < key.len() && end < other.len() && key[end] == other[end] && key[end] < 128 {
@@ -238,7 +239,7 @@ fn span_of_one<'a, I: IndexedItems<'a>>(items: I, window: Window, byte: u8) -> u
     high_front_len(rest, rest)
 }
 
-/// The same, by the first and the last item.
+/// Like `span_of_one`, for a window of any number of items: its first and last key decide.
 #[inline(always)]
 fn span_of_many<'a, I: IndexedItems<'a>>(items: I, window: Window, byte: u8) -> usize
     requires some { window.from < window.to }
@@ -255,7 +256,7 @@ fn span_of_many<'a, I: IndexedItems<'a>>(items: I, window: Window, byte: u8) -> 
     high_front_len(&first[window.depth..], &last[window.depth..])
 }
 
-/// How many bytes from 128 on all keys of the window have in common in front, where they go on with this byte.
+/// How many bytes from 128 on all keys of the window have in common in front, if they go on with this byte.
 fn span_len<'a, I: IndexedItems<'a>>(items: I, window: Window, byte: u8) -> usize
     requires some { window.from < window.to }
     requires items { window.to ≤ length (I.pairs items) }
@@ -272,7 +273,7 @@ fn span_len<'a, I: IndexedItems<'a>>(items: I, window: Window, byte: u8) -> usiz
     }
 }
 
-/// What stands first in the text of the window, where its first and its last key both go on with this byte.
+/// What stands first in the text of the window, if its first and its last key both go on with this byte.
 fn common_step<'a, K: ZeroTrieWithOptions, I: IndexedItems<'a>>(
     items: I,
     window: Window,
@@ -346,7 +347,7 @@ pub(crate) fn group_end<'a, K: ZeroTrieWithOptions, I: IndexedItems<'a>>(
     low
 }
 
-/// The same. It asks first whether there are so many.
+/// Like `group_end`, but tries `count` first.
 pub(crate) fn group_end_near<'a, K: ZeroTrieWithOptions, I: IndexedItems<'a>>(
     items: I,
     window: Window,

@@ -18,7 +18,7 @@ use std::collections::VecDeque;
 /// assert_eq!(rt; store.atbs_to_bytes(rt.alloc())?.as_slice(), b"abc".as_slice());
 /// ```
 ///
-/// Each call that grows is refused for want of memory alone, and the list is then as it was.
+/// A call that grows fails only if memory runs out, and the list is then as it was.
 pub trait TrieBuilderStore: Sized {
     ghost list: { Self → List ℕ };
 
@@ -47,7 +47,8 @@ pub trait TrieBuilderStore: Sized {
     /// Sets these bits in the byte of number `index`, counted from 0 at the front.
     fn atbs_bitor_assign(&mut self, index: usize, bits: u8)
         requires { index < length (list self.old) }
-        ensures { list self.new ≡ slice_set (list self.old) index (bit_or (slice_index (list self.old) index) bits) };
+        ensures { list self.new ≡ slice_set (list self.old) index
+            (bit_or (slice_index (list self.old) index) bits) };
 
     /// Takes the first byte off and answers it.
     fn atbs_pop_front(&mut self) -> u8
@@ -60,7 +61,7 @@ pub trait TrieBuilderStore: Sized {
         ensures err { OnErr result (list self.new ≡ list self.old) };
 
     /// Cuts the front into ranges of these lengths, in bytes, and lays them out in this order: the range
-    /// of number `order[0]` comes first. What lies behind the ranges stays.
+    /// of number `order[0]` comes first. What lies after the ranges stays.
     ///
     /// ```
     /// let mut store: VecDeque<u8> = TrieBuilderStore::atbs_new_empty(rt.alloc());
@@ -108,7 +109,8 @@ fn ranges_in_order(
 ) -> Result<Vec<u8>, AllocError>
     requires fits { total lengths.now ≤ length bytes.now }
     requires in_range { All (λ i. i < length lengths.now) order.now }
-    ensures { IfOk result (λ out. out.items ≡ concat (map (range_at lengths.now bytes.now) order.now)) }
+    ensures { IfOk result (λ out.
+        out.items ≡ concat (map (range_at lengths.now bytes.now) order.now)) }
 {
     let mut out = Vec::new(alloc);
     for index in order {

@@ -44,9 +44,10 @@ impl<S: TrieBuilderStore + Drop> Writing<S> {
     #[inline(always)]
     fn put(&mut self, byte: u8)
         requires { self.old.at < length (S.list self.old.data) }
-        ensures { Puts (S.list self.old.data) self.old.at (S.list self.new.data) self.new.at (byte ∷ []) }
+        ensures { Puts (S.list self.old.data) self.old.at (S.list self.new.data) self.new.at (byte
+            ∷ []) }
     {
-        // That a length is below 2^64 tells the proof that so is the place behind it.
+        // That a length is below 2^64 tells the proof that so is the place after it.
         let _len = self.data.atbs_len();
         self.data.atbs_bitor_assign(self.at, byte);
         self.at += 1;
@@ -56,7 +57,8 @@ impl<S: TrieBuilderStore + Drop> Writing<S> {
     #[inline(always)]
     fn put_all(&mut self, bytes: &[u8])
         requires { self.old.at + length bytes.now ≤ length (S.list self.old.data) }
-        ensures { Puts (S.list self.old.data) self.old.at (S.list self.new.data) self.new.at bytes.now }
+        ensures { Puts (S.list self.old.data) self.old.at (S.list self.new.data) self.new.at
+            bytes.now }
     {
         for byte in bytes {
             self.put(*byte);
@@ -79,7 +81,8 @@ impl<S: TrieBuilderStore + Drop> Writing<S> {
     /// Writes a number of any length, in the form whose shortest number of two bytes is `latent`.
     fn put_long(&mut self, bits: u8, latent: u8, number: usize)
         requires form { IsLead bits latent }
-        requires room { self.old.at + length (spelled_behind bits latent number) ≤ length (S.list self.old.data) }
+        requires room { self.old.at + length (spelled_behind bits latent number)
+            ≤ length (S.list self.old.data) }
         ensures { Puts (S.list self.old.data) self.old.at (S.list self.new.data) self.new.at
             (spelled_behind bits latent number) }
     {
@@ -90,12 +93,13 @@ impl<S: TrieBuilderStore + Drop> Writing<S> {
         }
     }
 
-    /// Writes a number in the form whose shortest number of two bytes is `latent`, behind these bits. As a rule it
+    /// Writes a number in the form whose shortest number of two bytes is `latent`, after these bits. As a rule it
     /// has no more than three bytes, and these are written as they are found.
     #[inline(always)]
     fn put_number(&mut self, bits: u8, latent: u8, number: usize)
         requires form { IsLead bits latent }
-        requires room { self.old.at + length (spelled_behind bits latent number) ≤ length (S.list self.old.data) }
+        requires room { self.old.at + length (spelled_behind bits latent number)
+            ≤ length (S.list self.old.data) }
         ensures { Puts (S.list self.old.data) self.old.at (S.list self.new.data) self.new.at
             (spelled_behind bits latent number) }
     {
@@ -123,7 +127,8 @@ impl<S: TrieBuilderStore + Drop> Writing<S> {
     /// Writes a value node.
     #[inline(always)]
     fn put_value(&mut self, value: usize)
-        requires { self.old.at + length (spelled_as value_form value) ≤ length (S.list self.old.data) }
+        requires { self.old.at + length (spelled_as value_form value)
+            ≤ length (S.list self.old.data) }
         ensures puts { Puts (S.list self.old.data) self.old.at (S.list self.new.data) self.new.at
             (spelled_as value_form value) }
         ensures spells { SpellsAs value_form value (spelled_as value_form value) }
@@ -131,10 +136,11 @@ impl<S: TrieBuilderStore + Drop> Writing<S> {
         self.put_number(VALUE, 16, value);
     }
 
-    /// Writes literals and a value behind them.
+    /// Writes literals and a value after them.
     #[inline(always)]
     fn put_lone(&mut self, rest: &[u8], value: usize)
-        requires { self.old.at + (length rest.now + length (spelled_as value_form value)) ≤ length (S.list self.old.data) }
+        requires { self.old.at + (length rest.now + length (spelled_as value_form value))
+            ≤ length (S.list self.old.data) }
         ensures puts { Puts (S.list self.old.data) self.old.at (S.list self.new.data) self.new.at
             (rest.now ++ spelled_as value_form value) }
         ensures spells { SpellsAs value_form value (spelled_as value_form value) }
@@ -151,7 +157,8 @@ impl<S: TrieBuilderStore + Drop> Writing<S> {
         requires within { end ≤ length (item_of (I.pairs items) window.from).0 }
         requires room { self.old.at + (end - window.depth) ≤ length (S.list self.old.data) }
         ensures { Puts (S.list self.old.data) self.old.at (S.list self.new.data) self.new.at
-            (take (end - window.depth) (drop window.depth (item_of (I.pairs items) window.from).0)) }
+            (take (end - window.depth)
+            (drop window.depth (item_of (I.pairs items) window.from).0)) }
     {
         let (key, _) = items.get(window.from);
         self.put_all(&key[window.depth..end]);
@@ -162,9 +169,11 @@ impl<S: TrieBuilderStore + Drop> Writing<S> {
     fn put_span<'a, I: IndexedItems<'a>>(&mut self, items: I, window: Window, run: usize)
         requires item { window.from < length (I.pairs items) }
         requires run { window.depth + run ≤ length (item_of (I.pairs items) window.from).0 }
-        requires room { self.old.at + (length (spelled_as span_form run) + run) ≤ length (S.list self.old.data) }
+        requires room { self.old.at + (length (spelled_as span_form run) + run)
+            ≤ length (S.list self.old.data) }
         ensures puts { Puts (S.list self.old.data) self.old.at (S.list self.new.data) self.new.at
-            (spelled_as span_form run ++ take run (drop window.depth (item_of (I.pairs items) window.from).0)) }
+            (spelled_as span_form run ++ take run
+            (drop window.depth (item_of (I.pairs items) window.from).0)) }
         ensures spells { SpellsAs span_form run (spelled_as span_form run) }
     {
         let (key, _) = items.get(window.from);
@@ -189,14 +198,15 @@ impl<S: TrieBuilderStore + Drop> Writing<S> {
         }
     }
 
-    /// Writes so many bytes of each offset of a branch to the targets of these numbers, the highest of them
+    /// Writes `bytes` bytes of each offset of a branch to the targets of these numbers, the highest of them
     /// first.
     #[inline(always)]
     fn put_offsets(&mut self, lens: &[usize], numbers: &[usize], bytes: usize)
         requires bytes { bytes ≤ 8 }
         requires within { All (λ i. i < length lens.now) numbers.now }
         requires small { total_of (lens_of lens.now numbers.now) < 2 ^ 64 }
-        requires room { self.old.at + bytes * (length numbers.now - 1) ≤ length (S.list self.old.data) }
+        requires room { self.old.at + bytes * (length numbers.now - 1)
+            ≤ length (S.list self.old.data) }
         ensures { Puts (S.list self.old.data) self.old.at (S.list self.new.data) self.new.at
             (blocks bytes (ends (lens_of lens.now numbers.now))) }
     {
@@ -274,7 +284,7 @@ impl<S: TrieBuilderStore + Drop> Writing<S> {
         }
     }
 
-    /// The same. Most windows have one item whose rest is ASCII, and are written at once.
+    /// Like `put_nodes`, and at once for a window of one item whose rest is ASCII, as most are.
     #[inline(always)]
     fn put_front<'a, K: ZeroTrieWithOptions, I: IndexedItems<'a>, A: Allocator + Copy>(
         &mut self,
@@ -340,7 +350,8 @@ pub(crate) fn write<
     measured: &Measured<A>,
     ascii: bool,
 ) -> Result<S, ZeroTrieBuildError>
-    requires measured { IsMeasured K.kind (I.pairs items) measured.now.slots.items measured.now.len }
+    requires measured { IsMeasured K.kind (I.pairs items) measured.now.slots.items
+        measured.now.len }
     requires ascii { IsTrue ascii → AreLow (I.pairs items) }
     ensures means { IfOk result (λ store. Means K.kind (S.list store) (map_of (I.pairs items))) }
     ensures refused { IfErr result (λ e. e ≢ ZeroTrieBuildError.OutOfMemory

@@ -1,3 +1,7 @@
 pub mod Moved
 pub mod Steps
 pub mod Written
+mod FrontLemmas
+mod EntryLemmas
+mod DenseLemmas
+pub mod Parts

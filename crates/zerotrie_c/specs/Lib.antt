@@ -6,3 +6,5 @@ pub mod Places
 pub mod Builds
 pub mod Tags
 pub mod Listed
+pub mod Entries
+pub mod Dense

@@ -1,6 +1,8 @@
 -- Pairs as three lists, which C keeps as arrays.
 use Rattle.std.specs.Prelude.{◌≡◌, ℕ, ◌+◌, ◌<◌, ◌≤◌, ◌⊎◌, ◌&&◌, Bool, true, false, if◌then◌else◌, List, [], ◌∷◌, ◌++◌, length, drop, map}
+use Rattle.zerotrie_core.specs.Kind.{Kind}
 use Rattle.zerotrie_core.specs.Maps.{Pairs}
+use Rattle.zerotrie_core.specs.Listings.{rest_after}
 use Rattle.zerotrie_core.specs.declared.ZeroTrieBuildError.TheVariants.{BufferTooSmall, OutOfMemory}
 use Rattle.zerotrie_c.specs.Statuses.{done, status_of}
 
@@ -45,3 +47,29 @@ abbrev pub IsListed : Pairs → ℕ → List ℕ → List ℕ → List ℕ → L
 IsListed pairs status old_keys keys old_ends ends old_values values key_bytes count =
     IsGiven (joined pairs) (ends_from 0 pairs) (values_of pairs) status old_keys keys old_ends ends old_values values key_bytes count
     ⊎ ((status ≡ status_of OutOfMemory) × (keys ≡ old_keys) × (ends ≡ old_ends) × (values ≡ old_values))
+
+-- the pairs that a listing has left: those after the last key that it gave if it goes on, and else all
+abbrev pub left_of : Kind → Bool → List ℕ → Pairs → Pairs
+left_of kind goes_on last pairs = if goes_on then rest_after kind last pairs else pairs
+
+-- The pairs stand at the front of the three rooms, and the rest of each room stays.
+pub record IsWritten (pairs : Pairs) (old_keys keys old_ends ends old_values values : List ℕ) : Type 0 where
+  pub keys_are : IsPut (joined pairs) true old_keys keys
+  pub ends_are : IsPut (ends_from 0 pairs) true old_ends ends
+  pub values_are : IsPut (values_of pairs) true old_values values
+
+-- for the first pair that is left some room has too few places after those that were written, and the length of its key is told
+abbrev pub HasNoRoom : ℕ → ℕ → ℕ → Pairs → Pairs → ℕ → Type 0
+HasNoRoom keys ends values written [] next_len = ⊥
+HasNoRoom keys ends values written (p ∷ left) next_len = (next_len ≡ length p.0)
+    × ((keys < length (joined written) + length p.0) ⊎ (ends ≤ length written) ⊎ (values ≤ length written))
+
+-- What a part of a listing comes to: the first of the pairs are written, as many as are counted. It is done if none is
+-- left; else the next one has no room, or memory was wanting.
+abbrev pub IsListedSome : Pairs → ℕ → List ℕ → List ℕ → List ℕ → List ℕ → List ℕ → List ℕ → ℕ → ℕ → Type 0
+IsListedSome pairs status old_keys keys old_ends ends old_values values count next_len =
+    (written : Pairs) × (left : Pairs) × (pairs ≡ written ++ left) × (count ≡ length written)
+    × IsWritten written old_keys keys old_ends ends old_values values
+    × (((status ≡ done) × (left ≡ []))
+    ⊎ ((status ≡ status_of BufferTooSmall) × HasNoRoom (length old_keys) (length old_ends) (length old_values) written left next_len)
+    ⊎ (status ≡ status_of OutOfMemory))

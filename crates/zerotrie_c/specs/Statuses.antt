@@ -32,3 +32,14 @@ no_tag = 13
 -- the first of tagged bytes is no kind's number
 abbrev pub invalid_tag : ℕ
 invalid_tag = 14
+
+-- a table has no value for two texts
+abbrev pub no_entry : ℕ
+no_entry = 15
+
+-- bytes are fewer than the record of a table that they begin asks for; they are more
+abbrev pub record_truncated : ℕ
+record_truncated = 16
+
+abbrev pub trailing_bytes : ℕ
+trailing_bytes = 17

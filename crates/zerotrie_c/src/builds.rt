@@ -89,7 +89,8 @@ fn build_sorted<K: ZeroTrieWithOptions>(
     out: &mut [u8],
     len: &mut usize,
 ) -> u32
-    ensures { IsBuildTold ascending K.kind (given pairs.now) result len.old len.new out.old out.new }
+    ensures { IsBuildTold ascending K.kind (given pairs.now) result len.old len.new out.old
+        out.new }
 {
     match bytes_sorted::<K>(alloc, pairs) {
         Ok(bytes) => hand_out(bytes.as_slice(), out, len),
@@ -104,7 +105,8 @@ fn build_unsorted<K: ZeroTrieWithOptions>(
     out: &mut [u8],
     len: &mut usize,
 ) -> u32
-    ensures { IsBuildTold any_order K.kind (given pairs.now) result len.old len.new out.old out.new }
+    ensures { IsBuildTold any_order K.kind (given pairs.now) result len.old len.new out.old
+        out.new }
 {
     match bytes_unsorted::<K>(alloc, pairs) {
         Ok(bytes) => hand_out(bytes.as_slice(), out, len),
@@ -124,7 +126,8 @@ pub extern "C" fn zerotrie_build_sorted(
 ) -> u32
     ensures known { IfSome (kind_of kind) (λ k.
         IsBuildTold ascending k (given pairs.now) result len.old len.new out.old out.new) }
-    ensures unknown { IfNone (kind_of kind) ((result ≡ unknown_kind) × (len.new ≡ len.old) × (out.new ≡ out.old)) }
+    ensures unknown { IfNone (kind_of kind) ((result ≡ unknown_kind) × (len.new ≡ len.old)
+        × (out.new ≡ out.old)) }
 {
     match kind {
         0 => build_sorted::<Simple>(alloc, pairs, out, len),
@@ -147,7 +150,8 @@ pub extern "C" fn zerotrie_build(
 ) -> u32
     ensures known { IfSome (kind_of kind) (λ k.
         IsBuildTold any_order k (given pairs.now) result len.old len.new out.old out.new) }
-    ensures unknown { IfNone (kind_of kind) ((result ≡ unknown_kind) × (len.new ≡ len.old) × (out.new ≡ out.old)) }
+    ensures unknown { IfNone (kind_of kind) ((result ≡ unknown_kind) × (len.new ≡ len.old)
+        × (out.new ≡ out.old)) }
 {
     match kind {
         0 => build_unsorted::<Simple>(alloc, pairs, out, len),
@@ -191,7 +195,8 @@ pub extern "C" fn zerotrie_encoded_len(
     pairs: &[Pair<'_>],
     len: &mut usize,
 ) -> u32
-    ensures known { IfSome (kind_of kind) (λ k. IsLengthTold ascending k (given pairs.now) result len.old len.new) }
+    ensures known { IfSome (kind_of kind) (λ k.
+        IsLengthTold ascending k (given pairs.now) result len.old len.new) }
     ensures unknown { IfNone (kind_of kind) ((result ≡ unknown_kind) × (len.new ≡ len.old)) }
 {
     match kind {

@@ -13,7 +13,7 @@ ghost use Rattle.zerotrie_c.specs.Places.{place};
 
 use zerotrie_core::{ByteProbeResult, Ext, Hash, Ignore, Simple, SpanCursor, ZeroTrieWithOptions};
 
-/// A cursor, as C keeps it: the rest of a run, and the trie behind it. Both lie in the bytes of the trie.
+/// A cursor, as C keeps it: the rest of a run, and the trie after it. Both lie in the bytes of the trie.
 ///
 /// It stands inside a span while the run is not empty; then no key ends here, and the run is what is left of the span.
 #[repr(C)]
@@ -33,8 +33,10 @@ fn kept<'a>(cursor: &SpanCursor<'a>) -> Cursor<'a>
 
 /// A step in a trie of the kind of this number.
 fn step_as(kind: u32, cursor: &mut SpanCursor<'_>, byte: u8) -> Option<u8>
-    ensures known { IfSome (kind_of kind) (λ k. IsStep k (ListsAt k cursor.old) byte result (ListsAt k cursor.new)) }
-    ensures run { IfSome (kind_of kind) (λ k. IfSome result (λ edge. FollowsRun k cursor.old edge cursor.new)) }
+    ensures known { IfSome (kind_of kind) (λ k.
+        IsStep k (ListsAt k cursor.old) byte result (ListsAt k cursor.new)) }
+    ensures run { IfSome (kind_of kind) (λ k.
+        IfSome result (λ edge. FollowsRun k cursor.old edge cursor.new)) }
     ensures unknown { IfNone (kind_of kind) (IfSome result (λ _. ⊥)) }
     ensures empty { IfNone result (cursor.new ≡ nowhere) }
 {
@@ -54,7 +56,8 @@ fn step_as(kind: u32, cursor: &mut SpanCursor<'_>, byte: u8) -> Option<u8>
 fn probe_as(kind: u32, cursor: &mut SpanCursor<'_>, index: usize) -> Option<ByteProbeResult>
     ensures known { IfSome (kind_of kind) (λ k. IsProbe (ListsAt k cursor.old) index
         (option_map {U = ℕ × ℕ} (λ r. (r.byte, r.total_siblings)) result) (ListsAt k cursor.new)) }
-    ensures run { IfSome (kind_of kind) (λ k. IfSome result (λ r. FollowsRun k cursor.old r.byte cursor.new)) }
+    ensures run { IfSome (kind_of kind) (λ k.
+        IfSome result (λ r. FollowsRun k cursor.old r.byte cursor.new)) }
     ensures unknown { IfNone (kind_of kind) (IfSome result (λ _. ⊥)) }
     ensures empty { IfNone result (cursor.new ≡ nowhere) }
 {
@@ -88,7 +91,8 @@ pub extern "C" fn zerotrie_cursor_step(
     edge: &mut u8,
 ) -> bool
     ensures known { IfSome (kind_of kind) (λ k.
-        IsStep k (ListsAt k (place cursor.old)) byte (told result edge.new) (ListsAt k (place cursor.new))) }
+        IsStep k (ListsAt k (place cursor.old)) byte (told result edge.new)
+        (ListsAt k (place cursor.new))) }
     ensures run { IfSome (kind_of kind) (λ k. IfSome (told result edge.new)
         (λ e. FollowsRun k (place cursor.old) e (place cursor.new))) }
     ensures unknown { IfNone (kind_of kind) (result ≡ false) }
@@ -111,9 +115,11 @@ pub extern "C" fn zerotrie_cursor_step(
 #[unsafe(no_mangle)]
 pub extern "C" fn zerotrie_cursor_take_value(cursor: &mut Cursor<'_>, value: &mut usize) -> bool
     ensures taken { (kind : Kind) → IsTake kind
-        (ListsAt kind (place cursor.old)) (told result value.new) (ListsAt kind (place cursor.new)) }
+        (ListsAt kind (place cursor.old)) (told result value.new)
+        (ListsAt kind (place cursor.new)) }
     ensures run { (place cursor.new).run ≡ (place cursor.old).run }
-    ensures none { result ≡ false → (place cursor.new ≡ place cursor.old) × (value.new ≡ value.old) }
+    ensures none { result ≡ false → (place cursor.new ≡ place cursor.old)
+        × (value.new ≡ value.old) }
 {
     let mut here = SpanCursor::from_parts(cursor.run, cursor.trie);
     let taken = here.take_value();
@@ -171,7 +177,7 @@ fn behind_prefix<'a, K: ZeroTrieWithOptions>(bytes: &'a [u8], prefix: &[u8]) -> 
     here
 }
 
-/// Sets the cursor behind a prefix: it stands where a step by each byte of it leads. Yes if some key begins with the
+/// Sets the cursor after a prefix: it stands where a step by each byte of it leads. Yes if some key begins with the
 /// prefix; else nothing is left.
 #[unsafe(no_mangle)]
 pub extern "C" fn zerotrie_with_prefix<'a>(

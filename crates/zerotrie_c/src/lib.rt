@@ -6,6 +6,8 @@
 
 pub mod builds;
 pub mod cursors;
+pub mod dense;
+mod entries;
 pub mod kinds;
 pub mod listings;
 pub mod look_up;

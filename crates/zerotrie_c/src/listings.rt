@@ -1,16 +1,19 @@
 //! Listings.
 
-ghost use Rattle.std.specs.Prelude.{◌≡◌, ◌&&◌, IfOk, IfErr, IfSome, IfNone};
+ghost use Rattle.std.specs.Prelude.{◌≡◌, ◌≤◌, ◌+◌, ◌++◌, ◌&&◌, length, take, drop, IfOk, IfErr, IfSome, IfNone};
 ghost use Rattle.zerotrie_core.specs.Maps.{Pairs, beginning};
 ghost use Rattle.zerotrie_core.specs.Texts.{Lists};
+ghost use Rattle.zerotrie_core.specs.Listings.{to_come};
 ghost use Rattle.zerotrie_core.specs.declared.listing.ListError.TheVariants.{OutOfMemory};
 ghost use Rattle.zerotrie_c.specs.Numbers.{kind_of};
 ghost use Rattle.zerotrie_c.specs.Statuses.{unknown_kind};
-ghost use Rattle.zerotrie_c.specs.Listed.{joined, ends_from, values_of, status_if, IsFlat, IsPut, IsGiven, IsListed};
+ghost use Rattle.zerotrie_c.specs.Listed.{joined, ends_from, values_of, status_if, left_of, IsFlat, IsPut, IsWritten, IsGiven, IsListed, IsListedSome};
 
 use crate::statuses::{BUFFER_TOO_SMALL, DONE, OUT_OF_MEMORY, UNKNOWN_KIND};
-use std::alloc::Global;
-use zerotrie_core::{Ext, Hash, Ignore, ListError, Simple, ZeroTrieIterator, ZeroTrieWithOptions};
+use std::alloc::{AllocError, Global};
+use zerotrie_core::{
+    Ext, Hash, Ignore, ListError, Simple, ZeroTrieIterator, ZeroTrieStream, ZeroTrieWithOptions,
+};
 
 /// Keys that lie one behind another, where each ends, and their values.
 #[derive(Drop)]
@@ -155,6 +158,138 @@ pub extern "C" fn zerotrie_list(
         3 => list_out::<Hash>(alloc, bytes, prefix, keys, ends, values, key_bytes, count),
         7 => list_out::<Ext>(alloc, bytes, prefix, keys, ends, values, key_bytes, count),
         8 => list_out::<Ignore>(alloc, bytes, prefix, keys, ends, values, key_bytes, count),
+        _ => UNKNOWN_KIND,
+    }
+}
+
+/// Copies bytes into the room from a place on.
+fn put_at(bytes: &[u8], room: &mut [u8], place: usize)
+    requires { place + length bytes.now ≤ length room.old }
+    ensures { room.new ≡ take place room.old
+        ++ (bytes.now ++ drop (place + length bytes.now) room.old) }
+{
+    let (_, rest) = room.split_at_mut(place);
+    let (part, _) = rest.split_at_mut(bytes.len());
+    part.copy_from_slice(bytes);
+}
+
+/// Writes the pairs of a stream, one after another, as many as the rooms have places for.
+fn write_some(
+    mut pairs: ZeroTrieStream<'_>,
+    keys: &mut [u8],
+    ends: &mut [usize],
+    values: &mut [usize],
+    count: &mut usize,
+    next_len: &mut usize,
+) -> u32
+    ensures { IsListedSome pairs.entry.left.pairs result keys.old keys.new ends.old ends.new
+        values.old values.new count.new next_len.new }
+{
+    *count = 0;
+    let mut used = 0;
+    let room = ends.len().min(values.len());
+    loop {
+        match pairs.advance() {
+            Ok(true) => {}
+            Ok(false) => return DONE,
+            Err(_) => return OUT_OF_MEMORY,
+        }
+        let key = pairs.key();
+        if *count >= room || key.len() > keys.len() - used {
+            *next_len = key.len();
+            return BUFFER_TOO_SMALL;
+        }
+        put_at(key, keys, used);
+        used += key.len();
+        ends[*count] = used;
+        values[*count] = pairs.value();
+        *count += 1;
+    }
+}
+
+/// The pairs of a prefix that a listing has left.
+fn left_of<'a, K: ZeroTrieWithOptions>(
+    alloc: Global,
+    bytes: &'a [u8],
+    prefix: &[u8],
+    goes_on: bool,
+    last: &[u8],
+) -> Result<ZeroTrieStream<'a>, AllocError>
+    ensures { IfOk result (λ s. (pairs : Pairs) → Lists K.kind bytes.now pairs
+        → s.left ≡ to_come (left_of K.kind goes_on last.now (beginning K.kind prefix.now pairs))) }
+{
+    if goes_on {
+        ZeroTrieStream::after::<K>(alloc, bytes, prefix, last)
+    } else {
+        ZeroTrieStream::with_prefix::<K>(alloc, bytes, prefix)
+    }
+}
+
+/// Lists some pairs of a trie of the kind `K`.
+fn list_some<K: ZeroTrieWithOptions>(
+    alloc: Global,
+    bytes: &[u8],
+    prefix: &[u8],
+    goes_on: bool,
+    last: &[u8],
+    keys: &mut [u8],
+    ends: &mut [usize],
+    values: &mut [usize],
+    count: &mut usize,
+    next_len: &mut usize,
+) -> u32
+    ensures { (pairs : Pairs) → Lists K.kind bytes.now pairs
+        → IsListedSome (left_of K.kind goes_on last.now (beginning K.kind prefix.now pairs)) result
+        keys.old keys.new ends.old ends.new values.old values.new count.new next_len.new }
+{
+    match left_of::<K>(alloc, bytes, prefix, goes_on, last) {
+        Ok(pairs) => write_some(pairs, keys, ends, values, count, next_len),
+        Err(_) => {
+            *count = 0;
+            OUT_OF_MEMORY
+        }
+    }
+}
+
+/// Lists the next pairs whose keys begin with a prefix, as many as the rooms have places for: if `goes_on`, those after
+/// the key `last`, which the call before gave, and else the first ones. Their keys go one behind another, and where each
+/// ends, and their values.
+///
+/// It is done if none is left. If the next pair has no room, the length of its key is told. It costs a look-up of the
+/// last key, and goes over no pair before it.
+#[unsafe(no_mangle)]
+pub extern "C" fn zerotrie_list_some(
+    alloc: Global,
+    kind: u32,
+    bytes: &[u8],
+    prefix: &[u8],
+    goes_on: bool,
+    last: &[u8],
+    keys: &mut [u8],
+    ends: &mut [usize],
+    values: &mut [usize],
+    count: &mut usize,
+    next_len: &mut usize,
+) -> u32
+    ensures known { IfSome (kind_of kind) (λ k. (pairs : Pairs) → Lists k bytes.now pairs
+        → IsListedSome (left_of k goes_on last.now (beginning k prefix.now pairs)) result
+        keys.old keys.new ends.old ends.new values.old values.new count.new next_len.new) }
+    ensures unknown { IfNone (kind_of kind) ((result ≡ unknown_kind) × (keys.new ≡ keys.old)
+        × (ends.new ≡ ends.old) × (values.new ≡ values.old) × (count.new ≡ count.old)) }
+{
+    match kind {
+        0 => list_some::<Simple>(
+            alloc, bytes, prefix, goes_on, last, keys, ends, values, count, next_len,
+        ),
+        3 => list_some::<Hash>(
+            alloc, bytes, prefix, goes_on, last, keys, ends, values, count, next_len,
+        ),
+        7 => list_some::<Ext>(
+            alloc, bytes, prefix, goes_on, last, keys, ends, values, count, next_len,
+        ),
+        8 => list_some::<Ignore>(
+            alloc, bytes, prefix, goes_on, last, keys, ends, values, count, next_len,
+        ),
         _ => UNKNOWN_KIND,
     }
 }

@@ -14,7 +14,8 @@ use zerotrie_core::{Ext, Hash, Ignore, Simple, ZeroTrieWithOptions, get_counted,
 
 /// The value of the key in a trie of the kind of this number.
 fn look_up(kind: u32, bytes: &[u8], key: &[u8]) -> Option<usize>
-    ensures known { IfSome (kind_of kind) (λ k. (m : Map) → Means k bytes.now m → result ≡ look k m key.now) }
+    ensures known { IfSome (kind_of kind) (λ k.
+        (m : Map) → Means k bytes.now m → result ≡ look k m key.now) }
     ensures unknown { IfNone (kind_of kind) (result ≡ None) }
 {
     match kind {
@@ -45,8 +46,8 @@ pub extern "C" fn zerotrie_get(kind: u32, bytes: &[u8], key: &[u8], value: &mut 
     }
 }
 
-/// The bytes from one place up to another. A place behind all bytes stands for their end.
-fn key_between(bytes: &[u8], from: usize, to: usize) -> &[u8]
+/// The bytes from one place up to another. A place past all bytes stands for their end.
+pub fn key_between(bytes: &[u8], from: usize, to: usize) -> &[u8]
     ensures { result.now ≡ drop from (take to bytes.now) }
 {
     let front = if to < bytes.len() {
@@ -63,7 +64,8 @@ fn key_between(bytes: &[u8], from: usize, to: usize) -> &[u8]
 
 /// The value of the key, or this number if the trie has no such key.
 fn value_or<K: ZeroTrieWithOptions>(bytes: &[u8], key: &[u8], missing: usize) -> usize
-    ensures { (m : Map) → Means K.kind bytes.now m → result ≡ or_else missing (look K.kind m key.now) }
+    ensures { (m : Map) → Means K.kind bytes.now m
+        → result ≡ or_else missing (look K.kind m key.now) }
 {
     match get_counted::<K>(bytes, key).0 {
         Some(value) => value,
@@ -80,7 +82,8 @@ fn look_up_many<K: ZeroTrieWithOptions>(
     values: &mut [usize],
 )
     ensures { (m : Map) → Means K.kind bytes.now m
-        → values.new ≡ written_over (values_or missing K.kind m (keys_from 0 keys.now ends.now)) values.old }
+        → values.new ≡ written_over (values_or missing K.kind m (keys_from 0 keys.now ends.now))
+        values.old }
 {
     let mut from = 0;
     let count = ends.len().min(values.len());
@@ -91,10 +94,10 @@ fn look_up_many<K: ZeroTrieWithOptions>(
     }
 }
 
-/// Looks up keys that lie one behind another, each up to its end, and writes the value of each, or `missing` for a key
+/// Looks up keys that lie one after another, each up to its end, and writes the value of each, or `missing` for a key
 /// that the trie hasn't.
 ///
-/// An end behind all bytes stands for theirs, and an end below the one before it makes an empty key. So many are
+/// An end past all bytes stands for theirs, and an end below the one before it makes an empty key. As many are
 /// answered as there are ends and room for values; the rest of the room stays. If the number is no kind, all of it stays.
 #[unsafe(no_mangle)]
 pub extern "C" fn zerotrie_get_many(
@@ -106,7 +109,8 @@ pub extern "C" fn zerotrie_get_many(
     values: &mut [usize],
 ) -> u32
     ensures known { IfSome (kind_of kind) (λ k. (result ≡ done) × ((m : Map) → Means k bytes.now m
-        → values.new ≡ written_over (values_or missing k m (keys_from 0 keys.now ends.now)) values.old)) }
+        → values.new ≡ written_over (values_or missing k m (keys_from 0 keys.now ends.now))
+        values.old)) }
     ensures unknown { IfNone (kind_of kind) ((result ≡ unknown_kind) × (values.new ≡ values.old)) }
 {
     match kind {

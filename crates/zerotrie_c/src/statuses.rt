@@ -23,6 +23,15 @@ pub const NO_TAG: u32 = 13;
 /// The first of tagged bytes is no kind's number.
 pub const INVALID_TAG: u32 = 14;
 
+/// A table has no value for two texts.
+pub const NO_ENTRY: u32 = 15;
+
+/// Bytes are fewer than the record of a table that they begin asks for.
+pub const RECORD_TRUNCATED: u32 = 16;
+
+/// Bytes are more than the record of a table that they begin asks for.
+pub const TRAILING_BYTES: u32 = 17;
+
 /// The number that stands for a refusal of a build.
 pub fn status_of(error: ZeroTrieBuildError) -> u32
     ensures { result ≡ status_of error }

@@ -17,7 +17,7 @@ pub struct Bytes<'a> {
     pub bytes: &'a [u8],
 }
 
-/// Puts a byte and others behind it at the front of the room, which has enough.
+/// Puts a byte and others after it at the front of the room, which has enough.
 fn put_behind(first: u8, bytes: &[u8], out: &mut [u8])
     requires { length bytes.now < length out.old }
     ensures { out.new ≡ first ∷ bytes.now ++ drop (length bytes.now + 1) out.old }
@@ -29,8 +29,10 @@ fn put_behind(first: u8, bytes: &[u8], out: &mut [u8])
 /// Writes the number of the kind and the bytes to the front of `out`, if there is room, and tells how long they are.
 #[unsafe(no_mangle)]
 pub extern "C" fn zerotrie_tagged(kind: u32, bytes: &[u8], out: &mut [u8], len: &mut usize) -> u32
-    ensures known { IfSome (kind_of kind) (λ k. IsHandedOut (tagged k bytes.now) result len.new out.old out.new) }
-    ensures unknown { IfNone (kind_of kind) ((result ≡ unknown_kind) × (len.new ≡ len.old) × (out.new ≡ out.old)) }
+    ensures known { IfSome (kind_of kind) (λ k.
+        IsHandedOut (tagged k bytes.now) result len.new out.old out.new) }
+    ensures unknown { IfNone (kind_of kind) ((result ≡ unknown_kind) × (len.new ≡ len.old)
+        × (out.new ≡ out.old)) }
 {
     if !is_kind(kind) {
         return UNKNOWN_KIND;
@@ -43,14 +45,15 @@ pub extern "C" fn zerotrie_tagged(kind: u32, bytes: &[u8], out: &mut [u8], len: 
     DONE
 }
 
-/// The kind of tagged bytes, and the bytes behind the tag where they lie. They are not tested.
+/// The kind of tagged bytes, and the bytes after the tag where they lie. They are not tested.
 #[unsafe(no_mangle)]
 pub extern "C" fn zerotrie_untagged<'a>(
     tagged: &'a [u8],
     kind: &mut u32,
     behind: &mut Bytes<'a>,
 ) -> u32
-    ensures { IsUntagged tagged.now result kind.old kind.new behind.old.bytes.now behind.new.bytes.now }
+    ensures { IsUntagged tagged.now result kind.old kind.new behind.old.bytes.now
+        behind.new.bytes.now }
 {
     match tagged {
         [] => NO_TAG,

@@ -14,6 +14,7 @@ mod GoingLemmas
 mod LaneLemmas
 mod PlaceLemmas
 mod PrefixLemmas
+mod PassLemmas
 mod ReaderLemmas
 mod LiteralLemmas
 mod LongestLemmas

@@ -89,7 +89,7 @@ pub at_span : (kind : Kind) (prefix bytes run rest : List ℕ) (branches : List 
 at_span kind prefix bytes run rest branches low b =
     ap (λ ps. with_run prefix ps ++ pairs_open kind prefix branches) (listed_read kind bytes _ b) ∙ at_run kind prefix run rest branches low
 
-at_literal : (kind : Kind) (prefix bytes rest : List ℕ) (c : ℕ) (branches : List OpenBranch) → FirstLow (length prefix) branches → node_of kind bytes ≡ Some (shapes.Shape.literal c rest)
+pub at_literal : (kind : Kind) (prefix bytes rest : List ℕ) (c : ℕ) (branches : List OpenBranch) → FirstLow (length prefix) branches → node_of kind bytes ≡ Some (shapes.Shape.literal c rest)
     → pairs_left kind prefix bytes branches ≡ pairs_left kind (prefix ++ c ∷ []) rest branches
 at_literal kind prefix bytes rest c branches low b =
     ap (λ ps. with_run prefix ps ++ pairs_open kind prefix branches) (listed_read kind bytes _ b)
@@ -157,7 +157,7 @@ back_at : (n i : ℕ) → i < n → n - suc (n - suc i) ≡ i
 back_at n i h = omega arith
 
 -- the pairs behind the edges from number i on
-opened : (f : List ℕ → Pairs) (n w : ℕ) (behind : List ℕ) (i : ℕ) → i < n
+pub opened : (f : List ℕ → Pairs) (n w : ℕ) (behind : List ℕ) (i : ℕ) → i < n
     → of_targets f n w behind (n - i) ≡ (if is_in_order n w behind i then with_front (slice_index behind i) (f (target_of n w behind i)) ++ of_targets f n w behind (n - suc i) else [])
 opened f n w behind i h =
     ap (of_targets f n w behind) (one_more n i h)

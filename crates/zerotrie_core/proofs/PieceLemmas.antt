@@ -1,5 +1,5 @@
 -- The targets of a branch, cut apart by offsets that rise.
-use Rattle.std.proofs.Common.{◌≡◌, ℕ, zero, suc, ◌+◌, ◌-◌, ◌*◌, ◌/◌, ◌%◌, ◌^◌, ◌<◌, ◌≤◌, List, [], ◌∷◌, ◌++◌, length, refl, sym, ◌∙◌, ap, subst, arith, map, get_or, take, drop, length-append, append_assoc, lit<}
+use Rattle.std.proofs.Common.{◌≡◌, ℕ, zero, suc, ◌+◌, ◌-◌, ◌*◌, ◌/◌, ◌%◌, ◌^◌, ◌<◌, ◌≤◌, List, [], ◌∷◌, ◌++◌, length, refl, sym, ◌∙◌, ap, subst, arith, map, get_or, take, drop, append_assoc, lit<}
 use Rattle.std.specs.List.{concat, range_with_len, prefix_len}
 use Rattle.std.specs.Prelude.{nat_lt}
 use Rattle.std.proofs.lemmas.List.{ext_get_or, get_or-drop, get_or-take, get_or-map, take-append-drop, length-take-le, length-map, take_all}
@@ -108,7 +108,7 @@ next_concat (x ∷ xs) zero h = end_nil x
     end_nil (y ∷ ys) = ap (λ zs. y ∷ zs) (end_nil ys)
 next_concat (x ∷ xs) (suc i) h = ap (λ y. x ++ y) (next_concat xs i (omega arith)) ∙ sym (append_assoc x (concat (take i xs)) (get_or xs i []))
 
-begins_at_end : (n w : ℕ) (behind : List ℕ) (i : ℕ) → suc i < n → begin_of n w behind (suc i) ≡ end_of n w behind i
+pub begins_at_end : (n w : ℕ) (behind : List ℕ) (i : ℕ) → suc i < n → begin_of n w behind (suc i) ≡ end_of n w behind i
 begins_at_end n w behind i h =
     rw (ne_eqb (suc i) 0 (λ e. omega arith), ne_eqb i (n - 1) (λ e. omega arith)) (ap (offset_in n w behind) (let e : suc i - 1 ≡ i = omega arith in e))
 
@@ -252,16 +252,3 @@ longest_is {targets = targets} {n = n} {w = w} {behind = behind} has place is =
     let m : greatest lengths ≡ length (get_or targets place []) = greatest_is lengths _ place (omega arith) (get_or-lengths targets place (omega arith)) all in
     first_not_below (greatest lengths) targets place (omega arith)
     (λ i l. (let less : i < n = omega arith in let b = extent_is has i less in let f = is.first i l in omega arith)) (omega arith)
-
--- two targets have no byte in common
-apart_first : (xs : List (List ℕ)) (i : ℕ) → i < length xs → length (get_or xs i []) ≤ length (concat xs)
-apart_first [] i h = absurd (omega arith)
-apart_first (x ∷ xs) zero h = let l = length-append x (concat xs) in omega arith
-apart_first (x ∷ xs) (suc i) h = let l = length-append x (concat xs) in let more = apart_first xs i (omega arith) in omega arith
-
-pub both_within : (xs : List (List ℕ)) (i j : ℕ) → i < length xs → j < length xs → (i ≡ j → ⊥) → length (get_or xs i []) + length (get_or xs j []) ≤ length (concat xs)
-both_within [] i j h k apart = absurd (omega arith)
-both_within (x ∷ xs) zero zero h k apart = absurd (apart refl)
-both_within (x ∷ xs) zero (suc j) h k apart = let l = length-append x (concat xs) in let more = apart_first xs j (omega arith) in omega arith
-both_within (x ∷ xs) (suc i) zero h k apart = let l = length-append x (concat xs) in let more = apart_first xs i (omega arith) in omega arith
-both_within (x ∷ xs) (suc i) (suc j) h k apart = let l = length-append x (concat xs) in let more = both_within xs i j (omega arith) (omega arith) (λ e. apart (ap suc e)) in omega arith

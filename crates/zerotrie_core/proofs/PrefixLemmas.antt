@@ -9,14 +9,10 @@ use Rattle.zerotrie_core.specs.Maps.{Pairs, residual, with_front, with_run, begi
 use Rattle.zerotrie_core.specs.Texts.{Lists}
 use Rattle.zerotrie_core.specs.Cursors.{met, edge_like}
 use Rattle.zerotrie_core.specs.Machine.{behind}
-use Rattle.zerotrie_core.specs.Places.{Place, ListsBehind, ListsAt}
-use Rattle.zerotrie_core.specs.listing.Listed.{listed}
-use Rattle.zerotrie_core.specs.listing.Opened.{pairs_left}
+use Rattle.zerotrie_core.specs.Places.{Place, ListsAt}
 use Rattle.zerotrie_core.proofs.TableLemmas.{NoneLike, Distinct}
-use Rattle.zerotrie_core.proofs.SpanLemmas.{with_run-none, with_run-front}
-use Rattle.zerotrie_core.proofs.ListingLemmas.{listed_pairs}
-use Rattle.zerotrie_core.specs.declared.stream.opened.OpenBranch.{OpenBranch}
-use Rattle.zerotrie_core.proofs.ListingStateLemmas.{run_front, run_run, fresh_left}
+use Rattle.zerotrie_core.proofs.SpanLemmas.{with_run-none}
+use Rattle.zerotrie_core.proofs.ListingStateLemmas.{run_front}
 use Rattle.zerotrie_core.proofs.CursorLaws.{place_has}
 
 -- What holds of each edge that pairs meet holds of the first byte of each key.
@@ -121,18 +117,6 @@ beginning_step kind place pairs lists c front =
 pub beginning_all : (kind : Kind) (pairs : Pairs) → beginning kind [] pairs ≡ pairs
 beginning_all kind [] = refl
 beginning_all kind (e ∷ pairs) = ap (λ ps. e ∷ ps) (beginning_all kind pairs)
-
--- what a place lists is what its text lists, behind its run
-pub place_listed : (kind : Kind) (run trie : List ℕ) (pairs : Pairs) → ListsBehind kind run trie pairs → with_run run (listed kind trie) ≡ pairs
-place_listed kind [] trie pairs lists = with_run-none (listed kind trie) ∙ listed_pairs lists
-place_listed kind (b ∷ run) trie pairs lists =
-    with_run-front b run (listed kind trie) ∙ ap (with_front b) (place_listed kind run trie lists.0 lists.3) ∙ sym lists.2
-
--- what is left of a listing that begins at a place, behind a front
-pub place_left : (kind : Kind) (front run trie : List ℕ) (pairs : Pairs) (o : OpenBranch) → o.edges ≤ o.next → ListsBehind kind run trie pairs
-    → pairs_left kind (front ++ run) trie (o ∷ []) ≡ with_run front pairs
-place_left kind front run trie pairs o over lists =
-    fresh_left kind (front ++ run) trie o over ∙ sym (run_run front run (listed kind trie)) ∙ ap (with_run front) (place_listed kind run trie pairs lists)
 
 -- Where steps by the first bytes of a prefix lead: what is left of the prefix, of the pairs there, is what all of it is of all pairs.
 pub record Stepped (kind : Kind) (all : Pairs) (prefix front : List ℕ) (i : ℕ) (place : Place) : Type 0 where

@@ -87,15 +87,15 @@ body_parts before n ts table behind body parts table_is behind_is =
 module _ {kind : Kind} {n w place : ℕ} {table behind : List ℕ} (sound : IsSound kind n w table behind place) (long : n + w * (n - 1) ≤ length behind) (two : 2 ≤ n) (some : 1 ≤ w) where
   pub sound_targets : HasTargets (pieces n w behind) n w behind
   sound_targets =
-      let enough = sound.is_width.enough in
+      let enough = sound.front.is_width.enough in
       let up : w - 1 + 1 ≡ w = omega arith in
-      has_pieces n w behind two sound.bytes long (subst (λ k. length (targets_behind n w behind) < 256 ^ k) up enough) sound.in_order
+      has_pieces n w behind two sound.front.bytes long (subst (λ k. length (targets_behind n w behind) < 256 ^ k) up enough) sound.in_order
 
   pub sound_is : {bytes : List ℕ} → BeginsBranch kind bytes n w table behind → IsBranch kind (take n behind) (pieces n w behind) bytes
   sound_is {bytes = bytes} b =
       let has = sound_targets in
       let count : length (take n behind) ≡ n = length-take-le n behind (omega arith) in
-      let tabled = sound.has_table (table_long n w table behind b) in
+      let tabled = sound.front.has_table (table_long n w table behind b) in
       let up : w ≡ w - 1 + 1 = omega arith in
       let fits = b.fits in
       let most = b.at_most in
@@ -107,7 +107,7 @@ module _ {kind : Kind} {n w place : ℕ} {table behind : List ℕ} (sound : IsSo
         at_most = omega arith;
         a_target_each = length-pieces n w behind ∙ sym count;
         edge_bytes = tabled.1;
-        is_width = subst (λ x. IsWidth (length x) (w - 1)) (sym (concat_pieces n w behind (omega arith) sound.in_order)) sound.is_width;
+        is_width = subst (λ x. IsWidth (length x) (w - 1)) (sym (concat_pieces n w behind (omega arith) sound.in_order)) sound.front.is_width;
         fits = omega arith;
         is_head = subst (λ k. SpellsAs branch_form (256 * (w - 1) + k % 256) b.begins.spelling) (sym count) b.begins.spells;
         is_table = tabled.0;

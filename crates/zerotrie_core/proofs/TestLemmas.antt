@@ -1,19 +1,16 @@
 -- The parts of the test of a branch.
-use Rattle.std.proofs.Common.{◌≡◌, ℕ, zero, suc, ◌+◌, ◌-◌, ◌*◌, ◌/◌, ◌%◌, ◌<◌, ◌≤◌, List, [], ◌∷◌, ◌++◌, length, refl, sym, ◌∙◌, ap, subst, arith, map, get_or, take, drop, true, false, Option, Some, None, inl, inr}
-use Rattle.std.specs.Prelude.{◌↔◌, ◌&&◌, ◌==◌, All, slice_index, nat_lt, cond, Bool, IfSome, IfNone}
+use Rattle.std.proofs.Common.{◌≡◌, ℕ, zero, suc, ◌+◌, ◌-◌, ◌*◌, ◌/◌, ◌%◌, ◌<◌, ◌≤◌, List, [], ◌∷◌, ◌++◌, length, refl, sym, ◌∙◌, ap, subst, arith, map, get_or, take, drop, true, false, Some, None, inl, inr}
+use Rattle.std.specs.Prelude.{◌↔◌, ◌&&◌, ◌==◌, All, slice_index, nat_lt, cond, Bool}
 use Rattle.std.specs.List.Sorted.{IsStrictlyIncreasing}
 use Rattle.std.proofs.lemmas.List.{get_or-map, length-map, length-take-le, length-drop, take-append-drop, get_or_append_left}
 use Rattle.std.proofs.lemmas.Bool.{cases_lt}
 use Rattle.zerotrie_base.specs.Hashes.{f1, f2, place_of, number_behind, IsPerfect}
 use Rattle.zerotrie_core.specs.Kind.{Kind, simple_ascii, ignore_case, perfect_hash, extended_capacity, IsAscii, flags, fold_byte, edge_limit, is_hashed, has_spans}
-use Rattle.zerotrie_core.specs.Branches.{IsTable, IsWidth, table_size}
+use Rattle.zerotrie_core.specs.Branches.{IsTable, table_size}
 use Rattle.zerotrie_core.specs.Branches.IsTable.{sorted, hashed}
 use Rattle.zerotrie_core.specs.Texts.{AreHigh}
 use Rattle.zerotrie_core.specs.Nodes.{begin_of, end_of, targets_behind}
-use Rattle.zerotrie_core.specs.well_formed.Branching.{piece, extent, InOrder, IsLongest, IsSound, AnswersEach, HasTable}
-use Rattle.zerotrie_core.specs.well_formed.Testing.{AlwaysNoText}
-use Rattle.zerotrie_core.specs.Nodes as shapes
-use Rattle.zerotrie_core.proofs.SoundLemmas.{no_order}
+use Rattle.zerotrie_core.specs.well_formed.Branching.{piece, extent, InOrder, AnswersEach, HasTable}
 use Rattle.zerotrie_core.proofs.KindLemmas.{hashed_spans}
 use Rattle.zerotrie_core.proofs.NumberLemmas.{IsBytes}
 
@@ -146,48 +143,12 @@ pub perfect_to : {kind : Kind} {n : ℕ} {edges table : List ℕ} → is_hashed 
 perfect_to {kind = kind} wide count (sorted h up) = absurd (let not = ap (is_hashed kind) count ∙ wide in cc)
 perfect_to wide count (hashed {p = p} {qs = qs} h perfect) = (p, qs, refl, perfect)
 
--- What is known of the first targets, in their order.
-pub record LongestOf (n w : ℕ) (behind : List ℕ) (index place most : ℕ) : Type 0 where
-  pub order : InOrder n w behind index
-  pub start : index ≡ 0 → most ≡ 0
-  pub here : 0 < index → (place < index) × (extent n w behind place ≡ most)
-  pub all : (i : ℕ) → i < index → extent n w behind i ≤ most
-  pub first : (i : ℕ) → i < place → (i < index) × (extent n w behind i < most)
-
-order_more : (n w : ℕ) (behind : List ℕ) (index : ℕ) → InOrder n w behind index → begin_of n w behind index < end_of n w behind index → end_of n w behind index ≤ length (targets_behind n w behind) → InOrder n w behind (index + 1)
+-- one more target in its order
+pub order_more : (n w : ℕ) (behind : List ℕ) (index : ℕ) → InOrder n w behind index → begin_of n w behind index < end_of n w behind index → end_of n w behind index ≤ length (targets_behind n w behind) → InOrder n w behind (index + 1)
 order_more n w behind index order low high i h = elim (cases_lt i index) [
   | inl less ↦ order i less
   | inr past ↦ (let same : index ≡ i = omega arith in subst (λ k. (begin_of n w behind k < end_of n w behind k) × (end_of n w behind k ≤ length (targets_behind n w behind))) same (low, high))
 ]
-
-all_more : (n w : ℕ) (behind : List ℕ) (index most more : ℕ) → most ≤ more → extent n w behind index ≤ more → ((i : ℕ) → i < index → extent n w behind i ≤ most) → (i : ℕ) → i < index + 1 → extent n w behind i ≤ more
-all_more n w behind index most more le here all i h = elim (cases_lt i index) [
-  | inl less ↦ (let a = all i less in omega arith)
-  | inr past ↦ (let same : index ≡ i = omega arith in subst (λ k. extent n w behind k ≤ more) same here)
-]
-
-pub longest_more : (n w : ℕ) (behind : List ℕ) (index place most : ℕ) → begin_of n w behind index < end_of n w behind index → end_of n w behind index ≤ length (targets_behind n w behind)
-    → most < extent n w behind index → LongestOf n w behind index place most → LongestOf n w behind (index + 1) index (extent n w behind index)
-longest_more n w behind index place most low high more so_far = record {
-  order = order_more n w behind index so_far.order low high;
-  start = λ e. absurd (omega arith);
-  here = λ h. (omega arith, refl);
-  all = all_more n w behind index most (extent n w behind index) (omega arith) (omega arith) so_far.all;
-  first = λ i h. (let a = so_far.all i h in (omega arith, omega arith));
-}
-
-pub longest_less : (n w : ℕ) (behind : List ℕ) (index place most : ℕ) → begin_of n w behind index < end_of n w behind index → end_of n w behind index ≤ length (targets_behind n w behind)
-    → extent n w behind index ≤ most → LongestOf n w behind index place most → LongestOf n w behind (index + 1) place most
-longest_less n w behind index place most low high less so_far = record {
-  order = order_more n w behind index so_far.order low high;
-  start = λ e. absurd (omega arith);
-  here = λ h. elim (cases_lt 0 index) [
-    | inl some ↦ (let a = so_far.here some in let b = a.0 in (omega arith, a.1))
-    | inr none ↦ absurd (let e = so_far.start (omega arith) in omega arith)
-  ];
-  all = all_more n w behind index most most (omega arith) less so_far.all;
-  first = λ i h. (let a = so_far.first i h in let b = a.0 in (omega arith, a.1));
-}
 
 pub target_long : (n w : ℕ) (behind : List ℕ) (i : ℕ) (target : List ℕ) → begin_of n w behind i ≤ end_of n w behind i → end_of n w behind i ≤ length (targets_behind n w behind) → target ≡ piece n w behind i → length target ≡ extent n w behind i
 target_long n w behind i target low high is =
@@ -211,16 +172,6 @@ hashed_test kind R n es edges table wide same some most count ends bytes low eac
       λ r. (perfect_from kind n edges table wide some most count (long ∙ size) ends bytes low' (subst (AnswersEach table) same (each r)), limit_all kind (hashed_spans kind n wide) edges low'),
       λ has. (let is = perfect_to wide count has.0 in back is.0 is.1 (is.2 ∙ ap (λ x. is.0 ∷ (is.1 ++ x)) (sym same)) (subst (IsPerfect is.0 is.1) (sym same) is.3)),
     )
-
--- what the test of a branch answers
-pub sound_some : (kind : Kind) (n w : ℕ) (table behind : List ℕ) (r : Option ℕ) → (length table ≡ table_size kind n → HasTable kind (take n behind) table) → IsBytes (drop n behind) → IsWidth (length (targets_behind n w behind)) (w - 1)
-    → IfSome r (λ place. InOrder n w behind n) → IfSome r (λ place. IsLongest n w behind n place) → IfSome r (λ place. IsSound kind n w table behind place)
-sound_some kind n w table behind None has bytes is order longest = tt
-sound_some kind n w table behind (Some place) has bytes is order longest = record { has_table = has; bytes = bytes; is_width = is; in_order = order; is_longest = longest }
-
-pub sound_none : (kind : Kind) (n w : ℕ) (table behind : List ℕ) (r : Option ℕ) → IfNone r (InOrder n w behind n → ⊥) → IfNone r (AlwaysNoText kind (shapes.Shape.branch n w table behind))
-sound_none kind n w table behind None wrong = no_order kind n w table behind wrong
-sound_none kind n w table behind (Some place) wrong = tt
 
 -- bytes below 128
 pub ascii_all : (bytes : List ℕ) → ((i : ℕ) → get_or bytes i 0 < 128) → All (λ b. b < 128) bytes

@@ -1,6 +1,7 @@
 -- Listings: what is left of one, and what a call of `next` gives.
 use Rattle.std.specs.Prelude.{◌≡◌, ℕ, ◌+◌, List, [], ◌∷◌, Bool, true, false, Option, Some, None, Result, Ok, Err, length, if◌then◌else◌}
-use Rattle.zerotrie_core.specs.Maps.{Pairs}
+use Rattle.zerotrie_core.specs.Kind.{Kind}
+use Rattle.zerotrie_core.specs.Maps.{Pairs, same_key}
 use Rattle.std.specs.declared.alloc.AllocError.{AllocError}
 use Rattle.zerotrie_core.specs.declared.listing.ListError.{ListError}
 use Rattle.zerotrie_core.specs.declared.listing.ListError.TheVariants.{OutOfMemory}
@@ -19,6 +20,11 @@ pub record Standing : Type 0 where
 -- these pairs still come
 abbrev pub to_come : Pairs → Left
 to_come pairs = record { pairs = pairs; ended = false }
+
+-- the pairs that stand after the first whose key is this one to the kind, and none if no pair has such a key
+abbrev pub rest_after : Kind → List ℕ → Pairs → Pairs
+rest_after kind key [] = []
+rest_after kind key (e ∷ pairs) = if same_key kind e.0 key then pairs else rest_after kind key pairs
 
 -- nothing comes any more
 abbrev pub over : Left

@@ -2,3 +2,4 @@
 pub mod Listed
 pub mod Opened
 pub mod Runs
+pub mod Passed

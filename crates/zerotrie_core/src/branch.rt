@@ -9,7 +9,7 @@ ghost use Rattle.std.specs.Prelude.{◌≡◌, ◌↔◌, ℕ, ◌+◌, ◌-◌,
 ghost use Rattle.std.specs.Char.{to_ascii_lowercase};
 ghost use Rattle.zerotrie_core.specs.Kind.{fold_byte};
 ghost use Rattle.zerotrie_core.specs.Branches.{IsTable};
-ghost use Rattle.zerotrie_core.specs.Nodes.{number_from, offset_in, IsTargetResult};
+ghost use Rattle.zerotrie_core.specs.Nodes.{number_from, offset_in, end_of, IsTargetResult};
 ghost use Rattle.zerotrie_core.specs.reader.Reading.{AlwaysRises, IsPlace, HasNoPlace};
 ghost use Rattle.zerotrie_core.specs.reader.Going.{AlwaysGoes, AlwaysStops};
 
@@ -42,7 +42,7 @@ fn lower(byte: u8) -> u8
     LOWER[byte as usize]
 }
 
-/// The byte as the kind compares it: an ASCII letter in lower case where case is ignored, and else itself.
+/// The byte as the kind compares it: an ASCII letter in lower case if case is ignored, and else itself.
 #[inline(always)]
 pub fn folded<K: ZeroTrieWithOptions>(byte: u8) -> u8
     ensures { result ≡ fold_byte K.kind byte }
@@ -50,7 +50,7 @@ pub fn folded<K: ZeroTrieWithOptions>(byte: u8) -> u8
     if K::IGNORE_CASE { lower(byte) } else { byte }
 }
 
-/// The bytes that are this byte to the kind: a letter in either case where case is ignored, and else itself
+/// The bytes that are this byte to the kind: a letter in either case if case is ignored, and else itself
 /// alone.
 #[inline(always)]
 fn both_cases<K: ZeroTrieWithOptions>(byte: u8) -> (u8, u8)
@@ -64,7 +64,7 @@ fn both_cases<K: ZeroTrieWithOptions>(byte: u8) -> (u8, u8)
     }
 }
 
-/// All of the half of a table where the byte in its middle is not above the byte sought, else nothing.
+/// All of the half of a table if the byte in its middle is not above the byte sought, else nothing.
 #[inline(always)]
 fn half_passed(half: usize, middle: u8, byte: u8) -> usize
     ensures passed { middle ≤ byte → result ≡ half }
@@ -109,7 +109,7 @@ fn place_in<K: ZeroTrieWithOptions>(table: &[u8], byte: u8) -> Option<usize>
     }
 }
 
-/// The place, where it lies before the end.
+/// The place, if it lies before the end.
 #[inline(always)]
 fn before_end(place: usize, end: usize) -> Option<usize>
     ensures some { IfSome result (λ r. (r < end) × (r ≡ place)) }
@@ -184,7 +184,7 @@ impl<'a> Branch<'a> {
         self.behind[index]
     }
 
-    /// The place of the edge that is the byte to the kind, where there are two edges.
+    /// The place of the edge that is the byte to the kind, if there are two edges.
     #[inline(always)]
     fn place_of_two<K: ZeroTrieWithOptions>(&self, byte: u8) -> Option<usize>
         requires { self.now.edges ≡ 2 }
@@ -203,7 +203,7 @@ impl<'a> Branch<'a> {
     /// The place of the edge that is the byte to the kind.
     ///
     /// Two edges are each held against the byte. Up to 64 are looked at all at once, whatever their order, with
-    /// what bytes stand behind them. Where there are more, or too few bytes are left, a table of more bytes than
+    /// what bytes follow them. If there are more, or too few bytes are left, a table of more bytes than
     /// edges is hashed, in the kinds that have hashed tables, and any other is halved.
     #[inline(always)]
     pub fn place_of<K: ZeroTrieWithOptions>(&self, byte: u8) -> Option<usize>
@@ -232,7 +232,7 @@ impl<'a> Branch<'a> {
         place_in::<K>(edges, byte)
     }
 
-    /// The target of one of two edges, which lies before or behind the one offset, if it does.
+    /// The target of one of two edges, which lies before or after the one offset, if it does.
     ///
     /// The offset is read whichever edge it is, so that it need not wait for the place.
     #[inline(always)]
@@ -250,7 +250,7 @@ impl<'a> Branch<'a> {
     }
 
     /// The offsets in front of an edge and of the next one, of up to three bytes each. In front of the first edge there
-    /// is none, nor behind the last one, and any number is answered there.
+    /// is none, nor after the last one, and any number is answered there.
     ///
     /// The byte in front of the offsets is read as if it were one, so that no place waits for a test of the edge.
     #[inline(always)]
@@ -270,7 +270,7 @@ impl<'a> Branch<'a> {
         (before, next)
     }
 
-    /// The same, where they have any number of bytes.
+    /// Like `short_offsets`, for offsets of any number of bytes.
     #[inline(always)]
     fn offsets_at(&self, index: usize) -> (usize, usize)
         requires index { index < self.now.edges }
@@ -295,7 +295,7 @@ impl<'a> Branch<'a> {
 
     /// The target of an edge, which lies between two offsets, if it does.
     ///
-    /// Where there are more than two edges, two offsets are read whichever edge it is, so that nothing waits for a
+    /// If there are more than two edges, two offsets are read whichever edge it is, so that nothing waits for a
     /// test of its place.
     #[inline(always)]
     pub fn target_at(&self, index: usize) -> Option<&'a [u8]>
@@ -312,6 +312,22 @@ impl<'a> Branch<'a> {
         let from = if index == 0 { 0 } else { before };
         let to = if index == count { targets.len() } else { next };
         targets.get(from..to)
+    }
+
+    /// Where the target of an edge ends among the targets, as its offset says.
+    #[inline(always)]
+    pub fn end_at(&self, index: usize) -> usize
+        requires { index < self.now.edges }
+        ensures { result ≡ end_of self.now.edges self.now.width self.now.behind.now index }
+    {
+        let count = self.edges - 1;
+        let (_, body) = self.behind.split_at(self.edges);
+        let (table, targets) = body.split_at(self.width * count);
+        if index < count {
+            offset_at(table, index, count, self.width)
+        } else {
+            targets.len()
+        }
     }
 
     /// The edge that is the byte to the kind, and its target.

@@ -1,7 +1,7 @@
 //! The calls of a cursor, which is the bytes that are left of a trie.
 //!
 //! A cursor goes down a trie edge by edge. Where it stands, the bytes that are left are a trie of what all
-//! keys have behind the edges so far, and in the kinds over ASCII keys each of these tries is bytes of the
+//! keys have after the edges so far, and in the kinds over ASCII keys each of these tries is bytes of the
 //! store. Nothing is copied, and nothing allocated.
 
 ghost use Rattle.std.specs.Prelude.{◌≡◌, ℕ, [], IfSome, IfNone};
@@ -50,7 +50,7 @@ fn first_value(bytes: &[u8]) -> Option<(usize, &[u8])>
 /// assert!(rt; trie.is_empty());
 /// ```
 ///
-/// A value is passed over. Where no edge is the byte, the answer is `None`, and no byte is left. In `Ignore`
+/// A value is passed over. If no edge is the byte, the answer is `None`, and no byte is left. In `Ignore`
 /// an ASCII letter is either case of it, and the answer is the byte as it is stored.
 ///
 /// It returns on any bytes, and takes no memory. Only a kind over ASCII keys is stepped so; `SpanCursor` is
@@ -58,7 +58,8 @@ fn first_value(bytes: &[u8]) -> Option<(usize, &[u8])>
 #[inline(always)]
 pub fn step<K: ZeroTrieWithOptions>(bytes: &mut &[u8], byte: u8) -> Option<u8>
     requires { IsAscii K.kind }
-    ensures meaning { IsStep K.kind (Lists K.kind bytes.old.now) byte result (Lists K.kind bytes.new.now) }
+    ensures meaning { IsStep K.kind (Lists K.kind bytes.old.now) byte result
+        (Lists K.kind bytes.new.now) }
     ensures empty { IfNone result (bytes.new.now ≡ []) }
 {
     match edge_like::<K>(bytes, byte) {
@@ -73,7 +74,7 @@ pub fn step<K: ZeroTrieWithOptions>(bytes: &mut &[u8], byte: u8) -> Option<u8>
     }
 }
 
-/// Takes the value of the empty key off the front of the bytes of a trie of any kind. `None` where there is
+/// Takes the value of the empty key off the front of the bytes of a trie of any kind. `None` if there is
 /// none, and then nothing changes.
 ///
 /// ```
@@ -86,7 +87,8 @@ pub fn step<K: ZeroTrieWithOptions>(bytes: &mut &[u8], byte: u8) -> Option<u8>
 /// It returns on any bytes, and takes no memory.
 #[inline]
 pub fn take_value(bytes: &mut &[u8]) -> Option<usize>
-    ensures meaning { (kind : Kind) → IsTake kind (Lists kind bytes.old.now) result (Lists kind bytes.new.now) }
+    ensures meaning { (kind : Kind)
+        → IsTake kind (Lists kind bytes.old.now) result (Lists kind bytes.new.now) }
     ensures none { IfNone result (bytes.new ≡ bytes.old) }
 {
     match first_value(bytes) {
@@ -109,14 +111,15 @@ pub fn take_value(bytes: &mut &[u8]) -> Option<usize>
 /// ```
 ///
 /// A value is passed over. The edges of a branch are numbered as they stand, and a literal is one edge.
-/// Where there is no edge of this number, the answer is `None`, and no byte is left.
+/// If there is no edge of this number, the answer is `None`, and no byte is left.
 ///
 /// It returns on any bytes, and takes no memory.
 #[inline]
 pub fn probe<K: ZeroTrieWithOptions>(bytes: &mut &[u8], index: usize) -> Option<AsciiProbeResult>
     requires { IsAscii K.kind }
     ensures meaning { IsProbe (Lists K.kind bytes.old.now) index
-        (option_map {U = ℕ × ℕ} (λ r. (r.byte, r.total_siblings)) result) (Lists K.kind bytes.new.now) }
+        (option_map {U = ℕ × ℕ} (λ r. (r.byte, r.total_siblings)) result)
+        (Lists K.kind bytes.new.now) }
     ensures empty { IfNone result (bytes.new.now ≡ []) }
 {
     match edge_numbered::<K>(bytes, index) {

@@ -1,6 +1,6 @@
 //! The edges of a trie, by byte and by number.
 //!
-//! A literal is one edge, and so is each byte of a span, which has the rest of the run behind it. A branch
+//! A literal is one edge, and so is each byte of a span, which has the rest of the run after it. A branch
 //! has one edge for each of its targets. A value in front of a node is passed over.
 
 ghost use Rattle.std.specs.Prelude.{◌≡◌, ◌≤◌, ℕ, [], ◌∷◌, IfSome, IfNone, false};
@@ -14,7 +14,7 @@ use crate::branch::folded;
 use crate::node::{Node, first_node};
 use crate::options::ZeroTrieWithOptions;
 
-/// An edge, and what lies behind it: the rest of a run of bytes that all keys go on with, and a trie.
+/// An edge, and what follows it: the rest of a run of bytes that all keys go on with, and a trie.
 #[derive(Clone, Copy)]
 pub struct Along<'a> {
     pub edge: u8,
@@ -92,7 +92,8 @@ pub fn run_edge_numbered<'a>(
     ensures probe { (kind : Kind) → IsProbe (ListsInside kind run.now trie.now) index
         (option_map {U = ℕ × ℕ} (λ r. (r.0.edge, r.1)) result)
         (ListsAt kind (place_along (option_map (λ r. r.0) result))) }
-    ensures run { IfSome result (λ r. (run.now ≡ r.0.edge ∷ r.0.run.now) × (r.0.trie.now ≡ trie.now)) }
+    ensures run { IfSome result (λ r.
+        (run.now ≡ r.0.edge ∷ r.0.run.now) × (r.0.trie.now ≡ trie.now)) }
     ensures few { IfSome result (λ r. r.1 ≤ 256) }
 {
     let (edge, run) = run.split_first()?;

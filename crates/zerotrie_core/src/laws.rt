@@ -54,7 +54,7 @@ pub fn few_nodes()
 {}
 
 /// After steps by the bytes of a front, with no value taken, what is left answers for a key as the whole
-/// does for the front with the key behind it.
+/// does for the front with the key after it.
 pub fn steps_look_ahead()
     ensures pairs { StepsAnswer }
     ensures maps { SuffixAnswers }
@@ -65,7 +65,7 @@ pub fn no_second_value()
     ensures { NoSecondValue }
 {}
 
-/// Steps by a key, in whatever case where case is ignored, answer the bytes of the key as it is stored.
+/// Steps by a key, in whatever case if case is ignored, answer the bytes of the key as it is stored.
 pub fn steps_answer_stored_bytes()
     ensures { StoredBytes }
 {}
@@ -75,7 +75,8 @@ pub fn steps_answer_stored_bytes()
 pub fn listing_is_the_map()
     ensures map { ListsTheMap }
     ensures in_order { (kind : Kind) → IsAscii kind → ListsInOrder kind }
-    ensures by_bytes { (bytes : List ℕ) (pairs : Pairs) → Lists simple_ascii bytes pairs → Ascends pairs }
+    ensures by_bytes { (bytes : List ℕ) (pairs : Pairs) → Lists simple_ascii bytes pairs
+        → Ascends pairs }
 {}
 
 /// Keys that are one to the kind get the same answer: equal ones, and in the kind without case those that differ

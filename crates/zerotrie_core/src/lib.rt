@@ -6,6 +6,7 @@ mod branch;
 mod count;
 mod cursor;
 mod edges;
+mod here;
 mod lanes;
 pub mod laws;
 mod listing;

@@ -3,10 +3,12 @@
 ghost use Rattle.std.specs.Prelude.{◌≡◌, ◌≤◌, length, IfOk, false};
 ghost use Rattle.std.specs.Iterator.{at_most};
 ghost use Rattle.zerotrie_core.specs.Maps.{Pairs, beginning};
+ghost use Rattle.zerotrie_core.specs.Places.{ListsAt};
 ghost use Rattle.zerotrie_core.specs.Texts.{Lists};
 ghost use Rattle.zerotrie_core.specs.declared.listing.ListError.TheVariants.{OutOfMemory};
 
 use crate::options::ZeroTrieWithOptions;
+use crate::span_cursor::SpanCursor;
 use crate::stream::ZeroTrieStream;
 use std::alloc::{AllocError, AllocFailed, Allocator, Global};
 use std::marker::Model;
@@ -79,6 +81,19 @@ impl<'a, A: Allocator + Copy> ZeroTrieIterator<'a, A> {
         ZeroTrieIterator {
             stream: ZeroTrieStream::new::<K>(alloc, bytes),
         }
+    }
+
+    /// The pairs at a cursor, as `ZeroTrieStream::from_cursor` lists them.
+    pub fn from_cursor<K: ZeroTrieWithOptions>(
+        alloc: A,
+        cursor: SpanCursor<'a>,
+    ) -> Result<Self, AllocError>
+        ensures { IfOk result (λ it.
+            (pairs : Pairs) → ListsAt K.kind cursor.entry pairs → it ≡ to_come pairs) }
+    {
+        Ok(ZeroTrieIterator {
+            stream: ZeroTrieStream::from_cursor::<K>(alloc, cursor)?,
+        })
     }
 
     /// The pairs whose keys begin with a prefix, as `ZeroTrieStream::with_prefix` lists them.

@@ -11,7 +11,7 @@ use crate::branch::Branch;
 use crate::options::ZeroTrieWithOptions;
 use crate::varint::read_varint_meta3;
 
-/// A node, and what lies behind it.
+/// A node, and what follows it.
 pub enum Node<'a> {
     /// A value, and what follows it.
     Value(usize, &'a [u8]),
@@ -23,7 +23,7 @@ pub enum Node<'a> {
     Branch(Branch<'a>),
 }
 
-/// The head of a branch, and what stands behind it.
+/// The head of a branch, and what follows it.
 ///
 /// It has one byte or two: a longer one gives a width that no kind has.
 #[inline(always)]
@@ -53,8 +53,8 @@ fn greatest_width<K: ZeroTrieWithOptions>() -> usize
     if K::EXTENDED { 7 } else { 3 }
 }
 
-/// The search table of a branch of so many edges, and all bytes from the edges on, where the bytes have all of
-/// the table and so many more.
+/// Splits off the search table of a branch. Returns it and all bytes from the first edge on; `None` if the bytes are
+/// shorter than the table and `more`.
 ///
 /// Each form of a table has a path of its own, so that where the edges lie needs no arithmetic on their number.
 #[inline(always)]
@@ -88,12 +88,13 @@ fn table_in<K: ZeroTrieWithOptions>(
     }
 }
 
-/// How many edges a branch has, how many bytes an offset has, and what stands behind its head, where this has one
+/// How many edges a branch has, how many bytes an offset has, and what follows its head, if this has one
 /// byte, or two of which the second alone tells the edges, as most have.
 #[inline(always)]
 fn read_plain_head(lead: u8, rest: &[u8]) -> Option<(usize, usize, &[u8])>
     requires { 192 ≤ lead }
-    ensures begins { IfSome result (λ r. BeginsWith 32 3 (256 * (r.1 - 1) + r.0 % 256) (lead ∷ rest.now) r.2.now) }
+    ensures begins { IfSome result (λ r.
+        BeginsWith 32 3 (256 * (r.1 - 1) + r.0 % 256) (lead ∷ rest.now) r.2.now) }
     ensures edges { IfSome result (λ r. (2 ≤ r.0) × (r.0 ≤ 256)) }
     ensures width { IfSome result (λ r. 1 ≤ r.1) }
 {
@@ -111,14 +112,15 @@ fn read_plain_head(lead: u8, rest: &[u8]) -> Option<(usize, usize, &[u8])>
     }
 }
 
-/// The branch of so many edges, whose offsets have so many bytes, where what stands behind its head has all its table
-/// and offsets.
+/// The branch with this number of edges and of bytes an offset. `None` if the bytes after its head are shorter than its
+/// table and offsets.
 #[inline(always)]
 fn branch_in<K: ZeroTrieWithOptions>(edges: usize, width: usize, body: &[u8]) -> Option<Branch<'_>>
     requires edges { (1 ≤ edges) × (edges ≤ 256) }
     requires width { 1 ≤ width }
     ensures some { IfSome result (λ b. (bytes : List ℕ)
-        → BeginsWith 32 3 (256 * (width - 1) + edges % 256) bytes body.now → Begins K.kind bytes (branch_shape b)) }
+        → BeginsWith 32 3 (256 * (width - 1) + edges % 256) bytes body.now
+        → Begins K.kind bytes (branch_shape b)) }
     ensures none { IfNone result ((bytes table behind : List ℕ) (e w : ℕ)
         → BeginsWith 32 3 (256 * (width - 1) + edges % 256) bytes body.now
         → BeginsBranch K.kind bytes e w table behind → ⊥) }
@@ -135,7 +137,7 @@ fn branch_in<K: ZeroTrieWithOptions>(edges: usize, width: usize, body: &[u8]) ->
     })
 }
 
-/// The branch that begins with a lead, where the bytes behind it have all its table and offsets.
+/// The branch that begins with a lead, if the bytes after it have all its table and offsets.
 #[inline(always)]
 fn branch_at<K: ZeroTrieWithOptions>(lead: u8, rest: &[u8]) -> Option<Branch<'_>>
     requires { 192 ≤ lead }
@@ -151,7 +153,7 @@ fn branch_at<K: ZeroTrieWithOptions>(lead: u8, rest: &[u8]) -> Option<Branch<'_>
     branch_in::<K>(edges, head / 256 + 1, body)
 }
 
-/// The run of the span that begins with a lead, and what follows it, where the bytes have all of the run.
+/// The run of the span that begins with a lead, and what follows it, if the bytes have all of the run.
 #[inline(always)]
 fn span_at(lead: u8, rest: &[u8]) -> Option<(&[u8], &[u8])>
     requires { (160 ≤ lead) × (lead < 192) }
@@ -166,7 +168,7 @@ fn span_at(lead: u8, rest: &[u8]) -> Option<(&[u8], &[u8])>
     Some(behind.split_at(len))
 }
 
-/// The first node of the bytes. `None` exactly where no node of the kind begins.
+/// The first node of the bytes. `None` exactly if no node of the kind begins.
 #[inline(always)]
 pub fn first_node<K: ZeroTrieWithOptions>(bytes: &[u8]) -> Option<Node<'_>>
     ensures some { IfSome result (λ node. Begins K.kind bytes.now (shape node)) }

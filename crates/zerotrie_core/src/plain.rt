@@ -85,9 +85,12 @@ fn push_run(
     requires ascii { AsciiKeys (pairs_from depth items.now) }
     ensures within { IfOk result (λ r. r.0 ≤ length items.now) }
     ensures deep { IfOk result (λ r. Deep (r.1 + 1) (drop r.0 items.now)) }
-    ensures leads { IfOk result (λ r. Leads out.old.items (pairs_from depth items.now) out.new.items (pairs_from r.1 (drop r.0 items.now))) }
+    ensures leads { IfOk result (λ r.
+        Leads out.old.items (pairs_from depth items.now) out.new.items
+        (pairs_from r.1 (drop r.0 items.now))) }
     ensures room { IfOk result (λ r. r.0 < length items.now → r.1 + 1 < 2 ^ 64) }
-    ensures branching { IfOk result (λ r. r.0 < length items.now → IsBranching (pairs_from r.1 (drop r.0 items.now))) }
+    ensures branching { IfOk result (λ r.
+        r.0 < length items.now → IsBranching (pairs_from r.1 (drop r.0 items.now))) }
     ensures err { IfErr result (λ e. e ≡ ZeroTrieBuildError.OutOfMemory) }
 {
     let mut at = 0;
@@ -155,7 +158,7 @@ fn encode(
 /// ```
 ///
 /// Each item is a key, of bytes, and its value. The text is the canonical one: no other bytes mean the
-/// map of the items. For no items it has no bytes. A value stands behind its key, in one to ten bytes,
+/// map of the items. For no items it has no bytes. A value stands after its key, in one to ten bytes,
 /// and a byte that all keys have in common there stands for itself. Where keys part there is a branch: a
 /// head that tells the number of edges and the width of an offset, the edges in ascending order, where
 /// each target but the first begins, in bytes from the first one on, and the targets.
@@ -165,7 +168,7 @@ fn encode(
 ///
 /// # Errors
 ///
-/// - `Unsorted`: the keys are not strictly ascending by their bytes, as where one comes twice.
+/// - `Unsorted`: the keys are not strictly ascending by their bytes, as if one comes twice.
 /// - `NonAsciiError`: the keys ascend, and one has a byte of 128 or more.
 /// - `CapacityExceeded`: else, if the targets of a branch together have 2^32 bytes or more, past what an
 ///   offset of four bytes reaches.

@@ -96,7 +96,8 @@ fn next_front(
 ) -> Option<(usize, usize)>
     requires { len.old ≤ length text.now }
     ensures inside { len.new ≤ length text.now }
-    ensures next { NextFront (along (kind_with options) cursor.old text.now len.old looked.old) result
+    ensures next { NextFront (along (kind_with options) cursor.old text.now len.old looked.old)
+        result
         (along (kind_with options) cursor.new text.now len.new looked.new) }
     ensures less { IfSome result (λ _. (len.old ≤ len.new) × (looked.new ≡ true)
         × (looked.old ≡ true → len.old < len.new)) }

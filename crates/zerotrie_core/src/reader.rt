@@ -2,7 +2,7 @@
 //!
 //! The look-up goes from node to node with the key in hand. It passes over value nodes until the key is used
 //! up, and then a value node is its answer. A literal has to be the next byte of the key, a span the next
-//! bytes, and a branch leads on by the next byte; where the kind ignores case, an ASCII letter is the same
+//! bytes, and a branch leads on by the next byte; if the kind ignores case, an ASCII letter is the same
 //! byte in either case. Bytes that are no trie get some answer, and nothing outside them is read.
 
 ghost use Rattle.std.specs.Prelude.{◌≡◌, ℕ, ◌+◌, ◌<◌, ◌≤◌, length, IsTrue};
@@ -21,7 +21,7 @@ use crate::options::ZeroTrieWithOptions;
 enum Descent<'a> {
     /// The look-up ends with this answer.
     Answer(Option<usize>),
-    /// It goes on in these bytes, with this rest of the key, so many nodes further.
+    /// The look-up goes on in these bytes, with this rest of the key, after this number of nodes.
     Down(&'a [u8], &'a [u8], usize),
 }
 
@@ -30,7 +30,7 @@ const LONGEST_VALUE: usize = 10;
 
 /// How many literals the bytes begin with that the key goes on with, where both are long: not always all of them.
 ///
-/// They are compared sixteen at a time. Where these are all the same, it goes on behind them and waits for no number;
+/// They are compared sixteen at a time. If these are all the same, it goes on after them and waits for no number;
 /// in the end come the last sixteen, some of which may have been compared before.
 #[inline(always)]
 fn common_by_sixteens<K: ZeroTrieWithOptions>(bytes: &[u8], key: &[u8]) -> usize
@@ -56,7 +56,7 @@ fn common_by_sixteens<K: ZeroTrieWithOptions>(bytes: &[u8], key: &[u8]) -> usize
     if more < 16 { last + more } else { most }
 }
 
-/// Whether sixteen bytes are literals and those of the key, at a place or at the last place where there are sixteen.
+/// Whether sixteen bytes are literals and those of the key, at a place, or at the last one with sixteen bytes.
 #[inline(always)]
 fn are_same_at(bytes: &[u8], key: &[u8], place: usize, last: usize) -> bool
     requires bytes { last + 16 ≤ length bytes.now }
@@ -107,7 +107,7 @@ fn are_all_same(bytes: &[u8], key: &[u8]) -> bool
 
 /// How many literals the bytes begin with that the key goes on with, where both are long: not always all of them.
 ///
-/// Where no more than a value can lie behind as many bytes as the key has, they are as a rule the key's end, and
+/// If no more than a value can follow as many bytes as the key has, they are as a rule the key's end, and
 /// all of it is compared at once. It stays a call, as few runs are so long, and a look-up is expanded wherever it is
 /// called: with this code in it, the compiler would find it too large for that.
 #[inline(never)]
@@ -127,8 +127,8 @@ fn common_in_long<K: ZeroTrieWithOptions>(bytes: &[u8], key: &[u8]) -> usize
 
 /// How many literals the bytes begin with that the key goes on with: not always all of them.
 ///
-/// Where both are long, so is as a rule the run, and it is compared sixteen at a time. As this tells letters of either
-/// case apart, where case is ignored and the first ones differ so, they are compared one by one.
+/// If both are long, so is as a rule the run, and it is compared sixteen at a time. As this tells letters of either
+/// case apart, if case is ignored and the first ones differ so, they are compared one by one.
 #[inline(always)]
 fn common_literals<K: ZeroTrieWithOptions>(bytes: &[u8], key: &[u8]) -> usize
     ensures { AreCommon K.kind bytes.now key.now result }
@@ -150,7 +150,7 @@ fn common_literals<K: ZeroTrieWithOptions>(bytes: &[u8], key: &[u8]) -> usize
     passed
 }
 
-/// Goes behind one node.
+/// Goes on after one node.
 #[inline(always)]
 fn descend<'a, K: ZeroTrieWithOptions>(node: Node<'a>, key: &'a [u8]) -> Descent<'a>
     ensures { Descends K.kind (shape node.entry) key.now result }
@@ -217,7 +217,8 @@ fn descend<'a, K: ZeroTrieWithOptions>(node: Node<'a>, key: &'a [u8]) -> Descent
 #[inline(always)]
 pub fn get_counted<K: ZeroTrieWithOptions>(bytes: &[u8], key: &[u8]) -> (Option<usize>, usize)
     ensures value { (m : Map) → Means K.kind bytes.now m → result.0 ≡ look K.kind m key.now }
-    ensures count { (m : Map) (means : Means K.kind bytes.now m) → result.1 ≡ nodes means.lists key.now }
+    ensures count { (m : Map) (means : Means K.kind bytes.now m)
+        → result.1 ≡ nodes means.lists key.now }
 {
     let mut trie = bytes;
     let mut key = key;

@@ -27,7 +27,7 @@ pub struct ByteProbeResult {
 /// It stands between two bytes of a key, which may be inside the run of a span. Then the rest of the run is
 /// one edge after another, with no value between them.
 ///
-/// It keeps two slices of the store, the rest of the run and the trie behind it, and takes no memory.
+/// It keeps two slices of the store, the rest of the run and the trie after it, and takes no memory.
 #[derive(Clone, Debug, Drop)]
 pub struct SpanCursor<'a> {
     run: &'a [u8],
@@ -42,7 +42,7 @@ impl<'a> Model for SpanCursor<'a> {
     ghost view = { λ c. record { run = c.run.now; trie = c.trie.now } };
 }
 
-/// The edge that is the byte to the kind, behind a run and a trie.
+/// The edge that is the byte to the kind, if a run and then a trie are left.
 #[inline(always)]
 fn like_at<'a, K: ZeroTrieWithOptions>(run: &'a [u8], trie: &'a [u8], byte: u8) -> Option<Along<'a>>
     ensures step { IsStep K.kind (ListsBehind K.kind run.now trie.now) byte
@@ -57,7 +57,7 @@ fn like_at<'a, K: ZeroTrieWithOptions>(run: &'a [u8], trie: &'a [u8], byte: u8) 
     }
 }
 
-/// The edge of this number, and how many edges there are, behind a run and a trie.
+/// The edge of this number, and how many edges there are, if a run and then a trie are left.
 #[inline(always)]
 fn numbered_at<'a, K: ZeroTrieWithOptions>(
     run: &'a [u8],
@@ -79,7 +79,7 @@ fn numbered_at<'a, K: ZeroTrieWithOptions>(
 }
 
 impl<'a> SpanCursor<'a> {
-    /// A cursor behind an edge.
+    /// A cursor after an edge.
     #[inline(always)]
     fn behind(along: Along<'a>) -> Self
         ensures { result ≡ record { run = along.entry.run.now; trie = along.entry.trie.now } }
@@ -101,7 +101,7 @@ impl<'a> SpanCursor<'a> {
         }
     }
 
-    /// A cursor in front of a run, each byte of which is an edge, and of the trie behind it.
+    /// A cursor in front of a run, each byte of which is an edge, and of the trie after it.
     #[inline]
     pub fn from_parts(run: &'a [u8], trie: &'a [u8]) -> Self
         ensures { result ≡ record { run = run.now; trie = trie.now } }
@@ -109,7 +109,7 @@ impl<'a> SpanCursor<'a> {
         SpanCursor { run, trie }
     }
 
-    /// The rest of the run that the cursor stands in, which is empty outside of spans, and the trie behind it.
+    /// The rest of the run that the cursor stands in, which is empty outside of spans, and the trie after it.
     #[inline]
     pub fn parts(&self) -> (&'a [u8], &'a [u8])
         ensures run { result.0.now ≡ self.now.run }
@@ -143,10 +143,11 @@ impl<'a> SpanCursor<'a> {
         }
     }
 
-    /// Takes the value of the empty key. `None` where there is none, and then nothing changes.
+    /// Takes the value of the empty key. `None` if there is none, and then nothing changes.
     #[inline]
     pub fn take_value(&mut self) -> Option<usize>
-        ensures meaning { (kind : Kind) → IsTake kind (ListsAt kind self.old) result (ListsAt kind self.new) }
+        ensures meaning { (kind : Kind)
+            → IsTake kind (ListsAt kind self.old) result (ListsAt kind self.new) }
         ensures run { self.new.run ≡ self.old.run }
         ensures none { IfNone result (self.new ≡ self.old) }
     {
@@ -160,7 +161,8 @@ impl<'a> SpanCursor<'a> {
     /// Goes along the edge that is the byte to the kind, and answers its byte.
     #[inline(always)]
     pub fn step<K: ZeroTrieWithOptions>(&mut self, byte: u8) -> Option<u8>
-        ensures meaning { IsStep K.kind (ListsAt K.kind self.old) byte result (ListsAt K.kind self.new) }
+        ensures meaning { IsStep K.kind (ListsAt K.kind self.old) byte result
+            (ListsAt K.kind self.new) }
         ensures run { IfSome result (λ edge. FollowsRun K.kind self.old edge self.new) }
         ensures empty { IfNone result (self.new ≡ nowhere) }
     {
@@ -180,7 +182,8 @@ impl<'a> SpanCursor<'a> {
     #[inline]
     pub fn probe<K: ZeroTrieWithOptions>(&mut self, index: usize) -> Option<ByteProbeResult>
         ensures meaning { IsProbe (ListsAt K.kind self.old) index
-            (option_map {U = ℕ × ℕ} (λ r. (r.byte, r.total_siblings)) result) (ListsAt K.kind self.new) }
+            (option_map {U = ℕ × ℕ} (λ r. (r.byte, r.total_siblings)) result)
+            (ListsAt K.kind self.new) }
         ensures run { IfSome result (λ r. FollowsRun K.kind self.old r.byte self.new) }
         ensures empty { IfNone result (self.new ≡ nowhere) }
     {

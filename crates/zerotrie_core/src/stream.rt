@@ -4,26 +4,30 @@
 //! branches that still have targets to come, the innermost one beside the others; it never calls itself, so texts of any
 //! depth are listed.
 
-ghost use Rattle.std.specs.Prelude.{◌≡◌, ◌≤◌, ◌<◌, ◌∷◌, List, ℕ, length, reverse, slice_index, IfOk, OnOk, IfSome, IsTrue, true, false, []};
+ghost use Rattle.std.specs.Prelude.{◌≡◌, ◌≤◌, ◌<◌, ◌∷◌, List, ℕ, length, reverse, slice_index, IfOk, OnOk, IfSome, IfNone, IsTrue, true, false, []};
 ghost use Rattle.std.specs.Option.{option_map};
 ghost use Rattle.zerotrie_core.specs.Kind.{Kind, kind_with};
 ghost use Rattle.zerotrie_core.specs.Maps.{Pairs, with_run, beginning};
 ghost use Rattle.zerotrie_core.specs.Texts.{Lists};
 ghost use Rattle.zerotrie_core.specs.Places.{ListsAt};
-ghost use Rattle.zerotrie_core.specs.Shapes.{shape};
+ghost use Rattle.zerotrie_core.specs.Shapes.{shape, branch_shape};
 ghost use Rattle.zerotrie_core.specs.listing.Listed.{node_of};
 ghost use Rattle.zerotrie_core.specs.Nodes.{Begins};
 ghost use Rattle.zerotrie_core.specs.declared.stream.opened.OpenBranch.{OpenBranch};
 ghost use Rattle.zerotrie_core.specs.listing.Runs.{MovesLiterals};
 ghost use Rattle.zerotrie_core.specs.listing.Opened.{IsOpen, Nested, Stands, pairs_left, pairs_open, work_open, work_left, IsFound};
+ghost use Rattle.zerotrie_core.specs.listing.Passed.{IsBehind, IsAfterEdge, IsAfterFront, IsPast, GoesInto};
+ghost use Rattle.zerotrie_core.specs.reader.Going.{AlwaysStops};
 
 mod opened;
 
+use crate::branch::{Branch, folded};
+use crate::here::Here;
 use crate::lanes::first_other_in_16;
 use crate::node::{Node, first_node};
 use crate::options::{Ext, Hash, Ignore, Simple, ZeroTrieBuilderOptions, ZeroTrieWithOptions};
 use crate::span_cursor::SpanCursor;
-use opened::{Here, OpenBranch};
+use opened::OpenBranch;
 use std::alloc::{AllocError, Allocator, Global};
 use std::marker::Model;
 
@@ -131,7 +135,7 @@ impl<'a, A: Allocator> ZeroTrieStream<'a, A> {
 }
 
 impl<'a, A: Allocator + Copy> ZeroTrieStream<'a, A> {
-    ghost use Rattle.zerotrie_core.specs.Listings.{to_come};
+    ghost use Rattle.zerotrie_core.specs.Listings.{to_come, rest_after};
 
     /// The pairs of these bytes. It takes no memory before the first call of `advance`.
     pub fn new<K: ZeroTrieWithOptions>(alloc: A, bytes: &'a [u8]) -> Self
@@ -157,25 +161,44 @@ impl<'a, A: Allocator + Copy> ZeroTrieStream<'a, A> {
         Vec::from_slice(*self.key.allocator(), self.key.as_slice())
     }
 
-    /// The pairs at a cursor, each key with these bytes in front of it.
-    fn behind<K: ZeroTrieWithOptions>(
-        mut front: Vec<u8, A>,
-        cursor: SpanCursor<'a>,
-    ) -> Result<Self, AllocError>
-        ensures { IfOk result (λ s. (pairs : Pairs) → ListsAt K.kind cursor.entry pairs
-            → s.left ≡ to_come (with_run front.items pairs)) }
+    /// The pairs of these bytes, each key with a front before it.
+    fn behind<K: ZeroTrieWithOptions>(front: Vec<u8, A>, bytes: &'a [u8]) -> Self
+        ensures { (pairs : Pairs) → Lists K.kind bytes.now pairs
+            → result.left ≡ to_come (with_run front.items pairs) }
     {
-        let (run, rest) = cursor.parts();
-        front.extend_from_slice(run)?;
-        Ok(ZeroTrieStream {
+        ZeroTrieStream {
             options: ZeroTrieBuilderOptions::of::<K>(),
-            here: Here::at(rest),
+            here: Here::at(bytes),
             branches: Vec::new(*front.allocator()),
             key: front,
             value: 0,
             top: OpenBranch::closed(),
             ended: false,
-        })
+        }
+    }
+
+    /// The pairs at a cursor, wherever it stands: what all keys have from there on.
+    ///
+    /// ```
+    /// let mut cursor = SpanCursor::new(b"a\xA2\xC3\xA5\x85");     // the key "aå" with value 5
+    /// cursor.step::<Hash>(b'a');
+    /// cursor.step::<Hash>(0xC3);
+    /// let mut pairs = ZeroTrieStream::from_cursor::<Hash>(rt.alloc(), cursor)?;
+    /// assert!(rt; pairs.advance()?);
+    /// assert_eq!(rt; (pairs.key(), pairs.value()), (b"\xA5".as_slice(), 5));
+    /// ```
+    ///
+    /// It takes memory only inside a span, whose rest is the front of each key.
+    pub fn from_cursor<K: ZeroTrieWithOptions>(
+        alloc: A,
+        cursor: SpanCursor<'a>,
+    ) -> Result<Self, AllocError>
+        ensures { IfOk result (λ s. (pairs : Pairs) → ListsAt K.kind cursor.entry pairs → s.left ≡ to_come pairs) }
+    {
+        let (run, rest) = cursor.parts();
+        let mut front = Vec::new(alloc);
+        front.extend_from_slice(run)?;
+        Ok(ZeroTrieStream::behind::<K>(front, rest))
     }
 
     /// The pairs whose keys begin with a prefix, as the kind compares bytes; each with its whole key, and in the order
@@ -198,16 +221,189 @@ impl<'a, A: Allocator + Copy> ZeroTrieStream<'a, A> {
         ensures { IfOk result (λ s. (pairs : Pairs) → Lists K.kind bytes.now pairs
             → s.left ≡ to_come (beginning K.kind prefix.now pairs)) }
     {
-        let mut front = Vec::new(alloc);
-        let mut cursor = SpanCursor::new(bytes);
-        for byte in prefix {
-            let Some(edge) = cursor.step::<K>(*byte) else {
-                return Ok(ZeroTrieStream::new::<K>(alloc, &[]));
-            };
-            front.push(edge)?;
+        match down_to::<K, A>(alloc, bytes, prefix)? {
+            Some((front, rest)) => Ok(ZeroTrieStream::behind::<K>(front, rest)),
+            None => Ok(ZeroTrieStream::new::<K>(alloc, &[])),
         }
-        ZeroTrieStream::behind::<K>(front, cursor)
     }
+
+    /// The pairs of these bytes that stand after a key, each key with a front before it. `None` if no pair has the key.
+    fn past<K: ZeroTrieWithOptions>(
+        front: Vec<u8, A>,
+        bytes: &'a [u8],
+        sought: &[u8],
+    ) -> Result<Option<Self>, AllocError>
+        ensures { IfOk result (λ s. (pairs : Pairs) → Lists K.kind bytes.now pairs
+            → IsPast K.kind sought.now (with_run front.items pairs) (option_map (λ s. s.left) s)) }
+    {
+        let Some(mut left) = after_front::<K>(front.as_slice(), sought) else {
+            return Ok(None);
+        };
+        let mut at = Here::at(bytes);
+        let mut top = OpenBranch::closed();
+        let mut branches = Vec::new(*front.allocator());
+        let mut key = front;
+        loop {
+            match node_at::<K>(at.rest) {
+                None => return Ok(None),
+                Some(Node::Value(value, after)) => {
+                    at = at.behind(after);
+                    if left.is_empty() {
+                        return Ok(Some(ZeroTrieStream {
+                            options: ZeroTrieBuilderOptions::of::<K>(),
+                            here: at,
+                            key,
+                            value,
+                            top,
+                            branches,
+                            ended: false,
+                        }));
+                    }
+                }
+                Some(Node::Literal(edge, after)) => {
+                    let Some(more) = after_edge::<K>(edge, left) else {
+                        return Ok(None);
+                    };
+                    key.push(edge)?;
+                    at = at.behind(after);
+                    left = more;
+                }
+                Some(Node::Span(run, after)) => {
+                    if !left.starts_with(run) {
+                        return Ok(None);
+                    }
+                    key.extend_from_slice(run)?;
+                    at = at.behind(after);
+                    left = left.split_at(run.len()).1;
+                }
+                Some(Node::Branch(branch)) => {
+                    let Some((byte, more)) = left.split_first() else {
+                        return Ok(None);
+                    };
+                    match open_at::<K, A>(at, branch, *byte, &mut key, &mut top, &mut branches)? {
+                        Some(target) => at = target,
+                        None => return Ok(None),
+                    }
+                    left = more;
+                }
+            }
+        }
+    }
+
+    /// The pairs that stand after a key in the listing of a prefix; with the empty prefix, in that of all pairs. There are
+    /// none if no key of that listing is this one to the kind.
+    ///
+    /// ```
+    /// let bytes = b"a\x81b\x82c\x83";           // the keys "a" with value 1, "ab" with value 2 and "abc" with value 3
+    /// let mut pairs = ZeroTrieStream::after::<Simple>(rt.alloc(), bytes, b"", b"ab")?;
+    /// assert!(rt; pairs.advance()?);
+    /// assert_eq!(rt; pairs.key(), b"abc".as_slice());
+    /// assert!(rt; !pairs.advance()?);
+    /// ```
+    ///
+    /// So a listing that was left can be taken up again with the last key that it gave. It costs as much as a look-up of
+    /// this key, and goes over no pair before it.
+    pub fn after<K: ZeroTrieWithOptions>(
+        alloc: A,
+        bytes: &'a [u8],
+        prefix: &[u8],
+        key: &[u8],
+    ) -> Result<Self, AllocError>
+        ensures { IfOk result (λ s. (pairs : Pairs) → Lists K.kind bytes.now pairs
+            → s.left ≡ to_come (rest_after K.kind key.now (beginning K.kind prefix.now pairs))) }
+    {
+        let Some((front, rest)) = down_to::<K, A>(alloc, bytes, prefix)? else {
+            return Ok(ZeroTrieStream::new::<K>(alloc, &[]));
+        };
+        match ZeroTrieStream::past::<K>(front, rest, key)? {
+            Some(stream) => Ok(stream),
+            None => Ok(ZeroTrieStream::new::<K>(alloc, &[])),
+        }
+    }
+}
+
+/// The bytes after a prefix, as the kind compares bytes, and what stands in front of them. `None` if no key begins with
+/// the prefix. If it ends inside a span, all of the span stands in front.
+fn down_to<'a, K: ZeroTrieWithOptions, A: Allocator>(
+    alloc: A,
+    bytes: &'a [u8],
+    prefix: &[u8],
+) -> Result<Option<(Vec<u8, A>, &'a [u8])>, AllocError>
+    ensures { IfOk result (λ r. (pairs : Pairs) → Lists K.kind bytes.now pairs
+        → IsBehind K.kind (beginning K.kind prefix.now pairs)
+        (option_map {U = List ℕ × List ℕ} (λ r. (r.0.items, r.1.now)) r)) }
+{
+    let mut front = Vec::new(alloc);
+    let mut cursor = SpanCursor::new(bytes);
+    for byte in prefix {
+        let Some(edge) = cursor.step::<K>(*byte) else {
+            return Ok(None);
+        };
+        front.push(edge)?;
+    }
+    let (run, rest) = cursor.parts();
+    front.extend_from_slice(run)?;
+    Ok(Some((front, rest)))
+}
+
+/// What a key has after a front, as the kind compares bytes. `None` if it does not begin with all of it.
+fn after_front<'k, K: ZeroTrieWithOptions>(front: &[u8], key: &'k [u8]) -> Option<&'k [u8]>
+    ensures { IsAfterFront K.kind front.now key.now (option_map (λ left. left.now) result) }
+{
+    let mut left = key;
+    for edge in front {
+        left = after_edge::<K>(*edge, left)?;
+    }
+    Some(left)
+}
+
+/// What a key has after an edge, as the kind compares bytes. `None` if it does not begin with it.
+#[inline(always)]
+fn after_edge<'k, K: ZeroTrieWithOptions>(edge: u8, key: &'k [u8]) -> Option<&'k [u8]>
+    ensures { IsAfterEdge K.kind edge key.now (option_map (λ left. left.now) result) }
+{
+    let (byte, left) = key.split_first()?;
+    if folded::<K>(edge) == folded::<K>(*byte) {
+        Some(left)
+    } else {
+        None
+    }
+}
+
+/// Opens a branch with which the rest begins, after the edge that is the byte to the kind, and goes into its target.
+/// `None` if no edge is.
+fn open_at<'a, K: ZeroTrieWithOptions, A: Allocator>(
+    here: Here<'a>,
+    branch: Branch<'a>,
+    byte: u8,
+    key: &mut Vec<u8, A>,
+    top: &mut OpenBranch<'a>,
+    branches: &mut Vec<OpenBranch<'a>, A>,
+) -> Result<Option<Here<'a>>, AllocError>
+    requires begins { Begins K.kind here.rest.now (branch_shape branch) }
+    requires stands { Stands (length key.old.items) top.old (reverse branches.old.items) }
+    ensures stands { IfOk result (λ target. IfSome target
+        (λ _. Stands (length key.new.items) top.new (reverse branches.new.items))) }
+    ensures shorter { IfOk result (λ target. IfSome target
+        (λ t. length t.rest.now < length here.entry.rest.now)) }
+    ensures goes { IfOk result (λ target. IfSome target (λ t. GoesInto K.kind (branch_shape branch.entry) byte
+        here.entry.rest.now key.old.items (top.old ∷ reverse branches.old.items)
+        t.rest.now key.new.items (top.new ∷ reverse branches.new.items))) }
+    ensures stops { IfOk result (λ target. IfNone target
+        (AlwaysStops K.kind (branch_shape branch.entry) byte)) }
+{
+    let Some(place) = branch.place_of::<K>(byte) else {
+        return Ok(None);
+    };
+    let mut inner = OpenBranch::new(here, branch, key.len()).at_edge(place);
+    let Some(target) = inner.target() else {
+        return Ok(None);
+    };
+    inner.begin += target.rest.len();
+    inner.next += 1;
+    open(inner, top, branches)?;
+    key.push(branch.edge_at(place))?;
+    Ok(Some(target))
 }
 
 /// Moves literals from the rest to the end of the key, of which there is at least one: all that stand there, but at most
@@ -303,9 +499,8 @@ fn open<'a, A: Allocator>(
     branches: &mut Vec<OpenBranch<'a>, A>,
 ) -> Result<(), AllocError>
     ensures inner { OnOk result (top.new ≡ inner.entry) }
-    ensures stands { OnOk result ((prefix : List ℕ) → Stands (length prefix) top.old (reverse branches.old.items)
-        → inner.entry.depth ≡ length prefix → inner.entry.next < inner.entry.edges → inner.entry.begin ≡ 0 → inner.entry.next ≡ 0
-        → Stands (length prefix) inner.entry (reverse branches.new.items)) }
+    ensures around { OnOk result ((depth : ℕ) → Stands depth top.old (reverse branches.old.items)
+        → Nested depth (reverse branches.new.items)) }
     ensures same { OnOk result ((kind : Kind) (prefix : List ℕ) → Stands (length prefix) top.old (reverse branches.old.items)
         → pairs_open kind prefix (reverse branches.new.items) ≡ pairs_open kind prefix (top.old ∷ reverse branches.old.items)) }
     ensures less { OnOk result (work_open (reverse branches.new.items) ≤ work_open (top.old ∷ reverse branches.old.items)) }

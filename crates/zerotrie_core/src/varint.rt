@@ -2,7 +2,7 @@
 //!
 //! A number is a lead byte and trail bytes. The lead has metadata on top, then a bit that says whether a
 //! byte follows, then the first bits of the value; a trail byte has such a bit and seven bits of the value.
-//! With each further byte the values go on where the shorter spellings end, so each number below 2^64 has
+//! With each further byte the values go on after those of the shorter spellings, so each number below 2^64 has
 //! one spelling. It has at most ten bytes.
 //!
 //! | Form | Metadata | Value bits of the lead | Used for |
@@ -19,8 +19,10 @@ use arrayvec::ArrayVec;
 #[inline(always)]
 fn read_number(latent: u8, start: u8, rest: &[u8]) -> Option<(usize, &[u8])>
     requires { (latent ≡ 16) ⊎ (latent ≡ 32) }
-    ensures found { IfSome result (λ r. BeginsWith latent (start / (2 * latent)) r.0 (start ∷ rest.now) r.1.now) }
-    ensures none { IfNone result ((metadata v : ℕ) (after : List ℕ) → BeginsWith latent metadata v (start ∷ rest.now) after → ⊥) }
+    ensures found { IfSome result (λ r.
+        BeginsWith latent (start / (2 * latent)) r.0 (start ∷ rest.now) r.1.now) }
+    ensures none { IfNone result ((metadata v : ℕ) (after : List ℕ)
+        → BeginsWith latent metadata v (start ∷ rest.now) after → ⊥) }
 {
     let mut value = (start % latent) as usize;
     if start / latent % 2 == 0 {
@@ -37,33 +39,35 @@ fn read_number(latent: u8, start: u8, rest: &[u8]) -> Option<(usize, &[u8])>
     None
 }
 
-/// Reads a number with three bits of metadata, which are ignored: the number, and the bytes behind it.
+/// Reads a number with three bits of metadata, which are ignored: the number, and the bytes after it.
 ///
 /// ```
 /// assert_eq!(rt; read_varint_meta3(0x10, &[0x00, 0x85]), Some((16, [0x85].as_slice())));
 /// ```
 ///
-/// `None` exactly where no front of `start` and `rest` spells a number below 2^64: the bytes end too soon,
+/// `None` exactly if no front of `start` and `rest` spells a number below 2^64: the bytes end too soon,
 /// or the number is too large.
 #[inline]
 pub fn read_varint_meta3(start: u8, rest: &[u8]) -> Option<(usize, &[u8])>
     ensures found { IfSome result (λ r. BeginsWith 16 (start / 32) r.0 (start ∷ rest.now) r.1.now) }
-    ensures none { IfNone result ((metadata v : ℕ) (after : List ℕ) → BeginsWith 16 metadata v (start ∷ rest.now) after → ⊥) }
+    ensures none { IfNone result ((metadata v : ℕ) (after : List ℕ)
+        → BeginsWith 16 metadata v (start ∷ rest.now) after → ⊥) }
 {
     read_number(16, start, rest)
 }
 
-/// Reads a number with two bits of metadata, which are ignored: the number, and the bytes behind it.
+/// Reads a number with two bits of metadata, which are ignored: the number, and the bytes after it.
 ///
 /// ```
 /// assert_eq!(rt; read_varint_meta2(0x20, &[0x44]), Some((100, [].as_slice())));
 /// ```
 ///
-/// `None` exactly where no front of `start` and `rest` spells a number below 2^64.
+/// `None` exactly if no front of `start` and `rest` spells a number below 2^64.
 #[inline]
 pub fn read_varint_meta2(start: u8, rest: &[u8]) -> Option<(usize, &[u8])>
     ensures found { IfSome result (λ r. BeginsWith 32 (start / 64) r.0 (start ∷ rest.now) r.1.now) }
-    ensures none { IfNone result ((metadata v : ℕ) (after : List ℕ) → BeginsWith 32 metadata v (start ∷ rest.now) after → ⊥) }
+    ensures none { IfNone result ((metadata v : ℕ) (after : List ℕ)
+        → BeginsWith 32 metadata v (start ∷ rest.now) after → ⊥) }
 {
     read_number(32, start, rest)
 }

@@ -1,22 +1,26 @@
 //! The test of bytes: whether they are a trie at all.
 //!
-//! It goes over the nodes as a look-up does, in one call for all of a text but the shorter targets of a branch:
-//! each of those has a call of its own, and with the longest one the call itself goes on. A shorter target has
-//! less than half of the bytes, so few calls are open at once, and no memory is taken.
+//! It goes over the nodes as a look-up does, in one call for all of a text but the shorter targets of a branch: each of
+//! those that is more than a leaf has a call of its own, and with the longest one the call itself goes on. A shorter target
+//! has less than half of the bytes, so few calls are open at once, and no memory is taken.
 
 ghost use Rattle.std.specs.Prelude.{◌≡◌, ◌≢◌, ◌↔◌, ℕ, ◌<◌, ◌≤◌, IsTrue, IfSome, IfNone, List, [], length};
+ghost use Rattle.zerotrie_core.specs.Kind.{Kind};
 ghost use Rattle.zerotrie_core.specs.Maps.{Map};
 ghost use Rattle.zerotrie_core.specs.Texts.{AreHigh, Means};
 ghost use Rattle.zerotrie_core.specs.Shapes.{shape, branch_shape};
 ghost use Rattle.zerotrie_core.specs.WellFormed.{IsWellFormed, IsShallow, deep};
-ghost use Rattle.zerotrie_core.specs.well_formed.Testing.{Steps, AlwaysOnward, AlwaysNoText};
+ghost use Rattle.zerotrie_core.specs.listing.Runs.{EndsWith};
+ghost use Rattle.zerotrie_core.specs.well_formed.Testing.{Steps, IsOneCall, IsFirstLonger, AlwaysOnward, AlwaysNoText};
 
 mod branches;
 
 use crate::branch::Branch;
+use crate::here::Here;
 use crate::node::{Node, first_node};
 use crate::options::ZeroTrieWithOptions;
-use branches::sound_branch;
+use crate::varint::read_varint_meta3;
+use branches::{has_front, target_from};
 
 /// What may stand next in a text.
 #[derive(Clone, Copy)]
@@ -71,9 +75,11 @@ impl Expected {
 pub(crate) enum Step<'a> {
     /// It may not stand there.
     Wrong,
-    /// The text goes on in these bytes, where so much may stand.
+    /// Literals stand there, at least one.
+    Literals,
+    /// The text goes on in these bytes, and this may stand there.
     Over(&'a [u8], Expected),
-    /// It goes on behind a branch.
+    /// It goes on after a branch.
     Behind(Branch<'a>),
 }
 
@@ -92,7 +98,7 @@ fn is_run(run: &[u8]) -> bool
     true
 }
 
-/// What a node comes to, where so much may stand.
+/// What a node comes to, if this may stand there.
 #[inline(always)]
 fn next_step<'a, K: ZeroTrieWithOptions>(node: Node<'a>, expected: Expected) -> Step<'a>
     ensures { Steps K.kind (shape node.entry) expected result }
@@ -105,7 +111,7 @@ fn next_step<'a, K: ZeroTrieWithOptions>(node: Node<'a>, expected: Expected) -> 
                 Step::Wrong
             }
         }
-        Node::Literal(_edge, rest) => Step::Over(rest, Expected::Something),
+        Node::Literal(_edge, _rest) => Step::Literals,
         Node::Span(run, rest) => {
             if expected.takes_span() && is_run(run) {
                 Step::Over(rest, Expected::NoSpan)
@@ -117,33 +123,121 @@ fn next_step<'a, K: ZeroTrieWithOptions>(node: Node<'a>, expected: Expected) -> 
     }
 }
 
-/// The longest target of a branch, where the branch and all other targets are well-formed, and how many calls
-/// of the test were open at once for these, the one that goes on with the longest counted.
+/// Whether the bytes are literals and a value, with which they end, as far as sixteen bytes tell.
+///
+/// Most of the shorter targets are. They take no call, and no jump that depends on how many literals there are.
+#[inline(always)]
+fn is_leaf(here: Here<'_>) -> bool
+    ensures { IsTrue result → (kind : Kind) → IsOneCall kind here.entry.rest.now }
+{
+    let (_, rest) = here.rest.split_at(here.literals());
+    let Some((lead, behind)) = rest.split_first() else {
+        return false;
+    };
+    if *lead < 128 || 160 <= *lead {
+        return false;
+    }
+    match read_varint_meta3(*lead, behind) {
+        Some((_value, after)) => after.is_empty(),
+        None => false,
+    }
+}
+
+/// Two targets, the longer one last, or the first if none is longer.
+#[inline(always)]
+fn by_length<'a>(first: Here<'a>, next: Here<'a>) -> (Here<'a>, Here<'a>)
+    ensures { IsFirstLonger first.entry.rest.now next.entry.rest.now
+        result.0.rest.now result.1.rest.now }
+{
+    if first.rest.len() < next.rest.len() {
+        (first, next)
+    } else {
+        (next, first)
+    }
+}
+
+/// The longest target of a branch, if the branch and all other targets are well-formed, and the depth that these give to
+/// the branch.
+///
+/// Each offset is read once: of the targets so far, all but the longest are tested, and that one comes to its turn when a
+/// longer one is met.
 #[cycle(tested)]
-fn go_behind<'a, K: ZeroTrieWithOptions>(branch: Branch<'a>) -> Option<(&'a [u8], u32)>
-    ensures shorter { IfSome result (λ r. length r.0.now < length branch.entry.behind.now) }
+fn go_behind<'a, K: ZeroTrieWithOptions>(
+    here: Here<'a>,
+    branch: Branch<'a>,
+) -> Option<(Here<'a>, u32)>
+    requires { EndsWith here.rest.now branch.behind.now }
+    ensures shorter { IfSome result (λ r. length r.0.rest.now < length branch.entry.behind.now) }
     ensures shallow { IfSome result (λ r. IsShallow branch.entry.behind.now r.1) }
     ensures some { IfSome result (λ r.
-        AlwaysOnward K.kind (branch_shape branch.entry) r.0.now Expected.Something r.1) }
+        AlwaysOnward K.kind (branch_shape branch.entry) r.0.rest.now Expected.Something r.1) }
     ensures none { IfNone result (AlwaysNoText K.kind (branch_shape branch.entry)) }
 {
-    let longest = sound_branch::<K>(&branch)?;
+    if !has_front::<K>(&branch) {
+        return None;
+    }
+    let (_, body) = branch.behind.split_at(branch.edges);
+    let (_, targets) = body.split_at(branch.width * (branch.edges - 1));
+    let targets = here.behind(targets);
+    let mut longest = target_from::<K>(&branch, targets, 0, 0)?;
+    let mut begin = longest.rest.len();
     let mut most: u32 = 1;
-    for index in 0..branch.edges {
-        if index != longest {
-            let target = branch.target_at(index)?;
-            let (yes, count) = is_well_formed_counted::<K>(target);
+    for index in 1..branch.edges {
+        let target = target_from::<K>(&branch, targets, begin, index)?;
+        begin += target.rest.len();
+        let (shorter, longer) = by_length(longest, target);
+        longest = longer;
+        if is_leaf(shorter) {
+            most = most.max(2);
+        } else {
+            let (yes, count) = is_text_counted::<K>(shorter);
             if !yes {
                 return None;
             }
             most = most.max(count + 1);
         }
     }
-    Some((branch.target_at(longest)?, most))
+    Some((longest, most))
 }
 
-/// Whether the bytes are a trie of the kind, and how many calls of this test were open at once, this one
-/// counted.
+/// Whether the bytes that are to be gone over are a trie of the kind, and its depth.
+#[cycle(tested)]
+fn is_text_counted<K: ZeroTrieWithOptions>(here: Here<'_>) -> (bool, u32)
+    ensures yes { IsTrue result.0 ↔ IsWellFormed K.kind here.entry.rest.now }
+    ensures count { (m : Map) (means : Means K.kind here.entry.rest.now m)
+        → result.1 ≡ deep means.lists }
+    ensures shallow { IsShallow here.entry.rest.now result.1 }
+{
+    let mut at = here;
+    let mut expected = Expected::Anything;
+    let mut most: u32 = 1;
+    while let Some(node) = first_node::<K>(at.rest) {
+        match next_step::<K>(node, expected) {
+            Step::Wrong => return (false, most),
+            Step::Literals => {
+                let (_, after) = at.rest.split_at(at.literals().max(1));
+                at = at.behind(after);
+                expected = Expected::Something;
+            }
+            Step::Over(after, next) => {
+                at = at.behind(after);
+                expected = next;
+            }
+            Step::Behind(branch) => match go_behind::<K>(at, branch) {
+                None => return (false, most),
+                Some((longest, count)) => {
+                    at = longest;
+                    expected = Expected::Something;
+                    most = most.max(count);
+                }
+            },
+        }
+    }
+    (at.rest.is_empty() && expected.takes_end(), most)
+}
+
+/// Whether the bytes are a trie of the kind, and its depth, which no count of calls of this test that are open at once
+/// passes.
 ///
 /// ```
 /// assert_eq!(rt; is_well_formed_counted::<Simple>(&[0x61, 0x85]), (true, 1));
@@ -151,36 +245,15 @@ fn go_behind<'a, K: ZeroTrieWithOptions>(branch: Branch<'a>) -> Option<(&'a [u8]
 /// assert!(rt; !is_well_formed_counted::<Simple>(&[0x61]).0);
 /// ```
 ///
-/// The test calls itself for every target of a branch but the longest, and goes on with that one; of equal ones
-/// it is the first. On any bytes, fewer than 2^d with d at least 1 give a count from 1 to d, so it is never more
-/// than 64. It returns on any bytes, and takes no memory.
-#[cycle(tested)]
+/// The test calls itself for each target of a branch but the longest, unless it is a leaf, and goes on with that one; of
+/// equal ones it is the first. A leaf counts as a call. On any bytes, fewer than 2^d with d at least 1 give a depth from
+/// 1 to d, so it is never more than 64. It returns on any bytes, and takes no memory.
 pub fn is_well_formed_counted<K: ZeroTrieWithOptions>(bytes: &[u8]) -> (bool, u32)
     ensures yes { IsTrue result.0 ↔ IsWellFormed K.kind bytes.now }
     ensures count { (m : Map) (means : Means K.kind bytes.now m) → result.1 ≡ deep means.lists }
     ensures shallow { IsShallow bytes.now result.1 }
 {
-    let mut rest = bytes;
-    let mut expected = Expected::Anything;
-    let mut most: u32 = 1;
-    while let Some(node) = first_node::<K>(rest) {
-        match next_step::<K>(node, expected) {
-            Step::Wrong => return (false, most),
-            Step::Over(after, next) => {
-                rest = after;
-                expected = next;
-            }
-            Step::Behind(branch) => match go_behind::<K>(branch) {
-                None => return (false, most),
-                Some((longest, count)) => {
-                    rest = longest;
-                    expected = Expected::Something;
-                    most = most.max(count);
-                }
-            },
-        }
-    }
-    (rest.is_empty() && expected.takes_end(), most)
+    is_text_counted::<K>(Here::at(bytes))
 }
 
 /// Whether the bytes are a trie of the kind, every rule of the format kept.

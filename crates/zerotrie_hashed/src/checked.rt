@@ -9,7 +9,7 @@ use zerotrie_any::NotWellFormed;
 use zerotrie_core::{TrieStore, is_well_formed};
 
 impl<'a, K: HashedKind> HashedTrie<K, &'a [u8]> {
-    /// The trie of these bytes, where they mean a map. It takes no memory.
+    /// The trie of these bytes, if they mean a map. It takes no memory.
     ///
     /// ```
     /// let trie = ZeroTriePerfectHash::try_from_bytes(b"in\x83to\x84")?;
@@ -33,7 +33,7 @@ impl<'a, K: HashedKind> HashedTrie<K, &'a [u8]> {
 }
 
 impl<K: HashedKind, S: TrieStore> HashedTrie<K, S> {
-    /// Whether the bytes are a trie of its kind, every rule of the format kept: yes exactly where they mean a
+    /// Whether the bytes are a trie of its kind, every rule of the format kept: yes exactly if they mean a
     /// map. It takes no memory.
     ///
     /// ```

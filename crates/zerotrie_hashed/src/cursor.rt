@@ -14,7 +14,7 @@ use std::marker::{Model, PhantomData};
 use zerotrie_any::{CursorAnswer, CursorOp, walk};
 use zerotrie_core::{ByteProbeResult, Ext, Hash, SpanCursor, TrieStore};
 
-/// A place in a trie over keys of any bytes: what all keys have behind the bytes that were stepped. `K` is
+/// A place in a trie over keys of any bytes: what all keys have after the bytes that were stepped. `K` is
 /// the kind.
 ///
 /// Use it by the name of a kind, `ZeroTriePerfectHashCursor` or `ZeroTrieExtendedCapacityCursor`.
@@ -83,7 +83,8 @@ impl<'a, K: HashedKind> HashedCursor<'a, K> {
     ///
     /// `None` inside a span, where what is left has no bytes of its own in the store.
     pub fn into_suffix_trie(self) -> Option<HashedTrie<K, &'a [u8]>>
-        ensures some { IfSome result (λ t. (self.entry.run ≡ []) × (t.store.now ≡ self.entry.trie)) }
+        ensures some { IfSome result (λ t.
+            (self.entry.run ≡ []) × (t.store.now ≡ self.entry.trie)) }
         ensures none { IfNone result (self.entry.run ≢ []) }
         ensures lists { IfSome result (λ t. (pairs : Pairs) → ListsAt K.kind self.entry pairs
             → Lists K.kind t.store.now pairs) }
@@ -95,12 +96,13 @@ impl<'a, K: HashedKind> HashedCursor<'a, K> {
     /// Whether no key goes on from here. An empty cursor has no value either.
     pub fn is_empty(&self) -> bool
         ensures exact { IsTrue result ↔ (self.now ≡ nowhere) }
-        ensures pairs { (pairs : Pairs) → ListsAt K.kind self.now pairs → IsTrue result ↔ (pairs ≡ []) }
+        ensures pairs { (pairs : Pairs) → ListsAt K.kind self.now pairs → IsTrue result
+            ↔ (pairs ≡ []) }
     {
         self.place.is_empty()
     }
 
-    /// Takes the value of the empty key. `None` where there is none, and then nothing changes.
+    /// Takes the value of the empty key. `None` if there is none, and then nothing changes.
     pub fn take_value(&mut self) -> Option<usize>
         ensures meaning { IsTake K.kind (ListsAt K.kind self.old) result (ListsAt K.kind self.new) }
         ensures run { self.new.run ≡ self.old.run }
@@ -111,10 +113,11 @@ impl<'a, K: HashedKind> HashedCursor<'a, K> {
 
     /// Goes along the edge of this byte, and answers it.
     ///
-    /// A value is passed over. Where no edge is the byte, the answer is `None`, and the cursor is empty.
+    /// A value is passed over. If no edge is the byte, the answer is `None`, and the cursor is empty.
     #[inline(always)]
     pub fn step(&mut self, byte: u8) -> Option<u8>
-        ensures meaning { IsStep K.kind (ListsAt K.kind self.old) byte result (ListsAt K.kind self.new) }
+        ensures meaning { IsStep K.kind (ListsAt K.kind self.old) byte result
+            (ListsAt K.kind self.new) }
         ensures run { IfSome result (λ edge. FollowsRun K.kind self.old edge self.new) }
         ensures empty { IfNone result (self.new ≡ nowhere) }
     {
@@ -133,11 +136,12 @@ impl<'a, K: HashedKind> HashedCursor<'a, K> {
     /// ```
     ///
     /// A value is passed over. The edges of a branch are numbered as they stand, and a literal and a byte
-    /// of a span are one edge. Where there is no edge of this number, the answer is `None`, and the cursor
+    /// of a span are one edge. If there is no edge of this number, the answer is `None`, and the cursor
     /// is empty.
     pub fn probe(&mut self, index: usize) -> Option<ByteProbeResult>
         ensures meaning { IsProbe (ListsAt K.kind self.old) index
-            (option_map {U = ℕ × ℕ} (λ r. (r.byte, r.total_siblings)) result) (ListsAt K.kind self.new) }
+            (option_map {U = ℕ × ℕ} (λ r. (r.byte, r.total_siblings)) result)
+            (ListsAt K.kind self.new) }
         ensures run { IfSome result (λ r. FollowsRun K.kind self.old r.byte self.new) }
         ensures empty { IfNone result (self.new ≡ nowhere) }
     {
@@ -175,9 +179,10 @@ impl<K: HashedKind, S: TrieStore> HashedTrie<K, S> {
     /// assert_eq!(rt; answers[1], CursorAnswer::Taken(Some(5)));
     /// ```
     ///
-    /// The only error is want of memory.
+    /// The only error is out of memory.
     pub fn walk(&self, alloc: Global, ops: &[CursorOp]) -> Result<Vec<CursorAnswer>, AllocError>
-        ensures { IfOk result (λ answers. IsWalk K.kind (S.stored self.now.store) ops.now answers.items) }
+        ensures { IfOk result (λ answers.
+            IsWalk K.kind (S.stored self.now.store) ops.now answers.items) }
     {
         walk::<K>(alloc, self.as_bytes(), ops)
     }

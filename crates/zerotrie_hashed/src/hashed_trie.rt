@@ -141,7 +141,7 @@ impl<K, S: TrieStore> HashedTrie<K, S> {
     /// assert_eq!(rt; trie.to_owned(rt.alloc())?.get(b"abc"), Some(5));
     /// ```
     ///
-    /// The only error is want of memory.
+    /// The only error is out of memory.
     pub fn to_owned(&self, alloc: Global) -> Result<HashedTrie<K, Vec<u8>>, AllocError>
         ensures { IfOk result (λ trie. trie.store.items ≡ S.stored self.now.store) }
     {
@@ -161,7 +161,7 @@ impl<K: HashedKind, S> HashedTrie<K, S> {
 }
 
 impl<K: HashedKind, S: TrieStore> HashedTrie<K, S> {
-    /// The value of the key, or `None` where the trie has no such key.
+    /// The value of the key, or `None` if the trie has no such key.
     ///
     /// The call takes no memory. On bytes that mean no map it gives some answer.
     ///
@@ -169,13 +169,14 @@ impl<K: HashedKind, S: TrieStore> HashedTrie<K, S> {
     /// of its own that is `#[inline(never)]`; so for `get_str`, `contains_key` and a cursor's `step`.
     #[inline(always)]
     pub fn get(&self, key: &[u8]) -> Option<usize>
-        ensures { (m : Map) → Means K.kind (S.stored self.now.store) m → result ≡ look K.kind m key.now }
+        ensures { (m : Map) → Means K.kind (S.stored self.now.store) m
+            → result ≡ look K.kind m key.now }
     {
         let (value, _nodes) = get_counted::<K>(self.as_bytes(), key);
         value
     }
 
-    /// The value of the key that is this text, or `None` where the trie has no such key: `get` of its bytes.
+    /// The value of the key that is this text, or `None` if the trie has no such key: `get` of its bytes.
     ///
     /// ```
     /// let trie = ZeroTriePerfectHash::from_bytes(b"abc\x85");
@@ -183,7 +184,8 @@ impl<K: HashedKind, S: TrieStore> HashedTrie<K, S> {
     /// ```
     #[inline(always)]
     pub fn get_str(&self, key: &str) -> Option<usize>
-        ensures { (m : Map) → Means K.kind (S.stored self.now.store) m → result ≡ look K.kind m key.now }
+        ensures { (m : Map) → Means K.kind (S.stored self.now.store) m
+            → result ≡ look K.kind m key.now }
     {
         self.get(key.as_bytes())
     }
@@ -242,7 +244,7 @@ impl<K: HashedKind> HashedTrie<K, Vec<u8>> {
     /// ```
     ///
     /// It is refused with `Unsorted`, `CapacityExceeded` or `OutOfMemory`, each for the reason that
-    /// `ZeroTrieBuildError` gives, and so just where a build is, but for a hashed table that isn't found.
+    /// `ZeroTrieBuildError` gives, and so exactly if a build is, but for a hashed table that isn't found.
     pub fn encoded_len(alloc: Global, items: &[(&[u8], usize)]) -> Result<usize, ZeroTrieBuildError>
         ensures { IsLength ascending K.kind (pairs_of items.now) result }
     {
@@ -281,7 +283,8 @@ impl<K: HashedKind> HashedTrie<K, Vec<u8>> {
         alloc: Global,
         entries: &BTreeMap<Key, usize>,
     ) -> Result<Self, ZeroTrieBuildError>
-        ensures { IsBuild in_order K.kind (λ trie. trie.store.items) (keyed Key.key entries.now.entries) result }
+        ensures { IsBuild in_order K.kind (λ trie. trie.store.items)
+            (keyed Key.key entries.now.entries) result }
     {
         Self::try_from_btree_map(alloc, entries)
     }
@@ -289,15 +292,17 @@ impl<K: HashedKind> HashedTrie<K, Vec<u8>> {
     /// Builds the trie of a map. An empty map gives an empty trie.
     ///
     /// A build is refused with `CapacityExceeded`, `CouldNotSolvePerfectHash` or `OutOfMemory`, each for the
-    /// reason that `ZeroTrieBuildError` gives, or with `Unsorted` where the map's keys are not in the order
+    /// reason that `ZeroTrieBuildError` gives, or with `Unsorted` if the map's keys are not in the order
     /// of their bytes, as keys of bytes and of text are.
     pub fn try_from_btree_map<Key: TrieKey + Ord>(
         alloc: Global,
         entries: &BTreeMap<Key, usize>,
     ) -> Result<Self, ZeroTrieBuildError>
-        ensures build { IsBuild ascending K.kind (λ trie. trie.store.items) (keyed Key.key entries.now.entries) result }
+        ensures build { IsBuild ascending K.kind (λ trie. trie.store.items)
+            (keyed Key.key entries.now.entries) result }
         ensures by_bytes { IsByBytes Key.cmp Key.key
-            → IsBuild in_order K.kind (λ trie. trie.store.items) (keyed Key.key entries.now.entries) result }
+            → IsBuild in_order K.kind (λ trie. trie.store.items) (keyed Key.key entries.now.entries)
+            result }
     {
         let store = bytes_from_map::<K, Key>(alloc, entries)?;
         Ok(HashedTrie::from_store(store))
@@ -340,7 +345,8 @@ impl<K: HashedKind> HashedTrie<K, Vec<u8>> {
     ) -> Result<Self, ZeroTrieBuildError>
     where
         U::IntoIter: Drop,
-        requires { IsFiniteIterable U.into_iter_gives U.IntoIter.can_next U.IntoIter.remaining iter }
+        requires { IsFiniteIterable U.into_iter_gives U.IntoIter.can_next U.IntoIter.remaining
+            iter }
         ensures { IsBuildOfAll (OfAllGiven U.into_iter_gives U.IntoIter.next_gives Key.key iter)
             K.kind (λ trie. trie.store.items) result }
     {

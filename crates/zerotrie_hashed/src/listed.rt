@@ -28,10 +28,11 @@ impl<K: HashedKind, S: TrieStore> HashedTrie<K, S> {
     /// }
     /// ```
     ///
-    /// An item is `ListError::OutOfMemory` where a growth was refused, and nothing more comes then. Bytes that
+    /// An item is `ListError::OutOfMemory` if memory runs out, and nothing more comes then. Bytes that
     /// mean no map list at most as many pairs as there are bytes.
     pub fn iter(&self, alloc: Global) -> ZeroTrieIterator<'_>
-        ensures lists { (pairs : Pairs) → Lists K.kind (S.stored self.now.store) pairs → result ≡ to_come pairs }
+        ensures lists { (pairs : Pairs) → Lists K.kind (S.stored self.now.store) pairs
+            → result ≡ to_come pairs }
         ensures most { length result.pairs ≤ length (S.stored self.now.store) }
     {
         ZeroTrieIterator::new::<K>(alloc, self.as_bytes())
@@ -45,7 +46,8 @@ impl<K: HashedKind, S: TrieStore> HashedTrie<K, S> {
     /// assert_eq!(rt; first.as_slice(), b"abc".as_slice());
     /// ```
     pub fn keys(&self, alloc: Global) -> ZeroTrieKeys<'_>
-        ensures lists { (pairs : Pairs) → Lists K.kind (S.stored self.now.store) pairs → result ≡ to_come pairs }
+        ensures lists { (pairs : Pairs) → Lists K.kind (S.stored self.now.store) pairs
+            → result ≡ to_come pairs }
         ensures most { length result.pairs ≤ length (S.stored self.now.store) }
     {
         ZeroTrieKeys::new::<K>(alloc, self.as_bytes())
@@ -58,7 +60,8 @@ impl<K: HashedKind, S: TrieStore> HashedTrie<K, S> {
     /// assert_eq!(rt; trie.values(rt.alloc()).next().ok_or("no value")??, 11);
     /// ```
     pub fn values(&self, alloc: Global) -> ZeroTrieValues<'_>
-        ensures lists { (pairs : Pairs) → Lists K.kind (S.stored self.now.store) pairs → result ≡ to_come pairs }
+        ensures lists { (pairs : Pairs) → Lists K.kind (S.stored self.now.store) pairs
+            → result ≡ to_come pairs }
         ensures most { length result.pairs ≤ length (S.stored self.now.store) }
     {
         ZeroTrieValues::new::<K>(alloc, self.as_bytes())
@@ -79,7 +82,7 @@ impl<K: HashedKind, S: TrieStore> HashedTrie<K, S> {
         count_pairs::<K>(self.as_bytes())
     }
 
-    /// The first key in the order of `iter` that has this value, or `None` where no key has it.
+    /// The first key in the order of `iter` that has this value, or `None` if no key has it.
     ///
     /// ```
     /// let trie = ZeroTriePerfectHash::try_from_iter(rt.alloc(), [("xyz", 22), ("abc", 11)])?;
@@ -105,7 +108,8 @@ impl<K: HashedKind, S: TrieStore> HashedTrie<K, S> {
     ///
     /// The only error is `OutOfMemory`.
     pub fn to_btreemap(&self, alloc: Global) -> Result<BTreeMap<Vec<u8>, usize>, ListError>
-        ensures listed { (m : Map) → Means K.kind (S.stored self.now.store) m → IsListed (λ key. key.items) m result }
+        ensures listed { (m : Map) → Means K.kind (S.stored self.now.store) m
+            → IsListed (λ key. key.items) m result }
         ensures refused { IfErr result (λ e. e ≡ OutOfMemory) }
     {
         map_of::<K>(alloc, self.as_bytes())

@@ -25,7 +25,7 @@ impl<K: HashedKind, S: TrieStore> HashedTrie<K, S> {
     /// assert_eq!(rt; trie.to_tagged_bytes(rt.alloc())?.as_slice(), b"\x03a\x85".as_slice());
     /// ```
     ///
-    /// The only error is want of memory.
+    /// The only error is out of memory.
     pub fn to_tagged_bytes(&self, alloc: Global) -> Result<Vec<u8>, AllocError>
         ensures { IfOk result (λ t. t.items ≡ tagged K.kind (S.stored self.now.store)) }
     {
@@ -40,12 +40,13 @@ impl<K: HashedKind, S: TrieStore> HashedTrie<K, S> {
     /// assert_eq!(rt; value.to_string(rt.alloc())?.as_str(), "[[[255],3]]");
     /// ```
     ///
-    /// Where all keys are UTF-8, it is an object from key to number. Else it is a list of pairs, ascending by
+    /// If all keys are UTF-8, it is an object from key to number. Else it is a list of pairs, ascending by
     /// the bytes of their keys, each a list of two: the list of the key's bytes, and the number.
     ///
     /// The only error is `OutOfMemory`. On bytes that mean no map some value is answered.
     pub fn to_json_value(&self, alloc: Global) -> Result<Value, JsonError>
-        ensures json { (m : Map) → Means K.kind (S.stored self.now.store) m → IfOk result (λ v. view v ≡ json m) }
+        ensures json { (m : Map) → Means K.kind (S.stored self.now.store) m
+            → IfOk result (λ v. view v ≡ json m) }
         ensures refused { IfErr result (λ e. e ≡ OutOfMemory) }
     {
         json_of::<K>(alloc, self.as_bytes())
@@ -53,15 +54,15 @@ impl<K: HashedKind, S: TrieStore> HashedTrie<K, S> {
 }
 
 impl<'a, K: HashedKind> HashedTrie<K, &'a [u8]> {
-    /// The trie over the bytes behind the tag of its kind, where they lie.
+    /// The trie over the bytes after the tag of its kind, where they lie.
     ///
     /// ```
     /// let trie = ZeroTriePerfectHash::try_from_tagged_bytes(b"\x03a\x85")?;
     /// assert_eq!(rt; trie.get(b"a"), Some(5));
     /// ```
     ///
-    /// It takes no memory. The error is `Empty` where there are no bytes, and `InvalidTag` where the first is
-    /// another than the kind's tag. What stands behind the tag is not tested.
+    /// It takes no memory. The error is `Empty` if there are no bytes, and `InvalidTag` if the first is
+    /// another than the kind's tag. What stands after the tag is not tested.
     pub fn try_from_tagged_bytes(bytes: &'a [u8]) -> Result<Self, TagError>
         ensures ok { IfOk result (λ trie. bytes.now ≡ tagged K.kind trie.store.now) }
         ensures err { IfErr result (λ e. IsTagFault (λ t. tag K.kind ≡ t) bytes.now e) }
@@ -84,7 +85,7 @@ impl<K: HashedKind> HashedTrie<K, Vec<u8>> {
     /// exactly two, a key and a number, and a key is a text or a list of bytes. Numbers are whole, from 0 to
     /// 2^64 - 1.
     ///
-    /// The error is `Shape` where the value is anything else, `Build` where `try_from_iter` of its pairs is
+    /// The error is `Shape` if the value is anything else, `Build` if `try_from_iter` of its pairs is
     /// refused, with the reason, and `OutOfMemory`.
     pub fn try_from_json_value(alloc: Global, value: &Value) -> Result<Self, JsonError>
         ensures { IsBuildOfJson (λ _. K.kind) (λ trie. trie.store.items) (view value.now) result }

@@ -1,4 +1,4 @@
-//! Pairs whose keys lie one behind another.
+//! Pairs whose keys lie one after another.
 
 ghost use Rattle.std.specs.Prelude.{◌≡◌, ◌++◌, ◌∷◌, [], map, length, IfOk, OnOk, OnErr};
 ghost use Rattle.zerotrie_lines.specs.Tables.{Pairs, pairs_of, lowered_pair};

@@ -24,7 +24,7 @@ pub struct Trie<'a> {
 }
 
 impl<'a> Trie<'a> {
-    /// The trie in tagged bytes, whose kind has its number in front. What stands behind the number is not tested.
+    /// The trie in tagged bytes, whose kind has its number in front. What stands after the number is not tested.
     ///
     /// Refused with `Empty` exactly if there are no bytes, and with `InvalidTag` exactly if the first is the number of no
     /// kind.

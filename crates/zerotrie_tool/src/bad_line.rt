@@ -19,7 +19,7 @@ pub enum BadLine {
     /// No kind has this name.
     #[error("the kind is none of: simple, ignore, hash, ext, auto")]
     UnknownKind,
-    /// Nothing stands where the value should.
+    /// The value is missing.
     #[error("there is no value: write + VALUE KEY, with one space between")]
     NoValue,
     /// The value has other bytes than decimal digits.

@@ -79,7 +79,7 @@ fn first_space(text: &[u8]) -> Option<usize>
     text.iter().position(|b| *b == b' ')
 }
 
-/// What stands before the first space, and what stands behind it.
+/// What stands before the first space, and what stands after it.
 fn split_word(text: &[u8]) -> (&[u8], &[u8])
     ensures word { result.0.now ≡ before_first (λ b. b == 32) text.now }
     ensures key { HasKey result.0.now result.1.now text.now }
@@ -90,7 +90,7 @@ fn split_word(text: &[u8]) -> (&[u8], &[u8])
     }
 }
 
-/// The key behind the words, which is empty where they stand alone.
+/// The key after the words, which is empty if they stand alone.
 fn key_behind<'a>(words: &[u8], line: &'a [u8]) -> Option<&'a [u8]>
     ensures some { IfSome result (λ key. HasKey words.now key.now line.now) }
     ensures none { IfNone result ((key : List ℕ) → HasKey words.now key line.now → ⊥) }
@@ -154,10 +154,12 @@ fn split_words(alloc: Global, text: &[u8]) -> Result<Vec<&[u8]>, AllocError>
     text.split(|b| *b == b' ').collect(alloc)
 }
 
-/// The calls that the words of a text are; `None` where one of them is none.
+/// The calls that the words of a text are; `None` if one of them is none.
 fn parse_ops(alloc: Global, text: &[u8]) -> Result<Option<Vec<CursorOp>>, AllocError>
-    ensures some { IfOk result (λ r. IfSome r (λ ops. AreOps (words_of text.now) (ops_of ops.items))) }
-    ensures none { IfOk result (λ r. IfNone r ((ops : List Op) → AreOps (words_of text.now) ops → ⊥)) }
+    ensures some { IfOk result (λ r.
+        IfSome r (λ ops. AreOps (words_of text.now) (ops_of ops.items))) }
+    ensures none { IfOk result (λ r.
+        IfNone r ((ops : List Op) → AreOps (words_of text.now) ops → ⊥)) }
 {
     let words = split_words(alloc, text)?;
     let mut ops = Vec::new(alloc);
@@ -251,7 +253,8 @@ pub fn parse(alloc: Global, line: &[u8]) -> Result<Result<Request<'_>, BadLine>,
     ensures ok { IfOk result (λ r. IfOk r (λ request. IsCommand line.now (meaning request))) }
     ensures none { IfOk result (λ r. OnErr r (IsNoCommand line.now)) }
     ensures why { IfOk result (λ r. IfErr r (IsBadAs line.now)) }
-    ensures named { IfOk result (λ r. IfErr r (λ bad. EndsInReturn line.now → bad ≡ BadLine.CarriageReturn)) }
+    ensures named { IfOk result (λ r.
+        IfErr r (λ bad. EndsInReturn line.now → bad ≡ BadLine.CarriageReturn)) }
 {
     match parse_line(alloc, line)? {
         Ok(request) => Ok(Ok(request)),

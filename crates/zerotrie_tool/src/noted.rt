@@ -62,7 +62,8 @@ impl<R: Read> Read for Noted<R> {
 
     fn read(&mut self, buf: &mut [u8]) -> io::Result<usize>
         ensures bound { ReadsAtMost result buf.new }
-        ensures bytes { ReadConsumes (R.remaining self.old.inner) (R.remaining self.new.inner) result buf.new }
+        ensures bytes { ReadConsumes (R.remaining self.old.inner) (R.remaining self.new.inner)
+            result buf.new }
         ensures flag { self.new.failed ≡ (self.old.failed || is_err result) }
     {
         let outcome = self.inner.read(buf);
@@ -76,7 +77,8 @@ impl<W: Write> Write for Noted<W> {
 
     fn write(&mut self, buf: &[u8]) -> io::Result<usize>
         ensures bound { WritesAtMost result buf.now }
-        ensures bytes { WriteAppends (W.contents self.old.inner) (W.contents self.new.inner) result buf.now }
+        ensures bytes { WriteAppends (W.contents self.old.inner) (W.contents self.new.inner) result
+            buf.now }
         ensures flag { self.new.failed ≡ (self.old.failed || is_err result) }
     {
         let outcome = self.inner.write(buf);
@@ -94,7 +96,8 @@ impl<W: Write> Write for Noted<W> {
     }
 
     fn write_all(&mut self, buf: &[u8]) -> io::Result<()>
-        ensures bytes { OnOk result (Appends (W.contents self.old.inner) (W.contents self.new.inner) buf.now) }
+        ensures bytes { OnOk result
+            (Appends (W.contents self.old.inner) (W.contents self.new.inner) buf.now) }
         ensures flag { self.new.failed ≡ (self.old.failed || is_err result) }
     {
         let outcome = self.inner.write_all(buf);

@@ -51,7 +51,8 @@ pub fn write_ok(output: &mut String, text: &[u8]) -> Result<(), AllocError>
 
 /// Writes why no trie was built.
 pub fn write_refused(output: &mut String, error: &ZeroTrieBuildError) -> Result<(), AllocError>
-    ensures { OnOk result (string_bytes output.new ≡ string_bytes output.old ++ refused_line error.now) }
+    ensures { OnOk result (string_bytes output.new
+        ≡ string_bytes output.old ++ refused_line error.now) }
 {
     let name = name_of(error);
     writeln!(output, "refused {name}")
@@ -59,7 +60,8 @@ pub fn write_refused(output: &mut String, error: &ZeroTrieBuildError) -> Result<
 
 /// Writes the number of a key.
 pub fn write_number(output: &mut String, number: Option<usize>) -> Result<(), AllocError>
-    ensures { OnOk result (string_bytes output.new ≡ string_bytes output.old ++ number_line number) }
+    ensures { OnOk result (string_bytes output.new
+        ≡ string_bytes output.old ++ number_line number) }
 {
     match number {
         Some(value) => writeln!(output, "{value}"),
@@ -69,7 +71,8 @@ pub fn write_number(output: &mut String, number: Option<usize>) -> Result<(), Al
 
 /// Writes a pair.
 pub fn write_pair(output: &mut String, key: &[u8], value: usize) -> Result<(), AllocError>
-    ensures { OnOk result (string_bytes output.new ≡ string_bytes output.old ++ pair_line (key.now, value)) }
+    ensures { OnOk result (string_bytes output.new
+        ≡ string_bytes output.old ++ pair_line (key.now, value)) }
 {
     write!(output, "{value} ")?;
     write_hex(output, key)?;
@@ -78,7 +81,8 @@ pub fn write_pair(output: &mut String, key: &[u8], value: usize) -> Result<(), A
 
 /// Writes an answer of a cursor.
 fn write_answer(output: &mut String, answer: &CursorAnswer) -> Result<(), AllocError>
-    ensures { OnOk result (string_bytes output.new ≡ string_bytes output.old ++ answer_word (answer_of answer.now)) }
+    ensures { OnOk result (string_bytes output.new
+        ≡ string_bytes output.old ++ answer_word (answer_of answer.now)) }
 {
     match answer {
         CursorAnswer::Stepped(None) => output.push_str("s-"),
@@ -99,7 +103,8 @@ fn write_answer(output: &mut String, answer: &CursorAnswer) -> Result<(), AllocE
 
 /// Writes the answers of a walk.
 pub fn write_walk(output: &mut String, answers: &[CursorAnswer]) -> Result<(), AllocError>
-    ensures { OnOk result (string_bytes output.new ≡ string_bytes output.old ++ walk_line (answers_of answers.now)) }
+    ensures { OnOk result (string_bytes output.new
+        ≡ string_bytes output.old ++ walk_line (answers_of answers.now)) }
 {
     if let Some((first, rest)) = answers.split_first() {
         write_answer(output, first)?;
@@ -113,7 +118,8 @@ pub fn write_walk(output: &mut String, answers: &[CursorAnswer]) -> Result<(), A
 
 /// Writes that the line with this number is no command.
 pub fn write_bad(output: &mut String, line_number: usize) -> Result<(), AllocError>
-    ensures { OnOk result (string_bytes output.new ≡ string_bytes output.old ++ bad_line line_number) }
+    ensures { OnOk result (string_bytes output.new
+        ≡ string_bytes output.old ++ bad_line line_number) }
 {
     writeln!(output, "bad line {line_number}")
 }

@@ -52,7 +52,8 @@ impl From<AllocError> for RunError {
 fn read_all<R: Read>(alloc: Global, reader: &mut Noted<R>) -> Result<Vec<u8>, RunError>
     requires { reader.old.failed ≡ false }
     ensures flag { reader.new.failed ≡ true ↔ IsErrOf result RunError.Read }
-    ensures ok { IfOk result (λ input. IfSome (R.remaining reader.old.inner) (λ known. input.items ≡ known)) }
+    ensures ok { IfOk result (λ input.
+        IfSome (R.remaining reader.old.inner) (λ known. input.items ≡ known)) }
     ensures err { IfErr result (λ e. e ≢ RunError.Write) }
 {
     let mut input: Vec<u8> = Vec::new(alloc);
@@ -82,12 +83,12 @@ fn read_all<R: Read>(alloc: Global, reader: &mut Noted<R>) -> Result<Vec<u8>, Ru
 /// - An empty line is skipped and counted.
 /// - A second `kind` begins anew: without pairs, and with the empty trie.
 /// - A build takes all pairs since `kind`. A refused one prints its reason, and leaves the empty trie.
-/// - A listing has the order of the trie, or of the bytes of the keys where the kind is `auto`.
-/// - A walk has one or more calls of a cursor with one space between. Where the kind is `auto` there is none.
+/// - A listing has the order of the trie, or of the bytes of the keys if the kind is `auto`.
+/// - A walk has one or more calls of a cursor with one space between. If the kind is `auto` there is none.
 /// - Any other line is bad, and before the first `kind` every line but an empty one is. `bad line N`
 ///   ends the run, and a message says what is bad in it, as `line 2: the value is not below 2^64`.
-/// - The status is 2 after a bad line, even where a build was refused before. Else it is 1 where a
-///   build was refused, and 0 where none was.
+/// - The status is 2 after a bad line, even if a build was refused before. Else it is 1 if a
+///   build was refused, and 0 if none was.
 ///
 /// An error but `Write` has written nothing. A fault of the writer for messages is ignored.
 pub fn run<R: Read, W: Write, M: Write>(

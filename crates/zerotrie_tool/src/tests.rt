@@ -74,7 +74,7 @@ fn builds_are_refused(rt: HostRuntime) -> Result<(), Fail> {
     Ok(())
 }
 
-/// Where no kind was chosen, a walk is no command; keys may be no text.
+/// If no kind was chosen, a walk is no command; keys may be no text.
 #[test]
 fn bad_lines_after_a_build(rt: HostRuntime) -> Result<(), Fail> {
     let rows: [(&[u8], &[u8]); 2] = [
@@ -211,7 +211,7 @@ fn reasons_of_bad_lines(rt: HostRuntime) -> Result<(), Fail> {
     Ok(())
 }
 
-/// Gives its bytes eight at a time, and a fault where it has given its calls.
+/// Gives its bytes eight at a time, and a fault after its calls are used up.
 #[derive(Drop)]
 struct FailingReader<'a> {
     bytes: &'a [u8],
@@ -231,7 +231,7 @@ impl Read for FailingReader<'_> {
 
 #[test]
 fn faults_of_readers(rt: HostRuntime) -> Result<(), Fail> {
-    // The third call finds the end of the input, so no fault comes where four are given.
+    // The third call finds the end of the input, so no fault comes if four are given.
     for calls in 0..5 {
         let bytes = b"kind simple\n?\n".as_slice();
         let mut reader = Noted::new(FailingReader { bytes, calls });
@@ -250,7 +250,7 @@ fn faults_of_readers(rt: HostRuntime) -> Result<(), Fail> {
     Ok(())
 }
 
-/// Takes sixteen bytes at a time, and fails where it has taken its calls.
+/// Takes sixteen bytes at a time, and fails after its calls are used up.
 #[derive(Drop)]
 struct FailingWriter {
     calls: usize,

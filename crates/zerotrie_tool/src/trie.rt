@@ -129,7 +129,7 @@ impl Trie {
         }
     }
 
-    /// The answers of a walk; `None` where the kind was not chosen.
+    /// The answers of a walk; `None` if the kind was not chosen.
     pub fn walk(
         &self,
         alloc: Global,
@@ -149,10 +149,11 @@ impl Trie {
         Ok(Some(answers))
     }
 
-    /// Writes the pairs of the trie: in the order of its nodes, or of the bytes of their keys where the kind
+    /// Writes the pairs of the trie: in the order of its nodes, or of the bytes of their keys if the kind
     /// was not chosen.
     pub fn write_list(&self, alloc: Global, output: &mut String) -> Result<(), AllocError>
-        ensures { OnOk result ((pairs : Pairs) → Lists (trie_kind self.now) (trie_bytes self.now) pairs
+        ensures { OnOk result ((pairs : Pairs)
+            → Lists (trie_kind self.now) (trie_bytes self.now) pairs
             → string_bytes output.new
             ≡ string_bytes output.old ++ list_lines (in_order (trie_choice self.now) pairs)) }
     {

@@ -17,7 +17,8 @@ pub fn find_word(
     pairs: &[(&[u8], usize)],
     word: &[u8],
 ) -> Result<Option<usize>, ZeroTrieBuildError>
-    ensures present { IfOk result (λ answer. (number : ℕ) → Contains (pairs_of pairs.now) (word.now, number)
+    ensures present { IfOk result (λ answer.
+        (number : ℕ) → Contains (pairs_of pairs.now) (word.now, number)
         → answer ≡ Some number) }
     ensures exact { IfOk result (λ answer. IsNumberOf (pairs_of pairs.now) word.now answer) }
 {
@@ -34,7 +35,8 @@ pub fn find_owned(
     pairs: Vec<(String, usize)>,
     word: &[u8],
 ) -> Result<Option<usize>, ZeroTrieBuildError>
-    ensures { IfOk result (λ answer. IsNumberOf (keyed (λ key. string_bytes key) pairs.items) word.now answer) }
+    ensures { IfOk result (λ answer.
+        IsNumberOf (keyed (λ key. string_bytes key) pairs.items) word.now answer) }
 {
     let trie = ZeroTriePerfectHash::try_from_iter(alloc, pairs)?;
     Ok(trie.get(word))

@@ -13,7 +13,7 @@ const HYPHEN: u8 = b'-';
 /// The value that a locale falls back to: that of the longest key that is the name itself or the front of it
 /// before one of its hyphens. So `en-Latn-GB` falls back to `en-Latn`, and `fil-PH` to `fil` and never to `fi`.
 ///
-/// The empty key is the root, which every name falls back to at last. `None` where there is no such key either.
+/// The empty key is the root, which every name falls back to at last. `None` if there is no such key either.
 pub fn fall_back<S: TrieStore>(trie: &ZeroTrieSimpleAscii<S>, name: &[u8]) -> Option<usize>
     ensures { (m : Map) → Means simple_ascii (S.stored trie.now.store) m
         → IsFallback simple_ascii m name.now result }
@@ -30,7 +30,7 @@ pub fn fall_back<S: TrieStore>(trie: &ZeroTrieSimpleAscii<S>, name: &[u8]) -> Op
     cursor.take_value().or(found)
 }
 
-/// The same among keys of any bytes. On its way the cursor may stand inside a span, where no key ends.
+/// Like `fall_back`, among keys of any bytes. On its way the cursor may stand inside a span, where no key ends.
 pub fn fall_back_in_hashed<S: TrieStore>(
     trie: &ZeroTriePerfectHash<S>,
     name: &[u8],
@@ -50,7 +50,7 @@ pub fn fall_back_in_hashed<S: TrieStore>(
     cursor.take_value().or(found)
 }
 
-/// The value of the longest key that a text begins with, whatever comes next. `None` where it begins with no key.
+/// The value of the longest key that a text begins with, whatever comes next. `None` if it begins with no key.
 ///
 /// This is the rule of names that end where no longer one fits, as HTML's character references do: `&amp` is read
 /// in `&amp=1`. Locales want `fall_back`.

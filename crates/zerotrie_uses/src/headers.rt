@@ -16,12 +16,15 @@ pub fn find_header(
     pairs: &[(&[u8], usize)],
     name: &[u8],
 ) -> Result<Option<usize>, ZeroTrieBuildError>
-    ensures present { IfOk result (λ answer. (key : List ℕ) (number : ℕ) → Contains (pairs_of pairs.now) (key, number)
+    ensures present { IfOk result (λ answer.
+        (key : List ℕ) (number : ℕ) → Contains (pairs_of pairs.now) (key, number)
         → str_eq_ignore_ascii_case key name.now ≡ true → answer ≡ Some number) }
-    ensures absent { IfOk result (λ answer. All (λ e. str_eq_ignore_ascii_case e.0 name.now ≡ false) (pairs_of pairs.now)
+    ensures absent { IfOk result (λ answer.
+        All (λ e. str_eq_ignore_ascii_case e.0 name.now ≡ false) (pairs_of pairs.now)
         → answer ≡ None) }
     ensures found { IfOk result (λ answer. (number : ℕ) → answer ≡ Some number
-        → (key : List ℕ) × Contains (pairs_of pairs.now) (key, number) × (str_eq_ignore_ascii_case key name.now ≡ true)) }
+        → (key : List ℕ) × Contains (pairs_of pairs.now) (key, number)
+        × (str_eq_ignore_ascii_case key name.now ≡ true)) }
 {
     let trie = ZeroAsciiIgnoreCaseTrie::try_from_iter(alloc, pairs.iter().copied())?;
     Ok(trie.get(name))

@@ -16,7 +16,8 @@ pub fn find_in_json(
     pairs: &[(&[u8], usize)],
     word: &[u8],
 ) -> Result<Option<usize>, JsonError>
-    ensures map { IfOk result (λ answer. answer ≡ look simple_ascii (map_of (pairs_of pairs.now)) word.now) }
+    ensures map { IfOk result (λ answer.
+        answer ≡ look simple_ascii (map_of (pairs_of pairs.now)) word.now) }
     ensures exact { IfOk result (λ answer. IsNumberOf (pairs_of pairs.now) word.now answer) }
 {
     let trie = ZeroTrieSimpleAscii::try_from_sorted_slice(alloc, pairs)?;
@@ -26,13 +27,14 @@ pub fn find_in_json(
     Ok(read.get(word))
 }
 
-/// The same of a trie whose kind is taken for the pairs, which may have keys of any bytes.
+/// Like `find_in_json`, of a trie whose kind is taken for the pairs, which may have keys of any bytes.
 pub fn find_in_json_of_any(
     alloc: Global,
     pairs: &[(&[u8], usize)],
     word: &[u8],
 ) -> Result<Option<usize>, JsonError>
-    ensures map { let all = pairs_of pairs.now in IfOk result (λ answer. answer ≡ look (auto_kind all) (map_of all) word.now) }
+    ensures map { let all = pairs_of pairs.now in IfOk result (λ answer.
+        answer ≡ look (auto_kind all) (map_of all) word.now) }
     ensures exact { IfOk result (λ answer. IsNumberOf (pairs_of pairs.now) word.now answer) }
 {
     let trie = ZeroTrie::try_from_sorted_slice(alloc, pairs)?;

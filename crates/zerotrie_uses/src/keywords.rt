@@ -15,7 +15,8 @@ pub fn find_keyword(
     pairs: &[(&[u8], usize)],
     word: &[u8],
 ) -> Result<Option<usize>, ZeroTrieBuildError>
-    ensures present { IfOk result (λ answer. (number : ℕ) → Contains (pairs_of pairs.now) (word.now, number)
+    ensures present { IfOk result (λ answer.
+        (number : ℕ) → Contains (pairs_of pairs.now) (word.now, number)
         → answer ≡ Some number) }
     ensures exact { IfOk result (λ answer. IsNumberOf (pairs_of pairs.now) word.now answer) }
 {
@@ -42,9 +43,11 @@ pub fn record_of(
     word: &[u8],
 ) -> Result<Option<u8>, ZeroTrieBuildError>
     requires { All (λ e. e.1 < length records.now) (pairs_of keywords.now) }
-    ensures present { IfOk result (λ answer. (index : ℕ) → Contains (pairs_of keywords.now) (word.now, index)
+    ensures present { IfOk result (λ answer.
+        (index : ℕ) → Contains (pairs_of keywords.now) (word.now, index)
         → answer ≡ Some (slice_index records.now index)) }
-    ensures exact { IfOk result (λ answer. IsRecordOf (pairs_of keywords.now) records.now word.now answer) }
+    ensures exact { IfOk result (λ answer.
+        IsRecordOf (pairs_of keywords.now) records.now word.now answer) }
 {
     let trie: ZeroTrieSimpleAscii<[u8; 15]> = ZeroTrieSimpleAscii::from_sorted_u8_tuples(keywords)?;
     match trie.get(word) {

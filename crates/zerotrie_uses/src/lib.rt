@@ -15,8 +15,6 @@ mod listings;
 mod strangers;
 mod suffixes;
 mod tables;
-#[cfg(test)]
-mod tests;
 mod written;
 
 pub use any::{find_owned, find_word};

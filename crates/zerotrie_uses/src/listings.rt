@@ -13,12 +13,13 @@ use zerotrie::{CursorAnswer, CursorOp, ZeroTrieBuildError, ZeroTrieSimpleAscii, 
 
 /// The pairs of a trie that was built of them, as an ordered map: these pairs, which ascend.
 ///
-/// It is refused as `ZeroTrieSimpleAscii::try_from_sorted_slice` is, and for want of memory.
+/// It is refused as `ZeroTrieSimpleAscii::try_from_sorted_slice` is, and if memory runs out.
 pub fn listed_again(
     alloc: Global,
     pairs: &[(&[u8], usize)],
 ) -> Result<BTreeMap<String, usize>, ZeroTrieBuildError>
-    ensures { IfOk result (λ map. keyed (λ key. string_bytes key) map.entries ≡ pairs_of pairs.now) }
+    ensures { IfOk result (λ map.
+        keyed (λ key. string_bytes key) map.entries ≡ pairs_of pairs.now) }
 {
     let trie = ZeroTrieSimpleAscii::try_from_sorted_slice(alloc, pairs)?;
     match trie.to_btreemap(alloc) {
@@ -30,13 +31,14 @@ pub fn listed_again(
 /// What a cursor answers that is taken through a list of calls over pairs, which ascend: the machine's answers
 /// over these very pairs.
 ///
-/// It is refused as `ZeroTrieSimpleAscii::try_from_sorted_slice` is, and for want of memory.
+/// It is refused as `ZeroTrieSimpleAscii::try_from_sorted_slice` is, and if memory runs out.
 pub fn walk_over(
     alloc: Global,
     pairs: &[(&[u8], usize)],
     calls: &[CursorOp],
 ) -> Result<Vec<CursorAnswer>, ZeroTrieBuildError>
-    ensures { IfOk result (λ answers. answers_of answers.items ≡ run simple_ascii (ops_of calls.now) (pairs_of pairs.now)) }
+    ensures { IfOk result (λ answers.
+        answers_of answers.items ≡ run simple_ascii (ops_of calls.now) (pairs_of pairs.now)) }
 {
     laws::listing_is_the_map();
     let trie = ZeroTrieSimpleAscii::try_from_sorted_slice(alloc, pairs)?;

@@ -12,7 +12,8 @@ use zerotrie::{NotWellFormed, ZeroTrieSimpleAscii};
 ///
 /// It takes no memory. Bytes that are asked often are tested once, and the trie kept.
 pub fn find_in_bytes(bytes: &[u8], key: &[u8]) -> Result<Option<usize>, NotWellFormed>
-    ensures value { IfOk result (λ answer. (m : Map) × Means simple_ascii bytes.now m × (answer ≡ look simple_ascii m key.now)) }
+    ensures value { IfOk result (λ answer.
+        (m : Map) × Means simple_ascii bytes.now m × (answer ≡ look simple_ascii m key.now)) }
     ensures refused { IfErr result (λ _. IsWellFormed simple_ascii bytes.now → ⊥) }
 {
     let trie = ZeroTrieSimpleAscii::try_from_bytes(bytes)?;

@@ -1,4 +1,4 @@
-//! What keys have behind a prefix, in a trie over keys of any bytes.
+//! What keys have after a prefix, in a trie over keys of any bytes.
 
 ghost use Rattle.std.specs.Prelude.{◌≡◌, ◌++◌, ℕ, List, IfSome};
 ghost use Rattle.zerotrie.specs.Kind.{perfect_hash};
@@ -20,10 +20,10 @@ fn go_down(cursor: &mut ZeroTriePerfectHashCursor<'_>, bytes: &[u8])
     }
 }
 
-/// The trie of what the keys have behind a prefix: a look-up in it answers as one of the prefix and the key
+/// The trie of what the keys have after a prefix: a look-up in it answers as one of the prefix and the key
 /// together does in the whole. It lies in the bytes of the whole, and takes no memory.
 ///
-/// `None` where the prefix ends inside a span, whose rest has no bytes of its own. `find_behind` answers there
+/// `None` if the prefix ends inside a span, whose rest has no bytes of its own. `find_behind` answers there
 /// too.
 pub fn suffixes_of<'a, S: TrieStore>(
     trie: &'a ZeroTriePerfectHash<S>,

@@ -20,7 +20,8 @@ pub fn entry_in_record(
     prefix: &str,
     suffix: &str,
 ) -> Result<Option<usize>, ZeroTrieBuildError>
-    ensures { IfOk result (λ answer. answer ≡ entry (rows_in rows.now.entries) prefix.now suffix.now) }
+    ensures { IfOk result (λ answer.
+        answer ≡ entry (rows_in rows.now.entries) prefix.now suffix.now) }
 {
     let table = ZeroAsciiDenseSparse2dTrieOwned::try_from_btree_map_str(alloc, rows, b'/')?;
     let record = table.as_borrowed().to_record_bytes(alloc)?;

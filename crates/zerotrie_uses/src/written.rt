@@ -12,7 +12,8 @@ use zerotrie::{TrieStore, ZeroTrieSimpleAscii, laws};
 /// The value of a key that is written as it is. `None` if it is not ASCII, as no key is.
 pub fn find_written<S: TrieStore>(trie: &ZeroTrieSimpleAscii<S>, name: &str) -> Option<usize>
     ensures ascii { is_ascii name.now ≡ true
-        → (m : Map) → Means simple_ascii (S.stored trie.now.store) m → result ≡ look simple_ascii m name.now }
+        → (m : Map) → Means simple_ascii (S.stored trie.now.store) m
+        → result ≡ look simple_ascii m name.now }
     ensures other { is_ascii name.now ≡ false → result ≡ None }
 {
     laws::steps_look_ahead();

@@ -43,7 +43,16 @@ unsafe extern "C" {
     pub fn zerotrie_auto_kind(pairs: *const Pair, count: usize) -> u32;
     pub fn zerotrie_tagged(kind: u32, bytes: *const u8, len: usize, out: *mut u8, out_len: usize, tagged_len: *mut usize)
         -> u32;
+    pub fn zerotrie_dense_get(record: *const u8, len: usize, prefix: *const u8, prefix_len: usize, suffix: *const u8,
+        suffix_len: usize, value: *mut usize) -> u32;
+    pub fn zerotrie_dense_build(prefixes: *const u8, prefixes_len: usize, prefix_ends: *const usize, prefix_count: usize,
+        suffixes: *const u8, suffixes_len: usize, suffix_ends: *const usize, suffix_count: usize, values: *const usize,
+        value_count: usize, delimiter: u8, out: *mut u8, out_len: usize, len: *mut usize) -> u32;
+    #[allow(dead_code)] // this crate lists in parts
     pub fn zerotrie_list(kind: u32, bytes: *const u8, len: usize, prefix: *const u8, prefix_len: usize, keys: *mut u8,
         keys_len: usize, ends: *mut usize, ends_len: usize, values: *mut usize, values_len: usize, key_bytes: *mut usize,
         count: *mut usize) -> u32;
+    pub fn zerotrie_list_some(kind: u32, bytes: *const u8, len: usize, prefix: *const u8, prefix_len: usize, goes_on: bool,
+        last: *const u8, last_len: usize, keys: *mut u8, keys_len: usize, ends: *mut usize, ends_len: usize,
+        values: *mut usize, values_len: usize, count: *mut usize, next_len: *mut usize) -> u32;
 }

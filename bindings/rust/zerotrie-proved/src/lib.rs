@@ -63,6 +63,8 @@ pub enum Error {
     NoPerfectHash,
     /// Two keys begin alike up to case but not byte by byte, in the kind that ignores case.
     MixedCase,
+    /// A text of a dense table has the delimiter in it.
+    IllegalDelimiter,
     /// A key comes twice.
     DuplicateKey,
     /// The keys don't ascend strictly by their bytes.
@@ -73,6 +75,10 @@ pub enum Error {
     NoTag,
     /// The first of tagged bytes is the number of no kind.
     InvalidTag,
+    /// The record of a dense table asks for more bytes than there are.
+    RecordTruncated,
+    /// The record of a dense table asks for fewer bytes than there are.
+    TrailingBytes,
     /// The bytes are no trie of the kind.
     NotWellFormed,
     /// A number that this crate doesn't know, as of another library.
@@ -86,11 +92,14 @@ impl Error {
             2 => Error::CapacityExceeded,
             3 => Error::NoPerfectHash,
             4 => Error::MixedCase,
+            5 => Error::IllegalDelimiter,
             6 => Error::DuplicateKey,
             7 => Error::Unsorted,
             11 => Error::OutOfMemory,
             13 => Error::NoTag,
             14 => Error::InvalidTag,
+            16 => Error::RecordTruncated,
+            17 => Error::TrailingBytes,
             other => Error::Unknown(other),
         }
     }
@@ -103,11 +112,14 @@ impl fmt::Display for Error {
             Error::CapacityExceeded => "the text of the trie would be too long for its kind: take ZeroTrieExtendedCapacity, or fewer pairs",
             Error::NoPerfectHash => "no perfect hash was found for the edges of a branch: take a kind without hashed tables, or change a key",
             Error::MixedCase => "two keys begin alike but for the case of a letter: lower-case the keys first",
+            Error::IllegalDelimiter => "a text has the delimiter in it: take a delimiter that none has",
             Error::DuplicateKey => "a key was given twice: give each key once",
             Error::Unsorted => "the keys do not ascend: sort them by their bytes, each once",
             Error::OutOfMemory => "out of memory",
             Error::NoTag => "there are no bytes, and so no tag: give all of the tagged bytes",
             Error::InvalidTag => "the first byte is the tag of no kind: give bytes that were written with a tag",
+            Error::RecordTruncated => "the record is cut: give all of its bytes",
+            Error::TrailingBytes => "bytes follow the record: give its bytes alone",
             Error::NotWellFormed => "The bytes are no trie of the kind",
             Error::Unknown(_) => "Unknown status",
         })
@@ -135,7 +147,7 @@ impl<'a> ZeroTrie<'a> {
         if trie.is_well_formed() { Ok(trie) } else { Err(Error::NotWellFormed) }
     }
 
-    /// The trie of tagged bytes, which tell their kind. What stands behind the tag is not tested.
+    /// The trie of tagged bytes, which tell their kind. What stands after the tag is not tested.
     ///
     /// ```
     /// # use zerotrie_proved::{Error, Kind, ZeroTrie};
@@ -199,7 +211,7 @@ impl<'a> ZeroTrie<'a> {
         found.then_some(value)
     }
 
-    /// Looks up keys that lie one behind another, each up to its end. Writes the value of each, or `missing` for a key that
+    /// Looks up keys that lie one after another, each up to its end. Writes the value of each, or `missing` for a key that
     /// the trie hasn't, as far as there is room; the rest of the room stays.
     ///
     /// ```
@@ -209,7 +221,7 @@ impl<'a> ZeroTrie<'a> {
     /// assert_eq!(values, [5, 99]);
     /// ```
     ///
-    /// An end behind all bytes stands for theirs, and one below the end before it makes an empty key.
+    /// An end past all bytes stands for theirs, and one below the end before it makes an empty key.
     pub fn get_many(&self, keys: &[u8], ends: &[usize], missing: usize, values: &mut [usize]) {
         // SAFETY: four slices, of which the one that is written is borrowed alone.
         let status = unsafe {
@@ -255,7 +267,7 @@ impl<'a> ZeroTrie<'a> {
         Cursor { kind: self.kind, raw, bytes: PhantomData }
     }
 
-    /// A cursor behind a prefix. `None` if no key begins with it.
+    /// A cursor after a prefix. `None` if no key begins with it.
     pub fn cursor_behind(&self, prefix: impl AsRef<[u8]>) -> Option<Cursor<'a>> {
         let (prefix, mut raw) = (prefix.as_ref(), nowhere(self.bytes));
         // SAFETY: two slices, and a cursor that is this call's own.
@@ -287,34 +299,48 @@ impl<'a> ZeroTrie<'a> {
     /// The pairs whose keys begin with a prefix, listed at once; each with its whole key.
     pub fn prefix(&self, prefix: impl AsRef<[u8]>) -> Result<Items, Error> {
         let prefix = prefix.as_ref();
-        let (mut key_bytes, mut count) = (0, 0);
         let mut items = Items { keys: vec![], ends: vec![], values: vec![], next: 0 };
+        // a part at a time, each with twice the room of the one before
+        let mut room = 4096;
         loop {
-            // SAFETY: two slices that are read, three that are written and are this call's own, and two places.
+            let (from, at, places) = (items.keys.len(), items.ends.len(), room / 8);
+            let last_from = if at < 2 { 0 } else { items.ends[at - 2] };
+            items.keys.resize(from + room, 0);
+            items.ends.resize(at + places, 0);
+            items.values.resize(at + places, 0);
+            let (before, keys) = items.keys.split_at_mut(from);
+            let last = &before[last_from..];
+            let (mut count, mut next_len) = (0, 0);
+            // SAFETY: three slices that are read, three beside them that are written, and two places.
             let status = unsafe {
-                ffi::zerotrie_list(
+                ffi::zerotrie_list_some(
                     self.number(),
                     self.bytes.as_ptr(),
                     self.bytes.len(),
                     prefix.as_ptr(),
                     prefix.len(),
-                    items.keys.as_mut_ptr(),
-                    items.keys.len(),
-                    items.ends.as_mut_ptr(),
-                    items.ends.len(),
-                    items.values.as_mut_ptr(),
-                    items.values.len(),
-                    &mut key_bytes,
+                    at > 0,
+                    last.as_ptr(),
+                    last.len(),
+                    keys.as_mut_ptr(),
+                    keys.len(),
+                    items.ends[at..].as_mut_ptr(),
+                    places,
+                    items.values[at..].as_mut_ptr(),
+                    places,
                     &mut count,
+                    &mut next_len,
                 )
             };
+            items.ends.truncate(at + count);
+            items.values.truncate(at + count);
+            for end in &mut items.ends[at..] {
+                *end += from;
+            }
+            items.keys.truncate(items.ends.last().copied().unwrap_or(0));
             match status {
                 0 => return Ok(items),
-                8 => {
-                    items.keys.resize(key_bytes, 0);
-                    items.ends.resize(count, 0);
-                    items.values.resize(count, 0);
-                }
+                8 => room = (2 * room).max(next_len),
                 other => return Err(Error::of(other)),
             }
         }
@@ -508,6 +534,76 @@ fn built<K: AsRef<[u8]>>(kind: Kind, pairs: &[(K, usize)], build: Build) -> Resu
 fn raw_pairs<K: AsRef<[u8]>>(pairs: &[(K, usize)]) -> Vec<ffi::Pair> {
     let of = |key: &[u8]| ffi::Bytes { ptr: key.as_ptr(), len: key.len() };
     pairs.iter().map(|(key, value)| ffi::Pair { key: of(key.as_ref()), value: *value }).collect()
+}
+
+/// A map from two texts to numbers, over the record of a dense table.
+///
+/// ```
+/// use zerotrie_proved::{DenseTable, build_dense};
+///
+/// let record = build_dense(&[("de", "AT", 8), ("de", "CH", 9), ("en", "US", 5)], b'/')?;
+/// let table = DenseTable::from_record(&record);
+/// assert_eq!(table.get("de", "CH"), Ok(Some(9)));
+/// assert_eq!(table.get("en", "CH"), Ok(None));
+/// # Ok::<(), zerotrie_proved::Error>(())
+/// ```
+#[derive(Clone, Copy, Debug, PartialEq, Eq, Hash)]
+pub struct DenseTable<'a> {
+    record: &'a [u8],
+}
+
+impl<'a> DenseTable<'a> {
+    /// The table of a record, which is not tested.
+    pub const fn from_record(record: &'a [u8]) -> Self {
+        DenseTable { record }
+    }
+
+    /// The value of a suffix under a prefix, if there is one. `RecordTruncated` or `TrailingBytes` if the bytes are no record.
+    pub fn get(&self, prefix: impl AsRef<[u8]>, suffix: impl AsRef<[u8]>) -> Result<Option<usize>, Error> {
+        let (record, prefix, suffix, mut value) = (self.record, prefix.as_ref(), suffix.as_ref(), 0);
+        // SAFETY: three slices, and a place that is this call's own.
+        let status = unsafe {
+            ffi::zerotrie_dense_get(record.as_ptr(), record.len(), prefix.as_ptr(), prefix.len(), suffix.as_ptr(),
+                suffix.len(), &mut value)
+        };
+        match status {
+            0 => Ok(Some(value)),
+            15 => Ok(None),
+            status => Err(Error::of(status)),
+        }
+    }
+}
+
+/// The record of the dense table of entries, each a prefix, a suffix and the value of both. They ascend strictly by their
+/// prefixes, and under one prefix by their suffixes; all texts are ASCII and have not the delimiter in them.
+pub fn build_dense<P: AsRef<[u8]>, S: AsRef<[u8]>>(entries: &[(P, S, usize)], delimiter: u8) -> Result<Vec<u8>, Error> {
+    let (mut prefixes, mut suffixes) = (Vec::new(), Vec::new());
+    let (mut prefix_ends, mut suffix_ends) = (Vec::new(), Vec::new());
+    for (prefix, suffix, _) in entries {
+        prefixes.extend_from_slice(prefix.as_ref());
+        prefix_ends.push(prefixes.len());
+        suffixes.extend_from_slice(suffix.as_ref());
+        suffix_ends.push(suffixes.len());
+    }
+    let values: Vec<usize> = entries.iter().map(|entry| entry.2).collect();
+    let mut len = 64 + prefixes.len() + suffixes.len() + 8 * values.len();
+    loop {
+        let mut out = vec![0; len];
+        // SAFETY: five slices, one that is this call's own, and a place.
+        let status = unsafe {
+            ffi::zerotrie_dense_build(prefixes.as_ptr(), prefixes.len(), prefix_ends.as_ptr(), prefix_ends.len(),
+                suffixes.as_ptr(), suffixes.len(), suffix_ends.as_ptr(), suffix_ends.len(), values.as_ptr(), values.len(),
+                delimiter, out.as_mut_ptr(), out.len(), &mut len)
+        };
+        match status {
+            0 => {
+                out.truncate(len);
+                return Ok(out);
+            }
+            8 => continue,
+            status => return Err(Error::of(status)),
+        }
+    }
 }
 
 /// A cursor with nothing left, for the library to write over.

@@ -1,6 +1,6 @@
 //! Calls the proved library from safe Rust.
 use std::collections::BTreeMap;
-use zerotrie_proved::{Error, Kind, ZeroTrie, build, build_sorted, encoded_len};
+use zerotrie_proved::{DenseTable, Error, Kind, ZeroTrie, build, build_dense, build_sorted, encoded_len};
 
 const KINDS: [Kind; 4] = [Kind::SimpleAscii, Kind::PerfectHash, Kind::ExtendedCapacity, Kind::IgnoreCase];
 
@@ -43,6 +43,37 @@ fn refusals() {
     }
     assert_eq!(ZeroTrie::try_from_bytes(Kind::SimpleAscii, b"into"), Err(Error::NotWellFormed));
     assert_eq!(Error::DuplicateKey.to_string(), "a key was given twice: give each key once");
+}
+
+#[test]
+fn dense_tables() {
+    let texts: Vec<String> = (0..300usize).map(|n| format!("{n:03}")).collect();
+    let entries: Vec<(&str, &str, usize)> = texts[..20].iter()
+        .flat_map(|p| texts.iter().filter(|s| !s.ends_with('7')).map(|s| (p.as_str(), s.as_str(), 70_000 * p.len() + s.len() * 3)))
+        .enumerate().map(|(n, (p, s, v))| (p, s, v + n % 60_000)).collect();
+    let record = build_dense(&entries, b'/').unwrap();
+    let table = DenseTable::from_record(&record);
+    for (prefix, suffix, value) in &entries { assert_eq!(table.get(prefix, suffix), Ok(Some(*value))); }
+    for (prefix, suffix) in [("000", "007"), ("021", "000"), ("", "000"), ("000", ""), ("000/", "000"), ("å", "000")] {
+        assert_eq!(table.get(prefix, suffix), Ok(None));
+    }
+    assert!(record.len() < 16_000);
+    let cut = DenseTable::from_record(&record[..record.len() - 1]);
+    assert_eq!(cut.get("000", "000"), Err(Error::RecordTruncated));
+    let longer = [&record[..], b"?"].concat();
+    assert_eq!(DenseTable::from_record(&longer).get("000", "000"), Err(Error::TrailingBytes));
+    assert_eq!(DenseTable::from_record(b"").get("", ""), Err(Error::RecordTruncated));
+    for wrong in [[("b", "a", 1), ("a", "a", 2)], [("a", "b", 1), ("a", "a", 2)], [("a", "a", 1), ("a", "a", 2)]] {
+        assert_eq!(build_dense(&wrong, b'/'), Err(Error::Unsorted));
+    }
+    assert_eq!(build_dense(&[("a", "å", 1)], b'/'), Err(Error::NonAscii));
+    assert_eq!(build_dense(&[(&b"a"[..], &b"\xFF"[..], 1)], b'/'), Err(Error::NonAscii));
+    assert_eq!(build_dense(&[("a", "a", 1)], 128), Err(Error::NonAscii));
+    assert_eq!(build_dense(&[("a", "b/c", 1)], b'/'), Err(Error::IllegalDelimiter));
+    let none = build_dense(&[("", "", 0); 0], b'/').unwrap();
+    assert_eq!(DenseTable::from_record(&none).get("", ""), Ok(None));
+    let empty = build_dense(&[("", "", usize::MAX)], b'/').unwrap();
+    assert_eq!(DenseTable::from_record(&empty).get("", ""), Ok(Some(usize::MAX)));
 }
 
 /// Bytes of every sort: each call returns, and on a trie all ways of reading agree.

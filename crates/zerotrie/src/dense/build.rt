@@ -102,7 +102,8 @@ fn suffixes_of<'s>(
     alloc: Global,
     entries: &BTreeMap<&str, BTreeMap<&'s str, usize>>,
 ) -> Result<BTreeSet<&'s str>, AllocError>
-    ensures { IfOk result (λ set. map (λ s. s.now) set.keys ≡ suffixes (rows_in entries.now.entries)) }
+    ensures { IfOk result (λ set.
+        map (λ s. s.now) set.keys ≡ suffixes (rows_in entries.now.entries)) }
 {
     let mut suffixes = BTreeSet::new(alloc);
     for (_, row) in entries {
@@ -116,7 +117,8 @@ fn columns_of<'s>(
     alloc: Global,
     suffixes: &BTreeSet<&'s str>,
 ) -> Result<Vec<(&'s [u8], usize)>, AllocError>
-    ensures columns { IfOk result (λ columns. pairs_of columns.items ≡ placed 0 (map (λ s. s.now) suffixes.now.keys)) }
+    ensures columns { IfOk result (λ columns.
+        pairs_of columns.items ≡ placed 0 (map (λ s. s.now) suffixes.now.keys)) }
     ensures ascends { OnOk result (Ascends (placed 0 (map (λ s. s.now) suffixes.now.keys))) }
 {
     let mut columns = Vec::new(alloc);
@@ -127,7 +129,7 @@ fn columns_of<'s>(
     Ok(columns)
 }
 
-/// A prefix, the delimiter and a suffix, one behind another.
+/// A prefix, the delimiter and a suffix, one after another.
 fn key_of(alloc: Global, prefix: &str, delimiter: u8, suffix: &str) -> Result<Vec<u8>, AllocError>
     ensures { IfOk result (λ key. key.items ≡ prefix.now ++ (delimiter ∷ suffix.now)) }
 {
@@ -184,7 +186,8 @@ fn push_others_of(
     pairs: &mut Vec<Pair>,
 ) -> Result<(), ZeroTrieBuildError>
     ensures pushed { OnOk result (keyed (λ k. k.items) pairs.new.items
-        ≡ keyed (λ k. k.items) pairs.old.items ++ under row.now.prefix.now delimiter (beside_in (shown row.now))) }
+        ≡ keyed (λ k. k.items) pairs.old.items
+        ++ under row.now.prefix.now delimiter (beside_in (shown row.now))) }
     ensures refused { IfErr result (λ e. e ≡ OutOfMemory) }
 {
     for (suffix, value) in row.entries {
@@ -218,8 +221,10 @@ fn primary_of(
     rows: &[Row<'_, '_>],
     delimiter: u8,
 ) -> Result<Vec<Pair>, ZeroTrieBuildError>
-    ensures pairs { IfOk result (λ pairs. keyed (λ k. k.items) pairs.items ≡ numbers_in 0 (map shown rows.now)
-        ++ (offsets_in delimiter (map shown rows.now) ++ others_in delimiter (map shown rows.now))) }
+    ensures pairs { IfOk result (λ pairs.
+        keyed (λ k. k.items) pairs.items ≡ numbers_in 0 (map shown rows.now)
+        ++ (offsets_in delimiter (map shown rows.now)
+        ++ others_in delimiter (map shown rows.now))) }
     ensures refused { IfErr result (λ e. e ≡ OutOfMemory) }
 {
     let mut pairs = Vec::new(alloc);
@@ -234,7 +239,8 @@ fn primary_trie(
     alloc: Global,
     pairs: Vec<Pair>,
 ) -> Result<ZeroTrieSimpleAscii<Vec<u8>>, ZeroTrieBuildError>
-    ensures { IsBuild any_order simple_ascii (λ trie. trie.store.items) (keyed (λ k. k.items) pairs.items) result }
+    ensures { IsBuild any_order simple_ascii (λ trie. trie.store.items)
+        (keyed (λ k. k.items) pairs.items) result }
 {
     ZeroTrieSimpleAscii::try_from_iter(alloc, pairs)
 }
@@ -242,7 +248,8 @@ fn primary_trie(
 /// The cell of a suffix: the value in the row's window less the row's offset, or 65,535.
 fn cell_in(row: &Row<'_, '_>, suffix: &str) -> u16
     requires { Ascends (shown row.now).pairs }
-    ensures { result ≡ cell_of row.now.offset (value_at simple_ascii (within row.now.offset (shown row.now).pairs) suffix.now) }
+    ensures { result ≡ cell_of row.now.offset
+        (value_at simple_ascii (within row.now.offset (shown row.now).pairs) suffix.now) }
 {
     match row.entries.get(suffix) {
         Some(value) => {
@@ -264,7 +271,8 @@ fn push_cells(
 ) -> Result<(), AllocError>
     requires { Ascends (shown row.now).pairs }
     ensures { OnOk result (matrix.new.items
-        ≡ matrix.old.items ++ matrix_bytes (cells_in (map (λ s. s.now) suffixes.now.keys) (shown row.now))) }
+        ≡ matrix.old.items ++ matrix_bytes
+        (cells_in (map (λ s. s.now) suffixes.now.keys) (shown row.now))) }
 {
     for suffix in suffixes {
         let cell = cell_in(row, suffix);
@@ -281,7 +289,8 @@ fn push_dense_cells(
 ) -> Result<(), AllocError>
     requires { Ascends (shown row.now).pairs }
     ensures { OnOk result (matrix.new.items
-        ≡ matrix.old.items ++ matrix_bytes (dense_cells (map (λ s. s.now) suffixes.now.keys) (shown row.now))) }
+        ≡ matrix.old.items ++ matrix_bytes
+        (dense_cells (map (λ s. s.now) suffixes.now.keys) (shown row.now))) }
 {
     if !row.is_dense {
         return Ok(());
@@ -325,11 +334,11 @@ impl ZeroAsciiDenseSparse2dTrieOwned {
     ///
     /// # Errors
     ///
-    /// - `NonAsciiError` where a text or the delimiter is not ASCII,
-    /// - `IllegalDelimiter` where a text holds the delimiter,
-    /// - `CapacityExceeded` where there are more than 65,535 suffixes, or the primary trie, the trie of the
+    /// - `NonAsciiError` if a text or the delimiter is not ASCII,
+    /// - `IllegalDelimiter` if a text holds the delimiter,
+    /// - `CapacityExceeded` if there are more than 65,535 suffixes, or the primary trie, the trie of the
     ///   suffixes or the trie of a row's window would exceed the capacity of its kind,
-    /// - `OutOfMemory` where a growth was refused.
+    /// - `OutOfMemory` if memory runs out.
     pub fn try_from_btree_map_str(
         alloc: Global,
         entries: &BTreeMap<&str, BTreeMap<&str, usize>>,

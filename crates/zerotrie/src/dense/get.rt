@@ -29,7 +29,8 @@ fn follow(trie: &mut &[u8], key: &[u8])
 
 /// The value of a key in the trie that is left.
 fn value_behind(trie: &[u8], key: &[u8]) -> Option<usize>
-    ensures { (pairs : Pairs) → Lists simple_ascii trie.now pairs → result ≡ value_at simple_ascii pairs key.now }
+    ensures { (pairs : Pairs) → Lists simple_ascii trie.now pairs
+        → result ≡ value_at simple_ascii pairs key.now }
 {
     let mut left = trie;
     follow(&mut left, key);
@@ -38,7 +39,8 @@ fn value_behind(trie: &[u8], key: &[u8]) -> Option<usize>
 
 /// The value of a key in the trie that is left, but of the empty key none.
 fn value_beside(trie: &[u8], key: &[u8]) -> Option<usize>
-    ensures { (pairs : Pairs) → Lists simple_ascii trie.now pairs → result ≡ beside_value pairs key.now }
+    ensures { (pairs : Pairs) → Lists simple_ascii trie.now pairs
+        → result ≡ beside_value pairs key.now }
 {
     if key.is_empty() {
         return None;
@@ -54,7 +56,7 @@ fn holds(text: &[u8], byte: u8) -> bool
 }
 
 impl<'a> ZeroAsciiDenseSparse2dTrieBorrowed<'a> {
-    /// The value of a suffix in the row of a prefix, or `None` where it is not there.
+    /// The value of a suffix in the row of a prefix, or `None` if it is not there.
     ///
     /// ```
     /// use zerotrie::dense::ZeroAsciiDenseSparse2dTrieOwned;
@@ -75,9 +77,29 @@ impl<'a> ZeroAsciiDenseSparse2dTrieBorrowed<'a> {
         ensures entry { Answers (parts_of self.now) prefix.now suffix.now result }
         ensures maps { AnswersByMaps (parts_of self.now) prefix.now suffix.now result }
     {
+        self.get_bytes(prefix.as_bytes(), suffix.as_bytes())
+    }
+
+    /// The same for texts that are given as bytes, which need not be UTF-8.
+    ///
+    /// ```
+    /// use zerotrie::dense::ZeroAsciiDenseSparse2dTrieOwned;
+    ///
+    /// let mut row: BTreeMap<&str, usize> = BTreeMap::new(rt.alloc());
+    /// row.insert("US", 8)?;
+    /// let mut rows: BTreeMap<&str, BTreeMap<&str, usize>> = BTreeMap::new(rt.alloc());
+    /// rows.insert("en", row)?;
+    /// let table = ZeroAsciiDenseSparse2dTrieOwned::try_from_btree_map_str(rt.alloc(), &rows, b'/')?;
+    /// assert_eq!(rt; table.as_borrowed().get_bytes(b"en", b"US"), Some(8));
+    /// assert_eq!(rt; table.as_borrowed().get_bytes(b"en", b"\xFF"), None);
+    /// ```
+    pub fn get_bytes(&self, prefix: &[u8], suffix: &[u8]) -> Option<usize>
+        ensures entry { Answers (parts_of self.now) prefix.now suffix.now result }
+        ensures maps { AnswersByMaps (parts_of self.now) prefix.now suffix.now result }
+    {
         laws::canonical_exactly();
         answer_is_entry();
-        self.answer(prefix.as_bytes(), suffix.as_bytes())
+        self.answer(prefix, suffix)
     }
 
     /// What the two tries and the matrix answer.
@@ -132,7 +154,8 @@ impl<'a> ZeroAsciiDenseSparse2dTrieBorrowed<'a> {
 
     /// The cell of a row and a column, if there is one.
     fn cell(&self, row: usize, column: usize) -> Option<u16>
-        ensures { result ≡ cell_at (parts_of self.now).matrix (row * (parts_of self.now).suffix_count + column) }
+        ensures { result ≡ cell_at (parts_of self.now).matrix
+            (row * (parts_of self.now).suffix_count + column) }
     {
         let index = row
             .checked_mul(usize::from(self.suffix_count))?

@@ -40,7 +40,7 @@ impl<'a> ZeroAsciiDenseSparse2dTrieBorrowed<'a> {
     /// the lengths of the two tries and the number of cells in eight bytes each. The tries and the cells of
     /// the matrix follow, two bytes a cell.
     ///
-    /// The only error is want of memory.
+    /// The only error is out of memory.
     pub fn to_record_bytes(&self, alloc: Global) -> Result<Vec<u8>, AllocError>
         ensures { IfOk result (λ bytes. bytes.items ≡ record_of (parts_of self.now)) }
     {
@@ -77,10 +77,12 @@ impl<'a> ZeroAsciiDenseSparse2dTrieBorrowed<'a> {
     /// `TrailingBytes`. The tries and the matrix are not tested: on any table `get` gives some answer.
     pub fn try_from_record_bytes(bytes: &'a [u8]) -> Result<Self, RecordError>
         ensures read { IfOk result (λ t. bytes.now ≡ record_of (parts_of t)) }
-        ensures truncated { IsErrOf result RecordError.Truncated ↔ (length bytes.now < asked bytes.now) }
+        ensures truncated { IsErrOf result RecordError.Truncated
+            ↔ (length bytes.now < asked bytes.now) }
         ensures written { (parts : Parts) → IsWhole parts → bytes.now ≡ record_of parts
             → IsOkAnd result (λ t. parts_of t ≡ parts) }
-        ensures trailing { IsErrOf result RecordError.TrailingBytes ↔ (asked bytes.now < length bytes.now) }
+        ensures trailing { IsErrOf result RecordError.TrailingBytes
+            ↔ (asked bytes.now < length bytes.now) }
     {
         if bytes.len() < 27 {
             return Err(RecordError::Truncated);

@@ -60,7 +60,8 @@ fn pairs_inside<'s>(
     entries: &BTreeMap<&'s str, usize>,
     start: usize,
 ) -> Result<Vec<(&'s str, usize)>, AllocError>
-    ensures { IfOk result (λ pairs. pairs_of pairs.items ≡ within start (pairs_in entries.now.entries)) }
+    ensures { IfOk result (λ pairs.
+        pairs_of pairs.items ≡ within start (pairs_in entries.now.entries)) }
 {
     let mut pairs = Vec::new(alloc);
     for (suffix, value) in entries {
@@ -74,7 +75,8 @@ fn pairs_inside<'s>(
 /// Whether the row has the empty suffix with a value outside the window from `start` on.
 fn has_empty_outside(entries: &BTreeMap<&str, usize>, start: usize) -> bool
     requires { Ascends (pairs_in entries.now.entries) }
-    ensures { result ≡ is_some (value_at simple_ascii (without start (pairs_in entries.now.entries)) []) }
+    ensures { result ≡ is_some
+        (value_at simple_ascii (without start (pairs_in entries.now.entries)) []) }
 {
     match entries.get("") {
         Some(value) => !is_in_window(start, *value),
@@ -99,7 +101,8 @@ fn window_len(
     requires start { start ≡ offset (pairs_in entries.now.entries) }
     requires ascends { Ascends (pairs_in entries.now.entries) }
     requires plain { ArePlain (keys (pairs_in entries.now.entries)) }
-    ensures len { IfOk result (λ len. len ≡ size_of simple_ascii (within start (pairs_in entries.now.entries))) }
+    ensures len { IfOk result (λ len.
+        len ≡ size_of simple_ascii (within start (pairs_in entries.now.entries))) }
     ensures refused { IfErr result (IsRowRefusal (pairs_in entries.now.entries)) }
 {
     let pairs = pairs_inside(alloc, entries, start)?;
@@ -107,7 +110,7 @@ fn window_len(
     Ok(len)
 }
 
-/// Whether a row of a table of so many suffixes stands in the matrix: its window would be longer as a trie,
+/// Whether a row stands in the matrix of a table with this number of suffixes: its window would be longer as a trie,
 /// and the empty suffix is not outside the window.
 fn is_dense_row(
     alloc: Global,
@@ -126,7 +129,7 @@ fn is_dense_row(
     Ok(len > 2 * columns && !has_empty_outside(entries, start))
 }
 
-/// A row of a table of so many suffixes.
+/// A row of a table with this number of suffixes.
 fn row_of<'m, 's>(
     alloc: Global,
     prefix: &'m str,
@@ -135,7 +138,8 @@ fn row_of<'m, 's>(
 ) -> Result<Row<'m, 's>, ZeroTrieBuildError>
     requires plain { ArePlain (keys (pairs_in entries.now.entries)) }
     requires few { columns ≤ 65535 }
-    ensures row { IfOk result (λ row. shown row ≡ laid columns (prefix.now, pairs_in entries.now.entries)) }
+    ensures row { IfOk result (λ row.
+        shown row ≡ laid columns (prefix.now, pairs_in entries.now.entries)) }
     ensures ascends { OnOk result (Ascends (pairs_in entries.now.entries)) }
     ensures refused { IfErr result (IsRowRefusal (pairs_in entries.now.entries)) }
 {
@@ -149,7 +153,7 @@ fn row_of<'m, 's>(
     })
 }
 
-/// The rows of a table of so many suffixes, in their order.
+/// The rows of a table with this number of suffixes, in their order.
 #[tactic(auto, using(crate::proofs::RowsLemmas::plain_left, crate::proofs::RowsLemmas::plain_right))]
 pub(crate) fn rows_of<'m, 's>(
     alloc: Global,
@@ -158,7 +162,8 @@ pub(crate) fn rows_of<'m, 's>(
 ) -> Result<Vec<Row<'m, 's>>, ZeroTrieBuildError>
     requires plain { ArePlain (texts (rows_in entries.now.entries)) }
     requires few { columns ≤ 65535 }
-    ensures rows { IfOk result (λ rows. map shown rows.items ≡ map (laid columns) (rows_in entries.now.entries)) }
+    ensures rows { IfOk result (λ rows.
+        map shown rows.items ≡ map (laid columns) (rows_in entries.now.entries)) }
     ensures order { OnOk result (IsInOrder (rows_in entries.now.entries)) }
     ensures refused { IfErr result (λ e. (e ≡ OutOfMemory)
         ⊎ ((e ≡ CapacityExceeded) × SomeWideWindow (rows_in entries.now.entries))) }

@@ -83,7 +83,8 @@ fn pair_of(alloc: Global, value: &Value) -> Result<(Vec<u8>, usize), JsonError>
 
 /// The pairs in the items of a list.
 fn pairs_of_list(alloc: Global, items: &[Value]) -> Result<OwnedPairs, JsonError>
-    ensures { IsReading (λ pairs. keyed (λ key. key.items) pairs.items) (each pair_in (items_view items.now)) result }
+    ensures { IsReading (λ pairs. keyed (λ key. key.items) pairs.items)
+        (each pair_in (items_view items.now)) result }
 {
     let mut pairs = Vec::new(alloc);
     for item in items {
@@ -94,7 +95,8 @@ fn pairs_of_list(alloc: Global, items: &[Value]) -> Result<OwnedPairs, JsonError
 
 /// The pairs in the members of an object, in the order of their keys.
 fn pairs_of_members(alloc: Global, members: &Map<String, Value>) -> Result<OwnedPairs, JsonError>
-    ensures { IsReading (λ pairs. keyed (λ key. key.items) pairs.items) (member_pairs (members_view members.now.entries)) result }
+    ensures { IsReading (λ pairs. keyed (λ key. key.items) pairs.items)
+        (member_pairs (members_view members.now.entries)) result }
 {
     let mut pairs = Vec::new(alloc);
     for (key, value) in members {
@@ -108,7 +110,8 @@ fn pairs_of_members(alloc: Global, members: &Map<String, Value>) -> Result<Owned
 
 /// The pairs in a value.
 fn pairs_of(alloc: Global, value: &Value) -> Result<OwnedPairs, JsonError>
-    ensures { IsReading (λ pairs. keyed (λ key. key.items) pairs.items) (pairs_in (view value.now)) result }
+    ensures { IsReading (λ pairs. keyed (λ key. key.items) pairs.items) (pairs_in (view value.now))
+        result }
 {
     if let Some(members) = value.as_object() {
         return pairs_of_members(alloc, members);
@@ -134,7 +137,7 @@ fn pairs_of(alloc: Global, value: &Value) -> Result<OwnedPairs, JsonError>
 /// An object has each key once. If a text gives one key twice in an object, `Value::from_str` keeps the last
 /// number. A list may have a key twice, and then its build is refused with `DuplicateKey`.
 ///
-/// The error is `Shape` where the value is anything else, `Build` where a build of its pairs by an iterator
+/// The error is `Shape` if the value is anything else, `Build` if a build of its pairs by an iterator
 /// is refused, with the reason, and `OutOfMemory`.
 pub fn bytes_from_json<K: ZeroTrieWithOptions>(
     alloc: Global,
@@ -156,10 +159,11 @@ impl ZeroTrie<Vec<u8>> {
     /// assert_eq!(rt; trie.get(b"\xFF"), Some(3));
     /// ```
     ///
-    /// The value is as `bytes_from_json` says. The error is `Shape` where it is anything else, `Build` where
+    /// The value is as `bytes_from_json` says. The error is `Shape` if it is anything else, `Build` if
     /// `try_from_iter` of its pairs is refused, with the reason, and `OutOfMemory`.
     pub fn try_from_json_value(alloc: Global, value: &Value) -> Result<Self, JsonError>
-        ensures kind { IfOk result (λ trie. HasPairs (view value.now) (λ pairs. flavor_kind trie.flavor ≡ auto_kind pairs)) }
+        ensures kind { IfOk result (λ trie.
+            HasPairs (view value.now) (λ pairs. flavor_kind trie.flavor ≡ auto_kind pairs)) }
         ensures build { IsBuildOfJson auto_kind (λ trie. trie.store.items) (view value.now) result }
     {
         let pairs = pairs_of(alloc, value)?;

@@ -17,13 +17,14 @@ use std::alloc::{AllocError, Global};
 use std::collections::BTreeMap;
 use zerotrie_core::{Ext, Hash, Simple, TrieStore, ZeroTrieWithOptions};
 
-/// The members of an object from keys to values, or `None` where some key is not UTF-8.
+/// The members of an object from keys to values, or `None` if some key is not UTF-8.
 fn members_of(
     alloc: Global,
     entries: &BTreeMap<Vec<u8>, usize>,
 ) -> Result<Option<Map<String, Value>>, AllocError>
     ensures { let pairs = keyed (λ key. key.items) entries.now.entries in IfOk result (λ answer.
-        option_map (λ ms. members_view ms.entries) answer ≡ if are_text pairs then Some (members pairs) else None) }
+        option_map (λ ms. members_view ms.entries) answer
+        ≡ if are_text pairs then Some (members pairs) else None) }
 {
     let mut members = Map::new(alloc);
     for (key, value) in entries {
@@ -58,7 +59,8 @@ fn pair_list(alloc: Global, key: &[u8], value: usize) -> Result<Value, AllocErro
 
 /// A list of pairs.
 fn pairs_list(alloc: Global, entries: &BTreeMap<Vec<u8>, usize>) -> Result<Value, AllocError>
-    ensures { IfOk result (λ v. view v ≡ list_of (map pair_list (keyed (λ key. key.items) entries.now.entries))) }
+    ensures { IfOk result (λ v.
+        view v ≡ list_of (map pair_list (keyed (λ key. key.items) entries.now.entries))) }
 {
     let mut items = Vec::new(alloc);
     for (key, value) in entries {
@@ -67,7 +69,7 @@ fn pairs_list(alloc: Global, entries: &BTreeMap<Vec<u8>, usize>) -> Result<Value
     Ok(Value::Array(items))
 }
 
-/// The value of a map: an object where each key is UTF-8, and else a list of pairs.
+/// The value of a map: an object if each key is UTF-8, and else a list of pairs.
 fn json_of_map(alloc: Global, entries: &BTreeMap<Vec<u8>, usize>) -> Result<Value, AllocError>
     ensures { IfOk result (λ v. view v ≡ json_of (keyed (λ key. key.items) entries.now.entries)) }
 {
@@ -84,7 +86,7 @@ fn json_of_map(alloc: Global, entries: &BTreeMap<Vec<u8>, usize>) -> Result<Valu
 /// assert_eq!(rt; value.to_string(rt.alloc())?.as_str(), r#"{"ad":22,"adef":33}"#);
 /// ```
 ///
-/// Where all keys are UTF-8, it is an object from key to number. Else it is a list of pairs, ascending by the
+/// If all keys are UTF-8, it is an object from key to number. Else it is a list of pairs, ascending by the
 /// bytes of their keys, each a list of two: the list of the key's bytes, and the number.
 ///
 /// The only error is `OutOfMemory`. On bytes that mean no map some value is answered.
@@ -107,7 +109,7 @@ impl<S: TrieStore> ZeroTrie<S> {
     /// assert_eq!(rt; value.to_string(rt.alloc())?.as_str(), "[[[255],3]]");
     /// ```
     ///
-    /// Where all keys are UTF-8, it is an object from key to number. Else it is a list of pairs, ascending by
+    /// If all keys are UTF-8, it is an object from key to number. Else it is a list of pairs, ascending by
     /// the bytes of their keys, each a list of two: the list of the key's bytes, and the number.
     ///
     /// The only error is `OutOfMemory`. On bytes that mean no map some value is answered.

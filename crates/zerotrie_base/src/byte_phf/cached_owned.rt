@@ -60,7 +60,7 @@ impl<A: Allocator + Copy> HeldTables<A> {
         Ok(())
     }
 
-    /// Makes and holds the table where it is not held. Keys are refused as by [`PerfectByteHashMap::try_new`], and then
+    /// Makes and holds the table if it is not held. Keys are refused as by [`PerfectByteHashMap::try_new`], and then
     /// nothing changes.
     #[tactic(auto, using(crate::proofs::CacheLemmas::there_after))]
     pub fn hold(&mut self, keys: &[u8]) -> Result<(), ZeroTrieBuildError>
@@ -124,7 +124,7 @@ impl PerfectByteHashMapCacheOwned {
         }
     }
 
-    /// The table of the keys. Where the cache holds one for just these keys, in this order, that is the
+    /// The table of the keys. If the cache holds one for just these keys, in this order, that is the
     /// answer, no memory is taken and nothing changes. Else the table is made and held, beside all others.
     ///
     /// The keys have to be distinct, which [`super::are_distinct`] tells. Keys whose table is not held are

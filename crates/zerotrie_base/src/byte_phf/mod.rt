@@ -34,7 +34,7 @@ const Q_FAST_MAX: u8 = 95;
 /// assert_eq!(rt; f1(10, 1, 10), 4);
 /// ```
 ///
-/// The remainder by `n` of the byte where `p` is 0, and else of the byte, `p` and the byte shifted right
+/// The remainder by `n` of the byte if `p` is 0, and else of the byte, `p` and the byte shifted right
 /// by `p` modulo 8, in exclusive or. An `n` of 0 stands for 256: every byte is its own bucket.
 pub fn f1(byte: u8, p: u8, n: u8) -> u8
     ensures { result ≡ f1 byte p n }
@@ -66,7 +66,7 @@ fn mixed(byte: u8, p: u8) -> u8
 /// ```
 ///
 /// The remainder by `n` of the byte and `q` in exclusive or. That number is first turned `q - 95` times
-/// where `q` is above 95: one turn is its exclusive or with itself shifted left and right by one, in
+/// if `q` is above 95: one turn is its exclusive or with itself shifted left and right by one, in
 /// eight bits. An `n` of 0 stands for 256: every byte is its own place.
 pub fn f2(byte: u8, q: u8, n: u8) -> u8
     ensures { result ≡ f2 byte q n }
@@ -175,7 +175,7 @@ impl PerfectByteHashMap<Vec<u8>> {
     ///
     /// `CouldNotSolvePerfectHash` is answered only for 1 to 255 keys that are not straight: for no `p`
     /// can the buckets, the largest first, each be given the least `q` at which the places of its keys
-    /// are distinct and free. `OutOfMemory` is answered where a growth was refused.
+    /// are distinct and free. `OutOfMemory` is answered if memory runs out.
     pub fn try_new(
         alloc: Global,
         keys: &[u8],
@@ -183,7 +183,8 @@ impl PerfectByteHashMap<Vec<u8>> {
         requires { IsDistinct nat_eq keys.now }
         ensures table { IfOk result (λ table. IsPerfectTable keys.now table.store.items) }
         ensures plain { IfOk result (λ table. IsPlain keys.now
-            → (placed : List ℕ) × (table.store.items ≡ replicate (1 + length keys.now) 0 ++ placed)) }
+            → (placed : List ℕ) × (table.store.items
+            ≡ replicate (1 + length keys.now) 0 ++ placed)) }
         ensures refused { IfErr result (IsTableRefusal keys.now) }
     {
         let store = table_of(alloc, keys)?;
@@ -210,15 +211,16 @@ impl<'a> PerfectByteHashMap<&'a [u8]> {
 }
 
 impl<S: TrieStore> PerfectByteHashMap<S> {
-    /// The place of the key, or `None` where the table does not have it.
+    /// The place of the key, or `None` if the table does not have it.
     ///
     /// On a perfect table key number i is at the place i. On any other bytes: with n half the number of
-    /// bytes behind the first one, rounded down, the place comes from the first n of them, and it is
+    /// bytes after the first one, rounded down, the place comes from the first n of them, and it is
     /// answered if the byte n further on is the key.
     pub fn get(&self, key: u8) -> Option<usize>
         ensures any { result ≡ number_of (S.stored self.now.store) key }
         ensures perfect { (p : ℕ) (qs keys : List ℕ) → S.stored self.now.store ≡ p ∷ (qs ++ keys)
-            → IsPerfect p qs keys → (i : ℕ) → (result ≡ Some i) ↔ ((i < length keys) × (slice_index keys i ≡ key)) }
+            → IsPerfect p qs keys → (i : ℕ) → (result ≡ Some i)
+            ↔ ((i < length keys) × (slice_index keys i ≡ key)) }
     {
         number_of(self.store.bytes(), key)
     }
@@ -231,9 +233,10 @@ impl<S: TrieStore> PerfectByteHashMap<S> {
     }
 
     /// The keys in the order of their places: what follows the first `1 + num_items` bytes, and nothing
-    /// where there are fewer.
+    /// if there are fewer.
     pub fn keys(&self) -> &[u8]
-        ensures { let bytes = S.stored self.now.store in result.now ≡ drop (1 + length bytes / 2) bytes }
+        ensures { let bytes = S.stored self.now.store in result.now
+            ≡ drop (1 + length bytes / 2) bytes }
     {
         let bytes = self.store.bytes();
         bytes.get(1 + bytes.len() / 2..).unwrap_or(&[])

@@ -22,7 +22,7 @@ impl Model for Remainders {
 }
 
 impl Remainders {
-    /// The remainders by `n`, or the bytes themselves where that is 0.
+    /// The remainders by `n`, or the bytes themselves if that is 0.
     pub fn by(n: u8) -> Self
         ensures { result ≡ n }
     {

@@ -71,7 +71,7 @@ pub fn bytes_within<const K: usize>(
 }
 
 /// Writes the text of the trie of the items at the end of the buffer, if it has room for it, and answers how
-/// many bytes the text has, or the greatest number where it has more.
+/// many bytes the text has, or the greatest number if it has more.
 fn write<const K: usize>(
     buffer: &mut [u8],
     items: ByteSliceWithIndices<'_>,

@@ -98,7 +98,7 @@ impl Text<'_> {
         }
     }
 
-    /// Puts so many bytes of each offset of a branch to these targets in front.
+    /// Puts `bytes` bytes of each offset of a branch to these targets in front.
     fn put_offsets(&mut self, siblings: &[Sibling], total: usize, bytes: usize)
         requires bytes { bytes ≤ 8 }
         requires total { total ≡ total_of (lens_of (tops siblings.now)) }
@@ -135,7 +135,7 @@ impl Text<'_> {
     }
 }
 
-/// How many bytes the targets have together, or the greatest number where they have more.
+/// How many bytes the targets have together, or the greatest number if they have more.
 pub(crate) fn total(siblings: &[Sibling]) -> usize
     ensures exact { total_of (lens_of (tops siblings.now)) < 2 ^ 64
         → result ≡ total_of (lens_of (tops siblings.now)) }

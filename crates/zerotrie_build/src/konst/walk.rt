@@ -1,6 +1,6 @@
 //! The items, from the last to the first, and the branches where they part.
 //!
-//! In front stands the text of what lies under the first bytes of one key, and behind it the targets of open
+//! In front stands the text of what lies under the first bytes of one key, and after it the targets of open
 //! branches, the siblings, of which the one that was set aside last stands in front.
 
 ghost use Rattle.std.specs.Prelude.{◌≡◌, ◌≢◌, ℕ, ◌+◌, ◌^◌, ◌<◌, ◌≤◌, ◌∷◌, length, take, drop, All, IfOk, IfErr, OnOk, true, false, suc, List};
@@ -171,7 +171,7 @@ fn go_before<const K: usize>(
     set_aside(text, siblings, key[common], common)
 }
 
-/// Adds the item of this number, behind which all items are added.
+/// Adds the item of this number, after which all items are added.
 fn add<const K: usize>(
     text: &mut Text<'_>,
     siblings: &mut ArrayVec<Sibling, K>,
@@ -183,7 +183,8 @@ fn add<const K: usize>(
     requires ascii { All (λ e. All (λ b. b < 128) e.0) (pairs items) }
     requires built { BuiltFrom K (suc index) (pairs items) text.old siblings.old.items }
     ensures keeps { OnOk result (Keeps text.old text.new) }
-    ensures built { OnOk result (BuiltFrom K index (pairs items.entry) text.new siblings.new.items) }
+    ensures built { OnOk result
+        (BuiltFrom K index (pairs items.entry) text.new siblings.new.items) }
     ensures refused { IfErr result (IsStuck K (pairs items.entry)) }
 {
     let (key, value) = items.get(index);
@@ -196,7 +197,7 @@ fn add<const K: usize>(
 }
 
 /// Writes the text of the trie of the items at the end of the buffer, if it has room for it, and answers how
-/// many bytes the text has, or the greatest number where it has more. What stands before the text stays.
+/// many bytes the text has, or the greatest number if it has more. What stands before the text stays.
 pub(crate) fn grow<const K: usize>(
     buffer: &mut [u8],
     items: ByteSliceWithIndices<'_>,

@@ -78,7 +78,7 @@ fn lengths_of_long_keys(rt: HostRuntime) -> Result<(), Fail> {
     Ok(())
 }
 
-/// A build grows its store once, and writes each byte at a place behind those written before.
+/// A build grows its store once, and writes each byte at a place after those written before.
 #[test]
 fn a_build_grows_once(rt: HostRuntime) -> Result<(), Fail> {
     let rows: [&[(&str, usize)]; 3] = [
@@ -128,7 +128,7 @@ fn over_heap<K: ZeroTrieWithOptions>(
     Ok(store.atbs_to_bytes(alloc)?)
 }
 
-/// Over heaps of rising size a build is refused for want of memory, at a later request each time, until it has
+/// Over heaps of rising size a build is refused if memory runs out, at a later request each time, until it has
 /// its text. All memory is given back.
 #[test]
 fn every_size_of_heap(rt: HostRuntime) -> Result<(), Fail> {

@@ -4,7 +4,7 @@ use super::*;
 use linked_list_allocator::LocalHeap;
 use zerotrie_base::{HeldTables, ZeroTrieBuildError, are_distinct};
 
-/// Over heaps of rising size a table is refused for want of memory, until it is held, and the keys whose table was
+/// Over heaps of rising size a table is refused if memory runs out, until it is held, and the keys whose table was
 /// held before are answered as at first.
 #[test]
 fn every_size_of_heap(rt: HostRuntime) -> Result<(), Fail> {

@@ -27,7 +27,7 @@ fn refusals<H: AllocGlobal + Abort>(rt: &H, heap: &LocalHeap, bytes: &[u8]) -> R
     Ok(refused)
 }
 
-/// Over heaps of rising size a listing is refused for want of memory, until it gives all of the pairs. All memory is
+/// Over heaps of rising size a listing is refused if memory runs out, until it gives all of the pairs. All memory is
 /// given back.
 #[test]
 fn every_size_of_heap(rt: HostRuntime) -> Result<(), Fail> {

@@ -3,7 +3,7 @@
 use super::*;
 use zerotrie_core::{read_varint_meta2, read_varint_meta3, write_varint_meta2, write_varint_meta3};
 
-/// Spellings from the format's own tables, each with the number and the bytes behind it.
+/// Spellings from the format's own tables, each with the number and the bytes after it.
 #[test]
 fn latent_sums_of_each_length(rt: HostRuntime) -> Result<(), Fail> {
     let meta2: [(&[u8], usize, &[u8]); 11] = [

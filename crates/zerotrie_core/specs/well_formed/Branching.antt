@@ -37,10 +37,20 @@ pub record IsLongest (n w : ℕ) (behind : List ℕ) (count place : ℕ) : Type 
   pub most : (i : ℕ) → i < count → extent n w behind i ≤ extent n w behind place
   pub first : (i : ℕ) → i < place → extent n w behind i < extent n w behind place
 
--- Table, width and offsets are well-formed, and the longest target is at the place.
-pub record IsSound (kind : Kind) (n w : ℕ) (table behind : List ℕ) (place : ℕ) : Type 0 where
+-- Table and width are well-formed.
+pub record HasFront (kind : Kind) (n w : ℕ) (table behind : List ℕ) : Type 0 where
   pub has_table : length table ≡ table_size kind n → HasTable kind (take n behind) table
   pub bytes : AreBytes (drop n behind)
   pub is_width : IsWidth (length (targets_behind n w behind)) (w - 1)
+
+-- The target at an index is there: its bytes lie within the branch, and it is not empty.
+pub record IsTarget (n w : ℕ) (behind : List ℕ) (index : ℕ) (target : List ℕ) : Type 0 where
+  pub some : begin_of n w behind index < end_of n w behind index
+  pub within : end_of n w behind index ≤ length (targets_behind n w behind)
+  pub is : target ≡ piece n w behind index
+
+-- Table, width and offsets are well-formed, and the longest target is at the place.
+pub record IsSound (kind : Kind) (n w : ℕ) (table behind : List ℕ) (place : ℕ) : Type 0 where
+  pub front : HasFront kind n w table behind
   pub in_order : InOrder n w behind n
   pub is_longest : IsLongest n w behind n place

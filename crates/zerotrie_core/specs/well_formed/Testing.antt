@@ -1,15 +1,16 @@
 -- What the test of bytes knows on its way.
-use Rattle.std.specs.Prelude.{◌≡◌, ◌≢◌, ℕ, ◌<◌, List, [], length, max}
+use Rattle.std.specs.Prelude.{◌≡◌, ◌≢◌, ℕ, ◌<◌, ◌≤◌, ◌⊎◌, List, [], length, max, slice_index}
 use Rattle.zerotrie_core.specs.Kind.{Kind}
 use Rattle.zerotrie_core.specs.Maps.{Pairs}
 use Rattle.zerotrie_core.specs.Texts.{Lists, NoValueFirst, NoSpanFirst}
 use Rattle.zerotrie_core.specs.Nodes.{Shape, Begins}
 use Rattle.zerotrie_core.specs.Shapes.{branch_shape}
 use Rattle.zerotrie_core.specs.WellFormed.{deep}
+use Rattle.zerotrie_core.specs.listing.Runs.{EndsWith}
 use Rattle.zerotrie_core.specs.declared.well_formed.Expected.{Expected}
 use Rattle.zerotrie_core.specs.declared.well_formed.Expected.TheVariants.{Anything, NoValue, NoSpan, Something}
 use Rattle.zerotrie_core.specs.declared.well_formed.Step.{Step}
-use Rattle.zerotrie_core.specs.declared.well_formed.Step.TheVariants.{Wrong, Over, Behind}
+use Rattle.zerotrie_core.specs.declared.well_formed.Step.TheVariants.{Wrong, Literals, Over, Behind}
 
 -- the bytes are a text of the kind
 abbrev pub IsText : Kind → List ℕ → Type 0
@@ -48,7 +49,21 @@ AlwaysSuits kind node expected = (bytes : List ℕ) → Begins kind bytes node �
 -- What a node comes to, where so much was expected.
 abbrev pub Steps : Kind → Shape → Expected → Step → Type 0
 Steps kind node expected Wrong = (bytes : List ℕ) → Begins kind bytes node → Suits expected bytes → IsText kind bytes → ⊥
+Steps kind node expected Literals =
+    ((bytes : List ℕ) → Begins kind bytes node → (0 < length bytes) × (slice_index bytes 0 < 128))
+    × AlwaysSuits kind node expected
 Steps kind node expected (Over rest next) =
-    ((bytes : List ℕ) → Begins kind bytes node → length rest.now < length bytes)
+    ((bytes : List ℕ) → Begins kind bytes node → (length rest.now < length bytes) × EndsWith bytes rest.now)
     × AlwaysSuits kind node expected × AlwaysOnward kind node rest.now next 1
 Steps kind node expected (Behind b) = (node ≡ branch_shape b) × AlwaysSuits kind node expected
+
+-- The bytes are a text of the kind, for which one call is open.
+pub record IsOneCall (kind : Kind) (bytes : List ℕ) : Type 0 where
+  pub is_text : IsText kind bytes
+  pub one : (pairs : Pairs) (text : Lists kind bytes pairs) → deep text ≡ 1
+
+-- the longer one of two is last, or the first if none is longer
+abbrev pub IsFirstLonger : List ℕ → List ℕ → List ℕ → List ℕ → Type 0
+IsFirstLonger first next shorter longer =
+    ((length first < length next) × (shorter ≡ first) × (longer ≡ next))
+    ⊎ ((length next ≤ length first) × (shorter ≡ next) × (longer ≡ first))

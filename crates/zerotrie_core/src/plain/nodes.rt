@@ -24,7 +24,8 @@ fn push_number(out: &mut Vec<u8>, bits: u8, number: &[u8]) -> Result<(), ZeroTri
 
 /// Writes a value node.
 pub(super) fn push_value(out: &mut Vec<u8>, value: usize) -> Result<(), ZeroTrieBuildError>
-    ensures ok { OnOk result ((spelling : List ℕ) × SpellsAs value_form value spelling × (out.new.items ≡ out.old.items ++ spelling)) }
+    ensures ok { OnOk result ((spelling : List ℕ) × SpellsAs value_form value spelling
+        × (out.new.items ≡ out.old.items ++ spelling)) }
     ensures err { IfErr result (λ e. e ≡ ZeroTrieBuildError.OutOfMemory) }
 {
     push_number(out, 0x80, &write_varint_meta3(value))
@@ -33,7 +34,8 @@ pub(super) fn push_value(out: &mut Vec<u8>, value: usize) -> Result<(), ZeroTrie
 /// Writes the byte of this weight of each offset.
 fn push_block(out: &mut Vec<u8>, offsets: &[usize], place: usize) -> Result<(), ZeroTrieBuildError>
     requires { place < 8 }
-    ensures ok { OnOk result (out.new.items ≡ out.old.items ++ map (λ o. o / 256 ^ place % 256) offsets.now) }
+    ensures ok { OnOk result (out.new.items
+        ≡ out.old.items ++ map (λ o. o / 256 ^ place % 256) offsets.now) }
     ensures err { IfErr result (λ e. e ≡ ZeroTrieBuildError.OutOfMemory) }
 {
     for offset in offsets {
@@ -58,7 +60,7 @@ fn push_offsets(
     Ok(())
 }
 
-/// The width field of a branch whose targets together have so many bytes.
+/// The width field of a branch whose targets have this number of bytes together.
 fn width_of(total: usize) -> Option<usize>
     ensures width { IfSome result (λ w. (w ≤ 3) × IsWidth total w) }
     ensures none { IfNone result (2 ^ 32 ≤ total) }
@@ -79,10 +81,13 @@ pub(super) fn push_branch(
     offsets: &[usize],
     targets: &[u8],
 ) -> Result<(), ZeroTrieBuildError>
-    ensures ok { OnOk result ((texts : List (List ℕ)) → AreTargets texts edges.now offsets.now targets.now
+    ensures ok { OnOk result ((texts : List (List ℕ))
+        → AreTargets texts edges.now offsets.now targets.now
         → out.new.items ≡ out.old.items ++ branch_node edges.now texts) }
     ensures narrow { OnOk result (length targets.now < 2 ^ 32) }
-    ensures err { IfErr result (λ e. (e ≡ ZeroTrieBuildError.OutOfMemory) ⊎ ((e ≡ ZeroTrieBuildError.CapacityExceeded) × (2 ^ 32 ≤ length targets.now))) }
+    ensures err { IfErr result (λ e.
+        (e ≡ ZeroTrieBuildError.OutOfMemory)
+        ⊎ ((e ≡ ZeroTrieBuildError.CapacityExceeded) × (2 ^ 32 ≤ length targets.now))) }
 {
     let width = width_of(targets.len()).ok_or(ZeroTrieBuildError::CapacityExceeded)?;
     push_number(

@@ -1,21 +1,12 @@
-//! Where a stream stands, and a branch that it has opened.
+//! A branch that a stream has opened.
 
-ghost use Rattle.std.specs.Prelude.{◌≡◌, ◌≤◌, ◌<◌, ◌+◌, ◌-◌, ◌*◌, ◌↔◌, length, take, IsTrue, []};
+ghost use Rattle.std.specs.Prelude.{◌≡◌, ◌≤◌, ◌<◌, ◌+◌, ◌-◌, ◌*◌, ◌↔◌, length, take, IsTrue};
 ghost use Rattle.std.specs.Option.{option_map};
 ghost use Rattle.zerotrie_core.specs.Nodes.{targets_behind, begin_of, IsTargetResult};
 ghost use Rattle.zerotrie_core.specs.listing.Runs.{EndsWith};
 
 use crate::branch::{Branch, offset_at};
-
-/// The bytes that are to be gone over, and all that stand in the text from there on.
-///
-/// Sixteen bytes are looked at at once as long as there are sixteen in the text, also past the end of a target.
-#[derive(Clone, Copy, Debug)]
-pub struct Here<'a> {
-    pub rest: &'a [u8],
-    pub tail: &'a [u8],
-    ghost lies: { rest.now ≡ take (length rest.now) tail.now },
-}
+use crate::here::Here;
 
 /// A branch with targets to come: all its bytes from the edges on, all of the text from its first target on, its edge
 /// of the next target and where this one begins, and how much of the prefix stands in front of it.
@@ -32,37 +23,6 @@ pub struct OpenBranch<'a> {
     ghost whole: { edges + width * (edges - 1) ≤ length behind.now },
     ghost lies: { targets_behind edges width behind.now
         ≡ take (length (targets_behind edges width behind.now)) tail.now },
-}
-
-impl<'a> Here<'a> {
-    /// In front of these bytes.
-    #[inline(always)]
-    pub fn at(bytes: &'a [u8]) -> Self
-        ensures { result.rest.now ≡ bytes.now }
-    {
-        Here {
-            rest: bytes,
-            tail: bytes,
-        }
-    }
-
-    /// Where nothing is to be gone over.
-    #[inline(always)]
-    pub fn nowhere() -> Self
-        ensures { result.rest.now ≡ [] }
-    {
-        Here::at(&[])
-    }
-
-    /// In front of these bytes, with which the rest ends.
-    #[inline(always)]
-    pub fn behind(self, after: &'a [u8]) -> Self
-        requires { EndsWith self.rest.now after.now }
-        ensures { result.rest.now ≡ after.now }
-    {
-        let (_, tail) = self.tail.split_at(self.rest.len() - after.len());
-        Here { rest: after, tail }
-    }
 }
 
 impl<'a> OpenBranch<'a> {
@@ -104,6 +64,35 @@ impl<'a> OpenBranch<'a> {
             next: 0,
             begin: 0,
             depth,
+        }
+    }
+
+    /// The same branch in front of the target of this number.
+    pub fn at_edge(self, place: usize) -> Self
+        requires { place < self.edges }
+        ensures edges { result.edges ≡ self.entry.edges }
+        ensures width { result.width ≡ self.entry.width }
+        ensures behind { result.behind.now ≡ self.entry.behind.now }
+        ensures next { result.next ≡ place }
+        ensures begin { result.begin ≡ begin_of self.entry.edges self.entry.width self.entry.behind.now place }
+        ensures depth { result.depth ≡ self.entry.depth }
+    {
+        let count = self.edges - 1;
+        let (_, body) = self.behind.split_at(self.edges);
+        let (table, _) = body.split_at(self.width * count);
+        let begin = if place == 0 {
+            0
+        } else {
+            offset_at(table, place - 1, count, self.width)
+        };
+        OpenBranch {
+            behind: self.behind,
+            tail: self.tail,
+            edges: self.edges,
+            width: self.width,
+            next: place,
+            begin,
+            depth: self.depth,
         }
     }
 

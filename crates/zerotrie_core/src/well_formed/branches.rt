@@ -1,15 +1,17 @@
-//! The test of a branch: its search table, the width of its offsets, and where its targets begin and end.
+//! The test of a branch: its search table, the width of its offsets, and where its targets end.
 
-ghost use Rattle.std.specs.Prelude.{◌≡◌, ◌↔◌, ℕ, ◌+◌, ◌-◌, ◌<◌, ◌≤◌, IsTrue, IfSome, IfNone, List, ◌∷◌, ◌++◌, length, map, take, drop};
+ghost use Rattle.std.specs.Prelude.{◌≡◌, ◌↔◌, ℕ, ◌+◌, ◌-◌, ◌<◌, ◌≤◌, IsTrue, IfSome, IfNone, List, ◌∷◌, ◌++◌, length, map, take, drop, false};
 ghost use Rattle.zerotrie_base.specs.Hashes.{IsPerfect};
 ghost use Rattle.std.specs.List.Sorted.{IsStrictlyIncreasing};
 ghost use Rattle.zerotrie_core.specs.Kind.{fold_byte};
 ghost use Rattle.zerotrie_core.specs.Branches.{IsWidth, table_size};
+ghost use Rattle.zerotrie_core.specs.Nodes.{targets_behind, begin_of};
 ghost use Rattle.zerotrie_core.specs.Shapes.{branch_shape};
-ghost use Rattle.zerotrie_core.specs.well_formed.Branching.{AreBytes, AnswersEach, HasTable, InOrder, IsLongest, IsSound};
+ghost use Rattle.zerotrie_core.specs.well_formed.Branching.{AreBytes, AnswersEach, HasTable, HasFront, IsTarget};
 ghost use Rattle.zerotrie_core.specs.well_formed.Testing.{AlwaysNoText};
 
 use crate::branch::{Branch, folded};
+use crate::here::Here;
 use crate::options::ZeroTrieWithOptions;
 use zerotrie_base::PerfectByteHashMap;
 
@@ -30,7 +32,8 @@ fn rises<K: ZeroTrieWithOptions>(edges: &[u8]) -> bool
 fn is_perfect(table: &[u8], edges: &[u8]) -> bool
     ensures bytes { AreBytes table.now × AreBytes edges.now }
     ensures yes { IsTrue result → AnswersEach table.now edges.now }
-    ensures no { (p : ℕ) (qs : List ℕ) → table.now ≡ p ∷ (qs ++ edges.now) → IsPerfect p qs edges.now → IsTrue result }
+    ensures no { (p : ℕ) (qs : List ℕ) → table.now ≡ p ∷ (qs ++ edges.now)
+        → IsPerfect p qs edges.now → IsTrue result }
 {
     for index in 0..edges.len() {
         if PerfectByteHashMap::from_bytes(table).get(edges[index]) != Some(index) {
@@ -43,7 +46,8 @@ fn is_perfect(table: &[u8], edges: &[u8]) -> bool
 /// Whether the search table is one of the kind, and its edges are bytes of the kind.
 fn has_table<K: ZeroTrieWithOptions>(branch: &Branch<'_>) -> bool
     ensures { length branch.now.table.now ≡ table_size K.kind branch.now.edges
-        → (IsTrue result ↔ HasTable K.kind (take branch.now.edges branch.now.behind.now) branch.now.table.now) }
+        → (IsTrue result ↔ HasTable K.kind (take branch.now.edges branch.now.behind.now)
+        branch.now.table.now) }
 {
     let (edges, _) = branch.behind.split_at(branch.edges);
     if !K::USE_PHF {
@@ -55,7 +59,7 @@ fn has_table<K: ZeroTrieWithOptions>(branch: &Branch<'_>) -> bool
     }
 }
 
-/// The width field of a branch with so many bytes of targets.
+/// The width field of a branch whose targets have this number of bytes together.
 fn least_width(total: usize) -> usize
     ensures width { IsWidth total result }
     ensures small { result ≤ 7 }
@@ -72,7 +76,7 @@ fn least_width(total: usize) -> usize
     }
 }
 
-/// Whether so many bytes of offsets have the width that the targets behind them need.
+/// Whether offsets of this many bytes have the width that the targets after them need.
 fn has_width(body: &[u8], offsets: usize, width: usize) -> bool
     requires within { offsets ≤ length body.now }
     requires some { 1 ≤ width }
@@ -83,43 +87,37 @@ fn has_width(body: &[u8], offsets: usize, width: usize) -> bool
     width - 1 == least_width(targets.len())
 }
 
-/// The place of the longest target, of equal ones the first. `None` where the offsets fall, or pass the end,
-/// or a target is empty.
-fn longest_target(branch: &Branch<'_>) -> Option<usize>
-    ensures order { IfSome result (λ place.
-        InOrder branch.now.edges branch.now.width branch.now.behind.now branch.now.edges) }
-    ensures longest { IfSome result (λ place.
-        IsLongest branch.now.edges branch.now.width branch.now.behind.now branch.now.edges place) }
-    ensures none { IfNone result
-        (InOrder branch.now.edges branch.now.width branch.now.behind.now branch.now.edges → ⊥) }
-{
-    let mut place = 0;
-    let mut most = 0;
-    for index in 0..branch.edges {
-        let target = branch.target_at(index)?;
-        if target.is_empty() {
-            return None;
-        }
-        if most < target.len() {
-            most = target.len();
-            place = index;
-        }
-    }
-    Some(place)
-}
-
-/// The place of the longest target of a branch whose table, width and offsets are well-formed.
-pub(super) fn sound_branch<K: ZeroTrieWithOptions>(branch: &Branch<'_>) -> Option<usize>
-    ensures some { IfSome result (λ place. IsSound K.kind branch.now.edges branch.now.width
-        branch.now.table.now branch.now.behind.now place) }
-    ensures none { IfNone result (AlwaysNoText K.kind (branch_shape branch.now)) }
+/// Whether the search table of a branch and the width of its offsets are well-formed.
+pub(super) fn has_front<K: ZeroTrieWithOptions>(branch: &Branch<'_>) -> bool
+    ensures yes { IsTrue result → HasFront K.kind branch.now.edges branch.now.width
+        branch.now.table.now branch.now.behind.now }
+    ensures no { result ≡ false → AlwaysNoText K.kind (branch_shape branch.now) }
 {
     let (_, body) = branch.behind.split_at(branch.edges);
-    if !has_width(body, branch.width * (branch.edges - 1), branch.width) {
+    has_width(body, branch.width * (branch.edges - 1), branch.width) && has_table::<K>(branch)
+}
+
+/// The target of an edge, which begins at a place among the targets. `None` if its offset falls, or passes the end, or it
+/// is empty.
+#[inline(always)]
+pub(super) fn target_from<'a, K: ZeroTrieWithOptions>(
+    branch: &Branch<'_>,
+    targets: Here<'a>,
+    begin: usize,
+    index: usize,
+) -> Option<Here<'a>>
+    requires index { index < branch.now.edges }
+    requires targets { targets.rest.now
+        ≡ targets_behind branch.now.edges branch.now.width branch.now.behind.now }
+    requires begins { begin ≡ begin_of branch.now.edges branch.now.width branch.now.behind.now
+        index }
+    ensures some { IfSome result (λ target.
+        IsTarget branch.now.edges branch.now.width branch.now.behind.now index target.rest.now) }
+    ensures none { IfNone result (AlwaysNoText K.kind (branch_shape branch.now)) }
+{
+    let target = targets.part(begin, branch.end_at(index))?;
+    if target.rest.is_empty() {
         return None;
     }
-    if !has_table::<K>(branch) {
-        return None;
-    }
-    longest_target(branch)
+    Some(target)
 }

@@ -1,7 +1,8 @@
 use Rattle.std.proofs.lemmas.Grind.{common_steps}
 use Rattle.zerotrie_core.specs.Maps.{with_run}
 use Rattle.zerotrie_core.specs.listing.Listed.{listed}
-use Rattle.std.proofs.Common.{◌≡◌, ◌<◌, arith, sym, ap, ◌∙◌, ◌∷◌, ◌++◌, length, length-append, reverse}
+use Rattle.zerotrie_core.specs.listing.Opened.{Nested}
+use Rattle.std.proofs.Common.{◌≡◌, ◌<◌, arith, sym, ap, subst, refl, ◌∙◌, ◌∷◌, ◌++◌, length, length-append, reverse}
 use Rattle.zerotrie_core.proofs.ListingStateLemmas.{at_end, at_value, at_literals, at_span, at_branch, literals_shorter, stands_longer, span_end, branch_end, value_end}
 use Rattle.zerotrie_core.proofs.stream.next_value.Goals as goal
 
@@ -91,7 +92,10 @@ loop-top-preserved g c =
     let some : inner.next < inner.edges = omega (arith, c.new.ensures.next, c.new.ensures.edges, b.some.0) in
     record {
       lies = c.nowhere-at.result.lies;
-      stands = rw opened.inner (opened.stands l.key.items l.invariant.stands depth some c.new.ensures.begin c.new.ensures.next);
+      stands = rw opened.inner (
+        record { low = omega (arith, depth); inside = omega (arith, some); begins = λ _. rw (c.new.ensures.begin, c.new.ensures.next) refl },
+        subst (λ d. Nested d (reverse c.open.new.branches.items)) (sym depth) (opened.around (length l.key.items) l.invariant.stands),
+      );
       same = rw (c.nowhere-at.ensures, opened.inner) (
           l.invariant.same
           ∙ ap (λ ps. with_run l.key.items (listed kind l.at.0.now) ++ ps) (sym (opened.same kind l.key.items l.invariant.stands))

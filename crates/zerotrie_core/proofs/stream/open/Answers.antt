@@ -1,13 +1,9 @@
-use Rattle.std.proofs.Common.{length, reverse, arith, subst, sym, refl}
-use Rattle.zerotrie_core.specs.listing.Opened.{Nested}
+use Rattle.std.proofs.Common.{reverse}
 use Rattle.zerotrie_core.proofs.ListingStateLemmas.{leave, nested_around, no_less}
 use Rattle.zerotrie_core.proofs.stream.open.Goals as goal
 
-pub returns-else-has_next-clause-stands : goal.returns-else-has_next-clause-stands
-returns-else-has_next-clause-stands g c prefix stands depth some begin next = (
-  record { low = omega arith; inside = omega arith; begins = λ _. rw (begin, next) refl },
-  subst (λ d. Nested d (reverse c.args.branches.now.items)) (sym depth) (nested_around (length prefix) c.args.top.now (reverse c.args.branches.now.items) stands),
-)
+pub returns-else-has_next-clause-around : goal.returns-else-has_next-clause-around
+returns-else-has_next-clause-around g c depth stands = nested_around depth c.args.top.now (reverse c.args.branches.now.items) stands
 
 pub returns-else-has_next-clause-same : goal.returns-else-has_next-clause-same
 returns-else-has_next-clause-same g c kind prefix stands =

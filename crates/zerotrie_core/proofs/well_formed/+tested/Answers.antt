@@ -1,44 +1,62 @@
-use Rattle.std.proofs.Common.{◌≡◌, ◌+◌, ◌^◌, ◌<◌, ◌≤◌, [], length, arith, sym, subst, ◌∙◌, ap, None}
+use Rattle.std.proofs.Common.{◌≡◌, ℕ, zero, suc, ◌+◌, ◌-◌, ◌*◌, ◌^◌, ◌<◌, ◌≤◌, List, [], length, drop, slice_index, arith, rules, refl, sym, subst, ◌∙◌, ap, inl, inr}
 use Rattle.std.specs.Prelude.{max}
-use Rattle.std.proofs.lemmas.List.{nil_from_length}
-use Rattle.std.proofs.lemmas.Bool.{eqb-true, eqb-false}
+use Rattle.std.proofs.lemmas.List.{nil_from_length, length-drop}
+use Rattle.std.proofs.lemmas.Bool.{eqb-true, eqb-false, cases_lt}
 use Rattle.zerotrie_core.specs.Texts.Lists.{nothing}
-use Rattle.zerotrie_core.specs.Nodes.{Begins}
+use Rattle.zerotrie_core.specs.Nodes.{Begins, begin_of}
 use Rattle.zerotrie_core.specs.Shapes.{branch_shape}
 use Rattle.zerotrie_core.specs.declared.well_formed.Expected.TheVariants.{Something}
 use Rattle.zerotrie_core.specs.WellFormed.{IsShallow}
+use Rattle.zerotrie_core.specs.listing.Runs.{EndsWith}
 use Rattle.zerotrie_core.specs.well_formed.Testing.{IsText, Suits, Onward}
 use Rattle.zerotrie_core.proofs.DeepLemmas.{shallow_one, shallow_max, shallow_longer, deep_no_node}
 use Rattle.zerotrie_core.proofs.NodeLemmas.{branch_shorter}
-use Rattle.zerotrie_core.proofs.StepLemmas.{onward_none, onward_more}
-use Rattle.zerotrie_core.proofs.BehindLemmas.{Tested, tested_none, tested_place, tested_other, no_target, target_there, goes_on, shallow_target, target_short, text_well, well_text, text_means}
+use Rattle.zerotrie_core.proofs.ListingStateLemmas.{branch_end, ends_drop}
+use Rattle.zerotrie_core.proofs.StepLemmas.{onward_none, onward_more, literals_onward}
+use Rattle.zerotrie_core.proofs.BehindLemmas.{Passed, passed_first, passed_more, passed_all, shorter_there, no_target, next_begin, text_well, well_text, text_means}
 use Rattle.zerotrie_core.proofs.well_formed.+tested.Goals as goal
-use Rattle.zerotrie_core.proofs.well_formed.+tested.Goals.{go_behind-then-index-longest+in_ok-target+else-not-yes, go_behind-else-index-longest}
+use Rattle.zerotrie_core.proofs.well_formed.+tested.Goals.{go_behind-then-is_leaf, go_behind-else-is_leaf+else-not-yes}
+
+pub go_behind-returns-then-not-has_front-clause-none : goal.go_behind-returns-then-not-has_front-clause-none
+go_behind-returns-then-not-has_front-clause-none g t c = c.has_front.ensures.no c.if-not-has_front.true
+
+pub go_behind-behind-targets-requires : goal.go_behind-behind-targets-requires
+go_behind-behind-targets-requires g t c =
+    let b = c.args.branch in
+    let bytes = c.args.here.rest.now in
+    let n = b.width * (b.edges - 1) in
+    subst (EndsWith bytes) (sym (c.split_at-2.ensures.back ∙ ap (drop n) c.split_at.ensures.back))
+    (ends_drop bytes (drop b.edges b.behind.now) n (ends_drop bytes b.behind.now b.edges c.requires))
 
 pub go_behind-loop-index-init : goal.go_behind-loop-index-init
 go_behind-loop-index-init g t c =
     let b = c.args.branch in
-    let sound = c.in_ok-longest.ensures.some in
-    record { shallow = shallow_one b.behind.now; tested = tested_none g.K.ZeroTrieWithOptions.kind b.edges b.width b.behind.now c.in_ok-longest.longest sound.is_longest.inside }
-
-pub go_behind-returns-in_err-target-clause-none : goal.go_behind-returns-in_err-target-clause-none
-go_behind-returns-in_err-target-clause-none g t c =
-    let b = c.args.branch in
-    let order = c.in_ok-longest.ensures.some.in_order c.loop-index.index c.loop-index-test.true in
-    absurd (target_there b.edges b.width b.behind.now c.loop-index.index None order.0 order.1 c.in_err-target.ensures)
+    let target = c.in_ok-longest.longest.rest.now in
+    let is = c.in_ok-longest.ensures.some in
+    record {
+      passed = passed_first g.K.ZeroTrieWithOptions.kind b.edges b.width b.behind.now target is;
+      begins = λ h. (let none : 0 + length target ≡ length target = omega arith in sym none ∙ next_begin b.edges b.width b.behind.now 0 0 target is refl h);
+    }
 
 pub go_behind-returns-then-not-yes-clause-none : goal.go_behind-returns-then-not-yes-clause-none
 go_behind-returns-then-not-yes-clause-none g t c =
     let b = c.args.branch in
-    let short : length c.in_ok-target.target.now < 2 ^ 64 = target_short c.in_ok-longest.ensures.some b.whole b.some.0 b.narrow.0 c.loop-index.index c.loop-index-test.true c.in_ok-target.target.now c.in_ok-target.ensures.0.2 (omega arith) in
-    no_target g.K.ZeroTrieWithOptions.kind b.edges b.width b.table.now b.behind.now c.loop-index.index c.in_ok-target.target.now c.loop-index-test.true c.in_ok-target.ensures.0.2
-    (λ text. (let e = c.is_well_formed_counted-yes.ensures.yes.1 (text_well short text) in let f = c.if-not-yes.true in cc))
+    let kind = g.K.ZeroTrieWithOptions.kind in
+    let there = shorter_there kind b.edges b.width b.behind.now c.loop-index.index c.loop-index.longest.rest.now c.in_ok-target.target.rest.now c.loop-index.most c.loop-index-test.true b.whole b.some.0
+    c.loop-index.invariant.passed c.in_ok-target.ensures.some c.by_length.result.0.rest.now c.by_length.result.1.rest.now c.by_length.ensures in
+    let less = there.3 in
+    no_target kind b.edges b.width b.table.now b.behind.now there.0 c.by_length.result.0.rest.now there.1 there.2
+    (λ text. (let e = c.is_text_counted-yes.ensures.yes.1 (text_well (omega arith) text) in let f = c.if-not-yes.true in cc))
 
 pub go_behind-overflow_add-count : goal.go_behind-overflow_add-count
 go_behind-overflow_add-count g t c =
     let b = c.args.branch in
-    let short : length c.in_ok-target.target.now < 2 ^ 64 = target_short c.in_ok-longest.ensures.some b.whole b.some.0 b.narrow.0 c.loop-index.index c.loop-index-test.true c.in_ok-target.target.now c.in_ok-target.ensures.0.2 (omega arith) in
-    let h : c.is_well_formed_counted-yes.result.1 ≤ 64 = c.is_well_formed_counted-yes.ensures.shallow.1 64 (omega arith) short in
+    let kind = g.K.ZeroTrieWithOptions.kind in
+    let there = shorter_there kind b.edges b.width b.behind.now c.loop-index.index c.loop-index.longest.rest.now c.in_ok-target.target.rest.now c.loop-index.most c.loop-index-test.true b.whole b.some.0
+    c.loop-index.invariant.passed c.in_ok-target.ensures.some c.by_length.result.0.rest.now c.by_length.result.1.rest.now c.by_length.ensures in
+    let less = there.3 in
+    let short : length c.by_length.result.0.rest.now < 2 ^ 64 = omega arith in
+    let h : c.is_text_counted-yes.result.1 ≤ 64 = c.is_text_counted-yes.ensures.shallow.1 64 (omega arith) short in
     omega arith
 
 pub go_behind-loop-index-preserved : goal.go_behind-loop-index-preserved
@@ -46,92 +64,126 @@ go_behind-loop-index-preserved g t c =
     let kind = g.K.ZeroTrieWithOptions.kind in
     let b = c.args.branch in
     let i = c.loop-index.index in
-    let place = c.in_ok-longest.longest in
-    let sound = c.in_ok-longest.ensures.some in
-    let so_far = c.loop-index.invariant in
-    elim c.if-index-longest.branch [
-      | go_behind-then-index-longest+in_ok-target+else-not-yes w ↦
-          let target = w.in_ok-target.target.now in
-          let count = w.is_well_formed_counted-yes.result.1 in
-          let is = w.in_ok-target.ensures.0.2 in
-          let short : length target < 2 ^ 64 = target_short sound b.whole b.some.0 b.narrow.0 i c.loop-index-test.true target is (omega arith) in
-          let apart : i ≡ place → ⊥ = w.if-index-longest.true in
-          let m : c.if-index-longest.most ≡ max c.loop-index.most (count + 1) = w.most-is ∙ w.max-most.ensures in
-          let text = well_text (w.is_well_formed_counted-yes.ensures.yes.0 w.if-not-yes.false) in
-          record {
-            shallow = subst (λ n. IsShallow b.behind.now n) (sym m)
-                (shallow_max b.behind.now c.loop-index.most (count + 1) so_far.shallow
-                (shallow_target sound b.whole b.some.0 b.narrow.0 i c.loop-index-test.true apart target is count w.is_well_formed_counted-yes.ensures.shallow));
-            tested = subst (λ n. Tested kind b.edges b.width b.behind.now place (i + 1) n) (sym m)
-                (tested_other kind b.edges b.width b.behind.now place i c.loop-index.most count target c.loop-index-test.true apart is text
-                (λ pairs inner. w.is_well_formed_counted-yes.ensures.count _ (text_means short inner)) so_far.tested);
-          }
-      | go_behind-else-index-longest w ↦
-          let same : i ≡ place = w.if-index-longest.false in
-          record {
-            shallow = subst (λ n. IsShallow b.behind.now n) (sym w.most-is) so_far.shallow;
-            tested = subst (λ n. Tested kind b.edges b.width b.behind.now place (i + 1) n) (sym w.most-is)
-                (subst (λ k. Tested kind b.edges b.width b.behind.now place (k + 1) c.loop-index.most) (sym same)
-                (tested_place kind b.edges b.width b.behind.now place c.loop-index.most sound.is_longest.inside
-                (subst (λ k. Tested kind b.edges b.width b.behind.now place k c.loop-index.most) same so_far.tested)));
-          }
-    ]
-
-pub go_behind-returns-in_err-target_at-clause-none : goal.go_behind-returns-in_err-target_at-clause-none
-go_behind-returns-in_err-target_at-clause-none g t c =
-    let b = c.args.branch in
-    let sound = c.in_ok-longest.ensures.some in
-    let order = sound.in_order c.in_ok-longest.longest sound.is_longest.inside in
-    absurd (target_there b.edges b.width b.behind.now c.in_ok-longest.longest None order.0 order.1 c.in_err-target_at.ensures)
+    let so_far = c.loop-index.invariant.passed in
+    let target = c.in_ok-target.target.rest.now in
+    let is = c.in_ok-target.ensures.some in
+    let shorter = c.by_length.result.0.rest.now in
+    let longer = c.by_length.result.1.rest.now in
+    let more = passed_more kind b.edges b.width b.behind.now i c.loop-index.longest.rest.now target c.loop-index.most c.loop-index-test.true b.whole b.some.0 so_far is shorter longer in
+    let step : suc i ≡ i + 1 = omega arith in
+    record {
+      passed = elim c.if-is_leaf.branch [
+        | go_behind-then-is_leaf w ↦
+            let one = c.is_leaf.ensures w.if-is_leaf.true kind in
+            subst (λ m. Passed kind b.edges b.width b.behind.now (i + 1) longer m) (sym (w.most-is ∙ w.max-most.ensures))
+            (more 1 c.by_length.ensures one.is_text (λ pairs text. sym (one.one pairs text)) (shallow_one shorter))
+        | go_behind-else-is_leaf+else-not-yes w ↦
+            let r = w.is_text_counted-yes in
+            let there = shorter_there kind b.edges b.width b.behind.now i c.loop-index.longest.rest.now target c.loop-index.most c.loop-index-test.true b.whole b.some.0 so_far is shorter longer c.by_length.ensures in
+            let less = there.3 in
+            let short : length shorter < 2 ^ 64 = omega arith in
+            subst (λ m. Passed kind b.edges b.width b.behind.now (i + 1) longer m) (sym (w.most-is ∙ w.max-most-else-is_leaf.ensures))
+            (more r.result.1 c.by_length.ensures (well_text (r.ensures.yes.0 w.if-not-yes.false)) (λ pairs inner. r.ensures.count _ (text_means short inner)) r.ensures.shallow)
+      ];
+      begins = λ h. (
+          subst (λ k. c.loop-index.begin + length target ≡ begin_of b.edges b.width b.behind.now k) step
+          (next_begin b.edges b.width b.behind.now i c.loop-index.begin target is (c.loop-index.invariant.begins c.loop-index-test.true) (omega arith))
+          );
+    }
 
 pub go_behind-returns-clause-some : goal.go_behind-returns-clause-some
 go_behind-returns-clause-some g t c =
     let kind = g.K.ZeroTrieWithOptions.kind in
     let b = c.args.branch in
-    let sound = c.in_ok-longest.ensures.some in
-    let all : c.loop-index.index ≡ b.edges = omega (arith, c.loop-index-test.false, c.loop-index.auto.index-end) in
-    goes_on sound b.whole b.some.0 b.narrow.0 c.in_ok-target_at.field-0.now c.loop-index.most c.in_ok-target_at.ensures.0.2
-    (subst (λ k. Tested kind b.edges b.width b.behind.now c.in_ok-longest.longest k c.loop-index.most) all c.loop-index.invariant.tested)
+    let two = b.some.0 in
+    let all : c.loop-index.index ≡ b.edges = omega (arith, two, c.loop-index-test.false, c.loop-index.auto.index-end) in
+    passed_all kind b.edges b.width b.table.now b.behind.now c.loop-index.longest.rest.now c.loop-index.most (c.has_front.ensures.yes c.if-not-has_front.false) b.whole two b.narrow.0
+    (subst (λ k. Passed kind b.edges b.width b.behind.now k c.loop-index.longest.rest.now c.loop-index.most) all c.loop-index.invariant.passed)
 
-pub is_well_formed_counted-loop-node-init : goal.is_well_formed_counted-loop-node-init
-is_well_formed_counted-loop-node-init g t c = record { within = omega arith; shallow = shallow_one c.args.bytes.now; onward = onward_none g.K.ZeroTrieWithOptions.kind c.args.bytes.now }
+pub is_text_counted-loop-node-init : goal.is_text_counted-loop-node-init
+is_text_counted-loop-node-init g t c = record { within = omega arith; shallow = shallow_one c.args.here.rest.now; onward = onward_none g.K.ZeroTrieWithOptions.kind c.args.here.rest.now }
 
 -- what comes next may not stand there
-wrong : (g : _) (t : _) (c : goal.is_well_formed_counted-In-Wrong g t) → IsText g.K.ZeroTrieWithOptions.kind c.args.bytes.now → ⊥
+wrong : (g : _) (t : _) (c : goal.is_text_counted-In-Wrong g t) → IsText g.K.ZeroTrieWithOptions.kind c.args.here.rest.now → ⊥
 wrong g t c text =
     let leads = c.loop-node.invariant.onward.there text.0 text.1 in
-    c.in-Wrong.ensures c.loop-node.rest.now c.in-Some.ensures.some leads.suits (leads.below, leads.inner)
+    c.in-Wrong.ensures c.loop-node.at.rest.now c.in-Some.ensures.some leads.suits (leads.below, leads.inner)
 
-pub is_well_formed_counted-returns-in-Wrong-clause-yes : goal.is_well_formed_counted-returns-in-Wrong-clause-yes
-is_well_formed_counted-returns-in-Wrong-clause-yes g t c = (λ e. absurd (cc), λ well. absurd (wrong g t c (well_text well)))
+pub is_text_counted-returns-in-Wrong-clause-yes : goal.is_text_counted-returns-in-Wrong-clause-yes
+is_text_counted-returns-in-Wrong-clause-yes g t c = (λ e. absurd (cc), λ well. absurd (wrong g t c (well_text well)))
 
-pub is_well_formed_counted-returns-in-Wrong-clause-count : goal.is_well_formed_counted-returns-in-Wrong-clause-count
-is_well_formed_counted-returns-in-Wrong-clause-count g t c m means = absurd (wrong g t c (means.pairs, means.lists))
+pub is_text_counted-returns-in-Wrong-clause-count : goal.is_text_counted-returns-in-Wrong-clause-count
+is_text_counted-returns-in-Wrong-clause-count g t c m means = absurd (wrong g t c (means.pairs, means.lists))
 
-pub is_well_formed_counted-loop-node-preserved-in-Over : goal.is_well_formed_counted-loop-node-preserved-in-Over
-is_well_formed_counted-loop-node-preserved-in-Over g t c =
+pub is_text_counted-loop-node-preserved-in-Over : goal.is_text_counted-loop-node-preserved-in-Over
+is_text_counted-loop-node-preserved-in-Over g t c =
     let kind = g.K.ZeroTrieWithOptions.kind in
     let so_far = c.loop-node.invariant in
-    let rest = c.loop-node.rest.now in
+    let rest = c.loop-node.at.rest.now in
     let begins = c.in-Some.ensures.some in
     let step = c.in-Over.ensures in
-    let shorter = step.0 rest begins in
+    let shorter = (step.0 rest begins).0 in
     let one = so_far.shallow.0 in
     let same : max c.loop-node.most 1 ≡ c.loop-node.most = omega arith in
+    let there = ap length c.behind-at-in-Over.ensures in
     record {
-      within = omega (arith, so_far.within, shorter);
+      within = omega (arith, so_far.within, shorter, there);
       shallow = so_far.shallow;
-      onward = subst (λ m. Onward kind c.args.bytes.now c.in-Over.after.now c.in-Over.next m) same (onward_more so_far.onward (step.1 rest begins) (step.2 rest begins));
+      onward = subst (λ x. Onward kind c.args.here.rest.now x c.in-Over.next c.loop-node.most) (sym c.behind-at-in-Over.ensures)
+          (subst (λ m. Onward kind c.args.here.rest.now c.in-Over.after.now c.in-Over.next m) same (onward_more so_far.onward (step.1 rest begins) (step.2 rest begins)));
     }
 
-pub is_well_formed_counted-loop-node-preserved : goal.is_well_formed_counted-loop-node-preserved
-is_well_formed_counted-loop-node-preserved g t c =
+pub is_text_counted-loop-node-preserved-in-Literals : goal.is_text_counted-loop-node-preserved-in-Literals
+is_text_counted-loop-node-preserved-in-Literals g t c =
+    let kind = g.K.ZeroTrieWithOptions.kind in
+    let so_far = c.loop-node.invariant in
+    let rest = c.loop-node.at.rest.now in
+    let begins = c.in-Some.ensures.some in
+    let step = c.in-Literals.ensures in
+    let first = step.0 rest begins in
+    let n = c.max.result in
+    let some : 0 < n = omega arith in
+    let inside : n ≤ length rest = (let h = first.0 in let within = c.literals.ensures.within in omega arith) in
+    let one = so_far.shallow.0 in
+    let same : max c.loop-node.most 1 ≡ c.loop-node.most = omega arith in
+    let is : c.behind-at.result.rest.now ≡ drop n rest = c.behind-at.ensures ∙ c.split_at.ensures.back in
+    let there = ap length is in
+    let gone = length-drop n rest in
+    record {
+      within = omega (arith, so_far.within, there, gone);
+      shallow = so_far.shallow;
+      onward = subst (λ x. Onward kind c.args.here.rest.now x Something c.loop-node.most) (sym is)
+          (subst (λ m. Onward kind c.args.here.rest.now (drop n rest) Something m) same
+          (onward_more so_far.onward (step.1 rest begins) (literals_onward kind n rest some inside (low_at rest c.literals.result n (omega arith) first.1 c.literals.ensures.literals))));
+    }
+  where
+    low_at : (bytes : List ℕ) (m n : ℕ) → (0 < m → n ≤ m) × (m ≡ 0 → n ≡ 1) → slice_index bytes 0 < 128 → ((k : ℕ) → k < m → slice_index bytes k < 128) → (k : ℕ) → k < n → slice_index bytes k < 128
+    low_at bytes m n is first low zero h = first
+    low_at bytes m n is first low (suc k) h = elim (cases_lt 0 m) [
+      | inl some ↦ low (suc k) (let l = is.0 some in omega arith)
+      | inr none ↦ absurd (let l = is.1 (omega arith) in omega arith)
+    ]
+
+pub is_text_counted-go_behind-requires : goal.is_text_counted-go_behind-requires
+is_text_counted-go_behind-requires g t c =
+    let kind = g.K.ZeroTrieWithOptions.kind in
+    let b = c.in-Behind.branch in
+    let rest = c.loop-node.at.rest.now in
+    let begins : Begins kind rest (branch_shape b) = subst (Begins kind rest) c.in-Behind.ensures.0 c.in-Some.ensures.some in
+    let shorter = branch_shorter kind b.edges b.width b.table.now b.behind.now rest begins in
+    let within = c.loop-node.invariant.within in
+    let falls : length b.behind.now < length c.args.here.rest.now = omega arith in
+    let ends : EndsWith rest b.behind.now = branch_end kind rest b.edges b.width b.table.now b.behind.now begins in
+    search rules
+
+pub is_text_counted-loop-node-preserved : goal.is_text_counted-loop-node-preserved
+is_text_counted-loop-node-preserved g t c =
     let kind = g.K.ZeroTrieWithOptions.kind in
     let b = c.in-Behind.branch in
     let so_far = c.loop-node.invariant in
-    let rest = c.loop-node.rest.now in
+    let rest = c.loop-node.at.rest.now in
     let begins : Begins kind rest (branch_shape b) = subst (Begins kind rest) c.in-Behind.ensures.0 c.in-Some.ensures.some in
-    let longest = c.in-Some-go_behind.longest.now in
+    let longest = c.in-Some-go_behind.longest.rest.now in
     let count = c.in-Some-go_behind.count in
     let shorter = c.in-Some-go_behind.ensures.shorter in
     let behind = branch_shorter kind b.edges b.width b.table.now b.behind.now rest begins in
@@ -139,31 +191,31 @@ is_well_formed_counted-loop-node-preserved g t c =
     let m = c.max-most.ensures in
     record {
       within = omega arith;
-      shallow = subst (λ n. IsShallow c.args.bytes.now n) (sym m)
-          (shallow_max c.args.bytes.now c.loop-node.most count so_far.shallow (shallow_longer b.behind.now c.args.bytes.now count (omega arith) c.in-Some-go_behind.ensures.shallow));
-      onward = subst (λ n. Onward kind c.args.bytes.now longest Something n) (sym m)
+      shallow = subst (λ n. IsShallow c.args.here.rest.now n) (sym m)
+          (shallow_max c.args.here.rest.now c.loop-node.most count so_far.shallow (shallow_longer b.behind.now c.args.here.rest.now count (omega arith) c.in-Some-go_behind.ensures.shallow));
+      onward = subst (λ n. Onward kind c.args.here.rest.now longest Something n) (sym m)
           (onward_more so_far.onward (c.in-Behind.ensures.1 rest c.in-Some.ensures.some) (c.in-Some-go_behind.ensures.some rest begins));
     }
 
 -- the branch that comes next is no text
-no_branch : (g : _) (t : _) (c : goal.is_well_formed_counted-In-None g t) → IsText g.K.ZeroTrieWithOptions.kind c.args.bytes.now → ⊥
+no_branch : (g : _) (t : _) (c : goal.is_text_counted-In-None g t) → IsText g.K.ZeroTrieWithOptions.kind c.args.here.rest.now → ⊥
 no_branch g t c text =
     let kind = g.K.ZeroTrieWithOptions.kind in
-    let rest = c.loop-node.rest.now in
+    let rest = c.loop-node.at.rest.now in
     let leads = c.loop-node.invariant.onward.there text.0 text.1 in
     let begins : Begins kind rest (branch_shape c.in-Behind.branch) = subst (Begins kind rest) c.in-Behind.ensures.0 c.in-Some.ensures.some in
     c.in-None.ensures.none rest begins (leads.below, leads.inner)
 
-pub is_well_formed_counted-returns-in-None-clause-yes : goal.is_well_formed_counted-returns-in-None-clause-yes
-is_well_formed_counted-returns-in-None-clause-yes g t c = (λ e. absurd (cc), λ well. absurd (no_branch g t c (well_text well)))
+pub is_text_counted-returns-in-None-clause-yes : goal.is_text_counted-returns-in-None-clause-yes
+is_text_counted-returns-in-None-clause-yes g t c = (λ e. absurd (cc), λ well. absurd (no_branch g t c (well_text well)))
 
-pub is_well_formed_counted-returns-in-None-clause-count : goal.is_well_formed_counted-returns-in-None-clause-count
-is_well_formed_counted-returns-in-None-clause-count g t c m means = absurd (no_branch g t c (means.pairs, means.lists))
+pub is_text_counted-returns-in-None-clause-count : goal.is_text_counted-returns-in-None-clause-count
+is_text_counted-returns-in-None-clause-count g t c m means = absurd (no_branch g t c (means.pairs, means.lists))
 
-pub is_well_formed_counted-returns-then-is_empty-clause-yes : goal.is_well_formed_counted-returns-then-is_empty-clause-yes
-is_well_formed_counted-returns-then-is_empty-clause-yes g t c =
+pub is_text_counted-returns-then-is_empty-clause-yes : goal.is_text_counted-returns-then-is_empty-clause-yes
+is_text_counted-returns-then-is_empty-clause-yes g t c =
     let kind = g.K.ZeroTrieWithOptions.kind in
-    let rest = c.loop-node.rest.now in
+    let rest = c.loop-node.at.rest.now in
     let expected = c.loop-node.expected in
     let onward = c.loop-node.invariant.onward in
     let none : rest ≡ [] = nil_from_length rest (eqb-true _ _ (sym c.is_empty.ensures ∙ c.if-is_empty.true)) in (
@@ -171,8 +223,8 @@ is_well_formed_counted-returns-then-is_empty-clause-yes g t c =
       λ well. (let text = well_text well in let leads = onward.there text.0 text.1 in c.takes_end.ensures.1 (subst (Suits expected) none leads.suits)),
     )
 
-pub is_well_formed_counted-returns-then-is_empty-clause-count : goal.is_well_formed_counted-returns-then-is_empty-clause-count
-is_well_formed_counted-returns-then-is_empty-clause-count g t c m means =
+pub is_text_counted-returns-then-is_empty-clause-count : goal.is_text_counted-returns-then-is_empty-clause-count
+is_text_counted-returns-then-is_empty-clause-count g t c m means =
     let leads = c.loop-node.invariant.onward.there means.pairs means.lists in
     let end = deep_no_node leads.inner c.in_default.ensures.none in
     let counts = leads.counts in
@@ -181,15 +233,15 @@ is_well_formed_counted-returns-then-is_empty-clause-count g t c m means =
     omega arith
 
 -- bytes are left, of which no node begins
-left : (g : _) (t : _) (c : goal.is_well_formed_counted-Else-is_empty g t) → IsText g.K.ZeroTrieWithOptions.kind c.args.bytes.now → ⊥
+left : (g : _) (t : _) (c : goal.is_text_counted-Else-is_empty g t) → IsText g.K.ZeroTrieWithOptions.kind c.args.here.rest.now → ⊥
 left g t c text =
     let leads = c.loop-node.invariant.onward.there text.0 text.1 in
     let end = deep_no_node leads.inner c.in_default.ensures.none in
-    let some : length c.loop-node.rest.now ≡ 0 → ⊥ = eqb-false _ _ (sym c.is_empty.ensures ∙ c.if-is_empty.false) in
+    let some : length c.loop-node.at.rest.now ≡ 0 → ⊥ = eqb-false _ _ (sym c.is_empty.ensures ∙ c.if-is_empty.false) in
     some (ap length end.0)
 
-pub is_well_formed_counted-returns-else-is_empty-clause-yes : goal.is_well_formed_counted-returns-else-is_empty-clause-yes
-is_well_formed_counted-returns-else-is_empty-clause-yes g t c = (λ e. absurd (let f = c.if-is_empty.false in cc), λ well. absurd (left g t c (well_text well)))
+pub is_text_counted-returns-else-is_empty-clause-yes : goal.is_text_counted-returns-else-is_empty-clause-yes
+is_text_counted-returns-else-is_empty-clause-yes g t c = (λ e. absurd (let f = c.if-is_empty.false in cc), λ well. absurd (left g t c (well_text well)))
 
-pub is_well_formed_counted-returns-else-is_empty-clause-count : goal.is_well_formed_counted-returns-else-is_empty-clause-count
-is_well_formed_counted-returns-else-is_empty-clause-count g t c m means = absurd (left g t c (means.pairs, means.lists))
+pub is_text_counted-returns-else-is_empty-clause-count : goal.is_text_counted-returns-else-is_empty-clause-count
+is_text_counted-returns-else-is_empty-clause-count g t c m means = absurd (left g t c (means.pairs, means.lists))

@@ -1,6 +1,7 @@
 use Rattle.zerotrie_core.proofs.NumberLemmas.{after_shorter}
-use Rattle.zerotrie_core.proofs.NodeLemmas.{literal_shorter, span_shorter}
-use Rattle.zerotrie_core.proofs.StepLemmas.{value_onward, value_suits, literal_onward, literal_suits, span_onward, span_high, span_suits, span_unfit}
+use Rattle.zerotrie_core.proofs.NodeLemmas.{span_shorter}
+use Rattle.zerotrie_core.proofs.ListingStateLemmas.{value_end, span_end}
+use Rattle.zerotrie_core.proofs.StepLemmas.{value_onward, value_suits, literal_there, literal_suits, span_onward, span_high, span_suits, span_unfit}
 use Rattle.zerotrie_core.proofs.well_formed.next_step.Goals as goal
 use Rattle.zerotrie_core.proofs.well_formed.next_step.Goals.{else-takes_span-via-then-takes_span+else-is_run, else-takes_span-via-else-takes_span}
 
@@ -9,13 +10,13 @@ returns-then-takes_value g c =
     let kind = g.K.ZeroTrieWithOptions.kind in
     let v = c.in-Value._value in
     let rest = c.in-Value.rest.now in
-    rw c.in-Value.is (λ bytes b. after_shorter 16 4 v bytes rest b, value_suits kind v rest c.args.expected (c.takes_value.ensures.0 c.if-takes_value.true), value_onward kind v rest)
+    rw c.in-Value.is (λ bytes b. (after_shorter 16 4 v bytes rest b, value_end kind bytes rest v b), value_suits kind v rest c.args.expected (c.takes_value.ensures.0 c.if-takes_value.true), value_onward kind v rest)
 
 pub returns-in-Literal : goal.returns-in-Literal
 returns-in-Literal g c =
     let kind = g.K.ZeroTrieWithOptions.kind in
-    let rest = c.in-Literal.rest.now in
-    rw c.in-Literal.is (literal_shorter kind c.in-Literal._edge rest, literal_suits kind c.in-Literal._edge rest c.args.expected, literal_onward kind c.in-Literal._edge rest)
+    let rest = c.in-Literal._rest.now in
+    rw c.in-Literal.is (literal_there kind c.in-Literal._edge rest, literal_suits kind c.in-Literal._edge rest c.args.expected)
 
 pub returns-then-is_run : goal.returns-then-is_run
 returns-then-is_run g c =
@@ -23,7 +24,7 @@ returns-then-is_run g c =
     let run = c.in-Span.run'.now in
     let rest = c.in-Span.rest.now in
     let is = c.is_run.ensures.0 c.if-is_run.true in
-    rw c.in-Span.is (span_shorter kind run rest, span_suits kind run rest c.args.expected (c.takes_span.ensures.0 c.if-takes_span.true), span_onward kind run rest is.0 is.1)
+    rw c.in-Span.is (λ bytes b. (span_shorter kind run rest bytes b, span_end kind bytes run rest b), span_suits kind run rest c.args.expected (c.takes_span.ensures.0 c.if-takes_span.true), span_onward kind run rest is.0 is.1)
 
 pub returns-else-takes_span : goal.returns-else-takes_span
 returns-else-takes_span g c =

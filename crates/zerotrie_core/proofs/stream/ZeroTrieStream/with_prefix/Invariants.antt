@@ -1,8 +1,0 @@
-use Rattle.zerotrie_core.specs.Maps.{Pairs}
-use Rattle.zerotrie_core.specs.Texts.{Lists}
-use Rattle.zerotrie_core.proofs.PrefixLemmas.{Stepped}
-use Rattle.zerotrie_core.proofs.stream.ZeroTrieStream.with_prefix.Given as goal
-
-abbrev pub invariant-loop-byte : goal.invariant-loop-byte
-invariant-loop-byte g l = (pairs : Pairs) → Lists g.K.ZeroTrieWithOptions.kind l.bytes pairs
-    → Stepped g.K.ZeroTrieWithOptions.kind pairs l.prefix l.front.items l.byte-index l.cursor

@@ -1,0 +1,8 @@
+use Rattle.zerotrie_core.specs.Maps.{Pairs}
+use Rattle.zerotrie_core.specs.Texts.{Lists}
+use Rattle.zerotrie_core.proofs.PrefixLemmas.{Stepped}
+use Rattle.zerotrie_core.proofs.stream.down_to.Given as goal
+
+abbrev pub invariant-loop-byte : goal.invariant-loop-byte
+invariant-loop-byte g l = (pairs : Pairs) → Lists g.K.ZeroTrieWithOptions.kind l.bytes pairs
+    → Stepped g.K.ZeroTrieWithOptions.kind pairs l.prefix l.front.items l.byte-index l.cursor

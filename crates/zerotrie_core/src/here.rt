@@ -1,0 +1,75 @@
+//! A part of a text that is to be gone over.
+
+ghost use Rattle.std.specs.Prelude.{◌≡◌, ℕ, ◌≤◌, ◌<◌, length, take, slice_index, []};
+ghost use Rattle.std.specs.Option.{option_map};
+ghost use Rattle.std.specs.Slice.{IsGetRangeResult};
+ghost use Rattle.zerotrie_core.specs.listing.Runs.{EndsWith};
+
+use crate::lanes::first_other_in_16;
+
+/// The bytes that are to be gone over, and all that stand in the text from there on.
+///
+/// Sixteen bytes are looked at at once as long as there are sixteen in the text, also past the end of a target.
+#[derive(Clone, Copy, Debug)]
+pub struct Here<'a> {
+    pub rest: &'a [u8],
+    pub tail: &'a [u8],
+    ghost lies: { rest.now ≡ take (length rest.now) tail.now },
+}
+
+impl<'a> Here<'a> {
+    /// In front of these bytes.
+    #[inline(always)]
+    pub fn at(bytes: &'a [u8]) -> Self
+        ensures { result.rest.now ≡ bytes.now }
+    {
+        Here {
+            rest: bytes,
+            tail: bytes,
+        }
+    }
+
+    /// Where nothing is to be gone over.
+    #[inline(always)]
+    pub fn nowhere() -> Self
+        ensures { result.rest.now ≡ [] }
+    {
+        Here::at(&[])
+    }
+
+    /// In front of these bytes, with which the rest ends.
+    #[inline(always)]
+    pub fn behind(self, after: &'a [u8]) -> Self
+        requires { EndsWith self.rest.now after.now }
+        ensures { result.rest.now ≡ after.now }
+    {
+        let (_, tail) = self.tail.split_at(self.rest.len() - after.len());
+        Here { rest: after, tail }
+    }
+
+    /// How many literals the rest begins with, as far as sixteen bytes tell; none if the text has fewer left.
+    #[inline(always)]
+    pub fn literals(&self) -> usize
+        ensures within { result ≤ length self.now.rest.now }
+        ensures literals { (k : ℕ) → k < result → slice_index self.now.rest.now k < 128 }
+    {
+        if self.tail.len() < 16 {
+            return 0;
+        }
+        let (sixteen, _) = self.tail.split_at(16);
+        first_other_in_16(sixteen, sixteen)
+            .min(16)
+            .min(self.rest.len())
+    }
+
+    /// The bytes of the rest from one place to another, if these are in order and in it.
+    #[inline(always)]
+    pub fn part(self, begin: usize, end: usize) -> Option<Here<'a>>
+        ensures { IsGetRangeResult self.entry.rest.now begin end
+            (option_map (λ here. here.rest) result) }
+    {
+        let rest = self.rest.get(begin..end)?;
+        let (_, tail) = self.tail.split_at(begin);
+        Some(Here { rest, tail })
+    }
+}

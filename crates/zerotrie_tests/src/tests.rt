@@ -1,0 +1,107 @@
+mod arrays;
+mod calls;
+mod cursors;
+mod dense;
+mod examples;
+mod listings;
+mod outer;
+mod refusals;
+mod routes;
+mod uses;
+mod views;
+mod walks;
+mod well_formed;
+
+use std::alloc::Global;
+use std::borrow::CowSlice;
+use std::collections::BTreeMap;
+use std::fmt::Debug;
+use std::process::Abort;
+use std::test::Fail;
+use zerotrie::*;
+
+/// Ends the test where the two differ, and writes both: `assert_eq!` in a function of its own, since the proof of what
+/// it writes is long, and made anew wherever it stands.
+fn same<T: Debug + PartialEq + Drop, H: Abort>(rt: &H, left: T, right: T) {
+    assert_eq!(rt; left, right);
+}
+
+/// The keys "a" to "p", which in a hashed kind are the edges of the smallest hashed branch.
+const LETTERS: [(&str, usize); 16] = [
+    ("a", 0),
+    ("b", 1),
+    ("c", 2),
+    ("d", 3),
+    ("e", 4),
+    ("f", 5),
+    ("g", 6),
+    ("h", 7),
+    ("i", 8),
+    ("j", 9),
+    ("k", 10),
+    ("l", 11),
+    ("m", 12),
+    ("n", 13),
+    ("o", 14),
+    ("p", 15),
+];
+
+/// Their trie, in a hashed kind.
+fn letters<K: HashedKind>(alloc: Global) -> Result<HashedTrie<K, Vec<u8>>, ZeroTrieBuildError> {
+    HashedTrie::try_from_iter(alloc, LETTERS)
+}
+
+/// Keys without case: where they part they part by their lower case, too.
+const MIXED: [(&str, usize); 6] = [
+    ("", 0),
+    ("aBc", 1),
+    ("aBcD", 2),
+    ("aBcF", 4),
+    ("aBce", 3),
+    ("aBcghi", 5),
+];
+
+/// Names whose spellings part in case alone, put in lower case, and their text.
+const LOWERED: (&[(&str, usize)], &[u8]) = (
+    &[
+        ("accept-ch", 1),
+        ("accept-charset", 2),
+        ("date", 4),
+        ("dav", 3),
+    ],
+    b"\xC2ad\x0Fccept-ch\x81arset\x82a\xC2tv\x02e\x84\x83",
+);
+
+/// Fourteen locales, which take 71 bytes.
+const LOCALES: [(&str, usize); 14] = [
+    ("ar/FR", 0),
+    ("ar/IR", 1),
+    ("ar/SA", 2),
+    ("ar/UK", 3),
+    ("ar/US", 4),
+    ("en/AU", 5),
+    ("en/FR", 6),
+    ("en/UK", 7),
+    ("en/US", 8),
+    ("fr/FR", 9),
+    ("fr/SA", 10),
+    ("fr/UK", 11),
+    ("fr/US", 12),
+    ("it/IT", 13),
+];
+
+/// Their text.
+const LOCALES_TEXT: &[u8] =
+    b"\xC4aefi\x16(:r/\xC4FISU\x02\x04\x06R\x80R\x81A\x82\xC2KS\x01\x83\x84n/\xC3AFU\x02\x04\
+    U\x85R\x86\xC2KS\x01\x87\x88r/\xC3FSU\x02\x04R\x89A\x8A\xC2KS\x01\x8B\x8Ct/IT\x8D";
+
+/// The keys "k000" to "k511", one after another.
+fn many_keys() -> [u8; 2048] {
+    let mut keys = [b'k'; 2048];
+    for n in 0..512 {
+        keys[4 * n + 1] = b'0' + (n / 100) as u8;
+        keys[4 * n + 2] = b'0' + (n / 10 % 10) as u8;
+        keys[4 * n + 3] = b'0' + (n % 10) as u8;
+    }
+    keys
+}
