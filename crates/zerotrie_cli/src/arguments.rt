@@ -66,7 +66,7 @@ fn list_command<'a>(alloc: Global) -> Result<Command<'a>, AllocError> {
 /// What the command line may be.
 pub fn command<'a>(alloc: Global) -> Result<Command<'a>, AllocError> {
     Command::new(alloc, "zerotrie")
-        .version("0.2.5")
+        .version("0.2.5-1")
         .about("Reads tries in files")
         .subcommand_required(true)
         .arg_required_else_help(true)
