@@ -1,16 +1,20 @@
 //! A trie of a kind that is known when the program runs.
 
 ghost use Rattle.std.specs.Prelude.{◌≡◌, ◌↔◌, IsTrue, IfOk, IfErr};
-ghost use Rattle.zerotrie_core.specs.Maps.{Map, look};
-ghost use Rattle.zerotrie_core.specs.Texts.{Means};
+ghost use Rattle.zerotrie_core.specs.Maps.{Map, Pairs, look, beginning};
+ghost use Rattle.zerotrie_core.specs.Texts.{Lists, Means};
+ghost use Rattle.zerotrie_core.specs.Listings.{to_come};
 ghost use Rattle.zerotrie_core.specs.Prefixes.{IsLongestPrefix};
 ghost use Rattle.zerotrie_core.specs.WellFormed.{IsWellFormed};
 ghost use Rattle.zerotrie_any.specs.Tagged.{tagged, IsTagFault};
 ghost use Rattle.zerotrie_queries.specs.Kinds.{kind_of, IsTag};
 
 use crate::kind::TrieKind;
+use std::alloc::{AllocError, Global};
 use zerotrie_any::TagError;
-use zerotrie_core::{Ext, Hash, Ignore, Simple, get_counted, is_well_formed, longest_prefix};
+use zerotrie_core::{
+    Ext, Hash, Ignore, Simple, ZeroTrieStream, get_counted, is_well_formed, longest_prefix,
+};
 
 /// The bytes of a trie, where they lie, and its kind.
 #[derive(Clone, Copy, Debug)]
@@ -73,6 +77,27 @@ impl<'a> Trie<'a> {
             TrieKind::Ignore => longest_prefix::<Ignore>(self.bytes, text),
             TrieKind::Hash => longest_prefix::<Hash>(self.bytes, text),
             TrieKind::Ext => longest_prefix::<Ext>(self.bytes, text),
+        }
+    }
+
+    /// The pairs whose keys begin with a prefix, one after another, as the kind compares bytes; each key is lent from one
+    /// buffer. The empty prefix gives all pairs.
+    ///
+    /// It goes down to the prefix and reads no other part of the trie. The only error is that it is out of memory.
+    pub fn stream_prefix(
+        &self,
+        alloc: Global,
+        prefix: &[u8],
+    ) -> Result<ZeroTrieStream<'a>, AllocError>
+        ensures { IfOk result (λ s. (pairs : Pairs)
+            → Lists (kind_of self.now.kind) self.now.bytes.now pairs
+            → s.left ≡ to_come (beginning (kind_of self.now.kind) prefix.now pairs)) }
+    {
+        match self.kind {
+            TrieKind::Simple => ZeroTrieStream::with_prefix::<Simple>(alloc, self.bytes, prefix),
+            TrieKind::Ignore => ZeroTrieStream::with_prefix::<Ignore>(alloc, self.bytes, prefix),
+            TrieKind::Hash => ZeroTrieStream::with_prefix::<Hash>(alloc, self.bytes, prefix),
+            TrieKind::Ext => ZeroTrieStream::with_prefix::<Ext>(alloc, self.bytes, prefix),
         }
     }
 }

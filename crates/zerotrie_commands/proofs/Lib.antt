@@ -1,0 +1,2 @@
+mod WriteLemmas
+mod FoundLemmas

@@ -1,0 +1,16 @@
+use Rattle.std.proofs.Common.{◌≡◌, drop}
+use Rattle.std.specs.Prelude.{◌&&◌}
+use Rattle.zerotrie_core.specs.Maps.{Map, look}
+use Rattle.zerotrie_core.specs.Texts.{Means}
+use Rattle.zerotrie_queries.specs.Kinds.{kind_of}
+use Rattle.zerotrie_commands.specs.Printed.{value_lines, are_found}
+use Rattle.zerotrie_commands.proofs.WriteLemmas.{Wrote}
+use Rattle.zerotrie_commands.proofs.FoundLemmas.{answers_of}
+use Rattle.zerotrie_commands.proofs.lookups.write_values.Given as goal
+
+abbrev pub invariant-loop-key : goal.invariant-loop-key
+invariant-loop-key g l = (m : Map) → Means (kind_of l.trie.kind) l.trie.bytes.now m
+    → let f = look (kind_of l.trie.kind) m in
+    let left = answers_of f (drop l.key-index l.keys) in
+    Wrote (g.W.Write.contents l.initial.output) (g.W.Write.contents l.output) (value_lines left) (value_lines (answers_of f l.keys))
+    × ((l.all && are_found left) ≡ are_found (answers_of f l.keys))

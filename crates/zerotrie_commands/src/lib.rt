@@ -1,0 +1,11 @@
+//! The commands that read a trie, over the bytes of a file and a writer: the values of keys, the longest keys that texts
+//! begin with, and the pairs.
+#![tactic(auto)]
+
+mod listing;
+mod lookups;
+mod print;
+mod requests;
+
+pub use print::Style;
+pub use requests::{AnswerError, Request, answer};

@@ -1,0 +1,19 @@
+-- The trie in a file, and why it has none.
+use Rattle.std.specs.Prelude.{◌≡◌, ℕ, List, Option, Some, None}
+use Rattle.zerotrie_core.specs.WellFormed.{IsWellFormed}
+use Rattle.zerotrie_any.specs.Tagged.{tagged, IsTagFault}
+use Rattle.zerotrie_queries.specs.Kinds.{kind_of, IsTag}
+use Rattle.zerotrie_queries.specs.declared.kind.TrieKind.{TrieKind}
+use Rattle.zerotrie_queries.specs.declared.file.OpenError.{OpenError}
+use Rattle.zerotrie_queries.specs.declared.file.OpenError.TheVariants.{BadTag, NotWellFormed}
+
+-- the file has these bytes of this kind: all of it if the kind was named, and else what stands behind the number of the kind
+abbrev pub Holds : Option TrieKind → List ℕ → TrieKind → List ℕ → Type 0
+Holds None file kind bytes = file ≡ tagged (kind_of kind) bytes
+Holds (Some named) file kind bytes = (kind ≡ named) × (bytes ≡ file)
+
+-- why a file has no trie: no kind has its number in front, or the bytes mean no map of the kind
+abbrev pub Explains : Option TrieKind → List ℕ → OpenError → Type 0
+Explains named file (NotWellFormed kind) = (bytes : List ℕ) × Holds named file kind bytes × (IsWellFormed (kind_of kind) bytes → ⊥)
+Explains None file (BadTag why) = IsTagFault IsTag file why
+Explains (Some named) file (BadTag why) = ⊥

@@ -1,0 +1,58 @@
+//! The trie in a file.
+
+ghost use Rattle.std.specs.Prelude.{◌≡◌, IfOk, IfErr};
+ghost use Rattle.zerotrie_core.specs.WellFormed.{IsWellFormed};
+ghost use Rattle.zerotrie_queries.specs.Kinds.{kind_of};
+ghost use Rattle.zerotrie_queries.specs.Files.{Holds, Explains};
+ghost use Rattle.zerotrie_queries.specs.declared.file.OpenError.TheVariants.{BadTag};
+
+use crate::kind::TrieKind;
+use crate::trie::Trie;
+use zerotrie_any::TagError;
+
+/// Why a file has no trie.
+#[derive(Clone, PartialEq, Eq, Debug, Drop)]
+pub enum OpenError {
+    /// It has no number of a kind in front.
+    BadTag(TagError),
+    /// Its bytes are no trie of this kind.
+    NotWellFormed(TrieKind),
+}
+
+impl From<TagError> for OpenError {
+    ghost from_gives = { λ why e. e ≡ BadTag why };
+
+    fn from(why: TagError) -> Self {
+        OpenError::BadTag(why)
+    }
+}
+
+impl<'a> Trie<'a> {
+    /// The bytes that a file has and their kind. They are not tested.
+    fn untested(named: Option<TrieKind>, file: &'a [u8]) -> Result<Self, OpenError>
+        ensures ok { IfOk result (λ trie. Holds named file.now trie.kind trie.bytes.now) }
+        ensures err { IfErr result (λ why. Explains named file.now why) }
+    {
+        match named {
+            Some(kind) => Ok(Trie { kind, bytes: file }),
+            None => Ok(Trie::of_tagged(file)?),
+        }
+    }
+
+    /// The trie of a file, which is tested. If a kind is named, the file is bare bytes of it, and else its first byte is
+    /// the number of its kind.
+    ///
+    /// Refused exactly if the file has no trie.
+    pub fn open(named: Option<TrieKind>, file: &'a [u8]) -> Result<Self, OpenError>
+        ensures ok { IfOk result (λ trie. Holds named file.now trie.kind trie.bytes.now
+            × IsWellFormed (kind_of trie.kind) trie.bytes.now) }
+        ensures err { IfErr result (λ why. Explains named file.now why) }
+    {
+        let trie = Trie::untested(named, file)?;
+        if trie.is_well_formed() {
+            Ok(trie)
+        } else {
+            Err(OpenError::NotWellFormed(trie.kind))
+        }
+    }
+}
