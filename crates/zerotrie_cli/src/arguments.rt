@@ -35,8 +35,9 @@ fn words<'a>(alloc: Global, name: &'a str, help: &'a str) -> Arg<'a> {
 
 /// A command that reads a trie.
 fn reader<'a>(alloc: Global, name: &'a str, about: &'a str) -> Result<Command<'a>, AllocError> {
-    let kind = option(alloc, "kind", "The file is bare bytes of this kind")
-        .value_parser(KINDS.as_slice());
+    let kind = option(alloc, "kind", "The file is bare bytes of this kind").value_parser(
+        KINDS.as_slice(),
+    );
     Command::new(alloc, name)
         .about(about)
         .arg(place(alloc, "FILE", "A trie, or - for standard input"))?
@@ -44,14 +45,26 @@ fn reader<'a>(alloc: Global, name: &'a str, about: &'a str) -> Result<Command<'a
 }
 
 fn get_command<'a>(alloc: Global) -> Result<Command<'a>, AllocError> {
-    let keys = words(alloc, "KEY", "Keys; with none they are the lines of standard input");
+    let keys = words(
+        alloc,
+        "KEY",
+        "Keys; with none they are the lines of standard input",
+    );
     reader(alloc, "get", "Prints the values of keys")?.arg(keys)
 }
 
 fn longest_command<'a>(alloc: Global) -> Result<Command<'a>, AllocError> {
-    let texts = words(alloc, "TEXT", "Texts; with none they are the lines of standard input");
-    reader(alloc, "longest", "Prints the longest key that each text begins with, and its value")?
-        .arg(texts)
+    let texts = words(
+        alloc,
+        "TEXT",
+        "Texts; with none they are the lines of standard input",
+    );
+    reader(
+        alloc,
+        "longest",
+        "Prints the longest key that each text begins with, and its value",
+    )?
+    .arg(texts)
 }
 
 fn list_command<'a>(alloc: Global) -> Result<Command<'a>, AllocError> {

@@ -30,7 +30,9 @@ fn tell_no_trie(rt: &HostRuntime, path: &str, why: &OpenError) -> u8 {
     let _ = match why {
         OpenError::BadTag(TagError::Empty) => eprintln!(rt; "zerotrie: {path}: the file is empty"),
         OpenError::BadTag(TagError::InvalidTag) => {
-            eprintln!(rt; "zerotrie: {path}: no kind has the number that the file begins with; if it is bare bytes, name their kind by --kind")
+            eprintln!(rt;
+                "zerotrie: {path}: no kind has the number that the file begins with; if it is bare bytes, name their kind by --kind"
+            )
         }
         OpenError::NotWellFormed(kind) => {
             let name = kind.name();
@@ -65,7 +67,11 @@ fn print_answer(
 }
 
 /// The words of an argument, as bytes.
-fn words_in<'a>(rt: &HostRuntime, matches: &ArgMatches<'a>, name: &str) -> io::Result<Option<Vec<&'a [u8]>>> {
+fn words_in<'a>(
+    rt: &HostRuntime,
+    matches: &ArgMatches<'a>,
+    name: &str,
+) -> io::Result<Option<Vec<&'a [u8]>>> {
     let Some(words) = matches.get_strs(name) else {
         return Ok(None);
     };
@@ -86,7 +92,13 @@ fn request_of<'a>(name: &str, keys: &'a [&'a [u8]]) -> Request<'a> {
 }
 
 /// Answers `get` and `longest`, whose keys are words or the lines of standard input.
-fn print_keys(rt: &HostRuntime, matches: &ArgMatches<'_>, name: &str, path: &str, file: &[u8]) -> u8 {
+fn print_keys(
+    rt: &HostRuntime,
+    matches: &ArgMatches<'_>,
+    name: &str,
+    path: &str,
+    file: &[u8],
+) -> u8 {
     let argument = if name == "get" { "KEY" } else { "TEXT" };
     match words_in(rt, matches, argument) {
         Err(error) => return tell_fault(rt, "arguments", &error),
@@ -154,7 +166,11 @@ pub fn run(rt: &HostRuntime) -> u8 {
         Ok(words) => obey(rt, words.as_slice()),
         Err(error) => {
             let _ = eprintln!(rt; "zerotrie: the arguments can't be read: {error}");
-            if error.kind() == ErrorKind::InvalidData { BAD_USAGE } else { FAULT }
+            if error.kind() == ErrorKind::InvalidData {
+                BAD_USAGE
+            } else {
+                FAULT
+            }
         }
     }
 }

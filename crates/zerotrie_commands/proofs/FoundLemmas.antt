@@ -66,12 +66,12 @@ finding_more kind m texts keys rest text a b c old next r line is longest writes
       done = g.done ++ found_line text r;
       appends = Appends-trans a b c g.done (found_line text r) g.appends (rw (← writes) appends);
       more = λ found h.
-      let whole = g.more (r ∷ found) (longest, h) in record {
-        found = whole.found;
-        longest = whole.longest;
-        is = append_assoc g.done (found_line text r) (found_lines rest found) ∙ whole.is;
-        tells = and_assoc old (is_some r) (are_found found) ∙ whole.tells;
-      };
+          let whole = g.more (r ∷ found) (longest, h) in record {
+            found = whole.found;
+            longest = whole.longest;
+            is = append_assoc g.done (found_line text r) (found_lines rest found) ∙ whole.is;
+            tells = and_assoc old (is_some r) (are_found found) ∙ whole.tells;
+          };
     })
 
 -- all texts
@@ -79,10 +79,13 @@ pub finding_ends : (kind : Kind) (m : Map) (texts rest : List (List ℕ)) (a b :
     → (printed : List ℕ) × LongestLines kind m texts printed all × Appends a b printed
 finding_ends kind m texts rest a b all is f =
     let g : Finding kind m texts [] a b all = rw (← is) f in
-    let whole = g.more [] tt in
-    (g.done, record {
-      found = whole.found;
-      longest = whole.longest;
-      is = sym (append-nil g.done) ∙ whole.is;
-      tells = sym (and_true all) ∙ whole.tells;
-    }, g.appends)
+    let whole = g.more [] tt in (
+      g.done,
+      record {
+        found = whole.found;
+        longest = whole.longest;
+        is = sym (append-nil g.done) ∙ whole.is;
+        tells = sym (and_true all) ∙ whole.tells;
+      },
+      g.appends,
+    )

@@ -45,7 +45,7 @@ pub fn write_list<W: Write>(
 ) -> io::Result<()>
     ensures { OnOk result ((pairs : Pairs) → Lists (kind_of trie.now.kind) trie.now.bytes.now pairs
         → Appends (W.contents output.old) (W.contents output.new)
-            (pair_lines style (beginning (kind_of trie.now.kind) prefix.now pairs))) }
+        (pair_lines style (beginning (kind_of trie.now.kind) prefix.now pairs))) }
 {
     let mut pairs = trie.stream_prefix(alloc, prefix)?;
     write_stream(alloc, &mut pairs, style, output)

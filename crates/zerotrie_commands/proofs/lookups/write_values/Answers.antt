@@ -20,10 +20,10 @@ loop-key-preserved g c m means =
     let is = drop_more keys i no_key (omega arith) in
     let line : c.as_slice.result.now ≡ value_line c.get-value.result = search rules in (
       wrote_more (contents c.args.output.now) (contents c.loop-key.output) (contents c.write_all.new.self) c.as_slice.result.now
-      (value_lines (answers_of f (drop i keys))) (value_lines (answers_of f (drop (i + 1) keys))) (value_lines (answers_of f keys))
-      old.0 c.in_ok-write_all.ensures.bytes (value_first f (drop i keys) (drop (i + 1) keys) (get_or keys i no_key) c.get-value.result c.as_slice.result.now is given line),
+          (value_lines (answers_of f (drop i keys))) (value_lines (answers_of f (drop (i + 1) keys))) (value_lines (answers_of f keys))
+          old.0 c.in_ok-write_all.ensures.bytes (value_first f (drop i keys) (drop (i + 1) keys) (get_or keys i no_key) c.get-value.result c.as_slice.result.now is given line),
       found_first f (drop i keys) (drop (i + 1) keys) (get_or keys i no_key) c.get-value.result c.loop-key.all (c.loop-key.all && c.is_some-all.result) (are_found (answers_of f keys))
-      is given (ap (λ b. c.loop-key.all && b) c.is_some-all.ensures) old.1,
+          is given (ap (λ b. c.loop-key.all && b) c.is_some-all.ensures) old.1,
     )
 
 pub returns : goal.returns
@@ -34,6 +34,6 @@ returns g c m means =
     let old = c.loop-key.invariant m means in
     let none : drop c.loop-key.key-index keys ≡ [] = drop_of_length-le keys (omega arith) in (
       wrote_all (contents c.args.output.now) (contents c.loop-key.output) (value_lines (answers_of f (drop c.loop-key.key-index keys))) (value_lines (answers_of f keys))
-      (ap (λ ks. value_lines (answers_of f ks)) none) old.0,
+          (ap (λ ks. value_lines (answers_of f ks)) none) old.0,
       sym (and_true c.loop-key.all) ∙ ap (λ ks. c.loop-key.all && are_found (answers_of f ks)) (sym none) ∙ old.1,
     )
