@@ -48,9 +48,6 @@ pub fn fall_back_in_hashed<S: TrieStore>(
         if *byte == HYPHEN {
             found = cursor.take_value().or(found);
         }
-        if cursor.is_empty() {
-            return found;
-        }
         cursor.step(*byte);
     }
     cursor.take_value().or(found)

@@ -5,11 +5,11 @@ use Rattle.std.specs.Option.{option_or}
 use Rattle.std.specs.Prelude.{◌==◌}
 use Rattle.zerotrie.specs.Kind.{perfect_hash}
 use Rattle.zerotrie.specs.Machine.{without_value, after_steps}
-use Rattle.zerotrie.specs.Maps.{value_at}
+use Rattle.zerotrie.specs.Maps.{look, value_at}
 use Rattle.zerotrie.specs.Places.{ListsAt}
 use Rattle.zerotrie.proofs.Cursors.{steps_along}
-use Rattle.zerotrie.proofs.Fallbacks.{going, stays_on, stays_taken, steps_on, takes_on}
-use Rattle.zerotrie_uses.proofs.Parts.{is_hyphen, is_fallback}
+use Rattle.zerotrie.proofs.Fallbacks.{going, going_in_map, is_longest_or_empty, longest_same, steps_on, takes_on}
+use Rattle.zerotrie_uses.proofs.Parts.{is_hyphen, by_parts, by_front}
 use Rattle.zerotrie_uses.proofs.fallbacks.fall_back_in_hashed.Goals as goal
 use Rattle.zerotrie_uses.proofs.fallbacks.fall_back_in_hashed.Goals.{then-byte-eq-HYPHEN, else-byte-eq-HYPHEN}
 
@@ -41,31 +41,13 @@ loop-byte-preserved g c pairs lists =
           )
     ]
 
-pub returns-then-is_empty : goal.returns-then-is_empty
-returns-then-is_empty g c m means =
-    let name = c.args.name.now in
-    let old = c.loop-byte.invariant means.pairs means.lists in
-    let byte = get_or name c.loop-byte.byte-index 0 in
-    let rest = drop (c.loop-byte.byte-index + 1) name in
-    let none = c.is_empty.ensures.pairs in
-    let here : c.if-byte-eq-HYPHEN.found ≡ going is_hyphen c.loop-byte.found (value_at perfect_hash old.0) (byte ∷ rest) =
-    elim c.if-byte-eq-HYPHEN.branch [
-      | then-byte-eq-HYPHEN w ↦
-          let taken = w.take_value.ensures.meaning old.0 old.1 in
-          stays_taken perfect_hash is_hyphen old.0 ((none (without_value old.0) (subst (λ place. ListsAt perfect_hash place (without_value old.0)) (sym w.cursor-is) taken.1)).0 c.if-is_empty.true)
-          c.loop-byte.found w.take_value.result c.if-byte-eq-HYPHEN.found byte rest (eq-eqb byte 45 w.if-byte-eq-HYPHEN.true) taken.0 (w.found-is ∙ w.or-found.ensures)
-      | else-byte-eq-HYPHEN w ↦
-          stays_on perfect_hash is_hyphen old.0 ((none old.0 (subst (λ place. ListsAt perfect_hash place old.0) (sym w.cursor-is) old.1)).0 c.if-is_empty.true)
-          c.loop-byte.found c.if-byte-eq-HYPHEN.found (byte ∷ rest) w.found-is
-    ] in
-    is_fallback perfect_hash _ name m means c.get-found.result c.if-byte-eq-HYPHEN.found (c.get-found.ensures m means)
-    (here ∙ ap (going is_hyphen c.loop-byte.found (value_at perfect_hash old.0)) (sym (drop_more name c.loop-byte.byte-index 0 (omega arith))) ∙ old.2)
-
 pub returns : goal.returns
 returns g c m means =
     let name = c.args.name.now in
     let end = c.loop-byte.invariant means.pairs means.lists in
-    let none : drop c.loop-byte.byte-index name ≡ [] = drop_of_length-le name (omega arith) in
+    let none : drop c.loop-byte.byte-index c.args.name.now ≡ [] = drop_of_length-le c.args.name.now (omega arith) in
     let taken = c.take_value-2.ensures.meaning end.0 end.1 in
-    is_fallback perfect_hash _ name m means c.get-found.result c.or.result (c.get-found.ensures m means)
-    (c.or.ensures ∙ ap (λ o. option_or o c.loop-byte.found) taken.0 ∙ ap (going is_hyphen c.loop-byte.found (value_at perfect_hash end.0)) (sym none) ∙ end.2)
+    let along =
+    c.or.ensures ∙ ap (λ o. option_or o c.loop-byte.found) taken.0 ∙ ap (going is_hyphen c.loop-byte.found (value_at perfect_hash end.0)) (sym none) ∙ end.2
+    ∙ going_in_map is_hyphen perfect_hash _ name m means c.get-found.result ∙ ap (λ o. going is_hyphen o (look perfect_hash m) name) (c.get-found.ensures m means) in
+    longest_same (look perfect_hash m) c.or.result (by_parts name) (by_front name) (is_longest_or_empty is_hyphen (look perfect_hash m) name c.or.result along)
