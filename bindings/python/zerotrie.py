@@ -35,27 +35,15 @@ Pairs = Union[Mapping[Any, int], Iterable["tuple[Key, int]"]]
 SIMPLE_ASCII, PERFECT_HASH, EXTENDED_CAPACITY, IGNORE_CASE = 0, 3, 7, 8
 
 _DONE, _TOO_SMALL, _NO_MEMORY, _NO_ENTRY = 0, 8, 11, 15
-_TEXTS = {
-    1: "a key has a byte that is not ASCII: take a kind of trie for keys of any bytes",
-    2: "the text of the trie would be too long for its kind: take ZeroTrieExtendedCapacity, or fewer pairs",
-    3: "no perfect hash was found for the edges of a branch: take a kind without hashed tables, or change a key",
-    4: "two keys begin alike but for the case of a letter: lower-case the keys first",
-    5: "a text has the delimiter in it: take a delimiter that none has",
-    6: "a key was given twice: give each key once",
-    7: "the keys do not ascend: sort them by their bytes, each once",
-    12: "the number is no kind of trie: take 0, 3, 7 or 8",
-    13: "there are no bytes, and so no tag: give all of the tagged bytes",
-    14: "the first byte is the tag of no kind: give bytes that were written with a tag",
-    16: "the record is cut: give all of its bytes",
-    17: "bytes follow the record: give its bytes alone",
-}
 
 
 class ZeroTrieError(ValueError):
     """Why something was refused. `status` is the number that zerotrie.h has for it."""
 
     def __init__(self, status: int) -> None:
-        super().__init__(_TEXTS.get(status, "Unknown status"))
+        text = _Part()
+        _lib.zerotrie_status_bytes(status, ctypes.byref(text))
+        super().__init__(ctypes.string_at(text.ptr, text.len - 1).decode())
         self.status = status
 
 
@@ -102,6 +90,7 @@ _DECLARED = {
     "zerotrie_tagged": (c_uint32, [c_uint32, *_LENT, *_ROOM, _SIZE]),
     "zerotrie_dense_get": (c_uint32, [*_LENT, *_TEXT, *_TEXT, _SIZE]),
     "zerotrie_dense_build": (c_uint32, [*_TEXT, *_SIZES, *_TEXT, *_SIZES, *_SIZES, c_uint8, *_ROOM, _SIZE]),
+    "zerotrie_status_bytes": (None, [c_uint32, POINTER(_Part)]),
     "zerotrie_list": (c_uint32, [c_uint32, *_LENT, *_TEXT, *_ROOM, *_SIZES, *_SIZES, _SIZE, _SIZE]),
     "zerotrie_list_some": (c_uint32, [c_uint32, *_LENT, *_TEXT, c_bool, *_TEXT, *_ROOM, *_SIZES, *_SIZES, _SIZE, _SIZE]),
 }
