@@ -13,7 +13,8 @@ ghost use Rattle.zerotrie_build.specs.passes.Measured.{Run, Stops, Parts, IsMeas
 ghost use Rattle.zerotrie_build.specs.passes.Walking.{tos, spare_len, with_len, left_open, IsOpened, Closing, IsTurn, IsNext};
 
 use crate::indexed::IndexedItems;
-use crate::steps::{Step, Window, first_step, group_end, literals_end, one_item, rest_len};
+use crate::leaf::{rest_len, single_item};
+use crate::windows::{Step, Window, first_step, group_end, literals_end};
 use std::alloc::{AllocError, Allocator};
 use zerotrie_core::{ZeroTrieBuildError, ZeroTrieWithOptions};
 
@@ -32,7 +33,7 @@ pub(crate) struct Measured<A: Allocator> {
 
 /// A branch whose targets are measured, one after another.
 #[derive(Clone, Copy, Debug)]
-struct Open {
+struct OpenBranch {
     /// Where the items of the target that is measured begin, and how many bytes of their keys stand in front
     /// of its edge.
     from: usize,
@@ -57,15 +58,15 @@ enum Turn {
 
 /// The slots, and the branches that the window stands in which is measured, the innermost last.
 #[derive(Drop)]
-struct Measuring<I, A: Allocator> {
+struct FirstPass<I, A: Allocator> {
     items: I,
     slots: Vec<usize, A>,
     counts: Vec<u8, A>,
-    branches: Vec<Open, A>,
+    branches: Vec<OpenBranch, A>,
 }
 
 /// The sum, if it is below 2^64.
-fn plus(a: usize, b: usize) -> Result<usize, ZeroTrieBuildError>
+fn checked_sum(a: usize, b: usize) -> Result<usize, ZeroTrieBuildError>
     ensures sum { IfOk result (λ c. c ≡ a + b) }
     ensures refused { IfErr result (λ e.
         (e ≡ ZeroTrieBuildError.CapacityExceeded) × (2 ^ 64 ≤ a + b)) }
@@ -124,17 +125,17 @@ fn behind_nodes<'a, K: ZeroTrieWithOptions, I: IndexedItems<'a>>(
     loop {
         match first_step::<K, I>(items, rest) {
             Step::Value(value) => {
-                len = plus(len, value_len(value))?;
+                len = checked_sum(len, value_len(value))?;
                 rest.from += 1;
             }
             Step::Literal(_) => {
                 let end = literals_end(items, rest);
-                len = plus(len, end - rest.depth)?;
+                len = checked_sum(len, end - rest.depth)?;
                 rest.depth = end;
             }
             Step::Span(count) => {
-                let lead = plus(len, count_len(count))?;
-                len = plus(lead, count)?;
+                let lead = checked_sum(len, count_len(count))?;
+                len = checked_sum(lead, count)?;
                 rest.depth += count;
             }
             Step::Branch | Step::End => return Ok((rest, len)),
@@ -160,7 +161,7 @@ fn behind_run<'a, K: ZeroTrieWithOptions, I: IndexedItems<'a>>(
     ensures refused { IfErr result (λ e. (e ≡ ZeroTrieBuildError.CapacityExceeded)
         × (2 ^ 64 ≤ size_of K.kind (window_of (I.pairs items) start))) }
 {
-    let Some((rest, value)) = one_item(items, start) else {
+    let Some((rest, value)) = single_item(items, start) else {
         return behind_nodes::<K, I>(items, start);
     };
     let Some(len) = rest_len::<K>(rest, ascii) else {
@@ -171,7 +172,7 @@ fn behind_run<'a, K: ZeroTrieWithOptions, I: IndexedItems<'a>>(
         to: start.to,
         depth: start.depth + rest.len(),
     };
-    Ok((behind, plus(len, value_len(value))?))
+    Ok((behind, checked_sum(len, value_len(value))?))
 }
 
 /// The sum of these lengths.
@@ -182,7 +183,7 @@ fn total(lens: &[usize]) -> Result<usize, ZeroTrieBuildError>
 {
     let mut total = 0;
     for len in lens {
-        total = plus(total, *len)?;
+        total = checked_sum(total, *len)?;
     }
     Ok(total)
 }
@@ -211,8 +212,8 @@ fn with_branch<K: ZeroTrieWithOptions>(
     if is_too_wide::<K>(sum) {
         return Err(ZeroTrieBuildError::CapacityExceeded);
     }
-    let front = plus(len, branch_len::<K>(lens.len(), sum))?;
-    plus(front, sum)
+    let front = checked_sum(len, branch_len::<K>(lens.len(), sum))?;
+    checked_sum(front, sum)
 }
 
 /// The least number w with `total` below 256^(w + 1).
@@ -251,7 +252,7 @@ fn branch_len<K: ZeroTrieWithOptions>(edges: usize, total: usize) -> usize
     number_len(32, 256 * width + edges % 256) + table + (width + 1) * (edges - 1)
 }
 
-impl<'a, I: IndexedItems<'a>, A: Allocator + Copy> Measuring<I, A> {
+impl<'a, I: IndexedItems<'a>, A: Allocator + Copy> FirstPass<I, A> {
     /// No branch. Most sets of keys have fewer targets than there is room for.
     fn new<K: ZeroTrieWithOptions>(alloc: A, items: I) -> Result<Self, AllocError>
         ensures items { IfOk result (λ m. m.items ≡ items) }
@@ -259,7 +260,7 @@ impl<'a, I: IndexedItems<'a>, A: Allocator + Copy> Measuring<I, A> {
         ensures branches { IfOk result (λ m. m.branches.items ≡ []) }
     {
         let room = items.len().saturating_add(items.len() / 2);
-        Ok(Measuring {
+        Ok(FirstPass {
             items,
             slots: Vec::with_capacity(alloc, room)?,
             counts: Vec::with_capacity(alloc, if K::USE_PHF { 0 } else { room })?,
@@ -306,7 +307,7 @@ impl<'a, I: IndexedItems<'a>, A: Allocator + Copy> Measuring<I, A> {
     }
 
     /// The window of the target of the branch that is measured next.
-    fn target_of(&self, branch: Open) -> Window
+    fn target_of(&self, branch: OpenBranch) -> Window
         requires slot { branch.next < length self.now.slots.items }
         requires room { branch.depth + 1 < 2 ^ 64 }
         ensures { result ≡ record {
@@ -345,7 +346,7 @@ impl<'a, I: IndexedItems<'a>, A: Allocator + Copy> Measuring<I, A> {
         if is_hashed::<K>(end - first) {
             self.slots.resize(end + (end - first), 0)?;
         }
-        let branch = Open {
+        let branch = OpenBranch {
             from: window.from,
             depth: window.depth,
             len,
@@ -358,7 +359,7 @@ impl<'a, I: IndexedItems<'a>, A: Allocator + Copy> Measuring<I, A> {
     }
 
     /// Keeps how long the target of the branch is that was measured.
-    fn keep<K: ZeroTrieWithOptions>(&mut self, branch: Open, len: usize)
+    fn keep<K: ZeroTrieWithOptions>(&mut self, branch: OpenBranch, len: usize)
         requires order { branch.first ≤ branch.next }
         requires some { branch.next < branch.end }
         requires within { branch.end + spare_len K.kind (branch.end - branch.first)
@@ -379,7 +380,7 @@ impl<'a, I: IndexedItems<'a>, A: Allocator + Copy> Measuring<I, A> {
         ensures slots { result.slots.items ≡ self.slots.items }
         ensures len { result.len ≡ len }
     {
-        let Measuring {
+        let FirstPass {
             items: _,
             mut slots,
             mut counts,
@@ -412,7 +413,7 @@ impl<'a, I: IndexedItems<'a>, A: Allocator + Copy> Measuring<I, A> {
             let from = self.slots[branch.next];
             self.keep::<K>(branch, len);
             if branch.next + 1 < branch.end {
-                let branch = Open {
+                let branch = OpenBranch {
                     from,
                     next: branch.next + 1,
                     ..branch
@@ -440,7 +441,7 @@ pub(crate) fn measure_all<'a, K: ZeroTrieWithOptions, I: IndexedItems<'a>, A: Al
         → (e ≡ ZeroTrieBuildError.CapacityExceeded)
         × ExceedsCapacity K.kind (map_of (I.pairs items))) }
 {
-    let mut measuring = Measuring::new::<K>(alloc, items)?;
+    let mut pass = FirstPass::new::<K>(alloc, items)?;
     let mut window = Window {
         from: 0,
         to: items.len(),
@@ -449,11 +450,11 @@ pub(crate) fn measure_all<'a, K: ZeroTrieWithOptions, I: IndexedItems<'a>, A: Al
     loop {
         let (rest, len) = behind_run::<K, I>(items, window, ascii)?;
         if rest.from < rest.to {
-            window = measuring.push_branch::<K>(rest, len)?;
+            window = pass.push_branch::<K>(rest, len)?;
         } else {
-            match measuring.close::<K>(len)? {
+            match pass.close::<K>(len)? {
                 Turn::Window(next) => window = next,
-                Turn::Whole(len) => return Ok(measuring.measured(len)),
+                Turn::Whole(len) => return Ok(pass.measured(len)),
             }
         }
     }

@@ -3,8 +3,8 @@ use Rattle.std.proofs.lemmas.Result.{err_from_is_err_and}
 use Rattle.zerotrie_core.specs.Numbers.{value_form, span_form, spelled_as}
 use Rattle.zerotrie_build.specs.passes.Measured.{Run}
 use Rattle.zerotrie_build.specs.passes.Measured.Run.{here, value, span}
-use Rattle.zerotrie_build.proofs.WindowLemmas.{span_some}
-use Rattle.zerotrie_build.proofs.RunLemmas.{too_long, literal_low, literals_to}
+use Rattle.zerotrie_build.proofs.WindowLemmas.Spans.{span_some}
+use Rattle.zerotrie_build.proofs.WindowLemmas.NodeRuns.{too_long, literal_low, literals_to}
 use Rattle.zerotrie_build.proofs.measuring.behind_nodes.Goals as goal
 
 pub loop-value-preserved-in-Value : goal.loop-value-preserved-in-Value

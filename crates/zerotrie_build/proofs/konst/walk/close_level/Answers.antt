@@ -1,5 +1,5 @@
 use Rattle.std.proofs.lemmas.Result.{err_from_is_err_and, on_ok_weaker, IfErr-weaker}
-use Rattle.zerotrie_build.proofs.ArraySteps.{closes_branch, closes_literal, stuck_wide, stuck_many}
+use Rattle.zerotrie_build.proofs.ArrayLemmas.Steps.{closes_branch, closes_literal, stuck_wide, stuck_many}
 use Rattle.zerotrie_build.proofs.konst.walk.close_level.Goals as goal
 
 pub returns-in_err-set_aside-clause-refused : goal.returns-in_err-set_aside-clause-refused

@@ -1,8 +1,8 @@
 use Rattle.std.proofs.Common.{◌+◌, refl, [], length}
-use Rattle.zerotrie_build.proofs.RunLemmas.{lone_end}
-use Rattle.zerotrie_build.proofs.FrontLemmas.{going_start, going_lone, open_bytes, room_lone}
-use Rattle.zerotrie_build.proofs.SlotLemmas.{opened}
-use Rattle.zerotrie_build.proofs.BranchLemmas.{front_end}
+use Rattle.zerotrie_build.proofs.WindowLemmas.NodeRuns.{lone_end}
+use Rattle.zerotrie_build.proofs.WriteLemmas.Fronts.{going_start, going_lone, open_bytes, room_lone}
+use Rattle.zerotrie_build.proofs.WriteLemmas.Slots.{opened}
+use Rattle.zerotrie_build.proofs.WriteLemmas.Branches.{front_end}
 use Rattle.zerotrie_build.proofs.writing.Writing.put_front.Goals as goal
 
 pub put_lone-requires : goal.put_lone-requires

@@ -1,4 +1,4 @@
-use Rattle.zerotrie_build.proofs.PutLemmas.{puts_then}
+use Rattle.zerotrie_build.proofs.WriteLemmas.Puts.{puts_then}
 use Rattle.zerotrie_build.proofs.writing.Writing.put_lone.Goals as goal
 
 pub returns-clause-puts : goal.returns-clause-puts

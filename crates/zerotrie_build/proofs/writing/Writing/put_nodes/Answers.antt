@@ -3,10 +3,10 @@ use Rattle.std.proofs.lemmas.List.{length-take-le}
 use Rattle.zerotrie_core.specs.Numbers.{span_form, spelled_as}
 use Rattle.zerotrie_build.specs.passes.Windows.{item_of}
 use Rattle.zerotrie_build.specs.passes.Writing.{next_of}
-use Rattle.zerotrie_build.proofs.RunLemmas.{literal_low}
-use Rattle.zerotrie_build.proofs.FrontLemmas.{going_start, going_value, going_literals, going_span, open_bytes, room_value, room_literals, room_span, span_within}
-use Rattle.zerotrie_build.proofs.SlotLemmas.{opened}
-use Rattle.zerotrie_build.proofs.BranchLemmas.{branch_slots, branch_windows, branch_lens, branch_numbers, branch_small, branch_room, branch_refused, front_branch, front_end}
+use Rattle.zerotrie_build.proofs.WindowLemmas.NodeRuns.{literal_low}
+use Rattle.zerotrie_build.proofs.WriteLemmas.Fronts.{going_start, going_value, going_literals, going_span, open_bytes, room_value, room_literals, room_span, span_within}
+use Rattle.zerotrie_build.proofs.WriteLemmas.Slots.{opened}
+use Rattle.zerotrie_build.proofs.WriteLemmas.Branches.{branch_slots, branch_windows, branch_lens, branch_numbers, branch_small, branch_room, branch_refused, front_branch, front_end}
 use Rattle.zerotrie_build.proofs.writing.Writing.put_nodes.Goals as goal
 
 pub loop-value-init : goal.loop-value-init
@@ -125,8 +125,8 @@ overflow_add-lens g c =
     let room = lens.1 in
     search (room, rules)
 
-pub offset_bounds-plan-slot : goal.offset_bounds-plan-slot
-offset_bounds-plan-slot g c =
+pub offset_bounds-input-slot : goal.offset_bounds-input-slot
+offset_bounds-input-slot g c =
     let v = c.loop-value.invariant in
     let k = v.1 in
     let step = sym c.first_step.ensures.is ∙ c.in-Branch.is in
@@ -186,7 +186,7 @@ returns-in-Branch-clause-put g c =
     let laid = found.1 in
     let lens = branch_lens k v.2 step laid (length c.as_slice-numbers.result.now) (ap length c.as_slice-numbers.ensures.value) in
     let kind = g.K.ZeroTrieWithOptions.kind in
-    let slots = c.args.plan.slots.now in
+    let slots = c.args.input.slots.now in
     let slot = c.args.slot in
     let ws = c.set.new.self.windows.items in
     let numbers = c.set.new.self.numbers.items in
