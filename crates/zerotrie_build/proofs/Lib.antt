@@ -8,5 +8,6 @@ mod Overflow
 mod Ranges
 mod RefusalLemmas
 mod Runs
+mod Stacks
 mod WindowLemmas
 mod WriteLemmas

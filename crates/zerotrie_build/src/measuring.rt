@@ -1,8 +1,8 @@
 //! The first pass: the lengths of the text and of the targets of its branches.
 
-ghost use Rattle.std.specs.Prelude.{◌≡◌, ◌≢◌, ◌↔◌, ℕ, List, [], ◌∷◌, ◌+◌, ◌-◌, ◌*◌, ◌%◌, ◌^◌, ◌<◌, ◌≤◌, ◌⊎◌, ◌++◌, length, replicate, reverse, slice_index, IfOk, OnOk, IfErr, IsTrue};
+ghost use Rattle.std.specs.Prelude.{◌≡◌, ◌≢◌, ◌↔◌, ℕ, List, [], ◌∷◌, ◌+◌, ◌-◌, ◌*◌, ◌%◌, ◌^◌, ◌<◌, ◌≤◌, ◌⊎◌, ◌++◌, length, replicate, reverse, slice_index, IfOk, OnOk, IfErr, IfSome, IsTrue};
 ghost use Rattle.zerotrie_core.specs.Kind.{is_hashed, greatest_width};
-ghost use Rattle.zerotrie_core.specs.Numbers.{Form, value_form, span_form, spelled_as};
+ghost use Rattle.zerotrie_core.specs.Numbers.{Form, value_form, spelled_as};
 ghost use Rattle.zerotrie_core.specs.Maps.{map_of};
 ghost use Rattle.zerotrie_core.specs.Branches.{IsWidth, total as sum};
 ghost use Rattle.zerotrie_core.specs.Canonical.{size_of, branch_size};
@@ -97,55 +97,43 @@ fn value_len(value: usize) -> usize
     number_len(16, value)
 }
 
-/// How many bytes the length of a span has.
-fn count_len(count: usize) -> usize
-    ensures { result ≡ length (spelled_as span_form count) }
-{
-    number_len(16, count)
-}
-
-/// The window after the values, literals and spans that stand first, and how many bytes these have.
+/// The end of a window of one item, as most are, and how many bytes its text has. `None` if there are more items, or if
+/// the rest of the key has spans that are told one by one. If `ascii` is true, all keys are ASCII.
 #[inline(always)]
-fn behind_nodes<'a, K: ZeroTrieWithOptions, I: IndexedItems<'a>>(
+fn behind_leaf<'a, K: ZeroTrieWithOptions, I: IndexedItems<'a>>(
     items: I,
     start: Window,
-) -> Result<(Window, usize), ZeroTrieBuildError>
+    ascii: bool,
+) -> Result<Option<(Window, usize)>, ZeroTrieBuildError>
     requires keys { AreKeys K.kind (I.pairs items) }
+    requires ascii { IsTrue ascii → AreLow (I.pairs items) }
     requires within { start.to ≤ length (I.pairs items) }
     requires ordered { Ordered K.kind (window_of (I.pairs items) start) }
-    ensures run { IfOk result (λ r. Run K.kind (I.pairs items) start r.0 r.1) }
-    ensures stops { IfOk result (λ r. Stops K.kind (I.pairs items) r.0) }
-    ensures room { IfOk result (λ r. step_of K.kind (I.pairs items) r.0 ≡ Step.Branch
-        → r.0.depth + 1 < 2 ^ 64) }
+    ensures run { IfOk result (λ leaf. IfSome leaf (λ r.
+        Run K.kind (I.pairs items) start r.0 r.1)) }
+    ensures end { IfOk result (λ leaf. IfSome leaf (λ r.
+        step_of K.kind (I.pairs items) r.0 ≡ Step.End)) }
     ensures refused { IfErr result (λ e. (e ≡ ZeroTrieBuildError.CapacityExceeded)
         × (2 ^ 64 ≤ size_of K.kind (window_of (I.pairs items) start))) }
 {
-    let mut rest = start;
-    let mut len = 0;
-    loop {
-        match first_step::<K, I>(items, rest) {
-            Step::Value(value) => {
-                len = checked_sum(len, value_len(value))?;
-                rest.from += 1;
-            }
-            Step::Literal(_) => {
-                let end = literals_end(items, rest);
-                len = checked_sum(len, end - rest.depth)?;
-                rest.depth = end;
-            }
-            Step::Span(count) => {
-                let lead = checked_sum(len, count_len(count))?;
-                len = checked_sum(lead, count)?;
-                rest.depth += count;
-            }
-            Step::Branch | Step::End => return Ok((rest, len)),
-        }
-    }
+    let Some((rest, value)) = single_item(items, start) else {
+        return Ok(None);
+    };
+    let Some(len) = rest_len::<K>(rest, ascii) else {
+        return Ok(None);
+    };
+    let end = Window {
+        from: start.to,
+        to: start.to,
+        depth: start.depth + rest.len(),
+    };
+    Ok(Some((end, checked_sum(len, value_len(value))?)))
 }
 
-/// Like `behind_nodes`, and at once for a window of one item, as most are. If `ascii` is true, all keys are ASCII.
+/// The window after the values, literals and spans that stand first, and how many bytes these have. If `ascii` is true,
+/// all keys are ASCII.
 #[inline(always)]
-fn behind_run<'a, K: ZeroTrieWithOptions, I: IndexedItems<'a>>(
+fn behind_nodes<'a, K: ZeroTrieWithOptions, I: IndexedItems<'a>>(
     items: I,
     start: Window,
     ascii: bool,
@@ -161,18 +149,30 @@ fn behind_run<'a, K: ZeroTrieWithOptions, I: IndexedItems<'a>>(
     ensures refused { IfErr result (λ e. (e ≡ ZeroTrieBuildError.CapacityExceeded)
         × (2 ^ 64 ≤ size_of K.kind (window_of (I.pairs items) start))) }
 {
-    let Some((rest, value)) = single_item(items, start) else {
-        return behind_nodes::<K, I>(items, start);
-    };
-    let Some(len) = rest_len::<K>(rest, ascii) else {
-        return behind_nodes::<K, I>(items, start);
-    };
-    let behind = Window {
-        from: start.to,
-        to: start.to,
-        depth: start.depth + rest.len(),
-    };
-    Ok((behind, checked_sum(len, value_len(value))?))
+    if let Some(leaf) = behind_leaf::<K, I>(items, start, ascii)? {
+        return Ok(leaf);
+    }
+    let mut rest = start;
+    let mut len = 0;
+    loop {
+        match first_step::<K, I>(items, rest) {
+            Step::Value(value) => {
+                len = checked_sum(len, value_len(value))?;
+                rest.from += 1;
+            }
+            Step::Literal(_) => {
+                let end = literals_end(items, rest);
+                len = checked_sum(len, end - rest.depth)?;
+                rest.depth = end;
+            }
+            Step::Span(count) => {
+                let lead = checked_sum(len, number_len(16, count))?;
+                len = checked_sum(lead, count)?;
+                rest.depth += count;
+            }
+            Step::Branch | Step::End => return Ok((rest, len)),
+        }
+    }
 }
 
 /// The sum of these lengths.
@@ -448,7 +448,7 @@ pub(crate) fn measure_all<'a, K: ZeroTrieWithOptions, I: IndexedItems<'a>, A: Al
         depth: 0,
     };
     loop {
-        let (rest, len) = behind_run::<K, I>(items, window, ascii)?;
+        let (rest, len) = behind_nodes::<K, I>(items, window, ascii)?;
         if rest.from < rest.to {
             window = pass.push_branch::<K>(rest, len)?;
         } else {

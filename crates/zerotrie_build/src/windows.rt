@@ -1,6 +1,6 @@
 //! What stands first in the text of a window of the items.
 
-ghost use Rattle.std.specs.Prelude.{◌≡◌, ℕ, ◌+◌, ◌-◌, ◌^◌, ◌<◌, ◌≤◌, IfSome, Some, drop, slice_index, length};
+ghost use Rattle.std.specs.Prelude.{◌≡◌, ℕ, ◌+◌, ◌-◌, ◌^◌, ◌<◌, ◌≤◌, IfSome, Some, drop, slice_get, slice_index, length};
 ghost use Rattle.zerotrie_build.specs.Order.{Ordered};
 ghost use Rattle.zerotrie_build.specs.passes.Windows.{window as window_of, step_of, item_of, byte_of, edge_of, high_front, IsLow, IsGroup};
 
@@ -79,38 +79,26 @@ fn low_end(key: &[u8], other: &[u8], from: usize) -> usize
     end
 }
 
-/// At which depth the literals end that stand first in the text of the window, which has one item.
+/// The last item of the window. If there is but one, it is `first`, and not asked for again.
 #[inline(always)]
-fn literals_of_one<'a, I: IndexedItems<'a>>(items: I, window: Window) -> usize
-    requires one { window.to ≡ window.from + 1 }
-    requires items { window.to ≤ length (I.pairs items) }
-    requires literal { IsLow (I.pairs items) window window.depth }
-    ensures past { window.depth < result }
-    ensures within { result ≤ length (item_of (I.pairs items) window.from).0 }
-    ensures low { (i : ℕ) → window.depth ≤ i → i < result → IsLow (I.pairs items) window i }
-    ensures room { result < 2 ^ 64 }
-{
-    let (key, _) = items.get(window.from);
-    low_end(key, key, window.depth)
-}
-
-/// At which depth the literals end that stand first in the text of the window, by its first and its last item.
-#[inline(always)]
-fn literals_of_many<'a, I: IndexedItems<'a>>(items: I, window: Window) -> usize
+fn last_item<'a, I: IndexedItems<'a>>(
+    items: I,
+    window: Window,
+    first: (&'a [u8], usize),
+) -> (&'a [u8], usize)
     requires some { window.from < window.to }
     requires items { window.to ≤ length (I.pairs items) }
-    requires literal { IsLow (I.pairs items) window window.depth }
-    ensures past { window.depth < result }
-    ensures within { result ≤ length (item_of (I.pairs items) window.from).0 }
-    ensures low { (i : ℕ) → window.depth ≤ i → i < result → IsLow (I.pairs items) window i }
-    ensures room { result < 2 ^ 64 }
+    requires first { slice_get (I.pairs items) window.from ≡ Some (first.0.now, first.1) }
+    ensures { slice_get (I.pairs items) (window.to - 1) ≡ Some (result.0.now, result.1) }
 {
-    let (first, _) = items.get(window.from);
-    let (last, _) = items.get(window.to - 1);
-    low_end(first, last, window.depth)
+    if window.to - window.from == 1 {
+        first
+    } else {
+        items.get(window.to - 1)
+    }
 }
 
-/// At which depth the literals end that stand first in the text of the window, of which there is one.
+/// The depth at which the literals end with which the text of the window begins. There is one at least.
 pub(crate) fn literals_end<'a, I: IndexedItems<'a>>(items: I, window: Window) -> usize
     requires some { window.from < window.to }
     requires items { window.to ≤ length (I.pairs items) }
@@ -120,44 +108,9 @@ pub(crate) fn literals_end<'a, I: IndexedItems<'a>>(items: I, window: Window) ->
     ensures low { (i : ℕ) → window.depth ≤ i → i < result → IsLow (I.pairs items) window i }
     ensures room { result < 2 ^ 64 }
 {
-    if window.to - window.from == 1 {
-        literals_of_one(items, window)
-    } else {
-        literals_of_many(items, window)
-    }
-}
-
-/// How many bytes from 128 on all keys of the window have in common in front, which has one item.
-#[inline(always)]
-fn span_of_one<'a, I: IndexedItems<'a>>(items: I, window: Window, byte: u8) -> usize
-    requires one { window.to ≡ window.from + 1 }
-    requires items { window.to ≤ length (I.pairs items) }
-    requires first { byte_of (I.pairs items) window.from window.depth ≡ Some byte }
-    ensures is { result ≡ high_front (drop window.depth (item_of (I.pairs items) window.from).0)
-        (drop window.depth (item_of (I.pairs items) (window.to - 1)).0) }
-    ensures room { window.depth + result < 2 ^ 64 }
-{
-    let (key, _) = items.get(window.from);
-    let _len = key.len();
-    let rest = &key[window.depth..];
-    high_front_len(rest, rest)
-}
-
-/// Like `span_of_one`, for a window of any number of items: its first and last key decide.
-#[inline(always)]
-fn span_of_many<'a, I: IndexedItems<'a>>(items: I, window: Window, byte: u8) -> usize
-    requires some { window.from < window.to }
-    requires items { window.to ≤ length (I.pairs items) }
-    requires first { byte_of (I.pairs items) window.from window.depth ≡ Some byte }
-    requires last { byte_of (I.pairs items) (window.to - 1) window.depth ≡ Some byte }
-    ensures is { result ≡ high_front (drop window.depth (item_of (I.pairs items) window.from).0)
-        (drop window.depth (item_of (I.pairs items) (window.to - 1)).0) }
-    ensures room { window.depth + result < 2 ^ 64 }
-{
-    let (first, _) = items.get(window.from);
-    let (last, _) = items.get(window.to - 1);
-    let _len = first.len();
-    high_front_len(&first[window.depth..], &last[window.depth..])
+    let first = items.get(window.from);
+    let (last, _) = last_item(items, window, first);
+    low_end(first.0, last, window.depth)
 }
 
 /// How many bytes from 128 on all keys of the window have in common in front, if they go on with this byte.
@@ -170,11 +123,10 @@ fn span_len<'a, I: IndexedItems<'a>>(items: I, window: Window, byte: u8) -> usiz
         (drop window.depth (item_of (I.pairs items) (window.to - 1)).0) }
     ensures room { window.depth + result < 2 ^ 64 }
 {
-    if window.to - window.from == 1 {
-        span_of_one(items, window, byte)
-    } else {
-        span_of_many(items, window, byte)
-    }
+    let first = items.get(window.from);
+    let (last, _) = last_item(items, window, first);
+    let _len = first.0.len();
+    high_front_len(&first.0[window.depth..], &last[window.depth..])
 }
 
 /// What stands first in the text of the window, if its first and its last key both go on with this byte.

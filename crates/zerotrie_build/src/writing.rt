@@ -137,19 +137,6 @@ impl<S: TrieBuilderStore + Drop> Writing<S> {
         self.put_number(VALUE, 16, value);
     }
 
-    /// Writes literals and a value after them.
-    #[inline(always)]
-    fn put_lone(&mut self, rest: &[u8], value: usize)
-        requires { self.old.at + (length rest.now + length (spelled_as value_form value))
-            ≤ length (S.list self.old.data) }
-        ensures puts { Puts (S.list self.old.data) self.old.at (S.list self.new.data) self.new.at
-            (rest.now ++ spelled_as value_form value) }
-        ensures spells { SpellsAs value_form value (spelled_as value_form value) }
-    {
-        self.put_all(rest);
-        self.put_value(value);
-    }
-
     /// Writes the literals that the window's keys go on with up to a depth.
     #[inline(always)]
     fn put_literals<'a, I: IndexedItems<'a>>(&mut self, items: I, window: Window, end: usize)
@@ -233,7 +220,7 @@ impl<S: TrieBuilderStore + Drop> Writing<S> {
     }
 
     /// Writes a window, whose slots begin at `slot`, node after node up to the targets of its first branch, and lays
-    /// these out.
+    /// these out. A window of one item whose rest is ASCII, as most are, is written at once.
     #[inline(always)]
     fn put_nodes<'a, K: ZeroTrieWithOptions, I: IndexedItems<'a>, A: Allocator + Copy>(
         &mut self,
@@ -244,6 +231,7 @@ impl<S: TrieBuilderStore + Drop> Writing<S> {
         layout: &mut Layout<A>,
     ) -> Result<(), ZeroTrieBuildError>
         requires keys { AreKeys K.kind (I.pairs items) }
+        requires ascii { IsTrue input.ascii → AreLow (I.pairs items) }
         requires ordered { Ordered K.kind (I.pairs items) }
         requires kept { (end : ℕ) × KeptTo K.kind (I.pairs items) input.slots.now slot end window }
         requires room { self.old.at + size_of K.kind (window_of (I.pairs items) window)
@@ -255,6 +243,11 @@ impl<S: TrieBuilderStore + Drop> Writing<S> {
         ensures refused { IfErr result (λ e. e ≢ ZeroTrieBuildError.OutOfMemory
             → (e ≡ ZeroTrieBuildError.CouldNotSolvePerfectHash) × Cause K.kind (I.pairs items) e) }
     {
+        if let Some((literals, value)) = ascii_leaf(items, window, input.ascii) {
+            self.put_all(literals);
+            self.put_value(value);
+            return Ok(());
+        }
         // That a length is below 2^64 tells the proof that so are the places of the slots.
         let _len = input.slots.len();
         let mut rest = window;
@@ -284,36 +277,6 @@ impl<S: TrieBuilderStore + Drop> Writing<S> {
             }
         }
     }
-
-    /// Like `put_nodes`, and at once for a window of one item whose rest is ASCII, as most are.
-    #[inline(always)]
-    fn put_front<'a, K: ZeroTrieWithOptions, I: IndexedItems<'a>, A: Allocator + Copy>(
-        &mut self,
-        items: I,
-        input: WriteInput<'_>,
-        window: Window,
-        slot: usize,
-        layout: &mut Layout<A>,
-    ) -> Result<(), ZeroTrieBuildError>
-        requires keys { AreKeys K.kind (I.pairs items) }
-        requires ascii { IsTrue input.ascii → AreLow (I.pairs items) }
-        requires ordered { Ordered K.kind (I.pairs items) }
-        requires kept { (end : ℕ) × KeptTo K.kind (I.pairs items) input.slots.now slot end window }
-        requires room { self.old.at + size_of K.kind (window_of (I.pairs items) window)
-            ≤ length (S.list self.old.data) }
-        ensures put { OnOk result ((next : List Next) × (reverse layout.new.pending.items
-            ≡ next ++ reverse layout.old.pending.items)
-            × FrontPut K.kind (I.pairs items) input.entry.slots.now slot window next
-            (S.list self.old.data) self.old.at (S.list self.new.data) self.new.at) }
-        ensures refused { IfErr result (λ e. e ≢ ZeroTrieBuildError.OutOfMemory
-            → (e ≡ ZeroTrieBuildError.CouldNotSolvePerfectHash) × Cause K.kind (I.pairs items) e) }
-    {
-        let Some((literals, value)) = ascii_leaf(items, window, input.ascii) else {
-            return self.put_nodes::<K, I, A>(items, input, window, slot, layout);
-        };
-        self.put_lone(literals, value);
-        Ok(())
-    }
 }
 
 /// The sum of the lengths of the targets of these numbers.
@@ -327,14 +290,6 @@ fn total(lens: &[usize], numbers: &[usize]) -> usize
         total += lens[*number];
     }
     total
-}
-
-/// Takes what is on top off.
-fn take_next<A: Allocator>(pending: &mut Vec<Next, A>) -> Option<Next>
-    ensures some { IfSome result (λ i. reverse pending.old.items ≡ i ∷ reverse pending.new.items) }
-    ensures none { IfNone result (reverse pending.old.items ≡ []) }
-{
-    pending.pop()
 }
 
 /// Writes the text of the items. The store and hashed tables take their memory from `alloc`.
@@ -373,7 +328,7 @@ pub(crate) fn write<
         ascii,
     };
     let mut position = Position { from: 0, slot: 0 };
-    while let Some(next) = take_next(&mut layout.pending) {
+    while let Some(next) = layout.pending.pop() {
         match next {
             Next::Go(there) => position = there,
             Next::Text(next_window) => {
@@ -382,7 +337,7 @@ pub(crate) fn write<
                     to: next_window.to,
                     depth: next_window.depth,
                 };
-                writing.put_front::<K, I, A>(items, input, window, position.slot, &mut layout)?;
+                writing.put_nodes::<K, I, A>(items, input, window, position.slot, &mut layout)?;
                 position.from = window.to;
             }
         }

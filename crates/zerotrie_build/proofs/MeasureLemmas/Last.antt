@@ -19,6 +19,7 @@ use Rattle.zerotrie_build.specs.passes.Measured.Kept.{kept}
 use Rattle.zerotrie_build.specs.passes.Measured.KeptEach.{none as kept_none}
 use Rattle.zerotrie_build.specs.passes.Walking.{IsPlaced, tos, spare_len, slots_so_far, with_len, IsCounting, Waits, Closing, IsOpened, left_open}
 use Rattle.zerotrie_build.specs.passes.Walking.Waits.{inside}
+use Rattle.zerotrie_build.proofs.Stacks.{popped}
 use Rattle.zerotrie_build.proofs.Overflow.{same_edges, same_targets_size, exceeds}
 use Rattle.zerotrie_build.proofs.WindowLemmas.NodeRuns.{along}
 use Rattle.zerotrie_build.proofs.WindowLemmas.Opened.{groups_low}
@@ -200,10 +201,6 @@ waits_opened {kind = kind} {all = all} {w = w} {rest = rest} {c = c} {fs = fs} {
         } in
         subst (λ x. Waits kind all x (record { from = rest.from; depth = rest.depth; len = n; first = length slots; next = length slots; end = o.end } ∷ fs) slots') same
         (subst (Waits kind all t (_ ∷ fs)) (sym slots_are) (inside waits counting))
-
--- the innermost branch stands last
-pub popped : (old new : List OpenBranch) (f : OpenBranch) → old ≡ new ++ f ∷ [] → reverse old ≡ f ∷ reverse new
-popped old new f e = ap reverse e ∙ reverse-append new (f ∷ [])
 
 -- as many slots as before
 pub with_len_long : (kind : Kind) (f : OpenBranch) (len : ℕ) (slots : List ℕ) → length (with_len kind f len slots) ≡ length slots

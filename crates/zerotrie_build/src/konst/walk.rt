@@ -117,7 +117,7 @@ fn close_level<const K: usize>(
         set_aside(text, siblings, key[depth], depth)?;
         return join(text, siblings, depth);
     }
-    text.put_literal(key[depth]);
+    text.put(key[depth]);
     Ok(())
 }
 

@@ -12,8 +12,9 @@ use Rattle.zerotrie_build.specs.passes.Walking.{Waits, Closing, IsOpened, IsTurn
 use Rattle.zerotrie_build.specs.passes.Walking.Waits.{outside}
 use Rattle.zerotrie_build.proofs.WindowLemmas.Windows.{cut_whole}
 use Rattle.zerotrie_build.proofs.WindowLemmas.NodeRuns.{along, stopped}
+use Rattle.zerotrie_build.proofs.Stacks.{popped}
 use Rattle.zerotrie_build.proofs.MeasureLemmas.Inner.{waits_placed}
-use Rattle.zerotrie_build.proofs.MeasureLemmas.Last.{waits_opened, popped, opened_less}
+use Rattle.zerotrie_build.proofs.MeasureLemmas.Last.{waits_opened, opened_less}
 use Rattle.zerotrie_build.proofs.MeasureLemmas.Slots.{kept_end, exceeds_size}
 use Rattle.zerotrie_build.proofs.measuring.measure_all.Goals as goal
 
@@ -30,8 +31,8 @@ loop-pass-init g c = record {
       (subst (λ x. Waits kind all (whole all) (reverse x) m.slots.items) (sym e.branches) (subst (Waits kind all (whole all) []) (sym e.slots) outside));
 }
 
-pub behind_run-requires : goal.behind_run-requires
-behind_run-requires g c =
+pub behind_nodes-requires : goal.behind_nodes-requires
+behind_nodes-requires g c =
     let p = waits_placed c.loop-pass.invariant.waits c.requires.keys c.requires.ordered in
     λ k. ((refl, tt), (c.requires.keys, (c.requires.ascii, (p.within, p.ordered))))
 

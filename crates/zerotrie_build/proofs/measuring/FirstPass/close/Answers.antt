@@ -6,8 +6,9 @@ use Rattle.zerotrie_core.specs.Branches.{total}
 use Rattle.zerotrie_core.specs.Canonical.{branch_size}
 use Rattle.zerotrie_build.specs.declared.measuring.OpenBranch.{OpenBranch}
 use Rattle.zerotrie_build.specs.passes.Walking.{Waits, Closing, left_open}
+use Rattle.zerotrie_build.proofs.Stacks.{popped}
 use Rattle.zerotrie_build.proofs.MeasureLemmas.Inner.{inner, inner_within, waits_next, all_closed}
-use Rattle.zerotrie_build.proofs.MeasureLemmas.Last.{popped, last, last_lens, last_count, last_closing, last_refused, with_len_long}
+use Rattle.zerotrie_build.proofs.MeasureLemmas.Last.{last, last_lens, last_count, last_closing, last_refused, with_len_long}
 use Rattle.zerotrie_build.proofs.measuring.FirstPass.close.Goals as goal
 
 pub index-from-requires : goal.index-from-requires
