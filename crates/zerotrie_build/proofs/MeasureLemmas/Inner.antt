@@ -11,7 +11,6 @@ use Rattle.zerotrie_build.specs.declared.windows.Window.{Window}
 use Rattle.zerotrie_build.specs.declared.measuring.OpenBranch.{OpenBranch}
 use Rattle.zerotrie_build.specs.passes.Windows.{window}
 use Rattle.zerotrie_build.specs.passes.Measured.{Parts, sizes_of, ends_from, Kept, KeptEach, whole}
-use Rattle.zerotrie_build.specs.passes.Measured.Kept.{kept}
 use Rattle.zerotrie_build.specs.passes.Measured.KeptEach.{none as kept_none, more as kept_more}
 use Rattle.zerotrie_build.specs.passes.Walking.{IsPlaced, tos, spare_len, slots_so_far, with_len, IsCounting, Waits, Closing}
 use Rattle.zerotrie_build.specs.passes.Walking.Waits.{outside, inside}

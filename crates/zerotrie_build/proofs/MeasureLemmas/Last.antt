@@ -1,12 +1,12 @@
 -- The last target of a branch, and a branch that is opened.
 use Rattle.std.proofs.Common.{◌≡◌, ℕ, zero, suc, ◌+◌, ◌-◌, ◌*◌, ◌^◌, ◌<◌, ◌≤◌, ◌⊎◌, inl, inr, Bool, true, false, List, [], ◌∷◌, ◌++◌, length, refl, sym, ◌∙◌, ap, subst, arith, map, take, drop, replicate, reverse, append_assoc, length-append}
-use Rattle.std.proofs.lemmas.List.{append-nil, length-map, length-set, reverse-append, take_all}
+use Rattle.std.proofs.lemmas.List.{append-nil, length-map, length-set, take_all}
 use Rattle.std.specs.Prelude.{slice_set, slice_index, if◌then◌else◌}
 use Rattle.std.specs.List.{concat}
 use Rattle.zerotrie_core.specs.Kind.{Kind, greatest_width, is_hashed}
 use Rattle.zerotrie_core.specs.Maps.{Pairs, map_of, behind_all, edges}
 use Rattle.zerotrie_core.specs.Branches.{total}
-use Rattle.zerotrie_core.specs.Canonical.{size, size_of, branch_size}
+use Rattle.zerotrie_core.specs.Canonical.{size_of, branch_size}
 use Rattle.zerotrie_core.specs.Fits.{ExceedsCapacity}
 use Rattle.zerotrie_core.proofs.CallerLemmas.{rises_increasing, length-ordered}
 use Rattle.zerotrie_build.specs.Order.{AreKeys}
@@ -23,7 +23,7 @@ use Rattle.zerotrie_build.proofs.Stacks.{popped}
 use Rattle.zerotrie_build.proofs.Overflow.{same_edges, same_targets_size, exceeds}
 use Rattle.zerotrie_build.proofs.WindowLemmas.NodeRuns.{along}
 use Rattle.zerotrie_build.proofs.WindowLemmas.Opened.{groups_low}
-use Rattle.zerotrie_build.proofs.WindowLemmas.Placed.{Targets, targets}
+use Rattle.zerotrie_build.proofs.WindowLemmas.Placed.{Targets}
 use Rattle.zerotrie_build.proofs.MeasureLemmas.Slots.{rises_count, exceeds_size, not_branch, edges_behind}
 use Rattle.zerotrie_build.proofs.MeasureLemmas.Inner.{Inner, counted, kept_snoc, length-sizes, inner_slots, get_at}
 

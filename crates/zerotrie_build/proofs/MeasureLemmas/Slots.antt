@@ -18,7 +18,6 @@ use Rattle.zerotrie_build.specs.passes.Measured.{Run, Stops, ends_from, slots_of
 use Rattle.zerotrie_build.specs.passes.Measured.Kept.{kept}
 use Rattle.zerotrie_build.specs.passes.Measured.KeptEach.{none as kept_none}
 use Rattle.zerotrie_build.specs.passes.Walking.{IsBehind, IsPlaced, slots_so_far, with_len}
-use Rattle.zerotrie_build.specs.passes.Walking.Waits.{inside}
 use Rattle.zerotrie_build.proofs.Nodes.{power_some}
 use Rattle.zerotrie_build.proofs.Overflow.{same_edges}
 use Rattle.zerotrie_build.proofs.WindowLemmas.Windows.{cut_none}

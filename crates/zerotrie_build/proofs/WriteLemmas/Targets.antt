@@ -1,5 +1,5 @@
 -- What the targets of a branch answer, in whatever order they stand.
-use Rattle.std.proofs.Common.{◌≡◌, ℕ, zero, suc, ◌+◌, ◌-◌, ◌*◌, ◌%◌, ◌^◌, ◌<◌, ◌≤◌, ◌⊎◌, inl, inr, List, [], ◌∷◌, ◌++◌, length, refl, sym, ◌∙◌, ap, subst, arith, get_or, map, All, None}
+use Rattle.std.proofs.Common.{◌≡◌, ℕ, zero, suc, ◌+◌, ◌*◌, ◌%◌, ◌^◌, ◌<◌, ◌≤◌, ◌⊎◌, inl, inr, List, [], ◌∷◌, ◌++◌, length, refl, sym, ◌∙◌, ap, subst, arith, get_or, map, All, None}
 use Rattle.std.specs.Prelude.{Contains}
 use Rattle.std.specs.List.{concat, AllByRecursion}
 use Rattle.std.specs.List.Sorted.{IsPermutation, IsStrictlyIncreasing}

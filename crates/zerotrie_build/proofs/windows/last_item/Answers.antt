@@ -1,4 +1,4 @@
-use Rattle.std.proofs.Common.{◌≡◌, ◌-◌, ℕ, List, subst, arith, Some, slice_get}
+use Rattle.std.proofs.Common.{◌≡◌, ℕ, List, subst, arith, Some, slice_get}
 use Rattle.zerotrie_build.proofs.windows.last_item.Goals as goal
 
 pub returns-then-window-eq1 : goal.returns-then-window-eq1
