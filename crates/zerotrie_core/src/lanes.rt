@@ -1,6 +1,6 @@
 //! Bytes held against two others, many at once.
 
-ghost use Rattle.std.specs.Prelude.{◌≡◌, ◌≢◌, ℕ, ◌<◌, ◌≤◌, ◌⊎◌, length, slice_index, IsTrue};
+ghost use Rattle.std.specs.Prelude.{◌≡◌, ◌≢◌, ℕ, ◌+◌, ◌<◌, ◌≤◌, ◌⊎◌, length, slice_index, IsTrue};
 
 use std::simd::prelude::*;
 
@@ -72,4 +72,19 @@ pub fn are_same_in_16(bytes: &[u8], others: &[u8]) -> bool
         × (slice_index bytes.now k ≡ slice_index others.now k) }
 {
     first_other_in_16(bytes, others) >= 16
+}
+
+/// How many of the first sixteen bytes are below the one after them, from the first on; 64 if all are.
+#[inline(always)]
+pub fn rising_in_17(bytes: &[u8]) -> usize
+    requires { 17 ≤ length bytes.now }
+    ensures rises { (k : ℕ) → k < 16 → k < result
+        → slice_index bytes.now k < slice_index bytes.now (k + 1) }
+    ensures stops { result < 16
+        → slice_index bytes.now (result + 1) ≤ slice_index bytes.now result }
+{
+    let (_, next) = bytes.split_at(1);
+    let lanes = u8x16::from_slice(bytes);
+    let stops = lanes.simd_ge(u8x16::from_slice(next)).to_bitmask();
+    stops.trailing_zeros() as usize
 }
