@@ -1,5 +1,6 @@
 //! What the command line may be.
 
+use crate::code::code_command;
 use clap::{Arg, ArgAction, ArgMatches, Command};
 use std::alloc::{AllocError, Global};
 use zerotrie_commands::Style;
@@ -18,7 +19,7 @@ fn place<'a>(alloc: Global, name: &'a str, help: &'a str) -> Arg<'a> {
 }
 
 /// A word behind its name.
-fn option<'a>(alloc: Global, name: &'a str, help: &'a str) -> Arg<'a> {
+pub fn option<'a>(alloc: Global, name: &'a str, help: &'a str) -> Arg<'a> {
     Arg::new(alloc, name)
         .long(name)
         .action(ArgAction::Set)
@@ -34,7 +35,7 @@ fn words<'a>(alloc: Global, name: &'a str, help: &'a str) -> Arg<'a> {
 }
 
 /// A command that reads a trie.
-fn reader<'a>(alloc: Global, name: &'a str, about: &'a str) -> Result<Command<'a>, AllocError> {
+pub fn reader<'a>(alloc: Global, name: &'a str, about: &'a str) -> Result<Command<'a>, AllocError> {
     let kind = option(alloc, "kind", "The file is bare bytes of this kind").value_parser(
         KINDS.as_slice(),
     );
@@ -85,7 +86,8 @@ pub fn command<'a>(alloc: Global) -> Result<Command<'a>, AllocError> {
         .arg_required_else_help(true)
         .subcommand(get_command(alloc)?)?
         .subcommand(longest_command(alloc)?)?
-        .subcommand(list_command(alloc)?)
+        .subcommand(list_command(alloc)?)?
+        .subcommand(code_command(alloc)?)
 }
 
 /// The kind of bare bytes, if one is named.

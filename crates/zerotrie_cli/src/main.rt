@@ -2,6 +2,7 @@
 #![tactic(auto)]
 
 mod arguments;
+mod code;
 mod commands;
 mod files;
 
