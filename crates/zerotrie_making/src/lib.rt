@@ -1,0 +1,11 @@
+//! The command that makes a trie file: the bytes of a file of pairs in, the bytes of the trie's file out.
+#![tactic(auto)]
+
+mod making;
+mod plan;
+mod refused;
+mod tries;
+
+pub use making::make;
+pub use plan::Plan;
+pub use refused::{MakeError, NumberedKey, Shown};
