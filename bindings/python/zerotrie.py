@@ -17,6 +17,7 @@ from __future__ import annotations
 
 import array
 import ctypes
+import itertools
 import mmap
 import os
 from collections.abc import Iterable, Iterator, Mapping
@@ -270,16 +271,15 @@ class ZeroTrie(Mapping):
 
     def get_many(self, keys: Iterable[Key], missing: int = (1 << 64) - 1) -> array.array:
         """The value of each key, or `missing`, as an array of numbers: one call for all."""
-        texts = [_key(key) for key in keys]
-        ends, at = array.array("Q", bytes(8 * max(1, len(texts)))), 0
-        for number, text in enumerate(texts):
-            at += len(text)
-            ends[number] = at
-        values = array.array("Q", bytes(8 * max(1, len(texts))))
-        sizes = c_size_t * len(values)
-        _check(_lib.zerotrie_get_many(self.kind, self._at, self._len, b"".join(texts), at, sizes.from_buffer(ends), len(texts),
+        texts = [key if type(key) is bytes else _key(key) for key in keys]
+        if not texts:
+            return array.array("Q")
+        ends = array.array("Q", itertools.accumulate(map(len, texts)))
+        values = array.array("Q", bytes(8 * len(texts)))
+        sizes = c_size_t * len(texts)
+        _check(_lib.zerotrie_get_many(self.kind, self._at, self._len, b"".join(texts), ends[-1], sizes.from_buffer(ends), len(texts),
                                       missing, sizes.from_buffer(values), len(texts)))
-        return values[: len(texts)]
+        return values
 
     def longest_prefix(self, text: Key) -> Optional[tuple[bytes, int]]:
         """The longest key that the text begins with, and its value."""
