@@ -10,7 +10,8 @@ ghost use Rattle.zerotrie_core.specs.Shapes.{branch_shape};
 ghost use Rattle.zerotrie_core.specs.well_formed.Branching.{AreBytes, AnswersEach, HasTable, HasFront, IsTarget};
 ghost use Rattle.zerotrie_core.specs.well_formed.Testing.{AlwaysNoText};
 
-use crate::branch::{Branch, folded};
+use crate::branch::Branch;
+use crate::fold::folded;
 use crate::here::Here;
 use crate::lanes::rising_in_17;
 use crate::options::ZeroTrieWithOptions;

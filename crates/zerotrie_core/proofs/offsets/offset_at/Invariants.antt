@@ -1,6 +1,6 @@
 use Rattle.std.proofs.Common.{◌≡◌, ◌*◌, ◌-◌, ◌<◌, ◌^◌, length}
 use Rattle.zerotrie_core.specs.Nodes.{number_from}
-use Rattle.zerotrie_core.proofs.branch.offset_at.Given as goal
+use Rattle.zerotrie_core.proofs.offsets.offset_at.Given as goal
 
 abbrev pub invariant-loop-block : goal.invariant-loop-block
 invariant-loop-block l = record {

@@ -1,8 +1,8 @@
 use Rattle.std.proofs.Common.{◌+◌, ◌/◌, ◌∙◌, sym, arith, inl, inr}
 use Rattle.std.proofs.lemmas.Bool.{cases_lt}
 use Rattle.zerotrie_core.proofs.PlaceLemmas.{bounded_place, below_middle, above_middle}
-use Rattle.zerotrie_core.proofs.branch.place_in.Goals as goal
-use Rattle.zerotrie_core.proofs.branch.place_in.Goals.{then-sought-first-via-then-sought-first, then-sought-first-via-else-sought-first+then-last-sought}
+use Rattle.zerotrie_core.proofs.edge_search.place_in.Goals as goal
+use Rattle.zerotrie_core.proofs.edge_search.place_in.Goals.{then-sought-first-via-then-sought-first, then-sought-first-via-else-sought-first+then-last-sought}
 
 pub returns-then-sought-first-clause-none : goal.returns-then-sought-first-clause-none
 returns-then-sought-first-clause-none g c up k h is =

@@ -1,7 +1,7 @@
 use Rattle.std.proofs.Common.{◌≡◌, ℕ, ◌+◌, ◌≤◌, ◌<◌, length, get_or}
 use Rattle.zerotrie_core.specs.Kind.{fold_byte}
 use Rattle.zerotrie_core.specs.reader.Reading.{AlwaysRises}
-use Rattle.zerotrie_core.proofs.branch.place_in.Given as goal
+use Rattle.zerotrie_core.proofs.edge_search.place_in.Given as goal
 
 abbrev pub invariant-loop-left : goal.invariant-loop-left
 invariant-loop-left g l = record {

@@ -1,7 +1,7 @@
 use Rattle.std.proofs.Common.{◌≡◌, ◌<◌, arith, get_or, refl, subst, ℕ}
 use Rattle.zerotrie_core.specs.Nodes.{number_from}
 use Rattle.zerotrie_core.proofs.BranchLemmas.{rest_long, below_more, number_more, none_left, all_left}
-use Rattle.zerotrie_core.proofs.branch.offset_at.Goals as goal
+use Rattle.zerotrie_core.proofs.offsets.offset_at.Goals as goal
 
 pub overflow_mul-value : goal.overflow_mul-value
 overflow_mul-value c = let h = below_more c.loop-block.value 0 c.loop-block._block c.loop-block.invariant.bound (omega arith) (omega arith) in omega (arith, h.1)
