@@ -19,7 +19,6 @@ use crate::branch::Branch;
 use crate::here::Here;
 use crate::node::{Node, first_node};
 use crate::options::ZeroTrieWithOptions;
-use crate::varint::read_varint_meta3;
 use branches::{has_front, target_from};
 
 /// What may stand next in a text.
@@ -123,24 +122,17 @@ fn next_step<'a, K: ZeroTrieWithOptions>(node: Node<'a>, expected: Expected) -> 
     }
 }
 
-/// Whether the bytes are literals and a value, with which they end, as far as sixteen bytes tell.
+/// Whether the bytes are literals and a value, with which they end, as far as sixteen bytes of each tell.
 ///
-/// Most of the shorter targets are. They take no call, and no jump that depends on how many literals there are.
+/// Most of the shorter targets are. They take no call, and no jump that depends on how many literals there are, or on how
+/// long the value is.
 #[inline(always)]
 fn is_leaf(here: Here<'_>) -> bool
     ensures { IsTrue result → (kind : Kind) → IsOneCall kind here.entry.rest.now }
 {
-    let (_, rest) = here.rest.split_at(here.literals());
-    let Some((lead, behind)) = rest.split_first() else {
-        return false;
-    };
-    if *lead < 128 || 160 <= *lead {
-        return false;
-    }
-    match read_varint_meta3(*lead, behind) {
-        Some((_value, after)) => after.is_empty(),
-        None => false,
-    }
+    let value = here.after(here.literals());
+    let len = value.value_len();
+    len > 0 && len == value.rest.len()
 }
 
 /// Two targets, the longer one last, or the first if none is longer.

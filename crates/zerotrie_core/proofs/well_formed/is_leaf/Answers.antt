@@ -1,22 +1,18 @@
-use Rattle.std.proofs.Common.{◌≡◌, ◌/◌, ◌∷◌, [], arith, sym, ◌∙◌, subst, drop}
-use Rattle.std.proofs.lemmas.List.{nil_from_length}
+use Rattle.std.proofs.Common.{◌≡◌, ◌≤◌, [], length, drop, arith, sym, ◌∙◌, subst, ap}
+use Rattle.std.proofs.lemmas.List.{drop_all}
 use Rattle.std.proofs.lemmas.Bool.{eqb-true}
 use Rattle.zerotrie_core.specs.Numbers.{BeginsWith}
 use Rattle.zerotrie_core.proofs.StepLemmas.{leaf_is}
 use Rattle.zerotrie_core.proofs.well_formed.is_leaf.Goals as goal
 
-pub returns-in-Some-read_varint_meta3 : goal.returns-in-Some-read_varint_meta3
-returns-in-Some-read_varint_meta3 c = λ e kind. (
+pub returns-then-len-gt0 : goal.returns-then-len-gt0
+returns-then-len-gt0 c = λ e kind. (
     let bytes = c.args.here.rest.now in
     let n = c.literals.result in
-    let v = c.in-Some-read_varint_meta3._value in
-    let after = c.in-Some-read_varint_meta3.after.now in
-    let lead = c.in-Some.lead.now in
-    let four : lead / 32 ≡ 4 = omega (arith, c.if-lead-lt128.false, c.if-lead-ge160.false) in
-    let none : after ≡ [] = nil_from_length after (eqb-true _ _ (sym c.is_empty.ensures ∙ e)) in
-    let there : lead ∷ c.in-Some.behind.now ≡ drop n bytes = sym c.in-Some.ensures.cases.0 ∙ c.split_at.ensures.back in
-    leaf_is kind n bytes v c.literals.ensures.within c.literals.ensures.literals
-    (subst (λ m. BeginsWith 16 m v (drop n bytes) []) four
-    (subst (λ x. BeginsWith 16 (lead / 32) v (drop n bytes) x) none
-    (subst (λ x. BeginsWith 16 (lead / 32) v x after) there c.in-Some-read_varint_meta3.ensures.found)))
+    let rest = c.after-value.result.rest.now in
+    let told = c.value_len-len.ensures.value (omega (arith, c.if-len-gt0.true)) in
+    let all : length rest ≤ c.value_len-len.result = (let same = eqb-true _ _ e in omega arith) in
+    let none : drop c.value_len-len.result rest ≡ [] = drop_all _ rest all in
+    leaf_is kind n bytes told.0 c.literals.ensures.within c.literals.ensures.literals
+    (subst (λ x. BeginsWith 16 4 told.0 x []) c.after-value.ensures (subst (λ x. BeginsWith 16 4 told.0 rest x) none told.1))
     )
