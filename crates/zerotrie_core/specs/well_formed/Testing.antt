@@ -62,11 +62,6 @@ Steps kind node expected (Behind b) = (node ≡ branch_shape b) × AlwaysSuits k
 abbrev pub BeginsValue : List ℕ → List ℕ → Type 0
 BeginsValue bytes after = (v : ℕ) × BeginsWith 16 4 v bytes after
 
--- The bytes are a text of the kind, for which one call is open.
-pub record IsOneCall (kind : Kind) (bytes : List ℕ) : Type 0 where
-  pub is_text : IsText kind bytes
-  pub one : (pairs : Pairs) (text : Lists kind bytes pairs) → deep text ≡ 1
-
 -- the longer one of two is last, or the first if none is longer
 abbrev pub IsFirstLonger : List ℕ → List ℕ → List ℕ → List ℕ → Type 0
 IsFirstLonger first next shorter longer =
