@@ -1,5 +1,5 @@
 -- The lowest bit of two masks of lanes.
-use Rattle.std.proofs.Common.{◌≡◌, ℕ, zero, suc, ◌^◌, ◌<◌, ◌≤◌, List, [], ◌∷◌, Bool, true, false, cond, not, eqb, leb, length, take, drop, get_or, ◌+◌, map, refl, sym, ap, subst, ◌∙◌, arith, w64, ◌⊎◌, inl, inr}
+use Rattle.std.proofs.Common.{◌≡◌, ℕ, zero, suc, ◌^◌, ◌<◌, ◌≤◌, List, [], ◌∷◌, Bool, true, false, cond, not, eqb, leb, ltb, length, take, drop, get_or, ◌+◌, map, refl, sym, ap, subst, ◌∙◌, arith, w64, ◌⊎◌, inl, inr}
 use Rattle.std.specs.Int.Bits.{bit_or}
 use Rattle.std.specs.Int.{bit_at, trailing_zeros}
 use Rattle.std.specs.Int.Count.{count_trailing_zeros}
@@ -8,7 +8,7 @@ use Rattle.std.proofs.Math.Nat.{pow-le-pow_right}
 use Rattle.std.proofs.lemmas.List.{get_or-take, get_or-drop, length-drop, get_or-map, length-map, length-take-le}
 use Rattle.std.proofs.lemmas.Nat.{or_lt}
 use Rattle.std.proofs.lemmas.Simd.{bit_mask_l, mask_l-lt, get_or-zip2, length-zip2}
-use Rattle.std.proofs.lemmas.Bool.{eq-eqb, eqb-true, leb-true, leb-false, cases_lt, cases_eq, ne_eqb}
+use Rattle.std.proofs.lemmas.Bool.{eq-eqb, eqb-true, leb-true, leb-false, ltb-true, ltb-false, cases_lt, cases_eq, ne_eqb}
 use Rattle.std.proofs.lemmas.Nat.Bits.{bit_at-trailing_zeros, bit_at_or, bit_at-zero}
 
 -- the lanes that are a byte
@@ -197,6 +197,25 @@ module _ (bytes : List ℕ) (long : 17 ≤ length bytes) where
   lowest_stops a is h =
       let k = trailing_zeros w64 a in
       leb-true _ _ (sym (lane_is k h) ∙ subst (λ m. get_or stops (trailing_zeros w64 m) false ≡ true) (sym is) (one_there stops 16 (omega arith) stops_len (subst (λ m. trailing_zeros w64 m < 16) is h)))
+
+-- sixteen bytes, of which some are 128 or more
+module _ (bytes : List ℕ) (long : 16 ≤ length bytes) where
+  abbrev pub lows : List Bool
+  lows = map (λ a. ltb a 128) (take 16 bytes)
+
+  lows_len : length lows ≡ 16
+  lows_len = length-map (take 16 bytes) (λ a. ltb a 128) ∙ length-take-le 16 bytes long
+
+  low_is : (k : ℕ) → k < 16 → get_or lows k false ≡ ltb (get_or bytes k 0) 128
+  low_is k h = let there = length-take-le 16 bytes long in get_or-map (λ a. ltb a 128) (take 16 bytes) k 0 false (omega (arith, there, h)) ∙ ap (λ x. ltb x 128) (get_or-take 16 bytes k 0 h)
+
+  pub lowest_high : (a : ℕ) → a ≡ mask_l lows → (k : ℕ) → k < 16 → k < trailing_zeros w64 a → 128 ≤ get_or bytes k 0
+  lowest_high a is k h before = ltb-false _ _ (sym (low_is k h) ∙ none_before lows 16 (omega arith) lows_len k (subst (λ m. k < trailing_zeros w64 m) is before))
+
+  pub lowest_low : (a : ℕ) → a ≡ mask_l lows → trailing_zeros w64 a < 16 → get_or bytes (trailing_zeros w64 a) 0 < 128
+  lowest_low a is h =
+      let k = trailing_zeros w64 a in
+      ltb-true _ _ (sym (low_is k h) ∙ subst (λ m. get_or lows (trailing_zeros w64 m) false ≡ true) (sym is) (one_there lows 16 (omega arith) lows_len (subst (λ m. trailing_zeros w64 m < 16) is h)))
 
 -- two vectors of sixteen lanes: below the lowest lane that differs or is from 128 on
 module _ (bytes others : List ℕ) (long : 16 ≤ length bytes) (other_long : 16 ≤ length others) where
