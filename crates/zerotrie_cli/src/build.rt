@@ -10,7 +10,7 @@ use std::io::Write;
 use zerotrie_core::ZeroTrieBuildError;
 use zerotrie_files::write_output;
 use zerotrie_lines::{Format, write_escaped};
-use zerotrie_making::{MakeError, Plan, Shown, make};
+use zerotrie_making::{MakeError, Plan, Shown, Source, make};
 use zerotrie_queries::TrieKind;
 
 /// A build is refused.
@@ -18,7 +18,7 @@ const REFUSED: u8 = 1;
 
 static KINDS: [&str; 5] = ["auto", "simple", "ignore", "hash", "ext"];
 
-static FORMATS: [&str; 3] = ["tsv", "csv", "lines"];
+static FORMATS: [&str; 4] = ["tsv", "csv", "lines", "json"];
 
 /// An option without a word.
 fn flag<'a>(alloc: Global, name: &'a str, help: &'a str) -> Arg<'a> {
@@ -66,10 +66,11 @@ pub fn build_command<'a>(alloc: Global) -> Result<Command<'a>, AllocError> {
 /// How the file is to be made.
 fn plan_in(matches: &ArgMatches<'_>) -> Plan {
     Plan {
-        format: match matches.get_str("format") {
-            Some("csv") => Format::Csv,
-            Some("lines") => Format::Lines,
-            _ => Format::Tsv,
+        source: match matches.get_str("format") {
+            Some("csv") => Source::Text(Format::Csv),
+            Some("lines") => Source::Text(Format::Lines),
+            Some("json") => Source::Json,
+            _ => Source::Text(Format::Tsv),
         },
         kind: matches.get_str("kind").and_then(TrieKind::named),
         sorted: matches.get_flag("sorted"),
@@ -79,10 +80,11 @@ fn plan_in(matches: &ArgMatches<'_>) -> Plan {
 }
 
 /// What the pairs of an input stand on.
-fn unit_of(format: Format) -> &'static str {
-    match format {
-        Format::Csv => "record",
-        _ => "line",
+fn unit_of(source: Source) -> &'static str {
+    match source {
+        Source::Text(Format::Csv) => "record",
+        Source::Text(_) => "line",
+        Source::Json => "pair",
     }
 }
 
@@ -128,6 +130,13 @@ fn refusal(alloc: Global, path: &str, unit: &str, error: &MakeError) -> io::Resu
     write!(text, "zerotrie: {path}: ")?;
     match error {
         MakeError::Line(number, bad) => write!(text, "{unit} {number}: {bad}")?,
+        MakeError::NotJson(line, column) => {
+            write!(text, "line {line}, column {column}: no JSON value")?
+        }
+        MakeError::NotPairs => write!(
+            text,
+            "no object from keys to numbers, and no list of pairs of a key and a number"
+        )?,
         MakeError::Keys(shown) => add_shown(&mut text, unit, shown)?,
         MakeError::Refused(error) => write!(text, "{error}")?,
         MakeError::OutOfMemory => write!(text, "out of memory")?,
@@ -144,7 +153,7 @@ fn tell_refusal(rt: &HostRuntime, path: &str, unit: &str, error: &MakeError) -> 
     };
     let _ = told;
     match error {
-        MakeError::Line(_, _) => BAD_FILE,
+        MakeError::Line(_, _) | MakeError::NotJson(_, _) | MakeError::NotPairs => BAD_FILE,
         MakeError::Keys(_) | MakeError::Refused(_) => REFUSED,
         MakeError::OutOfMemory => FAULT,
     }
@@ -180,7 +189,7 @@ pub fn build(rt: &HostRuntime, matches: &ArgMatches<'_>) -> u8 {
         Err(error) => return tell_refusal(
             rt,
             named(from, "standard input"),
-            unit_of(plan.format),
+            unit_of(plan.source),
             &error,
         ),
     };
