@@ -6,20 +6,19 @@ use Rattle.zerotrie_core.specs.Routes.{Route, HasCause, IsBuild}
 use Rattle.zerotrie_build.specs.Refused.{key_at, AreFaultless, IsWhyRefused}
 use Rattle.zerotrie_build.specs.declared.refusal.Refusal.{Refusal}
 use Rattle.zerotrie_lines.specs.Tables.{lowered}
-use Rattle.zerotrie_lines.specs.Reads.{Reads}
-use Rattle.zerotrie_lines.specs.Reads as reads
 use Rattle.zerotrie_lines.specs.declared.fault.ReadError.{ReadError}
 use Rattle.zerotrie_lines.specs.declared.fault.ReadError.TheVariants as fault
+use Rattle.zerotrie_making.specs.Sources.{IsPairs, NoPairs}
 use Rattle.zerotrie_making.specs.Plans.{route_of, kind_for, file_of}
 use Rattle.zerotrie_making.specs.declared.plan.Plan.{Plan}
 use Rattle.zerotrie_making.specs.declared.refused.NumberedKey.{NumberedKey}
 use Rattle.zerotrie_making.specs.declared.refused.Shown.{Shown}
 use Rattle.zerotrie_making.specs.declared.refused.MakeError.{MakeError}
-use Rattle.zerotrie_making.specs.declared.refused.MakeError.TheVariants.{Line, Keys, Refused, OutOfMemory}
+use Rattle.zerotrie_making.specs.declared.refused.MakeError.TheVariants.{Line, NotJson, NotPairs, Keys, Refused, OutOfMemory}
 
 -- the input is pairs, and the fact holds of them, with their keys in lower case if the plan says so
 abbrev pub OfInput : Plan → List ℕ → (Pairs → Type 0) → Type 0
-OfInput plan input Fact = (pairs : Pairs) × Reads plan.format input pairs × Fact (lowered plan.lower_case pairs)
+OfInput plan input Fact = (pairs : Pairs) × IsPairs plan.source input pairs × Fact (lowered plan.lower_case pairs)
 
 -- The file is that of a trie which a build of the pairs answers.
 pub record IsFileOf (plan : Plan) (pairs : Pairs) (file : List ℕ) : Type 0 where
@@ -43,6 +42,8 @@ Tells pairs r s = (s.error ≡ r.error) × IsKeyAt pairs r.first s.first × IsKe
 -- one, or it is out of memory.
 abbrev pub IsRefusedAs : Route → Kind → Pairs → MakeError → Type 0
 IsRefusedAs route kind pairs (Line number bad) = ⊥
+IsRefusedAs route kind pairs (NotJson line column) = ⊥
+IsRefusedAs route kind pairs NotPairs = ⊥
 IsRefusedAs route kind pairs (Keys s) = (r : Refusal) × IsWhyRefused route kind pairs (Some r) × Tells pairs r s
 IsRefusedAs route kind pairs (Refused e) = HasCause route kind pairs e × AreFaultless route kind pairs
 IsRefusedAs route kind pairs OutOfMemory = Unit {0}
@@ -51,9 +52,11 @@ IsRefusedAs route kind pairs OutOfMemory = Unit {0}
 abbrev pub ExplainsOf : Plan → Pairs → MakeError → Type 0
 ExplainsOf plan pairs e = IsRefusedAs (route_of plan.sorted) (kind_for plan.kind pairs) pairs e
 
--- why the plan makes no file of the input: a line of it is no pair, a build of its pairs is refused, or it is out of memory
+-- why the plan makes no file of the input: it is no pairs, a build of its pairs is refused, or it is out of memory
 abbrev pub Explains : Plan → List ℕ → MakeError → Type 0
-Explains plan input (Line number bad) = reads.Explains plan.format input (fault.Line number bad)
+Explains plan input (Line number bad) = NoPairs plan.source input (Line number bad)
+Explains plan input (NotJson line column) = NoPairs plan.source input (NotJson line column)
+Explains plan input NotPairs = NoPairs plan.source input NotPairs
 Explains plan input (Keys s) = OfInput plan input (λ pairs. ExplainsOf plan pairs (Keys s))
 Explains plan input (Refused e) = OfInput plan input (λ pairs. ExplainsOf plan pairs (Refused e))
 Explains plan input OutOfMemory = Unit {0}

@@ -7,11 +7,12 @@ ghost use Rattle.zerotrie_making.specs.Plans.{route_of, file_of};
 ghost use Rattle.zerotrie_making.specs.Made.{IsFile, IsFileOf, IsRefusedAs, Explains, ExplainsOf};
 
 use crate::plan::Plan;
+use crate::reading::read_input;
 use crate::refused::{MakeError, show};
 use crate::tries::{bytes_of, kind_for, why_refused};
 use std::alloc::{AllocError, Global};
 use zerotrie_core::ZeroTrieBuildError;
-use zerotrie_lines::{Table, read_pairs};
+use zerotrie_lines::Table;
 use zerotrie_queries::TrieKind;
 
 /// The file of a trie with these bytes. Unless it is bare, the number of the kind stands in front of them.
@@ -65,7 +66,7 @@ fn make_of(alloc: Global, plan: Plan, table: &Table) -> Result<Vec<u8>, MakeErro
 ///
 /// ```
 /// let plan = Plan {
-///     format: Format::Tsv,
+///     source: Source::Text(Format::Tsv),
 ///     kind: None,
 ///     sorted: false,
 ///     lower_case: false,
@@ -76,13 +77,14 @@ fn make_of(alloc: Global, plan: Plan, table: &Table) -> Result<Vec<u8>, MakeErro
 /// assert_eq!(rt; file.as_slice(), b"\x00ad\x90\x06ef\x90\x11".as_slice());
 /// ```
 ///
-/// It takes the input, and lets its memory go before the trie is built. The error is `Line` if a line is no pair,
+/// It takes the input, and lets its memory go before the trie is built. The error is `Line`, `NotJson` or
+/// `NotPairs` if the input is no pairs,
 /// `Keys` if keys show why a build of the pairs is refused, `Refused` if it is refused and none do, and `OutOfMemory`.
 pub fn make(alloc: Global, plan: Plan, input: Vec<u8>) -> Result<Vec<u8>, MakeError>
     ensures ok { IfOk result (λ file. IsFile plan input.items file.items) }
     ensures err { IfErr result (λ e. Explains plan input.items e) }
 {
-    let table = read_pairs(alloc, plan.format, plan.lower_case, input.as_slice())?;
+    let table = read_input(alloc, plan.source, plan.lower_case, input.as_slice())?;
     drop(input);
     make_of(alloc, plan, &table)
 }

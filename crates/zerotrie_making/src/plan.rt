@@ -3,11 +3,21 @@
 use zerotrie_lines::Format;
 use zerotrie_queries::TrieKind;
 
+/// How an input is pairs.
+#[derive(Clone, Copy, PartialEq, Eq, Debug)]
+pub enum Source {
+    /// Lines or records, one a pair.
+    Text(Format),
+    /// A JSON value: an object from keys to numbers, or a list of pairs. A pair is a list of two, a key and a number,
+    /// and a key is a text or a list of bytes.
+    Json,
+}
+
 /// How a trie file is made.
 #[derive(Clone, Copy, PartialEq, Eq, Debug)]
 pub struct Plan {
     /// How the input is pairs.
-    pub format: Format,
+    pub source: Source,
     /// The kind of the trie. If `None`, it is `Simple` if all keys are ASCII and there are fewer than 512, and else
     /// `Hash`.
     pub kind: Option<TrieKind>,

@@ -10,7 +10,7 @@ use zerotrie_build::Refusal;
 use zerotrie_core::ZeroTrieBuildError;
 use zerotrie_lines::{BadLine, ReadError};
 
-/// A key, and the number of the line or record that it stands on, from 1 on.
+/// A key, and the number of its pair, from 1 on. For lines and records it is theirs.
 #[derive(PartialEq, Eq, Debug, Drop)]
 pub struct NumberedKey {
     pub number: usize,
@@ -33,6 +33,10 @@ pub struct Shown {
 pub enum MakeError {
     /// The line with this number is no pair, and why. Of comma-separated fields it is the record with this number.
     Line(usize, BadLine),
+    /// The input is no JSON value, which shows at this line and column.
+    NotJson(usize, usize),
+    /// The input is a JSON value, and there are no pairs in it.
+    NotPairs,
     /// The build is refused, and these keys show why.
     Keys(Shown),
     /// The build is refused though no key is at fault: `CapacityExceeded` or `CouldNotSolvePerfectHash`.
