@@ -1,5 +1,6 @@
 //! What the command line may be.
 
+use crate::build::build_command;
 use crate::code::code_command;
 use clap::{Arg, ArgAction, ArgMatches, Command};
 use std::alloc::{AllocError, Global};
@@ -11,7 +12,7 @@ static KINDS: [&str; 4] = ["simple", "ignore", "hash", "ext"];
 static STYLES: [&str; 3] = ["tsv", "keys", "values"];
 
 /// A word that stands at its place.
-fn place<'a>(alloc: Global, name: &'a str, help: &'a str) -> Arg<'a> {
+pub fn place<'a>(alloc: Global, name: &'a str, help: &'a str) -> Arg<'a> {
     Arg::new(alloc, name)
         .action(ArgAction::Set)
         .required(true)
@@ -81,9 +82,10 @@ fn list_command<'a>(alloc: Global) -> Result<Command<'a>, AllocError> {
 pub fn command<'a>(alloc: Global) -> Result<Command<'a>, AllocError> {
     Command::new(alloc, "zerotrie")
         .version("0.2.5-1")
-        .about("Reads tries in files")
+        .about("Makes tries in files and reads them")
         .subcommand_required(true)
         .arg_required_else_help(true)
+        .subcommand(build_command(alloc)?)?
         .subcommand(get_command(alloc)?)?
         .subcommand(longest_command(alloc)?)?
         .subcommand(list_command(alloc)?)?

@@ -1,6 +1,7 @@
 //! The commands, over files.
 
 use crate::arguments::{command, kind_in, style_in};
+use crate::build::build;
 use crate::code::print_code;
 use crate::files::read_file;
 use clap::ArgMatches;
@@ -15,10 +16,10 @@ use zerotrie_queries::OpenError;
 const BAD_USAGE: u8 = 2;
 
 /// A file is not what it should be.
-const BAD_FILE: u8 = 2;
+pub const BAD_FILE: u8 = 2;
 
 /// A file can't be read or written, or it is out of memory.
-const FAULT: u8 = 3;
+pub const FAULT: u8 = 3;
 
 /// Tells that something failed. If that can't be told either, the status tells it alone.
 pub fn tell_fault(rt: &HostRuntime, what: &str, error: &io::Error) -> u8 {
@@ -160,6 +161,7 @@ fn obey(rt: &HostRuntime, words: &[String]) -> u8 {
     };
     match known.try_get_matches_from(words) {
         Ok(matches) => match matches.subcommand() {
+            Some(("build", matches)) => build(rt, matches),
             Some(("code", matches)) => print_code(rt, matches),
             Some((name, matches)) => read_command(rt, matches, name),
             None => BAD_USAGE,

@@ -1,7 +1,8 @@
-//! Reads tries in files.
+//! Makes tries in files and reads them.
 #![tactic(auto)]
 
 mod arguments;
+mod build;
 mod code;
 mod commands;
 mod files;

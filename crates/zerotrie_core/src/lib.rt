@@ -5,12 +5,16 @@
 mod branch;
 mod count;
 mod cursor;
+mod edge_search;
 mod edges;
+mod fold;
 mod here;
 mod lanes;
 pub mod laws;
 mod listing;
+mod literals;
 mod node;
+mod offsets;
 mod options;
 mod plain;
 mod prefixes;

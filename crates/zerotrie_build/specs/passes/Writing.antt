@@ -9,10 +9,10 @@ use Rattle.zerotrie_core.specs.Maps.{Pairs, value_at}
 use Rattle.zerotrie_core.specs.Branches.{IsTable, total}
 use Rattle.zerotrie_core.specs.Canonical.{size_of}
 use Rattle.zerotrie_core.specs.Texts.{Lists}
-use Rattle.zerotrie_build.specs.declared.steps.Window.{Window}
-use Rattle.zerotrie_build.specs.declared.laying.Place.{Place}
-use Rattle.zerotrie_build.specs.declared.laying.Next.{Next}
-use Rattle.zerotrie_build.specs.declared.laying.Next.TheVariants.{Go, Text}
+use Rattle.zerotrie_build.specs.declared.windows.Window.{Window}
+use Rattle.zerotrie_build.specs.declared.branch_layout.Position.{Position}
+use Rattle.zerotrie_build.specs.declared.branch_layout.Next.{Next}
+use Rattle.zerotrie_build.specs.declared.branch_layout.Next.TheVariants.{Go, Text}
 use Rattle.zerotrie_build.specs.passes.Windows.{window, edge_of}
 use Rattle.zerotrie_build.specs.passes.Measured.{Parts, Kept, sizes_of, slots_of}
 use Rattle.zerotrie_build.specs.passes.Puts.{Puts}
@@ -84,8 +84,8 @@ pub record HasSlots (kind : Kind) (all : Pairs) (w : Window) (slots : List ℕ) 
   pub lens_each : length lens ≡ length windows
   pub below_each : length below ≡ length windows
 
-abbrev pub place_at : ℕ → ℕ → Place
-place_at from slot = record { from = from; slot = slot }
+abbrev pub position_at : ℕ → ℕ → Position
+position_at from slot = record { from = from; slot = slot }
 
 -- what is written for a window that begins where the one before it ended
 abbrev pub text_of : Window → Next
@@ -95,7 +95,7 @@ text_of w = Text (record { to = w.to; depth = w.depth })
 abbrev pub placed_next : List ℕ → ℕ → List Window → List ℕ → List Next
 placed_next ends slot windows [] = []
 placed_next ends slot windows (i ∷ numbers) =
-    Go (place_at (window_at windows i).from (slot + slice_index_or (0 ∷ ends) i 0)) ∷ text_of (window_at windows i) ∷ placed_next ends slot windows numbers
+    Go (position_at (window_at windows i).from (slot + slice_index_or (0 ∷ ends) i 0)) ∷ text_of (window_at windows i) ∷ placed_next ends slot windows numbers
 
 -- what is written behind a branch whose slots begin at one of these
 abbrev pub next_of : Kind → List ℕ → ℕ → List Window → List ℕ → List Next
@@ -103,8 +103,8 @@ next_of kind slots slot windows numbers =
     let count = length windows in
     let ends = take count (drop (slot + count) slots) in
     if is_hashed kind count
-    then placed_next ends (slot + 2 * count) windows numbers ++ Go (place_at (window_at windows (count - 1)).to (slot + 2 * count + slice_index_or ends (count - 1) 0)) ∷ []
-    else Go (place_at (window_at windows 0).from (slot + count)) ∷ map text_of windows
+    then placed_next ends (slot + 2 * count) windows numbers ++ Go (position_at (window_at windows (count - 1)).to (slot + 2 * count + slice_index_or ends (count - 1) 0)) ∷ []
+    else Go (position_at (window_at windows 0).from (slot + count)) ∷ map text_of windows
 
 -- The window's slots are those from one number to another.
 pub record KeptTo (kind : Kind) (all : Pairs) (slots : List ℕ) (slot end : ℕ) (w : Window) : Type 0 where
@@ -115,13 +115,13 @@ pub record KeptTo (kind : Kind) (all : Pairs) (slots : List ℕ) (slot end : ℕ
   pub end_is : end ≡ slot + length below
 
 -- What is written next are the texts of these windows, where the first begins at a place.
-pub data Leads (kind : Kind) (all : Pairs) (slots : List ℕ) : Place → List Next → List Window → Type 0 where
-  done : {at : Place} → Leads kind all slots at [] []
-  go : {at to : Place} {next : List Next} {ws : List Window}
+pub data Leads (kind : Kind) (all : Pairs) (slots : List ℕ) : Position → List Next → List Window → Type 0 where
+  done : {at : Position} → Leads kind all slots at [] []
+  go : {at to : Position} {next : List Next} {ws : List Window}
       → Leads kind all slots to next ws → Leads kind all slots at (Go to ∷ next) ws
   text : {slot end : ℕ} {w : Window} {next : List Next} {ws : List Window}
-      → KeptTo kind all slots slot end w → Leads kind all slots (place_at w.to end) next ws
-      → Leads kind all slots (place_at w.from slot) (text_of w ∷ next) (w ∷ ws)
+      → KeptTo kind all slots slot end w → Leads kind all slots (position_at w.to end) next ws
+      → Leads kind all slots (position_at w.from slot) (text_of w ∷ next) (w ∷ ws)
 
 -- texts of windows, one after another
 abbrev pub Texts : Kind → Pairs → List Window → List (List ℕ) → Type 0
@@ -139,7 +139,7 @@ pub record FrontPut (kind : Kind) (all : Pairs) (slots : List ℕ) (slot : ℕ) 
   pub many : length next ≤ length front
   pub lists : (texts : List (List ℕ)) → Texts kind all targets texts → Listed kind (front ++ concat texts) (window all w)
   pub leads : (end : ℕ) (more : List Next) (ws : List Window) → KeptTo kind all slots slot end w
-      → Leads kind all slots (place_at w.to end) more ws → Leads kind all slots (place_at w.to slot) (next ++ more) (targets ++ ws)
+      → Leads kind all slots (position_at w.to end) more ws → Leads kind all slots (position_at w.to slot) (next ++ more) (targets ++ ws)
 
 -- A text was written as far as these windows, in this order.
 pub record Left (kind : Kind) (all : Pairs) (list : List ℕ) (at : ℕ) (ws : List Window) : Type 0 where

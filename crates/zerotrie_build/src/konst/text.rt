@@ -38,8 +38,8 @@ pub(crate) struct Text<'a> {
 }
 
 impl Text<'_> {
-    /// Puts a byte in front.
-    fn put(&mut self, byte: u8)
+    /// Puts a byte in front: a literal is its byte.
+    pub(crate) fn put(&mut self, byte: u8)
         ensures { Puts self.old self.new (byte ∷ []) }
     {
         self.len = self.len.saturating_add(1);
@@ -47,13 +47,6 @@ impl Text<'_> {
             self.buffer[place] = byte;
         }
         self.front = self.front.saturating_add(1);
-    }
-
-    /// Puts a literal in front.
-    pub(crate) fn put_literal(&mut self, byte: u8)
-        ensures { Puts self.old self.new (byte ∷ []) }
-    {
-        self.put(byte);
     }
 
     /// Puts bytes in front.

@@ -117,7 +117,7 @@ fn close_level<const K: usize>(
         set_aside(text, siblings, key[depth], depth)?;
         return join(text, siblings, depth);
     }
-    text.put_literal(key[depth]);
+    text.put(key[depth]);
     Ok(())
 }
 
@@ -198,7 +198,7 @@ fn add<const K: usize>(
 
 /// Writes the text of the trie of the items at the end of the buffer, if it has room for it, and answers how
 /// many bytes the text has, or the greatest number if it has more. What stands before the text stays.
-pub(crate) fn grow<const K: usize>(
+pub(crate) fn build_text<const K: usize>(
     buffer: &mut [u8],
     items: ByteSliceWithIndices<'_>,
 ) -> Result<usize, ZeroTrieBuildError>

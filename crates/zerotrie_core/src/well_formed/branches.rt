@@ -10,8 +10,10 @@ ghost use Rattle.zerotrie_core.specs.Shapes.{branch_shape};
 ghost use Rattle.zerotrie_core.specs.well_formed.Branching.{AreBytes, AnswersEach, HasTable, HasFront, IsTarget};
 ghost use Rattle.zerotrie_core.specs.well_formed.Testing.{AlwaysNoText};
 
-use crate::branch::{Branch, folded};
+use crate::branch::Branch;
+use crate::fold::folded;
 use crate::here::Here;
+use crate::lanes::rising_in_17;
 use crate::options::ZeroTrieWithOptions;
 use zerotrie_base::PerfectByteHashMap;
 
@@ -26,6 +28,23 @@ fn rises<K: ZeroTrieWithOptions>(edges: &[u8]) -> bool
         }
     }
     true
+}
+
+/// Whether the first bytes, so many, rise by their folds.
+///
+/// Up to sixteen are held against one another at once, in the kinds that keep case, if there are 17 bytes.
+#[inline(always)]
+fn front_rises<K: ZeroTrieWithOptions>(bytes: &[u8], count: usize) -> bool
+    requires { (1 ≤ count) × (count ≤ length bytes.now) }
+    ensures rises { IsTrue result
+        ↔ IsStrictlyIncreasing (map (fold_byte K.kind) (take count bytes.now)) }
+    ensures bytes { AreBytes (take count bytes.now) }
+{
+    if !K::IGNORE_CASE && count <= 16 && bytes.len() >= 17 {
+        return rising_in_17(bytes) >= count - 1;
+    }
+    let (edges, _) = bytes.split_at(count);
+    rises::<K>(edges)
 }
 
 /// Whether a hashed table has each edge at its place.
@@ -44,6 +63,8 @@ fn is_perfect(table: &[u8], edges: &[u8]) -> bool
 }
 
 /// Whether the search table is one of the kind, and its edges are bytes of the kind.
+///
+/// If edges rise, and the last of them is ASCII, all are.
 fn has_table<K: ZeroTrieWithOptions>(branch: &Branch<'_>) -> bool
     ensures { length branch.now.table.now ≡ table_size K.kind branch.now.edges
         → (IsTrue result ↔ HasTable K.kind (take branch.now.edges branch.now.behind.now)
@@ -51,9 +72,9 @@ fn has_table<K: ZeroTrieWithOptions>(branch: &Branch<'_>) -> bool
 {
     let (edges, _) = branch.behind.split_at(branch.edges);
     if !K::USE_PHF {
-        edges.is_ascii() && rises::<K>(edges)
+        branch.edge_at(branch.edges - 1) < 128 && front_rises::<K>(branch.behind, branch.edges)
     } else if branch.edges < 16 {
-        rises::<K>(edges)
+        front_rises::<K>(branch.behind, branch.edges)
     } else {
         is_perfect(branch.table, edges)
     }
@@ -64,16 +85,7 @@ fn least_width(total: usize) -> usize
     ensures width { IsWidth total result }
     ensures small { result ≤ 7 }
 {
-    match total {
-        0..=0xFF => 0,
-        0x100..=0xFFFF => 1,
-        0x1_0000..=0xFF_FFFF => 2,
-        0x100_0000..=0xFFFF_FFFF => 3,
-        0x1_0000_0000..=0xFF_FFFF_FFFF => 4,
-        0x100_0000_0000..=0xFFFF_FFFF_FFFF => 5,
-        0x1_0000_0000_0000..=0xFF_FFFF_FFFF_FFFF => 6,
-        _ => 7,
-    }
+    total.max(1).ilog2() as usize / 8
 }
 
 /// Whether offsets of this many bytes have the width that the targets after them need.

@@ -3,7 +3,7 @@ use Rattle.zerotrie_core.specs.Kind.{edge_limit}
 use Rattle.zerotrie_core.specs.Items.{keyed}
 use Rattle.zerotrie_build.specs.Refused.{key_at}
 use Rattle.zerotrie_build.proofs.Items.{keys_on}
-use Rattle.zerotrie_build.proofs.RefusalLemmas.{read, count_keyed, some_high}
+use Rattle.zerotrie_build.proofs.RefusalLemmas.Shown.{read, count_keyed, some_high}
 use Rattle.zerotrie_build.proofs.refusal.foreign.Goals as goal
 
 pub returns-then-not-is_key-clause-some : goal.returns-then-not-is_key-clause-some

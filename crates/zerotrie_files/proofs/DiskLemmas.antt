@@ -1,0 +1,84 @@
+-- Calls to a disk, one after another.
+use Rattle.std.proofs.Common.{◌≡◌, ◌≢◌, ◌⊎◌, ◌∙◌, ℕ, List, ◌++◌, Option, Some, None, Result, Ok, Err, inl, inr, sym, ap, append_assoc}
+use Rattle.std.proofs.lemmas.List.Elements.{All-append, All-weaker}
+use Rattle.zerotrie_files.specs.Disks.{Files, Story, Known, Passes, SameBeside, Same, Moved, WritesNew, Renames, Removes, IsWhole, Replaces}
+
+-- what holds over a call and over the next
+pub known_then : (F G H : Story → Story → Type 0) (x y z : Option Story) → ((a b c : Story) → F a b → G b c → H a c) → Known x y F → Known y z G → Known x z H
+known_then F G H None y z join f g = tt
+known_then F G H (Some a) None z join f g = absurd f
+known_then F G H (Some a) (Some b) None join f g = absurd g
+known_then F G H (Some a) (Some b) (Some c) join f g = join a b c f g
+
+-- moments of a call and then those of the next
+pub passes_then : (Fact First Second : Files → Type 0) (a b c : Story) → ((f : Files) → First f → Fact f) → ((f : Files) → Second f → Fact f) → Passes First a b → Passes Second b c
+    → Passes Fact a c
+passes_then Fact First Second a b c one two p q = record {
+  between = p.between ++ q.between;
+  is = q.is ∙ ap (λ m. m ++ q.between) p.is ∙ append_assoc a.moments p.between q.between;
+  each = All-append Fact p.between q.between (All-weaker First Fact one p.between p.each) (All-weaker Second Fact two q.between q.each);
+  ends = two c.now q.ends;
+}
+
+pub passes_by : (Fact First : Files → Type 0) (a b : Story) → ((f : Files) → First f → Fact f) → Passes First a b → Passes Fact a b
+passes_by Fact First a b one p = record { between = p.between; is = p.is; each = All-weaker First Fact one p.between p.each; ends = one b.now p.ends }
+
+-- while another file changes, the file is whole
+pub whole_beside : (path beside bytes : List ℕ) (old f : Files) → beside ≢ path → SameBeside beside old f → IsWhole path beside bytes old f
+whole_beside path beside bytes old f apart same = record {
+  whole = inl (same path (λ e. apart (sym e)));
+  others = λ other _ far. same other far;
+}
+
+-- and it stays so
+pub whole_still : (path beside bytes : List ℕ) (old now f : Files) → beside ≢ path → IsWhole path beside bytes old now → SameBeside beside now f → IsWhole path beside bytes old f
+whole_still path beside bytes old now f apart w same = record {
+  whole = elim w.whole [
+    | inl e ↦ inl (same path (λ e. apart (sym e)) ∙ e)
+    | inr e ↦ inr (same path (λ e. apart (sym e)) ∙ e)
+  ];
+  others = λ other off far. same other far ∙ w.others other off far;
+}
+
+-- a file that holds the bytes takes the path
+pub whole_moved : (path beside bytes : List ℕ) (old now f : Files) → beside ≢ path → SameBeside beside old now → now beside ≡ Some bytes → Same now f ⊎ Moved beside path now f
+    → IsWhole path beside bytes old f
+whole_moved path beside bytes old now f apart same holds (inl stays) = record {
+  whole = inl (stays path ∙ same path (λ e. apart (sym e)));
+  others = λ other _ far. stays other ∙ same other far;
+}
+whole_moved path beside bytes old now f apart same holds (inr moved) = record {
+  whole = inr (moved.there ∙ holds);
+  others = λ other off far. moved.others other far off ∙ same other far;
+}
+
+-- a file that was not written whole has taken no path
+pub not_written : {E : Type 0} (path beside bytes : List ℕ) (w : Result (Unit {0}) E) (e : E) (a b : Story) → beside ≢ path → WritesNew beside bytes w a b
+    → Replaces {T = Unit {0}} path beside bytes (Err e) a b
+not_written path beside bytes w e a b apart h = (
+  passes_by (IsWhole path beside bytes a.now) (SameBeside beside a.now) a b (λ f s. whole_beside path beside bytes a.now f apart s) h.0,
+  h.0.ends path (λ i. apart (sym i)),
+)
+
+-- it is removed
+pub then_removed : {E : Type 0} (path beside bytes : List ℕ) (e : E) (a b d : Story) → beside ≢ path → Replaces {T = Unit {0}} path beside bytes (Err e) a b → Removes beside b d
+    → Replaces {T = Unit {0}} path beside bytes (Err e) a d
+then_removed path beside bytes e a b d apart h r = (
+  passes_then (IsWhole path beside bytes a.now) (IsWhole path beside bytes a.now) (SameBeside beside b.now) a b d (λ f w. w)
+      (λ f s. whole_still path beside bytes a.now b.now f apart h.0.ends s) h.0 r,
+  r.ends path (λ i. apart (sym i)) ∙ h.1,
+)
+
+passes_moved : {E : Type 0} (path beside bytes : List ℕ) (r : Result (Unit {0}) E) (a b d : Story) → beside ≢ path → Passes (SameBeside beside a.now) a b → b.now beside ≡ Some bytes
+    → Renames beside path r b d → Passes (IsWhole path beside bytes a.now) a d
+passes_moved path beside bytes r a b d apart p holds moves =
+    passes_then (IsWhole path beside bytes a.now) (SameBeside beside a.now) (λ f. Same b.now f ⊎ Moved beside path b.now f) a b d
+    (λ f s. whole_beside path beside bytes a.now f apart s) (λ f m. whole_moved path beside bytes a.now b.now f apart p.ends holds m) p moves.0
+
+-- a file that was written takes the path, or does not
+pub then_moved : {E : Type 0} (path beside bytes : List ℕ) (w r : Result (Unit {0}) E) (a b d : Story) → beside ≢ path → w ≡ Ok tt → WritesNew beside bytes w a b → Renames beside path r b d
+    → Replaces path beside bytes r a d
+then_moved {E = E} path beside bytes w (Ok u) a b d apart ok written moves =
+    let done = rw ok at written in (passes_moved {E = E} path beside bytes (Ok u) a b d apart done.0 done.1 moves, moves.1.there ∙ done.1)
+then_moved {E = E} path beside bytes w (Err e) a b d apart ok written moves =
+    let done = rw ok at written in (passes_moved {E = E} path beside bytes (Err e) a b d apart done.0 done.1 moves, moves.1 path ∙ done.0.ends path (λ i. apart (sym i)))

@@ -1,0 +1,45 @@
+use Rattle.std.proofs.Common.{Err, sym}
+use Rattle.zerotrie_files.specs.Disks.{WritesNew, Renames, Removes, Replaces}
+use Rattle.zerotrie_files.proofs.DiskLemmas.{known_then, not_written, then_removed, then_moved}
+use Rattle.zerotrie_files.proofs.replacing.replace.Goals as goal
+
+pub returns-then-ne : goal.returns-then-ne
+returns-then-ne g c =
+    let path = c.args.path.now in
+    let beside = c.args.beside.now in
+    let bytes = c.args.bytes.now in
+    let e = c.in-Err.error in
+    let story = g.D.Disk.story in
+    known_then (WritesNew {T = Unit {0}} beside bytes c.write_new.result) (Removes beside) (Replaces {T = Unit {0}} path beside bytes (Err e)) (story c.args.disk.now) (story c.write_new.new.self)
+    (story c.remove.new.self)
+    (λ a b d w r. then_removed path beside bytes e a b d c.requires (not_written path beside bytes c.write_new.result e a b c.requires w) r)
+    c.write_new.ensures c.remove.ensures
+
+pub returns-in-Ok : goal.returns-in-Ok
+returns-in-Ok g c =
+    let path = c.args.path.now in
+    let beside = c.args.beside.now in
+    let bytes = c.args.bytes.now in
+    let story = g.D.Disk.story in
+    rw (sym c.in-Ok.is)
+    (known_then (WritesNew beside bytes c.write_new.result) (Renames beside path c.rename.result) (Replaces path beside bytes c.rename.result) (story c.args.disk.now) (story c.write_new.new.self)
+    (story c.rename.new.self)
+    (λ a b d w m. then_moved path beside bytes c.write_new.result c.rename.result a b d c.requires c.in_default.is w m)
+    c.write_new.ensures c.rename.ensures)
+
+pub returns-in-Err-rename : goal.returns-in-Err-rename
+returns-in-Err-rename g c =
+    let path = c.args.path.now in
+    let beside = c.args.beside.now in
+    let bytes = c.args.bytes.now in
+    let e = c.in-Err-rename.error in
+    let story = g.D.Disk.story in
+    let moved = known_then (WritesNew beside bytes c.write_new.result) (Renames beside path c.rename.result) (Replaces path beside bytes c.rename.result) (story c.args.disk.now) (story c.write_new.new.self)
+    (story c.rename.new.self)
+    (λ a b d w m. then_moved path beside bytes c.write_new.result c.rename.result a b d c.requires c.in_default.is w m)
+    c.write_new.ensures c.rename.ensures in
+    known_then (Replaces {T = Unit {0}} path beside bytes (Err e)) (Removes beside) (Replaces {T = Unit {0}} path beside bytes (Err e)) (story c.args.disk.now) (story c.rename.new.self)
+    (story c.remove-in-Err-rename.new.self)
+    (λ a b d h r. then_removed path beside bytes e a b d c.requires h r)
+    (rw c.in-Err-rename.is at moved)
+    c.remove-in-Err-rename.ensures

@@ -1,0 +1,97 @@
+//! The file that bytes go to.
+
+ghost use Rattle.std.specs.Prelude.{◌≢◌, IfOk};
+ghost use Rattle.std.specs.String.{string_bytes};
+
+use crate::replacing::replace;
+use crate::system::SystemDisk;
+use std::alloc::{AllocError, Global};
+use std::fs::{Metadata, OpenOptions, Permissions};
+use std::io::{ErrorKind, Write};
+use std::rt::Files;
+use std::{fs, io};
+
+/// How many paths beside a file are tried.
+const MOST_TRIES: usize = 100;
+
+/// What stands at a path that bytes go to.
+#[derive(Drop)]
+enum Target {
+    /// A file with this path, or none yet. A file that is there has permissions.
+    File(String, Option<Permissions>),
+    /// A device or a pipe.
+    Stream,
+}
+
+/// What stands at a path, if something does. A symbolic link is followed.
+fn target_there<R: Files + AllocGlobal>(
+    rt: &R,
+    path: &str,
+    found: &Metadata,
+) -> io::Result<Target> {
+    if found.is_dir() {
+        return Err(io::Error::from(ErrorKind::IsADirectory));
+    }
+    if !found.is_file() {
+        return Ok(Target::Stream);
+    }
+    OpenOptions::new().write(true).open(rt, path)?;
+    let real = fs::canonicalize(rt, path)?;
+    Ok(Target::File(real.into_string(), Some(found.permissions())))
+}
+
+/// What stands at a path. A link to what isn't there is an error.
+fn target_of<R: Files + AllocGlobal>(rt: &R, path: &str) -> io::Result<Target> {
+    match fs::metadata(rt, path) {
+        Ok(found) => target_there(rt, path, &found),
+        Err(error) => {
+            if error.kind() == ErrorKind::NotFound && fs::symlink_metadata(rt, path).is_err() {
+                Ok(Target::File(String::from_str(rt.alloc(), path)?, None))
+            } else {
+                Err(error)
+            }
+        }
+    }
+}
+
+/// A path in the folder of a file, which is another than the file's.
+fn path_beside(alloc: Global, path: &str, number: usize) -> Result<String, AllocError>
+    ensures { IfOk result (λ beside. string_bytes beside ≢ path.now) }
+{
+    let mut beside = format!(in alloc; "{path}.{number}")?;
+    beside.push_str(".tmp")?;
+    Ok(beside)
+}
+
+/// Replaces a file by the bytes, or makes it.
+fn write_file<R: Files + AllocGlobal>(
+    rt: &R,
+    path: &str,
+    permissions: Option<Permissions>,
+    bytes: &[u8],
+) -> io::Result<()> {
+    let mut disk = SystemDisk::new(rt, permissions);
+    for number in 0..MOST_TRIES {
+        let beside = path_beside(rt.alloc(), path, number)?;
+        match replace(&mut disk, path, beside.as_str(), bytes) {
+            Err(error) if error.kind() == ErrorKind::AlreadyExists => {}
+            done => return done,
+        }
+    }
+    Err(io::Error::from(ErrorKind::AlreadyExists))
+}
+
+/// Writes the bytes to the file of a path, in place of what it held, or makes it. A fault leaves what it held.
+///
+/// They are written to a new file in the same folder, which then takes the path. A symbolic link stays, and the file
+/// that it leads to is replaced; the file keeps its permissions. A device or a pipe is written to. A folder, a link
+/// that leads nowhere and a file that can't be written are errors.
+pub fn write_output<R: Files + AllocGlobal>(rt: &R, path: &str, bytes: &[u8]) -> io::Result<()> {
+    match target_of(rt, path)? {
+        Target::File(real, permissions) => write_file(rt, real.as_str(), permissions, bytes),
+        Target::Stream => {
+            let mut stream = OpenOptions::new().write(true).open(rt, path)?;
+            stream.write_all(bytes)
+        }
+    }
+}

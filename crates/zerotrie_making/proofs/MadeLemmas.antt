@@ -1,0 +1,44 @@
+-- What a build of the pairs answers is what one of the input does.
+use Rattle.std.proofs.Common.{◌≡◌, ℕ, List, subst}
+use Rattle.zerotrie_core.specs.Maps.{Pairs}
+use Rattle.zerotrie_lines.specs.Tables.{lowered}
+use Rattle.zerotrie_making.specs.Sources.{IsPairs, NoPairs}
+use Rattle.zerotrie_making.specs.Made.{OfInput, Explains, ExplainsOf}
+use Rattle.zerotrie_core.specs.declared.ZeroTrieBuildError.{ZeroTrieBuildError}
+use Rattle.zerotrie_making.specs.declared.plan.Plan.{Plan}
+use Rattle.zerotrie_making.specs.declared.plan.Source.{Source}
+use Rattle.zerotrie_making.specs.declared.plan.Source.TheVariants.{Text, Json}
+use Rattle.zerotrie_making.specs.declared.refused.Shown.{Shown}
+use Rattle.zerotrie_making.specs.declared.refused.MakeError.{MakeError}
+use Rattle.zerotrie_making.specs.declared.refused.MakeError.TheVariants.{Line, NotJson, NotPairs, Keys, Refused, OutOfMemory}
+
+pub of_table : (plan : Plan) (input : List ℕ) (table : Pairs) (Fact : Pairs → Type 0) → (pairs : Pairs) × IsPairs plan.source input pairs × (table ≡ lowered plan.lower_case pairs)
+    → Fact table → OfInput plan input Fact
+of_table plan input table Fact h fact = (h.0, h.1, subst Fact h.2 fact)
+
+pub explains_of : (plan : Plan) (input : List ℕ) (table : Pairs) (e : MakeError) → (pairs : Pairs) × IsPairs plan.source input pairs × (table ≡ lowered plan.lower_case pairs)
+    → ExplainsOf plan table e → Explains plan input e
+explains_of plan input table (Line number bad) h fact = absurd fact
+explains_of plan input table (NotJson line column) h fact = absurd fact
+explains_of plan input table NotPairs h fact = absurd fact
+explains_of plan input table (Keys s) h fact = of_table plan input table (λ pairs. ExplainsOf plan pairs (Keys s)) h fact
+explains_of plan input table (Refused e) h fact = of_table plan input table (λ pairs. ExplainsOf plan pairs (Refused e)) h fact
+explains_of plan input table OutOfMemory h fact = tt
+
+-- an input that is no pairs shows no keys
+no_keys : (source : Source) (input : List ℕ) (s : Shown) → NoPairs source input (Keys s) → ⊥
+no_keys (Text format) input s h = h
+no_keys Json input s h = h
+
+no_refusal : (source : Source) (input : List ℕ) (e : ZeroTrieBuildError) → NoPairs source input (Refused e) → ⊥
+no_refusal (Text format) input e h = h
+no_refusal Json input e h = h
+
+-- an input that is no pairs makes no file
+pub no_pairs : (plan : Plan) (input : List ℕ) (e : MakeError) → NoPairs plan.source input e → Explains plan input e
+no_pairs plan input (Line number bad) h = h
+no_pairs plan input (NotJson line column) h = h
+no_pairs plan input NotPairs h = h
+no_pairs plan input (Keys s) h = absurd (no_keys plan.source input s h)
+no_pairs plan input (Refused e) h = absurd (no_refusal plan.source input e h)
+no_pairs plan input OutOfMemory h = tt

@@ -1,0 +1,90 @@
+//! The file of a trie, made from the bytes of an input.
+
+ghost use Rattle.std.specs.Prelude.{◌≡◌, IfOk, IfErr};
+ghost use Rattle.zerotrie_queries.specs.Kinds.{kind_of};
+ghost use Rattle.zerotrie_core.specs.Routes.{IsRefusal};
+ghost use Rattle.zerotrie_making.specs.Plans.{route_of, file_of};
+ghost use Rattle.zerotrie_making.specs.Made.{IsFile, IsFileOf, IsRefusedAs, Explains, ExplainsOf};
+
+use crate::plan::Plan;
+use crate::reading::read_input;
+use crate::refused::{MakeError, show};
+use crate::tries::{bytes_of, kind_for, why_refused};
+use std::alloc::{AllocError, Global};
+use zerotrie_core::ZeroTrieBuildError;
+use zerotrie_lines::Table;
+use zerotrie_queries::TrieKind;
+
+/// The file of a trie with these bytes. Unless it is bare, the number of the kind stands in front of them.
+fn file_of(alloc: Global, bare: bool, kind: TrieKind, bytes: Vec<u8>) -> Result<Vec<u8>, AllocError>
+    ensures { IfOk result (λ file. file.items ≡ file_of bare (kind_of kind) bytes.items) }
+{
+    if bare {
+        return Ok(bytes);
+    }
+    let mut file = Vec::with_capacity(alloc, bytes.len() + 1)?;
+    file.push(kind.tag())?;
+    file.extend_from_slice(bytes.as_slice())?;
+    Ok(file)
+}
+
+/// Why a build of the pairs is refused with this error, and the keys that show it, if any do.
+fn explain(
+    alloc: Global,
+    kind: TrieKind,
+    sorted: bool,
+    table: &Table,
+    error: ZeroTrieBuildError,
+) -> Result<MakeError, AllocError>
+    requires { IsRefusal (route_of sorted) (kind_of kind) table.now error }
+    ensures { IfOk result (IsRefusedAs (route_of sorted) (kind_of kind) table.now) }
+{
+    if error == ZeroTrieBuildError::OutOfMemory {
+        return Ok(MakeError::OutOfMemory);
+    }
+    let items = table.items(alloc)?;
+    match why_refused(alloc, kind, sorted, items.as_slice())? {
+        Some(refusal) => Ok(MakeError::Keys(show(alloc, items.as_slice(), refusal)?)),
+        None => Ok(MakeError::Refused(error)),
+    }
+}
+
+/// The file of the trie of the pairs.
+fn make_of(alloc: Global, plan: Plan, table: &Table) -> Result<Vec<u8>, MakeError>
+    ensures ok { IfOk result (λ file. IsFileOf plan table.now file.items) }
+    ensures err { IfErr result (λ e. ExplainsOf plan table.now e) }
+{
+    let items = table.items(alloc)?;
+    let kind = kind_for(plan.kind, items.as_slice());
+    match bytes_of(alloc, kind, plan.sorted, items) {
+        Ok(bytes) => Ok(file_of(alloc, plan.bare, kind, bytes)?),
+        Err(error) => Err(explain(alloc, kind, plan.sorted, table, error)?),
+    }
+}
+
+/// The file of the trie of the pairs that an input is.
+///
+/// ```
+/// let plan = Plan {
+///     source: Source::Text(Format::Tsv),
+///     kind: None,
+///     sorted: false,
+///     lower_case: false,
+///     bare: false,
+/// };
+/// let input = Vec::from_slice(rt.alloc(), b"adef\t33\nad\t22\n")?;
+/// let file = make(rt.alloc(), plan, input).map_err(|_| "refused")?;
+/// assert_eq!(rt; file.as_slice(), b"\x00ad\x90\x06ef\x90\x11".as_slice());
+/// ```
+///
+/// It takes the input, and lets its memory go before the trie is built. The error is `Line`, `NotJson` or
+/// `NotPairs` if the input is no pairs,
+/// `Keys` if keys show why a build of the pairs is refused, `Refused` if it is refused and none do, and `OutOfMemory`.
+pub fn make(alloc: Global, plan: Plan, input: Vec<u8>) -> Result<Vec<u8>, MakeError>
+    ensures ok { IfOk result (λ file. IsFile plan input.items file.items) }
+    ensures err { IfErr result (λ e. Explains plan input.items e) }
+{
+    let table = read_input(alloc, plan.source, plan.lower_case, input.as_slice())?;
+    drop(input);
+    make_of(alloc, plan, &table)
+}

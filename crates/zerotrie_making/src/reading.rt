@@ -1,0 +1,34 @@
+//! The pairs that an input is.
+
+ghost use Rattle.std.specs.Prelude.{◌≡◌, IfOk, IfErr};
+ghost use Rattle.zerotrie_lines.specs.Tables.{Pairs, lowered};
+ghost use Rattle.zerotrie_making.specs.Sources.{IsPairs, NoPairs};
+
+use crate::json::read_json;
+use crate::plan::Source;
+use crate::refused::MakeError;
+use std::alloc::Global;
+use zerotrie_lines::{Table, read_pairs};
+
+/// The pairs that an input is, in their order. With `lower_case` the ASCII letters of their keys are in lower case.
+pub fn read_input(
+    alloc: Global,
+    source: Source,
+    lower_case: bool,
+    input: &[u8],
+) -> Result<Table, MakeError>
+    ensures ok { IfOk result (λ table. (pairs : Pairs) × IsPairs source input.now pairs
+        × (table ≡ lowered lower_case pairs)) }
+    ensures err { IfErr result (λ e. NoPairs source input.now e) }
+{
+    match source {
+        Source::Text(format) => Ok(read_pairs(alloc, format, lower_case, input)?),
+        Source::Json => {
+            let mut table = read_json(alloc, input)?;
+            if lower_case {
+                table.lower_case();
+            }
+            Ok(table)
+        }
+    }
+}

@@ -1,0 +1,94 @@
+//! Why no trie file is made.
+
+ghost use Rattle.std.specs.Prelude.{◌≡◌, ◌<◌, length, IfOk};
+ghost use Rattle.zerotrie_core.specs.Items.{pairs_of};
+ghost use Rattle.zerotrie_making.specs.Made.{IsKeyAt, Tells, IsOfReading};
+ghost use Rattle.zerotrie_making.specs.declared.refused.MakeError.TheVariants.{OutOfMemory};
+
+use std::alloc::{AllocError, Global};
+use zerotrie_build::Refusal;
+use zerotrie_core::ZeroTrieBuildError;
+use zerotrie_lines::{BadLine, ReadError};
+
+/// A key, and the number of its pair, from 1 on. For lines and records it is theirs.
+#[derive(PartialEq, Eq, Debug, Drop)]
+pub struct NumberedKey {
+    pub number: usize,
+    pub key: Vec<u8>,
+}
+
+/// Two keys that show why a build is refused.
+#[derive(PartialEq, Eq, Debug, Drop)]
+pub struct Shown {
+    /// Why: `Unsorted`, `DuplicateKey`, `NonAsciiError` or `MixedCase`.
+    pub error: ZeroTrieBuildError,
+    /// The first of the two.
+    pub first: NumberedKey,
+    /// The second. For `NonAsciiError`, which one key shows, it is the first again.
+    pub second: NumberedKey,
+}
+
+/// Why no trie file is made.
+#[derive(PartialEq, Eq, Debug, Drop)]
+pub enum MakeError {
+    /// The line with this number is no pair, and why. Of comma-separated fields it is the record with this number.
+    Line(usize, BadLine),
+    /// The input is no JSON value, which shows at this line and column.
+    NotJson(usize, usize),
+    /// The input is a JSON value, and there are no pairs in it.
+    NotPairs,
+    /// The build is refused, and these keys show why.
+    Keys(Shown),
+    /// The build is refused though no key is at fault: `CapacityExceeded` or `CouldNotSolvePerfectHash`.
+    Refused(ZeroTrieBuildError),
+    /// A growth was refused.
+    OutOfMemory,
+}
+
+impl From<AllocError> for MakeError {
+    ghost from_gives = { λ _ e. e ≡ OutOfMemory };
+
+    fn from(_: AllocError) -> Self {
+        MakeError::OutOfMemory
+    }
+}
+
+impl From<ReadError> for MakeError {
+    ghost from_gives = { λ why e. IsOfReading why e };
+
+    fn from(why: ReadError) -> Self {
+        match why {
+            ReadError::Line(number, bad) => MakeError::Line(number, bad),
+            ReadError::OutOfMemory => MakeError::OutOfMemory,
+        }
+    }
+}
+
+/// The key of an item, with the number of its line.
+fn numbered(
+    alloc: Global,
+    items: &[(&[u8], usize)],
+    index: usize,
+) -> Result<NumberedKey, AllocError>
+    requires { index < length items.now }
+    ensures { IfOk result (IsKeyAt (pairs_of items.now) index) }
+{
+    let (key, _) = items[index];
+    Ok(NumberedKey {
+        number: index + 1,
+        key: Vec::from_slice(alloc, key)?,
+    })
+}
+
+/// The keys that show a refusal, with the numbers of their lines.
+pub fn show(alloc: Global, items: &[(&[u8], usize)], refusal: Refusal) -> Result<Shown, AllocError>
+    requires first { refusal.first < length items.now }
+    requires second { refusal.second < length items.now }
+    ensures { IfOk result (Tells (pairs_of items.now) refusal) }
+{
+    Ok(Shown {
+        first: numbered(alloc, items, refusal.first)?,
+        second: numbered(alloc, items, refusal.second)?,
+        error: refusal.error,
+    })
+}

@@ -1,0 +1,122 @@
+//! The bytes of a trie whose kind is known when the program runs, and why a build of it is refused.
+
+ghost use Rattle.std.specs.Prelude.{◌≡◌, IfOk, IfSome};
+ghost use Rattle.zerotrie_core.specs.Items.{pairs_of};
+ghost use Rattle.zerotrie_core.specs.Routes.{any_order, IsBuild};
+ghost use Rattle.zerotrie_any.specs.Auto.{is_ascii, are_ascii};
+ghost use Rattle.zerotrie_build.specs.Refused.{IsWhyRefused};
+ghost use Rattle.zerotrie_queries.specs.Kinds.{kind_of};
+ghost use Rattle.zerotrie_making.specs.Plans.{kind_for, route_of};
+
+use std::alloc::{AllocError, Global};
+use zerotrie_any::{bytes_from_iter, bytes_from_slice};
+use zerotrie_build::{Refusal, why_iter_refused, why_slice_refused};
+use zerotrie_core::{Ext, Hash, Ignore, Simple, ZeroTrieBuildError, ZeroTrieWithOptions};
+use zerotrie_queries::TrieKind;
+
+/// Whether all bytes of a key are below 128.
+fn is_ascii(key: &[u8]) -> bool
+    ensures { result ≡ is_ascii key.now }
+{
+    key.iter().all(|b| b.is_ascii())
+}
+
+/// Whether all keys are ASCII.
+fn are_ascii(items: &[(&[u8], usize)]) -> bool
+    ensures { result ≡ are_ascii (pairs_of items.now) }
+{
+    items.iter().all(|(key, _)| is_ascii(key))
+}
+
+/// The kind of a trie of the pairs: the one that is named, or the one that `ZeroTrie` takes for them.
+pub fn kind_for(named: Option<TrieKind>, items: &[(&[u8], usize)]) -> TrieKind
+    ensures { kind_of result ≡ kind_for named (pairs_of items.now) }
+{
+    match named {
+        Some(kind) => kind,
+        None => {
+            if items.len() < 512 && are_ascii(items) {
+                TrieKind::Simple
+            } else {
+                TrieKind::Hash
+            }
+        }
+    }
+}
+
+/// The bytes of the trie of pairs in any order, of the kind `K`.
+fn bytes_unsorted<K: ZeroTrieWithOptions>(
+    alloc: Global,
+    items: Vec<(&[u8], usize)>,
+) -> Result<Vec<u8>, ZeroTrieBuildError>
+    ensures { IsBuild any_order K.kind (λ bytes. bytes.items) (pairs_of items.entry.items) result }
+{
+    let bytes = bytes_from_iter::<K, &[u8], Vec<(&[u8], usize)>>(alloc, items)?;
+    Ok(bytes)
+}
+
+/// The bytes of the trie of the pairs, of the kind `K`.
+fn bytes_as<K: ZeroTrieWithOptions>(
+    alloc: Global,
+    sorted: bool,
+    items: Vec<(&[u8], usize)>,
+) -> Result<Vec<u8>, ZeroTrieBuildError>
+    ensures { IsBuild (route_of sorted) K.kind (λ bytes. bytes.items) (pairs_of items.entry.items)
+        result }
+{
+    if sorted {
+        bytes_from_slice::<K>(alloc, items.as_slice())
+    } else {
+        bytes_unsorted::<K>(alloc, items)
+    }
+}
+
+/// The bytes of the trie of the pairs. With `sorted` their keys have to ascend.
+pub fn bytes_of(
+    alloc: Global,
+    kind: TrieKind,
+    sorted: bool,
+    items: Vec<(&[u8], usize)>,
+) -> Result<Vec<u8>, ZeroTrieBuildError>
+    ensures { IsBuild (route_of sorted) (kind_of kind) (λ bytes. bytes.items)
+        (pairs_of items.entry.items) result }
+{
+    match kind {
+        TrieKind::Simple => bytes_as::<Simple>(alloc, sorted, items),
+        TrieKind::Ignore => bytes_as::<Ignore>(alloc, sorted, items),
+        TrieKind::Hash => bytes_as::<Hash>(alloc, sorted, items),
+        TrieKind::Ext => bytes_as::<Ext>(alloc, sorted, items),
+    }
+}
+
+/// Which keys show why a build of the pairs is refused, in the kind `K`.
+fn why_as<K: ZeroTrieWithOptions>(
+    alloc: Global,
+    sorted: bool,
+    items: &[(&[u8], usize)],
+) -> Result<Option<Refusal>, AllocError>
+    ensures { IfOk result (IsWhyRefused (route_of sorted) K.kind (pairs_of items.now)) }
+{
+    if sorted {
+        Ok(why_slice_refused::<K, &[u8]>(items))
+    } else {
+        why_iter_refused::<K, &[u8]>(alloc, items)
+    }
+}
+
+/// Which keys show why a build of the pairs is refused. `None` if none do.
+pub fn why_refused(
+    alloc: Global,
+    kind: TrieKind,
+    sorted: bool,
+    items: &[(&[u8], usize)],
+) -> Result<Option<Refusal>, AllocError>
+    ensures { IfOk result (IsWhyRefused (route_of sorted) (kind_of kind) (pairs_of items.now)) }
+{
+    match kind {
+        TrieKind::Simple => why_as::<Simple>(alloc, sorted, items),
+        TrieKind::Ignore => why_as::<Ignore>(alloc, sorted, items),
+        TrieKind::Hash => why_as::<Hash>(alloc, sorted, items),
+        TrieKind::Ext => why_as::<Ext>(alloc, sorted, items),
+    }
+}
