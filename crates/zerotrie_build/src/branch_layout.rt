@@ -164,7 +164,8 @@ impl<A: Allocator + Copy> Layout<A> {
         ensures laid { OnOk result (IsLaid K.kind (edge_no (I.pairs items) self.new.windows.items)
             (length self.new.windows.items) self.new.table.items self.new.numbers.items) }
         ensures pending { OnOk result (reverse self.new.pending.items
-            ≡ next_of K.kind input.entry.slots.now slot self.new.windows.items self.new.numbers.items
+            ≡ next_of K.kind input.entry.slots.now slot self.new.windows.items
+            self.new.numbers.items
             ++ reverse self.old.pending.items) }
         ensures refused { IfErr result (λ e. e ≢ ZeroTrieBuildError.OutOfMemory
             → (e ≡ ZeroTrieBuildError.CouldNotSolvePerfectHash)

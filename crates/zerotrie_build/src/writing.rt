@@ -233,7 +233,8 @@ impl<S: TrieBuilderStore + Drop> Writing<S> {
         requires keys { AreKeys K.kind (I.pairs items) }
         requires ascii { IsTrue input.ascii → AreLow (I.pairs items) }
         requires ordered { Ordered K.kind (I.pairs items) }
-        requires kept { (end : ℕ) × HasSlotsTo K.kind (I.pairs items) input.slots.now slot end window }
+        requires kept { (end : ℕ)
+            × HasSlotsTo K.kind (I.pairs items) input.slots.now slot end window }
         requires room { self.old.at + size_of K.kind (window_of (I.pairs items) window)
             ≤ length (S.list self.old.data) }
         ensures put { OnOk result ((next : List Next) × (reverse layout.new.pending.items
