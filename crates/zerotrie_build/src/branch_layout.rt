@@ -7,7 +7,7 @@ ghost use Rattle.zerotrie_base.specs.Refusals.{IsTableRefusal};
 ghost use Rattle.zerotrie_core.specs.Causes.{AreCrooked};
 ghost use Rattle.zerotrie_build.specs.Order.{Ordered};
 ghost use Rattle.zerotrie_build.specs.passes.Windows.{window as window_of, edge_of, IsGroup};
-ghost use Rattle.zerotrie_build.specs.passes.Measured.{Parts};
+ghost use Rattle.zerotrie_build.specs.passes.Measured.{TargetWindows};
 ghost use Rattle.zerotrie_build.specs.passes.Writing.{window_at, edge_no, place_in, position_at, text_of, placed_next, next_of, IsSearched, IsLaid, HasSlots};
 
 use crate::indexed::IndexedItems;
@@ -106,7 +106,7 @@ impl<A: Allocator + Copy> Layout<A> {
         requires items { window.to ≤ length (I.pairs items) }
         requires room { window.depth + 1 < 2 ^ 64 }
         requires ordered { Ordered K.kind (window_of (I.pairs items) window) }
-        ensures parts { OnOk result (Parts (I.pairs items) window self.new.windows.items) }
+        ensures parts { OnOk result (TargetWindows (I.pairs items) window self.new.windows.items) }
         ensures table { OnOk result (self.new.table.items
             ≡ map (edge_of (I.pairs items)) self.new.windows.items) }
         ensures numbers { OnOk result (self.new.numbers.items
@@ -160,15 +160,16 @@ impl<A: Allocator + Copy> Layout<A> {
         requires room { window.depth + 1 < 2 ^ 64 }
         requires ordered { Ordered K.kind (window_of (I.pairs items) window) }
         requires slots { HasSlots K.kind (I.pairs items) window input.slots.now slot }
-        ensures parts { OnOk result (Parts (I.pairs items) window self.new.windows.items) }
+        ensures parts { OnOk result (TargetWindows (I.pairs items) window self.new.windows.items) }
         ensures laid { OnOk result (IsLaid K.kind (edge_no (I.pairs items) self.new.windows.items)
             (length self.new.windows.items) self.new.table.items self.new.numbers.items) }
         ensures pending { OnOk result (reverse self.new.pending.items
-            ≡ next_of K.kind input.entry.slots.now slot self.new.windows.items self.new.numbers.items
+            ≡ next_of K.kind input.entry.slots.now slot self.new.windows.items
+            self.new.numbers.items
             ++ reverse self.old.pending.items) }
         ensures refused { IfErr result (λ e. e ≢ ZeroTrieBuildError.OutOfMemory
             → (e ≡ ZeroTrieBuildError.CouldNotSolvePerfectHash)
-            × ((cs : List Window) → Parts (I.pairs items) window cs
+            × ((cs : List Window) → TargetWindows (I.pairs items) window cs
             → AreCrooked K.kind (map (edge_of (I.pairs items)) cs))) }
     {
         let slots = input.slots;

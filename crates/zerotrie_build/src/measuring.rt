@@ -9,8 +9,8 @@ ghost use Rattle.zerotrie_core.specs.Canonical.{size_of, branch_size};
 ghost use Rattle.zerotrie_core.specs.Fits.{ExceedsCapacity};
 ghost use Rattle.zerotrie_build.specs.Order.{Ordered, AreKeys, AreLow};
 ghost use Rattle.zerotrie_build.specs.passes.Windows.{window as window_of, step_of};
-ghost use Rattle.zerotrie_build.specs.passes.Measured.{Run, Stops, Parts, IsMeasured};
-ghost use Rattle.zerotrie_build.specs.passes.Walking.{tos, spare_len, with_len, left_open, IsOpened, Closing, IsTurn, IsNext};
+ghost use Rattle.zerotrie_build.specs.passes.Measured.{Passes, NoneFirst, TargetWindows, IsMeasured};
+ghost use Rattle.zerotrie_build.specs.passes.Walking.{item_ends, spare_len, with_len, left_open, IsOpened, Closing, IsTurn, IsNext};
 
 use crate::indexed::IndexedItems;
 use crate::leaf::{rest_len, single_item};
@@ -110,7 +110,7 @@ fn behind_leaf<'a, K: ZeroTrieWithOptions, I: IndexedItems<'a>>(
     requires within { start.to ≤ length (I.pairs items) }
     requires ordered { Ordered K.kind (window_of (I.pairs items) start) }
     ensures run { IfOk result (λ leaf. IfSome leaf (λ r.
-        Run K.kind (I.pairs items) start r.0 r.1)) }
+        Passes K.kind (I.pairs items) start r.0 r.1)) }
     ensures end { IfOk result (λ leaf. IfSome leaf (λ r.
         step_of K.kind (I.pairs items) r.0 ≡ Step.End)) }
     ensures refused { IfErr result (λ e. (e ≡ ZeroTrieBuildError.CapacityExceeded)
@@ -142,8 +142,8 @@ fn behind_nodes<'a, K: ZeroTrieWithOptions, I: IndexedItems<'a>>(
     requires ascii { IsTrue ascii → AreLow (I.pairs items) }
     requires within { start.to ≤ length (I.pairs items) }
     requires ordered { Ordered K.kind (window_of (I.pairs items) start) }
-    ensures run { IfOk result (λ r. Run K.kind (I.pairs items) start r.0 r.1) }
-    ensures stops { IfOk result (λ r. Stops K.kind (I.pairs items) r.0) }
+    ensures run { IfOk result (λ r. Passes K.kind (I.pairs items) start r.0 r.1) }
+    ensures stops { IfOk result (λ r. NoneFirst K.kind (I.pairs items) r.0) }
     ensures room { IfOk result (λ r. step_of K.kind (I.pairs items) r.0 ≡ Step.Branch
         → r.0.depth + 1 < 2 ^ 64) }
     ensures refused { IfErr result (λ e. (e ≡ ZeroTrieBuildError.CapacityExceeded)
@@ -292,8 +292,8 @@ impl<'a, I: IndexedItems<'a>, A: Allocator + Copy> FirstPass<I, A> {
         requires order { window.from ≤ window.to }
         requires ordered { Ordered K.kind (window_of (I.pairs self.old.items) window) }
         ensures ends { OnOk result ((targets : List Window)
-            × Parts (I.pairs self.old.items) window targets
-            × (self.new.slots.items ≡ self.old.slots.items ++ tos targets)) }
+            × TargetWindows (I.pairs self.old.items) window targets
+            × (self.new.slots.items ≡ self.old.slots.items ++ item_ends targets)) }
         ensures items { self.new.items ≡ self.old.items }
         ensures branches { self.new.branches.items ≡ self.old.branches.items }
     {

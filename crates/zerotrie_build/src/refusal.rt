@@ -36,17 +36,24 @@ pub struct Refusal {
 }
 
 impl Refusal {
+    /// The error, and the numbers of the keys that show it.
+    fn new(error: ZeroTrieBuildError, first: usize, second: usize) -> Self
+        ensures { result ≡ record { error = error; first = first; second = second } }
+    {
+        Refusal {
+            error,
+            first,
+            second,
+        }
+    }
+
     /// The error that two keys show, whichever is the first.
     fn between(error: ZeroTrieBuildError, one: usize, other: usize) -> Self
         ensures error { result.error ≡ error }
         ensures first { result.first ≡ min one other }
         ensures second { result.second ≡ max one other }
     {
-        Refusal {
-            error,
-            first: one.min(other),
-            second: one.max(other),
-        }
+        Refusal::new(error, one.min(other), one.max(other))
     }
 }
 
@@ -85,16 +92,10 @@ fn unsorted<Key: TrieKey>(items: &[(Key, usize)]) -> Option<Refusal>
     ensures none { IfNone result (Ascends (keyed Key.key items.now)) }
 {
     for second in 1..items.len() {
-        let first = second - 1;
-        let (key, _) = item_at(items, first);
+        let (key, _) = item_at(items, second - 1);
         let (next, _) = item_at(items, second);
         if !precedes::<Simple>(key, next) {
-            let error = ZeroTrieBuildError::Unsorted;
-            return Some(Refusal {
-                error,
-                first,
-                second,
-            });
+            return Some(Refusal::new(ZeroTrieBuildError::Unsorted, second - 1, second));
         }
     }
     None
@@ -109,13 +110,7 @@ fn foreign<K: ZeroTrieWithOptions, Key: TrieKey>(items: &[(Key, usize)]) -> Opti
     for first in 0..items.len() {
         let (key, _) = item_at(items, first);
         if !is_key::<K>(key) {
-            let error = ZeroTrieBuildError::NonAsciiError;
-            let second = first;
-            return Some(Refusal {
-                error,
-                first,
-                second,
-            });
+            return Some(Refusal::new(ZeroTrieBuildError::NonAsciiError, first, first));
         }
     }
     None

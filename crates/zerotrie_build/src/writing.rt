@@ -11,7 +11,7 @@ ghost use Rattle.zerotrie_build.specs.Order.{Ordered, AreKeys, AreLow};
 ghost use Rattle.zerotrie_build.specs.passes.Windows.{window as window_of, item_of};
 ghost use Rattle.zerotrie_build.specs.passes.Measured.{IsMeasured};
 ghost use Rattle.zerotrie_build.specs.passes.Puts.{Puts};
-ghost use Rattle.zerotrie_build.specs.passes.Writing.{with_bits, IsLead, spelled_behind, lens_of, KeptTo, FrontPut};
+ghost use Rattle.zerotrie_build.specs.passes.Writing.{with_bits, IsLead, spelled_behind, lens_of, HasSlotsTo, NodesWritten};
 
 use crate::branch_layout::{Layout, Next, PendingWindow, Position, WriteInput};
 use crate::indexed::IndexedItems;
@@ -233,12 +233,13 @@ impl<S: TrieBuilderStore + Drop> Writing<S> {
         requires keys { AreKeys K.kind (I.pairs items) }
         requires ascii { IsTrue input.ascii → AreLow (I.pairs items) }
         requires ordered { Ordered K.kind (I.pairs items) }
-        requires kept { (end : ℕ) × KeptTo K.kind (I.pairs items) input.slots.now slot end window }
+        requires kept { (end : ℕ)
+            × HasSlotsTo K.kind (I.pairs items) input.slots.now slot end window }
         requires room { self.old.at + size_of K.kind (window_of (I.pairs items) window)
             ≤ length (S.list self.old.data) }
         ensures put { OnOk result ((next : List Next) × (reverse layout.new.pending.items
             ≡ next ++ reverse layout.old.pending.items)
-            × FrontPut K.kind (I.pairs items) input.entry.slots.now slot window next
+            × NodesWritten K.kind (I.pairs items) input.entry.slots.now slot window next
             (S.list self.old.data) self.old.at (S.list self.new.data) self.new.at) }
         ensures refused { IfErr result (λ e. e ≢ ZeroTrieBuildError.OutOfMemory
             → (e ≡ ZeroTrieBuildError.CouldNotSolvePerfectHash) × Cause K.kind (I.pairs items) e) }

@@ -14,8 +14,8 @@ use Rattle.zerotrie_core.proofs.CallerLemmas.{residual-append, stack_none}
 use Rattle.zerotrie_build.specs.declared.konst.text.Sibling.{Sibling}
 use Rattle.zerotrie_build.specs.declared.konst.text.Text.{Text}
 use Rattle.zerotrie_build.specs.Order.{Before, Ordered}
-use Rattle.zerotrie_build.specs.konst.Texts.{Counts, Has, Puts, tops}
-use Rattle.zerotrie_build.specs.konst.Growing.{Standing, Waiting, BuiltFrom, AtMost, AreAmong, IsStuckFrom, IsStuckBefore, IsStuck}
+use Rattle.zerotrie_build.specs.konst.Texts.{Counts, Has, PutsBefore, tops}
+use Rattle.zerotrie_build.specs.konst.Growing.{Standing, IsReady, BuiltFrom, AtMost, AreAmong, RefusedFrom, RefusedBefore, IsRefusedBuild}
 use Rattle.zerotrie_build.proofs.Items.{got, each_ordered}
 use Rattle.zerotrie_build.proofs.Overflow.{same_edges, same_targets_size, exceeds}
 use Rattle.zerotrie_build.proofs.ArrayLemmas.Runs.{behind_all-append, among_right}
@@ -29,9 +29,9 @@ drop_at (e ∷ all) (suc i) a h = drop_at all i a h
 
 -- the value is in front
 pub stands_at : (k : ℕ) (all : Pairs) (i : ℕ) (key : List ℕ) (v : ℕ) (old new : Text) (siblings : List Sibling) → slice_get all i ≡ Some (key, v)
-    → SpellsAs value_form v (spelled_as value_form v) → Puts old new (spelled_as value_form v) → BuiltFrom k (suc i) all old siblings → Standing k key (length key) new siblings (drop i all)
+    → SpellsAs value_form v (spelled_as value_form v) → PutsBefore old new (spelled_as value_form v) → BuiltFrom k (suc i) all old siblings → Standing k key (length key) new siblings (drop i all)
 stands_at k all i key v old new siblings at spells p built =
-    let waiting : Waiting k key old siblings (drop (suc i) all) = subst (λ e. Waiting k e.0 old siblings (drop (suc i) all)) (got all i ([], 0) (key, v) at) built in
+    let waiting : IsReady k key old siblings (drop (suc i) all) = subst (λ e. IsReady k e.0 old siblings (drop (suc i) all)) (got all i ([], 0) (key, v) at) built in
     subst (Standing k key (length key) new siblings) (drop_at all i (key, v) at)
     (spelled_as value_form v ++ waiting.0, p.has waiting.0 waiting.1, with_value k key v (spelled_as value_form v) (tops siblings) old.front new.front waiting.0 (drop (suc i) all) spells (λ m c. p.counts m c) waiting.2)
 
@@ -42,11 +42,11 @@ built_at_start k all i key text siblings e standing =
     let enough : stack_of all ≤ k = subst (λ j. stack_of (drop j all) ≤ k) e w.1 in
     subst (λ j. BuiltFrom k j all text siblings) (sym e) (standing.0, standing.1, lists, enough)
 
-pub built_before : (k : ℕ) (all : Pairs) (j i : ℕ) (before : List ℕ) (v : ℕ) (text : Text) (siblings : List Sibling) → suc j ≡ i → slice_get all j ≡ Some (before, v) → Waiting k before text siblings (drop i all)
+pub built_before : (k : ℕ) (all : Pairs) (j i : ℕ) (before : List ℕ) (v : ℕ) (text : Text) (siblings : List Sibling) → suc j ≡ i → slice_get all j ≡ Some (before, v) → IsReady k before text siblings (drop i all)
     → BuiltFrom k i all text siblings
 built_before k all j i before v text siblings e at waits =
-    let moved : Waiting k (get_or all j ([], 0)).0 text siblings (drop i all) = subst (λ a. Waiting k a.0 text siblings (drop i all)) (sym (got all j ([], 0) (before, v) at)) waits in
-    let next : BuiltFrom k (suc j) all text siblings = subst (λ m. Waiting k (get_or all j ([], 0)).0 text siblings (drop m all)) (sym e) moved in
+    let moved : IsReady k (get_or all j ([], 0)).0 text siblings (drop i all) = subst (λ a. IsReady k a.0 text siblings (drop i all)) (sym (got all j ([], 0) (before, v) at)) waits in
+    let next : BuiltFrom k (suc j) all text siblings = subst (λ m. IsReady k (get_or all j ([], 0)).0 text siblings (drop m all)) (sym e) moved in
     subst (λ m. BuiltFrom k m all text siblings) e next
 
 pub built_nothing : (k : ℕ) (all : Pairs) (i : ℕ) (text : Text) → i ≡ length all → text.len ≡ 0 → text.front ≡ 0 → BuiltFrom k i all text []
@@ -110,13 +110,13 @@ overflows_all front all before listed is none over =
 among_last : (all : Pairs) (i : ℕ) → AreAmong (drop i all) all
 among_last all i front b h = subst (λ p. AreAmong (drop i all) p) (take-append-drop i all) (among_right (take i all) (drop i all)) front b h
 
-pub stuck_at_start : (k : ℕ) (all : Pairs) (i : ℕ) (key : List ℕ) (e : ZeroTrieBuildError) → i ≡ 0 → IsStuckFrom k key 0 (drop i all) e → IsStuck k all e
+pub stuck_at_start : (k : ℕ) (all : Pairs) (i : ℕ) (key : List ℕ) (e : ZeroTrieBuildError) → i ≡ 0 → RefusedFrom k key 0 (drop i all) e → IsRefusedBuild k all e
 stuck_at_start k all i key e is stuck = elim stuck.3 [
   | inl wide ↦ inl (wide.0, exceeds simple_ascii (take stuck.0 key) all (subst (λ j. OverflowsAt simple_ascii (take stuck.0 key) (drop j all)) is wide.1))
   | inr many ↦ inr (many.0, many.1 all (among_last all i))
 ]
 
-pub stuck_before_last : (k : ℕ) (all : Pairs) (j i : ℕ) (before : List ℕ) (v : ℕ) (e : ZeroTrieBuildError) → suc j ≡ i → slice_get all j ≡ Some (before, v) → Ordered simple_ascii all → IsStuckBefore k before (drop i all) e → IsStuck k all e
+pub stuck_before_last : (k : ℕ) (all : Pairs) (j i : ℕ) (before : List ℕ) (v : ℕ) (e : ZeroTrieBuildError) → suc j ≡ i → slice_get all j ≡ Some (before, v) → Ordered simple_ascii all → RefusedBefore k before (drop i all) e → IsRefusedBuild k all e
 stuck_before_last k all j i before v e is at up stuck = elim stuck [
   | inl wide ↦
       let front = wide.1.0 in

@@ -10,7 +10,7 @@ use Rattle.zerotrie_core.specs.Stack.{branch_need, stack_of}
 use Rattle.zerotrie_core.proofs.CallerLemmas.{Rises, AllAbove, behind_all-nil, lists_some, edge_once, residual_first, residual_later, not_first, branch_agree, above, above_edge}
 use Rattle.zerotrie_build.specs.declared.konst.text.Sibling.{Sibling}
 use Rattle.zerotrie_build.specs.konst.Texts.{Counts, bytes_of, lens_of}
-use Rattle.zerotrie_build.specs.konst.Growing.{DepthsBelow, NoneAt, AllAt, ComesBefore, Aside, Leads, AreAmong}
+use Rattle.zerotrie_build.specs.konst.Growing.{DepthsBelow, NoneAt, AllAt, ComesBefore, Aside, SomeBegins, AreAmong}
 use Rattle.zerotrie_build.proofs.Items.{below_or_from}
 use Rattle.zerotrie_build.proofs.Runs.{with_run-push, behind_all-other}
 use Rattle.zerotrie_build.proofs.ArrayLemmas.Text.{total_first}
@@ -200,13 +200,13 @@ waiting k key d low [] bytes others all within up aside among = omega arith
 waiting k key d low (s ∷ siblings) bytes others all within up aside among =
     let a = aside.1 in
     let some : a.inner ≡ [] → ⊥ = lists_some a.lists a.some in
-    let here : Leads all (take s.depth key) s.byte =
-    among (take s.depth key) s.byte (subst (λ p. Leads p (take s.depth key) s.byte) (sym a.pairs_are)
+    let here : SomeBegins all (take s.depth key) s.byte =
+    among (take s.depth key) s.byte (subst (λ p. SomeBegins p (take s.depth key) s.byte) (sym a.pairs_are)
     (among_left (with_run (take s.depth key ++ s.byte ∷ []) a.inner) a.others (take s.depth key) s.byte (leads_run (take s.depth key) s.byte a.inner some))) in
     let low_byte = a.low in
     let there = leads_edge all (take s.depth key) s.byte (omega arith) here in
     let rest = waiting k key s.depth s.byte siblings a.rest a.others all a.within (next_above s siblings aside.0) a.behind
-    (λ front b h. among front b (subst (λ p. Leads p front b) (sym a.pairs_are) (among_right (with_run (take s.depth key ++ s.byte ∷ []) a.inner) a.others front b h))) in
+    (λ front b h. among front b (subst (λ p. SomeBegins p front b) (sym a.pairs_are) (among_right (with_run (take s.depth key ++ s.byte ∷ []) a.inner) a.others front b h))) in
     elim up [
       | inl at ↦
           let one = above_edge (behind_all (take s.depth key) all) low s.byte at.1 there in

@@ -10,7 +10,7 @@ use Rattle.zerotrie_core.specs.ArrayRoutes.{IsArrayBuilt, IsTooMuch}
 use Rattle.zerotrie_core.specs.Causes.{ZeroTrieBuildError, NonAsciiError, BufferTooSmall}
 use Rattle.zerotrie_core.proofs.CallerLemmas.{ascends_apart, entries-map_of, listed_size}
 use Rattle.zerotrie_build.specs.konst.Texts.{EndsIn}
-use Rattle.zerotrie_build.specs.konst.Growing.{IsStuck, IsWritten}
+use Rattle.zerotrie_build.specs.konst.Growing.{IsRefusedBuild, IsWritten}
 use Rattle.zerotrie_build.proofs.Items.{below_or_from}
 use Rattle.zerotrie_build.proofs.Building.{some_foreign}
 
@@ -23,7 +23,7 @@ pub stack_is : (pairs : Pairs) → Ascends pairs → stack (map_of pairs) ≡ st
 unfolding stack
 stack_is pairs up = ap stack_of (entries-map_of pairs up)
 
-pub too_much : (n k : ℕ) (pairs : Pairs) (e : ZeroTrieBuildError) → Ascends pairs → IsStuck k pairs e → IsTooMuch n k pairs e
+pub too_much : (n k : ℕ) (pairs : Pairs) (e : ZeroTrieBuildError) → Ascends pairs → IsRefusedBuild k pairs e → IsTooMuch n k pairs e
 too_much n k pairs e up stuck = elim stuck [
   | inl wide ↦ subst (IsTooMuch n k pairs) (sym wide.0) ((λ needed same. cc), (ascends_apart pairs up, wide.1))
   | inr many ↦ subst (IsTooMuch n k pairs) (sym many.0) ((λ needed same. cc), (ascends_apart pairs up, (let s = stack_is pairs up in let m = many.1 in omega arith)))

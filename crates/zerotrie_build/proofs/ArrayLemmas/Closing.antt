@@ -17,7 +17,7 @@ use Rattle.zerotrie_core.specs.Stack.{branch_need, stack_of}
 use Rattle.zerotrie_core.proofs.CallerLemmas.{Rises, lists_some, node_many, node_lists, not_empty_text, rises_distinct, bytes_all, targets_each, edges_count, edges_listed, stack_none, stack_value, stack_literal, stack_branch, stack_edges, above_edge, above_edges}
 use Rattle.zerotrie_build.specs.declared.konst.text.Sibling.{Sibling}
 use Rattle.zerotrie_build.specs.konst.Texts.{Counts, bytes_of, lens_of}
-use Rattle.zerotrie_build.specs.konst.Growing.{DepthsBelow, NoneAt, AllAt, ComesBefore, Aside, Waits, Stands, Leads, AreAmong}
+use Rattle.zerotrie_build.specs.konst.Growing.{DepthsBelow, NoneAt, AllAt, ComesBefore, Aside, ReadyFor, Stands, SomeBegins, AreAmong}
 use Rattle.zerotrie_build.proofs.Runs.{with_run-nil, behind_all-run, take_one_more}
 use Rattle.zerotrie_build.proofs.ArrayLemmas.Text.{total_first}
 use Rattle.zerotrie_build.proofs.ArrayLemmas.Runs.{run_step, with_run-append, behind_all-append, among_left, among_right, leads_run, leads_edge, leads_key, need_behind}
@@ -26,7 +26,7 @@ use Rattle.zerotrie_build.proofs.ArrayLemmas.Asides.{next_below, below_here, mov
 
 -- a value node in front
 pub with_value : (k : ℕ) (key : List ℕ) (v : ℕ) (spelling : List ℕ) (siblings : List Sibling) (front front' : ℕ) (bytes : List ℕ) (listed : Pairs) → SpellsAs value_form v spelling
-    → ((m : ℕ) → Counts front m → Counts front' (length spelling + m)) → Waits k key siblings front bytes listed
+    → ((m : ℕ) → Counts front m → Counts front' (length spelling + m)) → ReadyFor k key siblings front bytes listed
     → Stands k key (length key) siblings front' (spelling ++ bytes) ((key, v) ∷ listed)
 with_value k key v spelling siblings front front' bytes listed s more h = record {
   text = spelling ++ h.text;
@@ -219,13 +219,13 @@ too_many k key d siblings front bytes listed all within ascii h full among two =
     let p = behind_all (take d key) all in
     let low : b < 128 = ascii d 0 within in
     let some : h.inner ≡ [] → ⊥ = lists_some h.lists h.is_front.0 in
-    let here : Leads all (take d key) b =
-    among (take d key) b (subst (λ q. Leads q (take d key) b) (sym h.pairs_are)
+    let here : SomeBegins all (take d key) b =
+    among (take d key) b (subst (λ q. SomeBegins q (take d key) b) (sym h.pairs_are)
     (among_left (with_run (take (suc d) key) h.inner) h.others (take d key) b
-    (subst (λ r. Leads (with_run r h.inner) (take d key) b) (sym (take_one_more key d within)) (leads_run (take d key) b h.inner some)))) in
+    (subst (λ r. SomeBegins (with_run r h.inner) (take d key) b) (sym (take_one_more key d within)) (leads_run (take d key) b h.inner some)))) in
     let there = leads_edge all (take d key) b (omega arith) here in
     let wait = waiting k key d b siblings h.rest h.others all within (above_at siblings h.rest h.others h.below h.aside) h.aside
-    (λ f c l. among f c (subst (λ q. Leads q f c) (sym h.pairs_are) (among_right (with_run (take (suc d) key) h.inner) h.others f c l))) in
+    (λ f c l. among f c (subst (λ q. SomeBegins q f c) (sym h.pairs_are) (among_right (with_run (take (suc d) key) h.inner) h.others f c l))) in
     let itself = above_edges p b there in
     let need = stack_edges p two in
     let whole = need_behind (take d key) b all (low_front key d ascii) here in
@@ -257,14 +257,14 @@ two_aside k key d (s ∷ siblings) front bytes listed all within ascii h there a
     let some : h.inner ≡ [] → ⊥ = lists_some h.lists h.is_front.0 in
     let a = h.aside.1 in
     let more : a.inner ≡ [] → ⊥ = lists_some a.lists a.some in
-    let here : Leads all (take d key) b =
-    among (take d key) b (subst (λ q. Leads q (take d key) b) (sym h.pairs_are)
+    let here : SomeBegins all (take d key) b =
+    among (take d key) b (subst (λ q. SomeBegins q (take d key) b) (sym h.pairs_are)
     (among_left (with_run (take (suc d) key) h.inner) h.others (take d key) b
-    (subst (λ r. Leads (with_run r h.inner) (take d key) b) (sym (take_one_more key d within)) (leads_run (take d key) b h.inner some)))) in
-    let aside : Leads all (take s.depth key) s.byte =
-    among (take s.depth key) s.byte (subst (λ q. Leads q (take s.depth key) s.byte) (sym h.pairs_are)
+    (subst (λ r. SomeBegins (with_run r h.inner) (take d key) b) (sym (take_one_more key d within)) (leads_run (take d key) b h.inner some)))) in
+    let aside : SomeBegins all (take s.depth key) s.byte =
+    among (take s.depth key) s.byte (subst (λ q. SomeBegins q (take s.depth key) s.byte) (sym h.pairs_are)
     (among_right (with_run (take (suc d) key) h.inner) h.others (take s.depth key) s.byte
-    (subst (λ q. Leads q (take s.depth key) s.byte) (sym a.pairs_are)
+    (subst (λ q. SomeBegins q (take s.depth key) s.byte) (sym a.pairs_are)
     (among_left (with_run (take s.depth key ++ s.byte ∷ []) a.inner) a.others (take s.depth key) s.byte (leads_run (take s.depth key) s.byte a.inner more))))) in
     let level : (s.depth ≡ d → ⊥) → ⊥ = λ ne. there ne in
     elim (eq-or-lt_of_le (let le : s.depth ≤ d = (let g = h.below in omega arith) in le)) [
@@ -272,7 +272,7 @@ two_aside k key d (s ∷ siblings) front bytes listed all within ascii h there a
           let p = behind_all (take d key) all in
           let low_byte = a.low in
           let first = leads_edge all (take d key) b (omega arith) here in
-          let other = leads_edge all (take d key) s.byte (omega arith) (subst (λ j. Leads all (take j key) s.byte) same aside) in
+          let other = leads_edge all (take d key) s.byte (omega arith) (subst (λ j. SomeBegins all (take j key) s.byte) same aside) in
           let up : b < s.byte = subst (λ j. get_or key j 0 < s.byte) same a.above in
           let one = above_edge p b s.byte up other in
           let within_all = above_edges p b first in
@@ -287,12 +287,12 @@ two_before k before key v d siblings front bytes listed all within ascii parts l
     let b = get_or key d 0 in
     let low : b < 128 = ascii d 0 within in
     let some : h.inner ≡ [] → ⊥ = lists_some h.lists h.is_front.0 in
-    let here : Leads all (take d key) b =
-    among (take d key) b (among_right ((before, v) ∷ []) listed (take d key) b (subst (λ q. Leads q (take d key) b) (sym h.pairs_are)
+    let here : SomeBegins all (take d key) b =
+    among (take d key) b (among_right ((before, v) ∷ []) listed (take d key) b (subst (λ q. SomeBegins q (take d key) b) (sym h.pairs_are)
     (among_left (with_run (take (suc d) key) h.inner) h.others (take d key) b
-    (subst (λ r. Leads (with_run r h.inner) (take d key) b) (sym (take_one_more key d within)) (leads_run (take d key) b h.inner some))))) in
+    (subst (λ r. SomeBegins (with_run r h.inner) (take d key) b) (sym (take_one_more key d within)) (leads_run (take d key) b h.inner some))))) in
     let lower = parts.less longer in
-    let other : Leads all (take d key) (get_or before d 0) = subst (λ f. Leads all f (get_or before d 0)) (parts.same d (omega arith)) (among (take d before) (get_or before d 0) (leads_key before d v listed longer)) in
+    let other : SomeBegins all (take d key) (get_or before d 0) = subst (λ f. SomeBegins all f (get_or before d 0)) (parts.same d (omega arith)) (among (take d before) (get_or before d 0) (leads_key before d v listed longer)) in
     let p = behind_all (take d key) all in
     let first = leads_edge all (take d key) b (omega arith) here in
     let second = leads_edge all (take d key) (get_or before d 0) (omega arith) other in
@@ -323,7 +323,7 @@ low_enough before key c p more j h =
 
 -- the text is set aside, and the key before has none yet
 pub set_aside : (k : ℕ) (before key : List ℕ) (c b front : ℕ) (siblings : List Sibling) (bytes : List ℕ) (listed : Pairs) → Parted before key c → c < length before → b ≡ get_or key c 0 → b < 128
-    → length siblings < k → Stands k key (suc c) siblings front bytes listed → Waits k before (record { depth = c; byte = b; len = front } ∷ siblings) 0 bytes listed
+    → length siblings < k → Stands k key (suc c) siblings front bytes listed → ReadyFor k before (record { depth = c; byte = b; len = front } ∷ siblings) 0 bytes listed
 set_aside k before key c b front siblings bytes listed p more is low room h = record {
   text = [];
   rest = bytes;
@@ -361,7 +361,7 @@ set_aside k before key c b front siblings bytes listed p more is low room h = re
 
 -- the key before is a front of the key
 pub goes_on : (k : ℕ) (before key : List ℕ) (c : ℕ) (siblings : List Sibling) (front : ℕ) (bytes : List ℕ) (listed : Pairs) → Parted before key c → c ≡ length before
-    → Stands k key c siblings front bytes listed → Waits k before siblings front bytes listed
+    → Stands k key c siblings front bytes listed → ReadyFor k before siblings front bytes listed
 goes_on k before key c siblings front bytes listed p ends h = record {
   text = h.text;
   rest = h.rest;

@@ -5,7 +5,7 @@ use Rattle.std.proofs.lemmas.Bool.{eq-eqb}
 use Rattle.zerotrie_core.specs.Maps.{Pairs, with_front, with_run, begins_some, edges, residual, behind_all}
 use Rattle.zerotrie_core.specs.Stack.{stack_of}
 use Rattle.zerotrie_core.proofs.CallerLemmas.{residual-append, behind_all-nil, begins_some-append, begins_some-front, begins_behind, some_pair, member, member-edges, above, stack_behind}
-use Rattle.zerotrie_build.specs.konst.Growing.{Leads, AreAmong}
+use Rattle.zerotrie_build.specs.konst.Growing.{SomeBegins, AreAmong}
 use Rattle.zerotrie_build.proofs.Runs.{with_run-push, take_one_more, behind_all-run}
 
 pub with_run-append : (run : List ℕ) (xs ys : Pairs) → with_run run (xs ++ ys) ≡ with_run run xs ++ with_run run ys
@@ -40,25 +40,25 @@ among_right xs ys front b h =
     ∙ or_right (begins_some (behind_all front xs) b) (begins_some (behind_all front ys) b) h
 
 -- a run with a byte behind it leads there
-pub leads_run : (run : List ℕ) (b : ℕ) (pairs : Pairs) → (pairs ≡ [] → ⊥) → Leads (with_run (run ++ b ∷ []) pairs) run b
+pub leads_run : (run : List ℕ) (b : ℕ) (pairs : Pairs) → (pairs ≡ [] → ⊥) → SomeBegins (with_run (run ++ b ∷ []) pairs) run b
 leads_run run b pairs some =
     ap (λ p. begins_some p b) (ap (behind_all run) (with_run-push run b pairs) ∙ behind_all-run run (with_front b pairs))
     ∙ begins_some-front b b pairs some ∙ eq-eqb b b refl
 
 -- a key leads along itself
-pub leads_key : (key : List ℕ) (d v : ℕ) (pairs : Pairs) → d < length key → Leads ((key, v) ∷ pairs) (take d key) (get_or key d 0)
+pub leads_key : (key : List ℕ) (d v : ℕ) (pairs : Pairs) → d < length key → SomeBegins ((key, v) ∷ pairs) (take d key) (get_or key d 0)
 leads_key key d v pairs within = among_left ((key, v) ∷ []) pairs (take d key) (get_or key d 0) (alone key d within)
   where
     here : (b c : ℕ) (k : List ℕ) → c ≡ b → residual b ((c ∷ k, v) ∷ []) ≡ (k, v) ∷ []
     here b c k e = rw (eq-eqb c b e) refl
 
-    alone : (key : List ℕ) (d : ℕ) → d < length key → Leads ((key, v) ∷ []) (take d key) (get_or key d 0)
+    alone : (key : List ℕ) (d : ℕ) → d < length key → SomeBegins ((key, v) ∷ []) (take d key) (get_or key d 0)
     alone [] d h = absurd (let g : d < 0 = h in omega arith)
     alone (x ∷ key) zero h = or_left (eqb x x) false (eq-eqb x x refl)
     alone (x ∷ key) (suc d) h = subst (λ p. begins_some (behind_all (take d key) p) (get_or key d 0) ≡ true) (sym (here x x key refl)) (alone key d (let g : suc d < suc (length key) = h in omega arith))
 
 -- where some key leads there is an edge
-pub leads_edge : (pairs : Pairs) (front : List ℕ) (b : ℕ) → b < 256 → Leads pairs front b → member b (edges (behind_all front pairs)) ≡ true
+pub leads_edge : (pairs : Pairs) (front : List ℕ) (b : ℕ) → b < 256 → SomeBegins pairs front b → member b (edges (behind_all front pairs)) ≡ true
 leads_edge pairs front b low h = member-edges (behind_all front pairs) b low ∙ h
 
 -- how many edges lie beside the path, above it
@@ -81,18 +81,18 @@ beside_within (b ∷ key) zero (suc e) pairs h = omega arith
 beside_within (b ∷ key) (suc d) zero pairs h = absurd (omega arith)
 beside_within (b ∷ key) (suc d) (suc e) pairs h = let r = beside_within key d e (residual b pairs) (omega arith) in omega arith
 
-none_leads : (front : List ℕ) (b : ℕ) → Leads [] front b → ⊥
+none_leads : (front : List ℕ) (b : ℕ) → SomeBegins [] front b → ⊥
 none_leads front b h = let e = ap (λ p. begins_some p b) (behind_all-nil front) in let z : false ≡ true = sym e ∙ h in cc
 
-begins_at : (pairs : Pairs) (b : ℕ) (front : List ℕ) (c : ℕ) → Leads (residual b pairs) front c → begins_some pairs b ≡ true
+begins_at : (pairs : Pairs) (b : ℕ) (front : List ℕ) (c : ℕ) → SomeBegins (residual b pairs) front c → begins_some pairs b ≡ true
 begins_at pairs b front c h = begins_behind pairs b ∙ some (residual b pairs) h
   where
-    some : (p : Pairs) → Leads p front c → some_pair p ≡ true
+    some : (p : Pairs) → SomeBegins p front c → some_pair p ≡ true
     some [] h = absurd (none_leads front c h)
     some (e ∷ p) h = refl
 
 -- what is needed behind a front while the edges beside it wait
-pub need_behind : (front : List ℕ) (c : ℕ) (pairs : Pairs) → ((i d : ℕ) → i < length front → get_or front i d < 128) → Leads pairs front c
+pub need_behind : (front : List ℕ) (c : ℕ) (pairs : Pairs) → ((i d : ℕ) → i < length front → get_or front i d < 128) → SomeBegins pairs front c
     → beside front pairs + stack_of (behind_all front pairs) ≤ stack_of pairs
 need_behind [] c pairs low h = omega arith
 need_behind (b ∷ front) c pairs low h =

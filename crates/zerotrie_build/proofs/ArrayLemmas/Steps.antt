@@ -10,8 +10,8 @@ use Rattle.zerotrie_core.specs.Causes.{ZeroTrieBuildError, CapacityExceeded, Sta
 use Rattle.zerotrie_build.specs.declared.konst.text.Sibling.{Sibling}
 use Rattle.zerotrie_build.specs.declared.konst.text.Text.{Text}
 use Rattle.zerotrie_build.specs.Order.{Before}
-use Rattle.zerotrie_build.specs.konst.Texts.{Counts, EndsIn, Has, Puts, tops, bytes_of, lens_of}
-use Rattle.zerotrie_build.specs.konst.Growing.{NoneAt, AllAt, Waits, Standing, Waiting, Joins, TooWide, IsStuckAt, IsStuckFrom, IsStuckBefore}
+use Rattle.zerotrie_build.specs.konst.Texts.{Counts, EndsIn, Has, PutsBefore, tops, bytes_of, lens_of}
+use Rattle.zerotrie_build.specs.konst.Growing.{NoneAt, AllAt, ReadyFor, Standing, IsReady, Joins, LevelTooWide, RefusedAt, RefusedFrom, RefusedBefore}
 use Rattle.zerotrie_build.proofs.Items.{below_or_from}
 use Rattle.zerotrie_build.proofs.OrderLemmas.Parting.{common}
 use Rattle.zerotrie_build.proofs.ArrayLemmas.Parting.{parted, at_most_front}
@@ -53,7 +53,7 @@ sum_wide t r exact capped large = elim (below_or_from t (2 ^ 64)) [ inl low ↦ 
 -- a branch is made of the siblings behind a place
 pub joins_at : (d : ℕ) (old mid new : Text) (ss branch left : List Sibling) (start : ℕ) → branch ≡ drop start ss → left ≡ take start ss → AllAt d (tops (drop start ss)) → NoneAt d (tops (take start ss))
     → mid.buffer.now ≡ old.buffer.now → mid.len ≡ old.len → mid.front ≡ total (lens_of (tops branch)) → total (lens_of (tops branch)) < 2 ^ 32
-    → Puts mid new (branch_front (bytes_of (tops branch)) (lens_of (tops branch))) → Joins d old new (tops ss) (tops left)
+    → PutsBefore mid new (branch_front (bytes_of (tops branch)) (lens_of (tops branch))) → Joins d old new (tops ss) (tops left)
 joins_at d old mid new ss branch left start is left_is level none written len front narrow p =
     let taken = tops branch in record {
       taken = taken;
@@ -65,7 +65,7 @@ joins_at d old mid new ss branch left start is left_is level none written len fr
       counts = p.counts (total (lens_of taken)) (subst (λ c. Counts c (total (lens_of taken))) (sym front) (record { small = λ l. refl; large = λ l. l }));
     }
 
-pub wide_at : (d : ℕ) (ss branch : List Sibling) (start : ℕ) → branch ≡ drop start ss → AllAt d (tops (drop start ss)) → NoneAt d (tops (take start ss)) → 2 ^ 32 ≤ total (lens_of (tops branch)) → TooWide d (tops ss)
+pub wide_at : (d : ℕ) (ss branch : List Sibling) (start : ℕ) → branch ≡ drop start ss → AllAt d (tops (drop start ss)) → NoneAt d (tops (take start ss)) → 2 ^ 32 ≤ total (lens_of (tops branch)) → LevelTooWide d (tops ss)
 wide_at d ss branch start is level none wide = record {
   taken = tops branch;
   after = tops (take start ss);
@@ -89,14 +89,14 @@ closes_branch k key d old mid new before aside after listed within ascii some ro
 -- their texts are too long together
 pub stuck_wide : (k : ℕ) (key : List ℕ) (d : ℕ) (old : Text) (before aside : List Sibling) (listed : Pairs) (e : ZeroTrieBuildError) → d < length key → All (λ b. b < 128) key
     → (NoneAt d (tops before) → ⊥) → length before < k → tops aside ≡ record { depth = d; byte = get_or key d 0; len = old.front } ∷ tops before
-    → e ≡ CapacityExceeded → TooWide d (tops aside) → Standing k key (suc d) old before listed → IsStuckAt k key d listed e
+    → e ≡ CapacityExceeded → LevelTooWide d (tops aside) → Standing k key (suc d) old before listed → RefusedAt k key d listed e
 stuck_wide k key d old before aside listed e within ascii some room is error t standing =
     let o = opens k key d old.front (tops before) t.taken t.after standing.0 listed within (ascii d 0 within) some (let l = length-reverse before in omega arith) (sym is ∙ t.split) t.level t.no_more standing.2 in
     inl (error, too_wide k key d t.taken t.after standing.0 listed o (omega arith) t.wide)
 
 -- too many siblings wait
 pub stuck_many : (k : ℕ) (key : List ℕ) (d : ℕ) (old : Text) (before : List Sibling) (listed : Pairs) (e : ZeroTrieBuildError) → d < length key → All (λ b. b < 128) key
-    → (NoneAt d (tops before) → ⊥) → k ≤ length before → e ≡ StackExceeded → Standing k key (suc d) old before listed → IsStuckAt k key d listed e
+    → (NoneAt d (tops before) → ⊥) → k ≤ length before → e ≡ StackExceeded → Standing k key (suc d) old before listed → RefusedAt k key d listed e
 stuck_many k key d old before listed e within ascii some full error standing =
     inr (
       error,
@@ -107,7 +107,7 @@ stuck_many k key d old before listed e within ascii some full error standing =
 
 -- a literal is put in front
 pub closes_literal : (k : ℕ) (key : List ℕ) (d : ℕ) (old new : Text) (siblings : List Sibling) (listed : Pairs) → d < length key → All (λ b. b < 128) key → NoneAt d (tops siblings)
-    → Puts old new (get_or key d 0 ∷ []) → Standing k key (suc d) old siblings listed → Standing k key d new siblings listed
+    → PutsBefore old new (get_or key d 0 ∷ []) → Standing k key (suc d) old siblings listed → Standing k key d new siblings listed
 closes_literal k key d old new siblings listed within ascii none p standing = (
   get_or key d 0 ∷ standing.0,
   p.has standing.0 standing.1,
@@ -117,7 +117,7 @@ closes_literal k key d old new siblings listed within ascii none p standing = (
 
 -- the key before is a front of the key
 pub goes_before : (k : ℕ) (before key : List ℕ) (text : Text) (siblings : List Sibling) (listed : Pairs) → Before simple_ascii before key → common before key ≡ length before
-    → Standing k key (common before key) text siblings listed → Waiting k before text siblings listed
+    → Standing k key (common before key) text siblings listed → IsReady k before text siblings listed
 goes_before k before key text siblings listed sorted ends standing = (
   standing.0,
   standing.1,
@@ -128,20 +128,20 @@ goes_before k before key text siblings listed sorted ends standing = (
 pub parts_before : (k : ℕ) (before key : List ℕ) (old new : Text) (siblings aside : List Sibling) (listed : Pairs) → Before simple_ascii before key → All (λ b. b < 128) key → common before key < length before
     → length siblings < k → tops aside ≡ record { depth = common before key; byte = get_or key (common before key) 0; len = old.front } ∷ tops siblings → new.front ≡ 0
     → new.buffer.now ≡ old.buffer.now → new.len ≡ old.len
-    → Standing k key (suc (common before key)) old siblings listed → Waiting k before new aside listed
+    → Standing k key (suc (common before key)) old siblings listed → IsReady k before new aside listed
 parts_before k before key old new siblings aside listed sorted ascii longer room is front written len standing =
     let p = parted before key sorted in
     let c = common before key in
     let w = set_aside k before key c (get_or key c 0) old.front (tops siblings) standing.0 listed p longer refl (ascii c 0 p.room) (let l = length-reverse siblings in omega arith) standing.2 in (
       standing.0,
       has_same old new standing.0 (sym written) (sym len) standing.1,
-      subst (λ ss. Waits k before ss new.front standing.0 listed) (sym is)
-          (subst (λ f. Waits k before (record { depth = c; byte = get_or key c 0; len = old.front } ∷ tops siblings) f standing.0 listed) (sym front) w),
+      subst (λ ss. ReadyFor k before ss new.front standing.0 listed) (sym is)
+          (subst (λ f. ReadyFor k before (record { depth = c; byte = get_or key c 0; len = old.front } ∷ tops siblings) f standing.0 listed) (sym front) w),
     )
 
 -- too many siblings wait for the key before
 pub stuck_before : (k : ℕ) (before key : List ℕ) (text : Text) (siblings : List Sibling) (listed : Pairs) (e : ZeroTrieBuildError) → Before simple_ascii before key → All (λ b. b < 128) key
-    → common before key < length before → k ≤ length siblings → e ≡ StackExceeded → Standing k key (suc (common before key)) text siblings listed → IsStuckBefore k before listed e
+    → common before key < length before → k ≤ length siblings → e ≡ StackExceeded → Standing k key (suc (common before key)) text siblings listed → RefusedBefore k before listed e
 stuck_before k before key text siblings listed e sorted ascii longer full error standing =
     let p = parted before key sorted in
     let c = common before key in
@@ -154,7 +154,7 @@ stuck_before k before key text siblings listed e sorted ascii longer full error 
 
 -- what stops the walk below the key stops it before the key before
 pub stuck_from : (k : ℕ) (before key : List ℕ) (stop : ℕ) (listed : Pairs) (e : ZeroTrieBuildError) → Before simple_ascii before key
-    → ((length before ≡ common before key) × (common before key ≤ stop)) ⊎ (common before key < stop) → IsStuckFrom k key stop listed e → IsStuckBefore k before listed e
+    → ((length before ≡ common before key) × (common before key ≤ stop)) ⊎ (common before key < stop) → RefusedFrom k key stop listed e → RefusedBefore k before listed e
 stuck_from k before key stop listed e sorted where_stopped stuck = elim stuck.3 [
   | inl wide ↦ inl (wide.0, (take stuck.0 key, at_most_front before key stuck.0 sorted (further where_stopped), wide.1))
   | inr many ↦ inr (many.0, λ v all among. many.1 all (λ f b h. among f b (among_right ((before, v) ∷ []) listed f b h)))

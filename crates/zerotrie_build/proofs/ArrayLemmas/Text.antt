@@ -6,7 +6,7 @@ use Rattle.std.proofs.lemmas.List.Sums.{sum_by-cons}
 use Rattle.zerotrie_core.specs.Branches.{total}
 use Rattle.zerotrie_build.specs.declared.konst.text.Sibling.{Sibling}
 use Rattle.zerotrie_build.specs.declared.konst.text.Text.{Text}
-use Rattle.zerotrie_build.specs.konst.Texts.{Counts, Has, Keeps, Puts, tops, bytes_of, lens_of}
+use Rattle.zerotrie_build.specs.konst.Texts.{Counts, Has, Keeps, PutsBefore, tops, bytes_of, lens_of}
 use Rattle.zerotrie_build.proofs.Nodes.{total_more}
 
 -- nothing but the count in front was changed
@@ -21,11 +21,11 @@ keeps_then a b c p q = record {
   before = λ n l. let m = q.more in let r = p.room in q.before n (omega arith) ∙ p.before n (omega arith);
 }
 
-pub puts_nothing : (t : Text) → Puts t t []
+pub puts_nothing : (t : Text) → PutsBefore t t []
 puts_nothing t = record { keeps = keeps_same t t refl refl refl; has = λ behind h. h; counts = λ front h. subst (Counts t.front) (let e : front ≡ 0 + front = omega arith in e) h }
 
 -- bytes in front of others
-pub puts_then : (a b c : Text) (xs ys : List ℕ) → Puts a b ys → Puts b c xs → Puts a c (xs ++ ys)
+pub puts_then : (a b c : Text) (xs ys : List ℕ) → PutsBefore a b ys → PutsBefore b c xs → PutsBefore a c (xs ++ ys)
 puts_then a b c xs ys p q = record {
   keeps = keeps_then a b c p.keeps q.keeps;
   has = λ behind h. subst (Has c) (sym (append_assoc xs ys behind)) (q.has (ys ++ behind) (p.has behind h));
@@ -34,11 +34,11 @@ puts_then a b c xs ys p q = record {
       (q.counts (length ys + front) (p.counts front h));
 }
 
-pub puts_same : (a b : Text) (xs ys : List ℕ) → xs ≡ ys → Puts a b xs → Puts a b ys
-puts_same a b xs ys e = subst (Puts a b) e
+pub puts_same : (a b : Text) (xs ys : List ℕ) → xs ≡ ys → PutsBefore a b xs → PutsBefore a b ys
+puts_same a b xs ys e = subst (PutsBefore a b) e
 
 -- the byte in front of those from a place on
-pub puts_more : (a b c : Text) (xs : List ℕ) (i d : ℕ) → 0 < i → i ≤ length xs → d ≡ get_or xs (i - 1) 0 → Puts a b (drop i xs) → Puts b c (d ∷ []) → Puts a c (drop (i - 1) xs)
+pub puts_more : (a b c : Text) (xs : List ℕ) (i d : ℕ) → 0 < i → i ≤ length xs → d ≡ get_or xs (i - 1) 0 → PutsBefore a b (drop i xs) → PutsBefore b c (d ∷ []) → PutsBefore a c (drop (i - 1) xs)
 puts_more a b c xs i d some within is p q =
     let next : i ≡ (i - 1) + 1 = omega arith in
     puts_same a c (d ∷ drop i xs) (drop (i - 1) xs)

@@ -14,11 +14,11 @@ use Rattle.zerotrie_build.specs.declared.windows.Window.{Window}
 use Rattle.zerotrie_build.specs.declared.windows.Step.TheVariants.{Branch}
 use Rattle.zerotrie_build.specs.declared.measuring.OpenBranch.{OpenBranch}
 use Rattle.zerotrie_build.specs.passes.Windows.{window, edge_of, step_of}
-use Rattle.zerotrie_build.specs.passes.Measured.{Run, Parts, sizes_of, ends_from, slots_of, IsOpen, KeptEach}
+use Rattle.zerotrie_build.specs.passes.Measured.{Passes, TargetWindows, sizes_of, ends_from, slots_of, IsOpen, KeptEach}
 use Rattle.zerotrie_build.specs.passes.Measured.Kept.{kept}
 use Rattle.zerotrie_build.specs.passes.Measured.KeptEach.{none as kept_none}
-use Rattle.zerotrie_build.specs.passes.Walking.{IsPlaced, tos, spare_len, slots_so_far, with_len, IsCounting, Waits, Closing, IsOpened, left_open}
-use Rattle.zerotrie_build.specs.passes.Walking.Waits.{inside}
+use Rattle.zerotrie_build.specs.passes.Walking.{IsPlaced, item_ends, spare_len, slots_so_far, with_len, MeasuresTarget, IsInside, Closing, IsOpened, left_open}
+use Rattle.zerotrie_build.specs.passes.Walking.IsInside.{inside}
 use Rattle.zerotrie_build.proofs.Stacks.{popped}
 use Rattle.zerotrie_build.proofs.Overflow.{same_edges, same_targets_size, exceeds}
 use Rattle.zerotrie_build.proofs.WindowLemmas.NodeRuns.{along}
@@ -35,11 +35,11 @@ so_far_all kind lens below =
 -- What is known when the last target of a branch is measured.
 pub record Last (kind : Kind) (all : Pairs) (f : OpenBranch) (w : Window) (before slots : List ℕ) : Type 0 where
   pub behind : Window
-  pub run : Run kind all w behind f.len
+  pub run : Passes kind all w behind f.len
   pub is : step_of kind all behind ≡ Branch
   pub placed : IsPlaced kind all w
   pub cs : List Window
-  pub parts : Parts all behind cs
+  pub parts : TargetWindows all behind cs
   pub known : Targets kind all behind cs
   pub below : List (List ℕ)
   pub kept : KeptEach kind all cs below
@@ -50,7 +50,7 @@ pub record Last (kind : Kind) (all : Pairs) (f : OpenBranch) (w : Window) (befor
 pub last : {kind : Kind} {all : Pairs} {f : OpenBranch} {fs : List OpenBranch} {slots : List ℕ} {len : ℕ} (i : Inner kind all f fs slots len) (slots' : List ℕ) → AreKeys kind all → slots' ≡ with_len kind f len slots → f.end ≤ f.next + 1 → Last kind all f i.w i.before slots'
 last {kind = kind} {all = all} {f = f} i slots' keys is past = by i.counting.more refl
   where
-    k : IsCounting kind all i.w i.c f i.before i.own
+    k : MeasuresTarget kind all i.w i.c f i.before i.own
     k = i.counting
 
     by : (more : List Window) → k.more ≡ more → Last kind all f i.w i.before slots'
@@ -65,11 +65,11 @@ last {kind = kind} {all = all} {f = f} i slots' keys is past = by i.counting.mor
           is = k.is;
           placed = k.placed;
           cs = cs;
-          parts = subst (λ x. Parts all k.behind (k.done ++ i.c ∷ x)) none k.parts;
+          parts = subst (λ x. TargetWindows all k.behind (k.done ++ i.c ∷ x)) none k.parts;
           known = subst (λ x. Targets kind all k.behind (k.done ++ i.c ∷ x)) none (counted k keys);
           below = k.below ++ i.below ∷ [];
           kept = kept_snoc k.kept i.kept;
-          slots_are = is ∙ inner_slots i ∙ ap (λ x. i.before ++ slots_so_far kind (sizes_of kind all cs) (tos x) (k.below ++ i.below ∷ [])) none
+          slots_are = is ∙ inner_slots i ∙ ap (λ x. i.before ++ slots_so_far kind (sizes_of kind all cs) (item_ends x) (k.below ++ i.below ∷ [])) none
               ∙ ap (λ x. i.before ++ x) (so_far_all kind (sizes_of kind all cs) (k.below ++ i.below ∷ []));
           first = k.first;
           end = omega arith;
@@ -168,20 +168,20 @@ opened_slots kind ends n is = ap (λ m. ends ++ replicate (spare_len kind m) 0) 
     by false plain = rw plain refl
 
 -- a branch is opened
-pub waits_opened : {kind : Kind} {all : Pairs} {w rest c : Window} {fs : List OpenBranch} {slots : List ℕ} {n : ℕ} {branches slots' branches' : _} → Waits kind all w fs slots → IsPlaced kind all w → Run kind all w rest n → step_of kind all rest ≡ Branch
-    → rest.from < rest.to → rest.depth + 1 < 2 ^ 64 → (o : IsOpened kind all rest n c slots branches slots' branches') → Waits kind all c (record { from = rest.from; depth = rest.depth; len = n; first = length slots; next = length slots; end = o.end } ∷ fs) slots'
+pub waits_opened : {kind : Kind} {all : Pairs} {w rest c : Window} {fs : List OpenBranch} {slots : List ℕ} {n : ℕ} {branches slots' branches' : _} → IsInside kind all w fs slots → IsPlaced kind all w → Passes kind all w rest n → step_of kind all rest ≡ Branch
+    → rest.from < rest.to → rest.depth + 1 < 2 ^ 64 → (o : IsOpened kind all rest n c slots branches slots' branches') → IsInside kind all c (record { from = rest.from; depth = rest.depth; len = n; first = length slots; next = length slots; end = o.end } ∷ fs) slots'
 waits_opened {kind = kind} {all = all} {w = w} {rest = rest} {c = c} {fs = fs} {slots = slots} {n = n} {slots' = slots'} waits placed run is some room o = by o.targets refl
   where
-    by : (targets : List Window) → o.targets ≡ targets → Waits kind all c (record { from = rest.from; depth = rest.depth; len = n; first = length slots; next = length slots; end = o.end } ∷ fs) slots'
-    by [] none = absurd (let p = subst (Parts all rest) none o.parts in omega arith)
+    by : (targets : List Window) → o.targets ≡ targets → IsInside kind all c (record { from = rest.from; depth = rest.depth; len = n; first = length slots; next = length slots; end = o.end } ∷ fs) slots'
+    by [] none = absurd (let p = subst (TargetWindows all rest) none o.parts in omega arith)
     by (t ∷ more) e =
-        let p = subst (Parts all rest) e o.parts in
+        let p = subst (TargetWindows all rest) e o.parts in
         let count = ap length e in
         let end = o.end_is in
-        let own : List ℕ = slots_so_far kind [] (tos (t ∷ more)) [] in
-        let slots_are : slots' ≡ slots ++ own = o.slots_are ∙ ap (λ x. slots ++ (tos x ++ replicate (spare_len kind (length x)) 0)) e ∙ ap (λ x. slots ++ x) (opened_slots kind (tos (t ∷ more)) (length (t ∷ more)) (length-map (t ∷ more) (λ c. c.to))) in
+        let own : List ℕ = slots_so_far kind [] (item_ends (t ∷ more)) [] in
+        let slots_are : slots' ≡ slots ++ own = o.slots_are ∙ ap (λ x. slots ++ (item_ends x ++ replicate (spare_len kind (length x)) 0)) e ∙ ap (λ x. slots ++ x) (opened_slots kind (item_ends (t ∷ more)) (length (t ∷ more)) (length-map (t ∷ more) (λ c. c.to))) in
         let same : t ≡ c = rw (p.0 ∙ sym o.from, sym (o.to t more e), p.1 ∙ sym o.depth) refl in
-        let counting : IsCounting kind all w t (record { from = rest.from; depth = rest.depth; len = n; first = length slots; next = length slots; end = o.end }) slots own = record {
+        let counting : MeasuresTarget kind all w t (record { from = rest.from; depth = rest.depth; len = n; first = length slots; next = length slots; end = o.end }) slots own = record {
           placed = placed;
           behind = rest;
           run = run;
@@ -199,8 +199,8 @@ waits_opened {kind = kind} {all = all} {w = w} {rest = rest} {c = c} {fs = fs} {
           end = omega arith;
           own_is = refl;
         } in
-        subst (λ x. Waits kind all x (record { from = rest.from; depth = rest.depth; len = n; first = length slots; next = length slots; end = o.end } ∷ fs) slots') same
-        (subst (Waits kind all t (_ ∷ fs)) (sym slots_are) (inside waits counting))
+        subst (λ x. IsInside kind all x (record { from = rest.from; depth = rest.depth; len = n; first = length slots; next = length slots; end = o.end } ∷ fs) slots') same
+        (subst (IsInside kind all t (_ ∷ fs)) (sym slots_are) (inside waits counting))
 
 -- as many slots as before
 pub with_len_long : (kind : Kind) (f : OpenBranch) (len : ℕ) (slots : List ℕ) → length (with_len kind f len slots) ≡ length slots
@@ -211,41 +211,41 @@ with_len_long kind f len slots = by (is_hashed kind (f.end - f.first)) refl
     by false plain = rw plain (length-set slots f.next len)
 
 -- the slots of a branch that is opened
-pub wide_slots : (kind : Kind) (xs xs' xs'' : List ℕ) (cs : List Window) (first end : ℕ) → xs' ≡ xs ++ tos cs → first ≡ length xs → end ≡ length xs' → is_hashed kind (end - first) ≡ true
-    → xs'' ≡ take (end + (end - first)) xs' ++ replicate (end + (end - first) - length xs') 0 → xs'' ≡ xs ++ (tos cs ++ replicate (spare_len kind (length cs)) 0)
+pub wide_slots : (kind : Kind) (xs xs' xs'' : List ℕ) (cs : List Window) (first end : ℕ) → xs' ≡ xs ++ item_ends cs → first ≡ length xs → end ≡ length xs' → is_hashed kind (end - first) ≡ true
+    → xs'' ≡ take (end + (end - first)) xs' ++ replicate (end + (end - first) - length xs') 0 → xs'' ≡ xs ++ (item_ends cs ++ replicate (spare_len kind (length cs)) 0)
 wide_slots kind xs xs' xs'' cs first end is at till wide filled =
-    let n = ap length is ∙ length-append xs (tos cs) in
+    let n = ap length is ∙ length-append xs (item_ends cs) in
     let m = length-map cs (λ c. c.to) in
     let count : end - first ≡ length cs = omega arith in
     let spare : end + (end - first) - length xs' ≡ spare_len kind (length cs) = (let e : end + (end - first) - length xs' ≡ length cs = omega arith in e ∙ sym (rw (ap (is_hashed kind) (sym count) ∙ wide) refl)) in
     filled ∙ ap (λ x. x ++ replicate (end + (end - first) - length xs') 0) (take_all (end + (end - first)) xs' (omega arith)) ∙ ap (λ k. xs' ++ replicate k 0) spare
-    ∙ ap (λ x. x ++ replicate (spare_len kind (length cs)) 0) is ∙ append_assoc xs (tos cs) (replicate (spare_len kind (length cs)) 0)
+    ∙ ap (λ x. x ++ replicate (spare_len kind (length cs)) 0) is ∙ append_assoc xs (item_ends cs) (replicate (spare_len kind (length cs)) 0)
 
-pub plain_slots : (kind : Kind) (xs xs' : List ℕ) (cs : List Window) (first end : ℕ) → xs' ≡ xs ++ tos cs → first ≡ length xs → end ≡ length xs' → is_hashed kind (end - first) ≡ false
-    → xs' ≡ xs ++ (tos cs ++ replicate (spare_len kind (length cs)) 0)
+pub plain_slots : (kind : Kind) (xs xs' : List ℕ) (cs : List Window) (first end : ℕ) → xs' ≡ xs ++ item_ends cs → first ≡ length xs → end ≡ length xs' → is_hashed kind (end - first) ≡ false
+    → xs' ≡ xs ++ (item_ends cs ++ replicate (spare_len kind (length cs)) 0)
 plain_slots kind xs xs' cs first end is at till plain =
-    let n = ap length is ∙ length-append xs (tos cs) in
+    let n = ap length is ∙ length-append xs (item_ends cs) in
     let m = length-map cs (λ c. c.to) in
     let count : end - first ≡ length cs = omega arith in
     let spare : spare_len kind (length cs) ≡ 0 = rw (ap (is_hashed kind) (sym count) ∙ plain) refl in
-    is ∙ ap (λ x. xs ++ x) (sym (append-nil (tos cs)) ∙ ap (λ k. tos cs ++ replicate k 0) (sym spare))
+    is ∙ ap (λ x. xs ++ x) (sym (append-nil (item_ends cs)) ∙ ap (λ k. item_ends cs ++ replicate k 0) (sym spare))
 
 -- where the items of the first target end
-pub first_to : (slots slots' : List ℕ) (n : ℕ) (cs : List Window) (t : Window) (more : List Window) (rest : List ℕ) → slots' ≡ slots ++ (tos cs ++ rest) → n ≡ length slots → cs ≡ t ∷ more → slice_index slots' n ≡ t.to
-first_to slots slots' n cs t more rest is at e = get_at slots' slots t.to (tos more ++ rest) n (is ∙ ap (λ x. slots ++ (tos x ++ rest)) e) at
+pub first_to : (slots slots' : List ℕ) (n : ℕ) (cs : List Window) (t : Window) (more : List Window) (rest : List ℕ) → slots' ≡ slots ++ (item_ends cs ++ rest) → n ≡ length slots → cs ≡ t ∷ more → slice_index slots' n ≡ t.to
+first_to slots slots' n cs t more rest is at e = get_at slots' slots t.to (item_ends more ++ rest) n (is ∙ ap (λ x. slots ++ (item_ends x ++ rest)) e) at
 
 -- fewer slots are left for what is to be measured, where a branch is opened
 pub opened_less : {kind : Kind} {all : Pairs} {w c : Window} {n : ℕ} {slots slots' : List ℕ} {branches branches' : List OpenBranch} → IsOpened kind all w n c slots branches slots' branches' → w.from < w.to → length slots' < 2 ^ 64
     → 2 * (2 ^ 64 - length slots') + left_open (reverse branches') < 2 * (2 ^ 64 - length slots) + left_open (reverse branches)
 opened_less {kind = kind} {all = all} {w = w} {slots = slots} {branches = branches} {branches' = branches'} o some few =
     let back = ap left_open (popped branches' branches _ o.branches_are) in
-    let a = ap length o.slots_are ∙ length-append slots (tos o.targets ++ replicate (spare_len kind (length o.targets)) 0) in
-    let b = length-append (tos o.targets) (replicate (spare_len kind (length o.targets)) 0) in
+    let a = ap length o.slots_are ∙ length-append slots (item_ends o.targets ++ replicate (spare_len kind (length o.targets)) 0) in
+    let b = length-append (item_ends o.targets) (replicate (spare_len kind (length o.targets)) 0) in
     let m = length-map o.targets (λ c. c.to) in
     let end = o.end_is in
     let one = at_least o.targets o.parts in
     omega arith
   where
-    at_least : (cs : List Window) → Parts all w cs → 1 ≤ length cs
+    at_least : (cs : List Window) → TargetWindows all w cs → 1 ≤ length cs
     at_least [] p = absurd (omega arith)
     at_least (c ∷ cs) p = omega arith

@@ -13,10 +13,10 @@ use Rattle.zerotrie_build.specs.Order.{Ordered, AreKeys, AreValues}
 use Rattle.zerotrie_build.specs.declared.windows.Window.{Window}
 use Rattle.zerotrie_build.specs.declared.windows.Step.TheVariants.{Branch}
 use Rattle.zerotrie_build.specs.passes.Windows.{window, item_of, edge_of, step_of}
-use Rattle.zerotrie_build.specs.passes.Measured.{Run, sizes_of, IsOpen, Kept, KeptEach, IsMeasured}
+use Rattle.zerotrie_build.specs.passes.Measured.{Passes, sizes_of, IsOpen, Kept, KeptEach, IsMeasured}
 use Rattle.zerotrie_build.specs.passes.Measured.Kept.{kept}
 use Rattle.zerotrie_build.specs.passes.Measured.KeptEach.{none as kept_none, more as kept_more}
-use Rattle.zerotrie_build.specs.passes.Measured.Run.{here, value, literal, span}
+use Rattle.zerotrie_build.specs.passes.Measured.Passes.{here, value, literal, span}
 use Rattle.zerotrie_build.proofs.OrderLemmas.Agreeing.{ordered_consistent}
 use Rattle.zerotrie_build.proofs.WindowLemmas.Groups.{grouped, SomeEach, residual_group}
 use Rattle.zerotrie_build.proofs.WindowLemmas.NodeRuns.{step_branch, some_items, along}
@@ -32,7 +32,7 @@ with_value : (kind : Kind) (v : ℕ) (pairs : Pairs) → Narrow kind pairs → N
 with_value kind v pairs narrow [] = narrow_value kind v pairs (narrow [])
 with_value kind v pairs narrow (c ∷ front) = narrow (c ∷ front)
 
-run_narrow : {kind : Kind} {all : Pairs} {w behind : Window} {n : ℕ} → Run kind all w behind n → w.to ≤ length all → AreKeys kind all → Ordered kind (window all w) → Narrow kind (window all behind) → Narrow kind (window all w)
+run_narrow : {kind : Kind} {all : Pairs} {w behind : Window} {n : ℕ} → Passes kind all w behind n → w.to ≤ length all → AreKeys kind all → Ordered kind (window all w) → Narrow kind (window all behind) → Narrow kind (window all w)
 run_narrow here within keys up narrow = narrow
 run_narrow {kind = kind} {all = all} {w = w} (value v is run) within keys up narrow =
     let a = step_value kind all w v within is in

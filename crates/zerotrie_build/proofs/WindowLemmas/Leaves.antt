@@ -11,8 +11,8 @@ use Rattle.zerotrie_core.specs.Maps.{Pairs}
 use Rattle.zerotrie_build.specs.declared.windows.Window.{Window}
 use Rattle.zerotrie_build.specs.declared.windows.Step.TheVariants.{Value, Literal, Span}
 use Rattle.zerotrie_build.specs.passes.Windows.{item_of, byte_of, high_front, short_size, step_of, IsOne, IsRestLen}
-use Rattle.zerotrie_build.specs.passes.Measured.{Run}
-use Rattle.zerotrie_build.specs.passes.Measured.Run.{here, value, literal, span}
+use Rattle.zerotrie_build.specs.passes.Measured.{Passes}
+use Rattle.zerotrie_build.specs.passes.Measured.Passes.{here, value, literal, span}
 use Rattle.zerotrie_build.proofs.WriteLemmas.Puts.{spelled_len}
 use Rattle.zerotrie_build.proofs.WindowLemmas.Steps.{high_most}
 use Rattle.zerotrie_build.proofs.WindowLemmas.NodeRuns.{lone_run}
@@ -66,7 +66,7 @@ size_high b rest high = rw high (let e : 2 + short_size true rest ≡ 1 + (1 + s
 
 -- From a depth on, the text of a window of one item has so many bytes.
 abbrev ShortFrom : Kind → Pairs → Window → ℕ → Type 0
-ShortFrom kind all w d = Run kind all (record w { depth = d }) (record { from = w.to; to = w.to; depth = length (item_of all w.from).0 })
+ShortFrom kind all w d = Passes kind all (record w { depth = d }) (record { from = w.to; to = w.to; depth = length (item_of all w.from).0 })
     (short_size false (drop d (item_of all w.from).0) + length (spelled_as value_form (item_of all w.from).1))
 
 short_past : (kind : Kind) (all : Pairs) (w : Window) (d : ℕ) → w.to ≡ w.from + 1 → d ≡ length (item_of all w.from).0 → ShortFrom kind all w d
@@ -77,9 +77,9 @@ short_past kind all w d one at =
     let next : w.from + 1 ≡ w.to = omega arith in
     let none : short_size false (drop d key) ≡ 0 = ap (short_size false) (drop_all d key (omega arith)) in
     let count : k + 0 ≡ short_size false (drop d key) + k = omega arith in
-    let ends : Run kind all (record { from = w.from + 1; to = w.to; depth = d }) last 0 =
-    subst (λ f. Run kind all (record { from = f; to = w.to; depth = d }) last 0) (sym next) (subst (λ x. Run kind all (record { from = w.to; to = w.to; depth = x }) last 0) (sym at) here) in
-    subst (Run kind all (record w { depth = d }) last) count (value (item_of all w.from).1 (one_value kind all w d one (omega arith)) ends)
+    let ends : Passes kind all (record { from = w.from + 1; to = w.to; depth = d }) last 0 =
+    subst (λ f. Passes kind all (record { from = f; to = w.to; depth = d }) last 0) (sym next) (subst (λ x. Passes kind all (record { from = w.to; to = w.to; depth = x }) last 0) (sym at) here) in
+    subst (Passes kind all (record w { depth = d }) last) count (value (item_of all w.from).1 (one_value kind all w d one (omega arith)) ends)
 
 short_more : (kind : Kind) (all : Pairs) (w : Window) (d : ℕ) → w.to ≡ w.from + 1 → has_spans kind ≡ true → d < length (item_of all w.from).0 → length (item_of all w.from).0 - d < 16
     → ((e : ℕ) → d < e → e ≤ length (item_of all w.from).0 → ShortFrom kind all w e) → ShortFrom kind all w d
@@ -101,12 +101,12 @@ short_more kind all w d one spans less few behind =
           let size = ap (short_size false) cut ∙ size_high b (drop (suc d) key) high.0 ∙ ap (λ x. 1 + short_size true x) (sym cut) in
           let lead = short_span m (omega arith) in
           let count : length (spelled_as span_form m) + m + (short_size false (drop (d + m) key) + k) ≡ short_size false (drop d key) + k = omega arith in
-          subst (Run kind all (record w { depth = d }) last) count (span m (one_high kind all w d b one is high.0 spans) (behind (d + m) (omega arith) (omega arith)))
+          subst (Passes kind all (record w { depth = d }) last) count (span m (one_high kind all w d b one is high.0 spans) (behind (d + m) (omega arith) (omega arith)))
       | inr low ↦
           let deeper : suc d ≡ d + 1 = omega arith in
           let size = ap (short_size false) (cut ∙ ap (λ i. b ∷ drop i key) deeper) ∙ size_low b (drop (d + 1) key) low.0 in
           let count : 1 + (short_size false (drop (d + 1) key) + k) ≡ short_size false (drop d key) + k = omega arith in
-          subst (Run kind all (record w { depth = d }) last) count (literal b (one_low kind all w d b one is low.0) (behind (d + 1) (omega arith) (omega arith)))
+          subst (Passes kind all (record w { depth = d }) last) count (literal b (one_low kind all w d b one is low.0) (behind (d + 1) (omega arith) (omega arith)))
     ]
 
 short_from : (n : ℕ) (kind : Kind) (all : Pairs) (w : Window) (d : ℕ) → w.to ≡ w.from + 1 → has_spans kind ≡ true → d ≤ length (item_of all w.from).0 → length (item_of all w.from).0 - d ≤ n → length (item_of all w.from).0 - d < 16
@@ -119,10 +119,10 @@ short_from (suc n) kind all w d one spans deep fuel few = elim (cases_lt d (leng
 
 -- the one item is all of the window's text
 pub one_run : (kind : Kind) (all : Pairs) (w : Window) (rest : List ℕ) (v n : ℕ) → IsOne all w rest v → IsRestLen kind rest n
-    → Run kind all w (record { from = w.to; to = w.to; depth = w.depth + length rest }) (n + length (spelled_as value_form v))
+    → Passes kind all w (record { from = w.to; to = w.to; depth = w.depth + length rest }) (n + length (spelled_as value_form v))
 one_run kind all w rest v n o (inl low) =
     let behind : Window = record { from = w.to; to = w.to; depth = w.depth + length rest } in
-    subst (λ i. Run kind all w behind (i + length (spelled_as value_form v))) (sym low.1)
+    subst (λ i. Passes kind all w behind (i + length (spelled_as value_form v))) (sym low.1)
     (lone_run kind all w rest v (record { one = o.one; deep = o.deep; rest_is = o.rest_is; value_is = o.value_is; low = low.0 }))
 one_run kind all w rest v n o (inr short) =
     let key = (item_of all w.from).0 in
@@ -132,6 +132,6 @@ one_run kind all w rest v n o (inr short) =
     let end : length key ≡ w.depth + length rest = omega arith in
     let size : short_size false (drop w.depth key) ≡ n = ap (short_size false) (sym o.rest_is) ∙ sym short.2 in
     let run = short_from (length key) kind all w w.depth o.one short.0 deep (omega arith) (omega arith) in
-    subst (λ x. Run kind all w (record { from = w.to; to = w.to; depth = x }) (n + length (spelled_as value_form v))) end
-    (subst (λ x. Run kind all w (record { from = w.to; to = w.to; depth = length key }) (n + length (spelled_as value_form x))) (sym o.value_is)
-    (subst (λ i. Run kind all w (record { from = w.to; to = w.to; depth = length key }) (i + length (spelled_as value_form (item_of all w.from).1))) size run))
+    subst (λ x. Passes kind all w (record { from = w.to; to = w.to; depth = x }) (n + length (spelled_as value_form v))) end
+    (subst (λ x. Passes kind all w (record { from = w.to; to = w.to; depth = length key }) (n + length (spelled_as value_form x))) (sym o.value_is)
+    (subst (λ i. Passes kind all w (record { from = w.to; to = w.to; depth = length key }) (i + length (spelled_as value_form (item_of all w.from).1))) size run))

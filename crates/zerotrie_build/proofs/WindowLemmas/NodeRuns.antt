@@ -15,8 +15,8 @@ use Rattle.zerotrie_build.specs.declared.windows.Window.{Window}
 use Rattle.zerotrie_build.specs.declared.windows.Step.{Step}
 use Rattle.zerotrie_build.specs.declared.windows.Step.TheVariants.{End, Value, Literal, Span, Branch}
 use Rattle.zerotrie_build.specs.passes.Windows.{cut, window, item_of, byte_of, high_front, step_at, step_of, IsLow, IsLone}
-use Rattle.zerotrie_build.specs.passes.Measured.{Run}
-use Rattle.zerotrie_build.specs.passes.Measured.Run.{here, value, literal, span}
+use Rattle.zerotrie_build.specs.passes.Measured.{Passes}
+use Rattle.zerotrie_build.specs.passes.Measured.Passes.{here, value, literal, span}
 use Rattle.zerotrie_build.specs.passes.Walking.{IsBehind}
 use Rattle.zerotrie_build.proofs.Runs.{behind_all-run}
 use Rattle.zerotrie_build.proofs.WindowLemmas.Spans.{literal_byte, step_literal, step_span, span_once}
@@ -171,7 +171,7 @@ pub record Along (kind : Kind) (all : Pairs) (w behind : Window) (n : ℕ) : Typ
 long_run : (run : List ℕ) (n : ℕ) → length run ≡ n → 0 < n → run ≡ [] → ⊥
 long_run run n is some none = let z = ap length none in omega arith
 
-pub along : {kind : Kind} {all : Pairs} {w behind : Window} {n : ℕ} → Run kind all w behind n → w.to ≤ length all → AreKeys kind all → Ordered kind (window all w) → Along kind all w behind n
+pub along : {kind : Kind} {all : Pairs} {w behind : Window} {n : ℕ} → Passes kind all w behind n → w.to ≤ length all → AreKeys kind all → Ordered kind (window all w) → Along kind all w behind n
 along here within keys up = record { to_is = refl; order = λ le. le; ordered = up; size = omega arith; at = λ at. at }
 along {kind = kind} {all = all} {w = w} {behind = behind} (value {n = n} v is run) within keys up =
     let a = step_value kind all w v within is in
@@ -220,7 +220,7 @@ along {kind = kind} {all = all} {w = w} {behind = behind} (span {n = n} m is run
     }
 
 -- a run of 2^64 bytes or more
-pub too_long : {kind : Kind} {all : Pairs} {w behind : Window} {n : ℕ} → Run kind all w behind n → w.to ≤ length all → AreKeys kind all → Ordered kind (window all w) → 2 ^ 64 ≤ n → 2 ^ 64 ≤ size_of kind (window all w)
+pub too_long : {kind : Kind} {all : Pairs} {w behind : Window} {n : ℕ} → Passes kind all w behind n → w.to ≤ length all → AreKeys kind all → Ordered kind (window all w) → 2 ^ 64 ≤ n → 2 ^ 64 ≤ size_of kind (window all w)
 too_long run within keys up large = let size = (along run within keys up).size in omega arith
 
 -- where no node stands first and there are items, a branch does
@@ -240,23 +240,23 @@ literal_low kind all w b within keys e =
 
 -- so many such bytes one after another lead on
 pub literals_run : (n : ℕ) {kind : Kind} {all : Pairs} {w last : Window} {m : ℕ} → w.from < w.to → ((i : ℕ) → w.depth ≤ i → i < w.depth + n → IsLow all w i)
-    → Run kind all (record w { depth = w.depth + n }) last m → Run kind all w last (n + m)
+    → Passes kind all (record w { depth = w.depth + n }) last m → Passes kind all w last (n + m)
 literals_run zero {kind = kind} {all = all} {w = w} {last = last} {m = m} inside low run =
     let here : w.depth + 0 ≡ w.depth = omega arith in
     let count : m ≡ 0 + m = omega arith in
-    subst (Run kind all w last) count (subst (λ d. Run kind all (record w { depth = d }) last m) here run)
+    subst (Passes kind all w last) count (subst (λ d. Passes kind all (record w { depth = d }) last m) here run)
 literals_run (suc n) {kind = kind} {all = all} {w = w} {last = last} {m = m} inside low run =
     let l = low (w.depth + n) (omega arith) (omega arith) in
     let next : w.depth + suc n ≡ w.depth + n + 1 = omega arith in
-    let one = literal l.byte (low_literal kind all w (w.depth + n) inside l) (subst (λ d. Run kind all (record w { depth = d }) last m) next run) in
+    let one = literal l.byte (low_literal kind all w (w.depth + n) inside l) (subst (λ d. Passes kind all (record w { depth = d }) last m) next run) in
     let count : n + (1 + m) ≡ suc n + m = omega arith in
-    subst (Run kind all w last) count (literals_run n inside (λ i from below. low i from (omega arith)) one)
+    subst (Passes kind all w last) count (literals_run n inside (λ i from below. low i from (omega arith)) one)
 
 pub literals_to : {kind : Kind} {all : Pairs} {w last : Window} {m : ℕ} (end : ℕ) → w.from < w.to → w.depth ≤ end → ((i : ℕ) → w.depth ≤ i → i < end → IsLow all w i)
-    → Run kind all (record w { depth = end }) last m → Run kind all w last (end - w.depth + m)
+    → Passes kind all (record w { depth = end }) last m → Passes kind all w last (end - w.depth + m)
 literals_to {kind = kind} {all = all} {w = w} {last = last} {m = m} end inside past low run =
     let there : end ≡ w.depth + (end - w.depth) = omega arith in
-    literals_run (end - w.depth) inside (λ i from below. low i from (omega arith)) (subst (λ d. Run kind all (record w { depth = d }) last m) there run)
+    literals_run (end - w.depth) inside (λ i from below. low i from (omega arith)) (subst (λ d. Passes kind all (record w { depth = d }) last m) there run)
 
 -- the rest of the one key of a window has a byte at each place, and it is ASCII
 pub lone_low : (all : Pairs) (w : Window) (rest : List ℕ) (v : ℕ) → IsLone all w rest v → (i : ℕ) → w.depth ≤ i → i < w.depth + length rest → IsLow all w i
@@ -289,14 +289,14 @@ lone_value kind all w rest v l =
 
 -- so it is all of the window's text
 pub lone_run : (kind : Kind) (all : Pairs) (w : Window) (rest : List ℕ) (v : ℕ) → IsLone all w rest v
-    → Run kind all w (record { from = w.to; to = w.to; depth = w.depth + length rest }) (length rest + length (spelled_as value_form v))
+    → Passes kind all w (record { from = w.to; to = w.to; depth = w.depth + length rest }) (length rest + length (spelled_as value_form v))
 lone_run kind all w rest v l =
     let one = l.one in
     let n = length (spelled_as value_form v) in
     let none : n + 0 ≡ n = omega arith in
-    let last : Run kind all (record w { depth = w.depth + length rest }) (record { from = w.from + 1; to = w.to; depth = w.depth + length rest }) (n + 0) = value v (lone_value kind all w rest v l) here in
-    let ends : Run kind all (record w { depth = w.depth + length rest }) (record { from = w.to; to = w.to; depth = w.depth + length rest }) n =
-    subst (λ f. Run kind all (record w { depth = w.depth + length rest }) (record { from = f; to = w.to; depth = w.depth + length rest }) n) (sym one) (subst (Run kind all _ _) none last) in
+    let last : Passes kind all (record w { depth = w.depth + length rest }) (record { from = w.from + 1; to = w.to; depth = w.depth + length rest }) (n + 0) = value v (lone_value kind all w rest v l) here in
+    let ends : Passes kind all (record w { depth = w.depth + length rest }) (record { from = w.to; to = w.to; depth = w.depth + length rest }) n =
+    subst (λ f. Passes kind all (record w { depth = w.depth + length rest }) (record { from = f; to = w.to; depth = w.depth + length rest }) n) (sym one) (subst (Passes kind all _ _) none last) in
     literals_run (length rest) (omega arith) (lone_low all w rest v l) ends
 
 -- and then there is nothing

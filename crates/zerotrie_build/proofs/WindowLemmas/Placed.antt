@@ -11,7 +11,7 @@ use Rattle.zerotrie_build.specs.Order.{Ordered, AreKeys}
 use Rattle.zerotrie_build.specs.declared.windows.Window.{Window}
 use Rattle.zerotrie_build.specs.declared.windows.Step.TheVariants.{Branch}
 use Rattle.zerotrie_build.specs.passes.Windows.{cut, window, byte_of, edge_of, step_of, IsGroup}
-use Rattle.zerotrie_build.specs.passes.Measured.{Run, Parts, Groups}
+use Rattle.zerotrie_build.specs.passes.Measured.{Passes, TargetWindows, Groups}
 use Rattle.zerotrie_build.specs.passes.Walking.{IsBehind, IsPlaced}
 use Rattle.zerotrie_build.proofs.WindowLemmas.Windows.{cut_append, cut_whole, ordered_front}
 use Rattle.zerotrie_build.proofs.WindowLemmas.NodeRuns.{along, step_branch, behind_byte}
@@ -67,7 +67,7 @@ placed_each kind all w (c ∷ cs) within at a b s = (
 
 -- more windows of the branch that stands first in w
 parts_more : (kind : Kind) (all : Pairs) (w rest : Window) (added cs : List Window) → step_of kind all w ≡ Branch → w.to ≤ length all → Ordered kind (window all w) → rest.depth ≡ w.depth → rest.to ≡ w.to → w.from ≤ rest.from
-    → ((more : List Window) → Groups all w.depth rest.from w.to more → Groups all w.depth w.from w.to (added ++ more)) → Rising kind all rest.from rest.to rest.depth added → Parts all rest cs
+    → ((more : List Window) → Groups all w.depth rest.from w.to more → Groups all w.depth w.from w.to (added ++ more)) → Rising kind all rest.from rest.to rest.depth added → TargetWindows all rest cs
     → Groups all w.depth w.from w.to (added ++ cs) × Rises kind (map (edge_of all) (added ++ cs))
 parts_more kind all w rest added [] branch within up depth to from goes rising p =
     (goes [] (p ∙ to), subst (λ x. Rises kind (map (edge_of all) x)) (sym (append-nil added)) rising.up)
@@ -89,7 +89,7 @@ pub record Targets (kind : Kind) (all : Pairs) (w : Window) (cs : List Window) :
   pub branching : Branching kind all w cs
   pub placed : EachW (IsPlaced kind all) cs
 
-pub targets : (kind : Kind) (all : Pairs) (w behind : Window) (n : ℕ) (cs : List Window) → IsPlaced kind all w → AreKeys kind all → Run kind all w behind n → step_of kind all behind ≡ Branch → Parts all behind cs → Targets kind all behind cs
+pub targets : (kind : Kind) (all : Pairs) (w behind : Window) (n : ℕ) (cs : List Window) → IsPlaced kind all w → AreKeys kind all → Passes kind all w behind n → step_of kind all behind ≡ Branch → TargetWindows all behind cs → Targets kind all behind cs
 targets kind all w behind n cs placed keys run branch parts_are =
     let a = along run placed.within keys placed.ordered in
     let to = a.to_is in

@@ -21,9 +21,9 @@ use Rattle.zerotrie_build.specs.declared.branch_layout.Next.{Next}
 use Rattle.zerotrie_build.specs.declared.branch_layout.Next.TheVariants.{Go}
 use Rattle.zerotrie_build.specs.declared.windows.Step.TheVariants.{End, Branch}
 use Rattle.zerotrie_build.specs.passes.Windows.{window, edge_of, step_of}
-use Rattle.zerotrie_build.specs.passes.Measured.{Stops, IsOpen, Parts, sizes_of}
+use Rattle.zerotrie_build.specs.passes.Measured.{NoneFirst, IsOpen, TargetWindows, sizes_of}
 use Rattle.zerotrie_build.specs.passes.Puts.{Puts}
-use Rattle.zerotrie_build.specs.passes.Writing.{no_window, window_at, edge_no, lens_of, position_at, text_of, placed_next, next_of, Listed, Texts, FrontPut, IsLaid, HasSlots, Leads}
+use Rattle.zerotrie_build.specs.passes.Writing.{no_window, window_at, edge_no, lens_of, position_at, text_of, placed_next, next_of, Listed, Texts, NodesWritten, IsLaid, HasSlots, IsPending}
 use Rattle.zerotrie_build.proofs.OrderLemmas.Sorting.{ordered_distinct}
 use Rattle.zerotrie_build.proofs.WriteLemmas.Puts.{puts_then, count_map}
 use Rattle.zerotrie_build.proofs.WindowLemmas.Windows.{cut_none, step_end}
@@ -125,7 +125,7 @@ branch_slots {kind = kind} {all = all} k g e =
     let n = o.some (ap (step_of kind all) s.0 ∙ e) in
     record {
       windows = k.cs;
-      parts = subst (λ x. Parts all x k.cs) s.0 o.parts;
+      parts = subst (λ x. TargetWindows all x k.cs) s.0 o.parts;
       some = (let t = n.0 in omega arith);
       rises = o.rises;
       lens = sizes_of kind all k.cs;
@@ -138,18 +138,18 @@ branch_slots {kind = kind} {all = all} k g e =
 
 -- what stands behind the values, literals and spans of a window is known, and so are the targets
 branch_same : {kind : Kind} {all : Pairs} {slots : List ℕ} {slot end last : ℕ} {w : Window} {list : List ℕ} {at : ℕ} {list' : List ℕ} {at' : ℕ} {rest : Window} (k : Opened kind all slots slot end w) (other : Opened kind all slots slot last w)
-    → Going kind all w k.known.bytes k.known.behind list at list' at' rest → Stops kind all rest → (other.known.behind ≡ rest) × (other.cs ≡ k.cs)
+    → Going kind all w k.known.bytes k.known.behind list at list' at' rest → NoneFirst kind all rest → (other.known.behind ≡ rest) × (other.cs ≡ k.cs)
 branch_same {all = all} k other g stops =
     let s = on_stop g.run stops in
     let same = behind_same other.known.run other.known.stops k.known.run k.known.stops in
-    (same ∙ s.0, parts_same all k.known.behind other.cs k.cs (subst (λ x. Parts all x other.cs) same other.known.parts) k.known.parts)
+    (same ∙ s.0, parts_same all k.known.behind other.cs k.cs (subst (λ x. TargetWindows all x other.cs) same other.known.parts) k.known.parts)
 
 -- the windows that were found are those of the targets
 pub branch_windows : {kind : Kind} {all : Pairs} {slots : List ℕ} {slot end : ℕ} {w : Window} {list : List ℕ} {at : ℕ} {list' : List ℕ} {at' : ℕ} {rest : Window} (k : Opened kind all slots slot end w)
-    → Going kind all w k.known.bytes k.known.behind list at list' at' rest → step_of kind all rest ≡ Branch → {table numbers : List ℕ} (ws : List Window) → Parts all rest ws
+    → Going kind all w k.known.bytes k.known.behind list at list' at' rest → step_of kind all rest ≡ Branch → {table numbers : List ℕ} (ws : List Window) → TargetWindows all rest ws
     → IsLaid kind (edge_no all ws) (length ws) table numbers → (ws ≡ k.cs) × IsLaid kind (edge_no all k.cs) (length k.cs) table numbers
 branch_windows {kind = kind} {all = all} {rest = rest} k g e {table = table} {numbers = numbers} ws parts laid =
-    let same = parts_same all rest ws k.cs parts (subst (λ x. Parts all x k.cs) (on_stop g.run (inr e)).0 k.known.parts) in
+    let same = parts_same all rest ws k.cs parts (subst (λ x. TargetWindows all x k.cs) (on_stop g.run (inr e)).0 k.known.parts) in
     (same, subst (λ x. IsLaid kind (edge_no all x) (length x) table numbers) same laid)
 
 branch_two : {kind : Kind} {all : Pairs} {slots : List ℕ} {slot end : ℕ} {w : Window} {list : List ℕ} {at : ℕ} {list' : List ℕ} {at' : ℕ} {rest : Window} (k : Opened kind all slots slot end w)
@@ -230,17 +230,17 @@ next_count kind slots slot cs numbers two many = counted (is_hashed kind (length
 
 leads_at : {kind : Kind} {all : Pairs} {slots : List ℕ} {slot end : ℕ} {w : Window} (k : Opened kind all slots slot end w) (cs : List Window) (numbers : List ℕ) → k.cs ≡ cs → 0 < length cs
     → AllByRecursion (λ j. j < length cs) numbers → (is_hashed kind (length cs) ≡ false → map (window_at cs) numbers ≡ cs)
-    → (next : List Next) (ws : List Window) → Leads kind all slots (position_at w.to end) next ws → (at : Position) → Leads kind all slots at (next_of kind slots slot cs numbers ++ next) (map (window_at cs) numbers ++ ws)
+    → (next : List Next) (ws : List Window) → IsPending kind all slots (position_at w.to end) next ws → (at : Position) → IsPending kind all slots at (next_of kind slots slot cs numbers ++ next) (map (window_at cs) numbers ++ ws)
 leads_at {kind = kind} {all = all} {slots = slots} {slot = slot} {end = end} {w = w} k cs numbers same =
     subst (λ x. 0 < length x → AllByRecursion (λ j. j < length x) numbers → (is_hashed kind (length x) ≡ false → map (window_at x) numbers ≡ x)
-    → (next : List Next) (ws : List Window) → Leads kind all slots (position_at w.to end) next ws → (at : Position) → Leads kind all slots at (next_of kind slots slot x numbers ++ next) (map (window_at x) numbers ++ ws))
+    → (next : List Next) (ws : List Window) → IsPending kind all slots (position_at w.to end) next ws → (at : Position) → IsPending kind all slots at (next_of kind slots slot x numbers ++ next) (map (window_at x) numbers ++ ws))
     same (next_leads k numbers)
 
 -- a branch was written
 pub front_branch : {kind : Kind} {all : Pairs} {slots : List ℕ} {slot end : ℕ} {w : Window} {list : List ℕ} {at : ℕ} {list' : List ℕ} {at' : ℕ} {rest : Window} {table numbers : List ℕ} (list'' : List ℕ) (at'' : ℕ) (k : Opened kind all slots slot end w)
     → Going kind all w k.known.bytes k.known.behind list at list' at' rest → step_of kind all rest ≡ Branch → IsLaid kind (edge_no all k.cs) (length k.cs) table numbers
     → (tb ls ns : List ℕ) → tb ≡ table → ls ≡ sizes_of kind all k.cs → ns ≡ numbers → Puts list' at' list'' at'' (branch_front tb (lens_of ls ns))
-    → (next : List Next) → next ≡ next_of kind slots slot k.cs numbers → FrontPut kind all slots slot w next list at list'' at''
+    → (next : List Next) → next ≡ next_of kind slots slot k.cs numbers → NodesWritten kind all slots slot w next list at list'' at''
 front_branch {kind = kind} {all = all} {slots = slots} {slot = slot} {end = end} {w = w} {list = list} {at = at} {list' = list'} {at' = at'} {rest = rest} {table = table} {numbers = numbers} list'' at'' k g e laid tb ls ns tb_is ls_is ns_is p next next_is =
     let o = k.known in
     let cs = k.cs in
@@ -266,18 +266,18 @@ front_branch {kind = kind} {all = all} {slots = slots} {slot = slot} {end = end}
           (g.lists (front ++ concat texts) (subst (λ x. Listed kind (front ++ concat texts) (window all x)) s.0 (branch_text o texts b (omega arith) two h)));
       leads = λ last more ws kept then.
           (let other = opened kept in
-          subst (λ x. Leads kind all slots (position_at w.to slot) (x ++ more) (vs ++ ws)) (sym next_is)
+          subst (λ x. IsPending kind all slots (position_at w.to slot) (x ++ more) (vs ++ ws)) (sym next_is)
           (leads_at other cs numbers (branch_same k other g (inr e)).1 (let t = n.0 in omega arith) b.within
           (λ h. ap (map (window_at cs)) (laid.in_order h) ∙ named (λ (x : Window). x) cs no_window ∙ map_same cs) more ws then (position_at w.to slot)));
     }
 
 -- no branch was there to write
 pub front_end : {kind : Kind} {all : Pairs} {slots : List ℕ} {slot end : ℕ} {w : Window} {list : List ℕ} {at : ℕ} {list' : List ℕ} {at' : ℕ} {rest : Window} (k : Opened kind all slots slot end w)
-    → Going kind all w k.known.bytes k.known.behind list at list' at' rest → step_of kind all rest ≡ End → (next : List Next) → next ≡ [] → FrontPut kind all slots slot w next list at list' at'
+    → Going kind all w k.known.bytes k.known.behind list at list' at' rest → step_of kind all rest ≡ End → (next : List Next) → next ≡ [] → NodesWritten kind all slots slot w next list at list' at'
 front_end {kind = kind} {all = all} {slots = slots} {slot = slot} {w = w} {list = list} {at = at} {list' = list'} {at' = at'} {rest = rest} k g e next none =
     let s = on_stop g.run (inl e) in
     let n = k.known.none (ap (step_of kind all) s.0 ∙ e) in
-    subst (λ x. FrontPut kind all slots slot w x list at list' at') (sym none) (record {
+    subst (λ x. NodesWritten kind all slots slot w x list at list' at') (sym none) (record {
       targets = [];
       front = g.done;
       puts = g.puts;
@@ -286,7 +286,7 @@ front_end {kind = kind} {all = all} {slots = slots} {slot = slot} {w = w} {list 
       lists = λ texts h. whole texts h;
       leads = λ last more ws kept then.
           (let other = opened kept in
-          subst (λ x. Leads kind all slots (position_at w.to x) more ws) (none_ends other ((branch_same k other g (inl e)).1 ∙ n.0)) then);
+          subst (λ x. IsPending kind all slots (position_at w.to x) more ws) (none_ends other ((branch_same k other g (inl e)).1 ∙ n.0)) then);
     })
   where
     whole : (texts : List (List ℕ)) → Texts kind all [] texts → Listed kind (g.done ++ concat texts) (window all w)
@@ -302,13 +302,13 @@ hashed_order extended_capacity n es h = refl
 -- why a branch was refused
 pub branch_refused : {kind : Kind} {all : Pairs} {slots : List ℕ} {slot end : ℕ} {w : Window} {list : List ℕ} {at : ℕ} {list' : List ℕ} {at' : ℕ} {rest : Window} (err : ZeroTrieBuildError) (k : Opened kind all slots slot end w)
     → Ordered kind all → Going kind all w k.known.bytes k.known.behind list at list' at' rest → step_of kind all rest ≡ Branch
-    → (err ≢ OutOfMemory → (err ≡ CouldNotSolvePerfectHash) × ((cs : List Window) → Parts all rest cs → AreCrooked kind (map (edge_of all) cs)))
+    → (err ≢ OutOfMemory → (err ≡ CouldNotSolvePerfectHash) × ((cs : List Window) → TargetWindows all rest cs → AreCrooked kind (map (edge_of all) cs)))
     → err ≢ OutOfMemory → (err ≡ CouldNotSolvePerfectHash) × Cause kind all err
 branch_refused {kind = kind} {all = all} err k up g e why some =
     let r = why some in
     let o = k.known in
     let es = map (edge_of all) k.cs in
-    let crooked : AreCrooked kind es = r.1 k.cs (subst (λ x. Parts all x k.cs) (on_stop g.run (inr e)).0 o.parts) in
+    let crooked : AreCrooked kind es = r.1 k.cs (subst (λ x. TargetWindows all x k.cs) (on_stop g.run (inr e)).0 o.parts) in
     let behind = behind_all o.front all in
     let are : es ≡ edges (behind_all o.front (entries (map_of all))) =
     sym o.edges_are ∙ hashed_order kind (length es) (edges behind) crooked.0

@@ -10,8 +10,8 @@ use Rattle.zerotrie_build.specs.Order.{Ordered, AreKeys}
 use Rattle.zerotrie_build.specs.declared.windows.Window.{Window}
 use Rattle.zerotrie_build.specs.declared.windows.Step.TheVariants.{Value, Literal, Span}
 use Rattle.zerotrie_build.specs.passes.Windows.{cut, window, item_of, high_front, step_of, IsLow, IsLone}
-use Rattle.zerotrie_build.specs.passes.Measured.{Run, Stops, IsOpen}
-use Rattle.zerotrie_build.specs.passes.Measured.Run.{here, value as run_value, literal as run_literal, span as run_span}
+use Rattle.zerotrie_build.specs.passes.Measured.{Passes, NoneFirst, IsOpen}
+use Rattle.zerotrie_build.specs.passes.Measured.Passes.{here, value as run_value, literal as run_literal, span as run_span}
 use Rattle.zerotrie_build.specs.passes.Puts.{Puts}
 use Rattle.zerotrie_build.specs.passes.Writing.{Listed}
 use Rattle.zerotrie_build.proofs.WriteLemmas.Puts.{puts_nothing, puts_then}
@@ -26,7 +26,7 @@ pub record Going (kind : Kind) (all : Pairs) (w : Window) (bytes : ℕ) (behind 
   pub left : ℕ
   pub puts : Puts list at list' at' done
   pub sized : length done + left ≡ bytes
-  pub run : Run kind all rest behind left
+  pub run : Passes kind all rest behind left
   pub lists : (t : List ℕ) → Listed kind t (window all rest) → Listed kind (done ++ t) (window all w)
   pub ordered : Ordered kind (window all rest)
   pub to_is : rest.to ≡ w.to
@@ -46,34 +46,34 @@ going_start list at o = record {
 -- where the run goes on
 pub record OnValue (kind : Kind) (all : Pairs) (w behind : Window) (v left : ℕ) : Type 0 where
   pub less : ℕ
-  pub run : Run kind all (record w { from = w.from + 1 }) behind less
+  pub run : Passes kind all (record w { from = w.from + 1 }) behind less
   pub is : left ≡ length (spelled_as value_form v) + less
 
 pub record OnLiteral (kind : Kind) (all : Pairs) (w behind : Window) (left : ℕ) : Type 0 where
   pub less : ℕ
-  pub run : Run kind all (record w { depth = w.depth + 1 }) behind less
+  pub run : Passes kind all (record w { depth = w.depth + 1 }) behind less
   pub is : left ≡ 1 + less
 
 pub record OnSpan (kind : Kind) (all : Pairs) (w behind : Window) (n left : ℕ) : Type 0 where
   pub less : ℕ
-  pub run : Run kind all (record w { depth = w.depth + n }) behind less
+  pub run : Passes kind all (record w { depth = w.depth + n }) behind less
   pub is : left ≡ length (spelled_as span_form n) + n + less
 
-on_value : {kind : Kind} {all : Pairs} {w behind : Window} {left : ℕ} → Run kind all w behind left → Stops kind all behind → (v : ℕ) → step_of kind all w ≡ Value v → OnValue kind all w behind v left
+on_value : {kind : Kind} {all : Pairs} {w behind : Window} {left : ℕ} → Passes kind all w behind left → NoneFirst kind all behind → (v : ℕ) → step_of kind all w ≡ Value v → OnValue kind all w behind v left
 on_value here (inl s) v e = absurd (cc)
 on_value here (inr s) v e = absurd (cc)
 on_value (run_value {n = n} u f run) s v e = let same : u ≡ v = cc in record { less = n; run = run; is = ap (λ x. length (spelled_as value_form x) + n) same }
 on_value (run_literal b f run) s v e = absurd (cc)
 on_value (run_span m f run) s v e = absurd (cc)
 
-on_literal : {kind : Kind} {all : Pairs} {w behind : Window} {left : ℕ} → Run kind all w behind left → Stops kind all behind → (b : ℕ) → step_of kind all w ≡ Literal b → OnLiteral kind all w behind left
+on_literal : {kind : Kind} {all : Pairs} {w behind : Window} {left : ℕ} → Passes kind all w behind left → NoneFirst kind all behind → (b : ℕ) → step_of kind all w ≡ Literal b → OnLiteral kind all w behind left
 on_literal here (inl s) b e = absurd (cc)
 on_literal here (inr s) b e = absurd (cc)
 on_literal (run_value v f run) s b e = absurd (cc)
 on_literal (run_literal {n = n} c f run) s b e = record { less = n; run = run; is = refl }
 on_literal (run_span m f run) s b e = absurd (cc)
 
-on_span : {kind : Kind} {all : Pairs} {w behind : Window} {left : ℕ} → Run kind all w behind left → Stops kind all behind → (n : ℕ) → step_of kind all w ≡ Span n → OnSpan kind all w behind n left
+on_span : {kind : Kind} {all : Pairs} {w behind : Window} {left : ℕ} → Passes kind all w behind left → NoneFirst kind all behind → (n : ℕ) → step_of kind all w ≡ Span n → OnSpan kind all w behind n left
 on_span here (inl s) n e = absurd (cc)
 on_span here (inr s) n e = absurd (cc)
 on_span (run_value v f run) s n e = absurd (cc)
@@ -81,11 +81,11 @@ on_span (run_literal c f run) s n e = absurd (cc)
 on_span {kind = kind} {all = all} {w = w} {behind = behind} (run_span {n = k} m f run) s n e =
     let same : m ≡ n = cc in record {
       less = k;
-      run = subst (λ x. Run kind all (record w { depth = w.depth + x }) behind k) same run;
+      run = subst (λ x. Passes kind all (record w { depth = w.depth + x }) behind k) same run;
       is = ap (λ x. length (spelled_as span_form x) + x + k) same;
     }
 
-pub on_stop : {kind : Kind} {all : Pairs} {w behind : Window} {left : ℕ} → Run kind all w behind left → Stops kind all w → (behind ≡ w) × (left ≡ 0)
+pub on_stop : {kind : Kind} {all : Pairs} {w behind : Window} {left : ℕ} → Passes kind all w behind left → NoneFirst kind all w → (behind ≡ w) × (left ≡ 0)
 on_stop here s = (refl, refl)
 on_stop (run_value v f run) (inl s) = absurd (cc)
 on_stop (run_value v f run) (inr s) = absurd (cc)
@@ -95,7 +95,7 @@ on_stop (run_span m f run) (inl s) = absurd (cc)
 on_stop (run_span m f run) (inr s) = absurd (cc)
 
 -- the window behind the run is known
-pub behind_same : {kind : Kind} {all : Pairs} {w behind last : Window} {m n : ℕ} → Run kind all w behind m → Stops kind all behind → Run kind all w last n → Stops kind all last → behind ≡ last
+pub behind_same : {kind : Kind} {all : Pairs} {w behind last : Window} {m n : ℕ} → Passes kind all w behind m → NoneFirst kind all behind → Passes kind all w last n → NoneFirst kind all last → behind ≡ last
 behind_same here s run stops = sym (on_stop run s).0
 behind_same (run_value v f r) s run stops = behind_same r s (on_value run stops v f).run stops
 behind_same (run_literal b f r) s run stops = behind_same r s (on_literal run stops b f).run stops
@@ -108,7 +108,7 @@ exact_none kind (([], v) ∷ pairs) h = absurd (cc)
 exact_none kind ((b ∷ key, v) ∷ pairs) h = exact_none kind pairs h
 
 pub going_value : {kind : Kind} {all : Pairs} {w behind : Window} {bytes : ℕ} {list : List ℕ} {at : ℕ} {list' : List ℕ} {at' : ℕ} {rest : Window} (list'' : List ℕ) (at'' : ℕ) (v : ℕ)
-    → Going kind all w bytes behind list at list' at' rest → Stops kind all behind → w.to ≤ length all → step_of kind all rest ≡ Value v → SpellsAs value_form v (spelled_as value_form v)
+    → Going kind all w bytes behind list at list' at' rest → NoneFirst kind all behind → w.to ≤ length all → step_of kind all rest ≡ Value v → SpellsAs value_form v (spelled_as value_form v)
     → Puts list' at' list'' at'' (spelled_as value_form v) → Going kind all w bytes behind list at list'' at'' (record rest { from = rest.from + 1 })
 going_value {kind = kind} {all = all} {w = w} {rest = rest} list'' at'' v g stops within e s p =
     let o = on_value g.run stops v e in
@@ -138,17 +138,17 @@ window_some all w h within = cut_some all w.from w.to w.depth h within
 -- so many literals that stand first in a window
 record Literals (kind : Kind) (all : Pairs) (w behind : Window) (n left : ℕ) : Type 0 where
   less : ℕ
-  run : Run kind all (record w { depth = w.depth + n }) behind less
+  run : Passes kind all (record w { depth = w.depth + n }) behind less
   is : left ≡ n + less
   ordered : Ordered kind (window all (record w { depth = w.depth + n }))
   lists : (t : List ℕ) → Listed kind t (window all (record w { depth = w.depth + n })) → Listed kind (take n (drop w.depth (item_of all w.from).0) ++ t) (window all w)
 
-literals : (n : ℕ) (kind : Kind) (all : Pairs) (w behind : Window) (left : ℕ) → Run kind all w behind left → Stops kind all behind → w.from < w.to → w.to ≤ length all → AreKeys kind all → Ordered kind (window all w)
+literals : (n : ℕ) (kind : Kind) (all : Pairs) (w behind : Window) (left : ℕ) → Passes kind all w behind left → NoneFirst kind all behind → w.from < w.to → w.to ≤ length all → AreKeys kind all → Ordered kind (window all w)
     → ((i : ℕ) → w.depth ≤ i → i < w.depth + n → IsLow all w i) → Literals kind all w behind n left
 literals zero kind all w behind left run stops inside within keys up low =
     let here : w.depth ≡ w.depth + 0 = omega arith in record {
       less = left;
-      run = subst (λ d. Run kind all (record w { depth = d }) behind left) here run;
+      run = subst (λ d. Passes kind all (record w { depth = d }) behind left) here run;
       is = omega arith;
       ordered = subst (λ d. Ordered kind (window all (record w { depth = d }))) here up;
       lists = λ t l. subst (λ d. Listed kind t (window all (record w { depth = d }))) (sym here) l;
@@ -167,7 +167,7 @@ literals (suc n) kind all w behind left run stops inside within keys up low =
     let cut : drop w.depth key ≡ b ∷ drop (w.depth + 1) key = key_cut key w.depth b l.first ∙ ap (λ d. b ∷ drop d key) deep in
     record {
       less = more.less;
-      run = subst (λ d. Run kind all (record w { depth = d }) behind more.less) there more.run;
+      run = subst (λ d. Passes kind all (record w { depth = d }) behind more.less) there more.run;
       is = (let a = o.is in let c = more.is in omega arith);
       ordered = subst (λ d. Ordered kind (window all (record w { depth = d }))) there more.ordered;
       lists = λ t k.
@@ -177,7 +177,7 @@ literals (suc n) kind all w behind left run stops inside within keys up low =
     }
 
 pub going_literals : {kind : Kind} {all : Pairs} {w behind : Window} {bytes : ℕ} {list : List ℕ} {at : ℕ} {list' : List ℕ} {at' : ℕ} {rest : Window} (list'' : List ℕ) (at'' b end : ℕ)
-    → Going kind all w bytes behind list at list' at' rest → Stops kind all behind → w.to ≤ length all → AreKeys kind all → step_of kind all rest ≡ Literal b
+    → Going kind all w bytes behind list at list' at' rest → NoneFirst kind all behind → w.to ≤ length all → AreKeys kind all → step_of kind all rest ≡ Literal b
     → rest.depth < end → ((i : ℕ) → rest.depth ≤ i → i < end → IsLow all rest i) → end ≤ length (item_of all rest.from).0
     → Puts list' at' list'' at'' (take (end - rest.depth) (drop rest.depth (item_of all rest.from).0)) → Going kind all w bytes behind list at list'' at'' (record rest { depth = end })
 going_literals {kind = kind} {all = all} {w = w} {behind = behind} {rest = rest} list'' at'' b end g stops within keys e past low ends p =
@@ -193,7 +193,7 @@ going_literals {kind = kind} {all = all} {w = w} {behind = behind} {rest = rest}
       left = o.less;
       puts = puts_then _ _ _ _ _ _ _ _ g.puts p;
       sized = (let a = length-append g.done run in let c = g.sized in let d = o.is in omega arith);
-      run = subst (λ d. Run kind all (record rest { depth = d }) behind o.less) there o.run;
+      run = subst (λ d. Passes kind all (record rest { depth = d }) behind o.less) there o.run;
       lists = λ t l. subst (λ x. Listed kind x (window all w)) (sym (append_assoc g.done run t))
           (g.lists (run ++ t) (o.lists t (subst (λ d. Listed kind t (window all (record rest { depth = d }))) (sym there) l)));
       ordered = subst (λ d. Ordered kind (window all (record rest { depth = d }))) there o.ordered;
@@ -202,7 +202,7 @@ going_literals {kind = kind} {all = all} {w = w} {behind = behind} {rest = rest}
 
 -- all that is left of a window
 pub going_lone : {kind : Kind} {all : Pairs} {w behind : Window} {bytes : ℕ} {list : List ℕ} {at : ℕ} {list' : List ℕ} {at' : ℕ} {rest : Window} (list'' : List ℕ) (at'' : ℕ) (key : List ℕ) (v : ℕ)
-    → Going kind all w bytes behind list at list' at' rest → Stops kind all behind → w.to ≤ length all → AreKeys kind all → IsLone all rest key v → SpellsAs value_form v (spelled_as value_form v)
+    → Going kind all w bytes behind list at list' at' rest → NoneFirst kind all behind → w.to ≤ length all → AreKeys kind all → IsLone all rest key v → SpellsAs value_form v (spelled_as value_form v)
     → Puts list' at' list'' at'' (key ++ spelled_as value_form v) → Going kind all w bytes behind list at list'' at'' (record { from = rest.from + 1; to = rest.to; depth = rest.depth + length key })
 going_lone {kind = kind} {all = all} {w = w} {behind = behind} {rest = rest} list'' at'' key v g stops within keys lone s p =
     let to_is = g.to_is in
@@ -234,7 +234,7 @@ run_some : (n : ℕ) (run : List ℕ) → 0 < n → length run ≡ n → run ≡
 run_some n run some long none = let l = ap length none in omega arith
 
 pub going_span : {kind : Kind} {all : Pairs} {w behind : Window} {bytes : ℕ} {list : List ℕ} {at : ℕ} {list' : List ℕ} {at' : ℕ} {rest : Window} (list'' : List ℕ) (at'' : ℕ) (n : ℕ)
-    → Going kind all w bytes behind list at list' at' rest → Stops kind all behind → w.to ≤ length all → AreKeys kind all → step_of kind all rest ≡ Span n → SpellsAs span_form n (spelled_as span_form n)
+    → Going kind all w bytes behind list at list' at' rest → NoneFirst kind all behind → w.to ≤ length all → AreKeys kind all → step_of kind all rest ≡ Span n → SpellsAs span_form n (spelled_as span_form n)
     → Puts list' at' list'' at'' (spelled_as span_form n ++ take n (drop rest.depth (item_of all rest.from).0)) → Going kind all w bytes behind list at list'' at'' (record rest { depth = rest.depth + n })
 going_span {kind = kind} {all = all} {w = w} {rest = rest} list'' at'' n g stops within keys e s p =
     let o = on_span g.run stops n e in
@@ -269,11 +269,11 @@ open_bytes o = elim o.stops [
 ]
 
 pub room_value : {kind : Kind} {all : Pairs} {w behind : Window} {bytes : ℕ} {list : List ℕ} {at : ℕ} {list' : List ℕ} {at' : ℕ} {rest : Window} (v len : ℕ)
-    → Going kind all w bytes behind list at list' at' rest → Stops kind all behind → step_of kind all rest ≡ Value v → bytes ≤ len → at + len ≤ length list → at' + length (spelled_as value_form v) ≤ length list'
+    → Going kind all w bytes behind list at list' at' rest → NoneFirst kind all behind → step_of kind all rest ≡ Value v → bytes ≤ len → at + len ≤ length list → at' + length (spelled_as value_form v) ≤ length list'
 room_value v len g s e b r = let o = on_value g.run s v e in let a = g.puts.at_is in let l = g.puts.same in let z = g.sized in let i = o.is in omega arith
 
 pub room_literals : {kind : Kind} {all : Pairs} {w behind : Window} {bytes : ℕ} {list : List ℕ} {at : ℕ} {list' : List ℕ} {at' : ℕ} {rest : Window} (b end len : ℕ)
-    → Going kind all w bytes behind list at list' at' rest → Stops kind all behind → w.to ≤ length all → AreKeys kind all → step_of kind all rest ≡ Literal b
+    → Going kind all w bytes behind list at list' at' rest → NoneFirst kind all behind → w.to ≤ length all → AreKeys kind all → step_of kind all rest ≡ Literal b
     → rest.depth < end → ((i : ℕ) → rest.depth ≤ i → i < end → IsLow all rest i) → bytes ≤ len → at + len ≤ length list → at' + (end - rest.depth) ≤ length list'
 room_literals {kind = kind} {all = all} {behind = behind} {rest = rest} b end len g stops within keys e past low h r =
     let to_is = g.to_is in
@@ -282,7 +282,7 @@ room_literals {kind = kind} {all = all} {behind = behind} {rest = rest} b end le
     let a = g.puts.at_is in let l = g.puts.same in let z = g.sized in let i = o.is in omega arith
 
 pub room_lone : {kind : Kind} {all : Pairs} {w behind : Window} {bytes : ℕ} {list : List ℕ} {at : ℕ} {list' : List ℕ} {at' : ℕ} {rest : Window} (key : List ℕ) (v len : ℕ)
-    → Going kind all w bytes behind list at list' at' rest → Stops kind all behind → w.to ≤ length all → AreKeys kind all → IsLone all rest key v → bytes ≤ len → at + len ≤ length list
+    → Going kind all w bytes behind list at list' at' rest → NoneFirst kind all behind → w.to ≤ length all → AreKeys kind all → IsLone all rest key v → bytes ≤ len → at + len ≤ length list
     → at' + (length key + length (spelled_as value_form v)) ≤ length list'
 room_lone {kind = kind} {all = all} {behind = behind} {rest = rest} key v len g stops within keys lone h r =
     let to_is = g.to_is in
@@ -292,7 +292,7 @@ room_lone {kind = kind} {all = all} {behind = behind} {rest = rest} key v len g 
     let a = g.puts.at_is in let l = g.puts.same in let z = g.sized in let i = o.is in let j = last.is in omega arith
 
 pub room_span : {kind : Kind} {all : Pairs} {w behind : Window} {bytes : ℕ} {list : List ℕ} {at : ℕ} {list' : List ℕ} {at' : ℕ} {rest : Window} (n len : ℕ)
-    → Going kind all w bytes behind list at list' at' rest → Stops kind all behind → step_of kind all rest ≡ Span n → bytes ≤ len → at + len ≤ length list → at' + (length (spelled_as span_form n) + n) ≤ length list'
+    → Going kind all w bytes behind list at list' at' rest → NoneFirst kind all behind → step_of kind all rest ≡ Span n → bytes ≤ len → at + len ≤ length list → at' + (length (spelled_as span_form n) + n) ≤ length list'
 room_span n len g s e h r = let o = on_span g.run s n e in let a = g.puts.at_is in let l = g.puts.same in let z = g.sized in let i = o.is in omega arith
 
 -- the bytes of a span are in the first key

@@ -19,7 +19,7 @@ use Rattle.zerotrie_core.specs.Causes.{AreCrooked, ZeroTrieBuildError, NonAsciiE
 use Rattle.zerotrie_core.proofs.CallerLemmas.{hashed_spans, spans_fold}
 use Rattle.zerotrie_build.specs.declared.windows.Window.{Window}
 use Rattle.zerotrie_build.specs.passes.Windows.{edge_of}
-use Rattle.zerotrie_build.specs.passes.Measured.{Parts}
+use Rattle.zerotrie_build.specs.passes.Measured.{TargetWindows}
 use Rattle.zerotrie_build.specs.passes.Writing.{no_window, edge_no, place_in, IsSearched, IsLaid}
 
 -- each is below all behind it
@@ -230,8 +230,8 @@ same_range : (xs : List ℕ) → map (λ x. x) xs ≡ xs
 same_range xs = back_each (λ x. x) xs (λ k h. refl)
 
 -- the next window is found, and its edge and its number
-pub parts_more : (all : Pairs) (w : Window) (ws ws' : List Window) (c : Window) (cs : List Window) → ws' ≡ ws ++ c ∷ [] → Parts all w (ws ++ c ∷ cs) → Parts all w (ws' ++ cs)
-parts_more all w ws ws' c cs pushed = subst (Parts all w) (sym (append_assoc ws (c ∷ []) cs) ∙ ap (λ x. x ++ cs) (sym pushed))
+pub parts_more : (all : Pairs) (w : Window) (ws ws' : List Window) (c : Window) (cs : List Window) → ws' ≡ ws ++ c ∷ [] → TargetWindows all w (ws ++ c ∷ cs) → TargetWindows all w (ws' ++ cs)
+parts_more all w ws ws' c cs pushed = subst (TargetWindows all w) (sym (append_assoc ws (c ∷ []) cs) ∙ ap (λ x. x ++ cs) (sym pushed))
 
 pub edges_more : (all : Pairs) (ws ws' : List Window) (c : Window) (es es' : List ℕ) (e : ℕ) → ws' ≡ ws ++ c ∷ [] → es' ≡ es ++ e ∷ [] → es ≡ map (edge_of all) ws → e ≡ edge_of all c → es' ≡ map (edge_of all) ws'
 edges_more all ws ws' c es es' e pushed more are is =

@@ -12,12 +12,12 @@ use Rattle.zerotrie_build.specs.declared.branch_layout.Position.{Position}
 use Rattle.zerotrie_build.specs.declared.branch_layout.Next.{Next}
 use Rattle.zerotrie_build.specs.declared.branch_layout.Next.TheVariants.{Go}
 use Rattle.zerotrie_build.specs.passes.Windows.{window, edge_of, IsGroup}
-use Rattle.zerotrie_build.specs.passes.Measured.{Run, Parts, IsOpen, Kept, KeptEach, sizes_of, slots_of, ends_from}
-use Rattle.zerotrie_build.specs.passes.Measured.Run.{here, value, literal, span}
+use Rattle.zerotrie_build.specs.passes.Measured.{Passes, TargetWindows, IsOpen, Kept, KeptEach, sizes_of, slots_of, ends_from}
+use Rattle.zerotrie_build.specs.passes.Measured.Passes.{here, value, literal, span}
 use Rattle.zerotrie_build.specs.passes.Measured.Kept.{kept}
 use Rattle.zerotrie_build.specs.passes.Measured.KeptEach.{none as none_kept, more as more_kept}
-use Rattle.zerotrie_build.specs.passes.Writing.{window_at, position_at, text_of, placed_next, next_of, HasSlots, KeptTo, Leads}
-use Rattle.zerotrie_build.specs.passes.Writing.Leads.{go as to_go, text as to_text}
+use Rattle.zerotrie_build.specs.passes.Writing.{window_at, position_at, text_of, placed_next, next_of, HasSlots, HasSlotsTo, IsPending}
+use Rattle.zerotrie_build.specs.passes.Writing.IsPending.{go as to_go, text as to_text}
 use Rattle.zerotrie_build.proofs.WriteLemmas.Puts.{count_map}
 
 -- the first items with one byte end at one place
@@ -36,14 +36,14 @@ window_same c d f t e =
     ∙ ap (λ x. record { from = d.from; to = d.to; depth = x }) e
 
 -- the windows of the targets of a branch are known
-pub parts_same : (all : Pairs) (w : Window) (cs ds : List Window) → Parts all w cs → Parts all w ds → cs ≡ ds
+pub parts_same : (all : Pairs) (w : Window) (cs ds : List Window) → TargetWindows all w cs → TargetWindows all w ds → cs ≡ ds
 parts_same all w [] [] p q = refl
 parts_same all w [] (d ∷ ds) p q = let a = q.2.some in let b = q.2.within in absurd (omega arith)
 parts_same all w (c ∷ cs) [] p q = let a = p.2.some in let b = p.2.within in absurd (omega arith)
 parts_same all w (c ∷ cs) (d ∷ ds) p q =
     let to = group_same p.2 q.2 in
     ap (λ x. x ∷ cs) (window_same c d (p.0 ∙ sym q.0) to (p.1 ∙ sym q.1))
-    ∙ ap (λ x. d ∷ x) (parts_same all (record w { from = d.to }) cs ds (subst (λ x. Parts all (record w { from = x }) cs) to p.3) q.3)
+    ∙ ap (λ x. d ∷ x) (parts_same all (record w { from = d.to }) cs ds (subst (λ x. TargetWindows all (record w { from = x }) cs) to p.3) q.3)
 
 length-ends_from : (n : ℕ) (ms : List ℕ) → length (ends_from n ms) ≡ length ms
 length-ends_from n [] = refl
@@ -109,20 +109,20 @@ slots_lens kind slots slot count lens below more lens_each some is =
     )
 
 -- what is known of the branch that is laid out
-pub branch_known : {kind : Kind} {all : Pairs} {w : Window} {slots : List ℕ} {slot : ℕ} (h : HasSlots kind all w slots slot) (ws : List Window) (n : ℕ) → Parts all w ws → n ≡ length ws
+pub branch_known : {kind : Kind} {all : Pairs} {w : Window} {slots : List ℕ} {slot : ℕ} (h : HasSlots kind all w slots slot) (ws : List Window) (n : ℕ) → TargetWindows all w ws → n ≡ length ws
     → (length h.lens ≡ n) × (length h.below ≡ n) × (0 < n) × IsStrictlyIncreasing (map (fold_byte kind) (map (edge_of all) ws))
 branch_known {kind = kind} {all = all} {w = w} h ws n parts count =
     let same = parts_same all w h.windows ws h.parts parts in
     let long = ap length same ∙ sym count in
     (h.lens_each ∙ long, h.below_each ∙ long, (let s = h.some in omega arith), subst (λ x. IsStrictlyIncreasing (map (fold_byte kind) (map (edge_of all) x))) same h.rises)
 
-pub branch_hashed : {kind : Kind} {all : Pairs} {w : Window} {slots : List ℕ} {slot : ℕ} (h : HasSlots kind all w slots slot) (ws : List Window) (n : ℕ) → Parts all w ws → n ≡ length ws → is_hashed kind n ≡ true
+pub branch_hashed : {kind : Kind} {all : Pairs} {w : Window} {slots : List ℕ} {slot : ℕ} (h : HasSlots kind all w slots slot) (ws : List Window) (n : ℕ) → TargetWindows all w ws → n ≡ length ws → is_hashed kind n ≡ true
     → HashedAt slots slot n h.below h.more
 branch_hashed {kind = kind} {slots = slots} {slot = slot} h ws n parts count is =
     let k = branch_known h ws n parts count in
     hashed_at kind slots slot n h.lens h.below h.more is k.0 k.1 k.2 h.slots_are
 
-pub branch_within : {kind : Kind} {all : Pairs} {w : Window} {slots : List ℕ} {slot : ℕ} (h : HasSlots kind all w slots slot) (ws : List Window) (n : ℕ) → Parts all w ws → n ≡ length ws → slot + n ≤ length slots
+pub branch_within : {kind : Kind} {all : Pairs} {w : Window} {slots : List ℕ} {slot : ℕ} (h : HasSlots kind all w slots slot) (ws : List Window) (n : ℕ) → TargetWindows all w ws → n ≡ length ws → slot + n ≤ length slots
 branch_within {kind = kind} {slots = slots} {slot = slot} h ws n parts count =
     let k = branch_known h ws n parts count in
     (slots_lens kind slots slot n h.lens h.below h.more k.0 k.2 h.slots_are).1
@@ -146,7 +146,7 @@ pub record Opened (kind : Kind) (all : Pairs) (slots : List ℕ) (slot end : ℕ
   pub slots_are : drop slot slots ≡ slots_of kind (sizes_of kind all cs) below ++ more
   pub end_is : end ≡ slot + length (slots_of kind (sizes_of kind all cs) below)
 
-pub opened : {kind : Kind} {all : Pairs} {slots : List ℕ} {slot end : ℕ} {w : Window} → KeptTo kind all slots slot end w → Opened kind all slots slot end w
+pub opened : {kind : Kind} {all : Pairs} {slots : List ℕ} {slot end : ℕ} {w : Window} → HasSlotsTo kind all slots slot end w → Opened kind all slots slot end w
 opened {kind = kind} {all = all} {slots = slots} {slot = slot} {end = end} {w = w} k = by_kept k.kept k.slots_are k.end_is
   where
     by_kept : {s : List ℕ} → Kept kind all w s → drop slot slots ≡ s ++ k.more → end ≡ slot + length s → Opened kind all slots slot end w
@@ -158,7 +158,7 @@ each_count (more_kept k each) = ap suc (each_count each)
 
 -- the slots of the window of a number
 kept_at : {kind : Kind} {all : Pairs} {cs : List Window} {below : List (List ℕ)} (slots : List ℕ) (from n : ℕ) (more : List ℕ) → KeptEach kind all cs below → drop (from + n) slots ≡ concat below ++ more
-    → (i : ℕ) → i < length cs → (end : ℕ) × KeptTo kind all slots (from + get_or (n ∷ ends_from n (map length below)) i 0) end (window_at cs i)
+    → (i : ℕ) → i < length cs → (end : ℕ) × HasSlotsTo kind all slots (from + get_or (n ∷ ends_from n (map length below)) i 0) end (window_at cs i)
 kept_at slots from n more none_kept is i h = absurd (omega arith)
 kept_at slots from n more (more_kept {slots = s} {below = below} k each) is zero h =
     (from + n + length s, record { below = s; more = concat below ++ more; kept = k; slots_are = is ∙ append_assoc s (concat below) more; end_is = refl })
@@ -167,32 +167,32 @@ kept_at slots from n more (more_kept {slots = s} {below = below} k each) is (suc
     kept_at slots from (n + length s) more each
     (ap (λ x. drop x slots) (sym next) ∙ sym (drop-drop (length s) (from + n) slots) ∙ ap (drop (length s)) (is ∙ append_assoc s (concat below) more) ∙ drop_at s (concat below ++ more) (length s) refl) i (omega arith)
 
-leads_placed : {kind : Kind} {all : Pairs} (slots : List ℕ) (from : ℕ) (cs : List Window) (ends : List ℕ) → ((i : ℕ) → i < length cs → (end : ℕ) × KeptTo kind all slots (from + get_or (0 ∷ ends) i 0) end (window_at cs i))
-    → (numbers : List ℕ) → AllByRecursion (λ i. i < length cs) numbers → (next : List Next) (ws : List Window) → ((at : Position) → Leads kind all slots at next ws)
-    → (at : Position) → Leads kind all slots at (placed_next ends from cs numbers ++ next) (map (window_at cs) numbers ++ ws)
+leads_placed : {kind : Kind} {all : Pairs} (slots : List ℕ) (from : ℕ) (cs : List Window) (ends : List ℕ) → ((i : ℕ) → i < length cs → (end : ℕ) × HasSlotsTo kind all slots (from + get_or (0 ∷ ends) i 0) end (window_at cs i))
+    → (numbers : List ℕ) → AllByRecursion (λ i. i < length cs) numbers → (next : List Next) (ws : List Window) → ((at : Position) → IsPending kind all slots at next ws)
+    → (at : Position) → IsPending kind all slots at (placed_next ends from cs numbers ++ next) (map (window_at cs) numbers ++ ws)
 leads_placed slots from cs ends each [] within next ws then at = then at
 leads_placed slots from cs ends each (i ∷ numbers) within next ws then at =
     let here = each i within.0 in
     to_go (to_text here.1 (leads_placed slots from cs ends each numbers within.1 next ws then (position_at (window_at cs i).to here.0)))
 
-leads_sorted : {kind : Kind} {all : Pairs} {cs : List Window} {below : List (List ℕ)} (slots : List ℕ) (v : Window) (at : ℕ) (more : List ℕ) → Parts all v cs → KeptEach kind all cs below → drop at slots ≡ concat below ++ more
-    → (next : List Next) (ws : List Window) → Leads kind all slots (position_at v.to (at + length (concat below))) next ws → Leads kind all slots (position_at v.from at) (map text_of cs ++ next) (cs ++ ws)
+leads_sorted : {kind : Kind} {all : Pairs} {cs : List Window} {below : List (List ℕ)} (slots : List ℕ) (v : Window) (at : ℕ) (more : List ℕ) → TargetWindows all v cs → KeptEach kind all cs below → drop at slots ≡ concat below ++ more
+    → (next : List Next) (ws : List Window) → IsPending kind all slots (position_at v.to (at + length (concat below))) next ws → IsPending kind all slots (position_at v.from at) (map text_of cs ++ next) (cs ++ ws)
 leads_sorted {kind = kind} {all = all} slots v at more parts none_kept is next ws then =
-    subst (λ f. Leads kind all slots (position_at f at) next ws) (sym parts) (subst (λ n. Leads kind all slots (position_at v.to n) next ws) (let e : at + 0 ≡ at = omega arith in e) then)
+    subst (λ f. IsPending kind all slots (position_at f at) next ws) (sym parts) (subst (λ n. IsPending kind all slots (position_at v.to n) next ws) (let e : at + 0 ≡ at = omega arith in e) then)
 leads_sorted {kind = kind} {all = all} {cs = c ∷ cs} slots v at more parts (more_kept {slots = s} {below = below} k each) is next ws then =
     let whole = is ∙ append_assoc s (concat below) more in
     let long : at + length (s ++ concat below) ≡ at + length s + length (concat below) = (let a = length-append s (concat below) in omega arith) in
-    subst (λ f. Leads kind all slots (position_at f at) (map text_of (c ∷ cs) ++ next) (c ∷ cs ++ ws)) parts.0
+    subst (λ f. IsPending kind all slots (position_at f at) (map text_of (c ∷ cs) ++ next) (c ∷ cs ++ ws)) parts.0
     (to_text (record { below = s; more = concat below ++ more; kept = k; slots_are = whole; end_is = refl })
     (leads_sorted slots (record v { from = c.to }) (at + length s) more parts.3 each (sym (drop-drop (length s) at slots) ∙ ap (drop (length s)) whole ∙ drop_at s (concat below ++ more) (length s) refl) next ws
-    (subst (λ n. Leads kind all slots (position_at v.to n) next ws) long then)))
+    (subst (λ n. IsPending kind all slots (position_at v.to n) next ws) long then)))
 
 -- the first window begins where the branch does, and the last one ends there too
-parts_first : (all : Pairs) (w : Window) (cs : List Window) → Parts all w cs → 0 < length cs → (window_at cs 0).from ≡ w.from
+parts_first : (all : Pairs) (w : Window) (cs : List Window) → TargetWindows all w cs → 0 < length cs → (window_at cs 0).from ≡ w.from
 parts_first all w [] parts some = absurd (omega arith)
 parts_first all w (c ∷ cs) parts some = parts.0
 
-parts_last : (all : Pairs) (w : Window) (cs : List Window) → Parts all w cs → 0 < length cs → (window_at cs (length cs - 1)).to ≡ w.to
+parts_last : (all : Pairs) (w : Window) (cs : List Window) → TargetWindows all w cs → 0 < length cs → (window_at cs (length cs - 1)).to ≡ w.to
 parts_last all w [] parts some = absurd (omega arith)
 parts_last all w (c ∷ []) parts some = parts.3
 parts_last all w (c ∷ d ∷ cs) parts some =
@@ -200,7 +200,7 @@ parts_last all w (c ∷ d ∷ cs) parts some =
     ap (λ i. (window_at (c ∷ d ∷ cs) i).to) next ∙ parts_last all (record w { from = c.to }) (d ∷ cs) parts.3 (omega arith)
 
 -- a run ends where its window does
-run_to : {kind : Kind} {all : Pairs} {w behind : Window} {n : ℕ} → Run kind all w behind n → behind.to ≡ w.to
+run_to : {kind : Kind} {all : Pairs} {w behind : Window} {n : ℕ} → Passes kind all w behind n → behind.to ≡ w.to
 run_to here = refl
 run_to (value v is run) = run_to run
 run_to (literal b is run) = run_to run
@@ -223,7 +223,7 @@ next_plain kind slots slot cs numbers h =
 -- the targets of a branch, in the order of its table
 pub next_leads : {kind : Kind} {all : Pairs} {slots : List ℕ} {slot end : ℕ} {w : Window} (k : Opened kind all slots slot end w) (numbers : List ℕ) → 0 < length k.cs
     → AllByRecursion (λ j. j < length k.cs) numbers → (is_hashed kind (length k.cs) ≡ false → map (window_at k.cs) numbers ≡ k.cs)
-    → (next : List Next) (ws : List Window) → Leads kind all slots (position_at w.to end) next ws → (at : Position) → Leads kind all slots at (next_of kind slots slot k.cs numbers ++ next) (map (window_at k.cs) numbers ++ ws)
+    → (next : List Next) (ws : List Window) → IsPending kind all slots (position_at w.to end) next ws → (at : Position) → IsPending kind all slots at (next_of kind slots slot k.cs numbers ++ next) (map (window_at k.cs) numbers ++ ws)
 next_leads {kind = kind} {all = all} {slots = slots} {slot = slot} {end = end} {w = w} k numbers some within sorted next ws then at = either (is_hashed kind (length k.cs)) refl
   where
     count : ℕ
@@ -235,7 +235,7 @@ next_leads {kind = kind} {all = all} {slots = slots} {slot = slot} {end = end} {
     lens_each : length lens ≡ count
     lens_each = count_map (size_of kind) (map (window all) k.cs) ∙ count_map (window all) k.cs
 
-    either : (b : Bool) → is_hashed kind count ≡ b → Leads kind all slots at (next_of kind slots slot k.cs numbers ++ next) (map (window_at k.cs) numbers ++ ws)
+    either : (b : Bool) → is_hashed kind count ≡ b → IsPending kind all slots at (next_of kind slots slot k.cs numbers ++ next) (map (window_at k.cs) numbers ++ ws)
     either true is =
         let h = hashed_at kind slots slot count lens k.below k.more is lens_each (each_count k.each) some k.slots_are in
         let ends = ends_from 0 (map length k.below) in
@@ -255,13 +255,13 @@ next_leads {kind = kind} {all = all} {slots = slots} {slot = slot} {end = end} {
         let to = (window_at k.cs (count - 1)).to in
         let to_is : to ≡ w.to = parts_last all k.known.behind k.cs k.known.parts some ∙ run_to k.known.run in
         let past = Go (position_at to (from + get_or ends (count - 1) 0)) in
-        let tail : Leads kind all slots (position_at to (from + get_or ends (count - 1) 0)) next ws =
-        subst (λ n. Leads kind all slots (position_at to n) next ws) (sym last) (subst (λ f. Leads kind all slots (position_at f end) next ws) (sym to_is) then) in
+        let tail : IsPending kind all slots (position_at to (from + get_or ends (count - 1) 0)) next ws =
+        subst (λ n. IsPending kind all slots (position_at to n) next ws) (sym last) (subst (λ f. IsPending kind all slots (position_at f end) next ws) (sym to_is) then) in
         let there = leads_placed slots from k.cs ends each numbers within (past ∷ next) ws (λ n. to_go tail) at in
         let items : next_of kind slots slot k.cs numbers ++ next ≡ placed_next ends from k.cs numbers ++ (past ∷ next) =
         ap (λ x. x ++ next) (next_hashed kind slots slot k.cs numbers is ∙ ap (λ es. placed_next es from k.cs numbers ++ Go (position_at to (from + get_or es (count - 1) 0)) ∷ []) h.ends_are)
         ∙ append_assoc (placed_next ends from k.cs numbers) (past ∷ []) next in
-        subst (λ x. Leads kind all slots at x (map (window_at k.cs) numbers ++ ws)) (sym items) there
+        subst (λ x. IsPending kind all slots at x (map (window_at k.cs) numbers ++ ws)) (sym items) there
     either false is =
         let p = plain_at kind slots slot count lens k.below k.more is lens_each k.slots_are in
         let last : end ≡ slot + count + length (concat k.below) =
@@ -270,13 +270,13 @@ next_leads {kind = kind} {all = all} {slots = slots} {slot = slot} {end = end} {
         let a = length-append lens (concat k.below) in
         omega (arith, lens_each)) in
         let behind = k.known.behind in
-        let tail : Leads kind all slots (position_at behind.to (slot + count + length (concat k.below))) next ws =
-        subst (λ n. Leads kind all slots (position_at behind.to n) next ws) last (subst (λ f. Leads kind all slots (position_at f end) next ws) (sym (run_to k.known.run)) then) in
+        let tail : IsPending kind all slots (position_at behind.to (slot + count + length (concat k.below))) next ws =
+        subst (λ n. IsPending kind all slots (position_at behind.to n) next ws) last (subst (λ f. IsPending kind all slots (position_at f end) next ws) (sym (run_to k.known.run)) then) in
         let first : (window_at k.cs 0).from ≡ behind.from = parts_first all behind k.cs k.known.parts some in
-        let there : Leads kind all slots at (Go (position_at (window_at k.cs 0).from (slot + count)) ∷ map text_of k.cs ++ next) (k.cs ++ ws) =
-        to_go (subst (λ f. Leads kind all slots (position_at f (slot + count)) (map text_of k.cs ++ next) (k.cs ++ ws)) (sym first) (leads_sorted slots behind (slot + count) k.more k.known.parts k.each p next ws tail)) in
-        subst (λ x. Leads kind all slots at (x ++ next) (map (window_at k.cs) numbers ++ ws)) (sym (next_plain kind slots slot k.cs numbers is))
-        (subst (λ x. Leads kind all slots at (Go (position_at (window_at k.cs 0).from (slot + count)) ∷ map text_of k.cs ++ next) (x ++ ws)) (sym (sorted is)) there)
+        let there : IsPending kind all slots at (Go (position_at (window_at k.cs 0).from (slot + count)) ∷ map text_of k.cs ++ next) (k.cs ++ ws) =
+        to_go (subst (λ f. IsPending kind all slots (position_at f (slot + count)) (map text_of k.cs ++ next) (k.cs ++ ws)) (sym first) (leads_sorted slots behind (slot + count) k.more k.known.parts k.each p next ws tail)) in
+        subst (λ x. IsPending kind all slots at (x ++ next) (map (window_at k.cs) numbers ++ ws)) (sym (next_plain kind slots slot k.cs numbers is))
+        (subst (λ x. IsPending kind all slots at (Go (position_at (window_at k.cs 0).from (slot + count)) ∷ map text_of k.cs ++ next) (x ++ ws)) (sym (sorted is)) there)
 
 -- no branch has no slots
 pub none_ends : {kind : Kind} {all : Pairs} {slots : List ℕ} {slot end : ℕ} {w : Window} (k : Opened kind all slots slot end w) → k.cs ≡ [] → end ≡ slot

@@ -17,8 +17,8 @@ use Rattle.zerotrie_build.specs.declared.branch_layout.Next.{Next}
 use Rattle.zerotrie_build.specs.declared.branch_layout.Next.TheVariants.{Go, Text}
 use Rattle.zerotrie_build.specs.passes.Windows.{window}
 use Rattle.zerotrie_build.specs.passes.Measured.{IsMeasured, sizes_of, whole}
-use Rattle.zerotrie_build.specs.passes.Writing.{Listed, Texts, position_at, text_of, KeptTo, Leads, FrontPut, Left}
-use Rattle.zerotrie_build.specs.passes.Writing.Leads.{done, go as to_go, text as to_text}
+use Rattle.zerotrie_build.specs.passes.Writing.{Listed, Texts, position_at, text_of, HasSlotsTo, IsPending, NodesWritten, WrittenTo}
+use Rattle.zerotrie_build.specs.passes.Writing.IsPending.{done, go as to_go, text as to_text}
 use Rattle.zerotrie_build.proofs.WriteLemmas.Puts.{total_append}
 use Rattle.zerotrie_build.proofs.WriteLemmas.Slots.{window_same, opened}
 use Rattle.zerotrie_build.proofs.WindowLemmas.Windows.{cut_whole}
@@ -44,13 +44,13 @@ length-replicate zero x = refl
 length-replicate (suc n) x = ap suc (length-replicate n x)
 
 -- all items are written first
-measured_to : {kind : Kind} {all : Pairs} {slots : List ℕ} {len : ℕ} → IsMeasured kind all slots len → KeptTo kind all slots 0 (length slots) (whole all)
+measured_to : {kind : Kind} {all : Pairs} {slots : List ℕ} {len : ℕ} → IsMeasured kind all slots len → HasSlotsTo kind all slots 0 (length slots) (whole all)
 measured_to {slots = slots} m = record { below = slots; more = []; kept = m.slots_are; slots_are = sym (append-nil slots); end_is = omega arith }
 
 pub measured_ordered : {kind : Kind} {all : Pairs} {slots : List ℕ} {len : ℕ} → IsMeasured kind all slots len → Ordered kind all
 measured_ordered {kind = kind} {all = all} m = subst (Ordered kind) (cut_whole all) (opened (measured_to m)).known.ordered
 
-pub leads_start : {kind : Kind} {all : Pairs} {slots : List ℕ} {len : ℕ} → IsMeasured kind all slots len → Leads kind all slots (position_at 0 0) (text_of (whole all) ∷ []) (whole all ∷ [])
+pub leads_start : {kind : Kind} {all : Pairs} {slots : List ℕ} {len : ℕ} → IsMeasured kind all slots len → IsPending kind all slots (position_at 0 0) (text_of (whole all) ∷ []) (whole all ∷ [])
 leads_start m = to_text (measured_to m) done
 
 pub first_pushed : (all : Pairs) (none one : List Next) (to : ℕ) → none ≡ [] → one ≡ none ++ Text (record { to = to; depth = 0 }) ∷ [] → to ≡ length all → text_of (whole all) ∷ [] ≡ reverse one
@@ -60,7 +60,7 @@ first_pushed all none one to empty pushed is =
 pub only_zeros : (empty list : List ℕ) (len : ℕ) → empty ≡ [] → list ≡ replicate len 0 ++ empty → list ≡ replicate len 0
 only_zeros empty list len none is = is ∙ ap (λ x. replicate len 0 ++ x) none ∙ append-nil (replicate len 0)
 
-pub left_start : {kind : Kind} {all : Pairs} {slots : List ℕ} {len : ℕ} (list : List ℕ) → IsMeasured kind all slots len → list ≡ replicate len 0 → Left kind all list 0 (whole all ∷ [])
+pub left_start : {kind : Kind} {all : Pairs} {slots : List ℕ} {len : ℕ} (list : List ℕ) → IsMeasured kind all slots len → list ≡ replicate len 0 → WrittenTo kind all list 0 (whole all ∷ [])
 left_start {kind = kind} {all = all} {len = len} list m is = record {
   written = [];
   at_is = refl;
@@ -74,7 +74,7 @@ left_start {kind = kind} {all = all} {len = len} list m is = record {
     texts_whole (t ∷ u ∷ ts) h = absurd (h.1)
     texts_whole (t ∷ []) h = subst (λ x. Listed kind x all) (sym (append-nil t)) (subst (Listed kind t) (cut_whole all) h.0)
 
-pub left_room : {kind : Kind} {all : Pairs} {list : List ℕ} {at : ℕ} {w : Window} {ws : List Window} → Left kind all list at (w ∷ ws) → at + size_of kind (window all w) ≤ length list
+pub left_room : {kind : Kind} {all : Pairs} {list : List ℕ} {at : ℕ} {w : Window} {ws : List Window} → WrittenTo kind all list at (w ∷ ws) → at + size_of kind (window all w) ≤ length list
 left_room {kind = kind} {all = all} {w = w} {ws = ws} l =
     let e = ap length l.list_is ∙ length-append l.written (replicate (total (sizes_of kind all (w ∷ ws))) 0) in
     let n = length-replicate (total (sizes_of kind all (w ∷ ws))) 0 in
@@ -82,7 +82,7 @@ left_room {kind = kind} {all = all} {w = w} {ws = ws} l =
     let a = l.at_is in omega arith
 
 -- nothing is left to be written
-pub left_end : (kind : Kind) (all : Pairs) (list : List ℕ) (at : ℕ) (ws : List Window) → ws ≡ [] → length list < 2 ^ 64 → Left kind all list at ws → Means kind list (map_of all)
+pub left_end : (kind : Kind) (all : Pairs) (list : List ℕ) (at : ℕ) (ws : List Window) → ws ≡ [] → length list < 2 ^ 64 → WrittenTo kind all list at ws → Means kind list (map_of all)
 left_end kind all list at [] e small l =
     let full : list ≡ l.written ++ [] = l.list_is in
     let done = subst (λ x. Listed kind x all) (sym full) (l.completes [] tt) in
@@ -99,7 +99,7 @@ sizes_append kind all xs ys = ap (map (size_of kind)) (map-append (window all) x
 
 -- the next window is written
 pub left_more : {kind : Kind} {all : Pairs} {slots : List ℕ} {slot : ℕ} {list : List ℕ} {at : ℕ} {list' : List ℕ} {at' : ℕ} {w : Window} {next : List Next} {ws : List Window}
-    → Left kind all list at (w ∷ ws) → (p : FrontPut kind all slots slot w next list at list' at') → Left kind all list' at' (p.targets ++ ws)
+    → WrittenTo kind all list at (w ∷ ws) → (p : NodesWritten kind all slots slot w next list at list' at') → WrittenTo kind all list' at' (p.targets ++ ws)
 left_more {kind = kind} {all = all} {list = list} {w = w} {ws = ws} l p =
     let left = total (sizes_of kind all (p.targets ++ ws)) in
     let split_len = ap total (sizes_append kind all p.targets ws) ∙ total_append (sizes_of kind all p.targets) (sizes_of kind all ws) in
@@ -119,7 +119,7 @@ left_more {kind = kind} {all = all} {list = list} {w = w} {ws = ws} l p =
 
 -- and less is left
 pub left_less : {kind : Kind} {all : Pairs} {slots : List ℕ} {slot : ℕ} {list : List ℕ} {at : ℕ} {list' : List ℕ} {at' : ℕ} {w : Window} {next : List Next} {ws : List Window} (rest : List Next)
-    → Left kind all list at (w ∷ ws) → FrontPut kind all slots slot w next list at list' at'
+    → WrittenTo kind all list at (w ∷ ws) → NodesWritten kind all slots slot w next list at list' at'
     → (length list' - at') + length (next ++ rest) < (length list - at) + suc (length rest)
 left_less {next = next} rest l p =
     let room = left_room l in
@@ -128,27 +128,27 @@ left_less {next = next} rest l p =
     omega arith
 
 -- what is written next, by what stands first
-pub leads_none : {kind : Kind} {all : Pairs} {slots : List ℕ} {at : Position} {next : List Next} {ws : List Window} → Leads kind all slots at next ws → next ≡ [] → ws ≡ []
+pub leads_none : {kind : Kind} {all : Pairs} {slots : List ℕ} {at : Position} {next : List Next} {ws : List Window} → IsPending kind all slots at next ws → next ≡ [] → ws ≡ []
 leads_none done e = refl
 leads_none (to_go l) e = absurd (cc)
 leads_none (to_text k l) e = absurd (cc)
 
-pub leads_go : {kind : Kind} {all : Pairs} {slots : List ℕ} {at : Position} {next : List Next} {ws : List Window} (there : Position) (rest : List Next) → Leads kind all slots at next ws → next ≡ Go there ∷ rest → Leads kind all slots there rest ws
+pub leads_go : {kind : Kind} {all : Pairs} {slots : List ℕ} {at : Position} {next : List Next} {ws : List Window} (there : Position) (rest : List Next) → IsPending kind all slots at next ws → next ≡ Go there ∷ rest → IsPending kind all slots there rest ws
 leads_go there rest done e = absurd (cc)
 leads_go {kind = kind} {all = all} {slots = slots} {ws = ws} there rest (to_go {to = to} {next = next} l) e =
     let same : to ≡ there = cc in
     let more : next ≡ rest = cc in
-    subst (λ x. Leads kind all slots x rest ws) same (subst (λ x. Leads kind all slots to x ws) more l)
+    subst (λ x. IsPending kind all slots x rest ws) same (subst (λ x. IsPending kind all slots to x ws) more l)
 leads_go there rest (to_text k l) e = absurd (cc)
 
 pub record TextLeads (kind : Kind) (all : Pairs) (slots : List ℕ) (slot : ℕ) (w : Window) (rest : List Next) (ws : List Window) : Type 0 where
   pub end : ℕ
-  pub kept : KeptTo kind all slots slot end w
+  pub kept : HasSlotsTo kind all slots slot end w
   pub behind : List Window
-  pub leads : Leads kind all slots (position_at w.to end) rest behind
+  pub leads : IsPending kind all slots (position_at w.to end) rest behind
   pub is : ws ≡ w ∷ behind
 
-pub leads_text : {kind : Kind} {all : Pairs} {slots : List ℕ} {at : Position} {next : List Next} {ws : List Window} (next_window : PendingWindow) (rest : List Next) → Leads kind all slots at next ws → next ≡ Text next_window ∷ rest
+pub leads_text : {kind : Kind} {all : Pairs} {slots : List ℕ} {at : Position} {next : List Next} {ws : List Window} (next_window : PendingWindow) (rest : List Next) → IsPending kind all slots at next ws → next ≡ Text next_window ∷ rest
     → TextLeads kind all slots at.slot (record { from = at.from; to = next_window.to; depth = next_window.depth }) rest ws
 leads_text next_window rest done e = absurd (cc)
 leads_text next_window rest (to_go l) e = absurd (cc)
@@ -160,8 +160,8 @@ leads_text {kind = kind} {all = all} {slots = slots} next_window rest (to_text {
     let same : v ≡ w = window_same v w refl (ap (λ p. p.to) first) (ap (λ p. p.depth) first) in
     record {
       end = end;
-      kept = subst (λ x. KeptTo kind all slots slot end x) same k;
+      kept = subst (λ x. HasSlotsTo kind all slots slot end x) same k;
       behind = ws;
-      leads = subst (λ x. Leads kind all slots (position_at x.to end) rest ws) same (subst (λ x. Leads kind all slots (position_at v.to end) x ws) more l);
+      leads = subst (λ x. IsPending kind all slots (position_at x.to end) rest ws) same (subst (λ x. IsPending kind all slots (position_at v.to end) x ws) more l);
       is = ap (λ x. x ∷ ws) same;
     }

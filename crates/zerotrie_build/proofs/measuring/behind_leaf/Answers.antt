@@ -1,7 +1,7 @@
 use Rattle.std.proofs.Common.{◌+◌, subst, length, arith}
 use Rattle.std.proofs.lemmas.Result.{err_from_is_err_and}
 use Rattle.zerotrie_build.specs.declared.windows.Window.{Window}
-use Rattle.zerotrie_build.specs.passes.Measured.{Run}
+use Rattle.zerotrie_build.specs.passes.Measured.{Passes}
 use Rattle.zerotrie_build.proofs.WindowLemmas.NodeRuns.{too_long}
 use Rattle.zerotrie_build.proofs.WindowLemmas.Leaves.{one_run}
 use Rattle.zerotrie_build.proofs.measuring.behind_leaf.Goals as goal
@@ -20,5 +20,5 @@ returns-clause-run g c =
     let start = c.args.start in
     let rest = c.in-Some.rest.now in
     let behind : Window = record { from = start.to; to = start.to; depth = start.depth + length rest } in
-    subst (Run kind (g.I.IndexedItems.pairs c.args.items) start behind) (let s = c.in_ok-checked_sum.ensures.sum in let e = c.value_len.ensures in omega arith)
+    subst (Passes kind (g.I.IndexedItems.pairs c.args.items) start behind) (let s = c.in_ok-checked_sum.ensures.sum in let e = c.value_len.ensures in omega arith)
     (one_run kind (g.I.IndexedItems.pairs c.args.items) start rest c.in-Some.value c.in-Some-rest_len.len c.in-Some.ensures.is c.in-Some-rest_len.ensures)

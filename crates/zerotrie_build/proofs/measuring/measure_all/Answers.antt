@@ -8,8 +8,8 @@ use Rattle.zerotrie_build.specs.declared.measuring.Turn.TheVariants.{Window as N
 use Rattle.zerotrie_build.specs.Order.{Ordered, AreKeys}
 use Rattle.zerotrie_build.specs.passes.Windows.{window}
 use Rattle.zerotrie_build.specs.passes.Measured.{Kept, whole}
-use Rattle.zerotrie_build.specs.passes.Walking.{Waits, Closing, IsOpened, IsTurn, IsNext}
-use Rattle.zerotrie_build.specs.passes.Walking.Waits.{outside}
+use Rattle.zerotrie_build.specs.passes.Walking.{IsInside, Closing, IsOpened, IsTurn, IsNext}
+use Rattle.zerotrie_build.specs.passes.Walking.IsInside.{outside}
 use Rattle.zerotrie_build.proofs.WindowLemmas.Windows.{cut_whole}
 use Rattle.zerotrie_build.proofs.WindowLemmas.NodeRuns.{along, stopped}
 use Rattle.zerotrie_build.proofs.Stacks.{popped}
@@ -27,8 +27,8 @@ loop-pass-init g c = record {
       let kind = g.K.ZeroTrieWithOptions.kind in
       let all = g.I.IndexedItems.pairs c.args.items in
       let to : c.len.result ≡ length all = search rules in
-      subst (λ x. Waits kind all (record { from = 0; to = x; depth = 0 }) (reverse m.branches.items) m.slots.items) (sym to)
-      (subst (λ x. Waits kind all (whole all) (reverse x) m.slots.items) (sym e.branches) (subst (Waits kind all (whole all) []) (sym e.slots) outside));
+      subst (λ x. IsInside kind all (record { from = 0; to = x; depth = 0 }) (reverse m.branches.items) m.slots.items) (sym to)
+      (subst (λ x. IsInside kind all (whole all) (reverse x) m.slots.items) (sym e.branches) (subst (IsInside kind all (whole all) []) (sym e.slots) outside));
 }
 
 pub behind_nodes-requires : goal.behind_nodes-requires
@@ -71,7 +71,7 @@ loop-pass-preserved-then-rest g c =
     let opened = subst (λ x. IsOpened kind (g.I.IndexedItems.pairs x) c.in_ok-rest.rest c.in_ok-rest.len c.in_ok-window.window m.slots.items m.branches.items n.slots.items n.branches.items) v.items o in
     record {
       items = c.in_ok-window.ensures.items ∙ v.items;
-      waits = subst (λ x. Waits kind all c.in_ok-window.window x n.slots.items) (sym (popped n.branches.items m.branches.items _ opened.branches_are))
+      waits = subst (λ x. IsInside kind all c.in_ok-window.window x n.slots.items) (sym (popped n.branches.items m.branches.items _ opened.branches_are))
           (waits_opened v.waits placed c.in_ok-rest.ensures.run branch c.if-rest.true (c.in_ok-rest.ensures.room branch) opened);
     }
 

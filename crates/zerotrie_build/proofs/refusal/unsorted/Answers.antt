@@ -1,5 +1,8 @@
-use Rattle.std.proofs.Common.{◌≡◌, ◌-◌, suc, arith, refl, ap}
+use Rattle.std.proofs.Common.{◌≡◌, ◌-◌, suc, arith, refl, ap, subst, sym}
+use Rattle.zerotrie_core.specs.Causes.{Unsorted}
+use Rattle.zerotrie_core.specs.Kind.{simple_ascii}
 use Rattle.zerotrie_core.specs.Items.{keyed}
+use Rattle.zerotrie_build.specs.Refused.{AreShown}
 use Rattle.zerotrie_build.proofs.Items.{Below, follows_on, ascends_each}
 use Rattle.zerotrie_build.proofs.OrderLemmas.Below.{below_before, before_below}
 use Rattle.zerotrie_build.proofs.RefusalLemmas.Shown.{read, count_keyed}
@@ -9,7 +12,9 @@ pub returns-then-not-precedes-clause-some : goal.returns-then-not-precedes-claus
 returns-then-not-precedes-clause-some g c =
     let count = count_keyed g.Key.TrieKey.key c.args.items.now in
     let from = ap (λ e. e.0) c.item_at.ensures in
-    let to = ap (λ e. e.0) c.item_at-in-loop-second.ensures in (
+    let to = ap (λ e. e.0) c.item_at-in-loop-second.ensures in
+    let all = keyed g.Key.TrieKey.key c.args.items.now in
+    subst (λ r. (r.error ≡ Unsorted) × AreShown simple_ascii all r.error r.first r.second) (sym c.new.ensures) (
       refl,
       (
         omega arith,

@@ -4,7 +4,7 @@ use Rattle.zerotrie_core.specs.Items.{keyed, pairs_of}
 use Rattle.zerotrie_core.specs.Routes.{any_order}
 use Rattle.zerotrie_core.specs.Causes.{Unsorted, DuplicateKey, MixedCase}
 use Rattle.zerotrie_build.specs.Order.{RepeatsNext}
-use Rattle.zerotrie_build.specs.passes.Sorts.{numbered, numbers_of}
+use Rattle.zerotrie_build.specs.passes.Sorts.{items_by_number, numbers_of}
 use Rattle.zerotrie_build.proofs.Items.{count_pairs}
 use Rattle.zerotrie_build.proofs.RefusalLemmas.Shown.{count_keyed, why_shown}
 use Rattle.zerotrie_build.proofs.OrderLemmas.Numbered.{repeated_shown, mixed_shown, differ_sorted, faultless_sorted}
@@ -16,7 +16,7 @@ returns-in-Some g c =
     let all = keyed g.Key.TrieKey.key c.args.items.now in
     let prefixes = c.in_ok-prefixes.prefixes.items in
     let sorted = c.as_slice-2.result.now in
-    let is : pairs_of sorted ≡ numbered all prefixes = ap pairs_of c.as_slice-2.ensures.value ∙ c.in_ok-sorted.ensures ∙ ap (numbered all) c.as_slice.ensures.value in
+    let is : pairs_of sorted ≡ items_by_number all prefixes = ap pairs_of c.as_slice-2.ensures.value ∙ c.in_ok-sorted.ensures ∙ ap (items_by_number all) c.as_slice.ensures.value in
     let numbers = subst (λ n. IsPermutation (range_with_len 0 n) (numbers_of prefixes)) (sym (count_keyed g.Key.TrieKey.key c.args.items.now)) c.in_ok-prefixes.ensures.numbers in
     let some = c.in-Some.ensures.some in
     let count = count_pairs sorted in
@@ -32,7 +32,7 @@ returns-in-Some-first_mixed g c =
     let all = keyed g.Key.TrieKey.key c.args.items.now in
     let prefixes = c.in_ok-prefixes.prefixes.items in
     let sorted = c.as_slice-3.result.now in
-    let is : pairs_of sorted ≡ numbered all prefixes = ap pairs_of c.as_slice-3.ensures.value ∙ c.in_ok-sorted.ensures ∙ ap (numbered all) c.as_slice.ensures.value in
+    let is : pairs_of sorted ≡ items_by_number all prefixes = ap pairs_of c.as_slice-3.ensures.value ∙ c.in_ok-sorted.ensures ∙ ap (items_by_number all) c.as_slice.ensures.value in
     let numbers = subst (λ n. IsPermutation (range_with_len 0 n) (numbers_of prefixes)) (sym (count_keyed g.Key.TrieKey.key c.args.items.now)) c.in_ok-prefixes.ensures.numbers in
     let apart = subst (λ xs. RepeatsNext (pairs_of xs) → ⊥) (c.as_slice-2.ensures.value ∙ sym c.as_slice-3.ensures.value) c.in_default.ensures.none in
     let some = c.in-Some-first_mixed.ensures.some in
@@ -50,5 +50,5 @@ returns g c =
     let all = keyed g.Key.TrieKey.key c.args.items.now in
     let prefixes = c.in_ok-prefixes.prefixes.items in
     let sorted = c.as_slice-3.result.now in
-    let is : pairs_of sorted ≡ numbered all prefixes = ap pairs_of c.as_slice-3.ensures.value ∙ c.in_ok-sorted.ensures ∙ ap (numbered all) c.as_slice.ensures.value in
+    let is : pairs_of sorted ≡ items_by_number all prefixes = ap pairs_of c.as_slice-3.ensures.value ∙ c.in_ok-sorted.ensures ∙ ap (items_by_number all) c.as_slice.ensures.value in
     faultless_sorted g.K.ZeroTrieWithOptions.kind all (pairs_of sorted) (subst (IsPermutation all) (sym is) c.in_ok-prefixes.ensures.same) c.in-None.ensures.none c.in_default-foreign.ensures.none

@@ -5,7 +5,7 @@ use Rattle.zerotrie_core.specs.Kind.{is_hashed}
 use Rattle.zerotrie_core.specs.Causes.{AreCrooked, CouldNotSolvePerfectHash, OutOfMemory}
 use Rattle.zerotrie_build.specs.declared.windows.Window.{Window}
 use Rattle.zerotrie_build.specs.passes.Windows.{edge_of}
-use Rattle.zerotrie_build.specs.passes.Measured.{Parts}
+use Rattle.zerotrie_build.specs.passes.Measured.{TargetWindows}
 use Rattle.zerotrie_build.specs.passes.Writing.{edge_no, IsLaid}
 use Rattle.zerotrie_build.proofs.WriteLemmas.Layouts.{branch_hashed_laid, branch_sorted_laid, numbers_within, hashed_up, crooked}
 use Rattle.zerotrie_build.proofs.WriteLemmas.Puts.{count_map}
@@ -29,7 +29,7 @@ returns-in_err-set_hashed-clause-refused g c =
     let e = c.in_err-set_hashed.field-0.0 in
     let count : n ≡ length ws = (let n = c.len-edges.ensures in let m = c.set_sorted.new.self.windows.ok in omega arith) in
     let refused = subst (λ x. IsTableRefusal x e) c.in_ok-set_sorted.ensures.table c.in_err-set_hashed.ensures.refused in
-    let why : e ≢ OutOfMemory → (e ≡ CouldNotSolvePerfectHash) × ((cs : List Window) → Parts all c.args.window cs → AreCrooked kind (map (edge_of all) cs)) =
+    let why : e ≢ OutOfMemory → (e ≡ CouldNotSolvePerfectHash) × ((cs : List Window) → TargetWindows all c.args.window cs → AreCrooked kind (map (edge_of all) cs)) =
     λ some. (let r = crooked kind n (map (edge_of all) ws) e (sym c.is_hashed.ensures ∙ c.if-is_hashed.true) (count_map (edge_of all) ws ∙ sym count) refused some in
     (r.0, λ cs p. subst (λ x. AreCrooked kind (map (edge_of all) x)) (parts_same all c.args.window ws cs c.in_ok-set_sorted.ensures.parts p) r.1)) in
     search (why, rules)

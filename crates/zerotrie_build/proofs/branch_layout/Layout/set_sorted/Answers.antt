@@ -1,7 +1,7 @@
 use Rattle.std.proofs.Common.{[], ◌∷◌, ◌+◌, refl, subst, arith}
 use Rattle.std.proofs.lemmas.List.{append-nil}
 use Rattle.zerotrie_build.specs.declared.windows.Window.{Window}
-use Rattle.zerotrie_build.specs.passes.Measured.{Parts}
+use Rattle.zerotrie_build.specs.passes.Measured.{TargetWindows}
 use Rattle.zerotrie_build.proofs.WindowLemmas.Ends.{ordered_rest}
 use Rattle.zerotrie_build.proofs.WriteLemmas.Layouts.{parts_more, edges_more, numbers_more}
 use Rattle.zerotrie_build.proofs.branch_layout.Layout.set_sorted.Goals as goal
@@ -31,5 +31,5 @@ loop-rest-preserved g c =
 pub returns-clause-parts : goal.returns-clause-parts
 returns-clause-parts g c =
     let v = c.loop-rest.invariant in
-    subst (Parts (g.I.IndexedItems.pairs c.args.items) c.args.window) (append-nil c.loop-rest.self.windows.items)
+    subst (TargetWindows (g.I.IndexedItems.pairs c.args.items) c.args.window) (append-nil c.loop-rest.self.windows.items)
     (v.parts [] (let o = v.order in let t = c.loop-rest-test.false in omega arith))

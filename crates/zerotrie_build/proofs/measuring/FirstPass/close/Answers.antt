@@ -5,7 +5,7 @@ use Rattle.zerotrie_core.specs.Kind.{greatest_width}
 use Rattle.zerotrie_core.specs.Branches.{total}
 use Rattle.zerotrie_core.specs.Canonical.{branch_size}
 use Rattle.zerotrie_build.specs.declared.measuring.OpenBranch.{OpenBranch}
-use Rattle.zerotrie_build.specs.passes.Walking.{Waits, Closing, left_open}
+use Rattle.zerotrie_build.specs.passes.Walking.{IsInside, Closing, left_open}
 use Rattle.zerotrie_build.proofs.Stacks.{popped}
 use Rattle.zerotrie_build.proofs.MeasureLemmas.Inner.{inner, inner_within, waits_next, all_closed}
 use Rattle.zerotrie_build.proofs.MeasureLemmas.Last.{last, last_lens, last_count, last_closing, last_refused, with_len_long}
@@ -50,8 +50,8 @@ returns-then-branch-clause-turn g c =
     let slots = c.keep.new.self.slots.items in
     let back : reverse c.push.new.self.items ≡ next ∷ reverse c.pop.new.self.items =
     ap reverse c.in_ok-push.ensures.items ∙ reverse-append c.keep.new.self.branches.items (next ∷ []) ∙ ap (λ x. next ∷ reverse x) c.keep.ensures.branches in
-    subst (λ x. Waits g.K.ZeroTrieWithOptions.kind (g.I.IndexedItems.pairs c.args.self.now.items) c.target_of.result x slots) (sym back)
-    (subst (λ w. Waits g.K.ZeroTrieWithOptions.kind (g.I.IndexedItems.pairs c.args.self.now.items) w (next ∷ reverse c.pop.new.self.items) slots) (sym c.target_of.ensures)
+    subst (λ x. IsInside g.K.ZeroTrieWithOptions.kind (g.I.IndexedItems.pairs c.args.self.now.items) c.target_of.result x slots) (sym back)
+    (subst (λ w. IsInside g.K.ZeroTrieWithOptions.kind (g.I.IndexedItems.pairs c.args.self.now.items) w (next ∷ reverse c.pop.new.self.items) slots) (sym c.target_of.ensures)
     (waits_next i slots c.index-from.result.now c.keep.ensures.slots (let within = w.2 in let below = w.1 in get_or_read c.loop-branch.self.slots.items f.next c.index-from.result.now (omega arith) (search rules) 0) c.if-branch.true next refl))
 
 pub offset_bounds-deref-branch : goal.offset_bounds-deref-branch

@@ -1,7 +1,7 @@
 use Rattle.std.proofs.Common.{rules, ◌≡◌, [], ◌∷◌, ◌++◌, sym, ◌∙◌, ap, arith, length, length-append, replicate}
 use Rattle.std.proofs.lemmas.List.{length-map}
 use Rattle.zerotrie_build.specs.declared.windows.Window.{Window}
-use Rattle.zerotrie_build.specs.passes.Walking.{tos, spare_len}
+use Rattle.zerotrie_build.specs.passes.Walking.{item_ends, spare_len}
 use Rattle.zerotrie_build.proofs.MeasureLemmas.Last.{wide_slots, plain_slots, first_to}
 use Rattle.zerotrie_build.proofs.measuring.FirstPass.push_branch.Goals as goal
 use Rattle.zerotrie_build.proofs.measuring.FirstPass.push_branch.Goals.{then-is_hashed+in_ok-resize, else-is_hashed}
@@ -13,7 +13,7 @@ returns-clause-opened g c =
     let slots = c.args.self.now.slots.items in
     let first : c.len-first.result ≡ length slots = search rules in
     let end : c.len-end.result ≡ length c.push_ends.new.self.slots.items = search rules in
-    let slots_are : c.if-is_hashed.self.slots.items ≡ slots ++ (tos p.0 ++ replicate (spare_len kind (length p.0)) 0) = elim c.if-is_hashed.branch [
+    let slots_are : c.if-is_hashed.self.slots.items ≡ slots ++ (item_ends p.0 ++ replicate (spare_len kind (length p.0)) 0) = elim c.if-is_hashed.branch [
       | then-is_hashed+in_ok-resize w ↦ ap (λ s. s.slots.items) w.self-is ∙ wide_slots kind slots c.push_ends.new.self.slots.items w.resize.new.self.items p.0 c.len-first.result c.len-end.result p.2 first end (sym c.is_hashed.ensures ∙ w.if-is_hashed.true) (search rules)
       | else-is_hashed w ↦ ap (λ s. s.slots.items) w.self-is ∙ plain_slots kind slots c.push_ends.new.self.slots.items p.0 c.len-first.result c.len-end.result p.2 first end (sym c.is_hashed.ensures ∙ w.if-is_hashed.false)
     ] in
@@ -21,7 +21,7 @@ returns-clause-opened g c =
       | then-is_hashed+in_ok-resize w ↦ ap (λ s. s.branches.items) w.self-is ∙ c.in_ok-push_ends.ensures.branches
       | else-is_hashed w ↦ ap (λ s. s.branches.items) w.self-is ∙ c.in_ok-push_ends.ensures.branches
     ] in
-    let n = ap length p.2 ∙ length-append slots (tos p.0) in
+    let n = ap length p.2 ∙ length-append slots (item_ends p.0) in
     let m = length-map p.0 (λ c. c.to) in
     record {
       targets = p.0;

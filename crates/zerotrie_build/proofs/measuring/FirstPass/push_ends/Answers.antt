@@ -3,8 +3,8 @@ use Rattle.std.proofs.lemmas.List.{append-nil, map-append}
 use Rattle.zerotrie_build.specs.declared.windows.Window.{Window}
 use Rattle.zerotrie_build.specs.Order.{Ordered}
 use Rattle.zerotrie_build.specs.passes.Windows.{window, IsGroup}
-use Rattle.zerotrie_build.specs.passes.Measured.{Parts}
-use Rattle.zerotrie_build.specs.passes.Walking.{tos}
+use Rattle.zerotrie_build.specs.passes.Measured.{TargetWindows}
+use Rattle.zerotrie_build.specs.passes.Walking.{item_ends}
 use Rattle.zerotrie_build.proofs.WindowLemmas.Ends.{ordered_rest}
 use Rattle.zerotrie_build.proofs.measuring.FirstPass.push_ends.Goals as goal
 
@@ -41,8 +41,8 @@ loop-rest-preserved g c =
       items = c.push_end.ensures.items ∙ v.items;
       branches = c.push_end.ensures.branches ∙ v.branches;
       added = v.added ++ new ∷ [];
-      slots = c.in_ok-push_end.ensures.slots ∙ ap (λ x. x ++ new.to ∷ []) v.slots ∙ append_assoc c.args.self.now.slots.items (tos v.added) (new.to ∷ []) ∙ ap (λ x. c.args.self.now.slots.items ++ x) (sym (map-append (λ c. c.to) v.added (new ∷ [])));
-      parts = λ more rest. subst (Parts all c.args.window) (sym (append_assoc v.added (new ∷ []) more)) (v.parts (new ∷ more) (refl, refl, subst (λ x. IsGroup (g.I.IndexedItems.pairs x) w c.group_end-end.result) v.items e, rest));
+      slots = c.in_ok-push_end.ensures.slots ∙ ap (λ x. x ++ new.to ∷ []) v.slots ∙ append_assoc c.args.self.now.slots.items (item_ends v.added) (new.to ∷ []) ∙ ap (λ x. c.args.self.now.slots.items ++ x) (sym (map-append (λ c. c.to) v.added (new ∷ [])));
+      parts = λ more rest. subst (TargetWindows all c.args.window) (sym (append_assoc v.added (new ∷ []) more)) (v.parts (new ∷ more) (refl, refl, subst (λ x. IsGroup (g.I.IndexedItems.pairs x) w c.group_end-end.result) v.items e, rest));
       order = omega arith;
       to = v.to;
       depth = v.depth;
@@ -53,4 +53,4 @@ pub returns-clause-ends : goal.returns-clause-ends
 returns-clause-ends g c =
     let v = c.loop-rest.invariant in
     let t = c.loop-rest-test.false in let o = v.order in let to = v.to in
-    (v.added, subst (Parts (g.I.IndexedItems.pairs c.args.self.now.items) c.args.window) (append-nil v.added) (v.parts [] (omega arith)), v.slots)
+    (v.added, subst (TargetWindows (g.I.IndexedItems.pairs c.args.self.now.items) c.args.window) (append-nil v.added) (v.parts [] (omega arith)), v.slots)
