@@ -2,7 +2,7 @@
 use Rattle.std.proofs.Common.{◌≡◌, ℕ, zero, suc, ◌+◌, ◌-◌, ◌*◌, ◌/◌, ◌%◌, ◌<◌, ◌≤◌, List, [], ◌∷◌, ◌++◌, length, refl, sym, ◌∙◌, ap, subst, arith, map, get_or, take, drop, true, false, Some, None, inl, inr}
 use Rattle.std.specs.Prelude.{◌↔◌, ◌&&◌, ◌==◌, All, IsTrue, slice_index, nat_lt, cond, Bool, leb}
 use Rattle.std.specs.List.Sorted.{IsStrictlyIncreasing}
-use Rattle.std.proofs.lemmas.List.{get_or-map, get_or-take, length-map, length-take-le, length-drop, take-append-drop, get_or_append_left}
+use Rattle.std.proofs.lemmas.List.{length-take, take-take, get_or-map, get_or-take, length-map, length-take-le, length-drop, take-append-drop, get_or_append_left}
 use Rattle.std.proofs.lemmas.Bool.{cases_lt, leb-true, le-leb}
 use Rattle.std.proofs.lemmas.Str.Ascii.{lowercase_ascii, lowercase_is}
 use Rattle.zerotrie_base.specs.Hashes.{f1, f2, place_of, number_behind, IsPerfect}
@@ -45,6 +45,12 @@ kept simple_ascii keeps b = refl
 kept ignore_case keeps b = absurd (cc)
 kept perfect_hash keeps b = refl
 kept extended_capacity keeps b = refl
+
+-- the first of some bytes that stand at the front of others
+pub front_lies : (n : ℕ) (bytes tail : List ℕ) → bytes ≡ take (length bytes) tail → n ≤ length bytes → (n ≤ length tail) × (take n tail ≡ take n bytes)
+front_lies n bytes tail lies within =
+    let len : length bytes ≡ _ = ap length lies ∙ length-take (length bytes) tail in
+    (omega arith, sym (ap (take n) lies ∙ take-take n (length bytes) tail within))
 
 -- edges that keep their case, by the neighbours that stand at their front
 front_rises : (kind : Kind) (n m : ℕ) (bytes : List ℕ) → (flags kind).ignore_case ≡ false → n ≤ length bytes → n ≤ 16 → n ≤ m + 1

@@ -172,7 +172,7 @@ fn go_behind<'a, K: ZeroTrieWithOptions>(
         AlwaysOnward K.kind (branch_shape branch.entry) r.0.rest.now Expected.Something r.1) }
     ensures none { IfNone result (AlwaysNoText K.kind (branch_shape branch.entry)) }
 {
-    if !has_front::<K>(&branch) {
+    if !has_front::<K>(&branch, here.behind(branch.behind)) {
         return None;
     }
     let (_, body) = branch.behind.split_at(branch.edges);

@@ -64,17 +64,18 @@ fn is_perfect(table: &[u8], edges: &[u8]) -> bool
 
 /// Whether the search table is one of the kind, and its edges are bytes of the kind.
 ///
-/// If edges rise, and the last of them is ASCII, all are.
-fn has_table<K: ZeroTrieWithOptions>(branch: &Branch<'_>) -> bool
+/// If edges rise, and the last of them is ASCII, all are. The bytes from the first edge on go on to the end of the text.
+fn has_table<K: ZeroTrieWithOptions>(branch: &Branch<'_>, tail: &[u8]) -> bool
+    requires { branch.now.behind.now ≡ take (length branch.now.behind.now) tail.now }
     ensures { length branch.now.table.now ≡ table_size K.kind branch.now.edges
         → (IsTrue result ↔ HasTable K.kind (take branch.now.edges branch.now.behind.now)
         branch.now.table.now) }
 {
     let (edges, _) = branch.behind.split_at(branch.edges);
     if !K::USE_PHF {
-        branch.edge_at(branch.edges - 1) < 128 && front_rises::<K>(branch.behind, branch.edges)
+        branch.edge_at(branch.edges - 1) < 128 && front_rises::<K>(tail, branch.edges)
     } else if branch.edges < 16 {
-        front_rises::<K>(branch.behind, branch.edges)
+        front_rises::<K>(tail, branch.edges)
     } else {
         is_perfect(branch.table, edges)
     }
@@ -99,14 +100,16 @@ fn has_width(body: &[u8], offsets: usize, width: usize) -> bool
     width - 1 == least_width(targets.len())
 }
 
-/// Whether the search table of a branch and the width of its offsets are well-formed.
-pub(super) fn has_front<K: ZeroTrieWithOptions>(branch: &Branch<'_>) -> bool
+/// Whether the search table of a branch and the width of its offsets are well-formed, from where its edges stand.
+pub(super) fn has_front<K: ZeroTrieWithOptions>(branch: &Branch<'_>, edges: Here<'_>) -> bool
+    requires { edges.rest.now ≡ branch.now.behind.now }
     ensures yes { IsTrue result → HasFront K.kind branch.now.edges branch.now.width
         branch.now.table.now branch.now.behind.now }
     ensures no { result ≡ false → AlwaysNoText K.kind (branch_shape branch.now) }
 {
     let (_, body) = branch.behind.split_at(branch.edges);
-    has_width(body, branch.width * (branch.edges - 1), branch.width) && has_table::<K>(branch)
+    has_width(body, branch.width * (branch.edges - 1), branch.width)
+        && has_table::<K>(branch, edges.tail)
 }
 
 /// The target of an edge, which begins at a place among the targets. `None` if its offset falls, or passes the end, or it
