@@ -1,2 +1,3 @@
 mod ShownLemmas
 mod MadeLemmas
+mod ListedLemmas

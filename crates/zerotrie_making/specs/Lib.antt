@@ -1,3 +1,4 @@
 pub mod Plans
 pub mod Sources
 pub mod Made
+pub mod Laws

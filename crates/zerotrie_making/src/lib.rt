@@ -2,6 +2,7 @@
 #![tactic(auto)]
 
 mod json;
+pub mod laws;
 mod making;
 mod plan;
 mod reading;

@@ -1,0 +1,51 @@
+-- Pairs that a trie lists, read again and built.
+use Rattle.std.proofs.Common.{◌≡◌, ℕ, ◌^◌, ◌<◌, ◌++◌, List, [], ◌∷◌, Some, refl, ◌∙◌, subst, sym}
+use Rattle.std.specs.Prelude.{All}
+use Rattle.std.proofs.lemmas.List.Elements.{All-nil, All-cons, All-map, All-append}
+use Rattle.zerotrie_core.specs.Kind.{Kind}
+use Rattle.zerotrie_core.specs.Maps.{Map, Pairs, with_front}
+use Rattle.zerotrie_core.specs.Texts.{Lists, ListEach, Means, nothing, value, literal, span, branch, no_edge, edge}
+use Rattle.zerotrie_lines.specs.Lines.{tsv_lines}
+use Rattle.zerotrie_lines.specs.Laws.{LinesReadBack, OneReading}
+use Rattle.zerotrie_lines.specs.declared.reading.Format.TheVariants.{Tsv}
+use Rattle.zerotrie_lines.specs.Tables.{lowered}
+use Rattle.zerotrie_queries.specs.Kinds.{kind_of}
+use Rattle.zerotrie_queries.specs.declared.kind.TrieKind.{TrieKind}
+use Rattle.zerotrie_making.specs.Plans.{file_of}
+use Rattle.zerotrie_making.specs.Sources.{IsPairs}
+use Rattle.zerotrie_making.specs.Made.{IsFileOf}
+use Rattle.zerotrie_making.specs.Laws.{ListedIsMadeAgain}
+use Rattle.zerotrie_making.specs.declared.plan.Plan.{Plan}
+use Rattle.zerotrie_making.specs.declared.plan.Source.TheVariants.{Text}
+
+abbrev Small : List ℕ × ℕ → Type 0
+Small e = e.1 < 2 ^ 64
+
+-- what a text lists has values below 2 ^ 64
+mutual
+  values_below : {kind : Kind} {bytes : List ℕ} {pairs : Pairs} → Lists kind bytes pairs → All Small pairs
+  values_below nothing = All-nil Small
+  values_below (value {v = v} {pairs = pairs} s n text) = All-cons Small ([], v) pairs s.below (values_below text)
+  values_below (literal {b = b} {pairs = pairs} l n text) = All-map Small (λ e. (b ∷ e.0, e.1)) pairs (values_below text)
+  values_below (span {pairs = pairs} run s some high n r f text) = All-map Small (λ e. (run ++ e.0, e.1)) pairs (values_below text)
+  values_below (branch b each) = each_below each
+
+  each_below : {kind : Kind} {edges : List ℕ} {targets : List (List ℕ)} {pairs : Pairs} → ListEach kind edges targets pairs → All Small pairs
+  each_below no_edge = All-nil Small
+  each_below (edge {e = e} {pairs = pairs} {more = more} n text each) =
+      All-append Small (with_front e pairs) more (All-map Small (λ p. (e ∷ p.0, p.1)) pairs (values_below text)) (each_below each)
+
+-- the file of pairs that a trie lists
+of_listed : (kind : TrieKind) (bytes file : List ℕ) (m : Map) (plan : Plan) (means : Means (kind_of kind) bytes m)
+    → plan.kind ≡ Some kind → IsFileOf plan means.pairs file → (again : List ℕ) × (file ≡ file_of plan.bare (kind_of kind) again) × Means (kind_of kind) again m
+of_listed kind bytes file m plan means named made =
+    let f = rw named at made.is in
+    let b = rw named at made.build in
+    (made.bytes, f, subst (Means (kind_of kind) made.bytes) (sym means.is) b.1.means)
+
+pub made_again : LinesReadBack → OneReading → ListedIsMadeAgain
+made_again back one kind bytes file m plan means tsv named kept made =
+    let read : IsPairs (Text Tsv) (tsv_lines means.pairs) made.0 = subst (λ s. IsPairs s (tsv_lines means.pairs) made.0) tsv made.1 in
+    let same = one (tsv_lines means.pairs) means.pairs made.0 (back means.pairs (values_below means.lists)) read in
+    let plain : lowered plan.lower_case made.0 ≡ made.0 = rw kept refl in
+    of_listed kind bytes file m plan means named (subst (λ pairs. IsFileOf plan pairs file) (plain ∙ same) made.2)
