@@ -154,8 +154,8 @@ fn by_length<'a>(first: Here<'a>, next: Here<'a>) -> (Here<'a>, Here<'a>)
     }
 }
 
-/// The longest target of a branch, which is not empty, if the branch and all other targets are well-formed, and the depth
-/// that these give to the branch.
+/// The longest target of a branch, if the branch and all other targets are well-formed, and the depth that these give to
+/// the branch.
 ///
 /// Each offset is read once: of the targets so far, all but the longest are tested, and that one comes to its turn when a
 /// longer one is met.
@@ -167,7 +167,6 @@ fn go_behind<'a, K: ZeroTrieWithOptions>(
     requires { EndsWith here.rest.now branch.behind.now }
     ensures shorter { IfSome result (λ r. length r.0.rest.now < length branch.entry.behind.now) }
     ensures shallow { IfSome result (λ r. IsShallow branch.entry.behind.now r.1) }
-    ensures filled { IfSome result (λ r. r.0.rest.now ≢ []) }
     ensures some { IfSome result (λ r.
         AlwaysOnward K.kind (branch_shape branch.entry) r.0.rest.now Expected.Something r.1) }
     ensures none { IfNone result (AlwaysNoText K.kind (branch_shape branch.entry)) }
@@ -240,9 +239,8 @@ fn is_text_counted<K: ZeroTrieWithOptions>(here: Here<'_>, expected: Expected) -
             Step::Behind(branch) => match go_behind::<K>(at, branch) {
                 None => return (false, most),
                 Some((longest, count)) => {
-                    let (after, following) = pass(longest);
-                    at = after;
-                    next = following;
+                    at = longest;
+                    next = Expected::Something;
                     most = most.max(count);
                 }
             },

@@ -263,18 +263,13 @@ is_text_counted-loop-node-preserved g t c =
     let behind = branch_shorter kind b.edges b.width b.table.now b.behind.now rest begins in
     let within = so_far.within in
     let m = c.max-most.ensures in
-    let after = c.pass-following.result.0.rest.now in
-    let following = c.pass-following.result.1 in
-    let shorter' = c.pass-following.ensures.shorter in
-    let one : max count 1 ≡ count = (let h = c.in-Some-go_behind.ensures.shallow.0 in omega arith) in
-    let way : Onward kind rest after following count = subst (λ k. Onward kind rest after following k) one
-    (onward_more (c.in-Some-go_behind.ensures.some rest begins) c.in-Some-go_behind.ensures.filled (c.pass-following.ensures.onward c.in-Some-go_behind.ensures.filled kind)) in
+    let way = c.in-Some-go_behind.ensures.some rest begins in
     let suits_here = c.in-Behind.ensures.1 rest c.in-Some.ensures.some in
     record {
       within = omega arith;
       shallow = subst (λ n. IsShallow c.args.here.rest.now n) (sym m)
           (shallow_max c.args.here.rest.now c.loop-node.most count so_far.shallow (shallow_longer b.behind.now c.args.here.rest.now count (omega arith) c.in-Some-go_behind.ensures.shallow));
-      onward = λ suits. subst (λ n. Onward kind c.args.here.rest.now after following n) (sym m) (onward_more (so_far.onward suits) suits_here way);
+      onward = λ suits. subst (λ n. Onward kind c.args.here.rest.now longest Something n) (sym m) (onward_more (so_far.onward suits) suits_here way);
       begins = λ suits text. so_far.begins suits_here (way.back suits text);
     }
 
