@@ -224,29 +224,14 @@ uint32_t zerotrie_list_some(uint32_t kind, const uint8_t *bytes, size_t len, con
 
 /* --- Texts ---------------------------------------------------------------------------------------------------------- */
 
-/* The text of a status. */
+/* Lends the text of a status, in UTF-8: ptr is a string of C, and len counts the zero that ends it. It is never freed. */
+void zerotrie_status_bytes(uint32_t status, zerotrie_bytes *text);
+
+/* The text of a status, as "the keys do not ascend: sort them by their bytes, each once". */
 static inline const char *zerotrie_status_text(uint32_t status) {
-    switch (status) {
-    case ZEROTRIE_DONE: return "Done";
-    case ZEROTRIE_NON_ASCII: return "a key has a byte that is not ASCII: take a kind of trie for keys of any bytes";
-    case ZEROTRIE_CAPACITY_EXCEEDED: return "the text of the trie would be too long for its kind: take ZeroTrieExtendedCapacity, or fewer pairs";
-    case ZEROTRIE_NO_PERFECT_HASH: return "no perfect hash was found for the edges of a branch: take a kind without hashed tables, or change a key";
-    case ZEROTRIE_MIXED_CASE: return "two keys begin alike but for the case of a letter: lower-case the keys first";
-    case ZEROTRIE_ILLEGAL_DELIMITER: return "a text has the delimiter in it: take a delimiter that none has";
-    case ZEROTRIE_DUPLICATE_KEY: return "a key was given twice: give each key once";
-    case ZEROTRIE_UNSORTED: return "the keys do not ascend: sort them by their bytes, each once";
-    case ZEROTRIE_BUFFER_TOO_SMALL: return "the array is too small for the trie: take a larger one";
-    case ZEROTRIE_BUFFER_TOO_LARGE: return "the array is too large for the trie: take a smaller one";
-    case ZEROTRIE_STACK_EXCEEDED: return "the stack is too small for the trie: take a larger one";
-    case ZEROTRIE_OUT_OF_MEMORY: return "out of memory";
-    case ZEROTRIE_UNKNOWN_KIND: return "the number is no kind of trie: take 0, 3, 7 or 8";
-    case ZEROTRIE_NO_TAG: return "there are no bytes, and so no tag: give all of the tagged bytes";
-    case ZEROTRIE_INVALID_TAG: return "the first byte is the tag of no kind: give bytes that were written with a tag";
-    case ZEROTRIE_NO_ENTRY: return "the table has no such entry";
-    case ZEROTRIE_RECORD_TRUNCATED: return "the record is cut: give all of its bytes";
-    case ZEROTRIE_TRAILING_BYTES: return "bytes follow the record: give its bytes alone";
-    default: return "Unknown status";
-    }
+    zerotrie_bytes text;
+    zerotrie_status_bytes(status, &text);
+    return (const char *)text.ptr;
 }
 
 #ifdef __cplusplus

@@ -6,8 +6,8 @@ import hashlib
 import pathlib
 import zipfile
 
-NAME = "zerotrie-0.1.0"
-METADATA = "Metadata-Version: 2.1\nName: zerotrie\nVersion: 0.1.0\nRequires-Python: >=3.9\n"
+NAME = "zerotrie-0.2.5.post1"
+METADATA = "Metadata-Version: 2.1\nName: zerotrie\nVersion: 0.2.5.post1\nRequires-Python: >=3.9\n"
 
 
 def build_wheel(wheel_directory, config_settings=None, metadata_directory=None):

@@ -17,6 +17,7 @@ from __future__ import annotations
 
 import array
 import ctypes
+import itertools
 import mmap
 import os
 from collections.abc import Iterable, Iterator, Mapping
@@ -35,27 +36,15 @@ Pairs = Union[Mapping[Any, int], Iterable["tuple[Key, int]"]]
 SIMPLE_ASCII, PERFECT_HASH, EXTENDED_CAPACITY, IGNORE_CASE = 0, 3, 7, 8
 
 _DONE, _TOO_SMALL, _NO_MEMORY, _NO_ENTRY = 0, 8, 11, 15
-_TEXTS = {
-    1: "a key has a byte that is not ASCII: take a kind of trie for keys of any bytes",
-    2: "the text of the trie would be too long for its kind: take ZeroTrieExtendedCapacity, or fewer pairs",
-    3: "no perfect hash was found for the edges of a branch: take a kind without hashed tables, or change a key",
-    4: "two keys begin alike but for the case of a letter: lower-case the keys first",
-    5: "a text has the delimiter in it: take a delimiter that none has",
-    6: "a key was given twice: give each key once",
-    7: "the keys do not ascend: sort them by their bytes, each once",
-    12: "the number is no kind of trie: take 0, 3, 7 or 8",
-    13: "there are no bytes, and so no tag: give all of the tagged bytes",
-    14: "the first byte is the tag of no kind: give bytes that were written with a tag",
-    16: "the record is cut: give all of its bytes",
-    17: "bytes follow the record: give its bytes alone",
-}
 
 
 class ZeroTrieError(ValueError):
     """Why something was refused. `status` is the number that zerotrie.h has for it."""
 
     def __init__(self, status: int) -> None:
-        super().__init__(_TEXTS.get(status, "Unknown status"))
+        text = _Part()
+        _lib.zerotrie_status_bytes(status, ctypes.byref(text))
+        super().__init__(ctypes.string_at(text.ptr, text.len - 1).decode())
         self.status = status
 
 
@@ -102,6 +91,7 @@ _DECLARED = {
     "zerotrie_tagged": (c_uint32, [c_uint32, *_LENT, *_ROOM, _SIZE]),
     "zerotrie_dense_get": (c_uint32, [*_LENT, *_TEXT, *_TEXT, _SIZE]),
     "zerotrie_dense_build": (c_uint32, [*_TEXT, *_SIZES, *_TEXT, *_SIZES, *_SIZES, c_uint8, *_ROOM, _SIZE]),
+    "zerotrie_status_bytes": (None, [c_uint32, POINTER(_Part)]),
     "zerotrie_list": (c_uint32, [c_uint32, *_LENT, *_TEXT, *_ROOM, *_SIZES, *_SIZES, _SIZE, _SIZE]),
     "zerotrie_list_some": (c_uint32, [c_uint32, *_LENT, *_TEXT, c_bool, *_TEXT, *_ROOM, *_SIZES, *_SIZES, _SIZE, _SIZE]),
 }
@@ -281,16 +271,15 @@ class ZeroTrie(Mapping):
 
     def get_many(self, keys: Iterable[Key], missing: int = (1 << 64) - 1) -> array.array:
         """The value of each key, or `missing`, as an array of numbers: one call for all."""
-        texts = [_key(key) for key in keys]
-        ends, at = array.array("Q", bytes(8 * max(1, len(texts)))), 0
-        for number, text in enumerate(texts):
-            at += len(text)
-            ends[number] = at
-        values = array.array("Q", bytes(8 * max(1, len(texts))))
-        sizes = c_size_t * len(values)
-        _check(_lib.zerotrie_get_many(self.kind, self._at, self._len, b"".join(texts), at, sizes.from_buffer(ends), len(texts),
+        texts = [key if type(key) is bytes else _key(key) for key in keys]
+        if not texts:
+            return array.array("Q")
+        ends = array.array("Q", itertools.accumulate(map(len, texts)))
+        values = array.array("Q", bytes(8 * len(texts)))
+        sizes = c_size_t * len(texts)
+        _check(_lib.zerotrie_get_many(self.kind, self._at, self._len, b"".join(texts), ends[-1], sizes.from_buffer(ends), len(texts),
                                       missing, sizes.from_buffer(values), len(texts)))
-        return values[: len(texts)]
+        return values
 
     def longest_prefix(self, text: Key) -> Optional[tuple[bytes, int]]:
         """The longest key that the text begins with, and its value."""

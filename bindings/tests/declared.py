@@ -77,22 +77,21 @@ def in_python():
 
 
 def statuses():
-    """The number and the text of each status: of the header, of the error that the library builds on, and of Python."""
+    """The text of each status is that of the library's error, and the numbers are those of the header and of Rust."""
     header = (here / "c/zerotrie.h").read_text()
     numbers = {name: int(number) for name, number in re.findall(r"(ZEROTRIE_\w+) = (\d+)", header)}
-    texts = {numbers[name]: text for name, text in re.findall(r'case (ZEROTRIE_\w+): return "(.*?)";', header)}
+    texts = re.findall(r'^    "(.*?)\\0",$', (here / "../crates/zerotrie_c/src/texts.rt").read_text(), re.M)
+    assert len(texts) == len(set(numbers.values()) - {0}) + 1 == 18, (len(texts), numbers)
     errors = re.findall(r'#\[error\("(.*?)"\)\]\n\s+(\w+)', (here / "../crates/zerotrie_base/src/error.rt").read_text())
     for number, (text, name) in enumerate(errors, 1):
         assert texts[number] == text.replace("take one of this many bytes: {0}", "take a smaller one"), (number, name, text, texts[number])
     records = dict(zip(("ZEROTRIE_RECORD_TRUNCATED", "ZEROTRIE_TRAILING_BYTES"),
                        re.findall(r'#\[error\("(.*?)"\)\]', (here / "../crates/zerotrie/src/dense/record.rt").read_text())))
     assert len(records) == 2 and all(texts[numbers[name]] == text for name, text in records.items())
-    import zerotrie
-    assert all(texts[number] == text for number, text in zerotrie._TEXTS.items())
     in_rust = (here / "rust/zerotrie-proved/src/lib.rs").read_text()
-    numbered = dict(re.findall(r"(\d+) => Error::(\w+),", in_rust))
-    shown = dict(re.findall(r'Error::(\w+) => "(.*?)",', in_rust))
-    assert numbered and all(shown[name] == texts[int(number)] for number, name in numbered.items())
+    cases = {int(number): name for number, name in re.findall(r"\((\d+), Error::(\w+)\)", in_rust)}
+    in_c = {number: name.removeprefix("ZEROTRIE_").replace("_", "").lower() for name, number in numbers.items()}
+    assert cases and all(name.lower() == in_c[number] for number, name in cases.items()), (cases, in_c)
 
 
 want = exported()

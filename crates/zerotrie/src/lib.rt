@@ -35,8 +35,8 @@
 //! A crate that stands on `zerotrie` alone can state and prove contracts over it. `Rattle.zerotrie.specs`
 //! has the definitions that the library's clauses cite. Of the lemmas, `Rattle.zerotrie.proofs.Builds` says
 //! what a build over an iterator is of the list under it, `Rattle.zerotrie.proofs.Lookups` and `Found` what a
-//! look-up answers by the pairs alone, `Cursors` and `Fallbacks` what a cursor finds on its way, `Forms` what
-//! was written as JSON and read again, and `Tables` what the record of a dense table keeps. The crate
+//! look-up answers by the pairs alone, `Cursors` what a cursor finds on its way, `Fallbacks` what the last of
+//! some keys is that a text begins with, `Forms` what was written as JSON and read again, and `Tables` what the record of a dense table keeps. The crate
 //! `zerotrie_uses` has callers to copy.
 //! `laws` has the laws of texts and maps, and `json_keeps_the_pairs` that of JSON.
 #![tactic(auto)]

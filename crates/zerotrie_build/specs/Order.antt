@@ -32,14 +32,14 @@ abbrev pub sort_cmp : Kind → List ℕ → List ℕ → Ordering
 sort_cmp kind a b = ordering_then (fold_cmp kind a b) (slice_cmp nat_cmp a b)
 
 -- the folds of the first n bytes of a key as one number, behind the digits that are there; zeros stand where the key has ended
-abbrev pub front_behind : Kind → ℕ → ℕ → List ℕ → ℕ
-front_behind kind zero there key = there
-front_behind kind (suc n) there [] = front_behind kind n (256 * there) []
-front_behind kind (suc n) there (b ∷ key) = front_behind kind n (256 * there + fold_byte kind b) key
+abbrev pub prefix_behind : Kind → ℕ → ℕ → List ℕ → ℕ
+prefix_behind kind zero there key = there
+prefix_behind kind (suc n) there [] = prefix_behind kind n (256 * there) []
+prefix_behind kind (suc n) there (b ∷ key) = prefix_behind kind n (256 * there + fold_byte kind b) key
 
 -- of the first eight
-abbrev pub front_of : Kind → List ℕ → ℕ
-front_of kind key = front_behind kind 8 0 key
+abbrev pub prefix_of : Kind → List ℕ → ℕ
+prefix_of kind key = prefix_behind kind 8 0 key
 
 -- the fold of a byte, or zero where there is none
 abbrev pub digit_of : Kind → Option ℕ → ℕ

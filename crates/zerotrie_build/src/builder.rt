@@ -12,8 +12,9 @@ ghost use Rattle.zerotrie_build.specs.Order.{Ordered, AreKeys, AreValues};
 
 use crate::indexed::IndexedItems;
 use crate::measuring::measure_all;
-use crate::order::{are_ascii, are_in_order, are_keys, is_ordered, repeats_next, sorted_by_fold};
+use crate::order::{are_ascii, are_in_order, are_keys, is_ordered, repeats_next};
 use crate::slice_indices::ByteSliceWithIndices;
+use crate::sort::sorted_by_fold;
 use crate::store::TrieBuilderStore;
 use crate::writing::write;
 use std::alloc::{AllocError, Allocator, Global};
@@ -50,7 +51,7 @@ fn in_order<K: ZeroTrieWithOptions, Key: TrieKey, A: Allocator + Copy>(
 }
 
 /// The bytes of the trie of items in the order of the kind.
-fn grow_ordered<
+fn build_ordered<
     'a,
     K: ZeroTrieWithOptions,
     I: IndexedItems<'a>,
@@ -69,7 +70,7 @@ fn grow_ordered<
 }
 
 /// The bytes of the trie of items in any order, which are put in the order of the kind.
-fn grow_sorted<
+fn build_sorted<
     K: ZeroTrieWithOptions,
     Key: TrieKey,
     S: TrieBuilderStore + Drop,
@@ -79,12 +80,12 @@ fn grow_sorted<
 {
     let items = in_order::<K, Key, A>(spare, given)?;
     let items = ByteSliceWithIndices::from_byte_slice(items.as_slice());
-    grow_ordered::<K, _, S, A>(alloc, spare, items)
+    build_ordered::<K, _, S, A>(alloc, spare, items)
 }
 
 /// The bytes of the trie of items that ascend by the bytes of their keys. If the kind has another order,
 /// they are sorted once more, unless they are in that order too.
-fn grow_ascending<K: ZeroTrieWithOptions, S: TrieBuilderStore + Drop, A: Allocator + Copy>(
+fn build_ascending<K: ZeroTrieWithOptions, S: TrieBuilderStore + Drop, A: Allocator + Copy>(
     alloc: Global,
     spare: A,
     items: ByteSliceWithIndices<'_>,
@@ -93,11 +94,11 @@ fn grow_ascending<K: ZeroTrieWithOptions, S: TrieBuilderStore + Drop, A: Allocat
     ensures { IsBuild any_order K.kind S.list (pairs items.entry) result }
 {
     if are_in_order::<K>(items)? {
-        return grow_ordered::<K, _, S, A>(alloc, spare, items);
+        return build_ordered::<K, _, S, A>(alloc, spare, items);
     }
     match items {
-        ByteSliceWithIndices::Bytes(items) => grow_sorted::<K, &[u8], S, A>(alloc, spare, items),
-        ByteSliceWithIndices::Str(items) => grow_sorted::<K, &str, S, A>(alloc, spare, items),
+        ByteSliceWithIndices::Bytes(items) => build_sorted::<K, &[u8], S, A>(alloc, spare, items),
+        ByteSliceWithIndices::Str(items) => build_sorted::<K, &str, S, A>(alloc, spare, items),
     }
 }
 
@@ -105,7 +106,7 @@ fn grow_ascending<K: ZeroTrieWithOptions, S: TrieBuilderStore + Drop, A: Allocat
 /// beside the store comes from the allocator `spare`.
 ///
 /// A build is refused as one by `ZeroTrieBuilder` is.
-pub fn grow_slice<S: TrieBuilderStore + Drop, A: Allocator + Copy>(
+pub fn build_slice<S: TrieBuilderStore + Drop, A: Allocator + Copy>(
     alloc: Global,
     spare: A,
     items: ByteSliceWithIndices<'_>,
@@ -115,19 +116,19 @@ pub fn grow_slice<S: TrieBuilderStore + Drop, A: Allocator + Copy>(
     ensures { IsBuild any_order (kind_with options) S.list (pairs items.entry) result }
 {
     if options.ignore_case() {
-        grow_ascending::<Ignore, S, A>(alloc, spare, items)
+        build_ascending::<Ignore, S, A>(alloc, spare, items)
     } else if options.extended() {
-        grow_ascending::<Ext, S, A>(alloc, spare, items)
+        build_ascending::<Ext, S, A>(alloc, spare, items)
     } else if options.use_phf() {
-        grow_ascending::<Hash, S, A>(alloc, spare, items)
+        build_ascending::<Hash, S, A>(alloc, spare, items)
     } else {
-        grow_ascending::<Simple, S, A>(alloc, spare, items)
+        build_ascending::<Simple, S, A>(alloc, spare, items)
     }
 }
 
 /// The bytes of the trie of items in any order. If they are in the order of the kind, they are read where they stand, and
 /// else they are sorted.
-fn grow_given<
+fn build_given<
     K: ZeroTrieWithOptions,
     Key: TrieKey,
     S: TrieBuilderStore + Drop,
@@ -136,16 +137,16 @@ fn grow_given<
     ensures { IsBuild any_order K.kind S.list (keyed Key.key given.now) result }
 {
     if !is_ordered::<K, _>(given) {
-        return grow_sorted::<K, Key, S, A>(alloc, spare, given);
+        return build_sorted::<K, Key, S, A>(alloc, spare, given);
     }
     if !are_keys::<K, _>(given) {
         return Err(ZeroTrieBuildError::NonAsciiError);
     }
-    grow_ordered::<K, _, S, A>(alloc, spare, given)
+    build_ordered::<K, _, S, A>(alloc, spare, given)
 }
 
 /// The bytes of the trie of items in any order, in the kind of the options.
-fn grow_any<Key: TrieKey, S: TrieBuilderStore + Drop, A: Allocator + Copy>(
+fn build_any<Key: TrieKey, S: TrieBuilderStore + Drop, A: Allocator + Copy>(
     alloc: Global,
     spare: A,
     given: &[(Key, usize)],
@@ -154,13 +155,13 @@ fn grow_any<Key: TrieKey, S: TrieBuilderStore + Drop, A: Allocator + Copy>(
     ensures { IsBuild any_order (kind_with options) S.list (keyed Key.key given.now) result }
 {
     if options.ignore_case() {
-        grow_given::<Ignore, Key, S, A>(alloc, spare, given)
+        build_given::<Ignore, Key, S, A>(alloc, spare, given)
     } else if options.extended() {
-        grow_given::<Ext, Key, S, A>(alloc, spare, given)
+        build_given::<Ext, Key, S, A>(alloc, spare, given)
     } else if options.use_phf() {
-        grow_given::<Hash, Key, S, A>(alloc, spare, given)
+        build_given::<Hash, Key, S, A>(alloc, spare, given)
     } else {
-        grow_given::<Simple, Key, S, A>(alloc, spare, given)
+        build_given::<Simple, Key, S, A>(alloc, spare, given)
     }
 }
 
@@ -294,7 +295,7 @@ impl<S: TrieBuilderStore + Drop> ZeroTrieBuilder<S> {
         if !items.is_sorted() {
             return Err(ZeroTrieBuildError::Unsorted);
         }
-        let data = grow_slice(alloc, alloc, items, options)?;
+        let data = build_slice(alloc, alloc, items, options)?;
         Ok(ZeroTrieBuilder { data })
     }
 
@@ -317,7 +318,7 @@ impl<S: TrieBuilderStore + Drop> ZeroTrieBuilder<S> {
     {
         let mut given: Vec<(K, usize)> = iter.into_iter().collect(alloc)?;
         given.shrink_to_fit();
-        let data = grow_any(alloc, alloc, given.as_slice(), options)?;
+        let data = build_any(alloc, alloc, given.as_slice(), options)?;
         Ok(ZeroTrieBuilder { data })
     }
 

@@ -3,19 +3,21 @@
 //! take no memory: they write them from the last to the first into an array or a buffer.
 #![tactic(auto)]
 
+mod branch_layout;
 mod builder;
 mod indexed;
 mod konst;
-mod laying;
+mod leaf;
 mod measuring;
 mod order;
 mod refusal;
 mod slice_indices;
-mod steps;
+mod sort;
 mod store;
+mod windows;
 mod writing;
 
-pub use builder::{ZeroTrieBuilder, encoded_len, grow_slice};
+pub use builder::{ZeroTrieBuilder, build_slice, encoded_len};
 pub use konst::{ZeroTrieBuilderConst, bytes_within, fill_from_end};
 pub use refusal::{Refusal, why_iter_refused, why_slice_refused};
 pub use slice_indices::ByteSliceWithIndices;

@@ -1,19 +1,20 @@
 //! The first pass: the lengths of the text and of the targets of its branches.
 
-ghost use Rattle.std.specs.Prelude.{◌≡◌, ◌≢◌, ◌↔◌, ℕ, List, [], ◌∷◌, ◌+◌, ◌-◌, ◌*◌, ◌%◌, ◌^◌, ◌<◌, ◌≤◌, ◌⊎◌, ◌++◌, length, replicate, reverse, slice_index, IfOk, OnOk, IfErr, IsTrue};
+ghost use Rattle.std.specs.Prelude.{◌≡◌, ◌≢◌, ◌↔◌, ℕ, List, [], ◌∷◌, ◌+◌, ◌-◌, ◌*◌, ◌%◌, ◌^◌, ◌<◌, ◌≤◌, ◌⊎◌, ◌++◌, length, replicate, reverse, slice_index, IfOk, OnOk, IfErr, IfSome, IsTrue};
 ghost use Rattle.zerotrie_core.specs.Kind.{is_hashed, greatest_width};
-ghost use Rattle.zerotrie_core.specs.Numbers.{Form, value_form, span_form, spelled_as};
+ghost use Rattle.zerotrie_core.specs.Numbers.{Form, value_form, spelled_as};
 ghost use Rattle.zerotrie_core.specs.Maps.{map_of};
 ghost use Rattle.zerotrie_core.specs.Branches.{IsWidth, total as sum};
 ghost use Rattle.zerotrie_core.specs.Canonical.{size_of, branch_size};
 ghost use Rattle.zerotrie_core.specs.Fits.{ExceedsCapacity};
 ghost use Rattle.zerotrie_build.specs.Order.{Ordered, AreKeys, AreLow};
 ghost use Rattle.zerotrie_build.specs.passes.Windows.{window as window_of, step_of};
-ghost use Rattle.zerotrie_build.specs.passes.Measured.{Run, Stops, Parts, IsMeasured};
-ghost use Rattle.zerotrie_build.specs.passes.Walking.{tos, spare_len, with_len, left_open, IsOpened, Closing, IsTurn, IsNext};
+ghost use Rattle.zerotrie_build.specs.passes.Measured.{Passes, NoneFirst, TargetWindows, IsMeasured};
+ghost use Rattle.zerotrie_build.specs.passes.Walking.{item_ends, spare_len, with_len, left_open, IsOpened, Closing, IsTurn, IsNext};
 
 use crate::indexed::IndexedItems;
-use crate::steps::{Step, Window, first_step, group_end, literals_end, one_item, rest_len};
+use crate::leaf::{rest_len, single_item};
+use crate::windows::{Step, Window, first_step, group_end, literals_end};
 use std::alloc::{AllocError, Allocator};
 use zerotrie_core::{ZeroTrieBuildError, ZeroTrieWithOptions};
 
@@ -32,7 +33,7 @@ pub(crate) struct Measured<A: Allocator> {
 
 /// A branch whose targets are measured, one after another.
 #[derive(Clone, Copy, Debug)]
-struct Open {
+struct OpenBranch {
     /// Where the items of the target that is measured begin, and how many bytes of their keys stand in front
     /// of its edge.
     from: usize,
@@ -57,15 +58,15 @@ enum Turn {
 
 /// The slots, and the branches that the window stands in which is measured, the innermost last.
 #[derive(Drop)]
-struct Measuring<I, A: Allocator> {
+struct FirstPass<I, A: Allocator> {
     items: I,
     slots: Vec<usize, A>,
     counts: Vec<u8, A>,
-    branches: Vec<Open, A>,
+    branches: Vec<OpenBranch, A>,
 }
 
 /// The sum, if it is below 2^64.
-fn plus(a: usize, b: usize) -> Result<usize, ZeroTrieBuildError>
+fn checked_sum(a: usize, b: usize) -> Result<usize, ZeroTrieBuildError>
     ensures sum { IfOk result (λ c. c ≡ a + b) }
     ensures refused { IfErr result (λ e.
         (e ≡ ZeroTrieBuildError.CapacityExceeded) × (2 ^ 64 ≤ a + b)) }
@@ -96,55 +97,43 @@ fn value_len(value: usize) -> usize
     number_len(16, value)
 }
 
-/// How many bytes the length of a span has.
-fn count_len(count: usize) -> usize
-    ensures { result ≡ length (spelled_as span_form count) }
-{
-    number_len(16, count)
-}
-
-/// The window after the values, literals and spans that stand first, and how many bytes these have.
+/// The end of a window of one item, as most are, and how many bytes its text has. `None` if there are more items, or if
+/// the rest of the key has spans that are told one by one. If `ascii` is true, all keys are ASCII.
 #[inline(always)]
-fn behind_nodes<'a, K: ZeroTrieWithOptions, I: IndexedItems<'a>>(
+fn behind_leaf<'a, K: ZeroTrieWithOptions, I: IndexedItems<'a>>(
     items: I,
     start: Window,
-) -> Result<(Window, usize), ZeroTrieBuildError>
+    ascii: bool,
+) -> Result<Option<(Window, usize)>, ZeroTrieBuildError>
     requires keys { AreKeys K.kind (I.pairs items) }
+    requires ascii { IsTrue ascii → AreLow (I.pairs items) }
     requires within { start.to ≤ length (I.pairs items) }
     requires ordered { Ordered K.kind (window_of (I.pairs items) start) }
-    ensures run { IfOk result (λ r. Run K.kind (I.pairs items) start r.0 r.1) }
-    ensures stops { IfOk result (λ r. Stops K.kind (I.pairs items) r.0) }
-    ensures room { IfOk result (λ r. step_of K.kind (I.pairs items) r.0 ≡ Step.Branch
-        → r.0.depth + 1 < 2 ^ 64) }
+    ensures run { IfOk result (λ leaf. IfSome leaf (λ r.
+        Passes K.kind (I.pairs items) start r.0 r.1)) }
+    ensures end { IfOk result (λ leaf. IfSome leaf (λ r.
+        step_of K.kind (I.pairs items) r.0 ≡ Step.End)) }
     ensures refused { IfErr result (λ e. (e ≡ ZeroTrieBuildError.CapacityExceeded)
         × (2 ^ 64 ≤ size_of K.kind (window_of (I.pairs items) start))) }
 {
-    let mut rest = start;
-    let mut len = 0;
-    loop {
-        match first_step::<K, I>(items, rest) {
-            Step::Value(value) => {
-                len = plus(len, value_len(value))?;
-                rest.from += 1;
-            }
-            Step::Literal(_) => {
-                let end = literals_end(items, rest);
-                len = plus(len, end - rest.depth)?;
-                rest.depth = end;
-            }
-            Step::Span(count) => {
-                let lead = plus(len, count_len(count))?;
-                len = plus(lead, count)?;
-                rest.depth += count;
-            }
-            Step::Branch | Step::End => return Ok((rest, len)),
-        }
-    }
+    let Some((rest, value)) = single_item(items, start) else {
+        return Ok(None);
+    };
+    let Some(len) = rest_len::<K>(rest, ascii) else {
+        return Ok(None);
+    };
+    let end = Window {
+        from: start.to,
+        to: start.to,
+        depth: start.depth + rest.len(),
+    };
+    Ok(Some((end, checked_sum(len, value_len(value))?)))
 }
 
-/// Like `behind_nodes`, and at once for a window of one item, as most are. If `ascii` is true, all keys are ASCII.
+/// The window after the values, literals and spans that stand first, and how many bytes these have. If `ascii` is true,
+/// all keys are ASCII.
 #[inline(always)]
-fn behind_run<'a, K: ZeroTrieWithOptions, I: IndexedItems<'a>>(
+fn behind_nodes<'a, K: ZeroTrieWithOptions, I: IndexedItems<'a>>(
     items: I,
     start: Window,
     ascii: bool,
@@ -153,25 +142,37 @@ fn behind_run<'a, K: ZeroTrieWithOptions, I: IndexedItems<'a>>(
     requires ascii { IsTrue ascii → AreLow (I.pairs items) }
     requires within { start.to ≤ length (I.pairs items) }
     requires ordered { Ordered K.kind (window_of (I.pairs items) start) }
-    ensures run { IfOk result (λ r. Run K.kind (I.pairs items) start r.0 r.1) }
-    ensures stops { IfOk result (λ r. Stops K.kind (I.pairs items) r.0) }
+    ensures run { IfOk result (λ r. Passes K.kind (I.pairs items) start r.0 r.1) }
+    ensures stops { IfOk result (λ r. NoneFirst K.kind (I.pairs items) r.0) }
     ensures room { IfOk result (λ r. step_of K.kind (I.pairs items) r.0 ≡ Step.Branch
         → r.0.depth + 1 < 2 ^ 64) }
     ensures refused { IfErr result (λ e. (e ≡ ZeroTrieBuildError.CapacityExceeded)
         × (2 ^ 64 ≤ size_of K.kind (window_of (I.pairs items) start))) }
 {
-    let Some((rest, value)) = one_item(items, start) else {
-        return behind_nodes::<K, I>(items, start);
-    };
-    let Some(len) = rest_len::<K>(rest, ascii) else {
-        return behind_nodes::<K, I>(items, start);
-    };
-    let behind = Window {
-        from: start.to,
-        to: start.to,
-        depth: start.depth + rest.len(),
-    };
-    Ok((behind, plus(len, value_len(value))?))
+    if let Some(leaf) = behind_leaf::<K, I>(items, start, ascii)? {
+        return Ok(leaf);
+    }
+    let mut rest = start;
+    let mut len = 0;
+    loop {
+        match first_step::<K, I>(items, rest) {
+            Step::Value(value) => {
+                len = checked_sum(len, value_len(value))?;
+                rest.from += 1;
+            }
+            Step::Literal(_) => {
+                let end = literals_end(items, rest);
+                len = checked_sum(len, end - rest.depth)?;
+                rest.depth = end;
+            }
+            Step::Span(count) => {
+                let lead = checked_sum(len, number_len(16, count))?;
+                len = checked_sum(lead, count)?;
+                rest.depth += count;
+            }
+            Step::Branch | Step::End => return Ok((rest, len)),
+        }
+    }
 }
 
 /// The sum of these lengths.
@@ -182,7 +183,7 @@ fn total(lens: &[usize]) -> Result<usize, ZeroTrieBuildError>
 {
     let mut total = 0;
     for len in lens {
-        total = plus(total, *len)?;
+        total = checked_sum(total, *len)?;
     }
     Ok(total)
 }
@@ -211,8 +212,8 @@ fn with_branch<K: ZeroTrieWithOptions>(
     if is_too_wide::<K>(sum) {
         return Err(ZeroTrieBuildError::CapacityExceeded);
     }
-    let front = plus(len, branch_len::<K>(lens.len(), sum))?;
-    plus(front, sum)
+    let front = checked_sum(len, branch_len::<K>(lens.len(), sum))?;
+    checked_sum(front, sum)
 }
 
 /// The least number w with `total` below 256^(w + 1).
@@ -251,7 +252,7 @@ fn branch_len<K: ZeroTrieWithOptions>(edges: usize, total: usize) -> usize
     number_len(32, 256 * width + edges % 256) + table + (width + 1) * (edges - 1)
 }
 
-impl<'a, I: IndexedItems<'a>, A: Allocator + Copy> Measuring<I, A> {
+impl<'a, I: IndexedItems<'a>, A: Allocator + Copy> FirstPass<I, A> {
     /// No branch. Most sets of keys have fewer targets than there is room for.
     fn new<K: ZeroTrieWithOptions>(alloc: A, items: I) -> Result<Self, AllocError>
         ensures items { IfOk result (λ m. m.items ≡ items) }
@@ -259,7 +260,7 @@ impl<'a, I: IndexedItems<'a>, A: Allocator + Copy> Measuring<I, A> {
         ensures branches { IfOk result (λ m. m.branches.items ≡ []) }
     {
         let room = items.len().saturating_add(items.len() / 2);
-        Ok(Measuring {
+        Ok(FirstPass {
             items,
             slots: Vec::with_capacity(alloc, room)?,
             counts: Vec::with_capacity(alloc, if K::USE_PHF { 0 } else { room })?,
@@ -291,8 +292,8 @@ impl<'a, I: IndexedItems<'a>, A: Allocator + Copy> Measuring<I, A> {
         requires order { window.from ≤ window.to }
         requires ordered { Ordered K.kind (window_of (I.pairs self.old.items) window) }
         ensures ends { OnOk result ((targets : List Window)
-            × Parts (I.pairs self.old.items) window targets
-            × (self.new.slots.items ≡ self.old.slots.items ++ tos targets)) }
+            × TargetWindows (I.pairs self.old.items) window targets
+            × (self.new.slots.items ≡ self.old.slots.items ++ item_ends targets)) }
         ensures items { self.new.items ≡ self.old.items }
         ensures branches { self.new.branches.items ≡ self.old.branches.items }
     {
@@ -306,7 +307,7 @@ impl<'a, I: IndexedItems<'a>, A: Allocator + Copy> Measuring<I, A> {
     }
 
     /// The window of the target of the branch that is measured next.
-    fn target_of(&self, branch: Open) -> Window
+    fn target_of(&self, branch: OpenBranch) -> Window
         requires slot { branch.next < length self.now.slots.items }
         requires room { branch.depth + 1 < 2 ^ 64 }
         ensures { result ≡ record {
@@ -345,7 +346,7 @@ impl<'a, I: IndexedItems<'a>, A: Allocator + Copy> Measuring<I, A> {
         if is_hashed::<K>(end - first) {
             self.slots.resize(end + (end - first), 0)?;
         }
-        let branch = Open {
+        let branch = OpenBranch {
             from: window.from,
             depth: window.depth,
             len,
@@ -358,7 +359,7 @@ impl<'a, I: IndexedItems<'a>, A: Allocator + Copy> Measuring<I, A> {
     }
 
     /// Keeps how long the target of the branch is that was measured.
-    fn keep<K: ZeroTrieWithOptions>(&mut self, branch: Open, len: usize)
+    fn keep<K: ZeroTrieWithOptions>(&mut self, branch: OpenBranch, len: usize)
         requires order { branch.first ≤ branch.next }
         requires some { branch.next < branch.end }
         requires within { branch.end + spare_len K.kind (branch.end - branch.first)
@@ -379,7 +380,7 @@ impl<'a, I: IndexedItems<'a>, A: Allocator + Copy> Measuring<I, A> {
         ensures slots { result.slots.items ≡ self.slots.items }
         ensures len { result.len ≡ len }
     {
-        let Measuring {
+        let FirstPass {
             items: _,
             mut slots,
             mut counts,
@@ -412,7 +413,7 @@ impl<'a, I: IndexedItems<'a>, A: Allocator + Copy> Measuring<I, A> {
             let from = self.slots[branch.next];
             self.keep::<K>(branch, len);
             if branch.next + 1 < branch.end {
-                let branch = Open {
+                let branch = OpenBranch {
                     from,
                     next: branch.next + 1,
                     ..branch
@@ -440,20 +441,20 @@ pub(crate) fn measure_all<'a, K: ZeroTrieWithOptions, I: IndexedItems<'a>, A: Al
         → (e ≡ ZeroTrieBuildError.CapacityExceeded)
         × ExceedsCapacity K.kind (map_of (I.pairs items))) }
 {
-    let mut measuring = Measuring::new::<K>(alloc, items)?;
+    let mut pass = FirstPass::new::<K>(alloc, items)?;
     let mut window = Window {
         from: 0,
         to: items.len(),
         depth: 0,
     };
     loop {
-        let (rest, len) = behind_run::<K, I>(items, window, ascii)?;
+        let (rest, len) = behind_nodes::<K, I>(items, window, ascii)?;
         if rest.from < rest.to {
-            window = measuring.push_branch::<K>(rest, len)?;
+            window = pass.push_branch::<K>(rest, len)?;
         } else {
-            match measuring.close::<K>(len)? {
+            match pass.close::<K>(len)? {
                 Turn::Window(next) => window = next,
-                Turn::Whole(len) => return Ok(measuring.measured(len)),
+                Turn::Whole(len) => return Ok(pass.measured(len)),
             }
         }
     }

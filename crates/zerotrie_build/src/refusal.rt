@@ -11,9 +11,9 @@ ghost use Rattle.zerotrie_build.specs.Order.{Before, AreKeys, Ordered, RepeatsNe
 ghost use Rattle.zerotrie_build.specs.passes.Turns.{Begins, NoneBegins, NoneTurns};
 ghost use Rattle.zerotrie_build.specs.Refused.{key_at, DifferInCase, AreShown, IsWhyRefused};
 
-use crate::order::{
-    comes_before, common_front_len, folded, is_key, item_at, items_at, sorted_fronts,
-};
+use crate::indexed::item_at;
+use crate::order::{common_front_len, folded, is_key, precedes};
+use crate::sort::{items_at, sorted_prefixes};
 use std::alloc::{AllocError, Global};
 use std::fmt;
 use zerotrie_core::{Simple, TrieKey, ZeroTrieBuildError, ZeroTrieWithOptions};
@@ -36,17 +36,24 @@ pub struct Refusal {
 }
 
 impl Refusal {
+    /// The error, and the numbers of the keys that show it.
+    fn new(error: ZeroTrieBuildError, first: usize, second: usize) -> Self
+        ensures { result ≡ record { error = error; first = first; second = second } }
+    {
+        Refusal {
+            error,
+            first,
+            second,
+        }
+    }
+
     /// The error that two keys show, whichever is the first.
     fn between(error: ZeroTrieBuildError, one: usize, other: usize) -> Self
         ensures error { result.error ≡ error }
         ensures first { result.first ≡ min one other }
         ensures second { result.second ≡ max one other }
     {
-        Refusal {
-            error,
-            first: one.min(other),
-            second: one.max(other),
-        }
+        Refusal::new(error, one.min(other), one.max(other))
     }
 }
 
@@ -85,16 +92,10 @@ fn unsorted<Key: TrieKey>(items: &[(Key, usize)]) -> Option<Refusal>
     ensures none { IfNone result (Ascends (keyed Key.key items.now)) }
 {
     for second in 1..items.len() {
-        let first = second - 1;
-        let (key, _) = item_at(items, first);
+        let (key, _) = item_at(items, second - 1);
         let (next, _) = item_at(items, second);
-        if !comes_before::<Simple>(key, next) {
-            let error = ZeroTrieBuildError::Unsorted;
-            return Some(Refusal {
-                error,
-                first,
-                second,
-            });
+        if !precedes::<Simple>(key, next) {
+            return Some(Refusal::new(ZeroTrieBuildError::Unsorted, second - 1, second));
         }
     }
     None
@@ -109,13 +110,7 @@ fn foreign<K: ZeroTrieWithOptions, Key: TrieKey>(items: &[(Key, usize)]) -> Opti
     for first in 0..items.len() {
         let (key, _) = item_at(items, first);
         if !is_key::<K>(key) {
-            let error = ZeroTrieBuildError::NonAsciiError;
-            let second = first;
-            return Some(Refusal {
-                error,
-                first,
-                second,
-            });
+            return Some(Refusal::new(ZeroTrieBuildError::NonAsciiError, first, first));
         }
     }
     None
@@ -263,7 +258,7 @@ fn first_mixed<K: ZeroTrieWithOptions>(items: &[(&[u8], usize)]) -> Option<usize
     for place in 1..items.len() {
         let (key, _) = item_at(items, place - 1);
         let (next, _) = item_at(items, place);
-        if !comes_before::<K>(key, next) {
+        if !precedes::<K>(key, next) {
             return Some(place - 1);
         }
     }
@@ -291,11 +286,11 @@ pub fn why_iter_refused<K: ZeroTrieWithOptions, Key: TrieKey>(
 ) -> Result<Option<Refusal>, AllocError>
     ensures { IfOk result (IsWhyRefused any_order K.kind (keyed Key.key items.now)) }
 {
-    let fronts = sorted_fronts::<K, Key, Global>(alloc, items)?;
-    let sorted = items_at(alloc, items, fronts.as_slice())?;
+    let prefixes = sorted_prefixes::<K, Key, Global>(alloc, items)?;
+    let sorted = items_at(alloc, items, prefixes.as_slice())?;
     if let Some(place) = first_repeated(sorted.as_slice()) {
         let error = ZeroTrieBuildError::DuplicateKey;
-        return Ok(Some(Refusal::between(error, fronts[place].index, fronts[place + 1].index)));
+        return Ok(Some(Refusal::between(error, prefixes[place].index, prefixes[place + 1].index)));
     }
     if let Some(refusal) = foreign::<K, Key>(items) {
         return Ok(Some(refusal));
@@ -303,7 +298,7 @@ pub fn why_iter_refused<K: ZeroTrieWithOptions, Key: TrieKey>(
     match first_mixed::<K>(sorted.as_slice()) {
         Some(place) => {
             let error = ZeroTrieBuildError::MixedCase;
-            Ok(Some(Refusal::between(error, fronts[place].index, fronts[place + 1].index)))
+            Ok(Some(Refusal::between(error, prefixes[place].index, prefixes[place + 1].index)))
         }
         None => Ok(None),
     }

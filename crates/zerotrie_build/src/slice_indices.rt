@@ -5,7 +5,7 @@ ghost use Rattle.zerotrie_core.specs.Maps.{Ascends};
 ghost use Rattle.zerotrie_core.specs.Items.{pairs_of};
 ghost use Rattle.zerotrie_build.specs.Items.{pairs};
 
-use crate::order::{comes_before, is_all_ascii};
+use crate::order::{is_all_ascii, precedes};
 use std::alloc::{AllocError, Global};
 use zerotrie_core::Simple;
 
@@ -95,7 +95,7 @@ impl<'a> ByteSliceWithIndices<'a> {
         for index in 1..self.len() {
             let (before, _) = self.get(index - 1);
             let (key, _) = self.get(index);
-            if !comes_before::<Simple>(before, key) {
+            if !precedes::<Simple>(before, key) {
                 return false;
             }
         }

@@ -11,13 +11,14 @@ ghost use Rattle.zerotrie_build.specs.Order.{Ordered, AreKeys, AreLow};
 ghost use Rattle.zerotrie_build.specs.passes.Windows.{window as window_of, item_of};
 ghost use Rattle.zerotrie_build.specs.passes.Measured.{IsMeasured};
 ghost use Rattle.zerotrie_build.specs.passes.Puts.{Puts};
-ghost use Rattle.zerotrie_build.specs.passes.Writing.{with_bits, IsLead, spelled_behind, lens_of, KeptTo, FrontPut};
+ghost use Rattle.zerotrie_build.specs.passes.Writing.{with_bits, IsLead, spelled_behind, lens_of, HasSlotsTo, NodesWritten};
 
+use crate::branch_layout::{Layout, Next, PendingWindow, Position, WriteInput};
 use crate::indexed::IndexedItems;
-use crate::laying::{Layout, Next, Piece, Place, Plan};
+use crate::leaf::ascii_leaf;
 use crate::measuring::{Measured, width_of};
-use crate::steps::{Step, Window, first_step, literals_end, lone_item};
 use crate::store::TrieBuilderStore;
+use crate::windows::{Step, Window, first_step, literals_end};
 use std::alloc::{AllocError, Allocator, Global};
 use zerotrie_core::{
     ZeroTrieBuildError, ZeroTrieWithOptions, write_varint_meta2, write_varint_meta3,
@@ -136,19 +137,6 @@ impl<S: TrieBuilderStore + Drop> Writing<S> {
         self.put_number(VALUE, 16, value);
     }
 
-    /// Writes literals and a value after them.
-    #[inline(always)]
-    fn put_lone(&mut self, rest: &[u8], value: usize)
-        requires { self.old.at + (length rest.now + length (spelled_as value_form value))
-            ≤ length (S.list self.old.data) }
-        ensures puts { Puts (S.list self.old.data) self.old.at (S.list self.new.data) self.new.at
-            (rest.now ++ spelled_as value_form value) }
-        ensures spells { SpellsAs value_form value (spelled_as value_form value) }
-    {
-        self.put_all(rest);
-        self.put_value(value);
-    }
-
     /// Writes the literals that the window's keys go on with up to a depth.
     #[inline(always)]
     fn put_literals<'a, I: IndexedItems<'a>>(&mut self, items: I, window: Window, end: usize)
@@ -232,30 +220,37 @@ impl<S: TrieBuilderStore + Drop> Writing<S> {
     }
 
     /// Writes a window, whose slots begin at `slot`, node after node up to the targets of its first branch, and lays
-    /// these out.
+    /// these out. A window of one item whose rest is ASCII, as most are, is written at once.
     #[inline(always)]
     fn put_nodes<'a, K: ZeroTrieWithOptions, I: IndexedItems<'a>, A: Allocator + Copy>(
         &mut self,
         items: I,
-        plan: Plan<'_>,
+        input: WriteInput<'_>,
         window: Window,
         slot: usize,
         layout: &mut Layout<A>,
     ) -> Result<(), ZeroTrieBuildError>
         requires keys { AreKeys K.kind (I.pairs items) }
+        requires ascii { IsTrue input.ascii → AreLow (I.pairs items) }
         requires ordered { Ordered K.kind (I.pairs items) }
-        requires kept { (end : ℕ) × KeptTo K.kind (I.pairs items) plan.slots.now slot end window }
+        requires kept { (end : ℕ)
+            × HasSlotsTo K.kind (I.pairs items) input.slots.now slot end window }
         requires room { self.old.at + size_of K.kind (window_of (I.pairs items) window)
             ≤ length (S.list self.old.data) }
         ensures put { OnOk result ((next : List Next) × (reverse layout.new.pending.items
             ≡ next ++ reverse layout.old.pending.items)
-            × FrontPut K.kind (I.pairs items) plan.entry.slots.now slot window next
+            × NodesWritten K.kind (I.pairs items) input.entry.slots.now slot window next
             (S.list self.old.data) self.old.at (S.list self.new.data) self.new.at) }
         ensures refused { IfErr result (λ e. e ≢ ZeroTrieBuildError.OutOfMemory
             → (e ≡ ZeroTrieBuildError.CouldNotSolvePerfectHash) × Cause K.kind (I.pairs items) e) }
     {
+        if let Some((literals, value)) = ascii_leaf(items, window, input.ascii) {
+            self.put_all(literals);
+            self.put_value(value);
+            return Ok(());
+        }
         // That a length is below 2^64 tells the proof that so are the places of the slots.
-        let _len = plan.slots.len();
+        let _len = input.slots.len();
         let mut rest = window;
         loop {
             match first_step::<K, I>(items, rest) {
@@ -274,44 +269,14 @@ impl<S: TrieBuilderStore + Drop> Writing<S> {
                     rest.depth += count;
                 }
                 Step::Branch => {
-                    layout.set::<K, I>(items, plan, rest, slot)?;
+                    layout.set::<K, I>(items, input, rest, slot)?;
                     let numbers = layout.numbers.as_slice();
-                    let lens = &plan.slots[slot..slot + numbers.len()];
+                    let lens = &input.slots[slot..slot + numbers.len()];
                     self.put_branch(layout.table.as_slice(), lens, numbers);
                     return Ok(());
                 }
             }
         }
-    }
-
-    /// Like `put_nodes`, and at once for a window of one item whose rest is ASCII, as most are.
-    #[inline(always)]
-    fn put_front<'a, K: ZeroTrieWithOptions, I: IndexedItems<'a>, A: Allocator + Copy>(
-        &mut self,
-        items: I,
-        plan: Plan<'_>,
-        window: Window,
-        slot: usize,
-        layout: &mut Layout<A>,
-    ) -> Result<(), ZeroTrieBuildError>
-        requires keys { AreKeys K.kind (I.pairs items) }
-        requires ascii { IsTrue plan.ascii → AreLow (I.pairs items) }
-        requires ordered { Ordered K.kind (I.pairs items) }
-        requires kept { (end : ℕ) × KeptTo K.kind (I.pairs items) plan.slots.now slot end window }
-        requires room { self.old.at + size_of K.kind (window_of (I.pairs items) window)
-            ≤ length (S.list self.old.data) }
-        ensures put { OnOk result ((next : List Next) × (reverse layout.new.pending.items
-            ≡ next ++ reverse layout.old.pending.items)
-            × FrontPut K.kind (I.pairs items) plan.entry.slots.now slot window next
-            (S.list self.old.data) self.old.at (S.list self.new.data) self.new.at) }
-        ensures refused { IfErr result (λ e. e ≢ ZeroTrieBuildError.OutOfMemory
-            → (e ≡ ZeroTrieBuildError.CouldNotSolvePerfectHash) × Cause K.kind (I.pairs items) e) }
-    {
-        let Some((literals, value)) = lone_item(items, window, plan.ascii) else {
-            return self.put_nodes::<K, I, A>(items, plan, window, slot, layout);
-        };
-        self.put_lone(literals, value);
-        Ok(())
     }
 }
 
@@ -326,14 +291,6 @@ fn total(lens: &[usize], numbers: &[usize]) -> usize
         total += lens[*number];
     }
     total
-}
-
-/// Takes what is on top off.
-fn take_next<A: Allocator>(pending: &mut Vec<Next, A>) -> Option<Next>
-    ensures some { IfSome result (λ i. reverse pending.old.items ≡ i ∷ reverse pending.new.items) }
-    ensures none { IfNone result (reverse pending.old.items ≡ []) }
-{
-    pending.pop()
 }
 
 /// Writes the text of the items. The store and hashed tables take their memory from `alloc`.
@@ -361,28 +318,28 @@ pub(crate) fn write<
     data.atbs_prepend_n_zeros(measured.len)?;
     let mut writing = Writing { data, at: 0 };
     let mut layout = Layout::new(alloc, spare);
-    layout.pending.push(Next::Text(Piece {
+    layout.pending.push(Next::Text(PendingWindow {
         to: items.len(),
         depth: 0,
     }))?;
     let slots = measured.slots.as_slice();
-    let plan = Plan {
+    let input = WriteInput {
         slots,
         counts: measured.counts.as_slice(),
         ascii,
     };
-    let mut place = Place { from: 0, slot: 0 };
-    while let Some(next) = take_next(&mut layout.pending) {
+    let mut position = Position { from: 0, slot: 0 };
+    while let Some(next) = layout.pending.pop() {
         match next {
-            Next::Go(there) => place = there,
-            Next::Text(piece) => {
+            Next::Go(there) => position = there,
+            Next::Text(next_window) => {
                 let window = Window {
-                    from: place.from,
-                    to: piece.to,
-                    depth: piece.depth,
+                    from: position.from,
+                    to: next_window.to,
+                    depth: next_window.depth,
                 };
-                writing.put_front::<K, I, A>(items, plan, window, place.slot, &mut layout)?;
-                place.from = window.to;
+                writing.put_nodes::<K, I, A>(items, input, window, position.slot, &mut layout)?;
+                position.from = window.to;
             }
         }
     }

@@ -8,3 +8,4 @@ pub mod Tags
 pub mod Listed
 pub mod Entries
 pub mod Dense
+pub mod Texts

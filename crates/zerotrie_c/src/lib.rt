@@ -13,3 +13,4 @@ pub mod listings;
 pub mod look_up;
 pub mod statuses;
 pub mod tags;
+pub mod texts;

@@ -1,6 +1,7 @@
 //! What the command line may be.
 
 use crate::build::build_command;
+use crate::code::code_command;
 use clap::{Arg, ArgAction, ArgMatches, Command};
 use std::alloc::{AllocError, Global};
 use zerotrie_commands::Style;
@@ -35,7 +36,7 @@ fn words<'a>(alloc: Global, name: &'a str, help: &'a str) -> Arg<'a> {
 }
 
 /// A command that reads a trie.
-fn reader<'a>(alloc: Global, name: &'a str, about: &'a str) -> Result<Command<'a>, AllocError> {
+pub fn reader<'a>(alloc: Global, name: &'a str, about: &'a str) -> Result<Command<'a>, AllocError> {
     let kind = option(alloc, "kind", "The file is bare bytes of this kind").value_parser(
         KINDS.as_slice(),
     );
@@ -87,7 +88,8 @@ pub fn command<'a>(alloc: Global) -> Result<Command<'a>, AllocError> {
         .subcommand(build_command(alloc)?)?
         .subcommand(get_command(alloc)?)?
         .subcommand(longest_command(alloc)?)?
-        .subcommand(list_command(alloc)?)
+        .subcommand(list_command(alloc)?)?
+        .subcommand(code_command(alloc)?)
 }
 
 /// The kind of bare bytes, if one is named.

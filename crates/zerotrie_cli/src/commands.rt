@@ -2,6 +2,7 @@
 
 use crate::arguments::{command, kind_in, style_in};
 use crate::build::build;
+use crate::code::print_code;
 use crate::files::read_file;
 use clap::ArgMatches;
 use std::io::{BufWriter, ErrorKind, Write};
@@ -43,6 +44,22 @@ fn tell_no_trie(rt: &HostRuntime, path: &str, why: &OpenError) -> u8 {
     BAD_FILE
 }
 
+/// The status of what was written, and of the flush after it. Tells what failed.
+pub fn tell_answer(
+    rt: &HostRuntime,
+    path: &str,
+    answered: Result<u8, AnswerError>,
+    flushed: io::Result<()>,
+) -> u8 {
+    match (answered, flushed) {
+        (Ok(status), Ok(())) => status,
+        (Ok(_), Err(error)) | (Err(AnswerError::Failed(error)), _) => {
+            tell_fault(rt, "standard output", &error)
+        }
+        (Err(AnswerError::NoTrie(why)), _) => tell_no_trie(rt, path, &why),
+    }
+}
+
 /// Answers a request to the trie of a file, on standard output.
 fn print_answer(
     rt: &HostRuntime,
@@ -57,14 +74,7 @@ fn print_answer(
         Err(error) => return tell_fault(rt, "standard output", &error),
     };
     let answered = answer(alloc, kind_in(matches), file, request, &mut output);
-    let flushed = output.flush();
-    match (answered, flushed) {
-        (Ok(status), Ok(())) => status,
-        (Ok(_), Err(error)) | (Err(AnswerError::Failed(error)), _) => {
-            tell_fault(rt, "standard output", &error)
-        }
-        (Err(AnswerError::NoTrie(why)), _) => tell_no_trie(rt, path, &why),
-    }
+    tell_answer(rt, path, answered, output.flush())
 }
 
 /// The words of an argument, as bytes.
@@ -152,6 +162,7 @@ fn obey(rt: &HostRuntime, words: &[String]) -> u8 {
     match known.try_get_matches_from(words) {
         Ok(matches) => match matches.subcommand() {
             Some(("build", matches)) => build(rt, matches),
+            Some(("code", matches)) => print_code(rt, matches),
             Some((name, matches)) => read_command(rt, matches, name),
             None => BAD_USAGE,
         },

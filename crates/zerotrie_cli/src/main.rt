@@ -3,6 +3,7 @@
 
 mod arguments;
 mod build;
+mod code;
 mod commands;
 mod files;
 

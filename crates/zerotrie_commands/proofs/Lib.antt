@@ -1,2 +1,2 @@
-mod WriteLemmas
+pub mod WriteLemmas
 mod FoundLemmas

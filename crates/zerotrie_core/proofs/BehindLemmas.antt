@@ -132,6 +132,20 @@ passed_first kind n w behind target t = record {
 pub target_len : (n w : ℕ) (behind : List ℕ) (index : ℕ) (target : List ℕ) → IsTarget n w behind index target → length target ≡ extent n w behind index
 target_len n w behind index target t = let low = t.some in target_long n w behind index target (omega arith) t.within t.is
 
+-- and not empty
+pub target_some : (n w : ℕ) (behind : List ℕ) (index : ℕ) (target : List ℕ) → IsTarget n w behind index target → target ≡ [] → ⊥
+target_some n w behind index target t none =
+    let long = target_len n w behind index target t in
+    let short = ap length none in
+    let some = t.some in
+    omega arith
+
+pub both_some : (first next shorter longer : List ℕ) → IsFirstLonger first next shorter longer → (first ≡ [] → ⊥) → (next ≡ [] → ⊥) → (shorter ≡ [] → ⊥) × (longer ≡ [] → ⊥)
+both_some first next shorter longer by one two = elim by [
+  | inl is ↦ (λ none. one (sym is.1 ∙ none), λ none. two (sym is.2 ∙ none))
+  | inr is ↦ (λ none. two (sym is.1 ∙ none), λ none. one (sym is.2 ∙ none))
+]
+
 -- where the next one begins
 pub next_begin : (n w : ℕ) (behind : List ℕ) (index begin : ℕ) (target : List ℕ) → IsTarget n w behind index target → begin ≡ begin_of n w behind index → suc index < n → begin + length target ≡ begin_of n w behind (suc index)
 next_begin n w behind index begin target t here inside =

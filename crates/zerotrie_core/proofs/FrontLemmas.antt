@@ -1,6 +1,8 @@
 -- The bytes of a branch in front of its targets: the width, the offsets and the length.
 use Rattle.std.proofs.Common.{◌≡◌, ℕ, zero, suc, ◌+◌, ◌-◌, ◌*◌, ◌/◌, ◌%◌, ◌^◌, ◌<◌, ◌≤◌, List, [], ◌∷◌, ◌++◌, length, refl, sym, ◌∙◌, ap, subst, arith, inl, inr, map, take, append_assoc, length-append, lit<}
 use Rattle.std.specs.List.{concat, range_with_len}
+use Rattle.std.proofs.lemmas.Nat.{pow-add}
+use Rattle.std.specs.Prelude.{max}
 use Rattle.std.proofs.Math.Nat.{pow-suc, pow-le-pow_right, div-lt_iff_lt-mul}
 use Rattle.std.proofs.lemmas.Bool.{cases_lt, lt-ltb, le-ltb}
 use Rattle.std.proofs.lemmas.List.{length-map, take-map}
@@ -56,6 +58,34 @@ width_is n w is =
     let a = is.least (width n) r.enough in
     let b = r.least w is.enough in
     omega arith
+
+-- the width by the number of bits, less one
+pub width_by_bits : (n r : ℕ) → 2 ^ r ≤ max n 1 → max n 1 < 2 * 2 ^ r → IsWidth n (r / 8)
+width_by_bits n r low high = record {
+  enough = (
+      let more : 2 ^ suc r ≤ 2 ^ (8 * (r / 8 + 1)) = pow-le-pow_right (omega arith) (omega arith) in
+      let step = pow-suc 2 r in
+      let e = bytes_bits (r / 8 + 1) in
+      omega arith
+      );
+  least = λ x h. elim (cases_lt x (r / 8)) [
+    | inl less ↦
+        let more : 2 ^ (8 * (x + 1)) ≤ 2 ^ r = pow-le-pow_right (omega arith) (omega arith) in
+        let e = bytes_bits (x + 1) in
+        let some : 1 ≤ x + 1 = omega arith in
+        let large : 256 ^ 1 ≤ 256 ^ (x + 1) = pow-le-pow_right (lit< tt) some in
+        let one : 256 ^ 1 ≡ 256 = refl in
+        absurd (omega arith)
+    | inr enough ↦ enough
+  ];
+}
+  where
+    bytes_bits : (k : ℕ) → 256 ^ k ≡ 2 ^ (8 * k)
+    bytes_bits zero = refl
+    bytes_bits (suc k) =
+        let e : 8 * suc k ≡ 8 * k + 8 = omega arith in
+        let eight : 2 ^ 8 ≡ 256 = refl in
+        pow-suc 256 k ∙ rw (bytes_bits k, e, pow-add 2 (8 * k) 8) refl
 
 -- what an offset of some width reaches, each wider one does
 pub within_width : (most w n : ℕ) → w ≤ most → IsWidth n w → n < 256 ^ (most + 1)

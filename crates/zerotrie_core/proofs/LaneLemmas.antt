@@ -1,14 +1,14 @@
 -- The lowest bit of two masks of lanes.
-use Rattle.std.proofs.Common.{◌≡◌, ℕ, zero, suc, ◌^◌, ◌<◌, ◌≤◌, List, [], ◌∷◌, Bool, true, false, cond, not, eqb, leb, length, take, get_or, map, refl, sym, ap, subst, ◌∙◌, arith, w64, ◌⊎◌, inl, inr}
+use Rattle.std.proofs.Common.{◌≡◌, ℕ, zero, suc, ◌^◌, ◌<◌, ◌≤◌, List, [], ◌∷◌, Bool, true, false, cond, not, eqb, leb, ltb, length, take, drop, get_or, ◌+◌, map, refl, sym, ap, subst, ◌∙◌, arith, w64, ◌⊎◌, inl, inr}
 use Rattle.std.specs.Int.Bits.{bit_or}
 use Rattle.std.specs.Int.{bit_at, trailing_zeros}
 use Rattle.std.specs.Int.Count.{count_trailing_zeros}
 use Rattle.std.specs.Simd.Lanes.{mask_l, zip2}
 use Rattle.std.proofs.Math.Nat.{pow-le-pow_right}
-use Rattle.std.proofs.lemmas.List.{get_or-take, get_or-map, length-map, length-take-le}
+use Rattle.std.proofs.lemmas.List.{get_or-take, get_or-drop, length-drop, get_or-map, length-map, length-take-le}
 use Rattle.std.proofs.lemmas.Nat.{or_lt}
 use Rattle.std.proofs.lemmas.Simd.{bit_mask_l, mask_l-lt, get_or-zip2, length-zip2}
-use Rattle.std.proofs.lemmas.Bool.{eq-eqb, eqb-true, leb-false, cases_lt, cases_eq, ne_eqb}
+use Rattle.std.proofs.lemmas.Bool.{eq-eqb, eqb-true, leb-true, leb-false, ltb-true, ltb-false, cases_lt, cases_eq, ne_eqb}
 use Rattle.std.proofs.lemmas.Nat.Bits.{bit_at-trailing_zeros, bit_at_or, bit_at-zero}
 
 -- the lanes that are a byte
@@ -134,6 +134,88 @@ module _ (ms ns : List Bool) (n : ℕ) (short : n ≤ 64) (ms_len : length ms �
       ] in
       let o = bit_at_or (mask_l ms) (mask_l ns) k in
       (unset ms k (omega (arith, o, clear)), unset ns k (omega (arith, o, clear)))
+
+-- a mask of lanes that a test gives: below its lowest bit the test holds nowhere, and there it holds
+module _ (ms : List Bool) (n : ℕ) (short : n ≤ 64) (ms_len : length ms ≡ n) where
+  one_fits : mask_l ms < 2 ^ 64
+  one_fits =
+      let s = subst (λ m. mask_l ms < 2 ^ m) ms_len (mask_l-lt ms) in
+      let more : 2 ^ n ≤ 2 ^ 64 = pow-le-pow_right (omega arith) short in
+      omega arith
+
+  lane_of : (k : ℕ) → bit_at (mask_l ms) k ≡ cond {A = ℕ} (get_or ms k false) 1 0
+  lane_of k = bit_mask_l ms k
+
+  pub none_before : (k : ℕ) → k < trailing_zeros w64 (mask_l ms) → get_or ms k false ≡ false
+  none_before k before = by (get_or ms k false) (sym (lane_of k) ∙ clear)
+    where
+      clear : bit_at (mask_l ms) k ≡ 0
+      clear = elim (cases_lt 0 (mask_l ms)) [
+        | inl some ↦ (bit_at-trailing_zeros w64 (mask_l ms) some one_fits).2 k before
+        | inr none ↦ let e : mask_l ms ≡ 0 = omega arith in ap (λ m. bit_at m k) e ∙ bit_at-zero k
+      ]
+
+      by : (b : Bool) → cond {A = ℕ} b 1 0 ≡ 0 → b ≡ false
+      by true e = absurd (omega (arith, e))
+      by false e = refl
+
+  pub one_there : trailing_zeros w64 (mask_l ms) < n → get_or ms (trailing_zeros w64 (mask_l ms)) false ≡ true
+  one_there h = elim (cases_lt 0 (mask_l ms)) [
+    | inl some ↦ by (get_or ms (trailing_zeros w64 (mask_l ms)) false) (sym (lane_of (trailing_zeros w64 (mask_l ms))) ∙ (bit_at-trailing_zeros w64 (mask_l ms) some one_fits).1)
+    | inr none ↦ let e : mask_l ms ≡ 0 = omega arith in let f = ap (trailing_zeros w64) e ∙ no_bits in absurd (omega (arith, f, h, short))
+  ]
+    where
+      by : (b : Bool) → cond {A = ℕ} b 1 0 ≡ 1 → b ≡ true
+      by true e = refl
+      by false e = absurd (omega (arith, e))
+
+-- the lanes of two vectors of sixteen bytes, the other of which begins one byte later
+module _ (bytes : List ℕ) (long : 17 ≤ length bytes) where
+  abbrev stops : List Bool
+  stops = zip2 (λ a b. leb a b) (take 16 (drop 1 bytes)) (take 16 bytes)
+
+  here_len : length (take 16 bytes) ≡ 16
+  here_len = length-take-le 16 bytes (omega arith)
+
+  next_len : length (take 16 (drop 1 bytes)) ≡ 16
+  next_len = (let gone = length-drop 1 bytes in length-take-le 16 (drop 1 bytes) (omega arith))
+
+  pub stops_len : length stops ≡ 16
+  stops_len = length-zip2 (λ a b. leb a b) (take 16 (drop 1 bytes)) (take 16 bytes) (next_len ∙ sym here_len) ∙ next_len
+
+  lane_is : (k : ℕ) → k < 16 → get_or stops k false ≡ leb (get_or bytes (k + 1) 0) (get_or bytes k 0)
+  lane_is k h =
+      let here = get_or-take 16 bytes k 0 h in
+      let step : 1 + k ≡ k + 1 = omega arith in
+      let next = get_or-take 16 (drop 1 bytes) k 0 h ∙ get_or-drop 1 bytes k 0 ∙ ap (λ j. get_or bytes j 0) step in
+      get_or-zip2 (λ a b. leb a b) (take 16 (drop 1 bytes)) (take 16 bytes) k 0 0 false (omega (arith, next_len, h)) (omega (arith, here_len, h)) ∙ (λ i. leb (next i) (here i))
+
+  pub lowest_rises : (a : ℕ) → a ≡ mask_l stops → (k : ℕ) → k < 16 → k < trailing_zeros w64 a → get_or bytes k 0 < get_or bytes (k + 1) 0
+  lowest_rises a is k h before = leb-false _ _ (sym (lane_is k h) ∙ none_before stops 16 (omega arith) stops_len k (subst (λ m. k < trailing_zeros w64 m) is before))
+
+  pub lowest_stops : (a : ℕ) → a ≡ mask_l stops → trailing_zeros w64 a < 16 → get_or bytes (trailing_zeros w64 a + 1) 0 ≤ get_or bytes (trailing_zeros w64 a) 0
+  lowest_stops a is h =
+      let k = trailing_zeros w64 a in
+      leb-true _ _ (sym (lane_is k h) ∙ subst (λ m. get_or stops (trailing_zeros w64 m) false ≡ true) (sym is) (one_there stops 16 (omega arith) stops_len (subst (λ m. trailing_zeros w64 m < 16) is h)))
+
+-- sixteen bytes, of which some are 128 or more
+module _ (bytes : List ℕ) (long : 16 ≤ length bytes) where
+  abbrev pub lows : List Bool
+  lows = map (λ a. ltb a 128) (take 16 bytes)
+
+  lows_len : length lows ≡ 16
+  lows_len = length-map (take 16 bytes) (λ a. ltb a 128) ∙ length-take-le 16 bytes long
+
+  low_is : (k : ℕ) → k < 16 → get_or lows k false ≡ ltb (get_or bytes k 0) 128
+  low_is k h = let there = length-take-le 16 bytes long in get_or-map (λ a. ltb a 128) (take 16 bytes) k 0 false (omega (arith, there, h)) ∙ ap (λ x. ltb x 128) (get_or-take 16 bytes k 0 h)
+
+  pub lowest_high : (a : ℕ) → a ≡ mask_l lows → (k : ℕ) → k < 16 → k < trailing_zeros w64 a → 128 ≤ get_or bytes k 0
+  lowest_high a is k h before = ltb-false _ _ (sym (low_is k h) ∙ none_before lows 16 (omega arith) lows_len k (subst (λ m. k < trailing_zeros w64 m) is before))
+
+  pub lowest_low : (a : ℕ) → a ≡ mask_l lows → trailing_zeros w64 a < 16 → get_or bytes (trailing_zeros w64 a) 0 < 128
+  lowest_low a is h =
+      let k = trailing_zeros w64 a in
+      ltb-true _ _ (sym (low_is k h) ∙ subst (λ m. get_or lows (trailing_zeros w64 m) false ≡ true) (sym is) (one_there lows 16 (omega arith) lows_len (subst (λ m. trailing_zeros w64 m < 16) is h)))
 
 -- two vectors of sixteen lanes: below the lowest lane that differs or is from 128 on
 module _ (bytes others : List ℕ) (long : 16 ≤ length bytes) (other_long : 16 ≤ length others) where

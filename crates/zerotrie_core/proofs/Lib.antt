@@ -58,3 +58,6 @@ mod BehindLemmas
 mod TestLemmas
 mod StackLemmas
 mod CountLemmas
+mod WalkLemmas
+mod WalkTextLemmas
+mod WalkPlaceLemmas

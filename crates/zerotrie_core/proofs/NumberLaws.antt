@@ -1,10 +1,11 @@
 -- Laws of the spellings alone.
-use Rattle.std.proofs.Common.{◌≡◌, ℕ, zero, suc, ◌+◌, ◌-◌, ◌*◌, ◌/◌, ◌%◌, ◌^◌, ◌<◌, ◌≤◌, List, [], ◌∷◌, ◌++◌, length, refl, sym, ◌∙◌, ap, subst, arith, inl, inr, ◌⊎◌, zero-add}
+use Rattle.std.proofs.Common.{◌≡◌, ℕ, zero, suc, ◌+◌, ◌-◌, ◌*◌, ◌/◌, ◌%◌, ◌^◌, ◌<◌, ◌≤◌, List, [], ◌∷◌, ◌++◌, length, refl, sym, ◌∙◌, ap, subst, arith, inl, inr, ◌⊎◌, zero-add, get_or, take, drop}
 use Rattle.std.proofs.lemmas.Bool.{cases_lt, lt-ltb, le-ltb}
 use Rattle.std.proofs.Common.{lit≤, lit<}
 use Rattle.std.proofs.Math.Nat.{pow-suc, mul-le-mul_right, div-one, div-div-eq-div-mul, div-lt_iff_lt-mul, one-le-pow}
-use Rattle.zerotrie_core.specs.Numbers.{IsTrail, base_128, latent, extender, Spells, trails_from, trail_bytes, spelled, Form, SpellsAs, spelled_as}
-use Rattle.zerotrie_core.proofs.NumberLemmas.{base_128-shift, extender_one, one_reading}
+use Rattle.zerotrie_core.specs.Numbers.{IsTrail, base_128, latent, extender, Spells, BeginsWith, trails_from, trail_bytes, spelled, Form, SpellsAs, spelled_as}
+use Rattle.std.proofs.lemmas.List.{length-take-le, get_or-take, take-append-drop}
+use Rattle.zerotrie_core.proofs.NumberLemmas.{IsBytes, base_128-shift, extender_one, one_reading}
 
 split_first_digit : (a : ℕ) (ts : List ℕ) → base_128 a ts ≡ base_128 0 ts + a * 128 ^ length ts
 split_first_digit a ts = ap (λ x. base_128 x ts) (sym (zero-add a)) ∙ base_128-shift a 0 ts
@@ -33,6 +34,84 @@ latent_up L k (suc d) = let e : k + suc d ≡ suc (k + d) = omega arith in let h
 
 latent_mono : (L k j : ℕ) → k ≤ j → latent L k ≤ latent L j
 latent_mono L k j h = let e : k + (j - k) ≡ j = omega arith in rw e at (latent_up L k (j - k))
+
+-- trail bytes that end with the first one below 128
+trail_of : (r : ℕ) (bytes : List ℕ) → IsBytes bytes → suc r ≤ length bytes → ((k : ℕ) → k < r → 128 ≤ get_or bytes k 0) → get_or bytes r 0 < 128 → IsTrail (take (suc r) bytes)
+trail_of r [] byte long highs low = absurd (omega arith)
+trail_of zero (t ∷ ts) byte long highs low = low
+trail_of (suc r) (t ∷ []) byte long highs low = absurd (omega arith)
+trail_of (suc r) (t ∷ u ∷ ts) byte long highs low = (highs 0 (omega arith), byte 0, trail_of r (u ∷ ts) (λ i. byte (suc i)) (omega arith) (λ k h. highs (suc k) (omega arith)) low)
+
+-- a value of one byte
+pub value_alone : (lead : ℕ) (rest : List ℕ) → 128 ≤ lead → lead < 144 → (v : ℕ) × BeginsWith 16 4 v (lead ∷ rest) rest
+value_alone lead rest low high = (
+  lead - 128,
+  record {
+    spelling = lead ∷ [];
+    spells = record { digit = lead - 128; trail = []; below = (let most : 144 ≤ 2 ^ 64 = lit≤ tt in omega arith); digit_below = omega arith; is_trail = tt; bytes_are = ap (λ x. x ∷ []) (omega arith); value = omega arith };
+    bytes_are = refl;
+  },
+)
+
+-- a value of up to nine bytes, the last of which is the first below 128
+pub value_trailed : (lead : ℕ) (rest : List ℕ) (r : ℕ) → 144 ≤ lead → lead < 160 → suc r ≤ 8 → IsBytes rest → suc r ≤ length rest → ((k : ℕ) → k < r → 128 ≤ get_or rest k 0) → get_or rest r 0 < 128
+    → (v : ℕ) × BeginsWith 16 4 v (lead ∷ rest) (drop (suc r) rest)
+value_trailed lead [] r low high few byte long highs stops = absurd (omega arith)
+value_trailed lead (t ∷ ts) r low high few byte long highs stops =
+    let trail = take (suc r) (t ∷ ts) in
+    let digit = lead - 144 in
+    let v = base_128 digit trail + latent 16 (length trail) in
+    let len : length trail ≡ suc r = length-take-le (suc r) (t ∷ ts) long in
+    let spells : v < 2 ^ 64 = (
+    let split = split_first_digit digit trail in
+    let under = low_below trail in
+    let le : suc digit * 128 ^ length trail ≤ 16 * 128 ^ length trail = mul-le-mul_right (128 ^ length trail) (let h : suc digit ≤ 16 = omega arith in h) in
+    let up = latent_mono 16 (suc (length trail)) 9 (omega arith) in
+    let most : latent 16 9 < 2 ^ 64 = lit< tt in
+    omega arith
+    ) in (
+      v,
+      record {
+        spelling = lead ∷ trail;
+        spells = record { digit = digit; trail = trail; below = spells; digit_below = omega arith; is_trail = trail_of r (t ∷ ts) byte long highs stops; bytes_are = ap (λ x. x ∷ trail) (omega arith); value = refl };
+        bytes_are = ap (λ x. lead ∷ x) (sym (take-append-drop (suc r) (t ∷ ts)));
+      },
+    )
+
+past_end : (xs : List ℕ) (i : ℕ) → length xs ≤ i → get_or xs i 0 ≡ 0
+past_end [] i h = refl
+past_end (x ∷ xs) zero h = absurd (omega arith)
+past_end (x ∷ xs) (suc i) h = past_end xs i (omega arith)
+
+-- the value that the bytes at the front tell of, of which the first byte below 128 stands at a place
+pub value_told : (bytes tail : List ℕ) (r n : ℕ) → bytes ≡ take (length bytes) tail → IsBytes tail → 128 ≤ get_or tail 0 0 → get_or tail 0 0 < 160 → n ≤ 9 → 1 ≤ n → n ≤ length bytes
+    → (get_or tail 0 0 < 144 → n ≡ 1) → (144 ≤ get_or tail 0 0 → n ≡ r + 1) → ((k : ℕ) → k < 16 → k < r → 128 ≤ get_or tail k 0) → (r < 16 → get_or tail r 0 < 128)
+    → (v : ℕ) × BeginsWith 16 4 v bytes (drop n bytes)
+value_told [] tail r n lies byte low high few some within alone trailed highs stops = absurd (omega arith)
+value_told (lead ∷ rest) tail r n lies byte low high few some within alone trailed highs stops =
+    let same : (k : ℕ) → k < length (lead ∷ rest) → get_or tail k 0 ≡ get_or (lead ∷ rest) k 0 = λ k h. (sym (get_or-take (length (lead ∷ rest)) tail k 0 h) ∙ ap (λ x. get_or x k 0) (sym lies)) in
+    let first = same 0 (omega arith) in
+    elim (cases_lt lead 144) [
+      | inl short ↦ (let one : n ≡ 1 = alone (omega arith) in subst (λ k. (v : ℕ) × BeginsWith 16 4 v (lead ∷ rest) (drop k (lead ∷ rest))) (sym one) (value_alone lead rest (omega arith) short))
+      | inr long ↦
+          let is = trailed (omega arith) in
+          let more : r ≡ suc (r - 1) = (elim (cases_lt 0 r) [
+            | inl there ↦ omega arith
+            | inr none ↦ (let zero_r : r ≡ 0 = omega arith in absurd (let stop = subst (λ k. get_or tail k 0 < 128) zero_r (stops (omega arith)) in omega arith))
+          ]) in
+          let count : n ≡ suc (suc (r - 1)) = omega arith in
+          let m = r - 1 in
+          subst (λ k. (v : ℕ) × BeginsWith 16 4 v (lead ∷ rest) (drop k (lead ∷ rest))) (sym count)
+          (value_trailed lead rest m long (omega arith) (omega arith) (rest_bytes same byte) (omega arith)
+          (λ k h. (let is = highs (suc k) (omega arith) (omega arith) in let e = same (suc k) (omega arith) in omega arith))
+          (let stop : get_or tail (suc m) 0 < 128 = subst (λ k. get_or tail k 0 < 128) more (stops (omega arith)) in let e = same (suc m) (omega arith) in omega arith))
+    ]
+  where
+    rest_bytes : ((k : ℕ) → k < length (lead ∷ rest) → get_or tail k 0 ≡ get_or (lead ∷ rest) k 0) → IsBytes tail → IsBytes rest
+    rest_bytes same byte i = elim (cases_lt i (length rest)) [
+      | inl inside ↦ (let e = same (suc i) (omega arith) in let b = byte (suc i) in omega arith)
+      | inr past ↦ (let none = past_end rest i past in omega arith)
+    ]
 
 same_count : (L v k j : ℕ) → latent L k ≤ v → v < latent L (suc k) → latent L j ≤ v → v < latent L (suc j) → k ≡ j
 same_count L v k j a b c d =

@@ -9,13 +9,13 @@ use Rattle.zerotrie_core.specs.Texts.Lists.{nothing, value, literal, span, branc
 use Rattle.zerotrie_core.specs.Nodes.{Shape, Begins, BeginsSpan, BeginsBranch}
 use Rattle.zerotrie_core.specs.Nodes as shapes
 use Rattle.zerotrie_core.specs.WellFormed.{deep}
-use Rattle.zerotrie_core.specs.well_formed.Testing.{IsText, Suits, Leads, Onward, AlwaysOnward, AlwaysSuits, IsOneCall}
+use Rattle.zerotrie_core.specs.well_formed.Testing.{IsText, Suits, Leads, Onward, AlwaysOnward, AlwaysSuits, BeginsValue}
 use Rattle.zerotrie_core.specs.declared.well_formed.Expected.{Expected}
 use Rattle.zerotrie_core.specs.declared.well_formed.Expected.TheVariants.{Anything, NoValue, NoSpan, Something}
 use Rattle.zerotrie_core.proofs.NumberLemmas.{some_bytes, one_reading, cons_parts}
 use Rattle.zerotrie_core.proofs.NodeLemmas.{value_begins, span_begins, branch_begins, value_no_branch, value_no_span, span_no_branch}
 use Rattle.zerotrie_core.proofs.OpenLemmas.{body_of, head_begins, same_parts}
-use Rattle.zerotrie_core.proofs.DeepLemmas.{deep_some, deep_no_node}
+use Rattle.zerotrie_core.proofs.DeepLemmas.{deep_some}
 
 one_at_least : {kind : Kind} {bytes : List ℕ} {pairs : Pairs} (text : Lists kind bytes pairs) → deep text ≡ max 1 (deep text)
 one_at_least text = let n = deep_some text in omega arith
@@ -133,13 +133,6 @@ onward_more {most = most} {count = count} way suits step = record {
   back = λ fits text. way.back suits (step.back fits text);
 }
 
--- at the beginning anything may stand
-pub onward_none : (kind : Kind) (bytes : List ℕ) → Onward kind bytes bytes Anything 1
-onward_none kind bytes = record {
-  there = λ pairs text. record { suits = tt; below = pairs; inner = text; counts = one_at_least text };
-  back = λ suits text. text;
-}
-
 -- a literal is a byte below 128
 pub literal_there : (kind : Kind) (c : ℕ) (rest bytes : List ℕ) → Begins kind bytes (shapes.Shape.literal c rest) → (0 < length bytes) × (slice_index bytes 0 < 128)
 literal_there kind c rest bytes b = subst (λ x. (0 < length x) × (slice_index x 0 < 128)) (sym b.1) (omega arith, b.0)
@@ -153,26 +146,26 @@ literals_onward kind (suc (suc n)) (b ∷ []) some within low = absurd (omega ar
 literals_onward kind (suc (suc n)) (b ∷ c ∷ rest) some within low =
     onward_more (literal_onward kind b (c ∷ rest) (b ∷ c ∷ rest) (low zero (omega arith), refl)) (λ e. cc) (literals_onward kind (suc n) (c ∷ rest) (omega arith) (omega arith) (λ k h. low (suc k) (omega arith)))
 
-no_bytes : (kind : Kind) (s : Shape) → Begins kind [] s → ⊥
+-- no node begins where nothing is
+pub no_bytes : (kind : Kind) (s : Shape) → Begins kind [] s → ⊥
 no_bytes kind (shapes.Shape.value v rest) b = some_bytes 16 4 v rest b
 no_bytes kind (shapes.Shape.literal c rest) b = let e = b.1 in cc
 no_bytes kind (shapes.Shape.span run rest) b = some_bytes 16 5 (length run) (run ++ rest) b.1
 no_bytes kind (shapes.Shape.branch n w table behind) b = some_bytes 32 3 _ b.body b.begins
 
--- where nothing follows a value, one call is open
-onward_end : {kind : Kind} {bytes : List ℕ} → Onward kind bytes [] NoValue 1 → IsOneCall kind bytes
-onward_end {kind = kind} way = record {
-  is_text = way.back tt ([], nothing);
-  one = λ pairs text. (
-      let leads = way.there pairs text in
-      let counts = leads.counts in
-      let end = (deep_no_node leads.inner (no_bytes kind)).1 in
-      omega arith
-      );
+-- where it begins what suits may stand
+pub onward_at : (kind : Kind) (bytes : List ℕ) (expected : Expected) → Suits expected bytes → Onward kind bytes bytes expected 1
+onward_at kind bytes expected suits = record {
+  there = λ pairs text. record { suits = suits; below = pairs; inner = text; counts = one_at_least text };
+  back = λ suits text. text;
 }
 
--- literals and a value
-pub leaf_is : (kind : Kind) (n : ℕ) (bytes : List ℕ) (v : ℕ) → n ≤ length bytes → ((k : ℕ) → k < n → slice_index bytes k < 128) → BeginsWith 16 4 v (drop n bytes) [] → IsOneCall kind bytes
-leaf_is kind zero bytes v within low b = onward_end (value_onward kind v [] bytes b)
-leaf_is kind (suc n) bytes v within low b =
-    onward_end (onward_more (literals_onward kind (suc n) bytes (omega arith) within low) (λ none. some_bytes 16 4 v [] (subst (λ x. BeginsWith 16 4 v x []) none b)) (value_onward kind v [] (drop (suc n) bytes) b))
+-- literals, if there are some
+pub literals_passed : (kind : Kind) (n : ℕ) (bytes : List ℕ) → (bytes ≡ [] → ⊥) → n ≤ length bytes → ((k : ℕ) → k < n → slice_index bytes k < 128) → Onward kind bytes (drop n bytes) Something 1
+literals_passed kind zero bytes some within low = onward_at kind bytes Something some
+literals_passed kind (suc n) bytes some within low = literals_onward kind (suc n) bytes (omega arith) within low
+
+-- and a value
+pub value_passed : (kind : Kind) (n : ℕ) (bytes after : List ℕ) → (bytes ≡ [] → ⊥) → n ≤ length bytes → ((k : ℕ) → k < n → slice_index bytes k < 128) → BeginsValue (drop n bytes) after → Onward kind bytes after NoValue 1
+value_passed kind n bytes after some within low b =
+    onward_more (literals_passed kind n bytes some within low) (λ none. some_bytes 16 4 b.0 after (subst (λ x. BeginsWith 16 4 b.0 x after) none b.1)) (value_onward kind b.0 after (drop n bytes) b.1)

@@ -1,9 +1,10 @@
 -- The parts of the test of a branch.
 use Rattle.std.proofs.Common.{◌≡◌, ℕ, zero, suc, ◌+◌, ◌-◌, ◌*◌, ◌/◌, ◌%◌, ◌<◌, ◌≤◌, List, [], ◌∷◌, ◌++◌, length, refl, sym, ◌∙◌, ap, subst, arith, map, get_or, take, drop, true, false, Some, None, inl, inr}
-use Rattle.std.specs.Prelude.{◌↔◌, ◌&&◌, ◌==◌, All, slice_index, nat_lt, cond, Bool}
+use Rattle.std.specs.Prelude.{◌↔◌, ◌&&◌, ◌==◌, All, IsTrue, slice_index, nat_lt, cond, Bool, leb}
 use Rattle.std.specs.List.Sorted.{IsStrictlyIncreasing}
-use Rattle.std.proofs.lemmas.List.{get_or-map, length-map, length-take-le, length-drop, take-append-drop, get_or_append_left}
-use Rattle.std.proofs.lemmas.Bool.{cases_lt}
+use Rattle.std.proofs.lemmas.List.{length-take, take-take, get_or-map, get_or-take, length-map, length-take-le, length-drop, take-append-drop, get_or_append_left}
+use Rattle.std.proofs.lemmas.Bool.{cases_lt, leb-true, le-leb}
+use Rattle.std.proofs.lemmas.Str.Ascii.{lowercase_ascii, lowercase_is}
 use Rattle.zerotrie_base.specs.Hashes.{f1, f2, place_of, number_behind, IsPerfect}
 use Rattle.zerotrie_core.specs.Kind.{Kind, simple_ascii, ignore_case, perfect_hash, extended_capacity, IsAscii, flags, fold_byte, edge_limit, is_hashed, has_spans}
 use Rattle.zerotrie_core.specs.Branches.{IsTable, table_size}
@@ -11,7 +12,7 @@ use Rattle.zerotrie_core.specs.Branches.IsTable.{sorted, hashed}
 use Rattle.zerotrie_core.specs.Texts.{AreHigh}
 use Rattle.zerotrie_core.specs.Nodes.{begin_of, end_of, targets_behind}
 use Rattle.zerotrie_core.specs.well_formed.Branching.{piece, extent, InOrder, AnswersEach, HasTable}
-use Rattle.zerotrie_core.proofs.KindLemmas.{hashed_spans}
+use Rattle.zerotrie_core.proofs.KindLemmas.{hashed_spans, edge_limit_is}
 use Rattle.zerotrie_core.proofs.NumberLemmas.{IsBytes}
 
 -- edges that rise, from neighbour to neighbour
@@ -37,6 +38,51 @@ rises_not f edges (suc k) one h wrong up =
     let a = get_or-map f edges k 0 0 below in
     let b = get_or-map f edges (suc k) 0 0 h in
     omega arith
+
+-- a byte of a kind that keeps case
+kept : (kind : Kind) → (flags kind).ignore_case ≡ false → (b : ℕ) → fold_byte kind b ≡ b
+kept simple_ascii keeps b = refl
+kept ignore_case keeps b = absurd (cc)
+kept perfect_hash keeps b = refl
+kept extended_capacity keeps b = refl
+
+-- the first of some bytes that stand at the front of others
+pub front_lies : (n : ℕ) (bytes tail : List ℕ) → bytes ≡ take (length bytes) tail → n ≤ length bytes → (n ≤ length tail) × (take n tail ≡ take n bytes)
+front_lies n bytes tail lies within =
+    let len : length bytes ≡ _ = ap length lies ∙ length-take (length bytes) tail in
+    (omega arith, sym (ap (take n) lies ∙ take-take n (length bytes) tail within))
+
+-- edges that keep their case, by the neighbours that stand at their front
+front_rises : (kind : Kind) (n m : ℕ) (bytes : List ℕ) → (flags kind).ignore_case ≡ false → n ≤ length bytes → n ≤ 16 → n ≤ m + 1
+    → ((k : ℕ) → k < 16 → k < m → get_or bytes k 0 < get_or bytes (k + 1) 0) → IsStrictlyIncreasing (map (fold_byte kind) (take n bytes))
+front_rises kind n m bytes keeps long few reached up = rises_from (fold_byte kind) (take n bytes) (λ k h. (
+    let len = length-take-le n bytes long in
+    let a = kept kind keeps (get_or (take n bytes) k 0) ∙ get_or-take n bytes k 0 (omega arith) in
+    let b = kept kind keeps (get_or (take n bytes) (k + 1) 0) ∙ get_or-take n bytes (k + 1) 0 (omega arith) in
+    let less = up k (omega arith) (omega arith) in
+    omega arith
+    ))
+
+front_stops : (kind : Kind) (n m : ℕ) (bytes : List ℕ) → (flags kind).ignore_case ≡ false → n ≤ length bytes → m + 1 < n → get_or bytes (m + 1) 0 ≤ get_or bytes m 0
+    → IsStrictlyIncreasing (map (fold_byte kind) (take n bytes)) → ⊥
+front_stops kind n m bytes keeps long before stops up =
+    let len = length-take-le n bytes long in
+    let e : (m + 1) - 1 ≡ m = omega arith in
+    let a = kept kind keeps (get_or (take n bytes) (m + 1) 0) ∙ get_or-take n bytes (m + 1) 0 (omega arith) in
+    let b = kept kind keeps (get_or (take n bytes) m 0) ∙ get_or-take n bytes m 0 (omega arith) in
+    rises_not (fold_byte kind) (take n bytes) (m + 1) (omega arith) (omega arith) (subst (λ j. fold_byte kind (get_or (take n bytes) (m + 1) 0) ≤ fold_byte kind (get_or (take n bytes) j 0)) (sym e) (omega arith)) up
+
+-- as many as rise at the front tell
+pub rises_by : (kind : Kind) (n m : ℕ) (bytes : List ℕ) → (flags kind).ignore_case ≡ false → 1 ≤ n → n ≤ length bytes → n ≤ 16
+    → ((k : ℕ) → k < 16 → k < m → get_or bytes k 0 < get_or bytes (k + 1) 0) → (m < 16 → get_or bytes (m + 1) 0 ≤ get_or bytes m 0)
+    → IsTrue (leb (n - 1) m) ↔ IsStrictlyIncreasing (map (fold_byte kind) (take n bytes))
+rises_by kind n m bytes keeps some long few up stops = (
+  λ e. front_rises kind n m bytes keeps long few (let h = leb-true (n - 1) m e in omega arith) up,
+  λ rising. elim (cases_lt m (n - 1)) [
+    | inl before ↦ absurd (front_stops kind n m bytes keeps long (omega arith) (stops (omega arith)) rising)
+    | inr reached ↦ le-leb (n - 1) m reached
+  ],
+)
 
 -- bytes of a span
 pub high_from : (run : List ℕ) → IsBytes run → ((i : ℕ) → i < length run → 128 ≤ get_or run i 0) → AreHigh run
@@ -74,7 +120,7 @@ get_or_same (x ∷ xs) (suc j) d l = get_or_same xs j d (omega arith)
 byte_all : (bytes : List ℕ) → IsBytes bytes → All (λ b. b < 256) bytes
 byte_all bytes h i d l = subst (λ x. x < 256) (get_or_same bytes i d l) (h i)
 
-bytes_parts : (n : ℕ) (bytes : List ℕ) → IsBytes bytes → IsBytes (take n bytes)
+pub bytes_parts : (n : ℕ) (bytes : List ℕ) → IsBytes bytes → IsBytes (take n bytes)
 bytes_parts zero bytes h i = omega arith
 bytes_parts (suc n) [] h i = omega arith
 bytes_parts (suc n) (b ∷ bytes) h zero = h 0
@@ -157,9 +203,9 @@ target_long n w behind i target low high is =
 
 -- a table that is not hashed is tested by its edges
 pub plain_test : (kind : Kind) (R : Type 0) (n : ℕ) (es edges table : List ℕ) → is_hashed kind n ≡ false → es ≡ edges → length edges ≡ n → drop (length table - n) table ≡ edges
-    → All (λ b. b < edge_limit kind) es → (R ↔ IsStrictlyIncreasing (map (fold_byte kind) es)) → length table ≡ table_size kind n → R ↔ HasTable kind edges table
+    → (IsStrictlyIncreasing (map (fold_byte kind) es) → All (λ b. b < edge_limit kind) es) → (R ↔ IsStrictlyIncreasing (map (fold_byte kind) es)) → length table ≡ table_size kind n → R ↔ HasTable kind edges table
 plain_test kind R n es edges table plain same count ends low exactly long = (
-  λ r. (sorted_from kind n edges table plain count (plain_table kind n edges table plain count long ends) (subst (λ x. IsStrictlyIncreasing (map (fold_byte kind) x)) same (exactly.0 r)), subst (λ x. All (λ b. b < edge_limit kind) x) same low),
+  λ r. (sorted_from kind n edges table plain count (plain_table kind n edges table plain count long ends) (subst (λ x. IsStrictlyIncreasing (map (fold_byte kind) x)) same (exactly.0 r)), subst (λ x. All (λ b. b < edge_limit kind) x) same (low (exactly.0 r))),
   λ has. exactly.1 (subst (λ x. IsStrictlyIncreasing (map (fold_byte kind) x)) (sym same) (sorted_to plain count has.0)),
 )
 
@@ -173,17 +219,38 @@ hashed_test kind R n es edges table wide same some most count ends bytes low eac
       λ has. (let is = perfect_to wide count has.0 in back is.0 is.1 (is.2 ∙ ap (λ x. is.0 ∷ (is.1 ++ x)) (sym same)) (subst (IsPerfect is.0 is.1) (sym same) is.3)),
     )
 
--- bytes below 128
-pub ascii_all : (bytes : List ℕ) → ((i : ℕ) → get_or bytes i 0 < 128) → All (λ b. b < 128) bytes
-ascii_all bytes low i d h = subst (λ x. x < 128) (get_or_same bytes i d h) (low i)
-
-pub ascii_not : (bytes : List ℕ) → All (λ b. b < 128) bytes → (i : ℕ) × (128 ≤ get_or bytes i 0) → ⊥
-ascii_not bytes all high = elim (cases_lt high.0 (length bytes)) [
-  | inl inside ↦ (let low = all high.0 0 inside in let h = high.1 in omega arith)
-  | inr past ↦ (let none = past_end bytes high.0 past in let h = high.1 in omega arith)
-]
+-- what rises up to a byte below 128 is below it
+pub ascii_below : (kind : Kind) → IsAscii kind → (n : ℕ) (bytes : List ℕ) → 1 ≤ n → n ≤ length bytes → get_or bytes (n - 1) 0 < 128 → IsStrictlyIncreasing (map (fold_byte kind) (take n bytes)) → All (λ b. b < edge_limit kind) (take n bytes)
+ascii_below kind ascii n bytes some long low up i d h =
+    let len = length-take-le n bytes long in
+    let m = length-map (take n bytes) (fold_byte kind) in
+    let last = get_or-take n bytes (n - 1) 0 (omega arith) in
+    let last' = get_or-map (fold_byte kind) (take n bytes) (n - 1) 0 0 (omega arith) in
+    let here = get_or-map (fold_byte kind) (take n bytes) i 0 0 h in
+    let less = increases (map (fold_byte kind) (take n bytes)) up i (n - 1) (omega arith) (omega arith) in
+    let folds : fold_byte kind (get_or (take n bytes) (n - 1) 0) < 128 = (folds_low kind ascii (get_or (take n bytes) (n - 1) 0)).0 (omega arith) in
+    let is : get_or (take n bytes) i 0 < 128 = (folds_low kind ascii (get_or (take n bytes) i 0)).1 (omega arith) in
+    subst (λ x. x < edge_limit kind) (get_or_same (take n bytes) i d h) (let limit = edge_limit_is kind ascii in omega arith)
   where
-    past_end : (xs : List ℕ) (i : ℕ) → length xs ≤ i → get_or xs i 0 ≡ 0
-    past_end [] i h = refl
-    past_end (x ∷ xs) zero h = absurd (omega arith)
-    past_end (x ∷ xs) (suc i) h = past_end xs i (omega arith)
+    increases : (xs : List ℕ) → IsStrictlyIncreasing xs → (i j : ℕ) → i ≤ j → j < length xs → get_or xs i 0 ≤ get_or xs j 0
+    increases xs up i zero le h = (let e : i ≡ 0 = omega arith in subst (λ k. get_or xs k 0 ≤ get_or xs 0 0) (sym e) (omega arith))
+    increases xs up i (suc j) le h = elim (cases_lt i (suc j)) [
+      | inl less ↦
+          let more = increases xs up i j (omega arith) (omega arith) in
+          let step : j + 1 ≡ suc j = omega arith in
+          let next : get_or xs j 0 < get_or xs (suc j) 0 = subst (λ k. get_or xs j 0 < get_or xs k 0) step (up j (omega arith)) in
+          omega arith
+      | inr same ↦ (let e : i ≡ suc j = omega arith in subst (λ k. get_or xs k 0 ≤ get_or xs (suc j) 0) (sym e) (omega arith))
+    ]
+
+    folds_low : (kind : Kind) → IsAscii kind → (b : ℕ) → (b < 128 → fold_byte kind b < 128) × (fold_byte kind b < 128 → b < 128)
+    folds_low simple_ascii ascii b = (λ h. h, λ h. h)
+    folds_low ignore_case ascii b = (
+      lowercase_ascii b,
+      λ h. elim (cases_lt b 128) [
+        | inl low ↦ low
+        | inr high ↦ (let same = (lowercase_is b).2 (omega arith) in omega arith)
+      ],
+    )
+    folds_low perfect_hash ascii b = absurd ascii
+    folds_low extended_capacity ascii b = absurd ascii

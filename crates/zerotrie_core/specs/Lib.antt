@@ -28,3 +28,4 @@ pub mod Laws
 pub mod CursorLaws
 pub mod WellFormed
 pub mod well_formed
+pub mod walk

@@ -15,7 +15,7 @@ use crate::options::ZeroTrieWithOptions;
 use crate::stream::node_at;
 
 /// What stands after a node in the row: of a branch its targets, one after another.
-fn row_behind<'a>(node: Node<'a>) -> &'a [u8]
+pub(crate) fn row_behind<'a>(node: Node<'a>) -> &'a [u8]
     ensures { result.now ≡ row_behind (shape node.entry) }
 {
     match node {

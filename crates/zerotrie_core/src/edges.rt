@@ -10,7 +10,7 @@ ghost use Rattle.zerotrie_core.specs.Texts.{Lists};
 ghost use Rattle.zerotrie_core.specs.Places.{ListsAt, IsStep, IsProbe, FollowsRun};
 ghost use Rattle.zerotrie_core.specs.cursor.Edges.{ListsInside, place_along, place_after};
 
-use crate::branch::folded;
+use crate::fold::folded;
 use crate::node::{Node, first_node};
 use crate::options::ZeroTrieWithOptions;
 

@@ -1,11 +1,12 @@
 //! A part of a text that is to be gone over.
 
-ghost use Rattle.std.specs.Prelude.{◌≡◌, ℕ, ◌≤◌, ◌<◌, length, take, slice_index, []};
+ghost use Rattle.std.specs.Prelude.{◌≡◌, ℕ, ◌≤◌, ◌<◌, length, take, drop, slice_index, []};
 ghost use Rattle.std.specs.Option.{option_map};
 ghost use Rattle.std.specs.Slice.{IsGetRangeResult};
 ghost use Rattle.zerotrie_core.specs.listing.Runs.{EndsWith};
+ghost use Rattle.zerotrie_core.specs.well_formed.Testing.{BeginsValue};
 
-use crate::lanes::first_other_in_16;
+use crate::lanes::{first_other_in_16, highs_in_16};
 
 /// The bytes that are to be gone over, and all that stand in the text from there on.
 ///
@@ -60,6 +61,39 @@ impl<'a> Here<'a> {
         first_other_in_16(sixteen, sixteen)
             .min(16)
             .min(self.rest.len())
+    }
+
+    /// After this many bytes of the rest.
+    #[inline(always)]
+    pub fn after(self, count: usize) -> Self
+        requires { count ≤ length self.rest.now }
+        ensures { result.rest.now ≡ drop count self.entry.rest.now }
+    {
+        let (_, after) = self.rest.split_at(count);
+        self.behind(after)
+    }
+
+    /// How many bytes the value has that the rest begins with, as far as sixteen bytes tell; 0 if they tell of none.
+    ///
+    /// The lead says whether bytes follow it, and of these all but the last are 128 or more, so nothing is read byte by
+    /// byte. A value of ten bytes is not told, since it might be too large.
+    #[inline(always)]
+    pub fn value_len(&self) -> usize
+        ensures within { result ≤ length self.now.rest.now }
+        ensures value { 0 < result → BeginsValue self.now.rest.now
+            (drop result self.now.rest.now) }
+    {
+        if self.tail.len() < 16 {
+            return 0;
+        }
+        let lead = self.tail[0];
+        let highs = highs_in_16(self.tail);
+        let len = if lead < 144 { 1 } else { highs + 1 };
+        if (128 <= lead) & (lead < 160) & (len <= 9) & (len <= self.rest.len()) {
+            len
+        } else {
+            0
+        }
     }
 
     /// The bytes of the rest from one place to another, if these are in order and in it.

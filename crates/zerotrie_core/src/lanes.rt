@@ -1,6 +1,7 @@
 //! Bytes held against two others, many at once.
 
-ghost use Rattle.std.specs.Prelude.{◌≡◌, ◌≢◌, ℕ, ◌<◌, ◌≤◌, ◌⊎◌, length, slice_index, IsTrue};
+ghost use Rattle.std.specs.Prelude.{◌≡◌, ◌≢◌, ℕ, ◌+◌, ◌<◌, ◌≤◌, ◌⊎◌, length, slice_index, IsTrue};
+ghost use Rattle.zerotrie_core.specs.well_formed.Branching.{AreBytes};
 
 use std::simd::prelude::*;
 
@@ -72,4 +73,33 @@ pub fn are_same_in_16(bytes: &[u8], others: &[u8]) -> bool
         × (slice_index bytes.now k ≡ slice_index others.now k) }
 {
     first_other_in_16(bytes, others) >= 16
+}
+
+/// How many of the first sixteen bytes are below the one after them, from the first on; 64 if all are.
+#[inline(always)]
+pub fn rising_in_17(bytes: &[u8]) -> usize
+    requires { 17 ≤ length bytes.now }
+    ensures rises { (k : ℕ) → k < 16 → k < result
+        → slice_index bytes.now k < slice_index bytes.now (k + 1) }
+    ensures stops { result < 16
+        → slice_index bytes.now (result + 1) ≤ slice_index bytes.now result }
+{
+    let (_, next) = bytes.split_at(1);
+    let lanes = u8x16::from_slice(bytes);
+    let stops = lanes.simd_ge(u8x16::from_slice(next)).to_bitmask();
+    stops.trailing_zeros() as usize
+}
+
+/// How many of the first sixteen bytes are 128 or more, from the first on; 64 if all are.
+#[inline(always)]
+pub fn highs_in_16(bytes: &[u8]) -> usize
+    requires { 16 ≤ length bytes.now }
+    ensures highs { (k : ℕ) → k < 16 → k < result → 128 ≤ slice_index bytes.now k }
+    ensures stops { result < 16 → slice_index bytes.now result < 128 }
+    ensures bytes { AreBytes bytes.now }
+    ensures small { result ≤ 64 }
+{
+    let lanes = u8x16::from_slice(bytes);
+    let stops = lanes.simd_lt(u8x16::splat(128)).to_bitmask();
+    stops.trailing_zeros() as usize
 }

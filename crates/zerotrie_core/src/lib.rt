@@ -5,12 +5,16 @@
 mod branch;
 mod count;
 mod cursor;
+mod edge_search;
 mod edges;
+mod fold;
 mod here;
 mod lanes;
 pub mod laws;
 mod listing;
+mod literals;
 mod node;
+mod offsets;
 mod options;
 mod plain;
 mod prefixes;
@@ -18,11 +22,14 @@ mod reader;
 mod span_cursor;
 mod stream;
 mod varint;
+mod walk;
 mod well_formed;
 
+pub use branch::Branch;
 pub use count::count_pairs;
 pub use cursor::{AsciiProbeResult, probe, step, take_value};
 pub use listing::{ListError, ZeroTrieIterator};
+pub use node::Node;
 pub use options::{Ext, Hash, Ignore, Simple, ZeroTrieBuilderOptions, ZeroTrieWithOptions};
 pub use plain::plain_encode;
 pub use prefixes::{CommonPrefixes, longest_prefix};
@@ -30,6 +37,7 @@ pub use reader::get_counted;
 pub use span_cursor::{ByteProbeResult, SpanCursor};
 pub use stream::ZeroTrieStream;
 pub use varint::{read_varint_meta2, read_varint_meta3, write_varint_meta2, write_varint_meta3};
+pub use walk::{Nodes, Part, Visit};
 pub use well_formed::{is_well_formed, is_well_formed_counted};
 pub use zerotrie_base::{
     ConvertStore, PerfectByteHashMap, PerfectByteHashMapCacheOwned, TrieKey, TrieStore,

@@ -12,6 +12,7 @@ use crate::options::ZeroTrieWithOptions;
 use crate::varint::read_varint_meta3;
 
 /// A node, and what follows it.
+#[derive(Clone, Copy, Debug)]
 pub enum Node<'a> {
     /// A value, and what follows it.
     Value(usize, &'a [u8]),

@@ -21,7 +21,8 @@ ghost use Rattle.zerotrie_core.specs.reader.Going.{AlwaysStops};
 
 mod opened;
 
-use crate::branch::{Branch, folded};
+use crate::branch::Branch;
+use crate::fold::folded;
 use crate::here::Here;
 use crate::lanes::first_other_in_16;
 use crate::node::{Node, first_node};

@@ -11,7 +11,7 @@ ghost use Rattle.zerotrie_core.specs.Texts.{AreHigh, Means};
 ghost use Rattle.zerotrie_core.specs.Shapes.{shape, branch_shape};
 ghost use Rattle.zerotrie_core.specs.WellFormed.{IsWellFormed, IsShallow, deep};
 ghost use Rattle.zerotrie_core.specs.listing.Runs.{EndsWith};
-ghost use Rattle.zerotrie_core.specs.well_formed.Testing.{Steps, IsOneCall, IsFirstLonger, AlwaysOnward, AlwaysNoText};
+ghost use Rattle.zerotrie_core.specs.well_formed.Testing.{Steps, Suits, Onward, IsFirstLonger, AlwaysOnward, AlwaysNoText};
 
 mod branches;
 
@@ -19,7 +19,6 @@ use crate::branch::Branch;
 use crate::here::Here;
 use crate::node::{Node, first_node};
 use crate::options::ZeroTrieWithOptions;
-use crate::varint::read_varint_meta3;
 use branches::{has_front, target_from};
 
 /// What may stand next in a text.
@@ -123,24 +122,23 @@ fn next_step<'a, K: ZeroTrieWithOptions>(node: Node<'a>, expected: Expected) -> 
     }
 }
 
-/// Whether the bytes are literals and a value, with which they end, as far as sixteen bytes tell.
+/// After literals and a value, as far as sixteen bytes of each tell, and what may stand there, in bytes that are not empty.
 ///
-/// Most of the shorter targets are. They take no call, and no jump that depends on how many literals there are.
+/// No jump in it depends on how many literals there are, on how long the value is, or on whether there is one.
 #[inline(always)]
-fn is_leaf(here: Here<'_>) -> bool
-    ensures { IsTrue result → (kind : Kind) → IsOneCall kind here.entry.rest.now }
+fn pass(here: Here<'_>) -> (Here<'_>, Expected)
+    ensures shorter { length result.0.rest.now ≤ length here.entry.rest.now }
+    ensures onward { here.entry.rest.now ≢ [] → (kind : Kind)
+        → Onward kind here.entry.rest.now result.0.rest.now result.1 1 }
 {
-    let (_, rest) = here.rest.split_at(here.literals());
-    let Some((lead, behind)) = rest.split_first() else {
-        return false;
+    let value = here.after(here.literals());
+    let len = value.value_len();
+    let expected = if len > 0 {
+        Expected::NoValue
+    } else {
+        Expected::Something
     };
-    if *lead < 128 || 160 <= *lead {
-        return false;
-    }
-    match read_varint_meta3(*lead, behind) {
-        Some((_value, after)) => after.is_empty(),
-        None => false,
-    }
+    (value.after(len), expected)
 }
 
 /// Two targets, the longer one last, or the first if none is longer.
@@ -156,8 +154,8 @@ fn by_length<'a>(first: Here<'a>, next: Here<'a>) -> (Here<'a>, Here<'a>)
     }
 }
 
-/// The longest target of a branch, if the branch and all other targets are well-formed, and the depth that these give to
-/// the branch.
+/// The longest target of a branch, which is not empty, if the branch and all other targets are well-formed, and the depth
+/// that these give to the branch.
 ///
 /// Each offset is read once: of the targets so far, all but the longest are tested, and that one comes to its turn when a
 /// longer one is met.
@@ -169,11 +167,12 @@ fn go_behind<'a, K: ZeroTrieWithOptions>(
     requires { EndsWith here.rest.now branch.behind.now }
     ensures shorter { IfSome result (λ r. length r.0.rest.now < length branch.entry.behind.now) }
     ensures shallow { IfSome result (λ r. IsShallow branch.entry.behind.now r.1) }
+    ensures filled { IfSome result (λ r. r.0.rest.now ≢ []) }
     ensures some { IfSome result (λ r.
         AlwaysOnward K.kind (branch_shape branch.entry) r.0.rest.now Expected.Something r.1) }
     ensures none { IfNone result (AlwaysNoText K.kind (branch_shape branch.entry)) }
 {
-    if !has_front::<K>(&branch) {
+    if !has_front::<K>(&branch, here.behind(branch.behind)) {
         return None;
     }
     let (_, body) = branch.behind.split_at(branch.edges);
@@ -187,53 +186,69 @@ fn go_behind<'a, K: ZeroTrieWithOptions>(
         begin += target.rest.len();
         let (shorter, longer) = by_length(longest, target);
         longest = longer;
-        if is_leaf(shorter) {
-            most = most.max(2);
-        } else {
-            let (yes, count) = is_text_counted::<K>(shorter);
-            if !yes {
-                return None;
-            }
-            most = most.max(count + 1);
+        let (yes, count) = is_target_counted::<K>(shorter);
+        if !yes {
+            return None;
         }
+        most = most.max(count + 1);
     }
     Some((longest, most))
 }
 
-/// Whether the bytes that are to be gone over are a trie of the kind, and its depth.
+/// Whether the bytes of a target, which are not empty, are a trie of the kind, and its depth.
+///
+/// Most of the shorter targets are literals and a value: they take no call.
+#[inline(always)]
 #[cycle(tested)]
-fn is_text_counted<K: ZeroTrieWithOptions>(here: Here<'_>) -> (bool, u32)
-    ensures yes { IsTrue result.0 ↔ IsWellFormed K.kind here.entry.rest.now }
-    ensures count { (m : Map) (means : Means K.kind here.entry.rest.now m)
+fn is_target_counted<K: ZeroTrieWithOptions>(target: Here<'_>) -> (bool, u32)
+    requires { target.rest.now ≢ [] }
+    ensures yes { IsTrue result.0 ↔ IsWellFormed K.kind target.entry.rest.now }
+    ensures count { (m : Map) (means : Means K.kind target.entry.rest.now m)
         → result.1 ≡ deep means.lists }
+    ensures shallow { IsShallow target.entry.rest.now result.1 }
+{
+    let (at, expected) = pass(target);
+    if at.rest.is_empty() {
+        return (expected.takes_end(), 1);
+    }
+    is_text_counted::<K>(at, expected)
+}
+
+/// Whether the bytes that are to be gone over are a trie of the kind and begin as they may, and the depth of the trie.
+#[cycle(tested)]
+fn is_text_counted<K: ZeroTrieWithOptions>(here: Here<'_>, expected: Expected) -> (bool, u32)
+    ensures yes { IsTrue result.0
+        ↔ (Suits expected here.entry.rest.now × IsWellFormed K.kind here.entry.rest.now) }
+    ensures count { Suits expected here.entry.rest.now → (m : Map)
+        (means : Means K.kind here.entry.rest.now m) → result.1 ≡ deep means.lists }
     ensures shallow { IsShallow here.entry.rest.now result.1 }
 {
     let mut at = here;
-    let mut expected = Expected::Anything;
+    let mut next = expected;
     let mut most: u32 = 1;
     while let Some(node) = first_node::<K>(at.rest) {
-        match next_step::<K>(node, expected) {
+        match next_step::<K>(node, next) {
             Step::Wrong => return (false, most),
             Step::Literals => {
-                let (_, after) = at.rest.split_at(at.literals().max(1));
-                at = at.behind(after);
-                expected = Expected::Something;
+                at = at.after(at.literals().max(1));
+                next = Expected::Something;
             }
-            Step::Over(after, next) => {
+            Step::Over(after, following) => {
                 at = at.behind(after);
-                expected = next;
+                next = following;
             }
             Step::Behind(branch) => match go_behind::<K>(at, branch) {
                 None => return (false, most),
                 Some((longest, count)) => {
-                    at = longest;
-                    expected = Expected::Something;
+                    let (after, following) = pass(longest);
+                    at = after;
+                    next = following;
                     most = most.max(count);
                 }
             },
         }
     }
-    (at.rest.is_empty() && expected.takes_end(), most)
+    (at.rest.is_empty() && next.takes_end(), most)
 }
 
 /// Whether the bytes are a trie of the kind, and its depth, which no count of calls of this test that are open at once
@@ -253,7 +268,7 @@ pub fn is_well_formed_counted<K: ZeroTrieWithOptions>(bytes: &[u8]) -> (bool, u3
     ensures count { (m : Map) (means : Means K.kind bytes.now m) → result.1 ≡ deep means.lists }
     ensures shallow { IsShallow bytes.now result.1 }
 {
-    is_text_counted::<K>(Here::at(bytes))
+    is_text_counted::<K>(Here::at(bytes), Expected::Anything)
 }
 
 /// Whether the bytes are a trie of the kind, every rule of the format kept.

@@ -13,7 +13,7 @@ mod reading;
 mod records;
 mod table;
 
-pub use escapes::{unescape, write_escaped};
+pub use escapes::{hex_digit, unescape, write_escaped};
 pub use fault::{BadLine, ReadError};
 pub use lines::{read_lines, take_line, write_pair};
 pub use numbers::{parse_number, write_number};

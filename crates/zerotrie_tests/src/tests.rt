@@ -26,6 +26,23 @@ fn same<T: Debug + PartialEq + Drop, H: Abort>(rt: &H, left: T, right: T) {
     assert_eq!(rt; left, right);
 }
 
+/// Whether a build is refused for this reason.
+fn is_refused<T: Drop>(build: Result<T, ZeroTrieBuildError>, error: &ZeroTrieBuildError) -> bool {
+    match build {
+        Ok(_) => false,
+        Err(why) => why == *error,
+    }
+}
+
+/// The keys of one byte each, with value 0.
+fn keys_of(alloc: Global, bytes: &[u8]) -> Result<Vec<(&[u8], usize)>, Fail> {
+    let mut items: Vec<(&[u8], usize)> = Vec::new(alloc);
+    for byte in bytes.chunks(1) {
+        items.push((byte, 0))?;
+    }
+    Ok(items)
+}
+
 /// The keys "a" to "p", which in a hashed kind are the edges of the smallest hashed branch.
 const LETTERS: [(&str, usize); 16] = [
     ("a", 0),

@@ -1,5 +1,5 @@
 -- Fallbacks: the value of the longest key that a text begins with, by single bytes or by whole parts.
-use Rattle.std.specs.Prelude.{◌≡◌, ℕ, ◌<◌, List, [], ◌∷◌, ◌++◌, length, Option, Some, None}
+use Rattle.std.specs.Prelude.{◌≡◌, ℕ, ◌<◌, List, [], ◌∷◌, ◌++◌, length, drop, ◌==◌, ◌||◌, Bool, true, Option, Some, None}
 use Rattle.zerotrie.specs.Kind.{Kind}
 use Rattle.zerotrie.specs.Maps.{Map, look}
 
@@ -17,17 +17,21 @@ BeginsWith text key = (rest : List ℕ) × (text ≡ key ++ rest)
 abbrev pub hyphen : ℕ
 hyphen = 45
 
--- a part of a name ends in front of this rest of it: nothing is left, or a hyphen comes next
-abbrev pub EndsPart : List ℕ → Type 0
-EndsPart [] = Unit {0}
-EndsPart (b ∷ rest) = b ≡ hyphen
+-- nothing is left of a name, or a hyphen comes next
+abbrev pub is_end : List ℕ → Bool
+is_end [] = true
+is_end (b ∷ rest) = b == hyphen
+
+-- a part ends after so many bytes of a name: none, all of it, or those in front of a hyphen
+abbrev pub ends_part : List ℕ → ℕ → Bool
+ends_part name len = (len == 0) || is_end (drop len name)
 
 -- The name begins with the key by whole parts: the key is the name itself, or what stands in front of one of its
 -- hyphens. So "fil-PH" begins with "fil", and not with "fi". Every name begins with the empty key, which is the
 -- root's: what names fall back to at last.
 abbrev pub BeginsWithParts : List ℕ → List ℕ → Type 0
 BeginsWithParts name [] = Unit {0}
-BeginsWithParts name (b ∷ key) = (rest : List ℕ) × (name ≡ (b ∷ key) ++ rest) × EndsPart rest
+BeginsWithParts name (b ∷ key) = (rest : List ℕ) × (name ≡ (b ∷ key) ++ rest) × (is_end rest ≡ true)
 
 -- the value of the longest key that the name begins with by whole parts
 abbrev pub IsFallback : Kind → Map → List ℕ → Option ℕ → Type 0

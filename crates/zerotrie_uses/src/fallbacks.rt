@@ -1,14 +1,22 @@
 //! Tables with a fallback: names whose parts are left off from the end, and texts that begin with a key.
 
+ghost use Rattle.std.specs.Prelude.{◌≡◌};
 ghost use Rattle.zerotrie.specs.Kind.{simple_ascii, perfect_hash};
 ghost use Rattle.zerotrie.specs.Maps.{Map};
 ghost use Rattle.zerotrie.specs.Texts.{Means};
-ghost use Rattle.zerotrie_uses.specs.Fallback.{IsFallback, IsLongestKey};
+ghost use Rattle.zerotrie_uses.specs.Fallback.{ends_part, IsFallback, IsLongestKey};
 
-use zerotrie::{TrieStore, ZeroTriePerfectHash, ZeroTrieSimpleAscii, laws};
+use zerotrie::{TrieStore, ZeroTriePerfectHash, ZeroTrieSimpleAscii};
 
 /// The byte between the parts of a locale.
 const HYPHEN: u8 = b'-';
+
+/// Whether a part of a name ends after so many bytes of it: in front of all of it, in front of a hyphen, or at its end.
+fn ends_part(name: &[u8], len: usize) -> bool
+    ensures { result ≡ ends_part name.now len }
+{
+    len == 0 || name.get(len).is_none_or(|byte| *byte == HYPHEN)
+}
 
 /// The value that a locale falls back to: that of the longest key that is the name itself or the front of it
 /// before one of its hyphens. So `en-Latn-GB` falls back to `en-Latn`, and `fil-PH` to `fil` and never to `fi`.
@@ -18,22 +26,16 @@ pub fn fall_back<S: TrieStore>(trie: &ZeroTrieSimpleAscii<S>, name: &[u8]) -> Op
     ensures { (m : Map) → Means simple_ascii (S.stored trie.now.store) m
         → IsFallback simple_ascii m name.now result }
 {
-    laws::steps_look_ahead();
-    let mut found = trie.get(b"");
-    let mut cursor = trie.cursor();
-    for byte in name {
-        if *byte == HYPHEN {
-            found = cursor.take_value().or(found);
+    let mut found = None;
+    for (len, value) in trie.common_prefixes(name) {
+        if ends_part(name, len) {
+            found = Some(value);
         }
-        if cursor.is_empty() {
-            return found;
-        }
-        cursor.step(*byte);
     }
-    cursor.take_value().or(found)
+    found
 }
 
-/// Like `fall_back`, among keys of any bytes. On its way the cursor may stand inside a span, where no key ends.
+/// Like `fall_back`, among keys of any bytes.
 pub fn fall_back_in_hashed<S: TrieStore>(
     trie: &ZeroTriePerfectHash<S>,
     name: &[u8],
@@ -41,16 +43,13 @@ pub fn fall_back_in_hashed<S: TrieStore>(
     ensures { (m : Map) → Means perfect_hash (S.stored trie.now.store) m
         → IsFallback perfect_hash m name.now result }
 {
-    laws::steps_look_ahead();
-    let mut found = trie.get(b"");
-    let mut cursor = trie.cursor();
-    for byte in name {
-        if *byte == HYPHEN {
-            found = cursor.take_value().or(found);
+    let mut found = None;
+    for (len, value) in trie.common_prefixes(name) {
+        if ends_part(name, len) {
+            found = Some(value);
         }
-        cursor.step(*byte);
     }
-    cursor.take_value().or(found)
+    found
 }
 
 /// The value of the longest key that a text begins with, whatever comes next. `None` if it begins with no key.
@@ -61,15 +60,6 @@ pub fn longest_key<S: TrieStore>(trie: &ZeroTrieSimpleAscii<S>, text: &[u8]) -> 
     ensures { (m : Map) → Means simple_ascii (S.stored trie.now.store) m
         → IsLongestKey simple_ascii m text.now result }
 {
-    laws::steps_look_ahead();
-    let mut longest = None;
-    let mut cursor = trie.cursor();
-    for byte in text {
-        longest = cursor.take_value().or(longest);
-        if cursor.is_empty() {
-            return longest;
-        }
-        cursor.step(*byte);
-    }
-    cursor.take_value().or(longest)
+    let (_len, value) = trie.longest_prefix(text)?;
+    Some(value)
 }

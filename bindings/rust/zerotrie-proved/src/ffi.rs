@@ -48,6 +48,7 @@ unsafe extern "C" {
     pub fn zerotrie_dense_build(prefixes: *const u8, prefixes_len: usize, prefix_ends: *const usize, prefix_count: usize,
         suffixes: *const u8, suffixes_len: usize, suffix_ends: *const usize, suffix_count: usize, values: *const usize,
         value_count: usize, delimiter: u8, out: *mut u8, out_len: usize, len: *mut usize) -> u32;
+    pub fn zerotrie_status_bytes(status: u32, text: *mut Bytes);
     #[allow(dead_code)] // this crate lists in parts
     pub fn zerotrie_list(kind: u32, bytes: *const u8, len: usize, prefix: *const u8, prefix_len: usize, keys: *mut u8,
         keys_len: usize, ends: *mut usize, ends_len: usize, values: *mut usize, values_len: usize, key_bytes: *mut usize,

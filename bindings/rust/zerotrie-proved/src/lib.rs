@@ -85,44 +85,52 @@ pub enum Error {
     Unknown(u32),
 }
 
+/// The cases that a number of `zerotrie.h` stands for.
+const NUMBERED: [(u32, Error); 12] = [
+    (1, Error::NonAscii),
+    (2, Error::CapacityExceeded),
+    (3, Error::NoPerfectHash),
+    (4, Error::MixedCase),
+    (5, Error::IllegalDelimiter),
+    (6, Error::DuplicateKey),
+    (7, Error::Unsorted),
+    (11, Error::OutOfMemory),
+    (13, Error::NoTag),
+    (14, Error::InvalidTag),
+    (16, Error::RecordTruncated),
+    (17, Error::TrailingBytes),
+];
+
 impl Error {
     fn of(status: u32) -> Self {
-        match status {
-            1 => Error::NonAscii,
-            2 => Error::CapacityExceeded,
-            3 => Error::NoPerfectHash,
-            4 => Error::MixedCase,
-            5 => Error::IllegalDelimiter,
-            6 => Error::DuplicateKey,
-            7 => Error::Unsorted,
-            11 => Error::OutOfMemory,
-            13 => Error::NoTag,
-            14 => Error::InvalidTag,
-            16 => Error::RecordTruncated,
-            17 => Error::TrailingBytes,
-            other => Error::Unknown(other),
+        let case = NUMBERED.iter().find(|(number, _)| *number == status);
+        case.map_or(Error::Unknown(status), |(_, error)| *error)
+    }
+
+    /// The number that `zerotrie.h` has for it. `None` for what this crate alone tells.
+    fn status(self) -> Option<u32> {
+        match self {
+            Error::NotWellFormed => None,
+            Error::Unknown(status) => Some(status),
+            error => NUMBERED.iter().find(|(_, case)| *case == error).map(|(number, _)| *number),
         }
     }
 }
 
+/// The text of a status, as the library has it.
+fn status_text(status: u32) -> &'static str {
+    let mut text = ffi::Bytes { ptr: "".as_ptr(), len: 0 };
+    // SAFETY: what is lent is UTF-8 with a zero at its end, and stays as long as the program.
+    let bytes = unsafe {
+        ffi::zerotrie_status_bytes(status, &mut text);
+        core::slice::from_raw_parts(text.ptr, text.len)
+    };
+    core::str::from_utf8(bytes).unwrap_or("").trim_end_matches('\0')
+}
+
 impl fmt::Display for Error {
     fn fmt(&self, f: &mut fmt::Formatter<'_>) -> fmt::Result {
-        f.write_str(match self {
-            Error::NonAscii => "a key has a byte that is not ASCII: take a kind of trie for keys of any bytes",
-            Error::CapacityExceeded => "the text of the trie would be too long for its kind: take ZeroTrieExtendedCapacity, or fewer pairs",
-            Error::NoPerfectHash => "no perfect hash was found for the edges of a branch: take a kind without hashed tables, or change a key",
-            Error::MixedCase => "two keys begin alike but for the case of a letter: lower-case the keys first",
-            Error::IllegalDelimiter => "a text has the delimiter in it: take a delimiter that none has",
-            Error::DuplicateKey => "a key was given twice: give each key once",
-            Error::Unsorted => "the keys do not ascend: sort them by their bytes, each once",
-            Error::OutOfMemory => "out of memory",
-            Error::NoTag => "there are no bytes, and so no tag: give all of the tagged bytes",
-            Error::InvalidTag => "the first byte is the tag of no kind: give bytes that were written with a tag",
-            Error::RecordTruncated => "the record is cut: give all of its bytes",
-            Error::TrailingBytes => "bytes follow the record: give its bytes alone",
-            Error::NotWellFormed => "The bytes are no trie of the kind",
-            Error::Unknown(_) => "Unknown status",
-        })
+        f.write_str(self.status().map_or("the bytes are no trie of the kind", status_text))
     }
 }
 

@@ -56,7 +56,7 @@ Aside k key [] bytes pairs = (bytes ≡ []) × (pairs ≡ [])
 Aside k key (s ∷ siblings) bytes pairs = ComesBefore s siblings × IsFirst k key s (length siblings) (Aside k key siblings) bytes pairs
 
 -- In front stands the text of what is under the first bytes of the key, so many, and behind it the siblings.
-pub record Holds (k : ℕ) (Front : List ℕ → Type 0) (key : List ℕ) (depth : ℕ) (siblings : List Sibling) (front : ℕ) (bytes : List ℕ) (pairs : Pairs) : Type 0 where
+pub record TextAndSiblings (k : ℕ) (Front : List ℕ → Type 0) (key : List ℕ) (depth : ℕ) (siblings : List Sibling) (front : ℕ) (bytes : List ℕ) (pairs : Pairs) : Type 0 where
   pub text : List ℕ
   pub rest : List ℕ
   pub inner : Pairs
@@ -71,26 +71,26 @@ pub record Holds (k : ℕ) (Front : List ℕ → Type 0) (key : List ℕ) (depth
   pub pairs_are : pairs ≡ with_run (take depth key) inner ++ others
 
 -- ready for the item of the key
-abbrev pub Waits : ℕ → List ℕ → List Sibling → ℕ → List ℕ → Pairs → Type 0
-Waits k key siblings front bytes pairs = Holds k NoValueFirst key (length key) siblings front bytes pairs
+abbrev pub ReadyFor : ℕ → List ℕ → List Sibling → ℕ → List ℕ → Pairs → Type 0
+ReadyFor k key siblings front bytes pairs = TextAndSiblings k NoValueFirst key (length key) siblings front bytes pairs
 
 -- with a text in front, and once a level is closed without a value first
 abbrev pub Stands : ℕ → List ℕ → ℕ → List Sibling → ℕ → List ℕ → Pairs → Type 0
 Stands k key depth siblings front bytes pairs =
-    Holds k (λ text. (text ≢ []) × (depth < length key → NoValueFirst text)) key depth siblings front bytes pairs
+    TextAndSiblings k (λ text. (text ≢ []) × (depth < length key → NoValueFirst text)) key depth siblings front bytes pairs
 
 -- the text and the siblings, the last that was set aside last, stand so
 abbrev pub Standing : ℕ → List ℕ → ℕ → Text → List Sibling → Pairs → Type 0
 Standing k key depth text siblings listed = (bytes : List ℕ) × Has text bytes × Stands k key depth (tops siblings) text.front bytes listed
 
 -- they wait so
-abbrev pub Waiting : ℕ → List ℕ → Text → List Sibling → Pairs → Type 0
-Waiting k key text siblings listed = (bytes : List ℕ) × Has text bytes × Waits k key (tops siblings) text.front bytes listed
+abbrev pub IsReady : ℕ → List ℕ → Text → List Sibling → Pairs → Type 0
+IsReady k key text siblings listed = (bytes : List ℕ) × Has text bytes × ReadyFor k key (tops siblings) text.front bytes listed
 
 -- the items from this one on are built
 abbrev pub BuiltFrom : ℕ → ℕ → Pairs → Text → List Sibling → Type 0
 BuiltFrom k zero all text siblings = (bytes : List ℕ) × Has text bytes × Lists simple_ascii bytes all × (stack_of all ≤ k)
-BuiltFrom k (suc i) all text siblings = Waiting k (slice_index_or all i ([], 0)).0 text siblings (drop (suc i) all)
+BuiltFrom k (suc i) all text siblings = IsReady k (slice_index_or all i ([], 0)).0 text siblings (drop (suc i) all)
 
 -- The siblings at one depth were taken off the others, and made a branch in front of the text.
 pub record Joins (depth : ℕ) (old new : Text) (before after : List Sibling) : Type 0 where
@@ -103,7 +103,7 @@ pub record Joins (depth : ℕ) (old new : Text) (before after : List Sibling) : 
   pub counts : Counts new.front (length (branch_front (bytes_of taken) (lens_of taken)) + total (lens_of taken))
 
 -- the siblings at one depth have texts of 2 ^ 32 bytes or more together
-pub record TooWide (depth : ℕ) (before : List Sibling) : Type 0 where
+pub record LevelTooWide (depth : ℕ) (before : List Sibling) : Type 0 where
   pub taken : List Sibling
   pub after : List Sibling
   pub split : before ≡ taken ++ after
@@ -112,12 +112,12 @@ pub record TooWide (depth : ℕ) (before : List Sibling) : Type 0 where
   pub wide : 2 ^ 32 ≤ total (lens_of taken)
 
 -- some key begins with the front and then b
-abbrev pub Leads : Pairs → List ℕ → ℕ → Type 0
-Leads pairs front b = begins_some (behind_all front pairs) b ≡ true
+abbrev pub SomeBegins : Pairs → List ℕ → ℕ → Type 0
+SomeBegins pairs front b = begins_some (behind_all front pairs) b ≡ true
 
 -- wherever a key of these leads, one of all of them does
 abbrev pub AreAmong : Pairs → Pairs → Type 0
-AreAmong pairs all = (front : List ℕ) (b : ℕ) → Leads pairs front b → Leads all front b
+AreAmong pairs all = (front : List ℕ) (b : ℕ) → SomeBegins pairs front b → SomeBegins all front b
 
 -- a stack of k is too small for any pairs that have these among them
 abbrev pub NeedMore : ℕ → Pairs → Type 0
@@ -130,23 +130,23 @@ AtMost (f ∷ front) [] = Unit {0}
 AtMost (f ∷ front) (c ∷ key) = (c < f) ⊎ ((c ≡ f) × AtMost front key)
 
 -- why a level of the key is not closed
-abbrev pub IsStuckAt : ℕ → List ℕ → ℕ → Pairs → ZeroTrieBuildError → Type 0
-IsStuckAt k key depth listed e =
+abbrev pub RefusedAt : ℕ → List ℕ → ℕ → Pairs → ZeroTrieBuildError → Type 0
+RefusedAt k key depth listed e =
     ((e ≡ CapacityExceeded) × OverflowsAt simple_ascii (take depth key) listed) ⊎ ((e ≡ StackExceeded) × NeedMore k listed)
 
 -- why a level of the key from this one on is not closed
-abbrev pub IsStuckFrom : ℕ → List ℕ → ℕ → Pairs → ZeroTrieBuildError → Type 0
-IsStuckFrom k key stop listed e = (depth : ℕ) × (stop ≤ depth) × (depth < length key) × IsStuckAt k key depth listed e
+abbrev pub RefusedFrom : ℕ → List ℕ → ℕ → Pairs → ZeroTrieBuildError → Type 0
+RefusedFrom k key stop listed e = (depth : ℕ) × (stop ≤ depth) × (depth < length key) × RefusedAt k key depth listed e
 
 -- why the key before is not reached
-abbrev pub IsStuckBefore : ℕ → List ℕ → Pairs → ZeroTrieBuildError → Type 0
-IsStuckBefore k before listed e =
+abbrev pub RefusedBefore : ℕ → List ℕ → Pairs → ZeroTrieBuildError → Type 0
+RefusedBefore k before listed e =
     ((e ≡ CapacityExceeded) × ((front : List ℕ) × AtMost front before × OverflowsAt simple_ascii front listed))
     ⊎ ((e ≡ StackExceeded) × ((v : ℕ) → NeedMore k ((before, v) ∷ listed)))
 
 -- why the pairs are not all added
-abbrev pub IsStuck : ℕ → Pairs → ZeroTrieBuildError → Type 0
-IsStuck k all e = ((e ≡ CapacityExceeded) × ExceedsCapacity simple_ascii (map_of all)) ⊎ ((e ≡ StackExceeded) × (k < stack_of all))
+abbrev pub IsRefusedBuild : ℕ → Pairs → ZeroTrieBuildError → Type 0
+IsRefusedBuild k all e = ((e ≡ CapacityExceeded) × ExceedsCapacity simple_ascii (map_of all)) ⊎ ((e ≡ StackExceeded) × (k < stack_of all))
 
 -- The text of the pairs, which ascend, was written at the end of the buffer, and so many bytes counted; a stack of k was enough.
 pub record IsWritten (k : ℕ) (pairs : Pairs) (buffer : List ℕ) (len : ℕ) : Type 0 where

@@ -9,28 +9,28 @@ use Rattle.zerotrie_core.specs.Branches.{total}
 use Rattle.zerotrie_core.specs.Canonical.{size_of, branch_size}
 use Rattle.zerotrie_build.specs.Order.{Ordered, AreKeys}
 use Rattle.zerotrie_build.specs.passes.Windows.{window, cut, edge_of, step_of, IsGroup}
-use Rattle.zerotrie_build.specs.declared.steps.Window.{Window}
-use Rattle.zerotrie_build.specs.declared.steps.Step.TheVariants.{End, Value, Literal, Span, Branch}
+use Rattle.zerotrie_build.specs.declared.windows.Window.{Window}
+use Rattle.zerotrie_build.specs.declared.windows.Step.TheVariants.{End, Value, Literal, Span, Branch}
 
 -- values, literals and spans, of so many bytes together, lead from a window to one behind them
-pub data Run (kind : Kind) (all : Pairs) : Window → Window → ℕ → Type 0 where
-  here : {w : Window} → Run kind all w w 0
+pub data Passes (kind : Kind) (all : Pairs) : Window → Window → ℕ → Type 0 where
+  here : {w : Window} → Passes kind all w w 0
   value : {w behind : Window} {n : ℕ} (v : ℕ) → step_of kind all w ≡ Value v
-      → Run kind all (record w { from = w.from + 1 }) behind n → Run kind all w behind (length (spelled_as value_form v) + n)
+      → Passes kind all (record w { from = w.from + 1 }) behind n → Passes kind all w behind (length (spelled_as value_form v) + n)
   literal : {w behind : Window} {n : ℕ} (b : ℕ) → step_of kind all w ≡ Literal b
-      → Run kind all (record w { depth = w.depth + 1 }) behind n → Run kind all w behind (1 + n)
+      → Passes kind all (record w { depth = w.depth + 1 }) behind n → Passes kind all w behind (1 + n)
   span : {w behind : Window} {n : ℕ} (m : ℕ) → step_of kind all w ≡ Span m
-      → Run kind all (record w { depth = w.depth + m }) behind n
-      → Run kind all w behind (length (spelled_as span_form m) + m + n)
+      → Passes kind all (record w { depth = w.depth + m }) behind n
+      → Passes kind all w behind (length (spelled_as span_form m) + m + n)
 
 -- none of these stands first
-abbrev pub Stops : Kind → Pairs → Window → Type 0
-Stops kind all w = (step_of kind all w ≡ End) ⊎ (step_of kind all w ≡ Branch)
+abbrev pub NoneFirst : Kind → Pairs → Window → Type 0
+NoneFirst kind all w = (step_of kind all w ≡ End) ⊎ (step_of kind all w ≡ Branch)
 
 -- the windows are those of the targets of the branch that stands first in a window, or it is empty
-abbrev pub Parts : Pairs → Window → List Window → Type 0
-Parts all w [] = w.from ≡ w.to
-Parts all w (c ∷ cs) = (c.from ≡ w.from) × (c.depth ≡ w.depth + 1) × IsGroup all w c.to × Parts all (record w { from = c.to }) cs
+abbrev pub TargetWindows : Pairs → Window → List Window → Type 0
+TargetWindows all w [] = w.from ≡ w.to
+TargetWindows all w (c ∷ cs) = (c.from ≡ w.from) × (c.depth ≡ w.depth + 1) × IsGroup all w c.to × TargetWindows all (record w { from = c.to }) cs
 
 -- the windows, one after another, are those of the items from one number to below another, by their bytes at the depth
 abbrev pub Groups : Pairs → ℕ → ℕ → ℕ → List Window → Type 0
@@ -48,9 +48,9 @@ pub record IsOpen (kind : Kind) (all : Pairs) (w : Window) (cs : List Window) : 
   pub ordered : Ordered kind (window all w)
   pub behind : Window
   pub bytes : ℕ
-  pub run : Run kind all w behind bytes
-  pub stops : Stops kind all behind
-  pub parts : Parts all behind cs
+  pub run : Passes kind all w behind bytes
+  pub stops : NoneFirst kind all behind
+  pub parts : TargetWindows all behind cs
   pub groups : Groups all behind.depth behind.from behind.to cs
   pub rises : IsStrictlyIncreasing (map (fold_byte kind) (map (edge_of all) cs))
   pub low : All (λ b. b < edge_limit kind) (map (edge_of all) cs)

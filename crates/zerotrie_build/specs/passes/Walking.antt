@@ -5,13 +5,13 @@ use Rattle.zerotrie_core.specs.Kind.{Kind, is_hashed}
 use Rattle.zerotrie_core.specs.Maps.{Pairs, residual, behind_all}
 use Rattle.zerotrie_core.specs.Canonical.{size_of}
 use Rattle.zerotrie_build.specs.Order.{Ordered}
-use Rattle.zerotrie_build.specs.declared.steps.Window.{Window}
-use Rattle.zerotrie_build.specs.declared.steps.Step.TheVariants.{Branch}
-use Rattle.zerotrie_build.specs.declared.measuring.Open.{Open}
+use Rattle.zerotrie_build.specs.declared.windows.Window.{Window}
+use Rattle.zerotrie_build.specs.declared.windows.Step.TheVariants.{Branch}
+use Rattle.zerotrie_build.specs.declared.measuring.OpenBranch.{OpenBranch}
 use Rattle.zerotrie_build.specs.declared.measuring.Turn.{Turn}
 use Rattle.zerotrie_build.specs.declared.measuring.Turn.TheVariants.{Window as NextWindow, Whole}
 use Rattle.zerotrie_build.specs.passes.Windows.{window, step_of}
-use Rattle.zerotrie_build.specs.passes.Measured.{Run, Parts, sizes_of, ends_from, Kept, KeptEach, whole}
+use Rattle.zerotrie_build.specs.passes.Measured.{Passes, TargetWindows, sizes_of, ends_from, Kept, KeptEach, whole}
 
 -- behind some front stand the pairs of the window, but for the value of the empty key
 abbrev pub IsBehind : Pairs → Window → Type 0
@@ -26,8 +26,8 @@ pub record IsPlaced (kind : Kind) (all : Pairs) (w : Window) : Type 0 where
   pub small : size_of kind (window all w) ≤ size_of kind all
 
 -- where the items of windows end
-abbrev pub tos : List Window → List ℕ
-tos cs = map (λ c. c.to) cs
+abbrev pub item_ends : List Window → List ℕ
+item_ends cs = map (λ c. c.to) cs
 
 -- how many slots a branch of so many edges has besides the lengths of its targets
 abbrev pub spare_len : Kind → ℕ → ℕ
@@ -39,20 +39,20 @@ slots_so_far kind lens ends below = (lens ++ ends)
     ++ ((if is_hashed kind (length (lens ++ ends)) then ends_from 0 (map length below) ++ replicate (length ends) 0 else []) ++ concat below)
 
 -- the slots, when the target of a branch is so long and was the last to be measured
-abbrev pub with_len : Kind → Open → ℕ → List ℕ → List ℕ
+abbrev pub with_len : Kind → OpenBranch → ℕ → List ℕ → List ℕ
 with_len kind f len slots = if is_hashed kind (f.end - f.first)
     then slice_set (slice_set slots f.next len) (f.next + (f.end - f.first)) (length slots - (f.end + (f.end - f.first)))
     else slice_set slots f.next len
 
 -- Of the branch of a window, a target's window is measured, behind these slots before the branch and these of its own.
-pub record IsCounting (kind : Kind) (all : Pairs) (w c : Window) (f : Open) (before own : List ℕ) : Type 0 where
+pub record MeasuresTarget (kind : Kind) (all : Pairs) (w c : Window) (f : OpenBranch) (before own : List ℕ) : Type 0 where
   pub placed : IsPlaced kind all w
   pub behind : Window
-  pub run : Run kind all w behind f.len
+  pub run : Passes kind all w behind f.len
   pub is : step_of kind all behind ≡ Branch
   pub done : List Window
   pub more : List Window
-  pub parts : Parts all behind (done ++ c ∷ more)
+  pub parts : TargetWindows all behind (done ++ c ∷ more)
   pub below : List (List ℕ)
   pub kept : KeptEach kind all done below
   pub from : f.from ≡ c.from
@@ -61,29 +61,29 @@ pub record IsCounting (kind : Kind) (all : Pairs) (w c : Window) (f : Open) (bef
   pub first : f.first ≡ length before
   pub next : f.next ≡ f.first + length done
   pub end : f.end ≡ f.next + 1 + length more
-  pub own_is : own ≡ slots_so_far kind (sizes_of kind all done) (tos (c ∷ more)) below
+  pub own_is : own ≡ slots_so_far kind (sizes_of kind all done) (item_ends (c ∷ more)) below
 
 -- The window is measured, inside of these branches, the innermost of them first, and behind these slots.
-pub data Waits (kind : Kind) (all : Pairs) : Window → List Open → List ℕ → Type 0 where
-  outside : Waits kind all (whole all) [] []
-  inside : {w c : Window} {f : Open} {fs : List Open} {before own : List ℕ}
-      → Waits kind all w fs before → IsCounting kind all w c f before own → Waits kind all c (f ∷ fs) (before ++ own)
+pub data IsInside (kind : Kind) (all : Pairs) : Window → List OpenBranch → List ℕ → Type 0 where
+  outside : IsInside kind all (whole all) [] []
+  inside : {w c : Window} {f : OpenBranch} {fs : List OpenBranch} {before own : List ℕ}
+      → IsInside kind all w fs before → MeasuresTarget kind all w c f before own → IsInside kind all c (f ∷ fs) (before ++ own)
 
 -- A window was measured, and is so long.
-pub record Closing (kind : Kind) (all : Pairs) (branches : List Open) (slots : List ℕ) (len : ℕ) : Type 0 where
+pub record Closing (kind : Kind) (all : Pairs) (branches : List OpenBranch) (slots : List ℕ) (len : ℕ) : Type 0 where
   pub w : Window
   pub before : List ℕ
   pub own : List ℕ
-  pub waits : Waits kind all w branches before
+  pub waits : IsInside kind all w branches before
   pub kept : Kept kind all w own
   pub slots_are : slots ≡ before ++ own
   pub len_is : len ≡ size_of kind (window all w)
 
 -- A branch was opened behind so many bytes, and its first target is next.
-pub record IsOpened (kind : Kind) (all : Pairs) (w : Window) (len : ℕ) (c : Window) (slots : List ℕ) (branches : List Open) (slots' : List ℕ) (branches' : List Open) : Type 0 where
+pub record IsOpened (kind : Kind) (all : Pairs) (w : Window) (len : ℕ) (c : Window) (slots : List ℕ) (branches : List OpenBranch) (slots' : List ℕ) (branches' : List OpenBranch) : Type 0 where
   pub targets : List Window
-  pub parts : Parts all w targets
-  pub slots_are : slots' ≡ slots ++ (tos targets ++ replicate (spare_len kind (length targets)) 0)
+  pub parts : TargetWindows all w targets
+  pub slots_are : slots' ≡ slots ++ (item_ends targets ++ replicate (spare_len kind (length targets)) 0)
   pub end : ℕ
   pub end_is : end ≡ length slots + length targets
   pub branches_are : branches' ≡ branches ++ record { from = w.from; depth = w.depth; len = len; first = length slots; next = length slots; end = end } ∷ []
@@ -92,8 +92,8 @@ pub record IsOpened (kind : Kind) (all : Pairs) (w : Window) (len : ℕ) (c : Wi
   pub depth : c.depth ≡ w.depth + 1
 
 -- the next window is measured, or all is
-abbrev pub IsTurn : Kind → Pairs → Turn → List Open → List ℕ → Type 0
-IsTurn kind all (NextWindow c) branches slots = Waits kind all c branches slots
+abbrev pub IsTurn : Kind → Pairs → Turn → List OpenBranch → List ℕ → Type 0
+IsTurn kind all (NextWindow c) branches slots = IsInside kind all c branches slots
 IsTurn kind all (Whole len) branches slots = Kept kind all (whole all) slots × (len ≡ size_of kind (window all (whole all)))
 
 abbrev pub IsNext : Turn → Type 0
@@ -101,6 +101,6 @@ IsNext (NextWindow c) = Unit {0}
 IsNext (Whole len) = ⊥
 
 -- how many targets of branches are still to be measured
-abbrev pub left_open : List Open → ℕ
+abbrev pub left_open : List OpenBranch → ℕ
 left_open [] = 0
 left_open (f ∷ fs) = (f.end - f.next) + left_open fs

@@ -2,9 +2,9 @@
 use Rattle.std.specs.Prelude.{Bool, true, false, ◌⊎◌, ◌≡◌, ◌≢◌, ℕ, ◌+◌, ◌-◌, ◌<◌, ◌≤◌, ◌==◌, ◌&&◌, nat_lt, nat_le, if◌then◌else◌, List, [], ◌∷◌, length, map, take, drop, All, slice_get, slice_index, slice_index_or, Option, Some, None}
 use Rattle.zerotrie_core.specs.Kind.{Kind, has_spans}
 use Rattle.zerotrie_core.specs.Maps.{Pairs}
-use Rattle.zerotrie_build.specs.declared.steps.Window.{Window}
-use Rattle.zerotrie_build.specs.declared.steps.Step.{Step}
-use Rattle.zerotrie_build.specs.declared.steps.Step.TheVariants.{End, Value, Literal, Span, Branch}
+use Rattle.zerotrie_build.specs.declared.windows.Window.{Window}
+use Rattle.zerotrie_build.specs.declared.windows.Step.{Step}
+use Rattle.zerotrie_build.specs.declared.windows.Step.TheVariants.{End, Value, Literal, Span, Branch}
 
 -- the items from one number to below another, each key without so many first bytes
 abbrev pub cut : Pairs → ℕ → ℕ → ℕ → Pairs

@@ -9,12 +9,12 @@ use Rattle.zerotrie_core.specs.Maps.{Pairs, value_at}
 use Rattle.zerotrie_core.specs.Branches.{IsTable, total}
 use Rattle.zerotrie_core.specs.Canonical.{size_of}
 use Rattle.zerotrie_core.specs.Texts.{Lists}
-use Rattle.zerotrie_build.specs.declared.steps.Window.{Window}
-use Rattle.zerotrie_build.specs.declared.laying.Place.{Place}
-use Rattle.zerotrie_build.specs.declared.laying.Next.{Next}
-use Rattle.zerotrie_build.specs.declared.laying.Next.TheVariants.{Go, Text}
+use Rattle.zerotrie_build.specs.declared.windows.Window.{Window}
+use Rattle.zerotrie_build.specs.declared.branch_layout.Position.{Position}
+use Rattle.zerotrie_build.specs.declared.branch_layout.Next.{Next}
+use Rattle.zerotrie_build.specs.declared.branch_layout.Next.TheVariants.{Go, Text}
 use Rattle.zerotrie_build.specs.passes.Windows.{window, edge_of}
-use Rattle.zerotrie_build.specs.passes.Measured.{Parts, Kept, sizes_of, slots_of}
+use Rattle.zerotrie_build.specs.passes.Measured.{TargetWindows, Kept, sizes_of, slots_of}
 use Rattle.zerotrie_build.specs.passes.Puts.{Puts}
 
 -- a number with these bits added to its lead byte
@@ -74,7 +74,7 @@ pub record IsLaid (kind : Kind) (edge : ℕ → ℕ) (count : ℕ) (table number
 -- A branch stands first in the window, and its slots begin at one of these.
 pub record HasSlots (kind : Kind) (all : Pairs) (w : Window) (slots : List ℕ) (slot : ℕ) : Type 0 where
   pub windows : List Window
-  pub parts : Parts all w windows
+  pub parts : TargetWindows all w windows
   pub some : 0 < length windows
   pub rises : IsStrictlyIncreasing (map (fold_byte kind) (map (edge_of all) windows))
   pub lens : List ℕ
@@ -84,8 +84,8 @@ pub record HasSlots (kind : Kind) (all : Pairs) (w : Window) (slots : List ℕ) 
   pub lens_each : length lens ≡ length windows
   pub below_each : length below ≡ length windows
 
-abbrev pub place_at : ℕ → ℕ → Place
-place_at from slot = record { from = from; slot = slot }
+abbrev pub position_at : ℕ → ℕ → Position
+position_at from slot = record { from = from; slot = slot }
 
 -- what is written for a window that begins where the one before it ended
 abbrev pub text_of : Window → Next
@@ -95,7 +95,7 @@ text_of w = Text (record { to = w.to; depth = w.depth })
 abbrev pub placed_next : List ℕ → ℕ → List Window → List ℕ → List Next
 placed_next ends slot windows [] = []
 placed_next ends slot windows (i ∷ numbers) =
-    Go (place_at (window_at windows i).from (slot + slice_index_or (0 ∷ ends) i 0)) ∷ text_of (window_at windows i) ∷ placed_next ends slot windows numbers
+    Go (position_at (window_at windows i).from (slot + slice_index_or (0 ∷ ends) i 0)) ∷ text_of (window_at windows i) ∷ placed_next ends slot windows numbers
 
 -- what is written behind a branch whose slots begin at one of these
 abbrev pub next_of : Kind → List ℕ → ℕ → List Window → List ℕ → List Next
@@ -103,11 +103,11 @@ next_of kind slots slot windows numbers =
     let count = length windows in
     let ends = take count (drop (slot + count) slots) in
     if is_hashed kind count
-    then placed_next ends (slot + 2 * count) windows numbers ++ Go (place_at (window_at windows (count - 1)).to (slot + 2 * count + slice_index_or ends (count - 1) 0)) ∷ []
-    else Go (place_at (window_at windows 0).from (slot + count)) ∷ map text_of windows
+    then placed_next ends (slot + 2 * count) windows numbers ++ Go (position_at (window_at windows (count - 1)).to (slot + 2 * count + slice_index_or ends (count - 1) 0)) ∷ []
+    else Go (position_at (window_at windows 0).from (slot + count)) ∷ map text_of windows
 
 -- The window's slots are those from one number to another.
-pub record KeptTo (kind : Kind) (all : Pairs) (slots : List ℕ) (slot end : ℕ) (w : Window) : Type 0 where
+pub record HasSlotsTo (kind : Kind) (all : Pairs) (slots : List ℕ) (slot end : ℕ) (w : Window) : Type 0 where
   pub below : List ℕ
   pub more : List ℕ
   pub kept : Kept kind all w below
@@ -115,13 +115,13 @@ pub record KeptTo (kind : Kind) (all : Pairs) (slots : List ℕ) (slot end : ℕ
   pub end_is : end ≡ slot + length below
 
 -- What is written next are the texts of these windows, where the first begins at a place.
-pub data Leads (kind : Kind) (all : Pairs) (slots : List ℕ) : Place → List Next → List Window → Type 0 where
-  done : {at : Place} → Leads kind all slots at [] []
-  go : {at to : Place} {next : List Next} {ws : List Window}
-      → Leads kind all slots to next ws → Leads kind all slots at (Go to ∷ next) ws
+pub data IsPending (kind : Kind) (all : Pairs) (slots : List ℕ) : Position → List Next → List Window → Type 0 where
+  done : {at : Position} → IsPending kind all slots at [] []
+  go : {at to : Position} {next : List Next} {ws : List Window}
+      → IsPending kind all slots to next ws → IsPending kind all slots at (Go to ∷ next) ws
   text : {slot end : ℕ} {w : Window} {next : List Next} {ws : List Window}
-      → KeptTo kind all slots slot end w → Leads kind all slots (place_at w.to end) next ws
-      → Leads kind all slots (place_at w.from slot) (text_of w ∷ next) (w ∷ ws)
+      → HasSlotsTo kind all slots slot end w → IsPending kind all slots (position_at w.to end) next ws
+      → IsPending kind all slots (position_at w.from slot) (text_of w ∷ next) (w ∷ ws)
 
 -- texts of windows, one after another
 abbrev pub Texts : Kind → Pairs → List Window → List (List ℕ) → Type 0
@@ -131,18 +131,18 @@ Texts kind all (w ∷ ws) [] = ⊥
 Texts kind all (w ∷ ws) (t ∷ ts) = Listed kind t (window all w) × Texts kind all ws ts
 
 -- The bytes of a window in front of the targets of its first branch were written, and then come these windows.
-pub record FrontPut (kind : Kind) (all : Pairs) (slots : List ℕ) (slot : ℕ) (w : Window) (next : List Next) (list : List ℕ) (at : ℕ) (list' : List ℕ) (at' : ℕ) : Type 0 where
+pub record NodesWritten (kind : Kind) (all : Pairs) (slots : List ℕ) (slot : ℕ) (w : Window) (next : List Next) (list : List ℕ) (at : ℕ) (list' : List ℕ) (at' : ℕ) : Type 0 where
   pub targets : List Window
   pub front : List ℕ
   pub puts : Puts list at list' at' front
   pub sized : length front + total (sizes_of kind all targets) ≡ size_of kind (window all w)
   pub many : length next ≤ length front
   pub lists : (texts : List (List ℕ)) → Texts kind all targets texts → Listed kind (front ++ concat texts) (window all w)
-  pub leads : (end : ℕ) (more : List Next) (ws : List Window) → KeptTo kind all slots slot end w
-      → Leads kind all slots (place_at w.to end) more ws → Leads kind all slots (place_at w.to slot) (next ++ more) (targets ++ ws)
+  pub leads : (end : ℕ) (more : List Next) (ws : List Window) → HasSlotsTo kind all slots slot end w
+      → IsPending kind all slots (position_at w.to end) more ws → IsPending kind all slots (position_at w.to slot) (next ++ more) (targets ++ ws)
 
 -- A text was written as far as these windows, in this order.
-pub record Left (kind : Kind) (all : Pairs) (list : List ℕ) (at : ℕ) (ws : List Window) : Type 0 where
+pub record WrittenTo (kind : Kind) (all : Pairs) (list : List ℕ) (at : ℕ) (ws : List Window) : Type 0 where
   pub written : List ℕ
   pub at_is : at ≡ length written
   pub list_is : list ≡ written ++ replicate (total (sizes_of kind all ws)) 0

@@ -5,7 +5,7 @@ ghost use Rattle.zerotrie_core.specs.ArrayRoutes.{IsBuildWithin, IsBuildCopied, 
 ghost use Rattle.zerotrie_build.specs.Items.{pairs};
 ghost use Rattle.zerotrie_build.specs.konst.Growing.{IsWritten};
 
-use crate::konst::walk::grow;
+use crate::konst::walk::build_text;
 use crate::slice_indices::ByteSliceWithIndices;
 use std::alloc::Global;
 use zerotrie_core::{ZeroTrieBuildError, laws};
@@ -88,5 +88,5 @@ fn write<const K: usize>(
     if !items.is_all_ascii() {
         return Err(ZeroTrieBuildError::NonAsciiError);
     }
-    grow::<K>(buffer, items)
+    build_text::<K>(buffer, items)
 }

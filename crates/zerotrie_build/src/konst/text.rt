@@ -4,7 +4,7 @@ ghost use Rattle.std.specs.Prelude.{◌≡◌, ℕ, ◌+◌, ◌-◌, ◌/◌, �
 ghost use Rattle.zerotrie_core.specs.Numbers.{value_form, spelled_as, SpellsAs};
 ghost use Rattle.zerotrie_core.specs.Branches.{total as total_of, ends, blocks, branch_front};
 ghost use Rattle.zerotrie_build.specs.passes.Writing.{with_bits};
-ghost use Rattle.zerotrie_build.specs.konst.Texts.{Puts, Counts, tops, bytes_of, lens_of};
+ghost use Rattle.zerotrie_build.specs.konst.Texts.{PutsBefore, Counts, tops, bytes_of, lens_of};
 
 use crate::measuring::width_of;
 use zerotrie_core::{write_varint_meta2, write_varint_meta3};
@@ -38,9 +38,9 @@ pub(crate) struct Text<'a> {
 }
 
 impl Text<'_> {
-    /// Puts a byte in front.
-    fn put(&mut self, byte: u8)
-        ensures { Puts self.old self.new (byte ∷ []) }
+    /// Puts a byte in front: a literal is its byte.
+    pub(crate) fn put(&mut self, byte: u8)
+        ensures { PutsBefore self.old self.new (byte ∷ []) }
     {
         self.len = self.len.saturating_add(1);
         if let Some(place) = self.buffer.len().checked_sub(self.len) {
@@ -49,16 +49,9 @@ impl Text<'_> {
         self.front = self.front.saturating_add(1);
     }
 
-    /// Puts a literal in front.
-    pub(crate) fn put_literal(&mut self, byte: u8)
-        ensures { Puts self.old self.new (byte ∷ []) }
-    {
-        self.put(byte);
-    }
-
     /// Puts bytes in front.
     fn put_all(&mut self, bytes: &[u8])
-        ensures { Puts self.old self.new bytes.now }
+        ensures { PutsBefore self.old self.new bytes.now }
     {
         for index in (0..bytes.len()).rev() {
             self.put(bytes[index]);
@@ -68,7 +61,7 @@ impl Text<'_> {
     /// Puts a number in front, with these bits added to its lead.
     fn put_number(&mut self, bits: u8, number: &[u8])
         requires { bits + slice_index number.now 0 < 256 }
-        ensures { Puts self.old self.new (with_bits bits number.now) }
+        ensures { PutsBefore self.old self.new (with_bits bits number.now) }
     {
         if let Some((lead, trail)) = number.split_first() {
             self.put_all(trail);
@@ -78,7 +71,7 @@ impl Text<'_> {
 
     /// Puts a value node in front.
     pub(crate) fn put_value(&mut self, value: usize)
-        ensures puts { Puts self.old self.new (spelled_as value_form value) }
+        ensures puts { PutsBefore self.old self.new (spelled_as value_form value) }
         ensures spells { SpellsAs value_form value (spelled_as value_form value) }
     {
         self.put_number(VALUE, &write_varint_meta3(value));
@@ -88,7 +81,7 @@ impl Text<'_> {
     fn put_block(&mut self, siblings: &[Sibling], total: usize, place: usize)
         requires place { place < 8 }
         requires total { total ≡ total_of (lens_of (tops siblings.now)) }
-        ensures { Puts self.old self.new
+        ensures { PutsBefore self.old self.new
             (map (λ o. o / 256 ^ place % 256) (ends (lens_of (tops siblings.now)))) }
     {
         let mut end = total;
@@ -102,7 +95,7 @@ impl Text<'_> {
     fn put_offsets(&mut self, siblings: &[Sibling], total: usize, bytes: usize)
         requires bytes { bytes ≤ 8 }
         requires total { total ≡ total_of (lens_of (tops siblings.now)) }
-        ensures { Puts self.old self.new (blocks bytes (ends (lens_of (tops siblings.now)))) }
+        ensures { PutsBefore self.old self.new (blocks bytes (ends (lens_of (tops siblings.now)))) }
     {
         for place in 0..bytes {
             self.put_block(siblings, total, place);
@@ -111,7 +104,7 @@ impl Text<'_> {
 
     /// Puts the edges of a branch to these targets in front.
     fn put_edges(&mut self, siblings: &[Sibling])
-        ensures { Puts self.old self.new (bytes_of (tops siblings.now)) }
+        ensures { PutsBefore self.old self.new (bytes_of (tops siblings.now)) }
     {
         for sibling in siblings {
             self.put(sibling.byte);
@@ -122,7 +115,7 @@ impl Text<'_> {
     /// have `total` bytes.
     pub(crate) fn put_branch(&mut self, siblings: &[Sibling], total: usize)
         requires total { total ≡ total_of (lens_of (tops siblings.now)) }
-        ensures { Puts self.old self.new
+        ensures { PutsBefore self.old self.new
             (branch_front (bytes_of (tops siblings.now)) (lens_of (tops siblings.now))) }
     {
         let width = width_of(total);

@@ -12,7 +12,7 @@ ghost use Rattle.zerotrie_core.specs.Causes.{CapacityExceeded, StackExceeded};
 ghost use Rattle.zerotrie_build.specs.Items.{pairs};
 ghost use Rattle.zerotrie_build.specs.Order.{Before, Ordered};
 ghost use Rattle.zerotrie_build.specs.konst.Texts.{EndsIn, Keeps, tops};
-ghost use Rattle.zerotrie_build.specs.konst.Growing.{NoneAt, AllAt, Standing, Waiting, BuiltFrom, Joins, TooWide, IsStuckAt, IsStuckFrom, IsStuckBefore, IsStuck};
+ghost use Rattle.zerotrie_build.specs.konst.Growing.{NoneAt, AllAt, Standing, IsReady, BuiltFrom, Joins, LevelTooWide, RefusedAt, RefusedFrom, RefusedBefore, IsRefusedBuild};
 
 use crate::konst::text::{Sibling, Text, total};
 use crate::order::common_front_len;
@@ -71,7 +71,7 @@ fn join<const K: usize>(
     ensures joins { OnOk result (Joins depth text.old text.new
         (tops siblings.old.items) (tops siblings.new.items)) }
     ensures refused { IfErr result (λ e. (e ≡ CapacityExceeded)
-        × TooWide depth (tops siblings.old.items)) }
+        × LevelTooWide depth (tops siblings.old.items)) }
 {
     let start = start_of(siblings, depth);
     let branch = &siblings.as_slice()[start..];
@@ -111,13 +111,13 @@ fn close_level<const K: usize>(
         → Standing K key.now depth text.new siblings.new.items listed) }
     ensures refused { IfErr result (λ e. (listed : Pairs)
         → Standing K key.now (suc depth) text.old siblings.old.items listed
-        → IsStuckAt K key.now depth listed e) }
+        → RefusedAt K key.now depth listed e) }
 {
     if has_siblings_at(siblings, depth) {
         set_aside(text, siblings, key[depth], depth)?;
         return join(text, siblings, depth);
     }
-    text.put_literal(key[depth]);
+    text.put(key[depth]);
     Ok(())
 }
 
@@ -136,7 +136,7 @@ fn close_to<const K: usize>(
         → Standing K key.now stop text.new siblings.new.items listed) }
     ensures refused { IfErr result (λ e. (listed : Pairs)
         → Standing K key.now (length key.now) text.old siblings.old.items listed
-        → IsStuckFrom K key.now stop listed e) }
+        → RefusedFrom K key.now stop listed e) }
 {
     let mut depth = key.len();
     while depth > stop {
@@ -158,10 +158,10 @@ fn go_before<const K: usize>(
     ensures keeps { OnOk result (Keeps text.old text.new) }
     ensures waits { OnOk result ((listed : Pairs)
         → Standing K key.now (length key.now) text.old siblings.old.items listed
-        → Waiting K before.now text.new siblings.new.items listed) }
+        → IsReady K before.now text.new siblings.new.items listed) }
     ensures refused { IfErr result (λ e. (listed : Pairs)
         → Standing K key.now (length key.now) text.old siblings.old.items listed
-        → IsStuckBefore K before.now listed e) }
+        → RefusedBefore K before.now listed e) }
 {
     let common = common_front_len(before, key);
     if common == before.len() {
@@ -185,7 +185,7 @@ fn add<const K: usize>(
     ensures keeps { OnOk result (Keeps text.old text.new) }
     ensures built { OnOk result
         (BuiltFrom K index (pairs items.entry) text.new siblings.new.items) }
-    ensures refused { IfErr result (IsStuck K (pairs items.entry)) }
+    ensures refused { IfErr result (IsRefusedBuild K (pairs items.entry)) }
 {
     let (key, value) = items.get(index);
     text.put_value(value);
@@ -198,7 +198,7 @@ fn add<const K: usize>(
 
 /// Writes the text of the trie of the items at the end of the buffer, if it has room for it, and answers how
 /// many bytes the text has, or the greatest number if it has more. What stands before the text stays.
-pub(crate) fn grow<const K: usize>(
+pub(crate) fn build_text<const K: usize>(
     buffer: &mut [u8],
     items: ByteSliceWithIndices<'_>,
 ) -> Result<usize, ZeroTrieBuildError>
@@ -210,7 +210,7 @@ pub(crate) fn grow<const K: usize>(
     ensures before { IfOk result (λ len. (n : ℕ) → n + len ≤ length buffer.old
         → take n buffer.new ≡ take n buffer.old) }
     ensures within { IfOk result (λ len. stack_of (pairs items.entry) ≤ K) }
-    ensures refused { IfErr result (IsStuck K (pairs items.entry)) }
+    ensures refused { IfErr result (IsRefusedBuild K (pairs items.entry)) }
 {
     let mut text = Text {
         buffer,

@@ -5,7 +5,7 @@ use counting::Counting;
 use linked_list_allocator::LocalHeap;
 use std::collections::VecDeque;
 use zerotrie_build::{
-    ByteSliceWithIndices, TrieBuilderStore, ZeroTrieBuilder, encoded_len, grow_slice,
+    ByteSliceWithIndices, TrieBuilderStore, ZeroTrieBuilder, encoded_len, build_slice,
 };
 use zerotrie_core::{
     Ext, Hash, Ignore, Simple, ZeroTrieBuildError, ZeroTrieBuilderOptions, ZeroTrieWithOptions,
@@ -124,7 +124,7 @@ fn over_heap<K: ZeroTrieWithOptions>(
     if !items.is_sorted() {
         return Err(ZeroTrieBuildError::Unsorted);
     }
-    let store: VecDeque<u8> = grow_slice(alloc, heap, items, ZeroTrieBuilderOptions::of::<K>())?;
+    let store: VecDeque<u8> = build_slice(alloc, heap, items, ZeroTrieBuilderOptions::of::<K>())?;
     Ok(store.atbs_to_bytes(alloc)?)
 }
 

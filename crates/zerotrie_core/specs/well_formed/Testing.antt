@@ -2,6 +2,7 @@
 use Rattle.std.specs.Prelude.{◌≡◌, ◌≢◌, ℕ, ◌<◌, ◌≤◌, ◌⊎◌, List, [], length, max, slice_index}
 use Rattle.zerotrie_core.specs.Kind.{Kind}
 use Rattle.zerotrie_core.specs.Maps.{Pairs}
+use Rattle.zerotrie_core.specs.Numbers.{BeginsWith}
 use Rattle.zerotrie_core.specs.Texts.{Lists, NoValueFirst, NoSpanFirst}
 use Rattle.zerotrie_core.specs.Nodes.{Shape, Begins}
 use Rattle.zerotrie_core.specs.Shapes.{branch_shape}
@@ -57,10 +58,9 @@ Steps kind node expected (Over rest next) =
     × AlwaysSuits kind node expected × AlwaysOnward kind node rest.now next 1
 Steps kind node expected (Behind b) = (node ≡ branch_shape b) × AlwaysSuits kind node expected
 
--- The bytes are a text of the kind, for which one call is open.
-pub record IsOneCall (kind : Kind) (bytes : List ℕ) : Type 0 where
-  pub is_text : IsText kind bytes
-  pub one : (pairs : Pairs) (text : Lists kind bytes pairs) → deep text ≡ 1
+-- The bytes begin with a value, and after it stand the bytes after.
+abbrev pub BeginsValue : List ℕ → List ℕ → Type 0
+BeginsValue bytes after = (v : ℕ) × BeginsWith 16 4 v bytes after
 
 -- the longer one of two is last, or the first if none is longer
 abbrev pub IsFirstLonger : List ℕ → List ℕ → List ℕ → List ℕ → Type 0

@@ -5,8 +5,9 @@ ghost use Rattle.std.specs.Option.{option_map};
 ghost use Rattle.zerotrie_core.specs.Nodes.{targets_behind, begin_of, IsTargetResult};
 ghost use Rattle.zerotrie_core.specs.listing.Runs.{EndsWith};
 
-use crate::branch::{Branch, offset_at};
+use crate::branch::Branch;
 use crate::here::Here;
+use crate::offsets::offset_at;
 
 /// A branch with targets to come: all its bytes from the edges on, all of the text from its first target on, its edge
 /// of the next target and where this one begins, and how much of the prefix stands in front of it.

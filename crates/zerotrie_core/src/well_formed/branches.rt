@@ -10,8 +10,10 @@ ghost use Rattle.zerotrie_core.specs.Shapes.{branch_shape};
 ghost use Rattle.zerotrie_core.specs.well_formed.Branching.{AreBytes, AnswersEach, HasTable, HasFront, IsTarget};
 ghost use Rattle.zerotrie_core.specs.well_formed.Testing.{AlwaysNoText};
 
-use crate::branch::{Branch, folded};
+use crate::branch::Branch;
+use crate::fold::folded;
 use crate::here::Here;
+use crate::lanes::rising_in_17;
 use crate::options::ZeroTrieWithOptions;
 use zerotrie_base::PerfectByteHashMap;
 
@@ -26,6 +28,23 @@ fn rises<K: ZeroTrieWithOptions>(edges: &[u8]) -> bool
         }
     }
     true
+}
+
+/// Whether the first bytes, so many, rise by their folds.
+///
+/// Up to sixteen are held against one another at once, in the kinds that keep case, if there are 17 bytes.
+#[inline(always)]
+fn front_rises<K: ZeroTrieWithOptions>(bytes: &[u8], count: usize) -> bool
+    requires { (1 ≤ count) × (count ≤ length bytes.now) }
+    ensures rises { IsTrue result
+        ↔ IsStrictlyIncreasing (map (fold_byte K.kind) (take count bytes.now)) }
+    ensures bytes { AreBytes (take count bytes.now) }
+{
+    if !K::IGNORE_CASE && count <= 16 && bytes.len() >= 17 {
+        return rising_in_17(bytes) >= count - 1;
+    }
+    let (edges, _) = bytes.split_at(count);
+    rises::<K>(edges)
 }
 
 /// Whether a hashed table has each edge at its place.
@@ -44,16 +63,19 @@ fn is_perfect(table: &[u8], edges: &[u8]) -> bool
 }
 
 /// Whether the search table is one of the kind, and its edges are bytes of the kind.
-fn has_table<K: ZeroTrieWithOptions>(branch: &Branch<'_>) -> bool
+///
+/// If edges rise, and the last of them is ASCII, all are. The bytes from the first edge on go on to the end of the text.
+fn has_table<K: ZeroTrieWithOptions>(branch: &Branch<'_>, tail: &[u8]) -> bool
+    requires { branch.now.behind.now ≡ take (length branch.now.behind.now) tail.now }
     ensures { length branch.now.table.now ≡ table_size K.kind branch.now.edges
         → (IsTrue result ↔ HasTable K.kind (take branch.now.edges branch.now.behind.now)
         branch.now.table.now) }
 {
     let (edges, _) = branch.behind.split_at(branch.edges);
     if !K::USE_PHF {
-        edges.is_ascii() && rises::<K>(edges)
+        branch.edge_at(branch.edges - 1) < 128 && front_rises::<K>(tail, branch.edges)
     } else if branch.edges < 16 {
-        rises::<K>(edges)
+        front_rises::<K>(tail, branch.edges)
     } else {
         is_perfect(branch.table, edges)
     }
@@ -64,16 +86,7 @@ fn least_width(total: usize) -> usize
     ensures width { IsWidth total result }
     ensures small { result ≤ 7 }
 {
-    match total {
-        0..=0xFF => 0,
-        0x100..=0xFFFF => 1,
-        0x1_0000..=0xFF_FFFF => 2,
-        0x100_0000..=0xFFFF_FFFF => 3,
-        0x1_0000_0000..=0xFF_FFFF_FFFF => 4,
-        0x100_0000_0000..=0xFFFF_FFFF_FFFF => 5,
-        0x1_0000_0000_0000..=0xFF_FFFF_FFFF_FFFF => 6,
-        _ => 7,
-    }
+    total.max(1).ilog2() as usize / 8
 }
 
 /// Whether offsets of this many bytes have the width that the targets after them need.
@@ -87,14 +100,16 @@ fn has_width(body: &[u8], offsets: usize, width: usize) -> bool
     width - 1 == least_width(targets.len())
 }
 
-/// Whether the search table of a branch and the width of its offsets are well-formed.
-pub(super) fn has_front<K: ZeroTrieWithOptions>(branch: &Branch<'_>) -> bool
+/// Whether the search table of a branch and the width of its offsets are well-formed, from where its edges stand.
+pub(super) fn has_front<K: ZeroTrieWithOptions>(branch: &Branch<'_>, edges: Here<'_>) -> bool
+    requires { edges.rest.now ≡ branch.now.behind.now }
     ensures yes { IsTrue result → HasFront K.kind branch.now.edges branch.now.width
         branch.now.table.now branch.now.behind.now }
     ensures no { result ≡ false → AlwaysNoText K.kind (branch_shape branch.now) }
 {
     let (_, body) = branch.behind.split_at(branch.edges);
-    has_width(body, branch.width * (branch.edges - 1), branch.width) && has_table::<K>(branch)
+    has_width(body, branch.width * (branch.edges - 1), branch.width)
+        && has_table::<K>(branch, edges.tail)
 }
 
 /// The target of an edge, which begins at a place among the targets. `None` if its offset falls, or passes the end, or it

@@ -66,26 +66,45 @@ fn cursors_without_case(rt: HostRuntime) {
     same(&rt, suffixes.get(b"CDEF"), Some(1));
 }
 
+/// What a probe finds if there is one edge.
+fn alone(byte: u8) -> Option<AsciiProbeResult> {
+    Some(AsciiProbeResult {
+        byte,
+        total_siblings: 1,
+    })
+}
+
 #[test]
-fn writing(rt: HostRuntime) -> Result<(), Fail> {
+fn writing(rt: HostRuntime) {
     let trie = ZeroTrieSimpleAscii::from_bytes(NESTED);
     let mut cursor = trie.cursor();
     same(&rt, cursor.write_str("abé"), Err(fmt::Error));
-    let edge = AsciiProbeResult {
-        byte: b'c',
-        total_siblings: 1,
-    };
-    same(&rt, cursor.probe(0), Some(edge));
+    same(&rt, cursor.probe(0), alone(b'c'));
     // A character that is not ASCII steps nothing.
     let mut cursor = trie.cursor();
     same(&rt, cursor.write_char('é'), Err(fmt::Error));
     same(&rt, cursor.write_char('a'), Ok(()));
-    same(&rt, cursor.probe(0).map(|edge| edge.byte), Some(b'b'));
-    same(
-        &rt,
-        trie.get_with_write_fn(|cursor| cursor.write_str("abc")),
-        Some(0),
-    );
+    same(&rt, cursor.probe(0), alone(b'b'));
+}
+
+/// The value at a text that is written to a cursor.
+fn value_at(bytes: &'static [u8], text: &str) -> Option<usize> {
+    ZeroTrieSimpleAscii::from_bytes(bytes).get_with_write_fn(|cursor| cursor.write_str(text))
+}
+
+/// The value at the cursor of another trie, which is put in the place of the one that a text was written to.
+fn value_of(bytes: &'static [u8], text: &str, other: &'static [u8]) -> Option<usize> {
+    ZeroTrieSimpleAscii::from_bytes(bytes).get_with_write_fn(|cursor| {
+        cursor.write_str(text)?;
+        *cursor = ZeroTrieSimpleAscii::from_bytes(other).into_cursor();
+        Ok(())
+    })
+}
+
+#[test]
+fn writing_closures(rt: HostRuntime) {
+    let trie = ZeroTrieSimpleAscii::from_bytes(NESTED);
+    same(&rt, value_at(NESTED, "abc"), Some(0));
     same(
         &rt,
         trie.get_with_write_fn(|cursor| write!(cursor, "{}{}", "abc", "def")),
@@ -98,12 +117,7 @@ fn writing(rt: HostRuntime) -> Result<(), Fail> {
     });
     same(&rt, taken, None);
     same(&rt, trie.get_with_write_fn(|_| Err(fmt::Error)), None);
-    let replaced = trie.get_with_write_fn(|cursor| {
-        *cursor = ZeroTrieSimpleAscii::from_bytes(b"\x85").into_cursor();
-        Ok(())
-    });
-    same(&rt, replaced, Some(5));
-    Ok(())
+    same(&rt, value_of(NESTED, "", b"\x85"), Some(5));
 }
 
 /// Errors that a closure drops or passes on, and a cursor of no bytes that it leaves.
@@ -115,14 +129,8 @@ fn careless_closures(rt: HostRuntime) {
         Ok(())
     });
     same(&rt, dropped, Some(7));
-    let passed = trie.get_with_write_fn(|cursor| cursor.write_str("abé"));
-    same(&rt, passed, None);
-    let emptied = trie.get_with_write_fn(|cursor| {
-        cursor.write_str("ab")?;
-        *cursor = ZeroTrieSimpleAscii::from_bytes(b"").into_cursor();
-        Ok(())
-    });
-    same(&rt, emptied, None);
+    same(&rt, value_at(b"ab\x87", "abé"), None);
+    same(&rt, value_of(b"ab\x87", "ab", b""), None);
 }
 
 /// Steps over bytes that are there.

@@ -14,7 +14,7 @@ fn refused_in_any_order<K: AsciiKind, H: AllocGlobal + Abort>(rt: &H, rows: &[Ro
             rt.alloc(),
             items.iter().copied(),
         );
-        assert!(rt; build.is_err_and(|e| e == *error));
+        assert!(rt; is_refused(build, error));
     }
 }
 
@@ -24,7 +24,7 @@ fn refused_as_slices<K: AsciiKind, H: AllocGlobal + Abort>(rt: &H, rows: &[Row<'
             rt.alloc(),
             *items,
         );
-        assert!(rt; build.is_err_and(|e| e == *error));
+        assert!(rt; is_refused(build, error));
     }
 }
 
@@ -105,11 +105,11 @@ fn refused_beside_mixed_keys(rt: HostRuntime) {
 #[test]
 fn refused_with_any_bytes(rt: HostRuntime) {
     let any = ZeroTriePerfectHash::try_from_iter(rt.alloc(), TWICE.iter().copied());
-    assert!(rt; any.is_err_and(|e| e == ZeroTrieBuildError::DuplicateKey));
+    assert!(rt; is_refused(any, &ZeroTrieBuildError::DuplicateKey));
     let sorted = ZeroTriePerfectHash::try_from_sorted_slice(rt.alloc(), TWICE);
-    assert!(rt; sorted.is_err_and(|e| e == ZeroTrieBuildError::Unsorted));
+    assert!(rt; is_refused(sorted, &ZeroTrieBuildError::Unsorted));
     let any = ZeroTrie::try_from_iter(rt.alloc(), TWICE.iter().copied());
-    assert!(rt; any.is_err_and(|e| e == ZeroTrieBuildError::DuplicateKey));
+    assert!(rt; is_refused(any, &ZeroTrieBuildError::DuplicateKey));
     let sorted = ZeroTrie::try_from_sorted_slice(rt.alloc(), TWICE);
-    assert!(rt; sorted.is_err_and(|e| e == ZeroTrieBuildError::Unsorted));
+    assert!(rt; is_refused(sorted, &ZeroTrieBuildError::Unsorted));
 }

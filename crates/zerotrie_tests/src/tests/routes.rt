@@ -336,8 +336,8 @@ fn all_bytes_are_edges(rt: HostRuntime) -> Result<(), Fail> {
         text[769 + byte] = byte as u8;
         text[1025 + byte] = 0x80;
     }
-    let keys = &text[259..515];
-    let trie = ZeroTriePerfectHash::try_from_iter(rt.alloc(), keys.chunks(1).map(|key| (key, 0)))?;
+    let keys = keys_of(rt.alloc(), &text[259..515])?;
+    let trie = ZeroTriePerfectHash::try_from_iter(rt.alloc(), keys)?;
     same(&rt, trie.as_bytes(), text.as_slice());
     same(&rt, trie.get(b"\xC8"), Some(0));
     Ok(())

@@ -3,8 +3,8 @@ use Rattle.zerotrie_core.specs.Items.{pairs_of, keyed}
 use Rattle.zerotrie_core.specs.declared.ZeroTrieBuildError.TheVariants.{DuplicateKey, NonAsciiError}
 use Rattle.zerotrie_build.specs.Order.{AreKeys, AreValues, Ordered, RepeatsNext}
 use Rattle.zerotrie_build.proofs.Building.{some_foreign}
-use Rattle.zerotrie_build.proofs.Permuted.{consistent_permuted, has_cause_permuted}
-use Rattle.zerotrie_build.proofs.Sorting.{next_repeats, sorted_ordered, plain_consistent}
+use Rattle.zerotrie_build.proofs.OrderLemmas.Permuted.{consistent_permuted, has_cause_permuted}
+use Rattle.zerotrie_build.proofs.OrderLemmas.Sorting.{next_repeats, sorted_ordered, plain_consistent}
 use Rattle.zerotrie_build.proofs.builder.in_order.Goals as goal
 use Rattle.zerotrie_build.proofs.builder.in_order.Goals.{else-IGNORE_CASE-via-then-IGNORE_CASE+else-not-is_ordered, else-IGNORE_CASE-via-else-IGNORE_CASE}
 

@@ -2,8 +2,8 @@ use Rattle.std.proofs.Common.{rules}
 use Rattle.std.proofs.lemmas.Result.{err_from_is_err_and}
 use Rattle.zerotrie_build.specs.Items.{pairs}
 use Rattle.zerotrie_build.proofs.Building.{length_refusal}
-use Rattle.zerotrie_build.proofs.MeasuredLemmas.{measured_fits, measured_len}
-use Rattle.zerotrie_build.proofs.Sorting.{ordered_distinct}
+use Rattle.zerotrie_build.proofs.MeasureLemmas.Measured.{measured_fits, measured_len}
+use Rattle.zerotrie_build.proofs.OrderLemmas.Sorting.{ordered_distinct}
 use Rattle.zerotrie_build.proofs.builder.len_ordered.Goals as goal
 
 pub returns-in_err-measured : goal.returns-in_err-measured

@@ -1,7 +1,7 @@
 use Rattle.std.proofs.Common.{◌∙◌, subst, ap}
 use Rattle.zerotrie_core.specs.Items.{pairs_of, keyed}
 use Rattle.zerotrie_core.specs.Routes.{any_order, IsLength}
-use Rattle.zerotrie_build.proofs.Permuted.{length_permuted}
+use Rattle.zerotrie_build.proofs.OrderLemmas.Permuted.{length_permuted}
 use Rattle.zerotrie_build.proofs.builder.len_sorted.Goals as goal
 
 pub returns : goal.returns

@@ -1,17 +1,17 @@
 use Rattle.std.proofs.Common.{refl, ◌≡◌, ◌+◌, ◌-◌, sym, ◌∙◌, subst, length, arith}
 use Rattle.std.proofs.lemmas.Result.{err_from_is_err_and}
 use Rattle.zerotrie_core.specs.Numbers.{value_form, span_form, spelled_as}
-use Rattle.zerotrie_build.specs.passes.Measured.{Run}
-use Rattle.zerotrie_build.specs.passes.Measured.Run.{here, value, span}
-use Rattle.zerotrie_build.proofs.WindowLemmas.{span_some}
-use Rattle.zerotrie_build.proofs.RunLemmas.{too_long, literal_low, literals_to}
+use Rattle.zerotrie_build.specs.passes.Measured.{Passes}
+use Rattle.zerotrie_build.specs.passes.Measured.Passes.{here, value, span}
+use Rattle.zerotrie_build.proofs.WindowLemmas.Spans.{span_some}
+use Rattle.zerotrie_build.proofs.WindowLemmas.NodeRuns.{too_long, literal_low, literals_to}
 use Rattle.zerotrie_build.proofs.measuring.behind_nodes.Goals as goal
 
 pub loop-value-preserved-in-Value : goal.loop-value-preserved-in-Value
 loop-value-preserved-in-Value g c =
     let v = c.loop-value.invariant in
     record {
-      goes_on = λ n last r. subst (Run g.K.ZeroTrieWithOptions.kind (g.I.IndexedItems.pairs c.args.items) c.args.start last) (let s = c.in_ok-len-in-Value.ensures.sum in let k = c.value_len.ensures in omega arith)
+      goes_on = λ n last r. subst (Passes g.K.ZeroTrieWithOptions.kind (g.I.IndexedItems.pairs c.args.items) c.args.start last) (let s = c.in_ok-len-in-Value.ensures.sum in let k = c.value_len.ensures in omega arith)
           (v.goes_on (length (spelled_as value_form c.in-Value.value) + n) last (value c.in-Value.value (sym c.first_step.ensures.is ∙ c.in-Value.is) r));
       to_is = v.to_is;
     }
@@ -33,7 +33,7 @@ loop-value-preserved-in-Literal g c =
     let within = c.requires.within in
     let l = literal_low g.K.ZeroTrieWithOptions.kind (g.I.IndexedItems.pairs c.args.items) c.loop-value.rest c.in-Literal.field-0 (omega arith) c.requires.keys (sym c.first_step.ensures.is ∙ c.in-Literal.is) in
     record {
-      goes_on = λ n last r. subst (Run g.K.ZeroTrieWithOptions.kind (g.I.IndexedItems.pairs c.args.items) c.args.start last) (let s = c.in_ok-len-in-Literal.ensures.sum in omega arith)
+      goes_on = λ n last r. subst (Passes g.K.ZeroTrieWithOptions.kind (g.I.IndexedItems.pairs c.args.items) c.args.start last) (let s = c.in_ok-len-in-Literal.ensures.sum in omega arith)
           (v.goes_on (c.literals_end-end.result - c.loop-value.rest.depth + n) last (literals_to c.literals_end-end.result l.0 (omega arith) e.low r));
       to_is = v.to_is;
     }
@@ -42,8 +42,8 @@ pub loop-value-preserved : goal.loop-value-preserved
 loop-value-preserved g c =
     let v = c.loop-value.invariant in
     record {
-      goes_on = λ n last r. subst (Run g.K.ZeroTrieWithOptions.kind (g.I.IndexedItems.pairs c.args.items) c.args.start last)
-          (let s = c.in_ok-len-in-Span.ensures.sum in let t = c.in_ok-lead-in-Span.ensures.sum in let k = c.count_len.ensures in omega arith)
+      goes_on = λ n last r. subst (Passes g.K.ZeroTrieWithOptions.kind (g.I.IndexedItems.pairs c.args.items) c.args.start last)
+          (let s = c.in_ok-len-in-Span.ensures.sum in let t = c.in_ok-lead-in-Span.ensures.sum in let k = c.number_len.ensures.len span_form refl in omega arith)
           (v.goes_on (length (spelled_as span_form c.in-Span.count) + c.in-Span.count + n) last (span c.in-Span.count (sym c.first_step.ensures.is ∙ c.in-Span.is) r));
       to_is = v.to_is;
     }
@@ -57,12 +57,12 @@ loop-value-smaller g c =
 pub returns-in-Branch-clause-run : goal.returns-in-Branch-clause-run
 returns-in-Branch-clause-run g c =
     let v = c.loop-value.invariant in
-    subst (Run g.K.ZeroTrieWithOptions.kind (g.I.IndexedItems.pairs c.args.items) c.args.start c.loop-value.rest) (let e : c.loop-value.len + 0 ≡ c.loop-value.len = omega arith in e) (v.goes_on 0 c.loop-value.rest here)
+    subst (Passes g.K.ZeroTrieWithOptions.kind (g.I.IndexedItems.pairs c.args.items) c.args.start c.loop-value.rest) (let e : c.loop-value.len + 0 ≡ c.loop-value.len = omega arith in e) (v.goes_on 0 c.loop-value.rest here)
 
 pub returns-in_err-len-in-Value-clause-refused : goal.returns-in_err-len-in-Value-clause-refused
 returns-in_err-len-in-Value-clause-refused g c =
     let v = c.loop-value.invariant in
-    let p = err_from_is_err_and c.from_residual.result c.from_residual.ensures.1 in
+    let p = err_from_is_err_and c.from_residual-in_err-len-in-Value.result c.from_residual-in_err-len-in-Value.ensures.1 in
     let f = c.in_err-len-in-Value.ensures.refused in
     let k = length (spelled_as value_form c.in-Value.value) in
     let run = v.goes_on (k + 0) (record c.loop-value.rest { from = c.loop-value.rest.from + 1 }) (value c.in-Value.value (sym c.first_step.ensures.is ∙ c.in-Value.is) here) in
@@ -89,7 +89,7 @@ returns-in_err-lead-in-Span-clause-refused g c =
     let f = c.in_err-lead-in-Span.ensures.refused in
     let k = length (spelled_as span_form c.in-Span.count) in
     let run = v.goes_on (k + c.in-Span.count + 0) (record c.loop-value.rest { depth = c.loop-value.rest.depth + c.in-Span.count }) (span c.in-Span.count (sym c.first_step.ensures.is ∙ c.in-Span.is) here) in
-    rw (p.1, p.2) (f.0, too_long run c.requires.within c.requires.keys c.requires.ordered (let e = c.count_len.ensures in omega (arith, f.1)))
+    rw (p.1, p.2) (f.0, too_long run c.requires.within c.requires.keys c.requires.ordered (let e = c.number_len.ensures.len span_form refl in omega (arith, f.1)))
 
 pub returns-in_err-len-in-Span-clause-refused : goal.returns-in_err-len-in-Span-clause-refused
 returns-in_err-len-in-Span-clause-refused g c =
@@ -98,4 +98,4 @@ returns-in_err-len-in-Span-clause-refused g c =
     let f = c.in_err-len-in-Span.ensures.refused in
     let k = length (spelled_as span_form c.in-Span.count) in
     let run = v.goes_on (k + c.in-Span.count + 0) (record c.loop-value.rest { depth = c.loop-value.rest.depth + c.in-Span.count }) (span c.in-Span.count (sym c.first_step.ensures.is ∙ c.in-Span.is) here) in
-    rw (p.1, p.2) (f.0, too_long run c.requires.within c.requires.keys c.requires.ordered (let e = c.count_len.ensures in let l = c.in_ok-lead-in-Span.ensures.sum in omega (arith, f.1)))
+    rw (p.1, p.2) (f.0, too_long run c.requires.within c.requires.keys c.requires.ordered (let e = c.number_len.ensures.len span_form refl in let l = c.in_ok-lead-in-Span.ensures.sum in omega (arith, f.1)))

@@ -1,7 +1,7 @@
 use Rattle.std.proofs.Common.{◌+◌, ◌*◌, ◌-◌, ◌%◌, [], ◌∷◌, refl, ◌∙◌, sym, inl, inr, arith}
 use Rattle.zerotrie_core.specs.Numbers.{extender}
 use Rattle.zerotrie_core.proofs.CallerLemmas.{completes_more}
-use Rattle.zerotrie_build.proofs.PutLemmas.{spelled_len}
+use Rattle.zerotrie_build.proofs.WriteLemmas.Puts.{spelled_len}
 use Rattle.zerotrie_build.proofs.measuring.number_len.Goals as goal
 
 pub loop-rest-init : goal.loop-rest-init

@@ -1,7 +1,7 @@
 use Rattle.std.proofs.Common.{arith}
 use Rattle.std.proofs.lemmas.Bool.{eq-eqb, eqb-true}
-use Rattle.zerotrie_build.proofs.Parting.{common_most}
-use Rattle.zerotrie_build.proofs.RefusalLemmas.{begins_at, begins_if}
+use Rattle.zerotrie_build.proofs.OrderLemmas.Parting.{common_most}
+use Rattle.zerotrie_build.proofs.RefusalLemmas.Shown.{begins_at, begins_if}
 use Rattle.zerotrie_build.proofs.refusal.begins.Goals as goal
 
 pub returns-then-common-front : goal.returns-then-common-front

@@ -1,6 +1,6 @@
 use Rattle.std.proofs.Common.{◌++◌, [], ◌∷◌, ◌∙◌, arith, refl, sym}
-use Rattle.zerotrie_build.proofs.Parting.{common_most}
-use Rattle.zerotrie_build.proofs.RefusalLemmas.{below_short, below_at, below_end, by_order, test_less}
+use Rattle.zerotrie_build.proofs.OrderLemmas.Parting.{common_most}
+use Rattle.zerotrie_build.proofs.RefusalLemmas.Shown.{below_short, below_at, below_end, by_order, test_less}
 use Rattle.zerotrie_build.proofs.refusal.is_below.Goals as goal
 
 pub returns-then-common-key : goal.returns-then-common-key

@@ -2,8 +2,8 @@ use Rattle.std.proofs.Common.{◌-◌, ap, arith, subst}
 use Rattle.zerotrie_core.specs.Items.{keyed}
 use Rattle.zerotrie_build.specs.Refused.{key_at, DifferInCase}
 use Rattle.zerotrie_build.specs.passes.Turns.{NoneTurns}
-use Rattle.zerotrie_build.proofs.TurnLemmas.{no_turns, turns_consistent}
-use Rattle.zerotrie_build.proofs.RefusalLemmas.{count_keyed, differ_within, differ_shown, turn_more}
+use Rattle.zerotrie_build.proofs.RefusalLemmas.Turns.{no_turns, turns_consistent}
+use Rattle.zerotrie_build.proofs.RefusalLemmas.Shown.{count_keyed, differ_within, differ_shown, turn_more}
 use Rattle.zerotrie_build.proofs.refusal.mixed.Goals as goal
 
 pub returns-in-Some-clause-some : goal.returns-in-Some-clause-some

@@ -3,10 +3,10 @@ use Rattle.std.proofs.lemmas.Option.{IfSome_then}
 use Rattle.zerotrie_core.specs.Kind.{fold_byte}
 use Rattle.zerotrie_core.specs.Items.{keyed}
 use Rattle.zerotrie_build.specs.Refused.{key_at}
-use Rattle.zerotrie_build.proofs.Parting.{common_most}
+use Rattle.zerotrie_build.proofs.OrderLemmas.Parting.{common_most}
 use Rattle.zerotrie_build.specs.passes.Turns.{Begins}
-use Rattle.zerotrie_build.proofs.RefusalLemmas.{none_then}
-use Rattle.zerotrie_build.proofs.TurnLemmas.{turns_at, begins_differ}
+use Rattle.zerotrie_build.proofs.RefusalLemmas.Shown.{none_then}
+use Rattle.zerotrie_build.proofs.RefusalLemmas.Turns.{turns_at, begins_differ}
 use Rattle.zerotrie_build.proofs.refusal.other_case.Goals as goal
 
 pub returns-then-common-key-clause-none : goal.returns-then-common-key-clause-none

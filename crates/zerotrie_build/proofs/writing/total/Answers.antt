@@ -2,7 +2,7 @@ use Rattle.std.proofs.Common.{◌+◌, [], ◌∷◌, take, get_or, arith, ap}
 use Rattle.std.proofs.lemmas.List.{take_more, map-append}
 use Rattle.zerotrie_core.specs.Branches.{total as total_of}
 use Rattle.zerotrie_build.specs.passes.Writing.{lens_of}
-use Rattle.zerotrie_build.proofs.PutLemmas.{total_take, total_push, lens_take}
+use Rattle.zerotrie_build.proofs.WriteLemmas.Puts.{total_take, total_push, lens_take}
 use Rattle.zerotrie_build.proofs.writing.total.Goals as goal
 
 pub overflow_add-total : goal.overflow_add-total

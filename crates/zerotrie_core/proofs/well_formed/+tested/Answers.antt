@@ -2,20 +2,21 @@ use Rattle.std.proofs.Common.{◌≡◌, ℕ, zero, suc, ◌+◌, ◌-◌, ◌*�
 use Rattle.std.specs.Prelude.{max}
 use Rattle.std.proofs.lemmas.List.{nil_from_length, length-drop}
 use Rattle.std.proofs.lemmas.Bool.{eqb-true, eqb-false, cases_lt}
+use Rattle.zerotrie_core.specs.Kind.{Kind}
 use Rattle.zerotrie_core.specs.Texts.Lists.{nothing}
+use Rattle.zerotrie_core.specs.declared.well_formed.Expected.{Expected}
 use Rattle.zerotrie_core.specs.Nodes.{Begins, begin_of}
 use Rattle.zerotrie_core.specs.Shapes.{branch_shape}
 use Rattle.zerotrie_core.specs.declared.well_formed.Expected.TheVariants.{Something}
-use Rattle.zerotrie_core.specs.WellFormed.{IsShallow}
+use Rattle.zerotrie_core.specs.WellFormed.{IsWellFormed, IsShallow}
 use Rattle.zerotrie_core.specs.listing.Runs.{EndsWith}
 use Rattle.zerotrie_core.specs.well_formed.Testing.{IsText, Suits, Onward}
-use Rattle.zerotrie_core.proofs.DeepLemmas.{shallow_one, shallow_max, shallow_longer, deep_no_node}
+use Rattle.zerotrie_core.proofs.DeepLemmas.{shallow_one, shallow_max, shallow_longer, deep_no_node, deep_some}
 use Rattle.zerotrie_core.proofs.NodeLemmas.{branch_shorter}
 use Rattle.zerotrie_core.proofs.ListingStateLemmas.{branch_end, ends_drop}
-use Rattle.zerotrie_core.proofs.StepLemmas.{onward_none, onward_more, literals_onward}
-use Rattle.zerotrie_core.proofs.BehindLemmas.{Passed, passed_first, passed_more, passed_all, shorter_there, no_target, next_begin, text_well, well_text, text_means}
+use Rattle.zerotrie_core.proofs.StepLemmas.{onward_at, onward_more, literals_onward, no_bytes}
+use Rattle.zerotrie_core.proofs.BehindLemmas.{Passed, passed_first, passed_more, passed_all, shorter_there, no_target, target_some, both_some, next_begin, text_well, well_text, text_means}
 use Rattle.zerotrie_core.proofs.well_formed.+tested.Goals as goal
-use Rattle.zerotrie_core.proofs.well_formed.+tested.Goals.{go_behind-then-is_leaf, go_behind-else-is_leaf+else-not-yes}
 
 pub go_behind-returns-then-not-has_front-clause-none : goal.go_behind-returns-then-not-has_front-clause-none
 go_behind-returns-then-not-has_front-clause-none g t c = c.has_front.ensures.no c.if-not-has_front.true
@@ -35,6 +36,7 @@ go_behind-loop-index-init g t c =
     let is = c.in_ok-longest.ensures.some in
     record {
       passed = passed_first g.K.ZeroTrieWithOptions.kind b.edges b.width b.behind.now target is;
+      some = target_some b.edges b.width b.behind.now 0 target is;
       begins = λ h. (let none : 0 + length target ≡ length target = omega arith in sym none ∙ next_begin b.edges b.width b.behind.now 0 0 target is refl h);
     }
 
@@ -46,7 +48,7 @@ go_behind-returns-then-not-yes-clause-none g t c =
     c.loop-index.invariant.passed c.in_ok-target.ensures.some c.by_length.result.0.rest.now c.by_length.result.1.rest.now c.by_length.ensures in
     let less = there.3 in
     no_target kind b.edges b.width b.table.now b.behind.now there.0 c.by_length.result.0.rest.now there.1 there.2
-    (λ text. (let e = c.is_text_counted-yes.ensures.yes.1 (text_well (omega arith) text) in let f = c.if-not-yes.true in cc))
+    (λ text. (let e = c.is_target_counted-yes.ensures.yes.1 (text_well (omega arith) text) in let f = c.if-not-yes.true in cc))
 
 pub go_behind-overflow_add-count : goal.go_behind-overflow_add-count
 go_behind-overflow_add-count g t c =
@@ -56,8 +58,22 @@ go_behind-overflow_add-count g t c =
     c.loop-index.invariant.passed c.in_ok-target.ensures.some c.by_length.result.0.rest.now c.by_length.result.1.rest.now c.by_length.ensures in
     let less = there.3 in
     let short : length c.by_length.result.0.rest.now < 2 ^ 64 = omega arith in
-    let h : c.is_text_counted-yes.result.1 ≤ 64 = c.is_text_counted-yes.ensures.shallow.1 64 (omega arith) short in
+    let h : c.is_target_counted-yes.result.1 ≤ 64 = c.is_target_counted-yes.ensures.shallow.1 64 (omega arith) short in
     omega arith
+
+pub go_behind-is_target_counted-yes-requires : goal.go_behind-is_target_counted-yes-requires
+go_behind-is_target_counted-yes-requires g t c =
+    let kind = g.K.ZeroTrieWithOptions.kind in
+    let b = c.args.branch in
+    let first = c.loop-index.longest.rest.now in
+    let target = c.in_ok-target.target.rest.now in
+    let is = c.in_ok-target.ensures.some in
+    let shorter = c.by_length.result.0.rest.now in
+    let longer = c.by_length.result.1.rest.now in
+    let some = (both_some first target shorter longer c.by_length.ensures c.loop-index.invariant.some (target_some b.edges b.width b.behind.now c.loop-index.index target is)).0 in
+    let less = (shorter_there kind b.edges b.width b.behind.now c.loop-index.index first target c.loop-index.most c.loop-index-test.true b.whole b.some.0 c.loop-index.invariant.passed is shorter longer c.by_length.ensures).3 in
+    let falls : 2 * length shorter + 1 < 2 * length b.behind.now = omega arith in
+    search rules
 
 pub go_behind-loop-index-preserved : goal.go_behind-loop-index-preserved
 go_behind-loop-index-preserved g t c =
@@ -65,26 +81,21 @@ go_behind-loop-index-preserved g t c =
     let b = c.args.branch in
     let i = c.loop-index.index in
     let so_far = c.loop-index.invariant.passed in
+    let first = c.loop-index.longest.rest.now in
     let target = c.in_ok-target.target.rest.now in
     let is = c.in_ok-target.ensures.some in
     let shorter = c.by_length.result.0.rest.now in
     let longer = c.by_length.result.1.rest.now in
-    let more = passed_more kind b.edges b.width b.behind.now i c.loop-index.longest.rest.now target c.loop-index.most c.loop-index-test.true b.whole b.some.0 so_far is shorter longer in
+    let r = c.is_target_counted-yes in
+    let there = shorter_there kind b.edges b.width b.behind.now i first target c.loop-index.most c.loop-index-test.true b.whole b.some.0 so_far is shorter longer c.by_length.ensures in
+    let less = there.3 in
+    let short : length shorter < 2 ^ 64 = omega arith in
     let step : suc i ≡ i + 1 = omega arith in
     record {
-      passed = elim c.if-is_leaf.branch [
-        | go_behind-then-is_leaf w ↦
-            let one = c.is_leaf.ensures w.if-is_leaf.true kind in
-            subst (λ m. Passed kind b.edges b.width b.behind.now (i + 1) longer m) (sym (w.most-is ∙ w.max-most.ensures))
-            (more 1 c.by_length.ensures one.is_text (λ pairs text. sym (one.one pairs text)) (shallow_one shorter))
-        | go_behind-else-is_leaf+else-not-yes w ↦
-            let r = w.is_text_counted-yes in
-            let there = shorter_there kind b.edges b.width b.behind.now i c.loop-index.longest.rest.now target c.loop-index.most c.loop-index-test.true b.whole b.some.0 so_far is shorter longer c.by_length.ensures in
-            let less = there.3 in
-            let short : length shorter < 2 ^ 64 = omega arith in
-            subst (λ m. Passed kind b.edges b.width b.behind.now (i + 1) longer m) (sym (w.most-is ∙ w.max-most-else-is_leaf.ensures))
-            (more r.result.1 c.by_length.ensures (well_text (r.ensures.yes.0 w.if-not-yes.false)) (λ pairs inner. r.ensures.count _ (text_means short inner)) r.ensures.shallow)
-      ];
+      passed = subst (λ m. Passed kind b.edges b.width b.behind.now (i + 1) longer m) (sym c.max-most.ensures)
+          (passed_more kind b.edges b.width b.behind.now i first target c.loop-index.most c.loop-index-test.true b.whole b.some.0 so_far is shorter longer r.result.1 c.by_length.ensures
+          (well_text (r.ensures.yes.0 c.if-not-yes.false)) (λ pairs inner. r.ensures.count _ (text_means short inner)) r.ensures.shallow);
+      some = (both_some first target shorter longer c.by_length.ensures c.loop-index.invariant.some (target_some b.edges b.width b.behind.now i target is)).1;
       begins = λ h. (
           subst (λ k. c.loop-index.begin + length target ≡ begin_of b.edges b.width b.behind.now k) step
           (next_begin b.edges b.width b.behind.now i c.loop-index.begin target is (c.loop-index.invariant.begins c.loop-index-test.true) (omega arith))
@@ -100,20 +111,80 @@ go_behind-returns-clause-some g t c =
     passed_all kind b.edges b.width b.table.now b.behind.now c.loop-index.longest.rest.now c.loop-index.most (c.has_front.ensures.yes c.if-not-has_front.false) b.whole two b.narrow.0
     (subst (λ k. Passed kind b.edges b.width b.behind.now k c.loop-index.longest.rest.now c.loop-index.most) all c.loop-index.invariant.passed)
 
+-- what stands at the place that the test passes to first
+module _ (kind : Kind) (bytes rest : List ℕ) (expected : Expected) (way : Onward kind bytes rest expected 1) (within : length rest ≤ length bytes) (small : length bytes < 2 ^ 64) where
+  passed_well : Suits expected rest → IsWellFormed kind rest → IsWellFormed kind bytes
+  passed_well suits well = text_well small (way.back suits (well_text well))
+
+  well_passed : IsWellFormed kind bytes → Suits expected rest × IsWellFormed kind rest
+  well_passed well = let text = well_text well in let leads = way.there text.0 text.1 in (leads.suits, text_well (omega arith) (leads.below, leads.inner))
+
+pub is_target_counted-returns-then-is_empty-clause-yes : goal.is_target_counted-returns-then-is_empty-clause-yes
+is_target_counted-returns-then-is_empty-clause-yes g t c =
+    let kind = g.K.ZeroTrieWithOptions.kind in
+    let rest = c.pass-expected.result.0.rest.now in
+    let expected = c.pass-expected.result.1 in
+    let way = c.pass-expected.ensures.onward c.requires kind in
+    let none : rest ≡ [] = nil_from_length rest (eqb-true _ _ (sym c.is_empty.ensures ∙ c.if-is_empty.true)) in (
+      λ e. text_well (omega arith) (way.back (subst (Suits expected) (sym none) (c.takes_end.ensures.0 e)) (subst (IsText kind) (sym none) ([], nothing))),
+      λ well. (let text = well_text well in let leads = way.there text.0 text.1 in c.takes_end.ensures.1 (subst (Suits expected) none leads.suits)),
+    )
+
+pub is_target_counted-returns-then-is_empty-clause-count : goal.is_target_counted-returns-then-is_empty-clause-count
+is_target_counted-returns-then-is_empty-clause-count g t c m means =
+    let kind = g.K.ZeroTrieWithOptions.kind in
+    let rest = c.pass-expected.result.0.rest.now in
+    let none : rest ≡ [] = nil_from_length rest (eqb-true _ _ (sym c.is_empty.ensures ∙ c.if-is_empty.true)) in
+    let leads = (c.pass-expected.ensures.onward c.requires kind).there means.pairs means.lists in
+    let end = (deep_no_node leads.inner (λ s b. no_bytes kind s (subst (λ x. Begins kind x s) none b))).1 in
+    let counts = leads.counts in
+    omega arith
+
+pub is_target_counted-returns-then-is_empty-clause-shallow : goal.is_target_counted-returns-then-is_empty-clause-shallow
+is_target_counted-returns-then-is_empty-clause-shallow g t c = shallow_one c.args.target.rest.now
+
+pub is_target_counted-returns-clause-yes : goal.is_target_counted-returns-clause-yes
+is_target_counted-returns-clause-yes g t c =
+    let kind = g.K.ZeroTrieWithOptions.kind in
+    let way = c.pass-expected.ensures.onward c.requires kind in
+    let within = c.pass-expected.ensures.shorter in
+    let r = c.is_text_counted.ensures.yes in (
+      λ e. passed_well kind c.args.target.rest.now c.pass-expected.result.0.rest.now c.pass-expected.result.1 way within (omega arith) (r.0 e).0 (r.0 e).1,
+      λ well. r.1 (well_passed kind c.args.target.rest.now c.pass-expected.result.0.rest.now c.pass-expected.result.1 way within (omega arith) well),
+    )
+
+pub is_target_counted-returns-clause-count : goal.is_target_counted-returns-clause-count
+is_target_counted-returns-clause-count g t c m means =
+    let kind = g.K.ZeroTrieWithOptions.kind in
+    let within = c.pass-expected.ensures.shorter in
+    let leads = (c.pass-expected.ensures.onward c.requires kind).there means.pairs means.lists in
+    let is = c.is_text_counted.ensures.count leads.suits _ (text_means (omega arith) leads.inner) in
+    let some = deep_some leads.inner in
+    let counts = leads.counts in
+    omega arith
+
+pub is_target_counted-returns-clause-shallow : goal.is_target_counted-returns-clause-shallow
+is_target_counted-returns-clause-shallow g t c = shallow_longer c.pass-expected.result.0.rest.now c.args.target.rest.now c.is_text_counted.result.1 c.pass-expected.ensures.shorter c.is_text_counted.ensures.shallow
+
 pub is_text_counted-loop-node-init : goal.is_text_counted-loop-node-init
-is_text_counted-loop-node-init g t c = record { within = omega arith; shallow = shallow_one c.args.here.rest.now; onward = onward_none g.K.ZeroTrieWithOptions.kind c.args.here.rest.now }
+is_text_counted-loop-node-init g t c = record {
+  within = omega arith;
+  shallow = shallow_one c.args.here.rest.now;
+  onward = λ suits. onward_at g.K.ZeroTrieWithOptions.kind c.args.here.rest.now c.args.expected suits;
+  begins = λ suits text. suits;
+}
 
 -- what comes next may not stand there
-wrong : (g : _) (t : _) (c : goal.is_text_counted-In-Wrong g t) → IsText g.K.ZeroTrieWithOptions.kind c.args.here.rest.now → ⊥
-wrong g t c text =
-    let leads = c.loop-node.invariant.onward.there text.0 text.1 in
+wrong : (g : _) (t : _) (c : goal.is_text_counted-In-Wrong g t) → Suits c.args.expected c.args.here.rest.now → IsText g.K.ZeroTrieWithOptions.kind c.args.here.rest.now → ⊥
+wrong g t c suits text =
+    let leads = (c.loop-node.invariant.onward suits).there text.0 text.1 in
     c.in-Wrong.ensures c.loop-node.at.rest.now c.in-Some.ensures.some leads.suits (leads.below, leads.inner)
 
 pub is_text_counted-returns-in-Wrong-clause-yes : goal.is_text_counted-returns-in-Wrong-clause-yes
-is_text_counted-returns-in-Wrong-clause-yes g t c = (λ e. absurd (cc), λ well. absurd (wrong g t c (well_text well)))
+is_text_counted-returns-in-Wrong-clause-yes g t c = (λ e. absurd (cc), λ well. absurd (wrong g t c well.0 (well_text well.1)))
 
 pub is_text_counted-returns-in-Wrong-clause-count : goal.is_text_counted-returns-in-Wrong-clause-count
-is_text_counted-returns-in-Wrong-clause-count g t c m means = absurd (wrong g t c (means.pairs, means.lists))
+is_text_counted-returns-in-Wrong-clause-count g t c = λ suits m means. absurd (wrong g t c suits (means.pairs, means.lists))
 
 pub is_text_counted-loop-node-preserved-in-Over : goal.is_text_counted-loop-node-preserved-in-Over
 is_text_counted-loop-node-preserved-in-Over g t c =
@@ -125,12 +196,14 @@ is_text_counted-loop-node-preserved-in-Over g t c =
     let shorter = (step.0 rest begins).0 in
     let one = so_far.shallow.0 in
     let same : max c.loop-node.most 1 ≡ c.loop-node.most = omega arith in
-    let there = ap length c.behind-at-in-Over.ensures in
+    let there = ap length c.behind-at.ensures in
     record {
       within = omega (arith, so_far.within, shorter, there);
       shallow = so_far.shallow;
-      onward = subst (λ x. Onward kind c.args.here.rest.now x c.in-Over.next c.loop-node.most) (sym c.behind-at-in-Over.ensures)
-          (subst (λ m. Onward kind c.args.here.rest.now c.in-Over.after.now c.in-Over.next m) same (onward_more so_far.onward (step.1 rest begins) (step.2 rest begins)));
+      onward = λ suits. subst (λ x. Onward kind c.args.here.rest.now x c.in-Over.following c.loop-node.most) (sym c.behind-at.ensures)
+          (subst (λ m. Onward kind c.args.here.rest.now c.in-Over.after.now c.in-Over.following m) same (onward_more (so_far.onward suits) (step.1 rest begins) (step.2 rest begins)));
+      begins = λ suits text. so_far.begins (step.1 rest begins)
+          ((step.2 rest begins).back (subst (Suits c.in-Over.following) c.behind-at.ensures suits) (subst (IsText kind) c.behind-at.ensures text));
     }
 
 pub is_text_counted-loop-node-preserved-in-Literals : goal.is_text_counted-loop-node-preserved-in-Literals
@@ -146,15 +219,16 @@ is_text_counted-loop-node-preserved-in-Literals g t c =
     let inside : n ≤ length rest = (let h = first.0 in let within = c.literals.ensures.within in omega arith) in
     let one = so_far.shallow.0 in
     let same : max c.loop-node.most 1 ≡ c.loop-node.most = omega arith in
-    let is : c.behind-at.result.rest.now ≡ drop n rest = c.behind-at.ensures ∙ c.split_at.ensures.back in
+    let is = c.after-at.ensures in
+    let way = literals_onward kind n rest some inside (low_at rest c.literals.result n (omega arith) first.1 c.literals.ensures.literals) in
     let there = ap length is in
     let gone = length-drop n rest in
     record {
       within = omega (arith, so_far.within, there, gone);
       shallow = so_far.shallow;
-      onward = subst (λ x. Onward kind c.args.here.rest.now x Something c.loop-node.most) (sym is)
-          (subst (λ m. Onward kind c.args.here.rest.now (drop n rest) Something m) same
-          (onward_more so_far.onward (step.1 rest begins) (literals_onward kind n rest some inside (low_at rest c.literals.result n (omega arith) first.1 c.literals.ensures.literals))));
+      onward = λ suits. subst (λ x. Onward kind c.args.here.rest.now x Something c.loop-node.most) (sym is)
+          (subst (λ m. Onward kind c.args.here.rest.now (drop n rest) Something m) same (onward_more (so_far.onward suits) (step.1 rest begins) way));
+      begins = λ suits text. so_far.begins (step.1 rest begins) (way.back (subst (Suits Something) is suits) (subst (IsText kind) is text));
     }
   where
     low_at : (bytes : List ℕ) (m n : ℕ) → (0 < m → n ≤ m) × (m ≡ 0 → n ≡ 1) → slice_index bytes 0 < 128 → ((k : ℕ) → k < m → slice_index bytes k < 128) → (k : ℕ) → k < n → slice_index bytes k < 128
@@ -189,59 +263,71 @@ is_text_counted-loop-node-preserved g t c =
     let behind = branch_shorter kind b.edges b.width b.table.now b.behind.now rest begins in
     let within = so_far.within in
     let m = c.max-most.ensures in
+    let after = c.pass-following.result.0.rest.now in
+    let following = c.pass-following.result.1 in
+    let shorter' = c.pass-following.ensures.shorter in
+    let one : max count 1 ≡ count = (let h = c.in-Some-go_behind.ensures.shallow.0 in omega arith) in
+    let way : Onward kind rest after following count = subst (λ k. Onward kind rest after following k) one
+    (onward_more (c.in-Some-go_behind.ensures.some rest begins) c.in-Some-go_behind.ensures.filled (c.pass-following.ensures.onward c.in-Some-go_behind.ensures.filled kind)) in
+    let suits_here = c.in-Behind.ensures.1 rest c.in-Some.ensures.some in
     record {
       within = omega arith;
       shallow = subst (λ n. IsShallow c.args.here.rest.now n) (sym m)
           (shallow_max c.args.here.rest.now c.loop-node.most count so_far.shallow (shallow_longer b.behind.now c.args.here.rest.now count (omega arith) c.in-Some-go_behind.ensures.shallow));
-      onward = subst (λ n. Onward kind c.args.here.rest.now longest Something n) (sym m)
-          (onward_more so_far.onward (c.in-Behind.ensures.1 rest c.in-Some.ensures.some) (c.in-Some-go_behind.ensures.some rest begins));
+      onward = λ suits. subst (λ n. Onward kind c.args.here.rest.now after following n) (sym m) (onward_more (so_far.onward suits) suits_here way);
+      begins = λ suits text. so_far.begins suits_here (way.back suits text);
     }
 
 -- the branch that comes next is no text
-no_branch : (g : _) (t : _) (c : goal.is_text_counted-In-None g t) → IsText g.K.ZeroTrieWithOptions.kind c.args.here.rest.now → ⊥
-no_branch g t c text =
+no_branch : (g : _) (t : _) (c : goal.is_text_counted-In-None g t) → Suits c.args.expected c.args.here.rest.now → IsText g.K.ZeroTrieWithOptions.kind c.args.here.rest.now → ⊥
+no_branch g t c suits text =
     let kind = g.K.ZeroTrieWithOptions.kind in
     let rest = c.loop-node.at.rest.now in
-    let leads = c.loop-node.invariant.onward.there text.0 text.1 in
+    let leads = (c.loop-node.invariant.onward suits).there text.0 text.1 in
     let begins : Begins kind rest (branch_shape c.in-Behind.branch) = subst (Begins kind rest) c.in-Behind.ensures.0 c.in-Some.ensures.some in
     c.in-None.ensures.none rest begins (leads.below, leads.inner)
 
 pub is_text_counted-returns-in-None-clause-yes : goal.is_text_counted-returns-in-None-clause-yes
-is_text_counted-returns-in-None-clause-yes g t c = (λ e. absurd (cc), λ well. absurd (no_branch g t c (well_text well)))
+is_text_counted-returns-in-None-clause-yes g t c = (λ e. absurd (cc), λ well. absurd (no_branch g t c well.0 (well_text well.1)))
 
 pub is_text_counted-returns-in-None-clause-count : goal.is_text_counted-returns-in-None-clause-count
-is_text_counted-returns-in-None-clause-count g t c m means = absurd (no_branch g t c (means.pairs, means.lists))
+is_text_counted-returns-in-None-clause-count g t c = λ suits m means. absurd (no_branch g t c suits (means.pairs, means.lists))
 
 pub is_text_counted-returns-then-is_empty-clause-yes : goal.is_text_counted-returns-then-is_empty-clause-yes
 is_text_counted-returns-then-is_empty-clause-yes g t c =
     let kind = g.K.ZeroTrieWithOptions.kind in
     let rest = c.loop-node.at.rest.now in
-    let expected = c.loop-node.expected in
-    let onward = c.loop-node.invariant.onward in
-    let none : rest ≡ [] = nil_from_length rest (eqb-true _ _ (sym c.is_empty.ensures ∙ c.if-is_empty.true)) in (
-      λ e. text_well (omega arith) (onward.back (subst (Suits expected) (sym none) (c.takes_end.ensures.0 e)) (subst (IsText kind) (sym none) ([], nothing))),
-      λ well. (let text = well_text well in let leads = onward.there text.0 text.1 in c.takes_end.ensures.1 (subst (Suits expected) none leads.suits)),
+    let next = c.loop-node.next in
+    let so_far = c.loop-node.invariant in
+    let none : rest ≡ [] = nil_from_length rest (eqb-true _ _ (sym c.is_empty.ensures ∙ c.if-is_empty.true)) in
+    let end : IsText kind rest = subst (IsText kind) (sym none) ([], nothing) in (
+      λ e. (
+          let suits = subst (Suits next) (sym none) (c.takes_end.ensures.0 e) in
+          let first = so_far.begins suits end in (first, text_well (omega arith) ((so_far.onward first).back suits end))
+          ),
+      λ well. (let text = well_text well.1 in let leads = (so_far.onward well.0).there text.0 text.1 in c.takes_end.ensures.1 (subst (Suits next) none leads.suits)),
     )
 
 pub is_text_counted-returns-then-is_empty-clause-count : goal.is_text_counted-returns-then-is_empty-clause-count
-is_text_counted-returns-then-is_empty-clause-count g t c m means =
-    let leads = c.loop-node.invariant.onward.there means.pairs means.lists in
+is_text_counted-returns-then-is_empty-clause-count g t c = λ suits m means. (
+    let leads = (c.loop-node.invariant.onward suits).there means.pairs means.lists in
     let end = deep_no_node leads.inner c.in_default.ensures.none in
     let counts = leads.counts in
     let deep_is = end.1 in
     let one = c.loop-node.invariant.shallow.0 in
     omega arith
+    )
 
 -- bytes are left, of which no node begins
-left : (g : _) (t : _) (c : goal.is_text_counted-Else-is_empty g t) → IsText g.K.ZeroTrieWithOptions.kind c.args.here.rest.now → ⊥
-left g t c text =
-    let leads = c.loop-node.invariant.onward.there text.0 text.1 in
+left : (g : _) (t : _) (c : goal.is_text_counted-Else-is_empty g t) → Suits c.args.expected c.args.here.rest.now → IsText g.K.ZeroTrieWithOptions.kind c.args.here.rest.now → ⊥
+left g t c suits text =
+    let leads = (c.loop-node.invariant.onward suits).there text.0 text.1 in
     let end = deep_no_node leads.inner c.in_default.ensures.none in
     let some : length c.loop-node.at.rest.now ≡ 0 → ⊥ = eqb-false _ _ (sym c.is_empty.ensures ∙ c.if-is_empty.false) in
     some (ap length end.0)
 
 pub is_text_counted-returns-else-is_empty-clause-yes : goal.is_text_counted-returns-else-is_empty-clause-yes
-is_text_counted-returns-else-is_empty-clause-yes g t c = (λ e. absurd (let f = c.if-is_empty.false in cc), λ well. absurd (left g t c (well_text well)))
+is_text_counted-returns-else-is_empty-clause-yes g t c = (λ e. absurd (let f = c.if-is_empty.false in cc), λ well. absurd (left g t c well.0 (well_text well.1)))
 
 pub is_text_counted-returns-else-is_empty-clause-count : goal.is_text_counted-returns-else-is_empty-clause-count
-is_text_counted-returns-else-is_empty-clause-count g t c m means = absurd (left g t c (means.pairs, means.lists))
+is_text_counted-returns-else-is_empty-clause-count g t c = λ suits m means. absurd (left g t c suits (means.pairs, means.lists))

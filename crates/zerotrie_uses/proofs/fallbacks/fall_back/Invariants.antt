@@ -1,12 +1,12 @@
-use Rattle.std.proofs.Common.{◌≡◌, drop}
+use Rattle.std.proofs.Common.{None}
 use Rattle.zerotrie.specs.Kind.{simple_ascii}
-use Rattle.zerotrie.specs.Maps.{Pairs, value_at}
-use Rattle.zerotrie.specs.Texts.{Lists}
-use Rattle.zerotrie.proofs.Fallbacks.{going}
-use Rattle.zerotrie_uses.proofs.Parts.{is_hyphen}
+use Rattle.zerotrie.specs.Maps.{Map}
+use Rattle.zerotrie.specs.Prefixes.{common_prefixes}
+use Rattle.zerotrie.specs.Texts.{Means}
+use Rattle.zerotrie.proofs.Fallbacks.{Finds, last_of}
+use Rattle.zerotrie_uses.specs.Fallback.{ends_part}
 use Rattle.zerotrie_uses.proofs.fallbacks.fall_back.Given as goal
 
-abbrev pub invariant-loop-byte : goal.invariant-loop-byte
-invariant-loop-byte g l = (pairs : Pairs) → Lists simple_ascii (g.S.TrieStore.stored l.trie.store) pairs
-    → (left : Pairs) × Lists simple_ascii l.cursor left
-    × (going is_hyphen l.found (value_at simple_ascii left) (drop l.byte-index l.name) ≡ going is_hyphen l.initial.found (value_at simple_ascii pairs) l.name)
+abbrev pub invariant-loop-len : goal.invariant-loop-len
+invariant-loop-len g l = (m : Map) → Means simple_ascii (g.S.TrieStore.stored l.trie.store) m
+    → Finds (ends_part l.name) l.found l.len-iterator (last_of (ends_part l.name) None (common_prefixes simple_ascii m l.name))

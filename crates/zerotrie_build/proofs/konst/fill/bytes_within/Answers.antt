@@ -3,7 +3,7 @@ use Rattle.std.proofs.lemmas.List.{take_at}
 use Rattle.std.proofs.lemmas.Result.{err_from_is_err_and}
 use Rattle.zerotrie_core.specs.ArrayRoutes.{IsArrayBuilt}
 use Rattle.zerotrie_build.specs.Items.{pairs}
-use Rattle.zerotrie_build.proofs.ArrayBuilding.{filled_whole, lost}
+use Rattle.zerotrie_build.proofs.ArrayLemmas.Building.{filled_whole, lost}
 use Rattle.zerotrie_build.proofs.konst.fill.bytes_within.Goals as goal
 
 pub returns-in_err-len : goal.returns-in_err-len

@@ -1,7 +1,7 @@
 use Rattle.std.proofs.Common.{◌≡◌, ◌+◌, ◌<◌, ◌^◌, length, arith, rules}
 use Rattle.std.proofs.lemmas.Result.{err_from_is_err_and}
 use Rattle.zerotrie_build.specs.Items.{pairs}
-use Rattle.zerotrie_build.proofs.ArrayBuilding.{filled, lost}
+use Rattle.zerotrie_build.proofs.ArrayLemmas.Building.{filled, lost}
 use Rattle.zerotrie_build.proofs.konst.fill.fill_from_end.Goals as goal
 
 pub returns-in_err-len-clause-build : goal.returns-in_err-len-clause-build

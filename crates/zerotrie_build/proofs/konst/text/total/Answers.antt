@@ -1,5 +1,5 @@
 use Rattle.std.proofs.Common.{arith, inl, inr}
-use Rattle.zerotrie_build.proofs.ArrayText.{lens_take}
+use Rattle.zerotrie_build.proofs.ArrayLemmas.Text.{lens_take}
 use Rattle.zerotrie_build.proofs.Items.{below_or_from}
 use Rattle.zerotrie_build.specs.konst.Texts.{tops, lens_of}
 use Rattle.zerotrie_core.specs.Branches.{total as total_of}

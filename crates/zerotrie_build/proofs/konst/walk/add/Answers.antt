@@ -1,7 +1,7 @@
 use Rattle.std.proofs.Common.{◌≡◌, ◌-◌, suc, arith, drop, rules}
 use Rattle.std.proofs.lemmas.Result.{on_ok_weaker, IfErr-weaker}
 use Rattle.zerotrie_build.specs.Items.{pairs}
-use Rattle.zerotrie_build.proofs.ArrayAdding.{stands_at, built_at_start, built_before, rising_at, ascii_at, stuck_at_start, stuck_before_last}
+use Rattle.zerotrie_build.proofs.ArrayLemmas.Adding.{stands_at, built_at_start, built_before, rising_at, ascii_at, stuck_at_start, stuck_before_last}
 use Rattle.zerotrie_build.proofs.konst.walk.add.Goals as goal
 
 pub returns-then-index-eq0-clause-built : goal.returns-then-index-eq0-clause-built

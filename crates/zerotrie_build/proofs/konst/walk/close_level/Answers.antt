@@ -1,5 +1,5 @@
 use Rattle.std.proofs.lemmas.Result.{err_from_is_err_and, on_ok_weaker, IfErr-weaker}
-use Rattle.zerotrie_build.proofs.ArraySteps.{closes_branch, closes_literal, stuck_wide, stuck_many}
+use Rattle.zerotrie_build.proofs.ArrayLemmas.Steps.{closes_branch, closes_literal, stuck_wide, stuck_many}
 use Rattle.zerotrie_build.proofs.konst.walk.close_level.Goals as goal
 
 pub returns-in_err-set_aside-clause-refused : goal.returns-in_err-set_aside-clause-refused
@@ -26,5 +26,5 @@ returns-then-has_siblings_at-clause-refused g c =
 
 pub returns-clause-closed : goal.returns-clause-closed
 returns-clause-closed g c = λ listed standing.
-    closes_literal g.row.K c.args.key.now c.args.depth c.args.text.now c.put_literal.new.self c.args.siblings.now.items listed c.requires.within c.requires.ascii
-    (c.has_siblings_at.ensures.no c.if-has_siblings_at.false) c.put_literal.ensures standing
+    closes_literal g.row.K c.args.key.now c.args.depth c.args.text.now c.put.new.self c.args.siblings.now.items listed c.requires.within c.requires.ascii
+    (c.has_siblings_at.ensures.no c.if-has_siblings_at.false) c.put.ensures standing

@@ -1,7 +1,7 @@
 use Rattle.std.proofs.Common.{◌≡◌, ◌-◌, suc, arith, subst}
 use Rattle.std.proofs.lemmas.Result.{err_from_is_err_and}
 use Rattle.zerotrie_build.specs.konst.Growing.{Standing}
-use Rattle.zerotrie_build.proofs.ArrayText.{keeps_then}
+use Rattle.zerotrie_build.proofs.ArrayLemmas.Text.{keeps_then}
 use Rattle.zerotrie_build.proofs.konst.walk.close_to.Goals as goal
 
 pub loop-depth-preserved : goal.loop-depth-preserved

@@ -2,9 +2,9 @@ use Rattle.std.proofs.Common.{◌≡◌, ◌∷◌, ◌+◌, ◌<◌, suc, sym, 
 use Rattle.std.proofs.lemmas.Result.{err_from_is_err_and, on_ok_weaker, IfErr-weaker}
 use Rattle.zerotrie_build.specs.konst.Texts.{tops}
 use Rattle.zerotrie_build.specs.konst.Growing.{Standing}
-use Rattle.zerotrie_build.proofs.Parting.{common}
-use Rattle.zerotrie_build.proofs.ArrayParting.{parted}
-use Rattle.zerotrie_build.proofs.ArraySteps.{on_ok_both, goes_before, parts_before, stuck_before, stuck_from}
+use Rattle.zerotrie_build.proofs.OrderLemmas.Parting.{common}
+use Rattle.zerotrie_build.proofs.ArrayLemmas.Parting.{parted}
+use Rattle.zerotrie_build.proofs.ArrayLemmas.Steps.{on_ok_both, goes_before, parts_before, stuck_before, stuck_from}
 use Rattle.zerotrie_build.proofs.konst.walk.go_before.Goals as goal
 
 pub returns-then-common-before-clause-waits : goal.returns-then-common-before-clause-waits

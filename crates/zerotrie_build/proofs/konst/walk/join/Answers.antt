@@ -1,5 +1,5 @@
 use Rattle.std.proofs.Common.{◌∙◌, ap, refl, arith, drop}
-use Rattle.zerotrie_build.proofs.ArraySteps.{to_end, joins_at, wide_at, sum_exact, sum_wide}
+use Rattle.zerotrie_build.proofs.ArrayLemmas.Steps.{to_end, joins_at, wide_at, sum_exact, sum_wide}
 use Rattle.zerotrie_build.proofs.konst.walk.join.Goals as goal
 
 pub returns-then-total-clause-refused : goal.returns-then-total-clause-refused

@@ -1,6 +1,6 @@
 use Rattle.std.proofs.Common.{◌∙◌, ap, sym, arith, get_or, ◌-◌}
 use Rattle.zerotrie_build.specs.declared.konst.text.Sibling.{Sibling}
-use Rattle.zerotrie_build.proofs.ArraySteps.{level_more}
+use Rattle.zerotrie_build.proofs.ArrayLemmas.Steps.{level_more}
 use Rattle.zerotrie_build.proofs.konst.walk.start_of.Goals as goal
 
 pub loop-start-preserved : goal.loop-start-preserved

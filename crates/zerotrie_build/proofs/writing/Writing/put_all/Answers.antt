@@ -1,5 +1,5 @@
 use Rattle.std.proofs.Common.{refl}
-use Rattle.zerotrie_build.proofs.PutLemmas.{puts_more}
+use Rattle.zerotrie_build.proofs.WriteLemmas.Puts.{puts_more}
 use Rattle.zerotrie_build.proofs.writing.Writing.put_all.Goals as goal
 
 pub loop-byte-preserved : goal.loop-byte-preserved

@@ -4,8 +4,8 @@ use Rattle.std.specs.List.{range_with_len}
 use Rattle.zerotrie_core.specs.Branches.{total as total_of}
 use Rattle.zerotrie_core.proofs.CallerLemmas.{shifted}
 use Rattle.zerotrie_build.specs.passes.Writing.{lens_of}
-use Rattle.zerotrie_build.proofs.PutLemmas.{puts_then, puts_same, total_take, block_so_far, lens_at, count_lens}
-use Rattle.zerotrie_build.proofs.NodeLemmas.{total_more, offsets_more}
+use Rattle.zerotrie_build.proofs.WriteLemmas.Puts.{puts_then, puts_same, total_take, block_so_far, lens_at, count_lens}
+use Rattle.zerotrie_build.proofs.Nodes.{total_more, offsets_more}
 use Rattle.zerotrie_build.proofs.writing.Writing.put_block.Goals as goal
 
 pub overflow_add-end : goal.overflow_add-end

@@ -1,7 +1,7 @@
 use Rattle.std.proofs.Common.{◌≡◌, ◌≤◌, ◌+◌, ◌^◌, refl, arith, subst, length}
 use Rattle.zerotrie_core.specs.Branches.{IsWidth}
 use Rattle.zerotrie_build.specs.passes.Writing.{lens_of}
-use Rattle.zerotrie_build.proofs.PutLemmas.{puts_same, puts_then, count_lens, front_is, front_long}
+use Rattle.zerotrie_build.proofs.WriteLemmas.Puts.{puts_same, puts_then, count_lens, front_is, front_long}
 use Rattle.zerotrie_build.proofs.writing.Writing.put_branch.Goals as goal
 
 pub overflow_mul-width : goal.overflow_mul-width

@@ -1,33 +1,60 @@
-use Rattle.std.proofs.Common.{◌≡◌, rules, refl, [], ◌++◌, reverse, ap, sym, ◌∙◌, arith, length, length-append, length-drop, take, drop, ◌-◌}
+use Rattle.std.proofs.Common.{◌≡◌, rules, refl, [], ◌+◌, ◌++◌, reverse, ap, sym, ◌∙◌, arith, length, length-append, length-drop, take, drop, ◌-◌}
 use Rattle.std.proofs.lemmas.List.{length-take-le}
 use Rattle.zerotrie_core.specs.Numbers.{span_form, spelled_as}
 use Rattle.zerotrie_build.specs.passes.Windows.{item_of}
 use Rattle.zerotrie_build.specs.passes.Writing.{next_of}
-use Rattle.zerotrie_build.proofs.RunLemmas.{literal_low}
-use Rattle.zerotrie_build.proofs.FrontLemmas.{going_start, going_value, going_literals, going_span, open_bytes, room_value, room_literals, room_span, span_within}
-use Rattle.zerotrie_build.proofs.SlotLemmas.{opened}
-use Rattle.zerotrie_build.proofs.BranchLemmas.{branch_slots, branch_windows, branch_lens, branch_numbers, branch_small, branch_room, branch_refused, front_branch, front_end}
+use Rattle.zerotrie_build.proofs.WindowLemmas.NodeRuns.{literal_low, lone_end}
+use Rattle.zerotrie_build.proofs.WriteLemmas.Fronts.{going_start, going_value, going_literals, going_span, going_lone, open_bytes, room_value, room_literals, room_span, room_lone, span_within}
+use Rattle.zerotrie_build.proofs.WriteLemmas.Puts.{puts_then}
+use Rattle.zerotrie_build.proofs.WriteLemmas.Slots.{opened}
+use Rattle.zerotrie_build.proofs.WriteLemmas.Branches.{branch_slots, branch_windows, branch_lens, branch_numbers, branch_small, branch_room, branch_refused, front_branch, front_end}
 use Rattle.zerotrie_build.proofs.writing.Writing.put_nodes.Goals as goal
+
+pub put_all-requires : goal.put_all-requires
+put_all-requires g c =
+    let o = (opened c.requires.kept.1).known in
+    let room = room_lone c.in-Some.literals.now c.in-Some.value _ (going_start (g.S.TrieBuilderStore.list c.args.self.now.data) c.args.self.now.at o) o.stops o.within c.requires.keys c.in-Some.ensures.is (open_bytes o) c.requires.room in
+    omega arith
+
+pub put_value-requires : goal.put_value-requires
+put_value-requires g c =
+    let o = (opened c.requires.kept.1).known in
+    let room = room_lone c.in-Some.literals.now c.in-Some.value _ (going_start (g.S.TrieBuilderStore.list c.args.self.now.data) c.args.self.now.at o) o.stops o.within c.requires.keys c.in-Some.ensures.is (open_bytes o) c.requires.room in
+    let p = c.put_all.ensures in let at = p.at_is in let same = p.same in
+    omega arith
+
+pub returns-in-Some-clause-put : goal.returns-in-Some-clause-put
+returns-in-Some-clause-put g c =
+    let kind = g.K.ZeroTrieWithOptions.kind in
+    let all = g.I.IndexedItems.pairs c.args.items in
+    let w = c.args.window in
+    let k = opened c.requires.kept.1 in
+    let o = k.known in
+    let literals = c.in-Some.literals.now in
+    let lone = c.in-Some.ensures.is in
+    let puts = puts_then _ _ _ _ _ _ _ _ c.put_all.ensures c.put_value.ensures.puts in
+    let going = going_lone _ _ literals c.in-Some.value (going_start (g.S.TrieBuilderStore.list c.args.self.now.data) c.args.self.now.at o) o.stops o.within c.requires.keys lone c.put_value.ensures.spells puts in
+    ([], refl, front_end k going (lone_end kind all w literals c.in-Some.value (w.depth + length literals) lone) [] refl)
 
 pub loop-value-init : goal.loop-value-init
 loop-value-init g c = let k = opened c.requires.kept.1 in (c.requires.kept.0, k, going_start _ _ k.known, refl)
 
-pub put_value-requires : goal.put_value-requires
-put_value-requires g c = let v = c.loop-value.invariant in let o = v.1.known in room_value c.in-Value.value _ v.2 o.stops (sym c.first_step.ensures.is ∙ c.in-Value.is) (open_bytes o) c.requires.room
+pub put_value-requires-in-Value : goal.put_value-requires-in-Value
+put_value-requires-in-Value g c = let v = c.loop-value.invariant in let o = v.1.known in room_value c.in-Value.value _ v.2 o.stops (sym c.first_step.ensures.is ∙ c.in-Value.is) (open_bytes o) c.requires.room
 
 pub loop-value-smaller-in-Value : goal.loop-value-smaller-in-Value
 loop-value-smaller-in-Value g c =
     let v = c.loop-value.invariant in
     let o = v.1.known in
     let r = room_value c.in-Value.value _ v.2 o.stops (sym c.first_step.ensures.is ∙ c.in-Value.is) (open_bytes o) c.requires.room in
-    let p = c.put_value.ensures.puts in let a = p.at_is in let l = p.same in
-    let some = ap length c.put_value.ensures.spells.bytes_are in omega arith
+    let p = c.put_value-in-Value.ensures.puts in let a = p.at_is in let l = p.same in
+    let some = ap length c.put_value-in-Value.ensures.spells.bytes_are in omega arith
 
 pub loop-value-preserved-in-Value : goal.loop-value-preserved-in-Value
 loop-value-preserved-in-Value g c =
     let v = c.loop-value.invariant in
     let o = v.1.known in
-    (v.0, v.1, going_value _ _ c.in-Value.value v.2 o.stops o.within (sym c.first_step.ensures.is ∙ c.in-Value.is) c.put_value.ensures.spells c.put_value.ensures.puts, v.3)
+    (v.0, v.1, going_value _ _ c.in-Value.value v.2 o.stops o.within (sym c.first_step.ensures.is ∙ c.in-Value.is) c.put_value-in-Value.ensures.spells c.put_value-in-Value.ensures.puts, v.3)
 
 pub literals_end-end-requires : goal.literals_end-end-requires
 literals_end-end-requires g c =
@@ -125,8 +152,8 @@ overflow_add-lens g c =
     let room = lens.1 in
     search (room, rules)
 
-pub offset_bounds-plan-slot : goal.offset_bounds-plan-slot
-offset_bounds-plan-slot g c =
+pub offset_bounds-input-slot : goal.offset_bounds-input-slot
+offset_bounds-input-slot g c =
     let v = c.loop-value.invariant in
     let k = v.1 in
     let step = sym c.first_step.ensures.is ∙ c.in-Branch.is in
@@ -186,7 +213,7 @@ returns-in-Branch-clause-put g c =
     let laid = found.1 in
     let lens = branch_lens k v.2 step laid (length c.as_slice-numbers.result.now) (ap length c.as_slice-numbers.ensures.value) in
     let kind = g.K.ZeroTrieWithOptions.kind in
-    let slots = c.args.plan.slots.now in
+    let slots = c.args.input.slots.now in
     let slot = c.args.slot in
     let ws = c.set.new.self.windows.items in
     let numbers = c.set.new.self.numbers.items in

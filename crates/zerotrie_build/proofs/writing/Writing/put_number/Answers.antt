@@ -1,6 +1,6 @@
 use Rattle.std.proofs.Common.{ap, arith, length}
-use Rattle.zerotrie_build.proofs.NumberLemmas.{one_byte, two_bytes, three_bytes}
-use Rattle.zerotrie_build.proofs.PutLemmas.{puts_same, puts_then}
+use Rattle.zerotrie_build.proofs.WriteLemmas.Numbers.{one_byte, two_bytes, three_bytes}
+use Rattle.zerotrie_build.proofs.WriteLemmas.Puts.{puts_same, puts_then}
 use Rattle.zerotrie_build.proofs.writing.Writing.put_number.Goals as goal
 
 pub put-requires : goal.put-requires

@@ -1,7 +1,7 @@
 use Rattle.std.proofs.Common.{◌∙◌, ◌-◌, ◌*◌, ◌/◌, ◌%◌, ◌^◌, ◌++◌, map, arith, ap, sym, append_assoc}
 use Rattle.zerotrie_core.specs.Branches.{blocks, ends}
 use Rattle.zerotrie_build.specs.passes.Writing.{lens_of}
-use Rattle.zerotrie_build.proofs.PutLemmas.{puts_then, blocks_len, block_first, count_lens}
+use Rattle.zerotrie_build.proofs.WriteLemmas.Puts.{puts_then, blocks_len, block_first, count_lens}
 use Rattle.zerotrie_build.proofs.writing.Writing.put_offsets.Goals as goal
 
 pub put_block-requires-clause-room : goal.put_block-requires-clause-room

@@ -3,7 +3,7 @@ use Rattle.std.proofs.lemmas.List.{length-take-le}
 use Rattle.std.proofs.lemmas.Option.{get_or_from_slice_get}
 use Rattle.zerotrie_core.specs.Numbers.{span_form, spelled_as}
 use Rattle.zerotrie_core.proofs.CallerLemmas.{spells_spelled}
-use Rattle.zerotrie_build.proofs.PutLemmas.{puts_same, puts_then}
+use Rattle.zerotrie_build.proofs.WriteLemmas.Puts.{puts_same, puts_then}
 use Rattle.zerotrie_build.proofs.writing.Writing.put_span.Goals as goal
 
 pub put_all-requires : goal.put_all-requires

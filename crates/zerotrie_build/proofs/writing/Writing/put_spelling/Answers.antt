@@ -1,6 +1,6 @@
 use Rattle.std.proofs.Common.{◌≡◌, ◌+◌, ◌∷◌, rules}
 use Rattle.zerotrie_build.specs.passes.Writing.{with_bits}
-use Rattle.zerotrie_build.proofs.PutLemmas.{puts_then, puts_same}
+use Rattle.zerotrie_build.proofs.WriteLemmas.Puts.{puts_then, puts_same}
 use Rattle.zerotrie_build.proofs.writing.Writing.put_spelling.Goals as goal
 
 pub returns-in-Some : goal.returns-in-Some

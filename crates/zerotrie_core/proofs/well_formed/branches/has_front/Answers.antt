@@ -1,4 +1,4 @@
-use Rattle.std.proofs.Common.{◌-◌, ◌*◌, length, drop, subst, sym}
+use Rattle.std.proofs.Common.{◌≡◌, take, ◌-◌, ◌*◌, length, drop, subst, sym}
 use Rattle.zerotrie_core.specs.Branches.{IsWidth}
 use Rattle.zerotrie_core.proofs.SoundLemmas.{no_width, no_table}
 use Rattle.zerotrie_core.proofs.well_formed.branches.has_front.Goals as goal
@@ -15,3 +15,6 @@ returns-else-has_width-clause-no g c = λ f. (
     no_width g.K.ZeroTrieWithOptions.kind b.edges b.width b.table.now b.behind.now
     (λ is. (let e = c.has_width.ensures.width.1 (subst (λ x. IsWidth (length (drop (b.width * (b.edges - 1)) x)) (b.width - 1)) (sym c.split_at.ensures.back) is) in cc))
     )
+
+pub has_table-requires : goal.has_table-requires
+has_table-requires g c = subst (λ x. x ≡ take (length x) c.args.edges.tail.now) c.requires c.args.edges.lies

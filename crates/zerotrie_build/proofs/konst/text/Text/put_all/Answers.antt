@@ -1,5 +1,5 @@
 use Rattle.std.proofs.Common.{refl, arith}
-use Rattle.zerotrie_build.proofs.ArrayText.{puts_more}
+use Rattle.zerotrie_build.proofs.ArrayLemmas.Text.{puts_more}
 use Rattle.zerotrie_build.proofs.konst.text.Text.put_all.Goals as goal
 
 pub loop-index-preserved : goal.loop-index-preserved

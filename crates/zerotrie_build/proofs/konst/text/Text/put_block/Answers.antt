@@ -4,7 +4,7 @@ use Rattle.std.specs.List.{range_with_len}
 use Rattle.zerotrie_core.specs.Branches.{total as total_of}
 use Rattle.zerotrie_core.proofs.CallerLemmas.{shifted}
 use Rattle.zerotrie_build.specs.konst.Texts.{tops, lens_of}
-use Rattle.zerotrie_build.proofs.ArrayText.{puts_then, puts_same, puts_nothing, len_at, end_before, block_more, all_blocks, length-lens}
+use Rattle.zerotrie_build.proofs.ArrayLemmas.Text.{puts_then, puts_same, puts_nothing, len_at, end_before, block_more, all_blocks, length-lens}
 use Rattle.zerotrie_build.proofs.konst.text.Text.put_block.Goals as goal
 
 pub loop-index-init : goal.loop-index-init

@@ -3,8 +3,8 @@ use Rattle.zerotrie_core.specs.Numbers.{branch_form}
 use Rattle.zerotrie_core.specs.Branches.{IsWidth}
 use Rattle.zerotrie_build.specs.passes.Writing.{with_bits}
 use Rattle.zerotrie_build.specs.konst.Texts.{tops, bytes_of, lens_of}
-use Rattle.zerotrie_build.proofs.PutLemmas.{number_is, front_is}
-use Rattle.zerotrie_build.proofs.ArrayText.{puts_then, puts_same, length-lens}
+use Rattle.zerotrie_build.proofs.WriteLemmas.Puts.{number_is, front_is}
+use Rattle.zerotrie_build.proofs.ArrayLemmas.Text.{puts_then, puts_same, length-lens}
 use Rattle.zerotrie_build.proofs.konst.text.Text.put_branch.Goals as goal
 
 pub overflow_add-width : goal.overflow_add-width

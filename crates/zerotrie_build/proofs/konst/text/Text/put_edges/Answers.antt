@@ -1,4 +1,4 @@
-use Rattle.zerotrie_build.proofs.ArrayText.{puts_then, puts_same, edges_take}
+use Rattle.zerotrie_build.proofs.ArrayLemmas.Text.{puts_then, puts_same, edges_take}
 use Rattle.zerotrie_build.proofs.konst.text.Text.put_edges.Goals as goal
 
 pub loop-sibling-preserved : goal.loop-sibling-preserved

@@ -1,0 +1,9 @@
+-- The array builder.
+pub mod Adding
+pub mod Asides
+pub mod Building
+pub mod Closing
+pub mod Parting
+pub mod Runs
+pub mod Steps
+pub mod Text

@@ -1,0 +1,26 @@
+-- Keys that are below others by their bytes come before them where case is kept.
+use Rattle.std.proofs.Common.{ℕ, inl, inr, List, [], ◌∷◌, refl, arith}
+use Rattle.std.proofs.lemmas.Bool.{cases_lt, cases_eq}
+use Rattle.zerotrie_core.specs.Kind.{simple_ascii}
+use Rattle.zerotrie_build.specs.Order.{Before}
+use Rattle.zerotrie_build.proofs.Items.{Below}
+use Rattle.zerotrie_build.proofs.OrderLemmas.Sorting.{less_is, equal_is, greater_is}
+
+pub below_before : (k l : List ℕ) → Below k l → Before simple_ascii k l
+below_before [] [] h = absurd (cc)
+below_before (a ∷ k) [] h = absurd (cc)
+below_before [] (b ∷ l) h = tt
+below_before (a ∷ k) (b ∷ l) h = elim (cases_eq a b) [
+  | inl same ↦ inr (same, below_before k l (rw (equal_is a b same) at h))
+  | inr apart ↦ elim (cases_lt a b) [
+    | inl less ↦ inl less
+    | inr from ↦ absurd (let e = rw (greater_is a b (omega arith)) at h in cc)
+  ]
+]
+
+pub before_below : (k l : List ℕ) → Before simple_ascii k l → Below k l
+before_below [] [] h = absurd h
+before_below (a ∷ k) [] h = absurd h
+before_below [] (b ∷ l) h = refl
+before_below (a ∷ k) (b ∷ l) (inl less) = rw (less_is a b less) refl
+before_below (a ∷ k) (b ∷ l) (inr r) = rw (equal_is a b r.0) (before_below k l r.1)

@@ -1,0 +1,306 @@
+//! The search tables of branches, and the order that they give the targets.
+
+ghost use Rattle.std.specs.Prelude.{◌≡◌, ◌≢◌, ℕ, List, [], ◌∷◌, ◌+◌, ◌-◌, ◌^◌, ◌<◌, ◌≤◌, ◌++◌, length, map, reverse, slice_index_or, All, OnOk, IfErr};
+ghost use Rattle.std.specs.List.{range_with_len};
+ghost use Rattle.std.specs.List.Sorted.{IsPermutation, IsStrictlyIncreasing};
+ghost use Rattle.zerotrie_base.specs.Refusals.{IsTableRefusal};
+ghost use Rattle.zerotrie_core.specs.Causes.{AreCrooked};
+ghost use Rattle.zerotrie_build.specs.Order.{Ordered};
+ghost use Rattle.zerotrie_build.specs.passes.Windows.{window as window_of, edge_of, IsGroup};
+ghost use Rattle.zerotrie_build.specs.passes.Measured.{TargetWindows};
+ghost use Rattle.zerotrie_build.specs.passes.Writing.{window_at, edge_no, place_in, position_at, text_of, placed_next, next_of, IsSearched, IsLaid, HasSlots};
+
+use crate::indexed::IndexedItems;
+use crate::measuring::is_hashed;
+use crate::windows::{Window, edge_at, group_end, group_end_near};
+use std::alloc::{AllocError, Allocator, Global};
+use zerotrie_core::{PerfectByteHashMapCacheOwned, ZeroTrieBuildError, ZeroTrieWithOptions};
+
+/// The most edges that a sorted table has in the kinds with hashed ones.
+const SORTED: usize = 15;
+
+/// Where the next window begins: with which item, and with which slot.
+#[derive(Clone, Copy, Debug)]
+pub(crate) struct Position {
+    pub(crate) from: usize,
+    pub(crate) slot: usize,
+}
+
+/// A window that begins where the one before it ended.
+#[derive(Clone, Copy, Debug)]
+pub(crate) struct PendingWindow {
+    pub(crate) to: usize,
+    pub(crate) depth: usize,
+}
+
+/// What is written next.
+#[derive(Clone, Copy, Debug)]
+pub(crate) enum Next {
+    /// The next window begins at this place.
+    Go(Position),
+    /// The text of this window.
+    Text(PendingWindow),
+}
+
+/// What the second pass goes by besides the items: what the first pass found of them.
+#[derive(Clone, Copy, Debug)]
+pub(crate) struct WriteInput<'a> {
+    /// The slots, and beside them guesses how many items the targets have.
+    pub(crate) slots: &'a [usize],
+    pub(crate) counts: &'a [u8],
+    /// If it is true, all keys are ASCII.
+    pub(crate) ascii: bool,
+}
+
+/// The layout of a branch. Its memory serves one branch after another. Hashed tables have memory of their own.
+#[derive(Drop)]
+pub(crate) struct Layout<A: Allocator> {
+    alloc: Global,
+    cache: PerfectByteHashMapCacheOwned,
+    /// The windows of the targets, in the order of the edges.
+    windows: Vec<Window, A>,
+    /// The search table.
+    pub(crate) table: Vec<u8, A>,
+    /// The numbers of the targets among the windows, in the order of the table.
+    pub(crate) numbers: Vec<usize, A>,
+    /// What is still to be written, what comes next last.
+    pub(crate) pending: Vec<Next, A>,
+}
+
+impl<A: Allocator + Copy> Layout<A> {
+    /// No branch.
+    pub(crate) fn new(alloc: Global, spare: A) -> Self
+        ensures { result.pending.items ≡ [] }
+    {
+        Layout {
+            alloc,
+            cache: PerfectByteHashMapCacheOwned::new_empty(alloc),
+            windows: Vec::new(spare),
+            table: Vec::new(spare),
+            numbers: Vec::new(spare),
+            pending: Vec::new(spare),
+        }
+    }
+
+    /// No branch, as at first.
+    fn clear(&mut self)
+        ensures windows { self.new.windows.items ≡ [] }
+        ensures table { self.new.table.items ≡ [] }
+        ensures numbers { self.new.numbers.items ≡ [] }
+        ensures pending { self.new.pending.items ≡ self.old.pending.items }
+    {
+        self.windows.clear();
+        self.table.clear();
+        self.numbers.clear();
+    }
+
+    /// Lays the targets of the branch that stands first in the window out in the order of their edges. The counts
+    /// of their items are guesses.
+    fn set_sorted<'a, K: ZeroTrieWithOptions, I: IndexedItems<'a>>(
+        &mut self,
+        items: I,
+        window: Window,
+        counts: &[u8],
+    ) -> Result<(), AllocError>
+        requires order { window.from ≤ window.to }
+        requires items { window.to ≤ length (I.pairs items) }
+        requires room { window.depth + 1 < 2 ^ 64 }
+        requires ordered { Ordered K.kind (window_of (I.pairs items) window) }
+        ensures parts { OnOk result (TargetWindows (I.pairs items) window self.new.windows.items) }
+        ensures table { OnOk result (self.new.table.items
+            ≡ map (edge_of (I.pairs items)) self.new.windows.items) }
+        ensures numbers { OnOk result (self.new.numbers.items
+            ≡ range_with_len 0 (length self.new.windows.items)) }
+        ensures pending { self.new.pending.items ≡ self.old.pending.items }
+    {
+        self.clear();
+        let mut rest = window;
+        while rest.from < rest.to {
+            let target = Window {
+                from: rest.from,
+                to: target_end::<K, I>(items, rest, counts, self.windows.len()),
+                depth: rest.depth + 1,
+            };
+            let edge = edge_at(items, target);
+            self.table.push(edge)?;
+            self.numbers.push(self.windows.len())?;
+            self.windows.push(target)?;
+            rest.from = target.to;
+        }
+        Ok(())
+    }
+
+    /// Lays the targets out in the order of a hashed table.
+    fn set_hashed(&mut self) -> Result<(), ZeroTrieBuildError>
+        requires { IsStrictlyIncreasing self.old.table.items }
+        ensures ok { OnOk result (IsSearched self.old.table.items self.new.table.items
+            self.new.numbers.items) }
+        ensures refused { IfErr result (IsTableRefusal self.old.table.items) }
+        ensures windows { self.new.windows.items ≡ self.old.windows.items }
+        ensures pending { self.new.pending.items ≡ self.old.pending.items }
+    {
+        let keys = Vec::from_slice(self.alloc, self.table.as_slice())?;
+        let table = self.cache.try_get_or_insert(keys)?;
+        set_places(&mut self.numbers, self.table.as_slice(), table.keys())?;
+        self.table.clear();
+        self.table.extend_from_slice(table.as_bytes())?;
+        Ok(())
+    }
+
+    /// Lays the targets of the branch out that stands first in the window, whose slots begin at `slot`.
+    pub(crate) fn set<'a, K: ZeroTrieWithOptions, I: IndexedItems<'a>>(
+        &mut self,
+        items: I,
+        input: WriteInput<'_>,
+        window: Window,
+        slot: usize,
+    ) -> Result<(), ZeroTrieBuildError>
+        requires order { window.from ≤ window.to }
+        requires items { window.to ≤ length (I.pairs items) }
+        requires room { window.depth + 1 < 2 ^ 64 }
+        requires ordered { Ordered K.kind (window_of (I.pairs items) window) }
+        requires slots { HasSlots K.kind (I.pairs items) window input.slots.now slot }
+        ensures parts { OnOk result (TargetWindows (I.pairs items) window self.new.windows.items) }
+        ensures laid { OnOk result (IsLaid K.kind (edge_no (I.pairs items) self.new.windows.items)
+            (length self.new.windows.items) self.new.table.items self.new.numbers.items) }
+        ensures pending { OnOk result (reverse self.new.pending.items
+            ≡ next_of K.kind input.entry.slots.now slot self.new.windows.items
+            self.new.numbers.items
+            ++ reverse self.old.pending.items) }
+        ensures refused { IfErr result (λ e. e ≢ ZeroTrieBuildError.OutOfMemory
+            → (e ≡ ZeroTrieBuildError.CouldNotSolvePerfectHash)
+            × ((cs : List Window) → TargetWindows (I.pairs items) window cs
+            → AreCrooked K.kind (map (edge_of (I.pairs items)) cs))) }
+    {
+        let slots = input.slots;
+        // That a length is below 2^64 tells the proof that so are the places of the slots.
+        let _len = slots.len();
+        self.set_sorted::<K, I>(items, window, input.counts.get(slot..).unwrap_or(&[]))?;
+        let edges = self.windows.len();
+        if is_hashed::<K>(edges) {
+            self.set_hashed()?;
+            let end = slot + 2 * edges;
+            push_hashed(
+                &mut self.pending,
+                self.windows.as_slice(),
+                self.numbers.as_slice(),
+                &slots[slot + edges..end],
+                end,
+            )?;
+        } else {
+            push_sorted(&mut self.pending, self.windows.as_slice(), slot + edges)?;
+        }
+        Ok(())
+    }
+}
+
+/// Where the items of the branch's next target end, which has this number. The counts of the items are guesses, and
+/// the kinds with hashed tables have none.
+#[inline(always)]
+fn target_end<'a, K: ZeroTrieWithOptions, I: IndexedItems<'a>>(
+    items: I,
+    rest: Window,
+    counts: &[u8],
+    number: usize,
+) -> usize
+    requires within { rest.from < rest.to }
+    requires items { rest.to ≤ length (I.pairs items) }
+    requires ordered { Ordered K.kind (window_of (I.pairs items) rest) }
+    ensures { IsGroup (I.pairs items) rest result }
+{
+    if K::USE_PHF {
+        group_end::<K, I>(items, rest)
+    } else {
+        group_end_near::<K, I>(items, rest, counts.get(number).copied().unwrap_or(0))
+    }
+}
+
+/// Sets the numbers to those of the placed edges.
+fn set_places<A: Allocator>(
+    numbers: &mut Vec<usize, A>,
+    edges: &[u8],
+    placed: &[u8],
+) -> Result<(), AllocError>
+    requires rises { IsStrictlyIncreasing edges.now }
+    requires same { IsPermutation edges.now placed.now }
+    ensures { OnOk result (numbers.new.items ≡ map (λ b. place_in edges.now b) placed.now) }
+{
+    numbers.clear();
+    for edge in placed {
+        match edges.binary_search(edge) {
+            Ok(place) => numbers.push(place)?,
+            Err(_) => unreachable!(),
+        }
+    }
+    Ok(())
+}
+
+/// What is written for a window that begins where the one before it ended.
+fn text_of(window: Window) -> Next
+    ensures { result ≡ text_of window }
+{
+    Next::Text(PendingWindow {
+        to: window.to,
+        depth: window.depth,
+    })
+}
+
+/// Puts the windows on the list of what is to be written, the first on top, where its slots begin at `slot`.
+fn push_sorted<A: Allocator>(
+    pending: &mut Vec<Next, A>,
+    windows: &[Window],
+    slot: usize,
+) -> Result<(), AllocError>
+    requires { 0 < length windows.now }
+    ensures { OnOk result (reverse pending.new.items
+        ≡ (Next.Go (position_at (window_at windows.now 0).from slot) ∷ map text_of windows.now)
+        ++ reverse pending.old.items) }
+{
+    for index in (0..windows.len()).rev() {
+        pending.push(text_of(windows[index]))?;
+    }
+    pending.push(Next::Go(Position {
+        from: windows[0].from,
+        slot,
+    }))?;
+    Ok(())
+}
+
+/// Puts the windows of these numbers on the list of what is to be written, the first on top, each with its place,
+/// where the slots of the first window begin at `slot`, and beneath them the place behind all. `ends` tells how many
+/// slots there are up to each window.
+fn push_hashed<A: Allocator>(
+    pending: &mut Vec<Next, A>,
+    windows: &[Window],
+    numbers: &[usize],
+    ends: &[usize],
+    slot: usize,
+) -> Result<(), AllocError>
+    requires some { 0 < length ends.now }
+    requires each { length ends.now ≡ length windows.now }
+    requires room { All (λ e. slot + e < 2 ^ 64) ends.now }
+    requires within { All (λ i. i < length windows.now) numbers.now }
+    ensures { OnOk result (reverse pending.new.items
+        ≡ (placed_next ends.now slot windows.now numbers.now
+        ++ Next.Go (position_at (window_at windows.now (length windows.now - 1)).to
+        (slot + slice_index_or ends.now (length ends.now - 1) 0)) ∷ [])
+        ++ reverse pending.old.items) }
+{
+    // So there is room too for the targets of a sorted table below the first of them.
+    pending.reserve(numbers.len().saturating_mul(2).saturating_add(SORTED))?;
+    pending.push(Next::Go(Position {
+        from: windows[windows.len() - 1].to,
+        slot: slot + ends[ends.len() - 1],
+    }))?;
+    for index in (0..numbers.len()).rev() {
+        let number = numbers[index];
+        let before = if number == 0 { 0 } else { ends[number - 1] };
+        let window = windows[number];
+        pending.push(text_of(window))?;
+        pending.push(Next::Go(Position {
+            from: window.from,
+            slot: slot + before,
+        }))?;
+    }
+    Ok(())
+}

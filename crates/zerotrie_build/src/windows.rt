@@ -1,0 +1,236 @@
+//! What stands first in the text of a window of the items.
+
+ghost use Rattle.std.specs.Prelude.{◌≡◌, ℕ, ◌+◌, ◌-◌, ◌^◌, ◌<◌, ◌≤◌, IfSome, Some, drop, slice_get, slice_index, length};
+ghost use Rattle.zerotrie_build.specs.Order.{Ordered};
+ghost use Rattle.zerotrie_build.specs.passes.Windows.{window as window_of, step_of, item_of, byte_of, edge_of, high_front, IsLow, IsGroup};
+
+use crate::indexed::IndexedItems;
+use zerotrie_core::ZeroTrieWithOptions;
+
+/// The items from one number to below another, each key without its first `depth` bytes.
+#[derive(Clone, Copy, Debug)]
+pub(crate) struct Window {
+    pub(crate) from: usize,
+    pub(crate) to: usize,
+    pub(crate) depth: usize,
+}
+
+/// What stands first in the text of a window.
+#[derive(Clone, Copy, Debug)]
+pub(crate) enum Step {
+    /// There are no items.
+    End,
+    /// The value of the first item, whose key ends here.
+    Value(usize),
+    /// A byte that all keys have.
+    Literal(u8),
+    /// So many bytes from 128 on, which all keys have.
+    Span(usize),
+    /// A branch: the keys part.
+    Branch,
+}
+
+/// The byte of the item's key at the depth, if there is one.
+pub(crate) fn byte_at<'a, I: IndexedItems<'a>>(items: I, index: usize, depth: usize) -> Option<u8>
+    requires { index < length (I.pairs items) }
+    ensures is { result ≡ byte_of (I.pairs items) index depth }
+    ensures room { IfSome result (λ _. depth + 1 < 2 ^ 64) }
+{
+    let (key, _) = items.get(index);
+    // That a length is below 2^64 tells the proof that so is a place in it.
+    let _len = key.len();
+    key.get(depth).copied()
+}
+
+/// How many bytes from 128 on two keys have in common in front.
+#[inline(always)]
+fn high_front_len(key: &[u8], other: &[u8]) -> usize
+    ensures { result ≡ high_front key.now other.now }
+{
+    let mut count = 0;
+    while count < key.len()
+        && count < other.len()
+        && key[count] == other[count]
+        && key[count] >= 128
+    {
+        count += 1;
+    }
+    count
+}
+
+/// Where the bytes below 128 end that two keys have in common from a place on.
+#[inline(always)]
+fn low_end(key: &[u8], other: &[u8], from: usize) -> usize
+    requires key { from ≤ length key.now }
+    requires other { from ≤ length other.now }
+    ensures from { from ≤ result }
+    ensures key { result ≤ length key.now }
+    ensures other { result ≤ length other.now }
+    ensures same { (i : ℕ) → from ≤ i → i < result
+        → (slice_index key.now i ≡ slice_index other.now i) × (slice_index key.now i < 128) }
+    ensures stops { result < length key.now → result < length other.now
+        → slice_index key.now result ≡ slice_index other.now result
+        → 128 ≤ slice_index key.now result }
+{
+    let mut end = from;
+    while end < key.len() && end < other.len() && key[end] == other[end] && key[end] < 128 {
+        end += 1;
+    }
+    end
+}
+
+/// The last item of the window. If there is but one, it is `first`, and not asked for again.
+#[inline(always)]
+fn last_item<'a, I: IndexedItems<'a>>(
+    items: I,
+    window: Window,
+    first: (&'a [u8], usize),
+) -> (&'a [u8], usize)
+    requires some { window.from < window.to }
+    requires items { window.to ≤ length (I.pairs items) }
+    requires first { slice_get (I.pairs items) window.from ≡ Some (first.0.now, first.1) }
+    ensures { slice_get (I.pairs items) (window.to - 1) ≡ Some (result.0.now, result.1) }
+{
+    if window.to - window.from == 1 {
+        first
+    } else {
+        items.get(window.to - 1)
+    }
+}
+
+/// The depth at which the literals end with which the text of the window begins. There is one at least.
+pub(crate) fn literals_end<'a, I: IndexedItems<'a>>(items: I, window: Window) -> usize
+    requires some { window.from < window.to }
+    requires items { window.to ≤ length (I.pairs items) }
+    requires literal { IsLow (I.pairs items) window window.depth }
+    ensures past { window.depth < result }
+    ensures within { result ≤ length (item_of (I.pairs items) window.from).0 }
+    ensures low { (i : ℕ) → window.depth ≤ i → i < result → IsLow (I.pairs items) window i }
+    ensures room { result < 2 ^ 64 }
+{
+    let first = items.get(window.from);
+    let (last, _) = last_item(items, window, first);
+    low_end(first.0, last, window.depth)
+}
+
+/// How many bytes from 128 on all keys of the window have in common in front, if they go on with this byte.
+fn span_len<'a, I: IndexedItems<'a>>(items: I, window: Window, byte: u8) -> usize
+    requires some { window.from < window.to }
+    requires items { window.to ≤ length (I.pairs items) }
+    requires first { byte_of (I.pairs items) window.from window.depth ≡ Some byte }
+    requires last { byte_of (I.pairs items) (window.to - 1) window.depth ≡ Some byte }
+    ensures is { result ≡ high_front (drop window.depth (item_of (I.pairs items) window.from).0)
+        (drop window.depth (item_of (I.pairs items) (window.to - 1)).0) }
+    ensures room { window.depth + result < 2 ^ 64 }
+{
+    let first = items.get(window.from);
+    let (last, _) = last_item(items, window, first);
+    let _len = first.0.len();
+    high_front_len(&first.0[window.depth..], &last[window.depth..])
+}
+
+/// What stands first in the text of the window, if its first and its last key both go on with this byte.
+fn common_step<'a, K: ZeroTrieWithOptions, I: IndexedItems<'a>>(
+    items: I,
+    window: Window,
+    byte: u8,
+) -> Step
+    requires some { window.from < window.to }
+    requires items { window.to ≤ length (I.pairs items) }
+    requires first { byte_of (I.pairs items) window.from window.depth ≡ Some byte }
+    requires last { byte_of (I.pairs items) (window.to - 1) window.depth ≡ Some byte }
+    ensures is { result ≡ step_of K.kind (I.pairs items) window }
+    ensures span { (n : ℕ) → result ≡ Step.Span n → window.depth + n < 2 ^ 64 }
+{
+    if !K::SPANS || byte < 128 {
+        return Step::Literal(byte);
+    }
+    Step::Span(span_len(items, window, byte))
+}
+
+/// What stands first in the text of the window.
+pub(crate) fn first_step<'a, K: ZeroTrieWithOptions, I: IndexedItems<'a>>(
+    items: I,
+    window: Window,
+) -> Step
+    requires { window.to ≤ length (I.pairs items) }
+    ensures is { result ≡ step_of K.kind (I.pairs items) window }
+    ensures literal { (b : ℕ) → result ≡ Step.Literal b → window.depth + 1 < 2 ^ 64 }
+    ensures span { (n : ℕ) → result ≡ Step.Span n → window.depth + n < 2 ^ 64 }
+    ensures branch { result ≡ Step.Branch → window.depth + 1 < 2 ^ 64 }
+{
+    if window.from >= window.to {
+        return Step::End;
+    }
+    match byte_at(items, window.from, window.depth) {
+        None => Step::Value(items.get(window.from).1),
+        Some(byte) => {
+            if byte_at(items, window.to - 1, window.depth) == Some(byte) {
+                common_step::<K, I>(items, window, byte)
+            } else {
+                Step::Branch
+            }
+        }
+    }
+}
+
+/// Where the first items that have one byte at the depth end. It looks ever further ahead, and halves what is left
+/// once it was too far.
+pub(crate) fn group_end<'a, K: ZeroTrieWithOptions, I: IndexedItems<'a>>(
+    items: I,
+    window: Window,
+) -> usize
+    requires within { window.from < window.to }
+    requires items { window.to ≤ length (I.pairs items) }
+    requires ordered { Ordered K.kind (window_of (I.pairs items) window) }
+    ensures { IsGroup (I.pairs items) window result }
+{
+    let byte = byte_at(items, window.from, window.depth);
+    // All items below `low` have the byte, and none from `high` on has it.
+    let mut low = window.from + 1;
+    let mut high = window.to;
+    let mut ahead = 0;
+    while low < high {
+        let step = ((high - low) / 2).min(ahead);
+        let place = low + step;
+        if byte_at(items, place, window.depth) == byte {
+            low = place + 1;
+            ahead = 2 * step + 1;
+        } else {
+            high = place;
+        }
+    }
+    low
+}
+
+/// Like `group_end`, but tries `count` first.
+pub(crate) fn group_end_near<'a, K: ZeroTrieWithOptions, I: IndexedItems<'a>>(
+    items: I,
+    window: Window,
+    count: u8,
+) -> usize
+    requires within { window.from < window.to }
+    requires items { window.to ≤ length (I.pairs items) }
+    requires ordered { Ordered K.kind (window_of (I.pairs items) window) }
+    ensures { IsGroup (I.pairs items) window result }
+{
+    let end = window.from.saturating_add(count as usize);
+    if count == 0 || end > window.to {
+        return group_end::<K, I>(items, window);
+    }
+    let byte = byte_at(items, window.from, window.depth);
+    let is_last = end == window.to || byte_at(items, end, window.depth) != byte;
+    if is_last && byte_at(items, end - 1, window.depth) == byte {
+        end
+    } else {
+        group_end::<K, I>(items, window)
+    }
+}
+
+/// The byte in front of the window.
+pub(crate) fn edge_at<'a, I: IndexedItems<'a>>(items: I, window: Window) -> u8
+    requires { window.from < length (I.pairs items) }
+    ensures { result ≡ edge_of (I.pairs items) window }
+{
+    byte_at(items, window.from, window.depth.saturating_sub(1)).unwrap_or(0)
+}

@@ -1,0 +1,4 @@
+pub mod Texts
+pub mod Items
+pub mod Code
+pub mod Laws

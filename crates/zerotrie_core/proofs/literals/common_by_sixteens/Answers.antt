@@ -1,0 +1,28 @@
+use Rattle.std.proofs.Common.{◌≡◌, ◌+◌, ◌-◌, subst, sym, arith}
+use Rattle.zerotrie_core.specs.reader.Literals.{AreCommon}
+use Rattle.zerotrie_core.proofs.LiteralLemmas.{common_more, common_fewer}
+use Rattle.zerotrie_core.proofs.literals.common_by_sixteens.Goals as goal
+
+pub returns-then-more-lt16-2 : goal.returns-then-more-lt16-2
+returns-then-more-lt16-2 g c =
+    let kind = g.K.ZeroTrieWithOptions.kind in
+    let bytes = c.args.bytes.now in
+    let key = c.args.key.now in
+    let last = c.min-most.result - 16 in
+    let small = c.if-more-lt16-2.true in
+    let few : AreCommon kind bytes key last = common_fewer kind bytes key c.loop-passed.passed last c.loop-passed.invariant (omega (arith, c.loop-passed-test.false)) in
+    common_more kind bytes key last c.first_other_in_16-more-2.result few (omega (arith, c.min-most.ensures, small)) (omega (arith, c.min-most.ensures, small)) (λ k h.
+    rw (sym c.split_at-2.ensures.back, sym c.split_at-3.ensures.back) (c.first_other_in_16-more-2.ensures k (omega (arith, small)) h))
+
+pub returns-else-more-lt16-2 : goal.returns-else-more-lt16-2
+returns-else-more-lt16-2 g c =
+    let kind = g.K.ZeroTrieWithOptions.kind in
+    let bytes = c.args.bytes.now in
+    let key = c.args.key.now in
+    let last = c.min-most.result - 16 in
+    let large = c.if-more-lt16-2.false in
+    let few : AreCommon kind bytes key last = common_fewer kind bytes key c.loop-passed.passed last c.loop-passed.invariant (omega (arith, c.loop-passed-test.false)) in
+    let whole : last + 16 ≡ c.min-most.result = omega (arith, c.min-most.ensures, c.requires.bytes, c.requires.key) in
+    subst (AreCommon kind bytes key) whole
+    (common_more kind bytes key last 16 few (omega (arith, c.min-most.ensures)) (omega (arith, c.min-most.ensures)) (λ k h.
+    rw (sym c.split_at-2.ensures.back, sym c.split_at-3.ensures.back) (c.first_other_in_16-more-2.ensures k h (omega (arith, h, large)))))

@@ -1,0 +1,61 @@
+//! The place of a byte among sorted edges.
+
+ghost use Rattle.std.specs.Prelude.{◌≡◌, ◌<◌, ◌≤◌, length, IfSome, IfNone};
+ghost use Rattle.zerotrie_core.specs.reader.Reading.{AlwaysRises, IsPlace, HasNoPlace};
+
+use crate::fold::folded;
+use crate::options::ZeroTrieWithOptions;
+
+/// All of the half of a table if the byte in its middle is not above the byte sought, else nothing.
+#[inline(always)]
+fn half_passed(half: usize, middle: u8, byte: u8) -> usize
+    ensures passed { middle ≤ byte → result ≡ half }
+    ensures stayed { byte < middle → result ≡ 0 }
+{
+    half * ((256 + byte as usize - middle as usize) / 256)
+}
+
+/// The place of a byte in a table whose bytes rise when they are folded.
+///
+/// Since each byte is above the one before it, the first and the last bound the place, closely where the
+/// edges lie close together. What is left is halved, with no branch on what it holds: which edge a key
+/// takes can't be predicted. Only the bytes that are looked at are folded.
+#[inline(always)]
+pub fn place_in<K: ZeroTrieWithOptions>(table: &[u8], byte: u8) -> Option<usize>
+    ensures some { IfSome result (IsPlace K.kind (length table.now) table.now byte) }
+    ensures none { IfNone result (AlwaysRises K.kind table.now
+        → HasNoPlace K.kind (length table.now) table.now byte) }
+{
+    let end = table.len().checked_sub(1)?;
+    let sought = folded::<K>(byte);
+    let first = folded::<K>(table[0]);
+    let last = folded::<K>(table[end]);
+    if sought < first || last < sought {
+        return None;
+    }
+    let mut base = end.saturating_sub((last - sought) as usize);
+    let mut left = (end.min((sought - first) as usize) + 1).saturating_sub(base);
+    if left == 0 {
+        return None;
+    }
+    while left > 1 {
+        let half = left / 2;
+        let middle = folded::<K>(table[base + half]);
+        base += half_passed(half, middle, sought);
+        left -= half;
+    }
+    if folded::<K>(table[base]) == sought {
+        Some(base)
+    } else {
+        None
+    }
+}
+
+/// The place, if it lies before the end.
+#[inline(always)]
+pub fn before_end(place: usize, end: usize) -> Option<usize>
+    ensures some { IfSome result (λ r. (r < end) × (r ≡ place)) }
+    ensures none { IfNone result (end ≤ place) }
+{
+    if place < end { Some(place) } else { None }
+}

@@ -1,0 +1,209 @@
+//! The nodes of a trie, one after another in the order in which they lie, each with its place.
+//!
+//! A walk keeps the parts that are to be gone over: what follows a node, and the targets of a branch. The part that comes
+//! next is the last of them.
+
+ghost use Rattle.std.specs.Prelude.{◌≡◌, ℕ, List, Some, ◌+◌, ◌-◌, ◌*◌, ◌<◌, ◌≤◌, ◌++◌, length, take, drop, map, reverse, vec_len, All, OnOk, IfOk, None, ◌^◌};
+ghost use Rattle.std.specs.Option.{option_map};
+ghost use Rattle.zerotrie_core.specs.Kind.{Kind, kind_with};
+ghost use Rattle.zerotrie_core.specs.Maps.{Pairs};
+ghost use Rattle.zerotrie_core.specs.Nodes.{Begins, targets_behind};
+ghost use Rattle.zerotrie_core.specs.Texts.{Lists};
+ghost use Rattle.zerotrie_core.specs.Shapes.{shape, branch_shape};
+ghost use Rattle.zerotrie_core.specs.listing.Listed.{node_of};
+ghost use Rattle.zerotrie_core.specs.walk.Visits.{Visit, nodes_of, target_parts, parts_behind};
+ghost use Rattle.zerotrie_core.specs.walk.Texts.{text_visits};
+ghost use Rattle.zerotrie_core.specs.walk.Seen.{part_of, visits_left, IsNext, LiesIn};
+
+mod part;
+
+use crate::branch::Branch;
+use crate::count::row_behind;
+use crate::node::Node;
+use crate::options::{Ext, Hash, Ignore, Simple, ZeroTrieBuilderOptions, ZeroTrieWithOptions};
+use crate::stream::node_at;
+pub use part::Part;
+use std::alloc::{AllocError, Allocator, Global};
+use std::marker::Model;
+
+/// A node, and where it stands.
+#[derive(Clone, Copy, Debug)]
+pub struct Visit<'a> {
+    /// The part that begins with the node.
+    pub part: Part<'a>,
+    /// The node.
+    pub node: Node<'a>,
+}
+
+impl<'a> Visit<'a> {
+    ghost use Rattle.zerotrie_core.specs.walk.Visits.{own_bytes};
+    ghost use Rattle.zerotrie_core.specs.walk.Seen.{visit_of};
+
+    /// The bytes of the node alone: of a branch, those in front of its targets.
+    pub fn own_bytes(&self) -> &'a [u8]
+        ensures { result.now ≡ own_bytes (visit_of self.now) }
+    {
+        let bytes = self.part.bytes;
+        let after = row_behind(self.node);
+        let (own, _) = bytes.split_at(bytes.len().saturating_sub(after.len()));
+        own
+    }
+}
+
+/// The first node of the bytes, by the kind that the options are of.
+fn read_node(options: ZeroTrieBuilderOptions, bytes: &[u8]) -> Option<Node<'_>>
+    ensures { node_of (kind_with options) bytes.now ≡ option_map shape result }
+{
+    if options.ignore_case() {
+        node_at::<Ignore>(bytes)
+    } else if options.extended() {
+        node_at::<Ext>(bytes)
+    } else if options.use_phf() {
+        node_at::<Hash>(bytes)
+    } else {
+        node_at::<Simple>(bytes)
+    }
+}
+
+/// Adds the targets of a branch with which a part begins, the first of them first, up to the first whose offsets fall.
+fn push_targets<'a, A: Allocator>(
+    parts: &mut Vec<Part<'a>, A>,
+    at: Part<'a>,
+    branch: Branch<'a>,
+) -> Result<(), AllocError>
+    requires { branch.edges + length (targets_behind branch.edges branch.width branch.behind.now) + 1
+        < length at.bytes.now }
+    ensures { OnOk result (map part_of parts.new.items ≡ map part_of parts.old.items
+        ++ target_parts (part_of at.entry) branch.entry.edges branch.entry.width branch.entry.behind.now
+        branch.entry.edges) }
+{
+    let (_, body) = branch.behind.split_at(branch.edges);
+    let (_, targets) = body.split_at(branch.width * (branch.edges - 1));
+    let first = at.place + (at.bytes.len() - targets.len());
+    let mut begin = 0;
+    for index in 0..branch.edges {
+        let Some(target) = branch.target_at(index) else {
+            break;
+        };
+        parts.push(Part {
+            place: first + begin,
+            depth: at.depth + 1,
+            above: Some(at.place),
+            edge: Some(branch.edge_at(index)),
+            bytes: target,
+        })?;
+        begin += target.len();
+    }
+    Ok(())
+}
+
+/// Turns the order of all after the first ones round, which are so many.
+fn reverse_from<T: Drop, A: Allocator>(parts: &mut Vec<T, A>, len: usize)
+    requires { len ≤ vec_len parts.old }
+    ensures { parts.new.items ≡ take len parts.old.items ++ reverse (drop len parts.old.items) }
+{
+    let (_, last) = parts.as_mut_slice().split_at_mut(len);
+    last.reverse();
+}
+
+/// Adds what follows the node with which a part begins. What is to come first is added last.
+fn push_behind<'a, A: Allocator>(
+    parts: &mut Vec<Part<'a>, A>,
+    at: Part<'a>,
+    node: Node<'a>,
+) -> Result<(), AllocError>
+    requires { (kind : Kind) × (node_of kind at.bytes.now ≡ Some (shape node)) }
+    ensures { OnOk result (map part_of (reverse parts.new.items)
+        ≡ parts_behind (part_of at.entry) (shape node.entry) ++ map part_of (reverse parts.old.items)) }
+{
+    match node {
+        Node::Value(_value, after) => parts.push(at.after(after))?,
+        Node::Literal(_byte, after) => parts.push(at.after(after))?,
+        Node::Span(_run, after) => parts.push(at.after(after))?,
+        Node::Branch(branch) => {
+            let len = parts.len();
+            push_targets(parts, at, branch)?;
+            reverse_from(parts, len);
+        }
+    }
+    Ok(())
+}
+
+/// Goes on to the next node of the parts. Out of memory no part is left.
+fn next_of<'a, A: Allocator>(
+    options: ZeroTrieBuilderOptions,
+    parts: &mut Vec<Part<'a>, A>,
+) -> Result<Option<Visit<'a>>, AllocError>
+    ensures { IsNext (visits_left (kind_with options) parts.old.items) result
+        (visits_left (kind_with options) parts.new.items) }
+{
+    while let Some(part) = parts.pop() {
+        let Some(node) = read_node(options, part.bytes) else {
+            continue;
+        };
+        if let Err(error) = push_behind(parts, part, node) {
+            parts.clear();
+            return Err(error);
+        }
+        return Ok(Some(Visit { part, node }));
+    }
+    Ok(None)
+}
+
+/// The nodes of bytes, one after another in the order in which they lie.
+///
+/// ```
+/// let mut nodes = Nodes::new::<Simple>(rt.alloc(), b"a\xC2bc\x01\x81\x82")?;     // the keys "ab" and "ac"
+/// let mut places = Vec::new(rt.alloc());
+/// while let Some(visit) = nodes.next_node()? {
+///     places.push((visit.part.place, visit.part.depth, visit.part.edge))?;
+/// }
+/// let listed = [(0, 0, None), (1, 0, None), (5, 1, Some(b'b')), (6, 1, Some(b'c'))];
+/// assert_eq!(rt; places.as_slice(), listed.as_slice());
+/// ```
+///
+/// On any bytes it gives the nodes that are there, up to where none begins: in a branch up to the first target whose
+/// offsets fall. So no byte is gone over twice. It takes memory as branches lie in one another.
+#[derive(Debug, Drop)]
+pub struct Nodes<'a, A: Allocator = Global> {
+    options: ZeroTrieBuilderOptions,
+    parts: Vec<Part<'a>, A>,
+}
+
+impl<'a, A: Allocator> Model for Nodes<'a, A> {
+    ghost use Rattle.std.specs.Prelude.{List};
+    ghost use Rattle.zerotrie_core.specs.Kind.{kind_with};
+    ghost use Rattle.zerotrie_core.specs.walk.Visits.{Visit};
+    ghost use Rattle.zerotrie_core.specs.walk.Seen.{visits_left};
+
+    ghost Value = { List Visit };
+
+    ghost view = { λ s. visits_left (kind_with s.options) s.parts.items };
+}
+
+impl<'a, A: Allocator> Nodes<'a, A> {
+    /// All nodes of the bytes.
+    pub fn new<K: ZeroTrieWithOptions>(alloc: A, bytes: &'a [u8]) -> Result<Self, AllocError>
+        ensures nodes { IfOk result (λ s. s ≡ nodes_of K.kind bytes.now) }
+        ensures most { IfOk result (λ s. length s ≤ length bytes.now) }
+        ensures lie { IfOk result (λ s. All (LiesIn K.kind bytes.now) s) }
+        ensures text { IfOk result (λ s. (pairs : Pairs) (text : Lists K.kind bytes.now pairs)
+            → s ≡ text_visits text 0 0 None None) }
+    {
+        let mut parts = Vec::new(alloc);
+        parts.push(Part::whole(bytes))?;
+        Ok(Nodes {
+            options: ZeroTrieBuilderOptions::of::<K>(),
+            parts,
+        })
+    }
+
+    /// Goes on to the next node. `None` if there is none left.
+    ///
+    /// The only error is that it is out of memory. No node is left after it.
+    pub fn next_node(&mut self) -> Result<Option<Visit<'a>>, AllocError>
+        ensures { IsNext self.old result self.new }
+    {
+        next_of(self.options, &mut self.parts)
+    }
+}

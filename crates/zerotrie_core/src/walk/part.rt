@@ -1,0 +1,52 @@
+//! A part of the bytes of a trie, and where it stands.
+
+ghost use Rattle.std.specs.Prelude.{◌≡◌, ◌+◌, ◌<◌, ◌≤◌, ◌^◌, length};
+
+/// A part of the bytes of a trie, from some place on, and how it is reached.
+#[derive(Clone, Copy, Debug)]
+pub struct Part<'a> {
+    /// How many bytes stand before it.
+    pub place: usize,
+    /// How many branches it lies behind.
+    pub depth: usize,
+    /// The place of the node that it follows. `None` if it is all of the bytes.
+    pub above: Option<usize>,
+    /// The byte of its edge, if it is the target of a branch.
+    pub edge: Option<u8>,
+    /// Its bytes, up to the end of the innermost target that it lies in.
+    pub bytes: &'a [u8],
+    ghost within: { place + length bytes.now < 2 ^ 64 },
+    ghost shallow: { depth ≤ place },
+}
+
+impl<'a> Part<'a> {
+    ghost use Rattle.zerotrie_core.specs.walk.Visits.{whole, after_node};
+    ghost use Rattle.zerotrie_core.specs.walk.Seen.{part_of};
+
+    /// All of these bytes.
+    pub fn whole(bytes: &'a [u8]) -> Self
+        ensures { part_of result ≡ whole bytes.now }
+    {
+        Part {
+            place: 0,
+            depth: 0,
+            above: None,
+            edge: None,
+            bytes,
+        }
+    }
+
+    /// What follows the first node.
+    pub fn after(self, rest: &'a [u8]) -> Self
+        requires { length rest.now ≤ length self.bytes.now }
+        ensures { part_of result ≡ after_node (part_of self.entry) rest.now }
+    {
+        Part {
+            place: self.place + (self.bytes.len() - rest.len()),
+            depth: self.depth,
+            above: Some(self.place),
+            edge: None,
+            bytes: rest,
+        }
+    }
+}
