@@ -1,10 +1,11 @@
 //! A trie of a kind that is known when the program runs.
 
-ghost use Rattle.std.specs.Prelude.{◌≡◌, ◌↔◌, IsTrue, IfOk, IfErr};
+ghost use Rattle.std.specs.Prelude.{◌≡◌, ◌↔◌, ◌≤◌, length, IsTrue, IfOk, IfErr};
 ghost use Rattle.zerotrie_core.specs.Maps.{Map, Pairs, look, beginning};
 ghost use Rattle.zerotrie_core.specs.Texts.{Lists, Means};
 ghost use Rattle.zerotrie_core.specs.Listings.{to_come};
 ghost use Rattle.zerotrie_core.specs.Prefixes.{IsLongestPrefix};
+ghost use Rattle.zerotrie_core.specs.walk.Visits.{nodes_of};
 ghost use Rattle.zerotrie_core.specs.WellFormed.{IsWellFormed};
 ghost use Rattle.zerotrie_any.specs.Tagged.{tagged, IsTagFault};
 ghost use Rattle.zerotrie_queries.specs.Kinds.{kind_of, IsTag};
@@ -13,7 +14,7 @@ use crate::kind::TrieKind;
 use std::alloc::{AllocError, Global};
 use zerotrie_any::TagError;
 use zerotrie_core::{
-    Ext, Hash, Ignore, Simple, ZeroTrieStream, get_counted, is_well_formed, longest_prefix,
+    Ext, Hash, Ignore, Nodes, Simple, ZeroTrieStream, get_counted, is_well_formed, longest_prefix,
 };
 
 /// The bytes of a trie, where they lie, and its kind.
@@ -98,6 +99,21 @@ impl<'a> Trie<'a> {
             TrieKind::Ignore => ZeroTrieStream::with_prefix::<Ignore>(alloc, self.bytes, prefix),
             TrieKind::Hash => ZeroTrieStream::with_prefix::<Hash>(alloc, self.bytes, prefix),
             TrieKind::Ext => ZeroTrieStream::with_prefix::<Ext>(alloc, self.bytes, prefix),
+        }
+    }
+
+    /// The nodes of the trie, one after another in the order in which they lie, each with its place.
+    ///
+    /// The only error is that it is out of memory.
+    pub fn nodes(&self, alloc: Global) -> Result<Nodes<'a>, AllocError>
+        ensures nodes { IfOk result (λ s. s ≡ nodes_of (kind_of self.now.kind) self.now.bytes.now) }
+        ensures most { IfOk result (λ s. length s ≤ length self.now.bytes.now) }
+    {
+        match self.kind {
+            TrieKind::Simple => Nodes::new::<Simple>(alloc, self.bytes),
+            TrieKind::Ignore => Nodes::new::<Ignore>(alloc, self.bytes),
+            TrieKind::Hash => Nodes::new::<Hash>(alloc, self.bytes),
+            TrieKind::Ext => Nodes::new::<Ext>(alloc, self.bytes),
         }
     }
 }
