@@ -11,6 +11,14 @@ static KINDS: [&str; 4] = ["simple", "ignore", "hash", "ext"];
 
 static STYLES: [&str; 3] = ["tsv", "keys", "values"];
 
+const GET_HELP: &str = "Example: zerotrie get names.trie amp lt\nIn memory: the file and the keys.";
+
+const LONGEST_HELP: &str =
+    "Example: zerotrie longest names.trie ampersand\nIn memory: the file and the texts.";
+
+const LIST_HELP: &str =
+    "Example: zerotrie list names.trie --prefix am\nIn memory: the file and the longest key.";
+
 /// A word that stands at its place.
 pub fn place<'a>(alloc: Global, name: &'a str, help: &'a str) -> Arg<'a> {
     Arg::new(alloc, name)
@@ -52,7 +60,8 @@ fn get_command<'a>(alloc: Global) -> Result<Command<'a>, AllocError> {
         "KEY",
         "Keys; with none they are the lines of standard input",
     );
-    reader(alloc, "get", "Prints the values of keys")?.arg(keys)
+    let command = reader(alloc, "get", "Prints the values of keys")?.arg(keys)?;
+    Ok(command.after_help(GET_HELP))
 }
 
 fn longest_command<'a>(alloc: Global) -> Result<Command<'a>, AllocError> {
@@ -61,21 +70,19 @@ fn longest_command<'a>(alloc: Global) -> Result<Command<'a>, AllocError> {
         "TEXT",
         "Texts; with none they are the lines of standard input",
     );
-    reader(
-        alloc,
-        "longest",
-        "Prints the longest key that each text begins with, and its value",
-    )?
-    .arg(texts)
+    let about = "Prints the longest key that each text begins with, and its value";
+    let command = reader(alloc, "longest", about)?.arg(texts)?;
+    Ok(command.after_help(LONGEST_HELP))
 }
 
 fn list_command<'a>(alloc: Global) -> Result<Command<'a>, AllocError> {
     let format = option(alloc, "format", "How pairs are printed")
         .value_parser(STYLES.as_slice())
         .default_value("tsv");
-    reader(alloc, "list", "Prints the pairs")?
+    let command = reader(alloc, "list", "Prints the pairs")?
         .arg(option(alloc, "prefix", "Only keys that begin so").value_name("P"))?
-        .arg(format)
+        .arg(format)?;
+    Ok(command.after_help(LIST_HELP))
 }
 
 /// What the command line may be.

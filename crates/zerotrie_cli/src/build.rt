@@ -18,6 +18,9 @@ const REFUSED: u8 = 1;
 
 static KINDS: [&str; 5] = ["auto", "simple", "ignore", "hash", "ext"];
 
+const BUILD_HELP: &str = "Example: zerotrie build names.tsv -o names.trie\nIn memory: \
+    the keys, 40 bytes a pair, 40 more if they are to be sorted, and the trie.";
+
 static FORMATS: [&str; 4] = ["tsv", "csv", "lines", "json"];
 
 /// An option without a word.
@@ -46,6 +49,7 @@ pub fn build_command<'a>(alloc: Global) -> Result<Command<'a>, AllocError> {
         .default_value("tsv");
     Command::new(alloc, "build")
         .about("Makes a trie of a file of pairs")
+        .after_help(BUILD_HELP)
         .arg(place(alloc, "IN", "A file of pairs, or - for standard input"))?
         .arg(output)?
         .arg(kind)?

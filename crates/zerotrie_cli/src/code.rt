@@ -10,17 +10,16 @@ use zerotrie_code::{Language, write_code};
 
 static LANGUAGES: [&str; 3] = ["rust", "c", "rattle"];
 
+const CODE_HELP: &str = "Example: zerotrie code names.trie --lang c\nIn memory: the file.";
+
 /// What the command line of `code` may be.
 pub fn code_command<'a>(alloc: Global) -> Result<Command<'a>, AllocError> {
     let language = option(alloc, "lang", "The language")
         .value_parser(LANGUAGES.as_slice())
         .required(true);
-    reader(
-        alloc,
-        "code",
-        "Prints the bytes as a constant of a program, with the call that reads it",
-    )?
-    .arg(language)
+    let about = "Prints the bytes as a constant of a program, with the call that reads it";
+    let command = reader(alloc, "code", about)?.arg(language)?;
+    Ok(command.after_help(CODE_HELP))
 }
 
 /// The language that is named.
