@@ -5,7 +5,7 @@ use counting::Counting;
 use linked_list_allocator::LocalHeap;
 use std::collections::VecDeque;
 use zerotrie_build::{
-    ByteSliceWithIndices, TrieBuilderStore, ZeroTrieBuilder, encoded_len, build_slice,
+    ByteSliceWithIndices, TrieBuilderStore, ZeroTrieBuilder, build_slice, encoded_len,
 };
 use zerotrie_core::{
     Ext, Hash, Ignore, Simple, ZeroTrieBuildError, ZeroTrieBuilderOptions, ZeroTrieWithOptions,

@@ -1,0 +1,4 @@
+pub mod Meanings
+pub mod Dumps
+pub mod Dots
+pub mod Views
