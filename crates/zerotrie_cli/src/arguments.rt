@@ -2,6 +2,7 @@
 
 use crate::build::build_command;
 use crate::code::code_command;
+use crate::views::{dot_command, dump_command};
 use clap::{Arg, ArgAction, ArgMatches, Command};
 use std::alloc::{AllocError, Global};
 use zerotrie_commands::Style;
@@ -96,6 +97,8 @@ pub fn command<'a>(alloc: Global) -> Result<Command<'a>, AllocError> {
         .subcommand(get_command(alloc)?)?
         .subcommand(longest_command(alloc)?)?
         .subcommand(list_command(alloc)?)?
+        .subcommand(dump_command(alloc)?)?
+        .subcommand(dot_command(alloc)?)?
         .subcommand(code_command(alloc)?)
 }
 

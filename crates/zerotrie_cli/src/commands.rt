@@ -4,6 +4,7 @@ use crate::arguments::{command, kind_in, style_in};
 use crate::build::build;
 use crate::code::print_code;
 use crate::files::read_file;
+use crate::views::print_view;
 use clap::ArgMatches;
 use std::io::{BufWriter, ErrorKind, Write};
 use std::{env, io};
@@ -13,7 +14,7 @@ use zerotrie_lines::read_lines;
 use zerotrie_queries::OpenError;
 
 /// The command line is not one.
-const BAD_USAGE: u8 = 2;
+pub const BAD_USAGE: u8 = 2;
 
 /// A file is not what it should be.
 pub const BAD_FILE: u8 = 2;
@@ -163,6 +164,7 @@ fn obey(rt: &HostRuntime, words: &[String]) -> u8 {
         Ok(matches) => match matches.subcommand() {
             Some(("build", matches)) => build(rt, matches),
             Some(("code", matches)) => print_code(rt, matches),
+            Some((name @ ("dump" | "dot"), matches)) => print_view(rt, matches, name),
             Some((name, matches)) => read_command(rt, matches, name),
             None => BAD_USAGE,
         },

@@ -6,6 +6,7 @@ mod build;
 mod code;
 mod commands;
 mod files;
+mod views;
 
 use std::process::ExitCode;
 
