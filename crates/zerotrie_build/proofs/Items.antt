@@ -1,4 +1,4 @@
-use Rattle.std.proofs.Common.{◌≡◌, ℕ, zero, suc, ◌+◌, ◌^◌, ◌<◌, ◌≤◌, ◌⊎◌, List, [], ◌∷◌, ◌++◌, length, get_or, take, arith, refl, ap, ◌∙◌, sym, Some, slice_get, All, Bool, true, false, IsTrue, ◌↔◌, Fits, w8, subst, inl, inr}
+use Rattle.std.proofs.Common.{◌≡◌, ℕ, zero, suc, ◌+◌, ◌^◌, ◌<◌, ◌≤◌, ◌⊎◌, List, [], ◌∷◌, ◌++◌, length, get_or, take, arith, refl, ap, ◌∙◌, sym, Some, slice_get, All, Bool, true, false, IsTrue, ◌↔◌, Fits, w8, subst, inl, inr, Option, None}
 use Rattle.std.proofs.lemmas.Option.{slice_get-map, slice_get-get_or, slice_get_within, get_or_from_slice_get}
 use Rattle.std.proofs.lemmas.Grind.{common_steps}
 use Rattle.std.specs.Borrow.{Bor}
@@ -7,7 +7,7 @@ use Rattle.std.specs.Str.{IsAscii, IsNotAscii}
 use Rattle.std.specs.Bool.{MatchBool}
 use Rattle.std.specs.Cmp.Lexicographic.{slice_cmp}
 use Rattle.std.specs.Ordering.{nat_cmp}
-use Rattle.std.specs.Prelude.{option_map}
+use Rattle.std.specs.Prelude.{option_map, is_some, not, IfSome, IfNone}
 use Rattle.std.specs.declared.cmp.Ordering.TheVariants.{Less}
 use Rattle.zerotrie_core.specs.Kind.{Kind, simple_ascii, ignore_case, perfect_hash, extended_capacity, flags, edge_limit}
 use Rattle.zerotrie_core.specs.Maps.{Pairs, Ascends}
@@ -178,3 +178,15 @@ values_on pairs i a p before here k d below =
       | inl same ↦ subst (λ x. (get_or pairs x d).1 < 2 ^ 64) (sym same) (subst (λ x. x.1 < 2 ^ 64) (sym (got pairs i d a p)) here)
       | inr less ↦ before k d less
     ]
+
+-- a search found nothing, and then this holds
+pub none_holds : {X P : Type 0} (found : Option X) (none : Bool) → is_some found ≡ not none → IfNone found P → IsTrue none → P
+none_holds None none e p t = p
+none_holds (Some x) true e p t = let f : true ≡ false = e in absurd (cc)
+none_holds (Some x) false e p t = let f : false ≡ true = t in absurd (cc)
+
+-- and it does not if something was found
+pub none_found : {X P : Type 0} (found : Option X) (none : Bool) → is_some found ≡ not none → IfSome found (λ x. P → ⊥) → IfNone found P → IsTrue none ↔ P
+none_found None true e some p = (λ t. p, λ q. refl)
+none_found None false e some p = let f : false ≡ true = e in absurd (cc)
+none_found (Some x) none e some p = (none_holds (Some x) none e p, λ q. absurd (some q))

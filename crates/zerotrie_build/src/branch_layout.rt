@@ -116,16 +116,13 @@ impl<A: Allocator + Copy> Layout<A> {
         self.clear();
         let mut rest = window;
         while rest.from < rest.to {
-            let target = Window {
-                from: rest.from,
-                to: target_end::<K, I>(items, rest, counts, self.windows.len()),
-                depth: rest.depth + 1,
-            };
+            let to = target_end::<K, I>(items, rest, counts, self.windows.len());
+            let target = Window::new(rest.from, to, rest.depth + 1);
             let edge = edge_at(items, target);
             self.table.push(edge)?;
             self.numbers.push(self.windows.len())?;
             self.windows.push(target)?;
-            rest.from = target.to;
+            rest.from = to;
         }
         Ok(())
     }
@@ -144,6 +141,75 @@ impl<A: Allocator + Copy> Layout<A> {
         set_places(&mut self.numbers, self.table.as_slice(), table.keys())?;
         self.table.clear();
         self.table.extend_from_slice(table.as_bytes())?;
+        Ok(())
+    }
+
+    /// Puts the windows on the list of what is to be written, the first on top, where its slots begin at `slot`.
+    fn push_sorted(&mut self, slot: usize) -> Result<(), AllocError>
+        requires { 0 < length self.old.windows.items }
+        ensures pushed { OnOk result (reverse self.new.pending.items
+            ≡ (Next.Go (position_at (window_at self.old.windows.items 0).from slot)
+            ∷ map text_of self.old.windows.items)
+            ++ reverse self.old.pending.items) }
+        ensures windows { self.new.windows.items ≡ self.old.windows.items }
+        ensures table { self.new.table.items ≡ self.old.table.items }
+        ensures numbers { self.new.numbers.items ≡ self.old.numbers.items }
+    {
+        for index in (0..self.windows.len()).rev() {
+            self.pending.push(text_of(self.windows[index]))?;
+        }
+        self.pending.push(go(self.windows[0].from, slot))?;
+        Ok(())
+    }
+
+    /// Puts the window of this number on the list of what is to be written, with its place. The slots of the first window
+    /// begin at `slot`, and `ends` tells how many slots there are up to each.
+    fn push_placed(&mut self, number: usize, ends: &[usize], slot: usize) -> Result<(), AllocError>
+        requires window { number < length self.old.windows.items }
+        requires each { length ends.now ≡ length self.old.windows.items }
+        requires room { All (λ e. slot + e < 2 ^ 64) ends.now }
+        ensures pushed { OnOk result (reverse self.new.pending.items
+            ≡ placed_next ends.now slot self.old.windows.items (number ∷ [])
+            ++ reverse self.old.pending.items) }
+        ensures windows { self.new.windows.items ≡ self.old.windows.items }
+        ensures table { self.new.table.items ≡ self.old.table.items }
+        ensures numbers { self.new.numbers.items ≡ self.old.numbers.items }
+    {
+        let before = if number == 0 { 0 } else { ends[number - 1] };
+        let window = self.windows[number];
+        self.pending.push(text_of(window))?;
+        self.pending.push(go(window.from, slot + before))?;
+        Ok(())
+    }
+
+    /// Puts the windows on the list of what is to be written, in the order of the table, the first on top, each with its
+    /// place, where the slots of the first window begin at `slot`, and beneath them the place after all. `ends` tells
+    /// how many slots there are up to each window.
+    fn push_hashed(&mut self, ends: &[usize], slot: usize) -> Result<(), AllocError>
+        requires some { 0 < length ends.now }
+        requires each { length ends.now ≡ length self.old.windows.items }
+        requires room { All (λ e. slot + e < 2 ^ 64) ends.now }
+        requires within { All (λ i. i < length self.old.windows.items) self.old.numbers.items }
+        ensures pushed { OnOk result (reverse self.new.pending.items
+            ≡ (placed_next ends.now slot self.old.windows.items self.old.numbers.items
+            ++ Next.Go (position_at
+            (window_at self.old.windows.items (length self.old.windows.items - 1)).to
+            (slot + slice_index_or ends.now (length ends.now - 1) 0)) ∷ [])
+            ++ reverse self.old.pending.items) }
+        ensures windows { self.new.windows.items ≡ self.old.windows.items }
+        ensures table { self.new.table.items ≡ self.old.table.items }
+        ensures numbers { self.new.numbers.items ≡ self.old.numbers.items }
+    {
+        let count = self.numbers.len();
+        // So there is room too for the targets of a sorted table below the first of them.
+        self.pending
+            .reserve(count.saturating_mul(2).saturating_add(SORTED))?;
+        let last = self.windows[self.windows.len() - 1];
+        self.pending.push(go(last.to, slot + ends[ends.len() - 1]))?;
+        for index in (0..count).rev() {
+            let number = self.numbers[index];
+            self.push_placed(number, ends, slot)?;
+        }
         Ok(())
     }
 
@@ -180,15 +246,9 @@ impl<A: Allocator + Copy> Layout<A> {
         if is_hashed::<K>(edges) {
             self.set_hashed()?;
             let end = slot + 2 * edges;
-            push_hashed(
-                &mut self.pending,
-                self.windows.as_slice(),
-                self.numbers.as_slice(),
-                &slots[slot + edges..end],
-                end,
-            )?;
+            self.push_hashed(&slots[slot + edges..end], end)?;
         } else {
-            push_sorted(&mut self.pending, self.windows.as_slice(), slot + edges)?;
+            self.push_sorted(slot + edges)?;
         }
         Ok(())
     }
@@ -239,68 +299,13 @@ fn set_places<A: Allocator>(
 fn text_of(window: Window) -> Next
     ensures { result ≡ text_of window }
 {
-    Next::Text(PendingWindow {
-        to: window.to,
-        depth: window.depth,
-    })
+    let Window { to, depth, .. } = window;
+    Next::Text(PendingWindow { to, depth })
 }
 
-/// Puts the windows on the list of what is to be written, the first on top, where its slots begin at `slot`.
-fn push_sorted<A: Allocator>(
-    pending: &mut Vec<Next, A>,
-    windows: &[Window],
-    slot: usize,
-) -> Result<(), AllocError>
-    requires { 0 < length windows.now }
-    ensures { OnOk result (reverse pending.new.items
-        ≡ (Next.Go (position_at (window_at windows.now 0).from slot) ∷ map text_of windows.now)
-        ++ reverse pending.old.items) }
+/// That the next window begins with this item and this slot.
+fn go(from: usize, slot: usize) -> Next
+    ensures { result ≡ Next.Go (position_at from slot) }
 {
-    for index in (0..windows.len()).rev() {
-        pending.push(text_of(windows[index]))?;
-    }
-    pending.push(Next::Go(Position {
-        from: windows[0].from,
-        slot,
-    }))?;
-    Ok(())
-}
-
-/// Puts the windows of these numbers on the list of what is to be written, the first on top, each with its place,
-/// where the slots of the first window begin at `slot`, and beneath them the place behind all. `ends` tells how many
-/// slots there are up to each window.
-fn push_hashed<A: Allocator>(
-    pending: &mut Vec<Next, A>,
-    windows: &[Window],
-    numbers: &[usize],
-    ends: &[usize],
-    slot: usize,
-) -> Result<(), AllocError>
-    requires some { 0 < length ends.now }
-    requires each { length ends.now ≡ length windows.now }
-    requires room { All (λ e. slot + e < 2 ^ 64) ends.now }
-    requires within { All (λ i. i < length windows.now) numbers.now }
-    ensures { OnOk result (reverse pending.new.items
-        ≡ (placed_next ends.now slot windows.now numbers.now
-        ++ Next.Go (position_at (window_at windows.now (length windows.now - 1)).to
-        (slot + slice_index_or ends.now (length ends.now - 1) 0)) ∷ [])
-        ++ reverse pending.old.items) }
-{
-    // So there is room too for the targets of a sorted table below the first of them.
-    pending.reserve(numbers.len().saturating_mul(2).saturating_add(SORTED))?;
-    pending.push(Next::Go(Position {
-        from: windows[windows.len() - 1].to,
-        slot: slot + ends[ends.len() - 1],
-    }))?;
-    for index in (0..numbers.len()).rev() {
-        let number = numbers[index];
-        let before = if number == 0 { 0 } else { ends[number - 1] };
-        let window = windows[number];
-        pending.push(text_of(window))?;
-        pending.push(Next::Go(Position {
-            from: window.from,
-            slot: slot + before,
-        }))?;
-    }
-    Ok(())
+    Next::Go(Position { from, slot })
 }

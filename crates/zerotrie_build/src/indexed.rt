@@ -4,7 +4,7 @@ ghost use Rattle.std.specs.Prelude.{◌≡◌, ◌<◌, Some, length, slice_get}
 ghost use Rattle.zerotrie_core.specs.Items.{keyed};
 ghost use Rattle.zerotrie_core.specs.Maps.{Pairs};
 ghost use Rattle.zerotrie_build.specs.Items.{pairs};
-ghost use Rattle.zerotrie_build.specs.passes.Windows.{item_of};
+ghost use Rattle.zerotrie_build.specs.passes.Windows.{item_no};
 
 use crate::slice_indices::ByteSliceWithIndices;
 use zerotrie_core::TrieKey;
@@ -50,7 +50,7 @@ impl<'a, Key: TrieKey> IndexedItems<'a> for &'a [(Key, usize)] {
 
 /// The item of the number, its key by its bytes. Behind the last are an empty key and zero.
 pub(crate) fn item_at<Key: TrieKey>(given: &[(Key, usize)], index: usize) -> (&[u8], usize)
-    ensures { (result.0.now, result.1) ≡ item_of (keyed Key.key given.now) index }
+    ensures { (result.0.now, result.1) ≡ item_no (keyed Key.key given.now) index }
 {
     match given.get(index) {
         Some((key, value)) => (key.key_bytes(), *value),

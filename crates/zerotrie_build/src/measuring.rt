@@ -10,7 +10,7 @@ ghost use Rattle.zerotrie_core.specs.Fits.{ExceedsCapacity};
 ghost use Rattle.zerotrie_build.specs.Order.{Ordered, AreKeys, AreLow};
 ghost use Rattle.zerotrie_build.specs.passes.Windows.{window as window_of, step_of};
 ghost use Rattle.zerotrie_build.specs.passes.Measured.{Passes, NoneFirst, TargetWindows, IsMeasured};
-ghost use Rattle.zerotrie_build.specs.passes.Walking.{item_ends, spare_len, with_len, left_open, IsOpened, Closing, IsTurn, IsNext};
+ghost use Rattle.zerotrie_build.specs.passes.Walking.{item_ends, spare_len, with_len, left_open, IsOpened, Closing, IsTurn, IsNextWindow};
 
 use crate::indexed::IndexedItems;
 use crate::leaf::{rest_len, single_item};
@@ -45,6 +45,40 @@ struct OpenBranch {
     first: usize,
     next: usize,
     end: usize,
+}
+
+impl OpenBranch {
+    /// The branch that stands first in the window, after `len` bytes, whose slots are those from `first` to below `end`.
+    #[inline(always)]
+    fn new(window: Window, len: usize, first: usize, end: usize) -> Self
+        ensures { result ≡ record {
+          from = window.from;
+          depth = window.depth;
+          len = len;
+          first = first;
+          next = first;
+          end = end;
+        } }
+    {
+        OpenBranch {
+            from: window.from,
+            depth: window.depth,
+            len,
+            first,
+            next: first,
+            end,
+        }
+    }
+
+    /// The branch with its next target, whose items begin at `from`.
+    #[inline(always)]
+    fn after_target(self, from: usize) -> Self
+        requires { self.next + 1 < 2 ^ 64 }
+        ensures { result ≡ record self { from = from; next = self.next + 1 } }
+    {
+        let next = self.next + 1;
+        OpenBranch { from, next, ..self }
+    }
 }
 
 /// What follows on a window that was measured.
@@ -122,11 +156,7 @@ fn behind_leaf<'a, K: ZeroTrieWithOptions, I: IndexedItems<'a>>(
     let Some(len) = rest_len::<K>(rest, ascii) else {
         return Ok(None);
     };
-    let end = Window {
-        from: start.to,
-        to: start.to,
-        depth: start.depth + rest.len(),
-    };
+    let end = Window::new(start.to, start.to, start.depth + rest.len());
     Ok(Some((end, checked_sum(len, value_len(value))?)))
 }
 
@@ -316,11 +346,7 @@ impl<'a, I: IndexedItems<'a>, A: Allocator + Copy> FirstPass<I, A> {
           depth = branch.depth + 1;
         } }
     {
-        Window {
-            from: branch.from,
-            to: self.slots[branch.next],
-            depth: branch.depth + 1,
-        }
+        Window::new(branch.from, self.slots[branch.next], branch.depth + 1)
     }
 
     /// Opens the branch that stands first in the window, after `len` bytes. Returns the window of its first target.
@@ -346,14 +372,7 @@ impl<'a, I: IndexedItems<'a>, A: Allocator + Copy> FirstPass<I, A> {
         if is_hashed::<K>(end - first) {
             self.slots.resize(end + (end - first), 0)?;
         }
-        let branch = OpenBranch {
-            from: window.from,
-            depth: window.depth,
-            len,
-            first,
-            next: first,
-            end,
-        };
+        let branch = OpenBranch::new(window, len, first, end);
         self.branches.push(branch)?;
         Ok(self.target_of(branch))
     }
@@ -380,13 +399,8 @@ impl<'a, I: IndexedItems<'a>, A: Allocator + Copy> FirstPass<I, A> {
         ensures slots { result.slots.items ≡ self.slots.items }
         ensures len { result.len ≡ len }
     {
-        let FirstPass {
-            items: _,
-            mut slots,
-            mut counts,
-            branches,
-        } = self;
-        drop(branches);
+        drop(self.branches);
+        let (mut slots, mut counts) = (self.slots, self.counts);
         slots.shrink_to_fit();
         counts.shrink_to_fit();
         Measured { slots, counts, len }
@@ -400,7 +414,7 @@ impl<'a, I: IndexedItems<'a>, A: Allocator + Copy> FirstPass<I, A> {
             self.old.slots.items measured }
         ensures turn { IfOk result (λ t. IsTurn K.kind (I.pairs self.old.items) t
             (reverse self.new.branches.items) self.new.slots.items) }
-        ensures less { IfOk result (λ t. IsNext t → left_open (reverse self.new.branches.items)
+        ensures less { IfOk result (λ t. IsNextWindow t → left_open (reverse self.new.branches.items)
             < left_open (reverse self.old.branches.items)) }
         ensures same { length self.new.slots.items ≡ length self.old.slots.items }
         ensures items { self.new.items ≡ self.old.items }
@@ -413,11 +427,7 @@ impl<'a, I: IndexedItems<'a>, A: Allocator + Copy> FirstPass<I, A> {
             let from = self.slots[branch.next];
             self.keep::<K>(branch, len);
             if branch.next + 1 < branch.end {
-                let branch = OpenBranch {
-                    from,
-                    next: branch.next + 1,
-                    ..branch
-                };
+                let branch = branch.after_target(from);
                 self.branches.push(branch)?;
                 return Ok(Turn::Window(self.target_of(branch)));
             }
@@ -442,11 +452,7 @@ pub(crate) fn measure_all<'a, K: ZeroTrieWithOptions, I: IndexedItems<'a>, A: Al
         × ExceedsCapacity K.kind (map_of (I.pairs items))) }
 {
     let mut pass = FirstPass::new::<K>(alloc, items)?;
-    let mut window = Window {
-        from: 0,
-        to: items.len(),
-        depth: 0,
-    };
+    let mut window = Window::new(0, items.len(), 0);
     loop {
         let (rest, len) = behind_nodes::<K, I>(items, window, ascii)?;
         if rest.from < rest.to {

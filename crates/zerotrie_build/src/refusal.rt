@@ -3,17 +3,20 @@
 ghost use Rattle.std.specs.Ordering.{nat_cmp, is_lt};
 ghost use Rattle.std.specs.Cmp.Lexicographic.{slice_cmp};
 ghost use Rattle.std.specs.Prelude.{◌≡◌, ◌↔◌, ◌+◌, ◌<◌, ◌++◌, [], ◌∷◌, length, min, max, IsTrue, IfOk, IfSome, IfNone};
+ghost use Rattle.std.specs.List.{range_with_len};
+ghost use Rattle.std.specs.List.Sorted.{IsPermutation};
 ghost use Rattle.zerotrie_core.specs.Items.{keyed, pairs_of};
 ghost use Rattle.zerotrie_core.specs.Maps.{Ascends, IsCaseConsistent};
 ghost use Rattle.zerotrie_core.specs.Kind.{simple_ascii};
 ghost use Rattle.zerotrie_core.specs.Routes.{ascending, any_order};
-ghost use Rattle.zerotrie_build.specs.Order.{Before, AreKeys, Ordered, RepeatsNext};
-ghost use Rattle.zerotrie_build.specs.passes.Turns.{Begins, NoneBegins, NoneTurns};
+ghost use Rattle.zerotrie_build.specs.Order.{AreKeys, RepeatsNext};
+ghost use Rattle.zerotrie_build.specs.passes.Sorts.{AreSortedItems, items_by_number, numbers_of};
+ghost use Rattle.zerotrie_build.specs.passes.Turns.{BeginsThen, NoneBeginsThen, NoneTurns};
 ghost use Rattle.zerotrie_build.specs.Refused.{key_at, DifferInCase, AreShown, IsWhyRefused};
 
 use crate::indexed::item_at;
-use crate::order::{common_front_len, folded, is_key, precedes};
-use crate::sort::{items_at, sorted_prefixes};
+use crate::order::{common_front_len, first_foreign, first_unordered, folded};
+use crate::sort::{KeyPrefix, items_at, sorted_prefixes};
 use std::alloc::{AllocError, Global};
 use std::fmt;
 use zerotrie_core::{Simple, TrieKey, ZeroTrieBuildError, ZeroTrieWithOptions};
@@ -55,33 +58,32 @@ impl Refusal {
     {
         Refusal::new(error, one.min(other), one.max(other))
     }
+
+    /// What to do about it.
+    fn advice(&self) -> &'static str {
+        match &self.error {
+            ZeroTrieBuildError::Unsorted => "sort the keys by their bytes, each once",
+            ZeroTrieBuildError::DuplicateKey => "give each key once",
+            ZeroTrieBuildError::NonAsciiError => "take a kind of trie for keys of any bytes",
+            _ => "lower-case the keys first",
+        }
+    }
 }
+
+/// What two keys do that the kind without case refuses together.
+const ALIKE: &str = "begin alike but for the case of a letter";
 
 impl fmt::Display for Refusal {
     fn fmt<W: fmt::Write>(&self, f: &mut fmt::Formatter<W>) -> fmt::Result {
-        let first = self.first;
-        let second = self.second;
+        let (a, b) = (self.first, self.second);
         match &self.error {
-            ZeroTrieBuildError::Unsorted => write!(
-                f,
-                "key {second} is not above key {first}: sort the keys by their bytes, each once"
-            ),
-            ZeroTrieBuildError::DuplicateKey => {
-                write!(
-                    f,
-                    "keys {first} and {second} are the same: give each key once"
-                )
-            }
-            ZeroTrieBuildError::NonAsciiError => write!(
-                f,
-                "key {first} is not ASCII: take a kind of trie for keys of any bytes"
-            ),
-            ZeroTrieBuildError::MixedCase => write!(
-                f,
-                "keys {first} and {second} begin alike but for the case of a letter: lower-case the keys first"
-            ),
-            other => write!(f, "{other}"),
+            ZeroTrieBuildError::Unsorted => write!(f, "key {b} is not above key {a}")?,
+            ZeroTrieBuildError::DuplicateKey => write!(f, "keys {a} and {b} are the same")?,
+            ZeroTrieBuildError::NonAsciiError => write!(f, "key {a} is not ASCII")?,
+            ZeroTrieBuildError::MixedCase => write!(f, "keys {a} and {b} {ALIKE}")?,
+            other => return write!(f, "{other}"),
         }
+        write!(f, ": {}", self.advice())
     }
 }
 
@@ -91,14 +93,8 @@ fn unsorted<Key: TrieKey>(items: &[(Key, usize)]) -> Option<Refusal>
         × AreShown simple_ascii (keyed Key.key items.now) r.error r.first r.second) }
     ensures none { IfNone result (Ascends (keyed Key.key items.now)) }
 {
-    for second in 1..items.len() {
-        let (key, _) = item_at(items, second - 1);
-        let (next, _) = item_at(items, second);
-        if !precedes::<Simple>(key, next) {
-            return Some(Refusal::new(ZeroTrieBuildError::Unsorted, second - 1, second));
-        }
-    }
-    None
+    let first = first_unordered::<Simple, _>(items)?;
+    Some(Refusal::new(ZeroTrieBuildError::Unsorted, first, first + 1))
 }
 
 /// The first key with a byte that is none of the kind's.
@@ -107,13 +103,8 @@ fn foreign<K: ZeroTrieWithOptions, Key: TrieKey>(items: &[(Key, usize)]) -> Opti
         × AreShown K.kind (keyed Key.key items.now) r.error r.first r.second) }
     ensures none { IfNone result (AreKeys K.kind (keyed Key.key items.now)) }
 {
-    for first in 0..items.len() {
-        let (key, _) = item_at(items, first);
-        if !is_key::<K>(key) {
-            return Some(Refusal::new(ZeroTrieBuildError::NonAsciiError, first, first));
-        }
-    }
-    None
+    let first = first_foreign::<K, _>(items)?;
+    Some(Refusal::new(ZeroTrieBuildError::NonAsciiError, first, first))
 }
 
 /// Whether the key is below all that begin with the front and then the byte.
@@ -133,23 +124,20 @@ fn is_below(key: &[u8], front: &[u8], byte: u8) -> bool
 
 /// Whether the key begins with the front and then the byte.
 fn begins(key: &[u8], front: &[u8], byte: u8) -> bool
-    ensures { IsTrue result ↔ Begins front.now byte key.now }
+    ensures { IsTrue result ↔ BeginsThen front.now byte key.now }
 {
     let common = common_front_len(key, front);
-    if common < front.len() {
-        return false;
-    }
     if common == key.len() {
         return false;
     }
-    key[common] == byte
+    common == front.len() && key[common] == byte
 }
 
 /// The number of a key that begins with the front and then the byte, of keys that ascend.
 fn key_after<Key: TrieKey>(items: &[(Key, usize)], front: &[u8], byte: u8) -> Option<usize>
     requires { Ascends (keyed Key.key items.now) }
-    ensures some { IfSome result (λ i. Begins front.now byte (key_at (keyed Key.key items.now) i)) }
-    ensures none { IfNone result (NoneBegins front.now byte (keyed Key.key items.now)) }
+    ensures some { IfSome result (λ i. BeginsThen front.now byte (key_at (keyed Key.key items.now) i)) }
+    ensures none { IfNone result (NoneBeginsThen front.now byte (keyed Key.key items.now)) }
 {
     let place = items.partition_point(|item| is_below(item.0.key_bytes(), front, byte));
     let (key, _) = item_at(items, place);
@@ -248,21 +236,30 @@ fn first_repeated(items: &[(&[u8], usize)]) -> Option<usize>
     None
 }
 
-/// The place of the first of the items whose key does not come before the next in the kind.
-fn first_mixed<K: ZeroTrieWithOptions>(items: &[(&[u8], usize)]) -> Option<usize>
-    ensures some { IfSome result (λ i. (i + 1 < length items.now)
-        × (Before K.kind (key_at (pairs_of items.now) i) (key_at (pairs_of items.now) (i + 1))
-        → ⊥)) }
-    ensures none { IfNone result (Ordered K.kind (pairs_of items.now)) }
+/// Which keys show why a build of items in any order is refused, by the items in the order of these prefixes, which is that
+/// of the folds of their keys.
+fn why_sorted_refused<K: ZeroTrieWithOptions, Key: TrieKey>(
+    items: &[(Key, usize)],
+    prefixes: &[KeyPrefix],
+    sorted: &[(&[u8], usize)],
+) -> Option<Refusal>
+    requires is { pairs_of sorted.now ≡ items_by_number (keyed Key.key items.now) prefixes.now }
+    requires same { IsPermutation (keyed Key.key items.now) (pairs_of sorted.now) }
+    requires sorted { AreSortedItems K.kind (keyed Key.key items.now) prefixes.now }
+    requires numbers { IsPermutation (range_with_len 0 (length items.now))
+        (numbers_of prefixes.now) }
+    ensures { IsWhyRefused any_order K.kind (keyed Key.key items.now) result }
 {
-    for place in 1..items.len() {
-        let (key, _) = item_at(items, place - 1);
-        let (next, _) = item_at(items, place);
-        if !precedes::<K>(key, next) {
-            return Some(place - 1);
-        }
+    if let Some(place) = first_repeated(sorted) {
+        let error = ZeroTrieBuildError::DuplicateKey;
+        return Some(Refusal::between(error, prefixes[place].index, prefixes[place + 1].index));
     }
-    None
+    if let Some(refusal) = foreign::<K, Key>(items) {
+        return Some(refusal);
+    }
+    let place = first_unordered::<K, _>(sorted)?;
+    let error = ZeroTrieBuildError::MixedCase;
+    Some(Refusal::between(error, prefixes[place].index, prefixes[place + 1].index))
 }
 
 /// Which keys show why a build of the pairs that an iterator gives is refused, as `try_from_iter` of the kind's tries,
@@ -288,18 +285,5 @@ pub fn why_iter_refused<K: ZeroTrieWithOptions, Key: TrieKey>(
 {
     let prefixes = sorted_prefixes::<K, Key, Global>(alloc, items)?;
     let sorted = items_at(alloc, items, prefixes.as_slice())?;
-    if let Some(place) = first_repeated(sorted.as_slice()) {
-        let error = ZeroTrieBuildError::DuplicateKey;
-        return Ok(Some(Refusal::between(error, prefixes[place].index, prefixes[place + 1].index)));
-    }
-    if let Some(refusal) = foreign::<K, Key>(items) {
-        return Ok(Some(refusal));
-    }
-    match first_mixed::<K>(sorted.as_slice()) {
-        Some(place) => {
-            let error = ZeroTrieBuildError::MixedCase;
-            Ok(Some(Refusal::between(error, prefixes[place].index, prefixes[place + 1].index)))
-        }
-        None => Ok(None),
-    }
+    Ok(why_sorted_refused::<K, Key>(items, prefixes.as_slice(), sorted.as_slice()))
 }

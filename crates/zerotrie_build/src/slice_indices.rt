@@ -5,7 +5,7 @@ ghost use Rattle.zerotrie_core.specs.Maps.{Ascends};
 ghost use Rattle.zerotrie_core.specs.Items.{pairs_of};
 ghost use Rattle.zerotrie_build.specs.Items.{pairs};
 
-use crate::order::{is_all_ascii, precedes};
+use crate::order::{is_all_ascii, is_ordered};
 use std::alloc::{AllocError, Global};
 use zerotrie_core::Simple;
 
@@ -92,14 +92,7 @@ impl<'a> ByteSliceWithIndices<'a> {
     pub fn is_sorted(self) -> bool
         ensures { IsTrue result ↔ Ascends (pairs self.entry) }
     {
-        for index in 1..self.len() {
-            let (before, _) = self.get(index - 1);
-            let (key, _) = self.get(index);
-            if !precedes::<Simple>(before, key) {
-                return false;
-            }
-        }
-        true
+        is_ordered::<Simple, Self>(self)
     }
 
     /// Whether every byte of every key is below 128.

@@ -147,10 +147,8 @@ impl TrieBuilderStore for VecDeque<u8> {
 
     fn atbs_extend_front(&mut self, bytes: &[u8]) -> Result<(), AllocError> {
         self.reserve(bytes.len())?;
-        let mut left = bytes.len();
-        while left > 0 {
-            left -= 1;
-            self.push_front_reserved(bytes[left]);
+        for index in (0..bytes.len()).rev() {
+            self.push_front_reserved(bytes[index]);
         }
         Ok(())
     }

@@ -1,8 +1,8 @@
 //! What stands first in the text of a window of the items.
 
-ghost use Rattle.std.specs.Prelude.{◌≡◌, ℕ, ◌+◌, ◌-◌, ◌^◌, ◌<◌, ◌≤◌, IfSome, Some, drop, slice_get, slice_index, length};
+ghost use Rattle.std.specs.Prelude.{◌≡◌, ℕ, ◌+◌, ◌-◌, ◌^◌, ◌<◌, ◌≤◌, IfSome, Some, drop, slice_index, length};
 ghost use Rattle.zerotrie_build.specs.Order.{Ordered};
-ghost use Rattle.zerotrie_build.specs.passes.Windows.{window as window_of, step_of, item_of, byte_of, edge_of, high_front, IsLow, IsGroup};
+ghost use Rattle.zerotrie_build.specs.passes.Windows.{window as window_of, step_of, item_no, byte_of, edge_of, high_front, IsLow, IsGroup};
 
 use crate::indexed::IndexedItems;
 use zerotrie_core::ZeroTrieWithOptions;
@@ -13,6 +13,16 @@ pub(crate) struct Window {
     pub(crate) from: usize,
     pub(crate) to: usize,
     pub(crate) depth: usize,
+}
+
+impl Window {
+    /// The window from an item to below another, at a depth.
+    #[inline(always)]
+    pub(crate) fn new(from: usize, to: usize, depth: usize) -> Self
+        ensures { result ≡ record { from = from; to = to; depth = depth } }
+    {
+        Window { from, to, depth }
+    }
 }
 
 /// What stands first in the text of a window.
@@ -47,12 +57,9 @@ pub(crate) fn byte_at<'a, I: IndexedItems<'a>>(items: I, index: usize, depth: us
 fn high_front_len(key: &[u8], other: &[u8]) -> usize
     ensures { result ≡ high_front key.now other.now }
 {
+    let most = key.len().min(other.len());
     let mut count = 0;
-    while count < key.len()
-        && count < other.len()
-        && key[count] == other[count]
-        && key[count] >= 128
-    {
+    while count < most && key[count] == other[count] && key[count] >= 128 {
         count += 1;
     }
     count
@@ -72,30 +79,12 @@ fn low_end(key: &[u8], other: &[u8], from: usize) -> usize
         → slice_index key.now result ≡ slice_index other.now result
         → 128 ≤ slice_index key.now result }
 {
+    let most = key.len().min(other.len());
     let mut end = from;
-    while end < key.len() && end < other.len() && key[end] == other[end] && key[end] < 128 {
+    while end < most && key[end] == other[end] && key[end] < 128 {
         end += 1;
     }
     end
-}
-
-/// The last item of the window. If there is but one, it is `first`, and not asked for again.
-#[inline(always)]
-fn last_item<'a, I: IndexedItems<'a>>(
-    items: I,
-    window: Window,
-    first: (&'a [u8], usize),
-) -> (&'a [u8], usize)
-    requires some { window.from < window.to }
-    requires items { window.to ≤ length (I.pairs items) }
-    requires first { slice_get (I.pairs items) window.from ≡ Some (first.0.now, first.1) }
-    ensures { slice_get (I.pairs items) (window.to - 1) ≡ Some (result.0.now, result.1) }
-{
-    if window.to - window.from == 1 {
-        first
-    } else {
-        items.get(window.to - 1)
-    }
 }
 
 /// The depth at which the literals end with which the text of the window begins. There is one at least.
@@ -104,13 +93,16 @@ pub(crate) fn literals_end<'a, I: IndexedItems<'a>>(items: I, window: Window) ->
     requires items { window.to ≤ length (I.pairs items) }
     requires literal { IsLow (I.pairs items) window window.depth }
     ensures past { window.depth < result }
-    ensures within { result ≤ length (item_of (I.pairs items) window.from).0 }
+    ensures within { result ≤ length (item_no (I.pairs items) window.from).0 }
     ensures low { (i : ℕ) → window.depth ≤ i → i < result → IsLow (I.pairs items) window i }
     ensures room { result < 2 ^ 64 }
 {
-    let first = items.get(window.from);
-    let (last, _) = last_item(items, window, first);
-    low_end(first.0, last, window.depth)
+    let (first, _) = items.get(window.from);
+    if window.to - window.from == 1 {
+        return low_end(first, first, window.depth);
+    }
+    let (last, _) = items.get(window.to - 1);
+    low_end(first, last, window.depth)
 }
 
 /// How many bytes from 128 on all keys of the window have in common in front, if they go on with this byte.
@@ -119,14 +111,18 @@ fn span_len<'a, I: IndexedItems<'a>>(items: I, window: Window, byte: u8) -> usiz
     requires items { window.to ≤ length (I.pairs items) }
     requires first { byte_of (I.pairs items) window.from window.depth ≡ Some byte }
     requires last { byte_of (I.pairs items) (window.to - 1) window.depth ≡ Some byte }
-    ensures is { result ≡ high_front (drop window.depth (item_of (I.pairs items) window.from).0)
-        (drop window.depth (item_of (I.pairs items) (window.to - 1)).0) }
+    ensures is { result ≡ high_front (drop window.depth (item_no (I.pairs items) window.from).0)
+        (drop window.depth (item_no (I.pairs items) (window.to - 1)).0) }
     ensures room { window.depth + result < 2 ^ 64 }
 {
-    let first = items.get(window.from);
-    let (last, _) = last_item(items, window, first);
-    let _len = first.0.len();
-    high_front_len(&first.0[window.depth..], &last[window.depth..])
+    let (first, _) = items.get(window.from);
+    let _len = first.len();
+    let rest = &first[window.depth..];
+    if window.to - window.from == 1 {
+        return high_front_len(rest, rest);
+    }
+    let (last, _) = items.get(window.to - 1);
+    high_front_len(rest, &last[window.depth..])
 }
 
 /// What stands first in the text of the window, if its first and its last key both go on with this byte.
@@ -162,16 +158,13 @@ pub(crate) fn first_step<'a, K: ZeroTrieWithOptions, I: IndexedItems<'a>>(
     if window.from >= window.to {
         return Step::End;
     }
-    match byte_at(items, window.from, window.depth) {
-        None => Step::Value(items.get(window.from).1),
-        Some(byte) => {
-            if byte_at(items, window.to - 1, window.depth) == Some(byte) {
-                common_step::<K, I>(items, window, byte)
-            } else {
-                Step::Branch
-            }
-        }
+    let Some(byte) = byte_at(items, window.from, window.depth) else {
+        return Step::Value(items.get(window.from).1);
+    };
+    if byte_at(items, window.to - 1, window.depth) != Some(byte) {
+        return Step::Branch;
     }
+    common_step::<K, I>(items, window, byte)
 }
 
 /// Where the first items that have one byte at the depth end. It looks ever further ahead, and halves what is left

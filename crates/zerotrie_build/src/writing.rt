@@ -1,6 +1,6 @@
 //! The second pass: the bytes of the text, from the first to the last.
 
-ghost use Rattle.std.specs.Prelude.{◌≡◌, ◌≢◌, ℕ, List, [], ◌∷◌, ◌+◌, ◌-◌, ◌*◌, ◌/◌, ◌%◌, ◌^◌, ◌<◌, ◌≤◌, ◌++◌, length, map, slice_index, slice_index_or, take, drop, reverse, All, IfOk, OnOk, IfErr, IfSome, IfNone, IsTrue};
+ghost use Rattle.std.specs.Prelude.{◌≡◌, ◌≢◌, ℕ, List, [], ◌∷◌, ◌+◌, ◌-◌, ◌*◌, ◌/◌, ◌%◌, ◌^◌, ◌<◌, ◌≤◌, ◌++◌, length, map, replicate, slice_index, slice_index_or, take, drop, reverse, All, IfOk, OnOk, IfErr, IfSome, IfNone, IsTrue};
 ghost use Rattle.zerotrie_core.specs.Maps.{map_of};
 ghost use Rattle.zerotrie_core.specs.Numbers.{value_form, span_form, SpellsAs, spelled_as};
 ghost use Rattle.zerotrie_core.specs.Branches.{total as total_of, ends, blocks, branch_front};
@@ -8,10 +8,10 @@ ghost use Rattle.zerotrie_core.specs.Canonical.{size_of};
 ghost use Rattle.zerotrie_core.specs.Texts.{Means};
 ghost use Rattle.zerotrie_core.specs.Causes.{Cause};
 ghost use Rattle.zerotrie_build.specs.Order.{Ordered, AreKeys, AreLow};
-ghost use Rattle.zerotrie_build.specs.passes.Windows.{window as window_of, item_of};
+ghost use Rattle.zerotrie_build.specs.passes.Windows.{window as window_of, item_no};
 ghost use Rattle.zerotrie_build.specs.passes.Measured.{IsMeasured};
 ghost use Rattle.zerotrie_build.specs.passes.Puts.{Puts};
-ghost use Rattle.zerotrie_build.specs.passes.Writing.{with_bits, IsLead, spelled_behind, lens_of, HasSlotsTo, NodesWritten};
+ghost use Rattle.zerotrie_build.specs.passes.Writing.{with_bits, IsLead, spelled_behind, target_lens, HasSlotsTo, position_at, IsPending, NodesWritten, WrittenTo};
 
 use crate::branch_layout::{Layout, Next, PendingWindow, Position, WriteInput};
 use crate::indexed::IndexedItems;
@@ -41,6 +41,27 @@ pub(crate) struct Writing<S> {
 }
 
 impl<S: TrieBuilderStore + Drop> Writing<S> {
+    /// A store of so many zeros.
+    fn new(alloc: Global, len: usize) -> Result<Self, AllocError>
+        ensures zeros { IfOk result (λ w. S.list w.data ≡ replicate len 0) }
+        ensures at { IfOk result (λ w. w.at ≡ 0) }
+    {
+        let mut data = S::atbs_new_empty(alloc);
+        data.atbs_prepend_n_zeros(len)?;
+        Ok(Writing { data, at: 0 })
+    }
+
+    /// The store.
+    fn into_data(self) -> S
+        ensures is { S.list result ≡ S.list self.data }
+        ensures room { length (S.list result) < 2 ^ 64 }
+    {
+        let Writing { data, at: _ } = self;
+        // That a length is below 2^64 tells the proof that so is that of the text.
+        let _len = data.atbs_len();
+        data
+    }
+
     /// Writes a byte.
     #[inline(always)]
     fn put(&mut self, byte: u8)
@@ -94,8 +115,8 @@ impl<S: TrieBuilderStore + Drop> Writing<S> {
         }
     }
 
-    /// Writes a number in the form whose shortest number of two bytes is `latent`, after these bits. As a rule it
-    /// has no more than three bytes, and these are written as they are found.
+    /// Writes a number in the form whose shortest number of two bytes is `latent`, after these bits. Most have one byte or
+    /// two, which are written as they are found.
     #[inline(always)]
     fn put_number(&mut self, bits: u8, latent: u8, number: usize)
         requires form { IsLead bits latent }
@@ -115,6 +136,21 @@ impl<S: TrieBuilderStore + Drop> Writing<S> {
             self.put((low % 128) as u8);
             return;
         }
+        self.put_large(bits, latent, number);
+    }
+
+    /// Writes a number that has three bytes or more. As a rule it has three, and these are written as they are found.
+    #[inline(always)]
+    fn put_large(&mut self, bits: u8, latent: u8, number: usize)
+        requires form { IsLead bits latent }
+        requires large { latent + 128 * latent ≤ number }
+        requires room { self.old.at + length (spelled_behind bits latent number)
+            ≤ length (S.list self.old.data) }
+        ensures { Puts (S.list self.old.data) self.old.at (S.list self.new.data) self.new.at
+            (spelled_behind bits latent number) }
+    {
+        let least = latent as usize;
+        let low = number - least;
         let high = low / 128 - least;
         if high < 128 * least {
             self.put(bits + latent + (high / 128) as u8);
@@ -142,11 +178,11 @@ impl<S: TrieBuilderStore + Drop> Writing<S> {
     fn put_literals<'a, I: IndexedItems<'a>>(&mut self, items: I, window: Window, end: usize)
         requires item { window.from < length (I.pairs items) }
         requires order { window.depth ≤ end }
-        requires within { end ≤ length (item_of (I.pairs items) window.from).0 }
+        requires within { end ≤ length (item_no (I.pairs items) window.from).0 }
         requires room { self.old.at + (end - window.depth) ≤ length (S.list self.old.data) }
         ensures { Puts (S.list self.old.data) self.old.at (S.list self.new.data) self.new.at
             (take (end - window.depth)
-            (drop window.depth (item_of (I.pairs items) window.from).0)) }
+            (drop window.depth (item_no (I.pairs items) window.from).0)) }
     {
         let (key, _) = items.get(window.from);
         self.put_all(&key[window.depth..end]);
@@ -156,12 +192,12 @@ impl<S: TrieBuilderStore + Drop> Writing<S> {
     #[inline(always)]
     fn put_span<'a, I: IndexedItems<'a>>(&mut self, items: I, window: Window, run: usize)
         requires item { window.from < length (I.pairs items) }
-        requires run { window.depth + run ≤ length (item_of (I.pairs items) window.from).0 }
+        requires run { window.depth + run ≤ length (item_no (I.pairs items) window.from).0 }
         requires room { self.old.at + (length (spelled_as span_form run) + run)
             ≤ length (S.list self.old.data) }
         ensures puts { Puts (S.list self.old.data) self.old.at (S.list self.new.data) self.new.at
             (spelled_as span_form run ++ take run
-            (drop window.depth (item_of (I.pairs items) window.from).0)) }
+            (drop window.depth (item_no (I.pairs items) window.from).0)) }
         ensures spells { SpellsAs span_form run (spelled_as span_form run) }
     {
         let (key, _) = items.get(window.from);
@@ -174,10 +210,10 @@ impl<S: TrieBuilderStore + Drop> Writing<S> {
     fn put_block(&mut self, lens: &[usize], numbers: &[usize], place: usize)
         requires place { place < 8 }
         requires within { All (λ i. i < length lens.now) numbers.now }
-        requires small { total_of (lens_of lens.now numbers.now) < 2 ^ 64 }
+        requires small { total_of (target_lens lens.now numbers.now) < 2 ^ 64 }
         requires room { self.old.at + (length numbers.now - 1) ≤ length (S.list self.old.data) }
         ensures { Puts (S.list self.old.data) self.old.at (S.list self.new.data) self.new.at
-            (map (λ o. o / 256 ^ place % 256) (ends (lens_of lens.now numbers.now))) }
+            (map (λ o. o / 256 ^ place % 256) (ends (target_lens lens.now numbers.now))) }
     {
         let mut end = 0;
         for index in 1..numbers.len() {
@@ -192,11 +228,11 @@ impl<S: TrieBuilderStore + Drop> Writing<S> {
     fn put_offsets(&mut self, lens: &[usize], numbers: &[usize], bytes: usize)
         requires bytes { bytes ≤ 8 }
         requires within { All (λ i. i < length lens.now) numbers.now }
-        requires small { total_of (lens_of lens.now numbers.now) < 2 ^ 64 }
+        requires small { total_of (target_lens lens.now numbers.now) < 2 ^ 64 }
         requires room { self.old.at + bytes * (length numbers.now - 1)
             ≤ length (S.list self.old.data) }
         ensures { Puts (S.list self.old.data) self.old.at (S.list self.new.data) self.new.at
-            (blocks bytes (ends (lens_of lens.now numbers.now))) }
+            (blocks bytes (ends (target_lens lens.now numbers.now))) }
     {
         for place in (0..bytes).rev() {
             self.put_block(lens, numbers, place);
@@ -207,11 +243,11 @@ impl<S: TrieBuilderStore + Drop> Writing<S> {
     #[inline(always)]
     fn put_branch(&mut self, table: &[u8], lens: &[usize], numbers: &[usize])
         requires within { All (λ i. i < length lens.now) numbers.now }
-        requires small { total_of (lens_of lens.now numbers.now) < 2 ^ 64 }
-        requires room { self.old.at + length (branch_front table.now (lens_of lens.now numbers.now))
+        requires small { total_of (target_lens lens.now numbers.now) < 2 ^ 64 }
+        requires room { self.old.at + length (branch_front table.now (target_lens lens.now numbers.now))
             ≤ length (S.list self.old.data) }
         ensures { Puts (S.list self.old.data) self.old.at (S.list self.new.data) self.new.at
-            (branch_front table.now (lens_of lens.now numbers.now)) }
+            (branch_front table.now (target_lens lens.now numbers.now)) }
     {
         let width = width_of(total(lens, numbers));
         self.put_number(BRANCH, 32, 256 * width + numbers.len() % 256);
@@ -278,13 +314,47 @@ impl<S: TrieBuilderStore + Drop> Writing<S> {
             }
         }
     }
+
+    /// Writes all that is pending, where the first window begins at the first item and the first slot.
+    fn put_pending<'a, K: ZeroTrieWithOptions, I: IndexedItems<'a>, A: Allocator + Copy>(
+        &mut self,
+        items: I,
+        input: WriteInput<'_>,
+        layout: &mut Layout<A>,
+    ) -> Result<(), ZeroTrieBuildError>
+        requires keys { AreKeys K.kind (I.pairs items) }
+        requires ascii { IsTrue input.ascii → AreLow (I.pairs items) }
+        requires ordered { Ordered K.kind (I.pairs items) }
+        requires pending { (ws : List Window)
+            × WrittenTo K.kind (I.pairs items) (S.list self.old.data) self.old.at ws
+            × IsPending K.kind (I.pairs items) input.slots.now (position_at 0 0)
+            (reverse layout.old.pending.items) ws }
+        ensures put { OnOk result (WrittenTo K.kind (I.pairs items)
+            (S.list self.new.data) self.new.at []) }
+        ensures refused { IfErr result (λ e. e ≢ ZeroTrieBuildError.OutOfMemory
+            → (e ≡ ZeroTrieBuildError.CouldNotSolvePerfectHash) × Cause K.kind (I.pairs items) e) }
+    {
+        let mut position = Position { from: 0, slot: 0 };
+        while let Some(next) = layout.pending.pop() {
+            match next {
+                Next::Go(there) => position = there,
+                Next::Text(PendingWindow { to, depth }) => {
+                    let from = position.from;
+                    let window = Window { from, to, depth };
+                    self.put_nodes::<K, I, A>(items, input, window, position.slot, layout)?;
+                    position.from = to;
+                }
+            }
+        }
+        Ok(())
+    }
 }
 
 /// The sum of the lengths of the targets of these numbers.
 fn total(lens: &[usize], numbers: &[usize]) -> usize
     requires within { All (λ i. i < length lens.now) numbers.now }
-    requires small { total_of (lens_of lens.now numbers.now) < 2 ^ 64 }
-    ensures { result ≡ total_of (lens_of lens.now numbers.now) }
+    requires small { total_of (target_lens lens.now numbers.now) < 2 ^ 64 }
+    ensures { result ≡ total_of (target_lens lens.now numbers.now) }
 {
     let mut total = 0;
     for number in numbers {
@@ -314,37 +384,18 @@ pub(crate) fn write<
     ensures refused { IfErr result (λ e. e ≢ ZeroTrieBuildError.OutOfMemory
         → (e ≡ ZeroTrieBuildError.CouldNotSolvePerfectHash) × Cause K.kind (I.pairs items) e) }
 {
-    let mut data = S::atbs_new_empty(alloc);
-    data.atbs_prepend_n_zeros(measured.len)?;
-    let mut writing = Writing { data, at: 0 };
+    let mut writing: Writing<S> = Writing::new(alloc, measured.len)?;
     let mut layout = Layout::new(alloc, spare);
-    layout.pending.push(Next::Text(PendingWindow {
-        to: items.len(),
-        depth: 0,
-    }))?;
+    let to = items.len();
+    layout
+        .pending
+        .push(Next::Text(PendingWindow { to, depth: 0 }))?;
     let slots = measured.slots.as_slice();
     let input = WriteInput {
         slots,
         counts: measured.counts.as_slice(),
         ascii,
     };
-    let mut position = Position { from: 0, slot: 0 };
-    while let Some(next) = layout.pending.pop() {
-        match next {
-            Next::Go(there) => position = there,
-            Next::Text(next_window) => {
-                let window = Window {
-                    from: position.from,
-                    to: next_window.to,
-                    depth: next_window.depth,
-                };
-                writing.put_nodes::<K, I, A>(items, input, window, position.slot, &mut layout)?;
-                position.from = window.to;
-            }
-        }
-    }
-    let Writing { data, at: _ } = writing;
-    // That a length is below 2^64 tells the proof that so is that of the text.
-    let _len = data.atbs_len();
-    Ok(data)
+    writing.put_pending::<K, I, A>(items, input, &mut layout)?;
+    Ok(writing.into_data())
 }

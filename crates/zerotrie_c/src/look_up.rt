@@ -10,7 +10,12 @@ ghost use Rattle.zerotrie_c.specs.Keys.{keys_from, or_else, values_or, written_o
 ghost use Rattle.zerotrie_c.specs.Statuses.{done, unknown_kind};
 
 use crate::statuses::{DONE, UNKNOWN_KIND};
-use zerotrie_core::{Ext, Hash, Ignore, Simple, ZeroTrieWithOptions, get_counted, longest_prefix};
+use zerotrie_core::{
+    Ext, Hash, Ignore, LookUps, Simple, ZeroTrieWithOptions, get_counted, longest_prefix,
+};
+
+/// From how many keys on it pays to keep where first bytes lead.
+const MANY: usize = 64;
 
 /// The value of the key in a trie of the kind of this number.
 fn look_up(kind: u32, bytes: &[u8], key: &[u8]) -> Option<usize>
@@ -73,8 +78,8 @@ fn value_or<K: ZeroTrieWithOptions>(bytes: &[u8], key: &[u8], missing: usize) ->
     }
 }
 
-/// Looks up keys in a trie of the kind `K`.
-fn look_up_many<K: ZeroTrieWithOptions>(
+/// Looks up a few keys in a trie of the kind `K`.
+fn look_up_few<K: ZeroTrieWithOptions>(
     bytes: &[u8],
     keys: &[u8],
     ends: &[usize],
@@ -91,6 +96,63 @@ fn look_up_many<K: ZeroTrieWithOptions>(
         let to = ends[number];
         values[number] = value_or::<K>(bytes, key_between(keys, from, to), missing);
         from = to;
+    }
+}
+
+/// The value of the key, or this number if the trie has no such key, by look-ups of many keys.
+fn value_in_or<K: ZeroTrieWithOptions>(
+    trie: &mut LookUps<'_, K>,
+    key: &[u8],
+    missing: usize,
+) -> usize
+    ensures value { (m : Map) → Means K.kind trie.old m
+        → result ≡ or_else missing (look K.kind m key.now) }
+    ensures kept { trie.new ≡ trie.old }
+{
+    match trie.get(key) {
+        Some(value) => value,
+        None => missing,
+    }
+}
+
+/// Looks up many keys in a trie of the kind `K`, each from where its first byte leads.
+fn look_up_many<K: ZeroTrieWithOptions>(
+    bytes: &[u8],
+    keys: &[u8],
+    ends: &[usize],
+    missing: usize,
+    values: &mut [usize],
+)
+    ensures { (m : Map) → Means K.kind bytes.now m
+        → values.new ≡ written_over (values_or missing K.kind m (keys_from 0 keys.now ends.now))
+        values.old }
+{
+    let mut trie = LookUps::<K>::new(bytes);
+    let mut from = 0;
+    let count = ends.len().min(values.len());
+    for number in 0..count {
+        let end = ends[number];
+        values[number] = value_in_or(&mut trie, key_between(keys, from, end), missing);
+        from = end;
+    }
+}
+
+/// Looks up keys in a trie of the kind `K`.
+fn look_up_all<K: ZeroTrieWithOptions>(
+    bytes: &[u8],
+    keys: &[u8],
+    ends: &[usize],
+    missing: usize,
+    values: &mut [usize],
+)
+    ensures { (m : Map) → Means K.kind bytes.now m
+        → values.new ≡ written_over (values_or missing K.kind m (keys_from 0 keys.now ends.now))
+        values.old }
+{
+    if ends.len() < MANY {
+        look_up_few::<K>(bytes, keys, ends, missing, values)
+    } else {
+        look_up_many::<K>(bytes, keys, ends, missing, values)
     }
 }
 
@@ -114,10 +176,10 @@ pub extern "C" fn zerotrie_get_many(
     ensures unknown { IfNone (kind_of kind) ((result ≡ unknown_kind) × (values.new ≡ values.old)) }
 {
     match kind {
-        0 => look_up_many::<Simple>(bytes, keys, ends, missing, values),
-        3 => look_up_many::<Hash>(bytes, keys, ends, missing, values),
-        7 => look_up_many::<Ext>(bytes, keys, ends, missing, values),
-        8 => look_up_many::<Ignore>(bytes, keys, ends, missing, values),
+        0 => look_up_all::<Simple>(bytes, keys, ends, missing, values),
+        3 => look_up_all::<Hash>(bytes, keys, ends, missing, values),
+        7 => look_up_all::<Ext>(bytes, keys, ends, missing, values),
+        8 => look_up_all::<Ignore>(bytes, keys, ends, missing, values),
         _ => return UNKNOWN_KIND,
     }
     DONE

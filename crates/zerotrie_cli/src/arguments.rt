@@ -1,14 +1,13 @@
 //! What the command line may be.
 
 use crate::build::build_command;
-use crate::code::code_command;
-use crate::views::{dot_command, dump_command};
 use clap::{Arg, ArgAction, ArgMatches, Command};
 use std::alloc::{AllocError, Global};
-use zerotrie_commands::Style;
-use zerotrie_queries::TrieKind;
+use zerotrie_run::Place;
 
 static KINDS: [&str; 4] = ["simple", "ignore", "hash", "ext"];
+
+static LANGUAGES: [&str; 3] = ["rust", "c", "rattle"];
 
 static STYLES: [&str; 3] = ["tsv", "keys", "values"];
 
@@ -20,6 +19,20 @@ const LONGEST_HELP: &str =
 const LIST_HELP: &str =
     "Example: zerotrie list names.trie --prefix am\nIn memory: the file and the longest key.";
 
+const CHECK_HELP: &str = "Example: zerotrie check names.trie\nIn memory: the file and the open \
+    branches. Places are counted after the number of the kind.";
+
+const DUMP_HELP: &str =
+    "Example: zerotrie dump names.trie\nIn memory: the file and the open branches.";
+
+const DOT_HELP: &str = "Example: zerotrie dot names.trie --most 40 | dot -Tsvg -o names.svg\n\
+    In memory: the file and the open branches.";
+
+const CODE_HELP: &str = "Example: zerotrie code names.trie --lang c\nIn memory: the file.";
+
+const TRUST_HELP: &str =
+    "Leaves out the test of the bytes, which reads all of them once; for a file that is known to be a trie";
+
 /// A word that stands at its place.
 pub fn place<'a>(alloc: Global, name: &'a str, help: &'a str) -> Arg<'a> {
     Arg::new(alloc, name)
@@ -28,11 +41,19 @@ pub fn place<'a>(alloc: Global, name: &'a str, help: &'a str) -> Arg<'a> {
         .help(help)
 }
 
-/// A word behind its name.
+/// A word after its name.
 pub fn option<'a>(alloc: Global, name: &'a str, help: &'a str) -> Arg<'a> {
     Arg::new(alloc, name)
         .long(name)
         .action(ArgAction::Set)
+        .help(help)
+}
+
+/// An option without a word.
+pub fn flag<'a>(alloc: Global, name: &'a str, help: &'a str) -> Arg<'a> {
+    Arg::new(alloc, name)
+        .long(name)
+        .action(ArgAction::SetTrue)
         .help(help)
 }
 
@@ -44,8 +65,8 @@ fn words<'a>(alloc: Global, name: &'a str, help: &'a str) -> Arg<'a> {
         .help(help)
 }
 
-/// A command that reads a trie.
-pub fn reader<'a>(alloc: Global, name: &'a str, about: &'a str) -> Result<Command<'a>, AllocError> {
+/// A command that tests and reads a trie.
+fn tester<'a>(alloc: Global, name: &'a str, about: &'a str) -> Result<Command<'a>, AllocError> {
     let kind = option(alloc, "kind", "The file is bare bytes of this kind").value_parser(
         KINDS.as_slice(),
     );
@@ -53,6 +74,11 @@ pub fn reader<'a>(alloc: Global, name: &'a str, about: &'a str) -> Result<Comman
         .about(about)
         .arg(place(alloc, "FILE", "A trie, or - for standard input"))?
         .arg(kind)
+}
+
+/// A command that reads a trie, and may leave the test out.
+fn reader<'a>(alloc: Global, name: &'a str, about: &'a str) -> Result<Command<'a>, AllocError> {
+    tester(alloc, name, about)?.arg(flag(alloc, "trust", TRUST_HELP))
 }
 
 fn get_command<'a>(alloc: Global) -> Result<Command<'a>, AllocError> {
@@ -86,6 +112,34 @@ fn list_command<'a>(alloc: Global) -> Result<Command<'a>, AllocError> {
     Ok(command.after_help(LIST_HELP))
 }
 
+fn check_command<'a>(alloc: Global) -> Result<Command<'a>, AllocError> {
+    let about = "Tests the bytes, and prints what the trie is made of, or where it is none and why";
+    Ok(tester(alloc, "check", about)?.after_help(CHECK_HELP))
+}
+
+fn dump_command<'a>(alloc: Global) -> Result<Command<'a>, AllocError> {
+    let about = "Prints a line for each node: place, depth, edge, meaning and bytes";
+    Ok(reader(alloc, "dump", about)?.after_help(DUMP_HELP))
+}
+
+fn dot_command<'a>(alloc: Global) -> Result<Command<'a>, AllocError> {
+    let most = option(alloc, "most", "At most so many nodes")
+        .value_name("N")
+        .default_value("100");
+    let about = "Prints a drawing of the first nodes, for Graphviz";
+    let command = reader(alloc, "dot", about)?.arg(most)?;
+    Ok(command.after_help(DOT_HELP))
+}
+
+fn code_command<'a>(alloc: Global) -> Result<Command<'a>, AllocError> {
+    let language = option(alloc, "lang", "The language")
+        .value_parser(LANGUAGES.as_slice())
+        .required(true);
+    let about = "Prints the bytes as a constant of a program, with the call that reads it";
+    let command = reader(alloc, "code", about)?.arg(language)?;
+    Ok(command.after_help(CODE_HELP))
+}
+
 /// What the command line may be.
 pub fn command<'a>(alloc: Global) -> Result<Command<'a>, AllocError> {
     Command::new(alloc, "zerotrie")
@@ -97,21 +151,13 @@ pub fn command<'a>(alloc: Global) -> Result<Command<'a>, AllocError> {
         .subcommand(get_command(alloc)?)?
         .subcommand(longest_command(alloc)?)?
         .subcommand(list_command(alloc)?)?
+        .subcommand(check_command(alloc)?)?
         .subcommand(dump_command(alloc)?)?
         .subcommand(dot_command(alloc)?)?
         .subcommand(code_command(alloc)?)
 }
 
-/// The kind of bare bytes, if one is named.
-pub fn kind_in(matches: &ArgMatches<'_>) -> Option<TrieKind> {
-    matches.get_str("kind").and_then(TrieKind::named)
-}
-
-/// How pairs are to be printed.
-pub fn style_in(matches: &ArgMatches<'_>) -> Style {
-    match matches.get_str("format") {
-        Some("keys") => Style::Keys,
-        Some("values") => Style::Values,
-        _ => Style::Tsv,
-    }
+/// The place that an argument names.
+pub fn place_in<'a>(matches: &ArgMatches<'a>, name: &str) -> Place<'a> {
+    Place::named(matches.get_str(name).unwrap_or("-"))
 }

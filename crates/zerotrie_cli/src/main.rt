@@ -3,13 +3,11 @@
 
 mod arguments;
 mod build;
-mod code;
 mod commands;
-mod files;
-mod views;
+mod question;
 
 use std::process::ExitCode;
 
 fn main(rt: HostRuntime) -> ExitCode {
-    ExitCode::from(commands::run(&rt))
+    ExitCode::from(commands::run_words(&rt).number())
 }

@@ -7,4 +7,4 @@ pub mod laws;
 mod writing;
 
 pub use language::Language;
-pub use writing::write_code;
+pub use writing::{write_code, write_trie_code};

@@ -16,8 +16,13 @@ use std::io::Write;
 use zerotrie_commands::AnswerError;
 use zerotrie_queries::{Trie, TrieKind};
 
-/// Writes the bytes of a trie as source code: a constant, and the call that reads it. It takes no memory.
-fn write_trie<W: Write>(trie: &Trie<'_>, language: Language, output: &mut W) -> io::Result<()>
+/// Writes the bytes of a trie as source code: a constant, and the call that reads it. They may be any bytes. It takes no
+/// memory.
+pub fn write_trie_code<W: Write>(
+    trie: &Trie<'_>,
+    language: Language,
+    output: &mut W,
+) -> io::Result<()>
     ensures { OnOk result (Appends (W.contents output.old) (W.contents output.new)
         (code language trie.now.kind trie.now.bytes.now)) }
 {
@@ -44,6 +49,6 @@ pub fn write_code<W: Write>(
     ensures err { IfErr result (IsRefusal named file.now (output.new ≡ output.old)) }
 {
     let trie = Trie::open(named, file)?;
-    write_trie(&trie, language, output)?;
+    write_trie_code(&trie, language, output)?;
     Ok(())
 }

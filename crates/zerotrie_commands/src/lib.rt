@@ -8,4 +8,4 @@ mod print;
 mod requests;
 
 pub use print::Style;
-pub use requests::{AnswerError, Request, answer};
+pub use requests::{AnswerError, Request, answer, answer_trie};

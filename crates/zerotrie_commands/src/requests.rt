@@ -2,7 +2,10 @@
 
 ghost use Rattle.std.specs.Prelude.{◌≡◌, ℕ, List, IfOk, IfErr};
 ghost use Rattle.std.specs.Io.KnownBytes.{Appends};
-ghost use Rattle.zerotrie_commands.specs.Answers.{Answers, IsRefusal};
+ghost use Rattle.zerotrie_core.specs.Maps.{Map};
+ghost use Rattle.zerotrie_core.specs.Texts.{Means};
+ghost use Rattle.zerotrie_queries.specs.Kinds.{kind_of};
+ghost use Rattle.zerotrie_commands.specs.Answers.{Answers, Belongs, IsRefusal};
 ghost use Rattle.zerotrie_commands.specs.Printed.{status_of};
 ghost use Rattle.zerotrie_commands.specs.declared.requests.AnswerError.TheVariants as refused;
 
@@ -57,6 +60,32 @@ fn status(all: bool) -> u8
     if all { 0 } else { 1 }
 }
 
+/// Writes the answers to a request to a trie, and tells whether all was found: each key is there, and each text begins
+/// with one.
+///
+/// They are those of the map that the bytes of the trie mean. If these mean none, it returns too.
+pub fn answer_trie<W: Write>(
+    alloc: Global,
+    trie: &Trie<'_>,
+    request: Request<'_>,
+    output: &mut W,
+) -> io::Result<bool>
+    ensures { IfOk result (λ all. (m : Map)
+        → (means : Means (kind_of trie.now.kind) trie.now.bytes.now m) → (printed : List ℕ)
+        × Belongs (kind_of trie.now.kind) m means.pairs request.entry printed
+            (status_of all)
+        × Appends (W.contents output.old) (W.contents output.new) printed) }
+{
+    match request {
+        Request::Get(keys) => Ok(write_values(alloc, trie, keys, output)?),
+        Request::Longest(texts) => Ok(write_longest(alloc, trie, texts, output)?),
+        Request::List(style, prefix) => {
+            write_list(alloc, trie, style, prefix, output)?;
+            Ok(true)
+        }
+    }
+}
+
 /// Writes the answers to a request, and answers the status: 0, or 1 if a key is not there or a text begins with none.
 ///
 /// With `named` the file is the bare bytes of a trie of that kind. Else its first byte is the number of its kind. The
@@ -74,12 +103,5 @@ pub fn answer<W: Write>(
     ensures err { IfErr result (IsRefusal named file.now (output.new ≡ output.old)) }
 {
     let trie = Trie::open(named, file)?;
-    match request {
-        Request::Get(keys) => Ok(status(write_values(alloc, &trie, keys, output)?)),
-        Request::Longest(texts) => Ok(status(write_longest(alloc, &trie, texts, output)?)),
-        Request::List(style, prefix) => {
-            write_list(alloc, &trie, style, prefix, output)?;
-            Ok(0)
-        }
-    }
+    Ok(status(answer_trie(alloc, &trie, request, output)?))
 }

@@ -1,60 +1,60 @@
 -- What proofs of the crates above cite of this one.
 
 -- keys: their bounds, their order, and the map of pairs
-pub use Rattle.zerotrie_core.proofs.KindLemmas.{edge_limit_is, greatest_width_is}
-pub use Rattle.zerotrie_core.proofs.EncodeLaws.{compare_first}
-pub use Rattle.zerotrie_core.proofs.RefusalLemmas.{ascends_apart}
-pub use Rattle.zerotrie_core.proofs.OrderLaws.{entries-map_of}
-pub use Rattle.zerotrie_core.proofs.FitsLaws.{consistent_entries}
+pub use Rattle.zerotrie_core.proofs.MapLemmas.Kinds.{edge_limit_is, greatest_width_is}
+pub use Rattle.zerotrie_core.proofs.CanonicalLemmas.Encoded.{compare_first}
+pub use Rattle.zerotrie_core.proofs.PlainLemmas.Refusals.{ascends_apart}
+pub use Rattle.zerotrie_core.proofs.CanonicalLemmas.Order.{entries-map_of}
+pub use Rattle.zerotrie_core.proofs.CanonicalLemmas.Fitting.{consistent_entries}
 -- pairs that answer alike
-pub use Rattle.zerotrie_core.proofs.SameLemmas.{Same, same-sym, same-map, same-entries, same-behind, same-edges, same-targets, exact_itself, exact_same, first_found, map_agree}
+pub use Rattle.zerotrie_core.proofs.MapLemmas.Alike.{Same, same-sym, same-map, same-entries, same-behind, same-edges, same-targets, exact_itself, exact_same, first_found, map_agree}
 -- the pairs behind a byte or a front
-pub use Rattle.zerotrie_core.proofs.EdgeLemmas.{residual-append, residual-front, residual-other}
-pub use Rattle.zerotrie_core.proofs.SameLemmas.{some_pair, begins_behind}
-pub use Rattle.zerotrie_core.proofs.ListedLemmas.{behind_all-nil}
+pub use Rattle.zerotrie_core.proofs.MapLemmas.Edges.{residual-append, residual-front, residual-other}
+pub use Rattle.zerotrie_core.proofs.MapLemmas.Alike.{some_pair, begins_behind}
+pub use Rattle.zerotrie_core.proofs.MapLemmas.Listed.{behind_all-nil}
 -- numbers, and the bytes of a branch in front of its targets
-pub use Rattle.zerotrie_core.proofs.NumberLaws.{below_metadata, spelling_is}
-pub use Rattle.zerotrie_core.proofs.WriteLemmas.{Completes, completes_more}
-pub use Rattle.zerotrie_core.proofs.FrontLemmas.{small_width, wider, width_is, total-lengths, node_many}
+pub use Rattle.zerotrie_core.proofs.NumberLemmas.Spellings.{below_metadata, spelling_is}
+pub use Rattle.zerotrie_core.proofs.NumberLemmas.Written.{Completes, completes_more}
+pub use Rattle.zerotrie_core.proofs.NodeLemmas.Fronts.{small_width, wider, width_is, total-lengths, node_many}
 -- edges that rise, and what a node in front of texts lists
-pub use Rattle.zerotrie_core.proofs.TableLemmas.{Rises, AllAbove, rises_distinct, increasing_rises}
-pub use Rattle.zerotrie_core.proofs.CanonLaws.{lists_some, bytes_all}
-pub use Rattle.zerotrie_core.proofs.OpenLemmas.{nothing_listed}
-pub use Rattle.zerotrie_core.proofs.EncodeLaws.{node_lists, not_empty_text}
+pub use Rattle.zerotrie_core.proofs.NodeLemmas.Tables.{Rises, AllAbove, rises_distinct, increasing_rises}
+pub use Rattle.zerotrie_core.proofs.CanonicalLemmas.Canonical.{lists_some, bytes_all}
+pub use Rattle.zerotrie_core.proofs.NodeLemmas.Opened.{nothing_listed}
+pub use Rattle.zerotrie_core.proofs.CanonicalLemmas.Encoded.{node_lists, not_empty_text}
 -- how many edges and target bytes the pairs of a branch have
-pub use Rattle.zerotrie_core.proofs.SizeLaws.{targets_each, edges_count}
+pub use Rattle.zerotrie_core.proofs.CanonicalLemmas.Lengths.{targets_each, edges_count}
 -- no two keys of a text are one to the kind, and what a look-up in its map answers
-pub use Rattle.zerotrie_core.proofs.CaseLemmas.{same_equiv, lists_apart, lists_found, same_answers}
-pub use Rattle.zerotrie_core.proofs.MapLemmas.{look-map_of}
+pub use Rattle.zerotrie_core.proofs.MapLemmas.Cases.{same_equiv, lists_apart, lists_found, same_answers}
+pub use Rattle.zerotrie_core.proofs.MapLemmas.Maps.{look-map_of}
 -- pairs with a run in front of each key
-pub use Rattle.zerotrie_core.proofs.SpanLemmas.{value_at-run, residual-run, residual-run_other, behind_run, edges_run, run_of-literal, run_of-value, run_of-many, run_of-run}
+pub use Rattle.zerotrie_core.proofs.MapLemmas.Spans.{value_at-run, residual-run, residual-run_other, behind_run, edges_run, run_of-literal, run_of-value, run_of-many, run_of-run}
 -- the length of texts, by what stands first in them
-pub use Rattle.zerotrie_core.proofs.SizeLemmas.{size_none, size_value, size_literal, size_span, size_branch}
-pub use Rattle.zerotrie_core.proofs.SizeLaws.{listed_size}
+pub use Rattle.zerotrie_core.proofs.CanonicalLemmas.Sizes.{size_none, size_value, size_literal, size_span, size_branch}
+pub use Rattle.zerotrie_core.proofs.CanonicalLemmas.Lengths.{listed_size}
 -- pairs in groups behind their first bytes, and the edges in the order of the kind
-pub use Rattle.zerotrie_core.proofs.EdgeLemmas.{member_head, member_later, begins_some-append, begins_some-front}
-pub use Rattle.zerotrie_core.proofs.OrderedLemmas.{ordered_is, edges_rise, member-edges, member-edges_past, length-ordered, total-ordered}
-pub use Rattle.zerotrie_core.proofs.CanonLaws.{edge_once, residual_later, not_first}
-pub use Rattle.zerotrie_core.proofs.EncodeLaws.{rises_increasing}
+pub use Rattle.zerotrie_core.proofs.MapLemmas.Edges.{member_head, member_later, begins_some-append, begins_some-front}
+pub use Rattle.zerotrie_core.proofs.MapLemmas.Ordered.{ordered_is, edges_rise, member-edges, member-edges_past, length-ordered, total-ordered}
+pub use Rattle.zerotrie_core.proofs.CanonicalLemmas.Canonical.{edge_once, residual_later, not_first}
+pub use Rattle.zerotrie_core.proofs.CanonicalLemmas.Encoded.{rises_increasing}
 -- what a writer of texts cites: kinds, spellings, what pairs answer behind a byte, and tables
-pub use Rattle.zerotrie_core.proofs.KindLemmas.{edge_limit_to, greatest_width_most, spans_fold, spans_limit, hashed_spans, hashed_by}
-pub use Rattle.zerotrie_core.proofs.NumberLaws.{spells_spelled}
-pub use Rattle.zerotrie_core.proofs.BranchLemmas.{length-blocks}
-pub use Rattle.zerotrie_core.proofs.ItemLemmas.{shifted}
-pub use Rattle.zerotrie_core.proofs.EdgeLemmas.{member}
-pub use Rattle.zerotrie_core.proofs.ValueLemmas.{value_at-front, value_at-other, value_at-no_key, value_at-append, value_at-some, behind_none}
-pub use Rattle.zerotrie_core.proofs.SameLemmas.{same-size_of, value_at-residual}
-pub use Rattle.zerotrie_core.proofs.TableLemmas.{Distinct, NoneLike, table_distinct, length-table}
-pub use Rattle.zerotrie_core.proofs.FrontLemmas.{IsWidth-width, within_width, front_targets, front_len, length-branch_front}
-pub use Rattle.zerotrie_core.proofs.EncodeLaws.{fold_ascii}
+pub use Rattle.zerotrie_core.proofs.MapLemmas.Kinds.{edge_limit_to, greatest_width_most, spans_fold, spans_limit, hashed_spans, hashed_by}
+pub use Rattle.zerotrie_core.proofs.NumberLemmas.Spellings.{spells_spelled}
+pub use Rattle.zerotrie_core.proofs.NodeLemmas.Offsets.{length-blocks}
+pub use Rattle.zerotrie_core.proofs.PlainLemmas.Items.{shifted}
+pub use Rattle.zerotrie_core.proofs.MapLemmas.Edges.{member}
+pub use Rattle.zerotrie_core.proofs.MapLemmas.Values.{value_at-front, value_at-other, value_at-no_key, value_at-append, value_at-some, behind_none}
+pub use Rattle.zerotrie_core.proofs.MapLemmas.Alike.{same-size_of, value_at-residual}
+pub use Rattle.zerotrie_core.proofs.NodeLemmas.Tables.{Distinct, NoneLike, table_distinct, length-table}
+pub use Rattle.zerotrie_core.proofs.NodeLemmas.Fronts.{IsWidth-width, within_width, front_targets, front_len, length-branch_front}
+pub use Rattle.zerotrie_core.proofs.CanonicalLemmas.Encoded.{fold_ascii}
 -- which pairs fit a kind
-pub use Rattle.zerotrie_core.proofs.EncodeLaws.{NarrowBehind}
-pub use Rattle.zerotrie_core.proofs.FitsLaws.{AllNarrow, narrow_none, narrow_value, narrow_at, narrow_front, narrow-same, all_entries}
-pub use Rattle.zerotrie_core.proofs.SpanLemmas.{by_fronts}
-pub use Rattle.zerotrie_core.proofs.TableLemmas.{increasing_rises}
+pub use Rattle.zerotrie_core.proofs.CanonicalLemmas.Encoded.{NarrowBehind}
+pub use Rattle.zerotrie_core.proofs.CanonicalLemmas.Fitting.{AllNarrow, narrow_none, narrow_value, narrow_at, narrow_front, narrow-same, all_entries}
+pub use Rattle.zerotrie_core.proofs.MapLemmas.Spans.{by_fronts}
+pub use Rattle.zerotrie_core.proofs.NodeLemmas.Tables.{increasing_rises}
 -- the map of listed pairs, and keys that are text
-pub use Rattle.zerotrie_core.proofs.ListedMapLemmas.{put_all, meant_entries, listed_texts}
-pub use Rattle.zerotrie_core.proofs.CaseLemmas.{every_all}
+pub use Rattle.zerotrie_core.proofs.MapLemmas.Collected.{put_all, meant_entries, listed_texts}
+pub use Rattle.zerotrie_core.proofs.MapLemmas.Cases.{every_all}
 -- the stack need of pairs
-pub use Rattle.zerotrie_core.proofs.StackLemmas.{branch_agree, stack_none, stack_value, stack_literal, stack_branch, above, stack_behind, stack_edges, above_edge, above_edges}
-pub use Rattle.zerotrie_core.proofs.CanonLaws.{residual_first, edges_listed}
+pub use Rattle.zerotrie_core.proofs.CanonicalLemmas.Stacks.{branch_agree, stack_none, stack_value, stack_literal, stack_branch, above, stack_behind, stack_edges, above_edge, above_edges}
+pub use Rattle.zerotrie_core.proofs.CanonicalLemmas.Canonical.{residual_first, edges_listed}

@@ -6,6 +6,8 @@ use Rattle.zerotrie_core.specs.Maps.{Pairs, Map, map_of, RepeatsKey, Ascends, sa
 use Rattle.zerotrie_core.specs.Texts.{Lists, Means, nodes}
 use Rattle.zerotrie_core.specs.Canonical.{enc, size}
 use Rattle.zerotrie_core.specs.Fits.{Fits}
+use Rattle.zerotrie_core.specs.WellFormed.{IsWellFormed}
+use Rattle.zerotrie_core.specs.Faults.{Fault, IsFault}
 
 -- the latent values of the two forms of numbers
 abbrev pub IsForm : ℕ → Type 0
@@ -73,3 +75,7 @@ ListsInOrder kind = (bytes : List ℕ) (pairs : Pairs) → Lists kind bytes pair
 -- keys that are one to the kind get the same answer
 abbrev pub SameKeysAnswerAlike : Type 0
 SameKeysAnswerAlike = (kind : Kind) (m : Map) (k l : List ℕ) → same_key kind k l ≡ true → look kind m k ≡ look kind m l
+
+-- bytes that mean a map have no fault
+abbrev pub NoFaultInTrie : Type 0
+NoFaultInTrie = (kind : Kind) (bytes : List ℕ) (f : Fault) → IsWellFormed kind bytes → IsFault kind bytes f → ⊥

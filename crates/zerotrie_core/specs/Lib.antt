@@ -29,3 +29,5 @@ pub mod CursorLaws
 pub mod WellFormed
 pub mod well_formed
 pub mod walk
+pub mod Faults
+pub mod fault_search

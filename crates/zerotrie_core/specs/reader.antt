@@ -3,3 +3,4 @@ pub mod Going
 pub mod Reading
 pub mod Descending
 pub mod Literals
+pub mod Starts

@@ -6,7 +6,7 @@ ghost use Rattle.std.specs.Prelude.{ℕ, List};
 ghost use Rattle.zerotrie_core.specs.Kind.{Kind, IsAscii, simple_ascii};
 ghost use Rattle.zerotrie_core.specs.Maps.{Pairs, Ascends};
 ghost use Rattle.zerotrie_core.specs.Texts.{Lists};
-ghost use Rattle.zerotrie_core.specs.Laws.{EachIsSpelled, OneSpelling, MetadataAlone, NoneLonger, OneMeaning, CanonicalMeans, MeansCanonical, MeansFits, EqualExactlyIfMapsAre, LengthIsSize, FewNodes, ListsTheMap, ListsInOrder, SameKeysAnswerAlike};
+ghost use Rattle.zerotrie_core.specs.Laws.{EachIsSpelled, OneSpelling, MetadataAlone, NoneLonger, OneMeaning, CanonicalMeans, MeansCanonical, MeansFits, EqualExactlyIfMapsAre, LengthIsSize, FewNodes, ListsTheMap, ListsInOrder, SameKeysAnswerAlike, NoFaultInTrie};
 ghost use Rattle.zerotrie_core.specs.CursorLaws.{StepsAnswer, SuffixAnswers, NoSecondValue, StoredBytes};
 
 /// Numbers below 2^64 have exactly one spelling in each form. Other metadata changes these bits alone, and
@@ -83,4 +83,9 @@ pub fn listing_is_the_map()
 /// only in the case of ASCII letters.
 pub fn same_keys_answer_alike()
     ensures { SameKeysAnswerAlike }
+{}
+
+/// Bytes that mean a map have no fault, in the sense of `first_fault`.
+pub fn no_fault_in_a_trie()
+    ensures { NoFaultInTrie }
 {}

@@ -8,10 +8,13 @@
 ghost use Rattle.std.specs.Prelude.{◌≡◌, ℕ, ◌+◌, ◌<◌, ◌≤◌, length, IsTrue};
 ghost use Rattle.zerotrie_core.specs.Maps.{Map, look};
 ghost use Rattle.zerotrie_core.specs.Texts.{Means, nodes};
-ghost use Rattle.zerotrie_core.specs.Shapes.{shape};
+ghost use Rattle.zerotrie_core.specs.Kind.{Kind};
+ghost use Rattle.zerotrie_core.specs.Nodes.Shape.{literal, span};
+ghost use Rattle.zerotrie_core.specs.Shapes.{shape, branch_shape};
 ghost use Rattle.zerotrie_core.specs.reader.Descending.{Descends};
 ghost use Rattle.zerotrie_core.specs.reader.Literals.{AreCommon, AreSame};
 
+use crate::branch::Branch;
 use crate::fold::folded;
 use crate::literals::common_literals;
 use crate::node::{Node, first_node};
@@ -23,6 +26,50 @@ enum Descent<'a> {
     Answer(Option<usize>),
     /// The look-up goes on in these bytes, with this rest of the key, after this number of nodes.
     Down(&'a [u8], &'a [u8], usize),
+}
+
+/// Goes on after a literal, and over the literals after it that the key goes on with.
+#[inline(always)]
+fn over_literals<'a, K: ZeroTrieWithOptions>(edge: u8, rest: &'a [u8], key: &'a [u8]) -> Descent<'a>
+    ensures { Descends K.kind (literal edge rest.now) key.now result }
+{
+    let Some((byte, after)) = key.split_first() else {
+        return Descent::Answer(None);
+    };
+    if folded::<K>(*byte) != folded::<K>(edge) {
+        return Descent::Answer(None);
+    }
+    let more = common_literals::<K>(rest, after);
+    let (_, rest) = rest.split_at(more);
+    let (_, after) = after.split_at(more);
+    Descent::Down(rest, after, 1 + more)
+}
+
+/// Goes on after a span, which the key has to go on with.
+#[inline(always)]
+fn over_span<'a>(run: &'a [u8], rest: &'a [u8], key: &'a [u8]) -> Descent<'a>
+    ensures { (kind : Kind) → Descends kind (span run.now rest.now) key.now result }
+{
+    if key.starts_with(run) {
+        let (_, after) = key.split_at(run.len());
+        Descent::Down(rest, after, 1)
+    } else {
+        Descent::Answer(None)
+    }
+}
+
+/// Goes on in the target of a branch whose edge is the next byte of the key.
+#[inline(always)]
+fn into_target<'a, K: ZeroTrieWithOptions>(branch: Branch<'a>, key: &'a [u8]) -> Descent<'a>
+    ensures { Descends K.kind (branch_shape branch.entry) key.now result }
+{
+    let Some((byte, after)) = key.split_first() else {
+        return Descent::Answer(None);
+    };
+    match branch.follow::<K>(*byte) {
+        None => Descent::Answer(None),
+        Some((_edge, target)) => Descent::Down(target, after, 1),
+    }
 }
 
 /// Goes on after one node.
@@ -38,34 +85,9 @@ fn descend<'a, K: ZeroTrieWithOptions>(node: Node<'a>, key: &'a [u8]) -> Descent
                 Descent::Down(rest, key, 1)
             }
         }
-        Node::Literal(edge, rest) => match key.split_first() {
-            None => Descent::Answer(None),
-            Some((byte, after)) => {
-                if folded::<K>(*byte) == folded::<K>(edge) {
-                    let more = common_literals::<K>(rest, after);
-                    let (_, rest) = rest.split_at(more);
-                    let (_, after) = after.split_at(more);
-                    Descent::Down(rest, after, 1 + more)
-                } else {
-                    Descent::Answer(None)
-                }
-            }
-        },
-        Node::Span(run, rest) => {
-            if key.starts_with(run) {
-                let (_, after) = key.split_at(run.len());
-                Descent::Down(rest, after, 1)
-            } else {
-                Descent::Answer(None)
-            }
-        }
-        Node::Branch(branch) => match key.split_first() {
-            None => Descent::Answer(None),
-            Some((byte, after)) => match branch.follow::<K>(*byte) {
-                None => Descent::Answer(None),
-                Some((_edge, target)) => Descent::Down(target, after, 1),
-            },
-        },
+        Node::Literal(edge, rest) => over_literals::<K>(edge, rest, key),
+        Node::Span(run, rest) => over_span(run, rest, key),
+        Node::Branch(branch) => into_target::<K>(branch, key),
     }
 }
 

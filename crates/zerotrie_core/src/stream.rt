@@ -13,10 +13,11 @@ ghost use Rattle.zerotrie_core.specs.Places.{ListsAt};
 ghost use Rattle.zerotrie_core.specs.Shapes.{shape, branch_shape};
 ghost use Rattle.zerotrie_core.specs.listing.Listed.{node_of};
 ghost use Rattle.zerotrie_core.specs.Nodes.{Begins};
+ghost use Rattle.zerotrie_core.specs.Nodes.Shape.{literal, span};
 ghost use Rattle.zerotrie_core.specs.declared.stream.opened.OpenBranch.{OpenBranch};
 ghost use Rattle.zerotrie_core.specs.listing.Runs.{MovesLiterals};
 ghost use Rattle.zerotrie_core.specs.listing.Opened.{IsOpen, Nested, Stands, pairs_left, pairs_open, work_open, work_left, IsFound};
-ghost use Rattle.zerotrie_core.specs.listing.Passed.{IsBehind, IsAfterEdge, IsAfterFront, IsPast, GoesInto};
+ghost use Rattle.zerotrie_core.specs.listing.Passed.{IsBehind, IsAfterEdge, IsAfterFront, IsPast, GoesInto, IsTowards, gone_to};
 ghost use Rattle.zerotrie_core.specs.reader.Going.{AlwaysStops};
 
 mod opened;
@@ -178,6 +179,29 @@ impl<'a, A: Allocator + Copy> ZeroTrieStream<'a, A> {
         }
     }
 
+    /// The pairs that are left after this one, whose key and value are given.
+    fn standing<K: ZeroTrieWithOptions>(
+        here: Here<'a>,
+        key: Vec<u8, A>,
+        value: usize,
+        top: OpenBranch<'a>,
+        branches: Vec<OpenBranch<'a>, A>,
+    ) -> Self
+        requires { Stands (length key.items) top (reverse branches.items) }
+        ensures { result.left ≡ to_come (pairs_left K.kind key.items here.entry.rest.now
+            (top.entry ∷ reverse branches.entry.items)) }
+    {
+        ZeroTrieStream {
+            options: ZeroTrieBuilderOptions::of::<K>(),
+            here,
+            key,
+            value,
+            top,
+            branches,
+            ended: false,
+        }
+    }
+
     /// The pairs at a cursor, wherever it stands: what all keys have from there on.
     ///
     /// ```
@@ -244,51 +268,32 @@ impl<'a, A: Allocator + Copy> ZeroTrieStream<'a, A> {
         let mut top = OpenBranch::closed();
         let mut branches = Vec::new(*front.allocator());
         let mut key = front;
-        loop {
-            match node_at::<K>(at.rest) {
-                None => return Ok(None),
-                Some(Node::Value(value, after)) => {
+        while let Some(node) = node_at::<K>(at.rest) {
+            let passed = match node {
+                Node::Value(value, after) => {
                     at = at.behind(after);
                     if left.is_empty() {
-                        return Ok(Some(ZeroTrieStream {
-                            options: ZeroTrieBuilderOptions::of::<K>(),
-                            here: at,
-                            key,
-                            value,
-                            top,
-                            branches,
-                            ended: false,
-                        }));
+                        return Ok(Some(ZeroTrieStream::standing::<K>(
+                            at, key, value, top, branches,
+                        )));
                     }
+                    Some((at, left))
                 }
-                Some(Node::Literal(edge, after)) => {
-                    let Some(more) = after_edge::<K>(edge, left) else {
-                        return Ok(None);
-                    };
-                    key.push(edge)?;
-                    at = at.behind(after);
-                    left = more;
+                Node::Literal(edge, after) => past_literal::<K, A>(
+                    at, edge, after, left, &mut key,
+                )?,
+                Node::Span(run, after) => past_span::<K, A>(at, run, after, left, &mut key)?,
+                Node::Branch(branch) => {
+                    past_branch::<K, A>(at, branch, left, &mut key, &mut top, &mut branches)?
                 }
-                Some(Node::Span(run, after)) => {
-                    if !left.starts_with(run) {
-                        return Ok(None);
-                    }
-                    key.extend_from_slice(run)?;
-                    at = at.behind(after);
-                    left = left.split_at(run.len()).1;
-                }
-                Some(Node::Branch(branch)) => {
-                    let Some((byte, more)) = left.split_first() else {
-                        return Ok(None);
-                    };
-                    match open_at::<K, A>(at, branch, *byte, &mut key, &mut top, &mut branches)? {
-                        Some(target) => at = target,
-                        None => return Ok(None),
-                    }
-                    left = more;
-                }
-            }
+            };
+            let Some((next, more)) = passed else {
+                return Ok(None);
+            };
+            at = next;
+            left = more;
         }
+        Ok(None)
     }
 
     /// The pairs that stand after a key in the listing of a prefix; with the empty prefix, in that of all pairs. There are
@@ -368,6 +373,83 @@ fn after_edge<'k, K: ZeroTrieWithOptions>(edge: u8, key: &'k [u8]) -> Option<&'k
         Some(left)
     } else {
         None
+    }
+}
+
+/// Goes on past a literal, towards a key of which this is left. `None` if no pair has the key.
+fn past_literal<'a, 'k, K: ZeroTrieWithOptions, A: Allocator>(
+    here: Here<'a>,
+    edge: u8,
+    after: &'a [u8],
+    left: &'k [u8],
+    key: &mut Vec<u8, A>,
+) -> Result<Option<(Here<'a>, &'k [u8])>, AllocError>
+    requires { Begins K.kind here.rest.now (literal edge after.now) }
+    ensures shorter { IfOk result (λ r. IfSome r
+        (λ next. length next.0.rest.now < length here.entry.rest.now)) }
+    ensures stands { IfOk result (λ _. (top : OpenBranch) (outer : List OpenBranch)
+        → Stands (length key.old.items) top outer → Stands (length key.new.items) top outer) }
+    ensures step { IfOk result (λ r. (top : OpenBranch) (outer : List OpenBranch)
+        → Stands (length key.old.items) top outer → IsTowards K.kind here.entry.rest.now left.now
+        key.old.items (top ∷ outer) (gone_to r) key.new.items (top ∷ outer)) }
+{
+    let Some(more) = after_edge::<K>(edge, left) else {
+        return Ok(None);
+    };
+    key.push(edge)?;
+    Ok(Some((here.behind(after), more)))
+}
+
+/// Goes on past a span, towards a key of which this is left. `None` if no pair has the key.
+fn past_span<'a, 'k, K: ZeroTrieWithOptions, A: Allocator>(
+    here: Here<'a>,
+    run: &'a [u8],
+    after: &'a [u8],
+    left: &'k [u8],
+    key: &mut Vec<u8, A>,
+) -> Result<Option<(Here<'a>, &'k [u8])>, AllocError>
+    requires { Begins K.kind here.rest.now (span run.now after.now) }
+    ensures shorter { IfOk result (λ r. IfSome r
+        (λ next. length next.0.rest.now < length here.entry.rest.now)) }
+    ensures stands { IfOk result (λ _. (top : OpenBranch) (outer : List OpenBranch)
+        → Stands (length key.old.items) top outer → Stands (length key.new.items) top outer) }
+    ensures step { IfOk result (λ r. (top : OpenBranch) (outer : List OpenBranch)
+        → Stands (length key.old.items) top outer → IsTowards K.kind here.entry.rest.now left.now
+        key.old.items (top ∷ outer) (gone_to r) key.new.items (top ∷ outer)) }
+{
+    if !left.starts_with(run) {
+        return Ok(None);
+    }
+    key.extend_from_slice(run)?;
+    let (_, more) = left.split_at(run.len());
+    Ok(Some((here.behind(after), more)))
+}
+
+/// Goes on into a target of a branch, towards a key of which this is left. `None` if no pair has the key.
+fn past_branch<'a, 'k, K: ZeroTrieWithOptions, A: Allocator>(
+    here: Here<'a>,
+    branch: Branch<'a>,
+    left: &'k [u8],
+    key: &mut Vec<u8, A>,
+    top: &mut OpenBranch<'a>,
+    branches: &mut Vec<OpenBranch<'a>, A>,
+) -> Result<Option<(Here<'a>, &'k [u8])>, AllocError>
+    requires begins { Begins K.kind here.rest.now (branch_shape branch) }
+    requires stands { Stands (length key.old.items) top.old (reverse branches.old.items) }
+    ensures shorter { IfOk result (λ r. IfSome r
+        (λ next. length next.0.rest.now < length here.entry.rest.now)) }
+    ensures stands { IfOk result (λ r. IfSome r
+        (λ _. Stands (length key.new.items) top.new (reverse branches.new.items))) }
+    ensures step { IfOk result (λ r. IsTowards K.kind here.entry.rest.now left.now
+        key.old.items (top.old ∷ reverse branches.old.items) (gone_to r)
+        key.new.items (top.new ∷ reverse branches.new.items)) }
+{
+    let Some((byte, more)) = left.split_first() else {
+        return Ok(None);
+    };
+    match open_at::<K, A>(here, branch, *byte, key, top, branches)? {
+        Some(target) => Ok(Some((target, more))),
+        None => Ok(None),
     }
 }
 

@@ -13,7 +13,7 @@ ghost use Rattle.zerotrie_core.specs.WellFormed.{IsWellFormed, IsShallow, deep};
 ghost use Rattle.zerotrie_core.specs.listing.Runs.{EndsWith};
 ghost use Rattle.zerotrie_core.specs.well_formed.Testing.{Steps, Suits, Onward, IsFirstLonger, AlwaysOnward, AlwaysNoText};
 
-mod branches;
+pub(crate) mod branches;
 
 use crate::branch::Branch;
 use crate::here::Here;
@@ -39,7 +39,7 @@ impl Expected {
     ghost use Rattle.zerotrie_core.specs.well_formed.Testing.{Suits};
 
     /// Whether a value may stand next.
-    fn takes_value(self) -> bool
+    pub(crate) fn takes_value(self) -> bool
         ensures { IsTrue result ↔ (self ≢ NoValue) }
     {
         match self {
@@ -49,7 +49,7 @@ impl Expected {
     }
 
     /// Whether a span may stand next.
-    fn takes_span(self) -> bool
+    pub(crate) fn takes_span(self) -> bool
         ensures { IsTrue result ↔ (self ≢ NoSpan) }
     {
         match self {
@@ -59,7 +59,7 @@ impl Expected {
     }
 
     /// Whether the end may stand next.
-    fn takes_end(self) -> bool
+    pub(crate) fn takes_end(self) -> bool
         ensures { IsTrue result ↔ Suits self [] }
     {
         match self {
@@ -83,7 +83,7 @@ pub(crate) enum Step<'a> {
 }
 
 /// Whether the bytes may stand in a span.
-fn is_run(run: &[u8]) -> bool
+pub(crate) fn is_run(run: &[u8]) -> bool
     ensures { IsTrue result ↔ ((run.now ≢ []) × AreHigh run.now) }
 {
     if run.is_empty() {

@@ -4,8 +4,10 @@
 mod disk;
 mod output;
 mod replacing;
+mod store;
 mod system;
 
 pub use disk::Disk;
 pub use output::write_output;
 pub use replacing::replace;
+pub use store::{Store, SystemStore};

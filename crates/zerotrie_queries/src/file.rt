@@ -28,8 +28,12 @@ impl From<TagError> for OpenError {
 }
 
 impl<'a> Trie<'a> {
-    /// The bytes that a file has and their kind. They are not tested.
-    fn untested(named: Option<TrieKind>, file: &'a [u8]) -> Result<Self, OpenError>
+    /// The bytes of a file and their kind, for a file that is known to have a trie. The bytes are not tested: if they are no
+    /// trie, each call on them returns, and no clause says what.
+    ///
+    /// If a kind is named, the file is bare bytes of it, and else its first byte is the number of its kind. Refused if that
+    /// is the number of no kind.
+    pub fn open_untested(named: Option<TrieKind>, file: &'a [u8]) -> Result<Self, OpenError>
         ensures ok { IfOk result (λ trie. Holds named file.now trie.kind trie.bytes.now) }
         ensures err { IfErr result (λ why. Explains named file.now why) }
     {
@@ -48,7 +52,7 @@ impl<'a> Trie<'a> {
             × IsWellFormed (kind_of trie.kind) trie.bytes.now) }
         ensures err { IfErr result (λ why. Explains named file.now why) }
     {
-        let trie = Trie::untested(named, file)?;
+        let trie = Trie::open_untested(named, file)?;
         if trie.is_well_formed() {
             Ok(trie)
         } else {

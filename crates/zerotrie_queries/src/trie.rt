@@ -1,12 +1,14 @@
 //! A trie of a kind that is known when the program runs.
 
-ghost use Rattle.std.specs.Prelude.{◌≡◌, ◌↔◌, ◌≤◌, length, IsTrue, IfOk, IfErr};
+ghost use Rattle.std.specs.Prelude.{◌≡◌, ◌↔◌, ◌≤◌, length, IsTrue, IfOk, IfErr, IfSome, None};
 ghost use Rattle.zerotrie_core.specs.Maps.{Map, Pairs, look, beginning};
 ghost use Rattle.zerotrie_core.specs.Texts.{Lists, Means};
 ghost use Rattle.zerotrie_core.specs.Listings.{to_come};
 ghost use Rattle.zerotrie_core.specs.Prefixes.{IsLongestPrefix};
 ghost use Rattle.zerotrie_core.specs.walk.Visits.{nodes_of};
+ghost use Rattle.zerotrie_core.specs.walk.Texts.{text_visits};
 ghost use Rattle.zerotrie_core.specs.WellFormed.{IsWellFormed};
+ghost use Rattle.zerotrie_core.specs.Faults.{IsFirstFault};
 ghost use Rattle.zerotrie_any.specs.Tagged.{tagged, IsTagFault};
 ghost use Rattle.zerotrie_queries.specs.Kinds.{kind_of, IsTag};
 
@@ -14,7 +16,8 @@ use crate::kind::TrieKind;
 use std::alloc::{AllocError, Global};
 use zerotrie_any::TagError;
 use zerotrie_core::{
-    Ext, Hash, Ignore, Nodes, Simple, ZeroTrieStream, get_counted, is_well_formed, longest_prefix,
+    Ext, Fault, Hash, Ignore, Nodes, Simple, ZeroTrieStream, first_fault, get_counted,
+    is_well_formed, longest_prefix,
 };
 
 /// The bytes of a trie, where they lie, and its kind.
@@ -51,6 +54,26 @@ impl<'a> Trie<'a> {
             TrieKind::Ignore => is_well_formed::<Ignore>(self.bytes),
             TrieKind::Hash => is_well_formed::<Hash>(self.bytes),
             TrieKind::Ext => is_well_formed::<Ext>(self.bytes),
+        }
+    }
+
+    /// The first place where the bytes are no trie of the kind, and which rule of the format fails there. `None` exactly if
+    /// they are one.
+    ///
+    /// The only error is that it is out of memory.
+    pub fn first_fault(&self, alloc: Global) -> Result<Option<Fault>, AllocError>
+        ensures none { IfOk result (λ fault. (fault ≡ None)
+            ↔ IsWellFormed (kind_of self.now.kind) self.now.bytes.now) }
+        ensures some { IfOk result (λ fault.
+            IfSome fault (IsFirstFault (kind_of self.now.kind) self.now.bytes.now)) }
+        ensures within { IfOk result (λ fault.
+            IfSome fault (λ f. f.place ≤ length self.now.bytes.now)) }
+    {
+        match self.kind {
+            TrieKind::Simple => first_fault::<Simple, _>(alloc, self.bytes),
+            TrieKind::Ignore => first_fault::<Ignore, _>(alloc, self.bytes),
+            TrieKind::Hash => first_fault::<Hash, _>(alloc, self.bytes),
+            TrieKind::Ext => first_fault::<Ext, _>(alloc, self.bytes),
         }
     }
 
@@ -108,6 +131,9 @@ impl<'a> Trie<'a> {
     pub fn nodes(&self, alloc: Global) -> Result<Nodes<'a>, AllocError>
         ensures nodes { IfOk result (λ s. s ≡ nodes_of (kind_of self.now.kind) self.now.bytes.now) }
         ensures most { IfOk result (λ s. length s ≤ length self.now.bytes.now) }
+        ensures text { IfOk result (λ s. (pairs : Pairs)
+            (text : Lists (kind_of self.now.kind) self.now.bytes.now pairs)
+            → s ≡ text_visits text 0 0 None None) }
     {
         match self.kind {
             TrieKind::Simple => Nodes::new::<Simple>(alloc, self.bytes),

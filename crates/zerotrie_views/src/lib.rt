@@ -6,4 +6,4 @@ mod dump;
 mod meaning;
 mod views;
 
-pub use views::{View, write_view};
+pub use views::{View, write_trie_view, write_view};

@@ -26,8 +26,8 @@ pub enum View {
     Dot(usize),
 }
 
-/// Writes what is shown of a trie.
-fn write_shown<W: Write>(
+/// Writes what is shown of a trie. Its bytes may be any: of what is no node nothing is shown.
+pub fn write_trie_view<W: Write>(
     alloc: Global,
     trie: &Trie<'_>,
     view: View,
@@ -59,6 +59,6 @@ pub fn write_view<W: Write>(
     ensures err { IfErr result (IsRefusal named file.now (output.new ≡ output.old)) }
 {
     let trie = Trie::open(named, file)?;
-    write_shown(alloc, &trie, view, output)?;
+    write_trie_view(alloc, &trie, view, output)?;
     Ok(())
 }

@@ -17,7 +17,7 @@ use Rattle.zerotrie_core.specs.Stack.{branch_need, stack_of}
 use Rattle.zerotrie_core.proofs.CallerLemmas.{Rises, lists_some, node_many, node_lists, not_empty_text, rises_distinct, bytes_all, targets_each, edges_count, edges_listed, stack_none, stack_value, stack_literal, stack_branch, stack_edges, above_edge, above_edges}
 use Rattle.zerotrie_build.specs.declared.konst.text.Sibling.{Sibling}
 use Rattle.zerotrie_build.specs.konst.Texts.{Counts, bytes_of, lens_of}
-use Rattle.zerotrie_build.specs.konst.Growing.{DepthsBelow, NoneAt, AllAt, ComesBefore, Aside, ReadyFor, Stands, SomeBegins, AreAmong}
+use Rattle.zerotrie_build.specs.konst.Growing.{DepthsBelow, NoneAt, AllAt, ComesBefore, Aside, ReadyFor, ClosedTo, SomeBegins, AreAmong}
 use Rattle.zerotrie_build.proofs.Runs.{with_run-nil, behind_all-run, take_one_more}
 use Rattle.zerotrie_build.proofs.ArrayLemmas.Text.{total_first}
 use Rattle.zerotrie_build.proofs.ArrayLemmas.Runs.{run_step, with_run-append, behind_all-append, among_left, among_right, leads_run, leads_edge, leads_key, need_behind}
@@ -27,7 +27,7 @@ use Rattle.zerotrie_build.proofs.ArrayLemmas.Asides.{next_below, below_here, mov
 -- a value node in front
 pub with_value : (k : ℕ) (key : List ℕ) (v : ℕ) (spelling : List ℕ) (siblings : List Sibling) (front front' : ℕ) (bytes : List ℕ) (listed : Pairs) → SpellsAs value_form v spelling
     → ((m : ℕ) → Counts front m → Counts front' (length spelling + m)) → ReadyFor k key siblings front bytes listed
-    → Stands k key (length key) siblings front' (spelling ++ bytes) ((key, v) ∷ listed)
+    → ClosedTo k key (length key) siblings front' (spelling ++ bytes) ((key, v) ∷ listed)
 with_value k key v spelling siblings front front' bytes listed s more h = record {
   text = spelling ++ h.text;
   rest = h.rest;
@@ -47,7 +47,7 @@ with_value k key v spelling siblings front front' bytes listed s more h = record
 
 -- a literal in front
 pub with_literal : (k : ℕ) (key : List ℕ) (d b : ℕ) (siblings : List Sibling) (front front' : ℕ) (bytes : List ℕ) (listed : Pairs) → d < length key → b ≡ get_or key d 0 → b < 128 → NoneAt d siblings
-    → ((m : ℕ) → Counts front m → Counts front' (1 + m)) → Stands k key (suc d) siblings front bytes listed → Stands k key d siblings front' (b ∷ bytes) listed
+    → ((m : ℕ) → Counts front m → Counts front' (1 + m)) → ClosedTo k key (suc d) siblings front bytes listed → ClosedTo k key d siblings front' (b ∷ bytes) listed
 with_literal k key d b siblings front front' bytes listed within is low none more h = record {
   text = b ∷ h.text;
   rest = h.rest;
@@ -103,7 +103,7 @@ below_after e k key (s ∷ taken) last rest others below aside = below_after e k
 -- the text in front is the first target, and the siblings that are taken with it are the others
 opens_with : (k : ℕ) (key : List ℕ) (d front : ℕ) (taken after : List Sibling) (bytes : List ℕ) (listed : Pairs)
     → d < length key → get_or key d 0 < 128 → AllAt d taken → NoneAt d after → (taken ≡ [] → ⊥) → length (taken ++ after) < k
-    → Stands k key (suc d) (taken ++ after) front bytes listed
+    → ClosedTo k key (suc d) (taken ++ after) front bytes listed
     → Opens k key d (record { depth = d; byte = get_or key d 0; len = front } ∷ taken) after bytes listed
 opens_with k key d front taken after bytes listed within low level none some room h =
     let b = get_or key d 0 in
@@ -147,7 +147,7 @@ some_taken d taken before after split some none e = some (subst (NoneAt d) (sym 
 pub opens : (k : ℕ) (key : List ℕ) (d front : ℕ) (before taken after : List Sibling) (bytes : List ℕ) (listed : Pairs)
     → d < length key → get_or key d 0 < 128 → (NoneAt d before → ⊥) → length before < k
     → record { depth = d; byte = get_or key d 0; len = front } ∷ before ≡ taken ++ after → AllAt d taken → NoneAt d after
-    → Stands k key (suc d) before front bytes listed → Opens k key d taken after bytes listed
+    → ClosedTo k key (suc d) before front bytes listed → Opens k key d taken after bytes listed
 opens k key d front before [] (t ∷ after) bytes listed within low some room split level none h =
     absurd (none (let e : record { depth = d; byte = get_or key d 0; len = front } ≡ t = cc in sym (ap (λ s. s.depth) e)))
 opens k key d front before [] [] bytes listed within low some room split level none h = absurd (cc)
@@ -156,7 +156,7 @@ opens k key d front before (t ∷ taken) after bytes listed within low some room
     let later : before ≡ taken ++ after = cc in
     subst (λ s. Opens k key d (s ∷ taken) after bytes listed) first
     (opens_with k key d front taken after bytes listed within low level.1 none (some_taken d taken before after later some none) (let e = ap length later in omega arith)
-    (subst (λ x. Stands k key (suc d) x front bytes listed) later h))
+    (subst (λ x. ClosedTo k key (suc d) x front bytes listed) later h))
 
 front_none : (b : ℕ) (pairs more : Pairs) → with_front b pairs ++ more ≡ [] → pairs ≡ []
 front_none b [] more e = refl
@@ -169,7 +169,7 @@ each_pairs (edge {e = e} {pairs = p} {more = m} n text each) two none = lists_so
 -- the branch in front of its targets
 pub closed : (k : ℕ) (key : List ℕ) (d front : ℕ) (taken after : List Sibling) (bytes : List ℕ) (listed : Pairs) → Opens k key d taken after bytes listed → total (lens_of taken) < 2 ^ 32
     → Counts front (length (branch_front (bytes_of taken) (lens_of taken)) + total (lens_of taken))
-    → Stands k key d after front (branch_front (bytes_of taken) (lens_of taken) ++ bytes) listed
+    → ClosedTo k key d after front (branch_front (bytes_of taken) (lens_of taken) ++ bytes) listed
 closed k key d front taken after bytes listed o narrow counts =
     let es = bytes_of taken in
     let exact = o.counts.small narrow in
@@ -213,7 +213,7 @@ too_wide k key d taken after bytes listed o within large =
 
 -- Where siblings wait at this depth or below it and the text in front has to wait with them, a stack of so many is too small.
 pub too_many : (k : ℕ) (key : List ℕ) (d : ℕ) (siblings : List Sibling) (front : ℕ) (bytes : List ℕ) (listed all : Pairs) → d < length key → All (λ b. b < 128) key
-    → Stands k key (suc d) siblings front bytes listed → k ≤ length siblings → AreAmong listed all → 2 ≤ length (edges (behind_all (take d key) all)) → k < stack_of all
+    → ClosedTo k key (suc d) siblings front bytes listed → k ≤ length siblings → AreAmong listed all → 2 ≤ length (edges (behind_all (take d key) all)) → k < stack_of all
 too_many k key d siblings front bytes listed all within ascii h full among two =
     let b = get_or key d 0 in
     let p = behind_all (take d key) all in
@@ -249,7 +249,7 @@ too_many k key d siblings front bytes listed all within ascii h full among two =
 
 -- two edges, of which one is a sibling's
 pub two_aside : (k : ℕ) (key : List ℕ) (d : ℕ) (siblings : List Sibling) (front : ℕ) (bytes : List ℕ) (listed all : Pairs) → d < length key → All (λ b. b < 128) key
-    → Stands k key (suc d) siblings front bytes listed → (NoneAt d siblings → ⊥) → AreAmong listed all → 2 ≤ length (edges (behind_all (take d key) all))
+    → ClosedTo k key (suc d) siblings front bytes listed → (NoneAt d siblings → ⊥) → AreAmong listed all → 2 ≤ length (edges (behind_all (take d key) all))
 two_aside k key d [] front bytes listed all within ascii h there among = absurd (there tt)
 two_aside k key d (s ∷ siblings) front bytes listed all within ascii h there among =
     let b = get_or key d 0 in
@@ -282,7 +282,7 @@ two_aside k key d (s ∷ siblings) front bytes listed all within ascii h there a
 
 -- two edges, of which one is that of the key before
 pub two_before : (k : ℕ) (before key : List ℕ) (v d : ℕ) (siblings : List Sibling) (front : ℕ) (bytes : List ℕ) (listed all : Pairs) → d < length key → All (λ b. b < 128) key
-    → Parted before key d → d < length before → Stands k key (suc d) siblings front bytes listed → AreAmong ((before, v) ∷ listed) all → 2 ≤ length (edges (behind_all (take d key) all))
+    → Parted before key d → d < length before → ClosedTo k key (suc d) siblings front bytes listed → AreAmong ((before, v) ∷ listed) all → 2 ≤ length (edges (behind_all (take d key) all))
 two_before k before key v d siblings front bytes listed all within ascii parts longer h among =
     let b = get_or key d 0 in
     let low : b < 128 = ascii d 0 within in
@@ -323,7 +323,7 @@ low_enough before key c p more j h =
 
 -- the text is set aside, and the key before has none yet
 pub set_aside : (k : ℕ) (before key : List ℕ) (c b front : ℕ) (siblings : List Sibling) (bytes : List ℕ) (listed : Pairs) → Parted before key c → c < length before → b ≡ get_or key c 0 → b < 128
-    → length siblings < k → Stands k key (suc c) siblings front bytes listed → ReadyFor k before (record { depth = c; byte = b; len = front } ∷ siblings) 0 bytes listed
+    → length siblings < k → ClosedTo k key (suc c) siblings front bytes listed → ReadyFor k before (record { depth = c; byte = b; len = front } ∷ siblings) 0 bytes listed
 set_aside k before key c b front siblings bytes listed p more is low room h = record {
   text = [];
   rest = bytes;
@@ -361,7 +361,7 @@ set_aside k before key c b front siblings bytes listed p more is low room h = re
 
 -- the key before is a front of the key
 pub goes_on : (k : ℕ) (before key : List ℕ) (c : ℕ) (siblings : List Sibling) (front : ℕ) (bytes : List ℕ) (listed : Pairs) → Parted before key c → c ≡ length before
-    → Stands k key c siblings front bytes listed → ReadyFor k before siblings front bytes listed
+    → ClosedTo k key c siblings front bytes listed → ReadyFor k before siblings front bytes listed
 goes_on k before key c siblings front bytes listed p ends h = record {
   text = h.text;
   rest = h.rest;
@@ -378,7 +378,7 @@ goes_on k before key c siblings front bytes listed p ends h = record {
 }
 
 -- at depth 0 nothing is set aside
-pub whole : (k : ℕ) (key : List ℕ) (siblings : List Sibling) (front : ℕ) (bytes : List ℕ) (listed : Pairs) → Stands k key 0 siblings front bytes listed → Lists simple_ascii bytes listed × (stack_of listed ≤ k)
+pub whole : (k : ℕ) (key : List ℕ) (siblings : List Sibling) (front : ℕ) (bytes : List ℕ) (listed : Pairs) → ClosedTo k key 0 siblings front bytes listed → Lists simple_ascii bytes listed × (stack_of listed ≤ k)
 whole k key [] front bytes listed h =
     let bytes_is : bytes ≡ h.text = h.bytes_are ∙ ap (λ r. h.text ++ r) h.aside.0 ∙ append-nil h.text in
     let pairs_is : listed ≡ h.inner = h.pairs_are ∙ ap (λ o. with_run [] h.inner ++ o) h.aside.1 ∙ append-nil (with_run [] h.inner) ∙ with_run-nil h.inner in

@@ -11,7 +11,7 @@ use Rattle.zerotrie_build.specs.declared.konst.text.Sibling.{Sibling}
 use Rattle.zerotrie_build.specs.declared.konst.text.Text.{Text}
 use Rattle.zerotrie_build.specs.Order.{Before}
 use Rattle.zerotrie_build.specs.konst.Texts.{Counts, EndsIn, Has, PutsBefore, tops, bytes_of, lens_of}
-use Rattle.zerotrie_build.specs.konst.Growing.{NoneAt, AllAt, ReadyFor, Standing, IsReady, Joins, LevelTooWide, RefusedAt, RefusedFrom, RefusedBefore}
+use Rattle.zerotrie_build.specs.konst.Growing.{NoneAt, AllAt, ReadyFor, IsClosedTo, IsReady, Joins, LevelTooWide, RefusedAt, RefusedFrom, RefusedBefore}
 use Rattle.zerotrie_build.proofs.Items.{below_or_from}
 use Rattle.zerotrie_build.proofs.OrderLemmas.Parting.{common}
 use Rattle.zerotrie_build.proofs.ArrayLemmas.Parting.{parted, at_most_front}
@@ -79,7 +79,7 @@ wide_at d ss branch start is level none wide = record {
 pub closes_branch : (k : ℕ) (key : List ℕ) (d : ℕ) (old mid new : Text) (before aside after : List Sibling) (listed : Pairs) → d < length key → All (λ b. b < 128) key
     → (NoneAt d (tops before) → ⊥) → length before < k → tops aside ≡ record { depth = d; byte = get_or key d 0; len = old.front } ∷ tops before
     → mid.buffer.now ≡ old.buffer.now → mid.len ≡ old.len → Joins d mid new (tops aside) (tops after)
-    → Standing k key (suc d) old before listed → Standing k key d new after listed
+    → IsClosedTo k key (suc d) old before listed → IsClosedTo k key d new after listed
 closes_branch k key d old mid new before aside after listed within ascii some room is written len j standing =
     let bytes = standing.0 in
     let h = has_same old mid bytes (sym written) (sym len) standing.1 in
@@ -89,14 +89,14 @@ closes_branch k key d old mid new before aside after listed within ascii some ro
 -- their texts are too long together
 pub stuck_wide : (k : ℕ) (key : List ℕ) (d : ℕ) (old : Text) (before aside : List Sibling) (listed : Pairs) (e : ZeroTrieBuildError) → d < length key → All (λ b. b < 128) key
     → (NoneAt d (tops before) → ⊥) → length before < k → tops aside ≡ record { depth = d; byte = get_or key d 0; len = old.front } ∷ tops before
-    → e ≡ CapacityExceeded → LevelTooWide d (tops aside) → Standing k key (suc d) old before listed → RefusedAt k key d listed e
+    → e ≡ CapacityExceeded → LevelTooWide d (tops aside) → IsClosedTo k key (suc d) old before listed → RefusedAt k key d listed e
 stuck_wide k key d old before aside listed e within ascii some room is error t standing =
     let o = opens k key d old.front (tops before) t.taken t.after standing.0 listed within (ascii d 0 within) some (let l = length-reverse before in omega arith) (sym is ∙ t.split) t.level t.no_more standing.2 in
     inl (error, too_wide k key d t.taken t.after standing.0 listed o (omega arith) t.wide)
 
 -- too many siblings wait
 pub stuck_many : (k : ℕ) (key : List ℕ) (d : ℕ) (old : Text) (before : List Sibling) (listed : Pairs) (e : ZeroTrieBuildError) → d < length key → All (λ b. b < 128) key
-    → (NoneAt d (tops before) → ⊥) → k ≤ length before → e ≡ StackExceeded → Standing k key (suc d) old before listed → RefusedAt k key d listed e
+    → (NoneAt d (tops before) → ⊥) → k ≤ length before → e ≡ StackExceeded → IsClosedTo k key (suc d) old before listed → RefusedAt k key d listed e
 stuck_many k key d old before listed e within ascii some full error standing =
     inr (
       error,
@@ -107,7 +107,7 @@ stuck_many k key d old before listed e within ascii some full error standing =
 
 -- a literal is put in front
 pub closes_literal : (k : ℕ) (key : List ℕ) (d : ℕ) (old new : Text) (siblings : List Sibling) (listed : Pairs) → d < length key → All (λ b. b < 128) key → NoneAt d (tops siblings)
-    → PutsBefore old new (get_or key d 0 ∷ []) → Standing k key (suc d) old siblings listed → Standing k key d new siblings listed
+    → PutsBefore old new (get_or key d 0 ∷ []) → IsClosedTo k key (suc d) old siblings listed → IsClosedTo k key d new siblings listed
 closes_literal k key d old new siblings listed within ascii none p standing = (
   get_or key d 0 ∷ standing.0,
   p.has standing.0 standing.1,
@@ -117,7 +117,7 @@ closes_literal k key d old new siblings listed within ascii none p standing = (
 
 -- the key before is a front of the key
 pub goes_before : (k : ℕ) (before key : List ℕ) (text : Text) (siblings : List Sibling) (listed : Pairs) → Before simple_ascii before key → common before key ≡ length before
-    → Standing k key (common before key) text siblings listed → IsReady k before text siblings listed
+    → IsClosedTo k key (common before key) text siblings listed → IsReady k before text siblings listed
 goes_before k before key text siblings listed sorted ends standing = (
   standing.0,
   standing.1,
@@ -128,7 +128,7 @@ goes_before k before key text siblings listed sorted ends standing = (
 pub parts_before : (k : ℕ) (before key : List ℕ) (old new : Text) (siblings aside : List Sibling) (listed : Pairs) → Before simple_ascii before key → All (λ b. b < 128) key → common before key < length before
     → length siblings < k → tops aside ≡ record { depth = common before key; byte = get_or key (common before key) 0; len = old.front } ∷ tops siblings → new.front ≡ 0
     → new.buffer.now ≡ old.buffer.now → new.len ≡ old.len
-    → Standing k key (suc (common before key)) old siblings listed → IsReady k before new aside listed
+    → IsClosedTo k key (suc (common before key)) old siblings listed → IsReady k before new aside listed
 parts_before k before key old new siblings aside listed sorted ascii longer room is front written len standing =
     let p = parted before key sorted in
     let c = common before key in
@@ -141,7 +141,7 @@ parts_before k before key old new siblings aside listed sorted ascii longer room
 
 -- too many siblings wait for the key before
 pub stuck_before : (k : ℕ) (before key : List ℕ) (text : Text) (siblings : List Sibling) (listed : Pairs) (e : ZeroTrieBuildError) → Before simple_ascii before key → All (λ b. b < 128) key
-    → common before key < length before → k ≤ length siblings → e ≡ StackExceeded → Standing k key (suc (common before key)) text siblings listed → RefusedBefore k before listed e
+    → common before key < length before → k ≤ length siblings → e ≡ StackExceeded → IsClosedTo k key (suc (common before key)) text siblings listed → RefusedBefore k before listed e
 stuck_before k before key text siblings listed e sorted ascii longer full error standing =
     let p = parted before key sorted in
     let c = common before key in

@@ -10,7 +10,7 @@ use Rattle.zerotrie_build.specs.Order.{Ordered, AreKeys}
 use Rattle.zerotrie_build.specs.declared.windows.Window.{Window}
 use Rattle.zerotrie_build.specs.declared.measuring.OpenBranch.{OpenBranch}
 use Rattle.zerotrie_build.specs.passes.Windows.{window}
-use Rattle.zerotrie_build.specs.passes.Measured.{TargetWindows, sizes_of, ends_from, Kept, KeptEach, whole}
+use Rattle.zerotrie_build.specs.passes.Measured.{TargetWindows, sizes_of, ends_from, Kept, KeptEach, whole_window}
 use Rattle.zerotrie_build.specs.passes.Measured.KeptEach.{none as kept_none, more as kept_more}
 use Rattle.zerotrie_build.specs.passes.Walking.{IsPlaced, item_ends, spare_len, slots_so_far, with_len, MeasuresTarget, IsInside, Closing}
 use Rattle.zerotrie_build.specs.passes.Walking.IsInside.{outside, inside}
@@ -52,12 +52,12 @@ pub inner : {kind : Kind} {all : Pairs} {branches : List OpenBranch} {slots : Li
 inner {slots = slots} {len = len} f fs closing e = inner_at f fs slots closing.own len closing.waits e closing.kept closing.slots_are closing.len_is
 
 -- no branch is open any more
-pub all_closed : {kind : Kind} {all : Pairs} {branches : List OpenBranch} {slots : List ℕ} {len : ℕ} → Closing kind all branches slots len → branches ≡ [] → Kept kind all (whole all) slots × (len ≡ size_of kind (window all (whole all)))
+pub all_closed : {kind : Kind} {all : Pairs} {branches : List OpenBranch} {slots : List ℕ} {len : ℕ} → Closing kind all branches slots len → branches ≡ [] → Kept kind all (whole_window all) slots × (len ≡ size_of kind (window all (whole_window all)))
 all_closed {slots = slots} {len = len} closing e = by closing.waits e closing.kept closing.slots_are closing.len_is
   where
     by : {kind : Kind} {all : Pairs} {w : Window} {bs : List OpenBranch} {front own : List ℕ} → IsInside kind all w bs front → bs ≡ [] → Kept kind all w own → slots ≡ front ++ own → len ≡ size_of kind (window all w)
-        → Kept kind all (whole all) slots × (len ≡ size_of kind (window all (whole all)))
-    by {kind = kind} {all = all} outside e k is n = (subst (Kept kind all (whole all)) (sym is) k, n)
+        → Kept kind all (whole_window all) slots × (len ≡ size_of kind (window all (whole_window all)))
+    by {kind = kind} {all = all} outside e k is n = (subst (Kept kind all (whole_window all)) (sym is) k, n)
     by (inside waits counting) e k is n = absurd (cc)
 
 -- what is known of all targets of the branch

@@ -14,7 +14,7 @@ use Rattle.zerotrie_build.specs.declared.windows.Window.{Window}
 use Rattle.zerotrie_build.specs.declared.windows.Step.TheVariants.{Branch}
 use Rattle.zerotrie_build.specs.declared.measuring.OpenBranch.{OpenBranch}
 use Rattle.zerotrie_build.specs.passes.Windows.{window, edge_of, step_of}
-use Rattle.zerotrie_build.specs.passes.Measured.{Passes, TargetWindows, sizes_of, ends_from, slots_of, IsOpen, KeptEach}
+use Rattle.zerotrie_build.specs.passes.Measured.{Passes, TargetWindows, sizes_of, ends_from, slots_of, HasFirstTargets, KeptEach}
 use Rattle.zerotrie_build.specs.passes.Measured.Kept.{kept}
 use Rattle.zerotrie_build.specs.passes.Measured.KeptEach.{none as kept_none}
 use Rattle.zerotrie_build.specs.passes.Walking.{IsPlaced, item_ends, spare_len, slots_so_far, with_len, MeasuresTarget, IsInside, Closing, IsOpened, left_open}
@@ -114,7 +114,7 @@ last_closing {kind = kind} {all = all} {f = f} i slots' l n keys len narrow =
     let at = a.at l.placed.behind in
     let size = a.size in
     let sized : size_of kind (window all l.behind) ≡ branch_size kind (sizes_of kind all cs) + total (sizes_of kind all cs) = b.sized.size in
-    let o : IsOpen kind all i.w cs = record {
+    let o : HasFirstTargets kind all i.w cs = record {
       within = l.placed.within;
       ordered = l.placed.ordered;
       behind = l.behind;

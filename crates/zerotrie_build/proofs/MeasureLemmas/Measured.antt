@@ -12,8 +12,8 @@ use Rattle.zerotrie_core.proofs.CallerLemmas.{Rises, NarrowBehind, narrow_none, 
 use Rattle.zerotrie_build.specs.Order.{Ordered, AreKeys, AreValues}
 use Rattle.zerotrie_build.specs.declared.windows.Window.{Window}
 use Rattle.zerotrie_build.specs.declared.windows.Step.TheVariants.{Branch}
-use Rattle.zerotrie_build.specs.passes.Windows.{window, item_of, edge_of, step_of}
-use Rattle.zerotrie_build.specs.passes.Measured.{Passes, sizes_of, IsOpen, Kept, KeptEach, IsMeasured}
+use Rattle.zerotrie_build.specs.passes.Windows.{window, item_no, edge_of, step_of}
+use Rattle.zerotrie_build.specs.passes.Measured.{Passes, sizes_of, HasFirstTargets, Kept, KeptEach, IsMeasured}
 use Rattle.zerotrie_build.specs.passes.Measured.Kept.{kept}
 use Rattle.zerotrie_build.specs.passes.Measured.KeptEach.{none as kept_none, more as kept_more}
 use Rattle.zerotrie_build.specs.passes.Measured.Passes.{here, value, literal, span}
@@ -50,7 +50,7 @@ run_narrow {kind = kind} {all = all} {w = w} (span m is run) within keys up narr
     let w' : Window = record w { depth = w.depth + m } in
     let f = a.front in
     subst (Narrow kind) (sym f.is)
-    (by_fronts (λ p. (p ≡ [] → ⊥) × Narrow kind p) (take m (drop w.depth (item_of all w.from).0)) (window all w') f.high (narrow_front kind)
+    (by_fronts (λ p. (p ≡ [] → ⊥) × Narrow kind p) (take m (drop w.depth (item_no all w.from).0)) (window all w') f.high (narrow_front kind)
     (some_items all w' a.inside within, run_narrow run within keys f.ordered narrow)).1
 
 abbrev EachNarrow : Kind → List Pairs → Type 0
@@ -66,7 +66,7 @@ grouped_narrow kind (b ∷ bs) (p ∷ ps) some rises narrow c front = elim (eqb_
       (residual-append c (with_front b p) (grouped bs ps) ∙ ap (λ x. x ++ residual c (grouped bs ps)) (residual-other c b p other.1)) (grouped_narrow kind bs ps some.1 rises.1 narrow.1 c front)
 ]
 
-branch_narrow : {kind : Kind} {all : Pairs} {w : Window} {cs : List Window} (o : IsOpen kind all w cs) → AreKeys kind all → step_of kind all o.behind ≡ Branch → EachNarrow kind (map (window all) cs) → Narrow kind (window all o.behind)
+branch_narrow : {kind : Kind} {all : Pairs} {w : Window} {cs : List Window} (o : HasFirstTargets kind all w cs) → AreKeys kind all → step_of kind all o.behind ≡ Branch → EachNarrow kind (map (window all) cs) → Narrow kind (window all o.behind)
 branch_narrow {kind = kind} {all = all} {cs = cs} o keys is each front =
     let a = along o.run o.within keys o.ordered in
     let to_is = a.to_is in

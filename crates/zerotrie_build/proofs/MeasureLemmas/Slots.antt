@@ -14,10 +14,10 @@ use Rattle.zerotrie_build.specs.declared.windows.Window.{Window}
 use Rattle.zerotrie_build.specs.declared.windows.Step.TheVariants.{End, Branch}
 use Rattle.zerotrie_build.specs.declared.measuring.OpenBranch.{OpenBranch}
 use Rattle.zerotrie_build.specs.passes.Windows.{window, step_of}
-use Rattle.zerotrie_build.specs.passes.Measured.{Passes, NoneFirst, ends_from, slots_of, IsOpen, Kept}
+use Rattle.zerotrie_build.specs.passes.Measured.{Passes, NoneFirst, ends_from, slots_of, HasFirstTargets, Kept}
 use Rattle.zerotrie_build.specs.passes.Measured.Kept.{kept}
 use Rattle.zerotrie_build.specs.passes.Measured.KeptEach.{none as kept_none}
-use Rattle.zerotrie_build.specs.passes.Walking.{IsBehind, IsPlaced, slots_so_far, with_len}
+use Rattle.zerotrie_build.specs.passes.Walking.{IsBehindFront, IsPlaced, slots_so_far, with_len}
 use Rattle.zerotrie_build.proofs.Nodes.{power_some}
 use Rattle.zerotrie_build.proofs.Overflow.{same_edges}
 use Rattle.zerotrie_build.proofs.WindowLemmas.Windows.{cut_none}
@@ -58,7 +58,7 @@ no_edges extended_capacity = refl
 pub not_branch : (kind : Kind) (all : Pairs) (w : Window) → step_of kind all w ≡ End → step_of kind all w ≡ Branch → ⊥
 not_branch kind all w end branch = let e = sym end ∙ branch in cc
 
-pub edges_behind : (kind : Kind) (all : Pairs) (w : Window) (at : IsBehind all w) (es : List ℕ) → in_order kind (edges (window all w)) ≡ es → in_order kind (edges (behind_all at.0 all)) ≡ es
+pub edges_behind : (kind : Kind) (all : Pairs) (w : Window) (at : IsBehindFront all w) (es : List ℕ) → in_order kind (edges (window all w)) ≡ es → in_order kind (edges (behind_all at.0 all)) ≡ es
 edges_behind kind all w at es is = ap (in_order kind) (same_edges (behind_all at.0 all) (window all w) at.1) ∙ is
 
 at_end : (kind : Kind) (all : Pairs) (w : Window) → NoneFirst kind all w → w.to ≤ w.from → step_of kind all w ≡ End
@@ -78,7 +78,7 @@ kept_end kind all w behind n placed keys run stops past =
     let size = a.size in
     let zero_size : size_of kind (window all behind) ≡ 0 = ap (size_of kind) empty ∙ size_none kind in
     let at = a.at placed.behind in
-    let o : IsOpen kind all w [] = record {
+    let o : HasFirstTargets kind all w [] = record {
       within = placed.within;
       ordered = placed.ordered;
       behind = behind;

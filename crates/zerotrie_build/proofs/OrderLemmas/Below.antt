@@ -2,8 +2,9 @@
 use Rattle.std.proofs.Common.{ℕ, inl, inr, List, [], ◌∷◌, refl, arith}
 use Rattle.std.proofs.lemmas.Bool.{cases_lt, cases_eq}
 use Rattle.zerotrie_core.specs.Kind.{simple_ascii}
-use Rattle.zerotrie_build.specs.Order.{Before}
-use Rattle.zerotrie_build.proofs.Items.{Below}
+use Rattle.zerotrie_core.specs.Maps.{Pairs, Ascends}
+use Rattle.zerotrie_build.specs.Order.{Before, Ordered}
+use Rattle.zerotrie_build.proofs.Items.{Below, ascends_each, each_ordered}
 use Rattle.zerotrie_build.proofs.OrderLemmas.Sorting.{less_is, equal_is, greater_is}
 
 pub below_before : (k l : List ℕ) → Below k l → Before simple_ascii k l
@@ -24,3 +25,6 @@ before_below (a ∷ k) [] h = absurd h
 before_below [] (b ∷ l) h = refl
 before_below (a ∷ k) (b ∷ l) (inl less) = rw (less_is a b less) refl
 before_below (a ∷ k) (b ∷ l) (inr r) = rw (equal_is a b r.0) (before_below k l r.1)
+
+pub ordered_ascends : (pairs : Pairs) → Ordered simple_ascii pairs → Ascends pairs
+ordered_ascends pairs up = ascends_each pairs (λ k below. before_below _ _ (each_ordered simple_ascii pairs k up below))

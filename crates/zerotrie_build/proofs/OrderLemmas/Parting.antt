@@ -14,23 +14,23 @@ apart : (kind : Kind) (a b : ℕ) → fold_byte kind a < fold_byte kind b → a 
 apart kind a b h e = let f = ap (fold_byte kind) e in omega arith
 
 -- after c common bytes the key before ends, or has a byte that is lower to the kind
-pub record TargetWindows (kind : Kind) (before key : List ℕ) (c : ℕ) : Type 0 where
+pub record PartsAt (kind : Kind) (before key : List ℕ) (c : ℕ) : Type 0 where
   pub room : c < length key
   pub less : c < length before → fold_byte kind (get_or before c 0) < fold_byte kind (get_or key c 0)
 
-parts_at_once : (kind : Kind) (x y : ℕ) (before key : List ℕ) → fold_byte kind x < fold_byte kind y → TargetWindows kind (x ∷ before) (y ∷ key) 0
+parts_at_once : (kind : Kind) (x y : ℕ) (before key : List ℕ) → fold_byte kind x < fold_byte kind y → PartsAt kind (x ∷ before) (y ∷ key) 0
 parts_at_once kind x y before key h = record {
   room = omega arith;
   less = λ l. h;
 }
 
-parts_later : (kind : Kind) (x y c : ℕ) (before key : List ℕ) → TargetWindows kind before key c → TargetWindows kind (x ∷ before) (y ∷ key) (1 + c)
+parts_later : (kind : Kind) (x y c : ℕ) (before key : List ℕ) → PartsAt kind before key c → PartsAt kind (x ∷ before) (y ∷ key) (1 + c)
 parts_later kind x y c before key p = record {
   room = let u = p.room in omega arith;
   less = λ l. let n : 1 + c ≡ suc c = omega arith in rw n (p.less (omega arith));
 }
 
-pub parts : (kind : Kind) (before key : List ℕ) → Before kind before key → TargetWindows kind before key (common before key)
+pub parts : (kind : Kind) (before key : List ℕ) → Before kind before key → PartsAt kind before key (common before key)
 parts kind [] [] h = absurd h
 parts kind [] (y ∷ key) h = record {
   room = omega arith;

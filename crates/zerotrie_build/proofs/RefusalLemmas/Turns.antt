@@ -8,7 +8,7 @@ use Rattle.zerotrie_core.specs.Kind.{Kind, simple_ascii, ignore_case, perfect_ha
 use Rattle.zerotrie_core.specs.Maps.{Pairs, Ascends, IsCaseConsistent, common_front}
 use Rattle.zerotrie_core.proofs.CallerLemmas.{compare_first}
 use Rattle.zerotrie_build.specs.Refused.{key_at, DifferInCase}
-use Rattle.zerotrie_build.specs.passes.Turns.{Begins, Turns, NoneTurns}
+use Rattle.zerotrie_build.specs.passes.Turns.{BeginsThen, Turns, NoneTurns}
 use Rattle.zerotrie_build.proofs.Items.{Below, below_or_from}
 use Rattle.zerotrie_build.proofs.OrderLemmas.Below.{below_before, before_below}
 use Rattle.zerotrie_build.proofs.OrderLemmas.Parting.{common}
@@ -131,7 +131,7 @@ turns_next kind (a ∷ e) (c ∷ f) up d =
 pub record TurnsAt (kind : Kind) (key other : List ℕ) (c : ℕ) : Type 0 where
   pub room : c < length key
   pub letter : fold_byte kind (get_or key c 0) ≢ get_or key c 0
-  pub begins : Begins (take c key) (fold_byte kind (get_or key c 0)) other
+  pub begins : BeginsThen (take c key) (fold_byte kind (get_or key c 0)) other
 
 pub turns_at : (kind : Kind) (key next other : List ℕ) → Turns kind key next other → TurnsAt kind key other (common key next)
 turns_at kind [] next other h = absurd h
@@ -167,7 +167,7 @@ turns_at kind (a ∷ key) (b ∷ next) (c ∷ other) h =
 
 -- a key that goes on so differs in case
 pub begins_differ : (kind : Kind) (key other : List ℕ) (c : ℕ) → c < length key → fold_byte kind (get_or key c 0) ≢ get_or key c 0
-    → Begins (take c key) (fold_byte kind (get_or key c 0)) other → DifferInCase kind key other
+    → BeginsThen (take c key) (fold_byte kind (get_or key c 0)) other → DifferInCase kind key other
 begins_differ kind [] other c room letter h = absurd (let g : c < 0 = room in omega arith)
 begins_differ kind (a ∷ key) [] c room letter h = absurd h
 begins_differ kind (a ∷ key) (x ∷ other) zero room letter h =

@@ -10,7 +10,7 @@ use Rattle.zerotrie_core.specs.Numbers.{value_form, span_form, spelled_as}
 use Rattle.zerotrie_core.specs.Maps.{Pairs}
 use Rattle.zerotrie_build.specs.declared.windows.Window.{Window}
 use Rattle.zerotrie_build.specs.declared.windows.Step.TheVariants.{Value, Literal, Span}
-use Rattle.zerotrie_build.specs.passes.Windows.{item_of, byte_of, high_front, short_size, step_of, IsOne, IsRestLen}
+use Rattle.zerotrie_build.specs.passes.Windows.{item_no, byte_of, high_front, short_size, step_of, IsOne, IsRestLen}
 use Rattle.zerotrie_build.specs.passes.Measured.{Passes}
 use Rattle.zerotrie_build.specs.passes.Measured.Passes.{here, value, literal, span}
 use Rattle.zerotrie_build.proofs.WriteLemmas.Puts.{spelled_len}
@@ -42,9 +42,9 @@ short_high (b ∷ rest) = elim (leb_tells 128 b) [
 ]
 
 -- what stands in a window of one item at a depth
-one_value : (kind : Kind) (all : Pairs) (w : Window) (d : ℕ) → w.to ≡ w.from + 1 → length (item_of all w.from).0 ≤ d → step_of kind all (record w { depth = d }) ≡ Value (item_of all w.from).1
+one_value : (kind : Kind) (all : Pairs) (w : Window) (d : ℕ) → w.to ≡ w.from + 1 → length (item_no all w.from).0 ≤ d → step_of kind all (record w { depth = d }) ≡ Value (item_no all w.from).1
 one_value kind all w d one past =
-    let none : byte_of all w.from d ≡ None = slice_get_past (item_of all w.from).0 d past in
+    let none : byte_of all w.from d ≡ None = slice_get_past (item_no all w.from).0 d past in
     rw (lt-ltb w.from w.to (omega arith), none) refl
 
 one_low : (kind : Kind) (all : Pairs) (w : Window) (d b : ℕ) → w.to ≡ w.from + 1 → byte_of all w.from d ≡ Some b → leb 128 b ≡ false → step_of kind all (record w { depth = d }) ≡ Literal b
@@ -53,7 +53,7 @@ one_low kind all w d b one is low =
     rw (lt-ltb w.from w.to (omega arith), last, is, eq-eqb b b refl, low) refl
 
 one_high : (kind : Kind) (all : Pairs) (w : Window) (d b : ℕ) → w.to ≡ w.from + 1 → byte_of all w.from d ≡ Some b → leb 128 b ≡ true → has_spans kind ≡ true
-    → step_of kind all (record w { depth = d }) ≡ Span (high_front (drop d (item_of all w.from).0) (drop d (item_of all w.from).0))
+    → step_of kind all (record w { depth = d }) ≡ Span (high_front (drop d (item_no all w.from).0) (drop d (item_no all w.from).0))
 one_high kind all w d b one is high spans =
     let last : w.to - 1 ≡ w.from = omega arith in
     rw (lt-ltb w.from w.to (omega arith), last, is, eq-eqb b b refl, high, spans) refl
@@ -66,26 +66,26 @@ size_high b rest high = rw high (let e : 2 + short_size true rest ≡ 1 + (1 + s
 
 -- From a depth on, the text of a window of one item has so many bytes.
 abbrev ShortFrom : Kind → Pairs → Window → ℕ → Type 0
-ShortFrom kind all w d = Passes kind all (record w { depth = d }) (record { from = w.to; to = w.to; depth = length (item_of all w.from).0 })
-    (short_size false (drop d (item_of all w.from).0) + length (spelled_as value_form (item_of all w.from).1))
+ShortFrom kind all w d = Passes kind all (record w { depth = d }) (record { from = w.to; to = w.to; depth = length (item_no all w.from).0 })
+    (short_size false (drop d (item_no all w.from).0) + length (spelled_as value_form (item_no all w.from).1))
 
-short_past : (kind : Kind) (all : Pairs) (w : Window) (d : ℕ) → w.to ≡ w.from + 1 → d ≡ length (item_of all w.from).0 → ShortFrom kind all w d
+short_past : (kind : Kind) (all : Pairs) (w : Window) (d : ℕ) → w.to ≡ w.from + 1 → d ≡ length (item_no all w.from).0 → ShortFrom kind all w d
 short_past kind all w d one at =
-    let key = (item_of all w.from).0 in
-    let k = length (spelled_as value_form (item_of all w.from).1) in
+    let key = (item_no all w.from).0 in
+    let k = length (spelled_as value_form (item_no all w.from).1) in
     let last : Window = record { from = w.to; to = w.to; depth = length key } in
     let next : w.from + 1 ≡ w.to = omega arith in
     let none : short_size false (drop d key) ≡ 0 = ap (short_size false) (drop_all d key (omega arith)) in
     let count : k + 0 ≡ short_size false (drop d key) + k = omega arith in
     let ends : Passes kind all (record { from = w.from + 1; to = w.to; depth = d }) last 0 =
     subst (λ f. Passes kind all (record { from = f; to = w.to; depth = d }) last 0) (sym next) (subst (λ x. Passes kind all (record { from = w.to; to = w.to; depth = x }) last 0) (sym at) here) in
-    subst (Passes kind all (record w { depth = d }) last) count (value (item_of all w.from).1 (one_value kind all w d one (omega arith)) ends)
+    subst (Passes kind all (record w { depth = d }) last) count (value (item_no all w.from).1 (one_value kind all w d one (omega arith)) ends)
 
-short_more : (kind : Kind) (all : Pairs) (w : Window) (d : ℕ) → w.to ≡ w.from + 1 → has_spans kind ≡ true → d < length (item_of all w.from).0 → length (item_of all w.from).0 - d < 16
-    → ((e : ℕ) → d < e → e ≤ length (item_of all w.from).0 → ShortFrom kind all w e) → ShortFrom kind all w d
+short_more : (kind : Kind) (all : Pairs) (w : Window) (d : ℕ) → w.to ≡ w.from + 1 → has_spans kind ≡ true → d < length (item_no all w.from).0 → length (item_no all w.from).0 - d < 16
+    → ((e : ℕ) → d < e → e ≤ length (item_no all w.from).0 → ShortFrom kind all w e) → ShortFrom kind all w d
 short_more kind all w d one spans less few behind =
-    let key = (item_of all w.from).0 in
-    let k = length (spelled_as value_form (item_of all w.from).1) in
+    let key = (item_no all w.from).0 in
+    let k = length (spelled_as value_form (item_no all w.from).1) in
     let last : Window = record { from = w.to; to = w.to; depth = length key } in
     let b = get_or key d 0 in
     let is : byte_of all w.from d ≡ Some b = slice_get-get_or key d 0 less in
@@ -109,10 +109,10 @@ short_more kind all w d one spans less few behind =
           subst (Passes kind all (record w { depth = d }) last) count (literal b (one_low kind all w d b one is low.0) (behind (d + 1) (omega arith) (omega arith)))
     ]
 
-short_from : (n : ℕ) (kind : Kind) (all : Pairs) (w : Window) (d : ℕ) → w.to ≡ w.from + 1 → has_spans kind ≡ true → d ≤ length (item_of all w.from).0 → length (item_of all w.from).0 - d ≤ n → length (item_of all w.from).0 - d < 16
+short_from : (n : ℕ) (kind : Kind) (all : Pairs) (w : Window) (d : ℕ) → w.to ≡ w.from + 1 → has_spans kind ≡ true → d ≤ length (item_no all w.from).0 → length (item_no all w.from).0 - d ≤ n → length (item_no all w.from).0 - d < 16
     → ShortFrom kind all w d
 short_from zero kind all w d one spans deep fuel few = short_past kind all w d one (omega arith)
-short_from (suc n) kind all w d one spans deep fuel few = elim (cases_lt d (length (item_of all w.from).0)) [
+short_from (suc n) kind all w d one spans deep fuel few = elim (cases_lt d (length (item_no all w.from).0)) [
   | inl less ↦ short_more kind all w d one spans less few (λ e past within. short_from n kind all w e one spans within (omega arith) (omega arith))
   | inr past ↦ short_past kind all w d one (omega arith)
 ]
@@ -125,7 +125,7 @@ one_run kind all w rest v n o (inl low) =
     subst (λ i. Passes kind all w behind (i + length (spelled_as value_form v))) (sym low.1)
     (lone_run kind all w rest v (record { one = o.one; deep = o.deep; rest_is = o.rest_is; value_is = o.value_is; low = low.0 }))
 one_run kind all w rest v n o (inr short) =
-    let key = (item_of all w.from).0 in
+    let key = (item_no all w.from).0 in
     let long = ap length o.rest_is ∙ length-drop w.depth key in
     let deep = o.deep in
     let few = short.1 in
@@ -134,4 +134,4 @@ one_run kind all w rest v n o (inr short) =
     let run = short_from (length key) kind all w w.depth o.one short.0 deep (omega arith) (omega arith) in
     subst (λ x. Passes kind all w (record { from = w.to; to = w.to; depth = x }) (n + length (spelled_as value_form v))) end
     (subst (λ x. Passes kind all w (record { from = w.to; to = w.to; depth = length key }) (n + length (spelled_as value_form x))) (sym o.value_is)
-    (subst (λ i. Passes kind all w (record { from = w.to; to = w.to; depth = length key }) (i + length (spelled_as value_form (item_of all w.from).1))) size run))
+    (subst (λ i. Passes kind all w (record { from = w.to; to = w.to; depth = length key }) (i + length (spelled_as value_form (item_no all w.from).1))) size run))

@@ -14,10 +14,10 @@ use Rattle.zerotrie_build.specs.Order.{Before, BeforeFirst, Ordered, AreKeys}
 use Rattle.zerotrie_build.specs.declared.windows.Window.{Window}
 use Rattle.zerotrie_build.specs.declared.windows.Step.{Step}
 use Rattle.zerotrie_build.specs.declared.windows.Step.TheVariants.{End, Value, Literal, Span, Branch}
-use Rattle.zerotrie_build.specs.passes.Windows.{cut, window, item_of, byte_of, high_front, step_at, step_of, IsLow, IsLone}
+use Rattle.zerotrie_build.specs.passes.Windows.{cut, window, item_no, byte_of, high_front, step_at, step_of, IsLow, IsLone}
 use Rattle.zerotrie_build.specs.passes.Measured.{Passes}
 use Rattle.zerotrie_build.specs.passes.Measured.Passes.{here, value, literal, span}
-use Rattle.zerotrie_build.specs.passes.Walking.{IsBehind}
+use Rattle.zerotrie_build.specs.passes.Walking.{IsBehindFront}
 use Rattle.zerotrie_build.proofs.Runs.{behind_all-run}
 use Rattle.zerotrie_build.proofs.WindowLemmas.Spans.{literal_byte, step_literal, step_span, span_once}
 use Rattle.zerotrie_build.proofs.WindowLemmas.Windows.{cut_first, tests, last_key, last_cut, key_cut, key_byte, step_end, step_value, none_empty, ordered_front, no_byte}
@@ -50,27 +50,27 @@ at_branch kind (Some b) (Some c) x n h = elim (eqb_tells c b) [
 pub step_branch : (kind : Kind) (all : Pairs) (w : Window) → step_of kind all w ≡ Branch → IsParting all w
 step_branch kind all w e =
     let t = tests kind all w Branch (λ h. cc) e in
-    let a = at_branch kind (byte_of all w.from w.depth) (byte_of all (w.to - 1) w.depth) (item_of all w.from).1 (high_front (drop w.depth (item_of all w.from).0) (drop w.depth (item_of all (w.to - 1)).0)) t.is in
+    let a = at_branch kind (byte_of all w.from w.depth) (byte_of all (w.to - 1) w.depth) (item_no all w.from).1 (high_front (drop w.depth (item_no all w.from).0) (drop w.depth (item_no all (w.to - 1)).0)) t.is in
     record { inside = t.inside; byte = a.0; first = a.1; other = a.2 }
 
 -- the keys of a window ascend
 pub follows_cut : (n : ℕ) (kind : Kind) (all : Pairs) (from to d : ℕ) → from + suc n < to → to ≤ length all → Ordered kind (cut all from to d)
-    → Before kind (drop d (item_of all (from + n)).0) (drop d (item_of all (from + suc n)).0)
+    → Before kind (drop d (item_no all (from + n)).0) (drop d (item_no all (from + suc n)).0)
 follows_cut zero kind all from to d h within up =
     let first = subst (Ordered kind) (cut_first all from to d (omega arith) within) up in
-    let second : BeforeFirst kind (drop d (item_of all from).0) ((drop d (item_of all (from + 1)).0, (item_of all (from + 1)).1) ∷ cut all (from + 1 + 1) to d) =
-    subst (BeforeFirst kind (drop d (item_of all from).0)) (cut_first all (from + 1) to d (omega arith) within) first.0 in
+    let second : BeforeFirst kind (drop d (item_no all from).0) ((drop d (item_no all (from + 1)).0, (item_no all (from + 1)).1) ∷ cut all (from + 1 + 1) to d) =
+    subst (BeforeFirst kind (drop d (item_no all from).0)) (cut_first all (from + 1) to d (omega arith) within) first.0 in
     let z : from ≡ from + 0 = omega arith in
     let s : from + 1 ≡ from + suc 0 = omega arith in
-    subst (λ i. Before kind (drop d (item_of all i).0) (drop d (item_of all (from + suc 0)).0)) z
-    (subst (λ i. Before kind (drop d (item_of all from).0) (drop d (item_of all i).0)) s second)
+    subst (λ i. Before kind (drop d (item_no all i).0) (drop d (item_no all (from + suc 0)).0)) z
+    (subst (λ i. Before kind (drop d (item_no all from).0) (drop d (item_no all i).0)) s second)
 follows_cut (suc n) kind all from to d h within up =
     let first = subst (Ordered kind) (cut_first all from to d (omega arith) within) up in
     let more = follows_cut n kind all (from + 1) to d (omega arith) within first.1 in
     let a : from + 1 + n ≡ from + suc n = omega arith in
     let b : from + 1 + suc n ≡ from + suc (suc n) = omega arith in
-    subst (λ i. Before kind (drop d (item_of all i).0) (drop d (item_of all (from + suc (suc n))).0)) a
-    (subst (λ i. Before kind (drop d (item_of all (from + 1 + n)).0) (drop d (item_of all i).0)) b more)
+    subst (λ i. Before kind (drop d (item_no all i).0) (drop d (item_no all (from + suc (suc n))).0)) a
+    (subst (λ i. Before kind (drop d (item_no all (from + 1 + n)).0) (drop d (item_no all i).0)) b more)
 
 -- a key behind one that goes on goes on
 goes_on : (kind : Kind) (b d : ℕ) (k key : List ℕ) (o : Option ℕ) → slice_get key d ≡ o → Before kind (b ∷ k) (drop d key) → (c : ℕ) × (slice_get key d ≡ Some c)
@@ -82,9 +82,9 @@ all_long zero kind all from to d b h within up first = let z : from ≡ from + 0
 all_long (suc n) kind all from to d b h within up first =
     let r = all_long n kind all from to d b (omega arith) within up first in
     let before = follows_cut n kind all from to d h within up in
-    let key = (item_of all (from + n)).0 in
-    goes_on kind r.0 d (drop (suc d) key) (item_of all (from + suc n)).0 (byte_of all (from + suc n) d) refl
-    (subst (λ x. Before kind x (drop d (item_of all (from + suc n)).0)) (key_cut key d r.0 r.1) before)
+    let key = (item_no all (from + n)).0 in
+    goes_on kind r.0 d (drop (suc d) key) (item_no all (from + suc n)).0 (byte_of all (from + suc n) d) refl
+    (subst (λ x. Before kind x (drop d (item_no all (from + suc n)).0)) (key_cut key d r.0 r.1) before)
 
 begins_first : (b : ℕ) (k : List ℕ) (v : ℕ) (more : Pairs) → begins_some ((b ∷ k, v) ∷ more) b ≡ true
 begins_first b k v more = rw (eq-eqb b b refl) refl
@@ -114,8 +114,8 @@ two_members (e ∷ f ∷ es) b c m n apart = omega arith
 parting_edges : (kind : Kind) (all : Pairs) (w : Window) → w.to ≤ length all → AreKeys kind all → Ordered kind (window all w) → IsParting all w → 2 ≤ length (edges (window all w))
 parting_edges kind all w within keys up p =
     let inside = p.inside in
-    let key = (item_of all w.from).0 in
-    let last = (item_of all (w.to - 1)).0 in
+    let key = (item_no all w.from).0 in
+    let last = (item_no all (w.to - 1)).0 in
     let n = w.to - 1 - w.from in
     let at : w.from + n ≡ w.to - 1 = omega arith in
     let r = all_long n kind all w.from w.to w.depth p.byte (omega arith) within up p.first in
@@ -126,8 +126,8 @@ parting_edges kind all w within keys up p =
     let low_b = key_byte kind all w.from w.depth p.byte keys (omega arith) p.first in
     let low_c = key_byte kind all (w.to - 1) w.depth c keys (omega arith) has in
     let begins_b : begins_some (window all w) p.byte ≡ true =
-    ap (λ x. begins_some x p.byte) (cut_first all w.from w.to w.depth inside within ∙ ap (λ x. (x, (item_of all w.from).1) ∷ cut all (w.from + 1) w.to w.depth) (key_cut key w.depth p.byte p.first))
-    ∙ begins_first p.byte (drop (suc w.depth) key) (item_of all w.from).1 (cut all (w.from + 1) w.to w.depth) in
+    ap (λ x. begins_some x p.byte) (cut_first all w.from w.to w.depth inside within ∙ ap (λ x. (x, (item_no all w.from).1) ∷ cut all (w.from + 1) w.to w.depth) (key_cut key w.depth p.byte p.first))
+    ∙ begins_first p.byte (drop (suc w.depth) key) (item_no all w.from).1 (cut all (w.from + 1) w.to w.depth) in
     let begins_c = begins_last c (drop (suc w.depth) last) (window all w) (last_cut all w.from w.to w.depth inside within ∙ key_cut last w.depth c has) in
     two_members (edges (window all w)) p.byte c (member-edges (window all w) p.byte (omega arith) ∙ begins_b) (member-edges (window all w) c (omega arith) ∙ begins_c) apart
 
@@ -149,12 +149,12 @@ behind_more [] more pairs = refl
 behind_more (b ∷ front) more pairs = behind_more front more (residual b pairs)
 
 -- what is behind a byte more
-pub behind_byte : (all : Pairs) (w c : Window) (b : ℕ) → residual b (window all w) ≡ window all c → IsBehind all w → IsBehind all c
+pub behind_byte : (all : Pairs) (w c : Window) (b : ℕ) → residual b (window all w) ≡ window all c → IsBehindFront all w → IsBehindFront all c
 behind_byte all w c b is at =
     let there : behind_all (at.0 ++ b ∷ []) all ≡ window all c = behind_more at.0 (b ∷ []) all ∙ at.1 b ∙ is in
     (at.0 ++ b ∷ [], λ x. ap (residual x) there)
 
-behind_bytes : (all : Pairs) (w c : Window) (run : List ℕ) → (run ≡ [] → ⊥) → window all w ≡ with_run run (window all c) → IsBehind all w → IsBehind all c
+behind_bytes : (all : Pairs) (w c : Window) (run : List ℕ) → (run ≡ [] → ⊥) → window all w ≡ with_run run (window all c) → IsBehindFront all w → IsBehindFront all c
 behind_bytes all w c [] some is at = absurd (some refl)
 behind_bytes all w c (b ∷ run) some is at =
     let there : behind_all (at.0 ++ b ∷ run) all ≡ window all c = behind_more at.0 (b ∷ run) all ∙ ap (behind_all run) (at.1 b) ∙ ap (λ x. behind_all run (residual b x)) is ∙ behind_all-run (b ∷ run) (window all c) in
@@ -166,7 +166,7 @@ pub record Along (kind : Kind) (all : Pairs) (w behind : Window) (n : ℕ) : Typ
   pub order : w.from ≤ w.to → behind.from ≤ behind.to
   pub ordered : Ordered kind (window all behind)
   pub size : size_of kind (window all w) ≡ n + size_of kind (window all behind)
-  pub at : IsBehind all w → IsBehind all behind
+  pub at : IsBehindFront all w → IsBehindFront all behind
 
 long_run : (run : List ℕ) (n : ℕ) → length run ≡ n → 0 < n → run ≡ [] → ⊥
 long_run run n is some none = let z = ap length none in omega arith
@@ -204,7 +204,7 @@ along {kind = kind} {all = all} {w = w} {behind = behind} (literal {n = n} b is 
 along {kind = kind} {all = all} {w = w} {behind = behind} (span {n = n} m is run) within keys up =
     let a = step_span kind all w m within keys up is in
     let f = a.front in
-    let bytes = take m (drop w.depth (item_of all w.from).0) in
+    let bytes = take m (drop w.depth (item_no all w.from).0) in
     let w' : Window = record w { depth = w.depth + m } in
     let r = along run within keys f.ordered in
     let there = long_run bytes m f.long a.some in
@@ -261,7 +261,7 @@ literals_to {kind = kind} {all = all} {w = w} {last = last} {m = m} end inside p
 -- the rest of the one key of a window has a byte at each place, and it is ASCII
 pub lone_low : (all : Pairs) (w : Window) (rest : List ℕ) (v : ℕ) → IsLone all w rest v → (i : ℕ) → w.depth ≤ i → i < w.depth + length rest → IsLow all w i
 lone_low all w rest v l i from below =
-    let key = (item_of all w.from).0 in
+    let key = (item_no all w.from).0 in
     let long = ap length l.rest_is ∙ length-drop w.depth key in
     let deep = l.deep in
     let one = l.one in
@@ -280,7 +280,7 @@ lone_low all w rest v l i from below =
 -- behind it stands the value
 pub lone_value : (kind : Kind) (all : Pairs) (w : Window) (rest : List ℕ) (v : ℕ) → IsLone all w rest v → step_of kind all (record w { depth = w.depth + length rest }) ≡ Value v
 lone_value kind all w rest v l =
-    let key = (item_of all w.from).0 in
+    let key = (item_no all w.from).0 in
     let long = ap length l.rest_is ∙ length-drop w.depth key in
     let deep = l.deep in
     let one = l.one in

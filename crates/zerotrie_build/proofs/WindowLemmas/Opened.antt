@@ -11,7 +11,7 @@ use Rattle.zerotrie_core.proofs.CallerLemmas.{Rises, AllAbove, member, edge_limi
 use Rattle.zerotrie_build.specs.Order.{Before, Ordered, AreKeys}
 use Rattle.zerotrie_build.specs.declared.windows.Window.{Window}
 use Rattle.zerotrie_build.specs.declared.windows.Step.TheVariants.{Branch}
-use Rattle.zerotrie_build.specs.passes.Windows.{cut, window, item_of, byte_of, edge_of, step_of, IsGroup}
+use Rattle.zerotrie_build.specs.passes.Windows.{cut, window, item_no, byte_of, edge_of, step_of, IsGroup}
 use Rattle.zerotrie_build.specs.passes.Measured.{Groups}
 use Rattle.zerotrie_build.proofs.WindowLemmas.Windows.{cut_first, cut_none, cut_append, last_key, last_cut, key_cut}
 use Rattle.zerotrie_build.proofs.WindowLemmas.Spans.{rest_byte}
@@ -22,8 +22,8 @@ use Rattle.zerotrie_build.proofs.WindowLemmas.Groups.{grouped, SomeEach, edges_g
 group_front : (n : ℕ) (all : Pairs) (from to d b : ℕ) → to - from ≡ n → to ≤ length all → ((i : ℕ) → from ≤ i → i < to → byte_of all i d ≡ Some b) → cut all from to d ≡ with_front b (cut all from to (d + 1))
 group_front zero all from to d b e within same = cut_none all from to d (omega arith) ∙ ap (with_front b) (sym (cut_none all from to (d + 1) (omega arith)))
 group_front (suc n) all from to d b e within same =
-    let key = (item_of all from).0 in
-    let v = (item_of all from).1 in
+    let key = (item_no all from).0 in
+    let v = (item_no all from).1 in
     let h = same from (omega arith) (omega arith) in
     let s : suc d ≡ d + 1 = omega arith in
     let k : drop d key ≡ b ∷ drop (d + 1) key = key_cut key d b h ∙ ap (λ x. b ∷ drop x key) s in
@@ -35,8 +35,8 @@ group_front (suc n) all from to d b e within same =
 pub edge_is : (all : Pairs) (w c : Window) (b : ℕ) → c.from ≡ w.from → c.depth ≡ w.depth + 1 → byte_of all w.from w.depth ≡ Some b → edge_of all c ≡ b
 edge_is all w c b from_is down first =
     let z : w.depth + 1 - 1 ≡ w.depth = omega arith in
-    ap (λ i. get_or (item_of all i).0 (c.depth - 1) 0) from_is ∙ ap (λ j. get_or (item_of all w.from).0 (j - 1) 0) down
-    ∙ ap (λ j. get_or (item_of all w.from).0 j 0) z ∙ get_or_from_slice_get (item_of all w.from).0 w.depth b 0 first
+    ap (λ i. get_or (item_no all i).0 (c.depth - 1) 0) from_is ∙ ap (λ j. get_or (item_no all w.from).0 (j - 1) 0) down
+    ∙ ap (λ j. get_or (item_no all w.from).0 j 0) z ∙ get_or_from_slice_get (item_no all w.from).0 w.depth b 0 first
 
 -- a window more
 pub group_more : (all : Pairs) (d start to : ℕ) (w c : Window) (added : List Window) → w.depth ≡ d → w.to ≡ to → to ≤ length all
@@ -96,12 +96,12 @@ next_higher kind all start w end b c from within up g more first next =
     let n = end - 1 - start in
     let a : start + n ≡ end - 1 = omega arith in
     let e : start + suc n ≡ end = omega arith in
-    let before = subst (λ i. Before kind (drop d (item_of all (end - 1)).0) (drop d (item_of all i).0)) e
-    (subst (λ i. Before kind (drop d (item_of all i).0) (drop d (item_of all (start + suc n)).0)) a (follows_cut n kind all start w.to d (omega arith) within up)) in
+    let before = subst (λ i. Before kind (drop d (item_no all (end - 1)).0) (drop d (item_no all i).0)) e
+    (subst (λ i. Before kind (drop d (item_no all i).0) (drop d (item_no all (start + suc n)).0)) a (follows_cut n kind all start w.to d (omega arith) within up)) in
     let last : byte_of all (end - 1) d ≡ Some b = g.same (end - 1) (omega arith) (omega arith) ∙ first in
-    let k = key_cut (item_of all (end - 1)).0 d b last in
-    let l = key_cut (item_of all end).0 d c next in
-    let parted = subst (λ x. Before kind x (c ∷ drop (suc d) (item_of all end).0)) k (subst (Before kind (drop d (item_of all (end - 1)).0)) l before) in
+    let k = key_cut (item_no all (end - 1)).0 d b last in
+    let l = key_cut (item_no all end).0 d c next in
+    let parted = subst (λ x. Before kind x (c ∷ drop (suc d) (item_no all end).0)) k (subst (Before kind (drop d (item_no all (end - 1)).0)) l before) in
     parts_rise kind b c _ _ (λ same. g.other more (next ∙ ap Some (sym same) ∙ sym first)) parted
 
 pub rising_more : (kind : Kind) (all : Pairs) (start : ℕ) (w c : Window) (cs : List Window) → start ≤ w.from → w.to ≤ length all → Ordered kind (cut all start w.to w.depth) → IsGroup all w c.to → c.from ≡ w.from → c.depth ≡ w.depth + 1
@@ -136,11 +136,11 @@ first_key [] = []
 first_key (e ∷ pairs) = e.0
 
 -- the edge of a group is the byte of its first key
-first_edge : (all : Pairs) (d from to : ℕ) (c : Window) (cs : List Window) → to ≤ length all → Groups all d from to (c ∷ cs) → (k : List ℕ) × (drop d (item_of all from).0 ≡ edge_of all c ∷ k)
+first_edge : (all : Pairs) (d from to : ℕ) (c : Window) (cs : List Window) → to ≤ length all → Groups all d from to (c ∷ cs) → (k : List ℕ) × (drop d (item_no all from).0 ≡ edge_of all c ∷ k)
 first_edge all d from to c cs within g =
     let start = cut_first all from c.to d g.2 (omega (arith, g.3)) in
     let inner = cut_first all c.from c.to c.depth (omega (arith, g.0, g.2)) (omega (arith, g.3)) in
-    (drop c.depth (item_of all c.from).0, ap first_key (sym start ∙ g.4 ∙ ap (with_front (edge_of all c)) inner))
+    (drop c.depth (item_no all c.from).0, ap first_key (sym start ∙ g.4 ∙ ap (with_front (edge_of all c)) inner))
 
 -- each of these
 abbrev pub EachOf : (ℕ → Type 0) → List ℕ → Type 0
@@ -199,9 +199,9 @@ two_groups all w (c ∷ []) within p g =
     let f = first_edge all d w.from w.to c [] within g in
     let some = some_items all c (omega (arith, g.0, g.2)) (omega (arith, g.3)) in
     let l = last_front e (window all c) some in
-    let last : drop d (item_of all (w.to - 1)).0 ≡ e ∷ l.0 = sym (last_cut all w.from w.to d p.inside within) ∙ ap (λ t. last_key (cut all w.from t d)) (sym end) ∙ ap last_key g.4 ∙ l.1 in
-    let first : p.byte ≡ e = first_same p.byte e (sym p.first ∙ byte_here d (item_of all w.from).0 e f.0 f.1) in
-    absurd (p.other (byte_here d (item_of all (w.to - 1)).0 e l.0 last ∙ ap Some (sym first)))
+    let last : drop d (item_no all (w.to - 1)).0 ≡ e ∷ l.0 = sym (last_cut all w.from w.to d p.inside within) ∙ ap (λ t. last_key (cut all w.from t d)) (sym end) ∙ ap last_key g.4 ∙ l.1 in
+    let first : p.byte ≡ e = first_same p.byte e (sym p.first ∙ byte_here d (item_no all w.from).0 e f.0 f.1) in
+    absurd (p.other (byte_here d (item_no all (w.to - 1)).0 e l.0 last ∙ ap Some (sym first)))
 two_groups all w (c ∷ x ∷ cs) within p g = omega arith
 
 -- What the groups of a branch say of its text.

@@ -12,7 +12,7 @@ use Rattle.zerotrie_build.specs.declared.windows.Window.{Window}
 use Rattle.zerotrie_build.specs.declared.windows.Step.TheVariants.{Branch}
 use Rattle.zerotrie_build.specs.passes.Windows.{cut, window, byte_of, edge_of, step_of, IsGroup}
 use Rattle.zerotrie_build.specs.passes.Measured.{Passes, TargetWindows, Groups}
-use Rattle.zerotrie_build.specs.passes.Walking.{IsBehind, IsPlaced}
+use Rattle.zerotrie_build.specs.passes.Walking.{IsBehindFront, IsPlaced}
 use Rattle.zerotrie_build.proofs.WindowLemmas.Windows.{cut_append, cut_whole, ordered_front}
 use Rattle.zerotrie_build.proofs.WindowLemmas.NodeRuns.{along, step_branch, behind_byte}
 use Rattle.zerotrie_build.proofs.WindowLemmas.Opened.{Branching, Rising, branching, branch_byte, group_more, rising_more, rising_none}
@@ -57,7 +57,7 @@ smalls kind all most (c ∷ cs) h =
     let s = sum_by-cons (λ n. n) (size_of kind (window all c)) (map (size_of kind) (map (window all) cs)) in
     (omega arith, smalls kind all most cs (omega arith))
 
-placed_each : (kind : Kind) (all : Pairs) (w : Window) (cs : List Window) → w.to ≤ length all → IsBehind all w → EachW (IsPart kind all w.to) cs → EachW (λ c. residual (edge_of all c) (window all w) ≡ window all c) cs → EachW (λ c. size_of kind (window all c) ≤ size_of kind all) cs
+placed_each : (kind : Kind) (all : Pairs) (w : Window) (cs : List Window) → w.to ≤ length all → IsBehindFront all w → EachW (IsPart kind all w.to) cs → EachW (λ c. residual (edge_of all c) (window all w) ≡ window all c) cs → EachW (λ c. size_of kind (window all c) ≤ size_of kind all) cs
     → EachW (IsPlaced kind all) cs
 placed_each kind all w [] within at a b s = tt
 placed_each kind all w (c ∷ cs) within at a b s = (

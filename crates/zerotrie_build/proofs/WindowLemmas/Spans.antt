@@ -10,7 +10,7 @@ use Rattle.zerotrie_core.specs.Texts.{AreHigh}
 use Rattle.zerotrie_build.specs.Order.{Ordered, AreKeys}
 use Rattle.zerotrie_build.specs.declared.windows.Window.{Window}
 use Rattle.zerotrie_build.specs.declared.windows.Step.TheVariants.{Literal, Span}
-use Rattle.zerotrie_build.specs.passes.Windows.{cut, window, item_of, byte_of, high_front, step_of}
+use Rattle.zerotrie_build.specs.passes.Windows.{cut, window, item_no, byte_of, high_front, step_of}
 use Rattle.zerotrie_build.proofs.Runs.{with_run-nil, with_run-front}
 use Rattle.zerotrie_build.proofs.WindowLemmas.Windows.{tests, at_literal, High, at_span, key_cut, cut_shared, ordered_front, key_byte, low_without}
 
@@ -30,7 +30,7 @@ step_literal kind all w b within keys up e =
       inside = t.inside;
       byte = a.0;
       low = low_without kind b (key_byte kind all w.from w.depth b keys (omega arith) a.0) a.2;
-      is = cut_shared kind all w.from w.to w.depth b _ _ t.inside within up (key_cut (item_of all w.from).0 w.depth b a.0) (key_cut (item_of all (w.to - 1)).0 w.depth b a.1);
+      is = cut_shared kind all w.from w.to w.depth b _ _ t.inside within up (key_cut (item_no all w.from).0 w.depth b a.0) (key_cut (item_no all (w.to - 1)).0 w.depth b a.1);
     }
 
 -- What a literal in front says of the first and the last key.
@@ -76,11 +76,11 @@ common (a ∷ k) (b ∷ l) n h = elim (eqb_tells a b) [
 
 -- What the first and the last key have in common stands in front of all, and no more does.
 pub record Front (kind : Kind) (all : Pairs) (from to d n : ℕ) : Type 0 where
-  pub high : AreHigh (take n (drop d (item_of all from).0))
-  pub long : length (take n (drop d (item_of all from).0)) ≡ n
-  pub is : cut all from to d ≡ with_run (take n (drop d (item_of all from).0)) (cut all from to (d + n))
+  pub high : AreHigh (take n (drop d (item_no all from).0))
+  pub long : length (take n (drop d (item_no all from).0)) ≡ n
+  pub is : cut all from to d ≡ with_run (take n (drop d (item_no all from).0)) (cut all from to (d + n))
   pub ordered : Ordered kind (cut all from to (d + n))
-  pub ends : high_front (drop (d + n) (item_of all from).0) (drop (d + n) (item_of all (to - 1)).0) ≡ 0
+  pub ends : high_front (drop (d + n) (item_no all from).0) (drop (d + n) (item_no all (to - 1)).0) ≡ 0
 
 edge_most : (kind : Kind) (b : ℕ) → b < edge_limit kind → b < 256
 edge_most simple_ascii b h = omega arith
@@ -89,9 +89,9 @@ edge_most perfect_hash b h = h
 edge_most extended_capacity b h = h
 
 -- the first byte behind the depth is one of the kind
-pub rest_byte : (kind : Kind) (all : Pairs) (i d b : ℕ) (k : List ℕ) → AreKeys kind all → i < length all → drop d (item_of all i).0 ≡ b ∷ k → b < edge_limit kind
+pub rest_byte : (kind : Kind) (all : Pairs) (i d b : ℕ) (k : List ℕ) → AreKeys kind all → i < length all → drop d (item_no all i).0 ≡ b ∷ k → b < edge_limit kind
 rest_byte kind all i d b k keys h is =
-    let key = (item_of all i).0 in
+    let key = (item_no all i).0 in
     let long = length-drop d key in
     let n = ap length is in
     let z : d + 0 ≡ d = omega arith in
@@ -102,7 +102,7 @@ drop_next : (key : List ℕ) (d b : ℕ) (k : List ℕ) → drop d key ≡ b ∷
 drop_next key d b k is = sym (drop-drop 1 d key) ∙ ap (drop 1) is
 
 front_run : (n : ℕ) (kind : Kind) (all : Pairs) (from to d : ℕ) → from < to → to ≤ length all → AreKeys kind all → Ordered kind (cut all from to d)
-    → high_front (drop d (item_of all from).0) (drop d (item_of all (to - 1)).0) ≡ n → Front kind all from to d n
+    → high_front (drop d (item_no all from).0) (drop d (item_no all (to - 1)).0) ≡ n → Front kind all from to d n
 front_run zero kind all from to d inside within keys up h =
     let z : d ≡ d + 0 = omega arith in
     record {
@@ -110,11 +110,11 @@ front_run zero kind all from to d inside within keys up h =
       long = refl;
       is = ap (cut all from to) z ∙ sym (with_run-nil (cut all from to (d + 0)));
       ordered = subst (λ x. Ordered kind (cut all from to x)) z up;
-      ends = subst (λ x. high_front (drop x (item_of all from).0) (drop x (item_of all (to - 1)).0) ≡ 0) z h;
+      ends = subst (λ x. high_front (drop x (item_no all from).0) (drop x (item_no all (to - 1)).0) ≡ 0) z h;
     }
 front_run (suc n) kind all from to d inside within keys up h =
-    let first = (item_of all from).0 in
-    let last = (item_of all (to - 1)).0 in
+    let first = (item_no all from).0 in
+    let last = (item_no all (to - 1)).0 in
     let c = common (drop d first) (drop d last) n h in
     let b = c.byte in
     let is = cut_shared kind all from to d b c.first_rest c.last_rest inside within up c.first c.last_too in
@@ -142,15 +142,15 @@ pub record IsSpan (kind : Kind) (all : Pairs) (w : Window) (n : ℕ) : Type 0 wh
   pub front : Front kind all w.from w.to w.depth n
 
 span_high : (kind : Kind) (all : Pairs) (w : Window) (n : ℕ) → step_of kind all w ≡ Span n
-    → High kind (byte_of all w.from w.depth) (byte_of all (w.to - 1) w.depth) (high_front (drop w.depth (item_of all w.from).0) (drop w.depth (item_of all (w.to - 1)).0)) n
+    → High kind (byte_of all w.from w.depth) (byte_of all (w.to - 1) w.depth) (high_front (drop w.depth (item_no all w.from).0) (drop w.depth (item_no all (w.to - 1)).0)) n
 span_high kind all w n e = let t = tests kind all w (Span n) (λ h. cc) e in at_span kind _ _ _ _ n t.is
 
 -- the keys have some bytes in common where a span stands
-pub span_some : (kind : Kind) (all : Pairs) (w : Window) (n : ℕ) → step_of kind all w ≡ Span n → (0 < n) × (high_front (drop w.depth (item_of all w.from).0) (drop w.depth (item_of all (w.to - 1)).0) ≡ n)
+pub span_some : (kind : Kind) (all : Pairs) (w : Window) (n : ℕ) → step_of kind all w ≡ Span n → (0 < n) × (high_front (drop w.depth (item_no all w.from).0) (drop w.depth (item_no all (w.to - 1)).0) ≡ n)
 span_some kind all w n e =
     let a = span_high kind all w n e in
-    let first = (item_of all w.from).0 in
-    let last = (item_of all (w.to - 1)).0 in
+    let first = (item_no all w.from).0 in
+    let last = (item_no all (w.to - 1)).0 in
     let k = key_cut first w.depth a.byte a.first in
     let l = key_cut last w.depth a.byte a.last_too in
     let is : high_front (drop w.depth first) (drop w.depth last) ≡ cond (eqb a.byte a.byte && leb 128 a.byte) (1 + high_front (drop (suc w.depth) first) (drop (suc w.depth) last)) 0 =

@@ -1,5 +1,5 @@
 -- What stands first in a window, as pairs.
-use Rattle.std.proofs.Common.{◌≡◌, ℕ, suc, ◌+◌, ◌<◌, ◌≤◌, List, [], ◌∷◌, length, refl, ◌∙◌, ap, arith, drop, Bool, true, false, cond, eqb, leb}
+use Rattle.std.proofs.Common.{inl, inr, ◌≡◌, ℕ, suc, ◌+◌, ◌<◌, ◌≤◌, List, [], ◌∷◌, length, refl, ◌∙◌, ap, arith, drop, Bool, true, false, cond, eqb, leb}
 use Rattle.std.proofs.Common.{Some, slice_get, get_or, subst, sym, ◌-◌}
 use Rattle.std.specs.Prelude.{◌&&◌}
 use Rattle.std.proofs.lemmas.List.{drop_all}
@@ -7,14 +7,21 @@ use Rattle.std.proofs.lemmas.Option.{slice_get_within, slice_get-get_or, get_or_
 use Rattle.zerotrie_core.specs.Maps.{Pairs}
 use Rattle.zerotrie_build.specs.passes.Windows.{byte_of, high_front, IsLow}
 use Rattle.zerotrie_build.specs.declared.windows.Window.{Window}
+use Rattle.zerotrie_build.proofs.Items.{below_or_from}
 
 -- a key that has ended has nothing in common with another
 high_nil : (k : List ℕ) → high_front k [] ≡ 0
 high_nil [] = refl
 high_nil (a ∷ k) = refl
 
-pub high_past : (k l : List ℕ) (n : ℕ) → length l ≤ n → high_front (drop n k) (drop n l) ≡ 0
-high_past k l n h = ap (high_front (drop n k)) (drop_all n l h) ∙ high_nil (drop n k)
+pub high_past : (k l : List ℕ) (n : ℕ) → (n < length k → n < length l → ⊥) → high_front (drop n k) (drop n l) ≡ 0
+high_past k l n ended = elim (below_or_from n (length l)) [
+  | inl less ↦ elim (below_or_from n (length k)) [
+    | inl more ↦ absurd (ended more less)
+    | inr past ↦ ap (λ x. high_front x (drop n l)) (drop_all n k past)
+  ]
+  | inr past ↦ ap (high_front (drop n k)) (drop_all n l past) ∙ high_nil (drop n k)
+]
 
 -- what is in common is in the first
 pub high_most : (k l : List ℕ) → high_front k l ≤ length k

@@ -12,10 +12,10 @@ use Rattle.zerotrie_build.specs.Order.{Before, Ordered, AreKeys}
 use Rattle.zerotrie_build.specs.declared.windows.Window.{Window}
 use Rattle.zerotrie_build.specs.declared.windows.Step.{Step}
 use Rattle.zerotrie_build.specs.declared.windows.Step.TheVariants.{End, Value, Literal, Span, Branch}
-use Rattle.zerotrie_build.specs.passes.Windows.{cut, window, item_of, byte_of, high_front, step_at, step_of}
+use Rattle.zerotrie_build.specs.passes.Windows.{cut, window, item_no, byte_of, high_front, step_at, step_of}
 
 -- the first item of a window
-pub cut_first : (all : Pairs) (from to d : ℕ) → from < to → to ≤ length all → cut all from to d ≡ (drop d (item_of all from).0, (item_of all from).1) ∷ cut all (from + 1) to d
+pub cut_first : (all : Pairs) (from to d : ℕ) → from < to → to ≤ length all → cut all from to d ≡ (drop d (item_no all from).0, (item_no all from).1) ∷ cut all (from + 1) to d
 cut_first all from to d h within =
     let e : to - from ≡ suc (to - (from + 1)) = omega arith in
     ap (λ n. map (λ x. (drop d x.0, x.1)) (take n (drop from all))) e
@@ -27,7 +27,7 @@ cut_none all from to d h = ap (λ n. map (λ x. (drop d x.0, x.1)) (take n (drop
 -- what the tests of a step found
 pub record Tests (kind : Kind) (all : Pairs) (w : Window) (s : Step) : Type 0 where
   pub inside : w.from < w.to
-  pub is : step_at kind (byte_of all w.from w.depth) (byte_of all (w.to - 1) w.depth) (item_of all w.from).1 (high_front (drop w.depth (item_of all w.from).0) (drop w.depth (item_of all (w.to - 1)).0)) ≡ s
+  pub is : step_at kind (byte_of all w.from w.depth) (byte_of all (w.to - 1) w.depth) (item_no all w.from).1 (high_front (drop w.depth (item_no all w.from).0) (drop w.depth (item_no all (w.to - 1)).0)) ≡ s
 
 pub tests : (kind : Kind) (all : Pairs) (w : Window) (s : Step) → (s ≡ End → ⊥) → step_of kind all w ≡ s → Tests kind all w s
 tests kind all w s some e = elim (cases_lt w.from w.to) [
@@ -41,7 +41,7 @@ one_byte kind b n = cond (leb 128 b && has_spans kind) (Span n) (Literal b)
 
 pub step_end : (kind : Kind) (all : Pairs) (w : Window) → step_of kind all w ≡ End → w.to ≤ w.from
 step_end kind all w e = elim (cases_lt w.from w.to) [
-  | inl below ↦ absurd (not_end (byte_of all w.from w.depth) (byte_of all (w.to - 1) w.depth) (item_of all w.from).1 _ (rw (lt-ltb w.from w.to below) at e))
+  | inl below ↦ absurd (not_end (byte_of all w.from w.depth) (byte_of all (w.to - 1) w.depth) (item_no all w.from).1 _ (rw (lt-ltb w.from w.to below) at e))
   | inr past ↦ past
 ]
   where
@@ -127,7 +127,7 @@ step_value kind all w v within e =
     let t = tests kind all w (Value v) (λ h. cc) e in
     let a = at_value kind _ _ _ _ v t.is in (
       t.inside,
-      cut_first all w.from w.to w.depth t.inside within ∙ ap (λ k. (k, (item_of all w.from).1) ∷ cut all (w.from + 1) w.to w.depth) (no_byte (item_of all w.from).0 w.depth a.0)
+      cut_first all w.from w.to w.depth t.inside within ∙ ap (λ k. (k, (item_no all w.from).1) ∷ cut all (w.from + 1) w.to w.depth) (no_byte (item_no all w.from).0 w.depth a.0)
           ∙ ap (λ x. ([], x) ∷ cut all (w.from + 1) w.to w.depth) a.1,
     )
 
@@ -173,7 +173,7 @@ last_take d zero (x ∷ xs) h = refl
 last_take d (suc n) (x ∷ []) h = absurd (omega arith)
 last_take d (suc n) (x ∷ y ∷ xs) h = last_take d n (y ∷ xs) (omega arith)
 
-pub last_cut : (all : Pairs) (from to d : ℕ) → from < to → to ≤ length all → last_key (cut all from to d) ≡ drop d (item_of all (to - 1)).0
+pub last_cut : (all : Pairs) (from to d : ℕ) → from < to → to ≤ length all → last_key (cut all from to d) ≡ drop d (item_no all (to - 1)).0
 last_cut all from to d h within =
     let n = to - from - 1 in
     let e : to - from ≡ suc n = omega arith in
@@ -195,10 +195,10 @@ share_all kind b pairs k l v more e up last =
     e ∙ shared kind b k l v more (subst (Ordered kind) e up) (subst (λ p. last_key p ≡ b ∷ l) e last) ∙ ap (λ p. with_front b (tails p)) (sym e)
 
 -- the byte with which the first and the last key go on stands in front of all
-pub cut_shared : (kind : Kind) (all : Pairs) (from to d b : ℕ) (k l : List ℕ) → from < to → to ≤ length all → Ordered kind (cut all from to d) → drop d (item_of all from).0 ≡ b ∷ k → drop d (item_of all (to - 1)).0 ≡ b ∷ l
+pub cut_shared : (kind : Kind) (all : Pairs) (from to d b : ℕ) (k l : List ℕ) → from < to → to ≤ length all → Ordered kind (cut all from to d) → drop d (item_no all from).0 ≡ b ∷ k → drop d (item_no all (to - 1)).0 ≡ b ∷ l
     → cut all from to d ≡ with_front b (cut all from to (d + 1))
 cut_shared kind all from to d b k l inside within up first last =
-    let begins = cut_first all from to d inside within ∙ ap (λ x. (x, (item_of all from).1) ∷ cut all (from + 1) to d) first in
+    let begins = cut_first all from to d inside within ∙ ap (λ x. (x, (item_no all from).1) ∷ cut all (from + 1) to d) first in
     share_all kind b (cut all from to d) _ _ _ _ begins up (last_cut all from to d inside within ∙ last)
     ∙ ap (with_front b) (tails_cut d (take (to - from) (drop from all)))
 
@@ -214,7 +214,7 @@ ordered_front kind b (e ∷ f ∷ pairs) h = (later h.0, ordered_front kind b (f
 -- a byte of a key is one of the kind
 pub key_byte : (kind : Kind) (all : Pairs) (i d b : ℕ) → AreKeys kind all → i < length all → byte_of all i d ≡ Some b → b < edge_limit kind
 key_byte kind all i d b keys h is =
-    let key = (item_of all i).0 in
+    let key = (item_no all i).0 in
     subst (λ x. x < edge_limit kind) (get_or_from_slice_get key d b 0 is) (keys i ([], 0) h d 0 (slice_get_within key d b is))
 
 -- what is left of a key at a depth has bytes of the kind

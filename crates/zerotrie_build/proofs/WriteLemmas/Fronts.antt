@@ -9,8 +9,8 @@ use Rattle.zerotrie_core.specs.Canonical.{size_of}
 use Rattle.zerotrie_build.specs.Order.{Ordered, AreKeys}
 use Rattle.zerotrie_build.specs.declared.windows.Window.{Window}
 use Rattle.zerotrie_build.specs.declared.windows.Step.TheVariants.{Value, Literal, Span}
-use Rattle.zerotrie_build.specs.passes.Windows.{cut, window, item_of, high_front, step_of, IsLow, IsLone}
-use Rattle.zerotrie_build.specs.passes.Measured.{Passes, NoneFirst, IsOpen}
+use Rattle.zerotrie_build.specs.passes.Windows.{cut, window, item_no, high_front, step_of, IsLow, IsLone}
+use Rattle.zerotrie_build.specs.passes.Measured.{Passes, NoneFirst, HasFirstTargets}
 use Rattle.zerotrie_build.specs.passes.Measured.Passes.{here, value as run_value, literal as run_literal, span as run_span}
 use Rattle.zerotrie_build.specs.passes.Puts.{Puts}
 use Rattle.zerotrie_build.specs.passes.Writing.{Listed}
@@ -31,7 +31,7 @@ pub record Going (kind : Kind) (all : Pairs) (w : Window) (bytes : ℕ) (behind 
   pub ordered : Ordered kind (window all rest)
   pub to_is : rest.to ≡ w.to
 
-pub going_start : {kind : Kind} {all : Pairs} {w : Window} {cs : List Window} (list : List ℕ) (at : ℕ) (o : IsOpen kind all w cs) → Going kind all w o.bytes o.behind list at list at w
+pub going_start : {kind : Kind} {all : Pairs} {w : Window} {cs : List Window} (list : List ℕ) (at : ℕ) (o : HasFirstTargets kind all w cs) → Going kind all w o.bytes o.behind list at list at w
 going_start list at o = record {
   done = [];
   left = o.bytes;
@@ -141,7 +141,7 @@ record Literals (kind : Kind) (all : Pairs) (w behind : Window) (n left : ℕ) :
   run : Passes kind all (record w { depth = w.depth + n }) behind less
   is : left ≡ n + less
   ordered : Ordered kind (window all (record w { depth = w.depth + n }))
-  lists : (t : List ℕ) → Listed kind t (window all (record w { depth = w.depth + n })) → Listed kind (take n (drop w.depth (item_of all w.from).0) ++ t) (window all w)
+  lists : (t : List ℕ) → Listed kind t (window all (record w { depth = w.depth + n })) → Listed kind (take n (drop w.depth (item_no all w.from).0) ++ t) (window all w)
 
 literals : (n : ℕ) (kind : Kind) (all : Pairs) (w behind : Window) (left : ℕ) → Passes kind all w behind left → NoneFirst kind all behind → w.from < w.to → w.to ≤ length all → AreKeys kind all → Ordered kind (window all w)
     → ((i : ℕ) → w.depth ≤ i → i < w.depth + n → IsLow all w i) → Literals kind all w behind n left
@@ -162,7 +162,7 @@ literals (suc n) kind all w behind left run stops inside within keys up low =
     let next : Window = record w { depth = w.depth + 1 } in
     let more = literals n kind all next behind o.less o.run stops inside within keys (ordered_front kind b (window all next) (subst (Ordered kind) st.is up)) (λ i from below. let k = low i (omega arith) (omega arith) in record { byte = k.byte; low = k.low; first = k.first; last = k.last }) in
     let there : w.depth + 1 + n ≡ w.depth + suc n = omega arith in
-    let key = (item_of all w.from).0 in
+    let key = (item_no all w.from).0 in
     let deep : suc w.depth ≡ w.depth + 1 = omega arith in
     let cut : drop w.depth key ≡ b ∷ drop (w.depth + 1) key = key_cut key w.depth b l.first ∙ ap (λ d. b ∷ drop d key) deep in
     record {
@@ -178,16 +178,16 @@ literals (suc n) kind all w behind left run stops inside within keys up low =
 
 pub going_literals : {kind : Kind} {all : Pairs} {w behind : Window} {bytes : ℕ} {list : List ℕ} {at : ℕ} {list' : List ℕ} {at' : ℕ} {rest : Window} (list'' : List ℕ) (at'' b end : ℕ)
     → Going kind all w bytes behind list at list' at' rest → NoneFirst kind all behind → w.to ≤ length all → AreKeys kind all → step_of kind all rest ≡ Literal b
-    → rest.depth < end → ((i : ℕ) → rest.depth ≤ i → i < end → IsLow all rest i) → end ≤ length (item_of all rest.from).0
-    → Puts list' at' list'' at'' (take (end - rest.depth) (drop rest.depth (item_of all rest.from).0)) → Going kind all w bytes behind list at list'' at'' (record rest { depth = end })
+    → rest.depth < end → ((i : ℕ) → rest.depth ≤ i → i < end → IsLow all rest i) → end ≤ length (item_no all rest.from).0
+    → Puts list' at' list'' at'' (take (end - rest.depth) (drop rest.depth (item_no all rest.from).0)) → Going kind all w bytes behind list at list'' at'' (record rest { depth = end })
 going_literals {kind = kind} {all = all} {w = w} {behind = behind} {rest = rest} list'' at'' b end g stops within keys e past low ends p =
     let to_is = g.to_is in
     let inside = (literal_low kind all rest b (omega arith) keys e).0 in
     let n = end - rest.depth in
     let there : rest.depth + n ≡ end = omega arith in
     let o = literals n kind all rest behind g.left g.run stops inside (omega arith) keys g.ordered (λ i from below. low i from (omega arith)) in
-    let run = take n (drop rest.depth (item_of all rest.from).0) in
-    let long : length run ≡ n = length-take-le n (drop rest.depth (item_of all rest.from).0) (let l = length-drop rest.depth (item_of all rest.from).0 in omega arith) in
+    let run = take n (drop rest.depth (item_no all rest.from).0) in
+    let long : length run ≡ n = length-take-le n (drop rest.depth (item_no all rest.from).0) (let l = length-drop rest.depth (item_no all rest.from).0 in omega arith) in
     record {
       done = g.done ++ run;
       left = o.less;
@@ -216,7 +216,7 @@ going_lone {kind = kind} {all = all} {w = w} {behind = behind} {rest = rest} lis
     let sp = spelled_as value_form v in
     let pairs = window all (record mid { from = rest.from + 1 }) in
     let up : Ordered kind (([], v) ∷ pairs) = subst (Ordered kind) st.1 o.ordered in
-    let whole : take n (drop rest.depth (item_of all rest.from).0) ≡ key = ap (take n) (sym lone.rest_is) ∙ take_all n key (omega arith) in
+    let whole : take n (drop rest.depth (item_no all rest.from).0) ≡ key = ap (take n) (sym lone.rest_is) ∙ take_all n key (omega arith) in
     record {
       done = g.done ++ (key ++ sp);
       left = ov.less;
@@ -235,14 +235,14 @@ run_some n run some long none = let l = ap length none in omega arith
 
 pub going_span : {kind : Kind} {all : Pairs} {w behind : Window} {bytes : ℕ} {list : List ℕ} {at : ℕ} {list' : List ℕ} {at' : ℕ} {rest : Window} (list'' : List ℕ) (at'' : ℕ) (n : ℕ)
     → Going kind all w bytes behind list at list' at' rest → NoneFirst kind all behind → w.to ≤ length all → AreKeys kind all → step_of kind all rest ≡ Span n → SpellsAs span_form n (spelled_as span_form n)
-    → Puts list' at' list'' at'' (spelled_as span_form n ++ take n (drop rest.depth (item_of all rest.from).0)) → Going kind all w bytes behind list at list'' at'' (record rest { depth = rest.depth + n })
+    → Puts list' at' list'' at'' (spelled_as span_form n ++ take n (drop rest.depth (item_no all rest.from).0)) → Going kind all w bytes behind list at list'' at'' (record rest { depth = rest.depth + n })
 going_span {kind = kind} {all = all} {w = w} {rest = rest} list'' at'' n g stops within keys e s p =
     let o = on_span g.run stops n e in
     let to_is = g.to_is in
     let st = step_span kind all rest n (omega arith) keys g.ordered e in
     let f = st.front in
     let sp = spelled_as span_form n in
-    let first = (item_of all rest.from).0 in
+    let first = (item_no all rest.from).0 in
     let d = rest.depth + n in
     let run = take n (drop rest.depth first) in
     let pairs = cut all rest.from rest.to d in
@@ -262,7 +262,7 @@ going_span {kind = kind} {all = all} {w = w} {rest = rest} list'' at'' n g stops
     }
 
 -- the bytes of what is left fit
-pub open_bytes : {kind : Kind} {all : Pairs} {w : Window} {cs : List Window} (o : IsOpen kind all w cs) → o.bytes ≤ size_of kind (window all w)
+pub open_bytes : {kind : Kind} {all : Pairs} {w : Window} {cs : List Window} (o : HasFirstTargets kind all w cs) → o.bytes ≤ size_of kind (window all w)
 open_bytes o = elim o.stops [
   | inl e ↦ let n = o.none e in let l = n.1 in omega arith
   | inr e ↦ let n = o.some e in let l = n.1 in omega arith
@@ -298,12 +298,12 @@ room_span n len g s e h r = let o = on_span g.run s n e in let a = g.puts.at_is 
 -- the bytes of a span are in the first key
 pub span_within : {kind : Kind} {all : Pairs} {w behind : Window} {bytes : ℕ} {list : List ℕ} {at : ℕ} {list' : List ℕ} {at' : ℕ} {rest : Window} (n : ℕ)
     → Going kind all w bytes behind list at list' at' rest → w.to ≤ length all → AreKeys kind all → step_of kind all rest ≡ Span n
-    → (rest.from < length all) × (rest.depth + n ≤ length (item_of all rest.from).0)
+    → (rest.from < length all) × (rest.depth + n ≤ length (item_no all rest.from).0)
 span_within {kind = kind} {all = all} {rest = rest} n g within keys e =
     let to_is = g.to_is in
     let st = step_span kind all rest n (omega arith) keys g.ordered e in
     let inside = st.inside in
-    let key = (item_of all rest.from).0 in
+    let key = (item_no all rest.from).0 in
     (omega arith, fits key rest.depth n st.some st.front.long)
   where
     fits : (key : List ℕ) (d n : ℕ) → 0 < n → length (take n (drop d key)) ≡ n → d + n ≤ length key

@@ -9,7 +9,7 @@ use Rattle.zerotrie_core.specs.Numbers.{Form, Spells, extender, spelled_as, bran
 use Rattle.zerotrie_core.specs.Branches.{IsWidth, blocks, total, ends, branch_front}
 use Rattle.zerotrie_core.proofs.CallerLemmas.{below_metadata, spelling_is, Completes, length-blocks, width_is}
 use Rattle.zerotrie_build.specs.passes.Puts.{Puts}
-use Rattle.zerotrie_build.specs.passes.Writing.{with_bits, lens_of}
+use Rattle.zerotrie_build.specs.passes.Writing.{with_bits, target_lens}
 
 pub puts_nothing : (list : List ℕ) (at : ℕ) → Puts list at list at []
 puts_nothing list at = record { at_is = omega arith; same = refl; puts = λ written left a l. l ∙ ap (λ n. written ++ replicate n 0) (let e : 0 + left ≡ left = omega arith in e) ∙ ap (λ w. w ++ replicate left 0) (sym (append-nil written)) }
@@ -95,13 +95,13 @@ total_take [] (suc n) = omega arith
 total_take (x ∷ xs) (suc n) = let a = sum_by-cons (λ n. n) x (take n xs) in let b = sum_by-cons (λ n. n) x xs in let r = total_take xs n in omega arith
 
 -- the length of one of the targets
-pub lens_at : (ls ns : List ℕ) (i : ℕ) → i < length ns → get_or (lens_of ls ns) i 0 ≡ get_or ls (get_or ns i 0) 0
+pub lens_at : (ls ns : List ℕ) (i : ℕ) → i < length ns → get_or (target_lens ls ns) i 0 ≡ get_or ls (get_or ns i 0) 0
 lens_at ls ns i h = get_or-map (λ j. get_or ls j 0) ns i 0 0 h
 
-pub count_lens : (ls ns : List ℕ) → length (lens_of ls ns) ≡ length ns
+pub count_lens : (ls ns : List ℕ) → length (target_lens ls ns) ≡ length ns
 count_lens ls ns = count_map (λ j. get_or ls j 0) ns
 
-pub lens_take : (ls : List ℕ) (n : ℕ) (ns : List ℕ) → take n (lens_of ls ns) ≡ lens_of ls (take n ns)
+pub lens_take : (ls : List ℕ) (n : ℕ) (ns : List ℕ) → take n (target_lens ls ns) ≡ target_lens ls (take n ns)
 lens_take ls zero ns = refl
 lens_take ls (suc n) [] = refl
 lens_take ls (suc n) (j ∷ ns) = ap (λ x. get_or ls j 0 ∷ x) (lens_take ls n ns)

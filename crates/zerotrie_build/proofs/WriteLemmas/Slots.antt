@@ -12,7 +12,7 @@ use Rattle.zerotrie_build.specs.declared.branch_layout.Position.{Position}
 use Rattle.zerotrie_build.specs.declared.branch_layout.Next.{Next}
 use Rattle.zerotrie_build.specs.declared.branch_layout.Next.TheVariants.{Go}
 use Rattle.zerotrie_build.specs.passes.Windows.{window, edge_of, IsGroup}
-use Rattle.zerotrie_build.specs.passes.Measured.{Passes, TargetWindows, IsOpen, Kept, KeptEach, sizes_of, slots_of, ends_from}
+use Rattle.zerotrie_build.specs.passes.Measured.{Passes, TargetWindows, HasFirstTargets, Kept, KeptEach, sizes_of, slots_of, ends_from}
 use Rattle.zerotrie_build.specs.passes.Measured.Passes.{here, value, literal, span}
 use Rattle.zerotrie_build.specs.passes.Measured.Kept.{kept}
 use Rattle.zerotrie_build.specs.passes.Measured.KeptEach.{none as none_kept, more as more_kept}
@@ -141,7 +141,7 @@ pub record Opened (kind : Kind) (all : Pairs) (slots : List ℕ) (slot end : ℕ
   pub cs : List Window
   pub below : List (List ℕ)
   pub more : List ℕ
-  pub known : IsOpen kind all w cs
+  pub known : HasFirstTargets kind all w cs
   pub each : KeptEach kind all cs below
   pub slots_are : drop slot slots ≡ slots_of kind (sizes_of kind all cs) below ++ more
   pub end_is : end ≡ slot + length (slots_of kind (sizes_of kind all cs) below)

@@ -17,7 +17,7 @@ use Rattle.zerotrie_core.proofs.CallerLemmas.{Distinct, NoneLike, value_at-no_ke
 use Rattle.zerotrie_build.specs.declared.windows.Window.{Window}
 use Rattle.zerotrie_build.specs.passes.Windows.{cut, window, edge_of}
 use Rattle.zerotrie_build.specs.passes.Measured.{Groups, sizes_of}
-use Rattle.zerotrie_build.specs.passes.Writing.{no_window, window_at, lens_of, Texts}
+use Rattle.zerotrie_build.specs.passes.Writing.{no_window, window_at, target_lens, Texts}
 use Rattle.zerotrie_build.proofs.WriteLemmas.Puts.{count_map}
 use Rattle.zerotrie_build.proofs.WindowLemmas.Windows.{cut_none, cut_append}
 use Rattle.zerotrie_build.proofs.WriteLemmas.Layouts.{Up, up_of, up_count}
@@ -161,12 +161,12 @@ by_recursion high [] h = tt
 by_recursion high (x ∷ xs) h = (h 0 (omega arith), by_recursion high xs (λ k l. h (suc k) (omega arith)))
 
 -- the lengths of the targets in the order of the table
-pub sizes_at : (kind : Kind) (all : Pairs) (cs : List Window) (numbers : List ℕ) → AllByRecursion (λ j. j < length cs) numbers → lens_of (sizes_of kind all cs) numbers ≡ sizes_of kind all (map (window_at cs) numbers)
+pub sizes_at : (kind : Kind) (all : Pairs) (cs : List Window) (numbers : List ℕ) → AllByRecursion (λ j. j < length cs) numbers → target_lens (sizes_of kind all cs) numbers ≡ sizes_of kind all (map (window_at cs) numbers)
 sizes_at kind all cs [] within = refl
 sizes_at kind all cs (j ∷ numbers) within =
     let here : get_or (sizes_of kind all cs) j 0 ≡ size_of kind (window all (window_at cs j)) =
     get_or-map (size_of kind) (map (window all) cs) j [] 0 (let n = count_map (window all) cs in let l = within.0 in omega arith) ∙ ap (size_of kind) (get_or-map (window all) cs j no_window [] within.0) in
-    ap (λ x. x ∷ lens_of (sizes_of kind all cs) numbers) here ∙ ap (λ r. size_of kind (window all (window_at cs j)) ∷ r) (sizes_at kind all cs numbers within.1)
+    ap (λ x. x ∷ target_lens (sizes_of kind all cs) numbers) here ∙ ap (λ r. size_of kind (window all (window_at cs j)) ∷ r) (sizes_at kind all cs numbers within.1)
 
 pub sizes_count : (kind : Kind) (all : Pairs) (cs : List Window) → length (sizes_of kind all cs) ≡ length cs
 sizes_count kind all cs = count_map (size_of kind) (map (window all) cs) ∙ count_map (window all) cs

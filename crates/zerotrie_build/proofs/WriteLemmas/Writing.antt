@@ -16,7 +16,7 @@ use Rattle.zerotrie_build.specs.declared.branch_layout.PendingWindow.{PendingWin
 use Rattle.zerotrie_build.specs.declared.branch_layout.Next.{Next}
 use Rattle.zerotrie_build.specs.declared.branch_layout.Next.TheVariants.{Go, Text}
 use Rattle.zerotrie_build.specs.passes.Windows.{window}
-use Rattle.zerotrie_build.specs.passes.Measured.{IsMeasured, sizes_of, whole}
+use Rattle.zerotrie_build.specs.passes.Measured.{IsMeasured, sizes_of, whole_window}
 use Rattle.zerotrie_build.specs.passes.Writing.{Listed, Texts, position_at, text_of, HasSlotsTo, IsPending, NodesWritten, WrittenTo}
 use Rattle.zerotrie_build.specs.passes.Writing.IsPending.{done, go as to_go, text as to_text}
 use Rattle.zerotrie_build.proofs.WriteLemmas.Puts.{total_append}
@@ -44,32 +44,32 @@ length-replicate zero x = refl
 length-replicate (suc n) x = ap suc (length-replicate n x)
 
 -- all items are written first
-measured_to : {kind : Kind} {all : Pairs} {slots : List ℕ} {len : ℕ} → IsMeasured kind all slots len → HasSlotsTo kind all slots 0 (length slots) (whole all)
+measured_to : {kind : Kind} {all : Pairs} {slots : List ℕ} {len : ℕ} → IsMeasured kind all slots len → HasSlotsTo kind all slots 0 (length slots) (whole_window all)
 measured_to {slots = slots} m = record { below = slots; more = []; kept = m.slots_are; slots_are = sym (append-nil slots); end_is = omega arith }
 
 pub measured_ordered : {kind : Kind} {all : Pairs} {slots : List ℕ} {len : ℕ} → IsMeasured kind all slots len → Ordered kind all
 measured_ordered {kind = kind} {all = all} m = subst (Ordered kind) (cut_whole all) (opened (measured_to m)).known.ordered
 
-pub leads_start : {kind : Kind} {all : Pairs} {slots : List ℕ} {len : ℕ} → IsMeasured kind all slots len → IsPending kind all slots (position_at 0 0) (text_of (whole all) ∷ []) (whole all ∷ [])
+pub leads_start : {kind : Kind} {all : Pairs} {slots : List ℕ} {len : ℕ} → IsMeasured kind all slots len → IsPending kind all slots (position_at 0 0) (text_of (whole_window all) ∷ []) (whole_window all ∷ [])
 leads_start m = to_text (measured_to m) done
 
-pub first_pushed : (all : Pairs) (none one : List Next) (to : ℕ) → none ≡ [] → one ≡ none ++ Text (record { to = to; depth = 0 }) ∷ [] → to ≡ length all → text_of (whole all) ∷ [] ≡ reverse one
+pub first_pushed : (all : Pairs) (none one : List Next) (to : ℕ) → none ≡ [] → one ≡ none ++ Text (record { to = to; depth = 0 }) ∷ [] → to ≡ length all → text_of (whole_window all) ∷ [] ≡ reverse one
 first_pushed all none one to empty pushed is =
     sym (ap reverse (pushed ∙ ap (λ x. x ++ Text (record { to = to; depth = 0 }) ∷ []) empty) ∙ ap (λ n. Text (record { to = n; depth = 0 }) ∷ []) is)
 
 pub only_zeros : (empty list : List ℕ) (len : ℕ) → empty ≡ [] → list ≡ replicate len 0 ++ empty → list ≡ replicate len 0
 only_zeros empty list len none is = is ∙ ap (λ x. replicate len 0 ++ x) none ∙ append-nil (replicate len 0)
 
-pub left_start : {kind : Kind} {all : Pairs} {slots : List ℕ} {len : ℕ} (list : List ℕ) → IsMeasured kind all slots len → list ≡ replicate len 0 → WrittenTo kind all list 0 (whole all ∷ [])
+pub left_start : {kind : Kind} {all : Pairs} {slots : List ℕ} {len : ℕ} (list : List ℕ) → IsMeasured kind all slots len → list ≡ replicate len 0 → WrittenTo kind all list 0 (whole_window all ∷ [])
 left_start {kind = kind} {all = all} {len = len} list m is = record {
   written = [];
   at_is = refl;
-  list_is = is ∙ ap (λ n. replicate n 0) (let e = sum_by-cons (λ n. n) (size_of kind (window all (whole all))) [] in let l = m.len_is in let w = ap (size_of kind) (cut_whole all) in
-      let f : len ≡ total (size_of kind (window all (whole all)) ∷ []) = omega arith in f);
+  list_is = is ∙ ap (λ n. replicate n 0) (let e = sum_by-cons (λ n. n) (size_of kind (window all (whole_window all))) [] in let l = m.len_is in let w = ap (size_of kind) (cut_whole all) in
+      let f : len ≡ total (size_of kind (window all (whole_window all)) ∷ []) = omega arith in f);
   completes = texts_whole;
 }
   where
-    texts_whole : (texts : List (List ℕ)) → Texts kind all (whole all ∷ []) texts → Listed kind (concat texts) all
+    texts_whole : (texts : List (List ℕ)) → Texts kind all (whole_window all ∷ []) texts → Listed kind (concat texts) all
     texts_whole [] h = absurd h
     texts_whole (t ∷ u ∷ ts) h = absurd (h.1)
     texts_whole (t ∷ []) h = subst (λ x. Listed kind x all) (sym (append-nil t)) (subst (Listed kind t) (cut_whole all) h.0)

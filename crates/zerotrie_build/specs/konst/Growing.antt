@@ -34,7 +34,7 @@ ComesBefore s (t ∷ siblings) = (t.depth < s.depth) ⊎ ((t.depth ≡ s.depth) 
 
 -- The bytes begin with the text of a sibling, which stands above the key, and the pairs with those that the text lists.
 -- While it was written so many siblings waited, and so the stack of k was enough.
-pub record IsFirst (k : ℕ) (key : List ℕ) (s : Sibling) (waited : ℕ) (Rest : List ℕ → Pairs → Type 0) (bytes : List ℕ) (pairs : Pairs) : Type 0 where
+pub record BeginsWithSibling (k : ℕ) (key : List ℕ) (s : Sibling) (waited : ℕ) (Rest : List ℕ → Pairs → Type 0) (bytes : List ℕ) (pairs : Pairs) : Type 0 where
   pub text : List ℕ
   pub rest : List ℕ
   pub inner : Pairs
@@ -53,7 +53,7 @@ pub record IsFirst (k : ℕ) (key : List ℕ) (s : Sibling) (waited : ℕ) (Rest
 -- the bytes are the texts of the siblings, one after another, and list these pairs
 abbrev pub Aside : ℕ → List ℕ → List Sibling → List ℕ → Pairs → Type 0
 Aside k key [] bytes pairs = (bytes ≡ []) × (pairs ≡ [])
-Aside k key (s ∷ siblings) bytes pairs = ComesBefore s siblings × IsFirst k key s (length siblings) (Aside k key siblings) bytes pairs
+Aside k key (s ∷ siblings) bytes pairs = ComesBefore s siblings × BeginsWithSibling k key s (length siblings) (Aside k key siblings) bytes pairs
 
 -- In front stands the text of what is under the first bytes of the key, so many, and behind it the siblings.
 pub record TextAndSiblings (k : ℕ) (Front : List ℕ → Type 0) (key : List ℕ) (depth : ℕ) (siblings : List Sibling) (front : ℕ) (bytes : List ℕ) (pairs : Pairs) : Type 0 where
@@ -75,13 +75,13 @@ abbrev pub ReadyFor : ℕ → List ℕ → List Sibling → ℕ → List ℕ →
 ReadyFor k key siblings front bytes pairs = TextAndSiblings k NoValueFirst key (length key) siblings front bytes pairs
 
 -- with a text in front, and once a level is closed without a value first
-abbrev pub Stands : ℕ → List ℕ → ℕ → List Sibling → ℕ → List ℕ → Pairs → Type 0
-Stands k key depth siblings front bytes pairs =
+abbrev pub ClosedTo : ℕ → List ℕ → ℕ → List Sibling → ℕ → List ℕ → Pairs → Type 0
+ClosedTo k key depth siblings front bytes pairs =
     TextAndSiblings k (λ text. (text ≢ []) × (depth < length key → NoValueFirst text)) key depth siblings front bytes pairs
 
 -- the text and the siblings, the last that was set aside last, stand so
-abbrev pub Standing : ℕ → List ℕ → ℕ → Text → List Sibling → Pairs → Type 0
-Standing k key depth text siblings listed = (bytes : List ℕ) × Has text bytes × Stands k key depth (tops siblings) text.front bytes listed
+abbrev pub IsClosedTo : ℕ → List ℕ → ℕ → Text → List Sibling → Pairs → Type 0
+IsClosedTo k key depth text siblings listed = (bytes : List ℕ) × Has text bytes × ClosedTo k key depth (tops siblings) text.front bytes listed
 
 -- they wait so
 abbrev pub IsReady : ℕ → List ℕ → Text → List Sibling → Pairs → Type 0

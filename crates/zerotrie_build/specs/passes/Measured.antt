@@ -43,7 +43,7 @@ abbrev pub sizes_of : Kind → Pairs → List Window → List ℕ
 sizes_of kind all cs = map (size_of kind) (map (window all) cs)
 
 -- What is known of a window whose first branch has targets of these windows, or which has no branch.
-pub record IsOpen (kind : Kind) (all : Pairs) (w : Window) (cs : List Window) : Type 0 where
+pub record HasFirstTargets (kind : Kind) (all : Pairs) (w : Window) (cs : List Window) : Type 0 where
   pub within : w.to ≤ length all
   pub ordered : Ordered kind (window all w)
   pub behind : Window
@@ -74,7 +74,7 @@ mutual
   -- The slots are those of the first branch of a window and of the branches behind it.
   pub data Kept (kind : Kind) (all : Pairs) : Window → List ℕ → Type 0 where
     kept : {w : Window} {cs : List Window} {below : List (List ℕ)}
-        → IsOpen kind all w cs → KeptEach kind all cs below → Kept kind all w (slots_of kind (sizes_of kind all cs) below)
+        → HasFirstTargets kind all w cs → KeptEach kind all cs below → Kept kind all w (slots_of kind (sizes_of kind all cs) below)
 
   -- Each window has these slots.
   pub data KeptEach (kind : Kind) (all : Pairs) : List Window → List (List ℕ) → Type 0 where
@@ -83,11 +83,11 @@ mutual
         → Kept kind all c slots → KeptEach kind all cs below → KeptEach kind all (c ∷ cs) (slots ∷ below)
 
 -- the window of all items
-abbrev pub whole : Pairs → Window
-whole all = record { from = 0; to = length all; depth = 0 }
+abbrev pub whole_window : Pairs → Window
+whole_window all = record { from = 0; to = length all; depth = 0 }
 
 -- The slots are those of the pairs, whose text is so long.
 pub record IsMeasured (kind : Kind) (all : Pairs) (slots : List ℕ) (len : ℕ) : Type 0 where
   pub keys : AreKeys kind all
-  pub slots_are : Kept kind all (whole all) slots
+  pub slots_are : Kept kind all (whole_window all) slots
   pub len_is : len ≡ size_of kind all

@@ -4,13 +4,13 @@ use Rattle.zerotrie_core.specs.Kind.{Kind, fold_byte}
 use Rattle.zerotrie_core.specs.Maps.{Pairs}
 
 -- the key begins with the front and then the byte
-abbrev pub Begins : List ℕ → ℕ → List ℕ → Type 0
-Begins front byte [] = ⊥
-Begins [] byte (b ∷ key) = b ≡ byte
-Begins (a ∷ front) byte (b ∷ key) = (b ≡ a) × Begins front byte key
+abbrev pub BeginsThen : List ℕ → ℕ → List ℕ → Type 0
+BeginsThen front byte [] = ⊥
+BeginsThen [] byte (b ∷ key) = b ≡ byte
+BeginsThen (a ∷ front) byte (b ∷ key) = (b ≡ a) × BeginsThen front byte key
 
-abbrev pub NoneBegins : List ℕ → ℕ → Pairs → Type 0
-NoneBegins front byte pairs = All (λ e. Begins front byte e.0 → ⊥) pairs
+abbrev pub NoneBeginsThen : List ℕ → ℕ → Pairs → Type 0
+NoneBeginsThen front byte pairs = All (λ e. BeginsThen front byte e.0 → ⊥) pairs
 
 -- the key parts from the next, and the other goes on with the fold of its byte there, which is another byte
 abbrev pub Turns : Kind → List ℕ → List ℕ → List ℕ → Type 0

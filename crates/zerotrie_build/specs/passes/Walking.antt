@@ -11,18 +11,18 @@ use Rattle.zerotrie_build.specs.declared.measuring.OpenBranch.{OpenBranch}
 use Rattle.zerotrie_build.specs.declared.measuring.Turn.{Turn}
 use Rattle.zerotrie_build.specs.declared.measuring.Turn.TheVariants.{Window as NextWindow, Whole}
 use Rattle.zerotrie_build.specs.passes.Windows.{window, step_of}
-use Rattle.zerotrie_build.specs.passes.Measured.{Passes, TargetWindows, sizes_of, ends_from, Kept, KeptEach, whole}
+use Rattle.zerotrie_build.specs.passes.Measured.{Passes, TargetWindows, sizes_of, ends_from, Kept, KeptEach, whole_window}
 
 -- behind some front stand the pairs of the window, but for the value of the empty key
-abbrev pub IsBehind : Pairs → Window → Type 0
-IsBehind all w = (front : List ℕ) × ((b : ℕ) → residual b (behind_all front all) ≡ residual b (window all w))
+abbrev pub IsBehindFront : Pairs → Window → Type 0
+IsBehindFront all w = (front : List ℕ) × ((b : ℕ) → residual b (behind_all front all) ≡ residual b (window all w))
 
 -- The window is a part of the items in their order, and its text a part of the whole.
 pub record IsPlaced (kind : Kind) (all : Pairs) (w : Window) : Type 0 where
   pub order : w.from ≤ w.to
   pub within : w.to ≤ length all
   pub ordered : Ordered kind (window all w)
-  pub behind : IsBehind all w
+  pub behind : IsBehindFront all w
   pub small : size_of kind (window all w) ≤ size_of kind all
 
 -- where the items of windows end
@@ -65,7 +65,7 @@ pub record MeasuresTarget (kind : Kind) (all : Pairs) (w c : Window) (f : OpenBr
 
 -- The window is measured, inside of these branches, the innermost of them first, and behind these slots.
 pub data IsInside (kind : Kind) (all : Pairs) : Window → List OpenBranch → List ℕ → Type 0 where
-  outside : IsInside kind all (whole all) [] []
+  outside : IsInside kind all (whole_window all) [] []
   inside : {w c : Window} {f : OpenBranch} {fs : List OpenBranch} {before own : List ℕ}
       → IsInside kind all w fs before → MeasuresTarget kind all w c f before own → IsInside kind all c (f ∷ fs) (before ++ own)
 
@@ -94,11 +94,11 @@ pub record IsOpened (kind : Kind) (all : Pairs) (w : Window) (len : ℕ) (c : Wi
 -- the next window is measured, or all is
 abbrev pub IsTurn : Kind → Pairs → Turn → List OpenBranch → List ℕ → Type 0
 IsTurn kind all (NextWindow c) branches slots = IsInside kind all c branches slots
-IsTurn kind all (Whole len) branches slots = Kept kind all (whole all) slots × (len ≡ size_of kind (window all (whole all)))
+IsTurn kind all (Whole len) branches slots = Kept kind all (whole_window all) slots × (len ≡ size_of kind (window all (whole_window all)))
 
-abbrev pub IsNext : Turn → Type 0
-IsNext (NextWindow c) = Unit {0}
-IsNext (Whole len) = ⊥
+abbrev pub IsNextWindow : Turn → Type 0
+IsNextWindow (NextWindow c) = Unit {0}
+IsNextWindow (Whole len) = ⊥
 
 -- how many targets of branches are still to be measured
 abbrev pub left_open : List OpenBranch → ℕ

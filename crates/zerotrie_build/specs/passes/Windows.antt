@@ -14,16 +14,16 @@ abbrev pub window : Pairs → Window → Pairs
 window all w = cut all w.from w.to w.depth
 
 -- the item of a number
-abbrev pub item_of : Pairs → ℕ → List ℕ × ℕ
-item_of all index = slice_index_or all index ([], 0)
+abbrev pub item_no : Pairs → ℕ → List ℕ × ℕ
+item_no all index = slice_index_or all index ([], 0)
 
 -- the byte of a key at a depth
 abbrev pub byte_of : Pairs → ℕ → ℕ → Option ℕ
-byte_of all index depth = slice_get (item_of all index).0 depth
+byte_of all index depth = slice_get (item_no all index).0 depth
 
 -- the byte in front of a window
 abbrev pub edge_of : Pairs → Window → ℕ
-edge_of all w = slice_index (item_of all w.from).0 (w.depth - 1)
+edge_of all w = slice_index (item_no all w.from).0 (w.depth - 1)
 
 -- how many bytes from 128 on two keys have in common in front
 abbrev pub high_front : List ℕ → List ℕ → ℕ
@@ -42,8 +42,8 @@ step_at kind (Some b) (Some c) v high =
 -- what stands first in the text of a window
 abbrev pub step_of : Kind → Pairs → Window → Step
 step_of kind all w = if nat_lt w.from w.to
-    then step_at kind (byte_of all w.from w.depth) (byte_of all (w.to - 1) w.depth) (item_of all w.from).1
-    (high_front (drop w.depth (item_of all w.from).0) (drop w.depth (item_of all (w.to - 1)).0))
+    then step_at kind (byte_of all w.from w.depth) (byte_of all (w.to - 1) w.depth) (item_no all w.from).1
+    (high_front (drop w.depth (item_no all w.from).0) (drop w.depth (item_no all (w.to - 1)).0))
     else End
 
 -- The first and the last key of the window have one byte at the depth, and it is below 128.
@@ -56,9 +56,9 @@ pub record IsLow (all : Pairs) (w : Window) (depth : ℕ) : Type 0 where
 -- The window has one item, with this value, whose key goes on with this rest.
 pub record IsOne (all : Pairs) (w : Window) (rest : List ℕ) (value : ℕ) : Type 0 where
   pub one : w.to ≡ w.from + 1
-  pub deep : w.depth ≤ length (item_of all w.from).0
-  pub rest_is : rest ≡ drop w.depth (item_of all w.from).0
-  pub value_is : value ≡ (item_of all w.from).1
+  pub deep : w.depth ≤ length (item_no all w.from).0
+  pub rest_is : rest ≡ drop w.depth (item_no all w.from).0
+  pub value_is : value ≡ (item_no all w.from).1
 
 -- how many bytes a byte of a short rest makes, behind one from 128 on or not: it begins a span, and its length has one, or does not
 abbrev pub byte_size : Bool → ℕ → ℕ
@@ -76,9 +76,9 @@ IsRestLen kind rest n = (All (λ b. b < 128) rest × (n ≡ length rest)) ⊎ ((
 -- The window has one item, with this value, whose key goes on with this rest, and the rest is ASCII.
 pub record IsLone (all : Pairs) (w : Window) (rest : List ℕ) (value : ℕ) : Type 0 where
   pub one : w.to ≡ w.from + 1
-  pub deep : w.depth ≤ length (item_of all w.from).0
-  pub rest_is : rest ≡ drop w.depth (item_of all w.from).0
-  pub value_is : value ≡ (item_of all w.from).1
+  pub deep : w.depth ≤ length (item_no all w.from).0
+  pub rest_is : rest ≡ drop w.depth (item_no all w.from).0
+  pub value_is : value ≡ (item_no all w.from).1
   pub low : All (λ b. b < 128) rest
 
 -- The items up to end, and no others that follow them, have the byte of the first.

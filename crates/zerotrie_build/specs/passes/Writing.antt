@@ -47,8 +47,8 @@ abbrev pub edge_no : Pairs → List Window → ℕ → ℕ
 edge_no all windows i = edge_of all (window_at windows i)
 
 -- the lengths of the targets of these numbers
-abbrev pub lens_of : List ℕ → List ℕ → List ℕ
-lens_of lens numbers = map (λ i. slice_index_or lens i 0) numbers
+abbrev pub target_lens : List ℕ → List ℕ → List ℕ
+target_lens lens numbers = map (λ i. slice_index_or lens i 0) numbers
 
 -- the place of a byte among these
 abbrev pub place_in : List ℕ → ℕ → ℕ

@@ -12,7 +12,7 @@ ghost use Rattle.zerotrie_core.specs.Causes.{CapacityExceeded, StackExceeded};
 ghost use Rattle.zerotrie_build.specs.Items.{pairs};
 ghost use Rattle.zerotrie_build.specs.Order.{Before, Ordered};
 ghost use Rattle.zerotrie_build.specs.konst.Texts.{EndsIn, Keeps, tops};
-ghost use Rattle.zerotrie_build.specs.konst.Growing.{NoneAt, AllAt, Standing, IsReady, BuiltFrom, Joins, LevelTooWide, RefusedAt, RefusedFrom, RefusedBefore, IsRefusedBuild};
+ghost use Rattle.zerotrie_build.specs.konst.Growing.{NoneAt, AllAt, IsClosedTo, IsReady, BuiltFrom, Joins, LevelTooWide, RefusedAt, RefusedFrom, RefusedBefore, IsRefusedBuild};
 
 use crate::konst::text::{Sibling, Text, total};
 use crate::order::common_front_len;
@@ -39,11 +39,8 @@ fn set_aside<const K: usize>(
     if siblings.is_full() {
         return Err(ZeroTrieBuildError::StackExceeded);
     }
-    siblings.push(Sibling {
-        depth,
-        byte,
-        len: text.front,
-    });
+    let len = text.front;
+    siblings.push(Sibling { depth, byte, len });
     text.front = 0;
     Ok(())
 }
@@ -107,10 +104,10 @@ fn close_level<const K: usize>(
     requires ascii { All (λ b. b < 128) key.now }
     ensures keeps { OnOk result (Keeps text.old text.new) }
     ensures closed { OnOk result ((listed : Pairs)
-        → Standing K key.now (suc depth) text.old siblings.old.items listed
-        → Standing K key.now depth text.new siblings.new.items listed) }
+        → IsClosedTo K key.now (suc depth) text.old siblings.old.items listed
+        → IsClosedTo K key.now depth text.new siblings.new.items listed) }
     ensures refused { IfErr result (λ e. (listed : Pairs)
-        → Standing K key.now (suc depth) text.old siblings.old.items listed
+        → IsClosedTo K key.now (suc depth) text.old siblings.old.items listed
         → RefusedAt K key.now depth listed e) }
 {
     if has_siblings_at(siblings, depth) {
@@ -132,10 +129,10 @@ fn close_to<const K: usize>(
     requires ascii { All (λ b. b < 128) key.now }
     ensures keeps { OnOk result (Keeps text.old text.new) }
     ensures closed { OnOk result ((listed : Pairs)
-        → Standing K key.now (length key.now) text.old siblings.old.items listed
-        → Standing K key.now stop text.new siblings.new.items listed) }
+        → IsClosedTo K key.now (length key.now) text.old siblings.old.items listed
+        → IsClosedTo K key.now stop text.new siblings.new.items listed) }
     ensures refused { IfErr result (λ e. (listed : Pairs)
-        → Standing K key.now (length key.now) text.old siblings.old.items listed
+        → IsClosedTo K key.now (length key.now) text.old siblings.old.items listed
         → RefusedFrom K key.now stop listed e) }
 {
     let mut depth = key.len();
@@ -157,10 +154,10 @@ fn go_before<const K: usize>(
     requires ascii { All (λ b. b < 128) key.now }
     ensures keeps { OnOk result (Keeps text.old text.new) }
     ensures waits { OnOk result ((listed : Pairs)
-        → Standing K key.now (length key.now) text.old siblings.old.items listed
+        → IsClosedTo K key.now (length key.now) text.old siblings.old.items listed
         → IsReady K before.now text.new siblings.new.items listed) }
     ensures refused { IfErr result (λ e. (listed : Pairs)
-        → Standing K key.now (length key.now) text.old siblings.old.items listed
+        → IsClosedTo K key.now (length key.now) text.old siblings.old.items listed
         → RefusedBefore K before.now listed e) }
 {
     let common = common_front_len(before, key);

@@ -1,13 +1,16 @@
 -- Going down to a prefix, and to a key and past it.
 use Rattle.std.specs.Prelude.{◌≡◌, ◌≢◌, ℕ, List, [], ◌∷◌, ◌++◌, Option, Some, None, true, false}
+use Rattle.std.specs.Borrow.{Bor}
 use Rattle.zerotrie_core.specs.Kind.{Kind, fold_byte}
 use Rattle.zerotrie_core.specs.Maps.{Pairs, with_run, same_key, value_at}
 use Rattle.zerotrie_core.specs.Texts.{Lists}
 use Rattle.zerotrie_core.specs.Nodes.{Shape}
 use Rattle.zerotrie_core.specs.Listings.{Left, to_come}
+use Rattle.zerotrie_core.specs.reader.Reading.{AlwaysFinds, AlwaysComes}
 use Rattle.zerotrie_core.specs.reader.Going.{AlwaysGoes}
 use Rattle.zerotrie_core.specs.listing.Opened.{pairs_left}
 use Rattle.zerotrie_core.specs.declared.stream.opened.OpenBranch.{OpenBranch}
+use Rattle.zerotrie_core.specs.declared.here.Here.{Here}
 
 -- the pairs are those of a text, each key with a front before it; or there is no such text, and no pair
 abbrev pub IsBehind : Kind → Pairs → Option (List ℕ × List ℕ) → Type 0
@@ -44,3 +47,25 @@ pub record GoesInto (kind : Kind) (node : Shape) (byte : ℕ) (bytes key : List 
   pub same : fold_byte kind edge ≡ fold_byte kind byte
   pub goes : AlwaysGoes kind node byte edge rest
   pub last : (pairs : Pairs) → Lists kind bytes pairs → (before : Pairs) × (pairs_left kind key bytes branches ≡ before ++ pairs_left kind key' rest branches')
+
+-- A walk goes on towards a key: bytes that are the run to the kind go from what is left of the sought key to the end of
+-- the key at hand, and the pairs that are left then are the last of those before.
+pub record LeadsOn (kind : Kind) (bytes left key : List ℕ) (branches : List OpenBranch) (rest after key' : List ℕ) (branches' : List OpenBranch) : Type 0 where
+  pub run : List ℕ
+  pub taken : List ℕ
+  pub key_is : key' ≡ key ++ run
+  pub left_is : left ≡ taken ++ after
+  pub same : same_key kind run taken ≡ true
+  pub count : ℕ
+  pub comes : AlwaysComes kind bytes left rest after count
+  pub last : (pairs : Pairs) → Lists kind bytes pairs → (before : Pairs) × (pairs_left kind key bytes branches ≡ before ++ pairs_left kind key' rest branches')
+
+-- that, to the rest of the text and of the key; or no pair has the key
+abbrev pub IsTowards : Kind → List ℕ → List ℕ → List ℕ → List OpenBranch → Option (List ℕ × List ℕ) → List ℕ → List OpenBranch → Type 0
+IsTowards kind bytes left key branches None key' branches' = AlwaysFinds kind bytes left None 1
+IsTowards kind bytes left key branches (Some r) key' branches' = LeadsOn kind bytes left key branches r.0 r.1 key' branches'
+
+-- the rest of the text and of the key, as they were read
+abbrev pub gone_to : Option (Here × Bor (List ℕ)) → Option (List ℕ × List ℕ)
+gone_to None = None
+gone_to (Some r) = Some (r.0.rest.now, r.1.now)

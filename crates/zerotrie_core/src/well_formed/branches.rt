@@ -65,7 +65,7 @@ fn is_perfect(table: &[u8], edges: &[u8]) -> bool
 /// Whether the search table is one of the kind, and its edges are bytes of the kind.
 ///
 /// If edges rise, and the last of them is ASCII, all are. The bytes from the first edge on go on to the end of the text.
-fn has_table<K: ZeroTrieWithOptions>(branch: &Branch<'_>, tail: &[u8]) -> bool
+pub(crate) fn has_table<K: ZeroTrieWithOptions>(branch: &Branch<'_>, tail: &[u8]) -> bool
     requires { branch.now.behind.now ≡ take (length branch.now.behind.now) tail.now }
     ensures { length branch.now.table.now ≡ table_size K.kind branch.now.edges
         → (IsTrue result ↔ HasTable K.kind (take branch.now.edges branch.now.behind.now)
@@ -90,7 +90,7 @@ fn least_width(total: usize) -> usize
 }
 
 /// Whether offsets of this many bytes have the width that the targets after them need.
-fn has_width(body: &[u8], offsets: usize, width: usize) -> bool
+pub(crate) fn has_width(body: &[u8], offsets: usize, width: usize) -> bool
     requires within { offsets ≤ length body.now }
     requires some { 1 ≤ width }
     ensures width { IsTrue result ↔ IsWidth (length (drop offsets body.now)) (width - 1) }

@@ -3,7 +3,7 @@ use Rattle.std.specs.List.{slice_range}
 use Rattle.std.proofs.lemmas.List.{take_all}
 use Rattle.std.proofs.lemmas.Option.{get_or_from_slice_get}
 use Rattle.zerotrie_core.specs.Kind.{simple_ascii}
-use Rattle.zerotrie_build.specs.passes.Windows.{item_of}
+use Rattle.zerotrie_build.specs.passes.Windows.{item_no}
 use Rattle.zerotrie_build.proofs.WindowLemmas.Windows.{rest_bytes}
 use Rattle.zerotrie_build.proofs.leaf.single_item.Goals as goal
 
@@ -14,7 +14,7 @@ pub returns-clause-is : goal.returns-clause-is
 returns-clause-is g c =
     let key = c.get-value.result.0.now in
     let d = c.args.window.depth in
-    let item : item_of (g.I.IndexedItems.pairs c.args.items) c.args.window.from ≡ (key, c.get-value.result.1) =
+    let item : item_no (g.I.IndexedItems.pairs c.args.items) c.args.window.from ≡ (key, c.get-value.result.1) =
     get_or_from_slice_get (g.I.IndexedItems.pairs c.args.items) c.args.window.from (key, c.get-value.result.1) ([], 0) c.get-value.ensures in
     let found = c.in_ok-rest.ensures.lookup.0 in
     record {

@@ -1,4 +1,4 @@
-use Rattle.std.proofs.Common.{◌+◌, subst, length, arith}
+use Rattle.std.proofs.Common.{◌+◌, sym, subst, length, arith}
 use Rattle.std.proofs.lemmas.Result.{err_from_is_err_and}
 use Rattle.zerotrie_build.specs.declared.windows.Window.{Window}
 use Rattle.zerotrie_build.specs.passes.Measured.{Passes}
@@ -20,5 +20,6 @@ returns-clause-run g c =
     let start = c.args.start in
     let rest = c.in-Some.rest.now in
     let behind : Window = record { from = start.to; to = start.to; depth = start.depth + length rest } in
-    subst (Passes kind (g.I.IndexedItems.pairs c.args.items) start behind) (let s = c.in_ok-checked_sum.ensures.sum in let e = c.value_len.ensures in omega arith)
-    (one_run kind (g.I.IndexedItems.pairs c.args.items) start rest c.in-Some.value c.in-Some-rest_len.len c.in-Some.ensures.is c.in-Some-rest_len.ensures)
+    subst (λ w. Passes kind (g.I.IndexedItems.pairs c.args.items) start w c.in_ok-checked_sum.field-0) (sym c.new-end.ensures)
+    (subst (Passes kind (g.I.IndexedItems.pairs c.args.items) start behind) (let s = c.in_ok-checked_sum.ensures.sum in let e = c.value_len.ensures in omega arith)
+    (one_run kind (g.I.IndexedItems.pairs c.args.items) start rest c.in-Some.value c.in-Some-rest_len.len c.in-Some.ensures.is c.in-Some-rest_len.ensures))

@@ -7,8 +7,8 @@ use Rattle.zerotrie_core.specs.Fits.{ExceedsCapacity}
 use Rattle.zerotrie_build.specs.declared.measuring.Turn.TheVariants.{Window as NextWindow, Whole}
 use Rattle.zerotrie_build.specs.Order.{Ordered, AreKeys}
 use Rattle.zerotrie_build.specs.passes.Windows.{window}
-use Rattle.zerotrie_build.specs.passes.Measured.{Kept, whole}
-use Rattle.zerotrie_build.specs.passes.Walking.{IsInside, Closing, IsOpened, IsTurn, IsNext}
+use Rattle.zerotrie_build.specs.passes.Measured.{Kept, whole_window}
+use Rattle.zerotrie_build.specs.passes.Walking.{IsInside, Closing, IsOpened, IsTurn, IsNextWindow}
 use Rattle.zerotrie_build.specs.passes.Walking.IsInside.{outside}
 use Rattle.zerotrie_build.proofs.WindowLemmas.Windows.{cut_whole}
 use Rattle.zerotrie_build.proofs.WindowLemmas.NodeRuns.{along, stopped}
@@ -27,8 +27,9 @@ loop-pass-init g c = record {
       let kind = g.K.ZeroTrieWithOptions.kind in
       let all = g.I.IndexedItems.pairs c.args.items in
       let to : c.len.result ≡ length all = search rules in
-      subst (λ x. IsInside kind all (record { from = 0; to = x; depth = 0 }) (reverse m.branches.items) m.slots.items) (sym to)
-      (subst (λ x. IsInside kind all (whole all) (reverse x) m.slots.items) (sym e.branches) (subst (IsInside kind all (whole all) []) (sym e.slots) outside));
+      subst (λ w. IsInside kind all w (reverse m.branches.items) m.slots.items) (sym c.new-window.ensures)
+      (subst (λ x. IsInside kind all (record { from = 0; to = x; depth = 0 }) (reverse m.branches.items) m.slots.items) (sym to)
+      (subst (λ x. IsInside kind all (whole_window all) (reverse x) m.slots.items) (sym e.branches) (subst (IsInside kind all (whole_window all) []) (sym e.slots) outside)));
 }
 
 pub behind_nodes-requires : goal.behind_nodes-requires
@@ -99,7 +100,7 @@ returns-in_err-next-clause-refused g c =
 
 pub loop-pass-smaller : goal.loop-pass-smaller
 loop-pass-smaller g c =
-    let less = c.in_ok-next.ensures.less (subst IsNext (sym c.in-Window.is) tt) in
+    let less = c.in_ok-next.ensures.less (subst IsNextWindow (sym c.in-Window.is) tt) in
     let same = c.close.ensures.same in
     omega arith
 
@@ -121,6 +122,6 @@ returns-in-Whole-clause-measured g c =
     (subst (λ t. IsTurn kind (g.I.IndexedItems.pairs c.loop-pass.pass.items) t (reverse c.close.new.self.branches.items) c.close.new.self.slots.items) c.in-Whole.is c.in_ok-next.ensures.turn) in
     record {
       keys = c.requires.keys;
-      slots_are = subst (Kept kind all (whole all)) (sym c.measured.ensures.slots) t.0;
+      slots_are = subst (Kept kind all (whole_window all)) (sym c.measured.ensures.slots) t.0;
       len_is = c.measured.ensures.len ∙ t.1 ∙ ap (size_of kind) (cut_whole all);
     }

@@ -4,7 +4,7 @@ use Rattle.zerotrie_core.specs.Kind.{fold_byte}
 use Rattle.zerotrie_core.specs.Items.{keyed}
 use Rattle.zerotrie_build.specs.Refused.{key_at}
 use Rattle.zerotrie_build.proofs.OrderLemmas.Parting.{common_most}
-use Rattle.zerotrie_build.specs.passes.Turns.{Begins}
+use Rattle.zerotrie_build.specs.passes.Turns.{BeginsThen}
 use Rattle.zerotrie_build.proofs.RefusalLemmas.Shown.{none_then}
 use Rattle.zerotrie_build.proofs.RefusalLemmas.Turns.{turns_at, begins_differ}
 use Rattle.zerotrie_build.proofs.refusal.other_case.Goals as goal
@@ -47,7 +47,7 @@ returns-clause-some g c =
     let e = c.common_front_len-common.ensures in
     let short = c.if-common-key.false in
     IfSome_then c.key_after.result c.key_after.ensures.some
-    (λ i b. begins_differ kind c.args.key.now (key_at all i) n (omega arith) (λ h. c.if-fold-key.false (f ∙ h)) (subst (λ x. Begins (take n c.args.key.now) x (key_at all i)) f b))
+    (λ i b. begins_differ kind c.args.key.now (key_at all i) n (omega arith) (λ h. c.if-fold-key.false (f ∙ h)) (subst (λ x. BeginsThen (take n c.args.key.now) x (key_at all i)) f b))
 
 pub returns-clause-none : goal.returns-clause-none
 returns-clause-none g c =
@@ -58,5 +58,5 @@ returns-clause-none g c =
     none_then c.key_after.result c.key_after.ensures.none
     (λ none i d below t.
     let other = (get_or all i d).0 in
-    let at = subst (λ x. Begins (take x key) (fold_byte kind (get_or key x 0)) other) (sym c.common_front_len-common.ensures) (turns_at kind key c.args.next.now other t).begins in
-    none i d below (subst (λ x. Begins (take n key) x other) (sym c.folded-fold.ensures) at))
+    let at = subst (λ x. BeginsThen (take x key) (fold_byte kind (get_or key x 0)) other) (sym c.common_front_len-common.ensures) (turns_at kind key c.args.next.now other t).begins in
+    none i d below (subst (λ x. BeginsThen (take n key) x other) (sym c.folded-fold.ensures) at))

@@ -1,23 +1,29 @@
-use Rattle.std.proofs.Common.{◌≡◌, ◌+◌, List, ℕ, suc, length, rules, arith, take, drop, get_or, set, ap, ◌∙◌, sym}
+use Rattle.std.proofs.Common.{◌≡◌, ◌+◌, List, ℕ, suc, length, rules, arith, take, drop, get_or, set, ap, ◌∙◌, sym, subst}
 use Rattle.zerotrie_core.specs.Maps.{look}
+use Rattle.zerotrie_core.specs.Texts.{Means}
 use Rattle.zerotrie_c.specs.Keys.{or_else}
 use Rattle.zerotrie_c.proofs.Written.{going_on, going_on-more, going_on-end}
 use Rattle.zerotrie_c.proofs.look_up.look_up_many.Goals as goal
 
 pub loop-number-preserved : goal.loop-number-preserved
-loop-number-preserved g c m means =
-    let f : List ℕ → ℕ = λ key. or_else c.args.missing (look g.K.ZeroTrieWithOptions.kind m key) in
-    let n = c.loop-number.number in
-    let to = get_or c.args.ends.now n 0 in
-    let same : length c.loop-number.values ≡ length c.args.values.now = search rules in
-    let next : n + 1 ≡ suc n = omega arith in
-    let key : c.key_between.result.now ≡ drop c.loop-number.from (take to c.args.keys.now) = c.key_between.ensures in
-    let answer : c.value_or.result ≡ f (drop c.loop-number.from (take to c.args.keys.now)) = c.value_or.ensures m means ∙ ap f key in
-    ap (λ v. going_on f c.args.keys.now c.args.ends.now to (n + 1) (set c.loop-number.values n v)) answer
-    ∙ ap (λ k. going_on f c.args.keys.now c.args.ends.now to k (set c.loop-number.values n (f (drop c.loop-number.from (take to c.args.keys.now))))) next
-    ∙ going_on-more f c.args.keys.now n c.loop-number.from c.args.ends.now c.loop-number.values
-    (omega (arith, c.min-count.ensures, c.loop-number-test.true)) (omega (arith, c.min-count.ensures, c.loop-number-test.true, same))
-    ∙ c.loop-number.invariant m means
+loop-number-preserved g c = (
+  c.value_in_or.ensures.kept ∙ c.loop-number.invariant.0,
+  λ m means. (
+      let f : List ℕ → ℕ = λ key. or_else c.args.missing (look g.K.ZeroTrieWithOptions.kind m key) in
+      let n = c.loop-number.number in
+      let end = get_or c.args.ends.now n 0 in
+      let same : length c.loop-number.values ≡ length c.args.values.now = search rules in
+      let next : n + 1 ≡ suc n = omega arith in
+      let key : c.key_between.result.now ≡ drop c.loop-number.from (take end c.args.keys.now) = c.key_between.ensures in
+      let there : Means g.K.ZeroTrieWithOptions.kind c.loop-number.trie m = subst (λ b. Means g.K.ZeroTrieWithOptions.kind b m) (sym c.loop-number.invariant.0) means in
+      let answer : c.value_in_or.result ≡ f (drop c.loop-number.from (take end c.args.keys.now)) = c.value_in_or.ensures.value m there ∙ ap f key in
+      ap (λ v. going_on f c.args.keys.now c.args.ends.now end (n + 1) (set c.loop-number.values n v)) answer
+      ∙ ap (λ k. going_on f c.args.keys.now c.args.ends.now end k (set c.loop-number.values n (f (drop c.loop-number.from (take end c.args.keys.now))))) next
+      ∙ going_on-more f c.args.keys.now n c.loop-number.from c.args.ends.now c.loop-number.values
+      (omega (arith, c.min-count.ensures, c.loop-number-test.true)) (omega (arith, c.min-count.ensures, c.loop-number-test.true, same))
+      ∙ c.loop-number.invariant.1 m means
+      ),
+)
 
 pub returns : goal.returns
 returns g c m means =
@@ -25,4 +31,4 @@ returns g c m means =
     let same : length c.loop-number.values ≡ length c.args.values.now = search rules in
     sym (going_on-end f c.args.keys.now c.loop-number.number c.loop-number.from c.args.ends.now c.loop-number.values
     (λ p q. omega (arith, c.min-count.ensures, c.loop-number-test.false, same, p, q)))
-    ∙ c.loop-number.invariant m means
+    ∙ c.loop-number.invariant.1 m means

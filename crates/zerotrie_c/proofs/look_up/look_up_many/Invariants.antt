@@ -6,6 +6,6 @@ use Rattle.zerotrie_c.proofs.Written.{going_on}
 use Rattle.zerotrie_c.proofs.look_up.look_up_many.Given as goal
 
 abbrev pub invariant-loop-number : goal.invariant-loop-number
-invariant-loop-number g l = (m : Map) → Means g.K.ZeroTrieWithOptions.kind l.bytes m
+invariant-loop-number g l = (l.trie ≡ l.bytes) × ((m : Map) → Means g.K.ZeroTrieWithOptions.kind l.bytes m
     → going_on (λ key. or_else l.missing (look g.K.ZeroTrieWithOptions.kind m key)) l.keys l.ends l.from l.number l.values
-    ≡ written_over (values_or l.missing g.K.ZeroTrieWithOptions.kind m (keys_from 0 l.keys l.ends)) l.initial.values
+    ≡ written_over (values_or l.missing g.K.ZeroTrieWithOptions.kind m (keys_from 0 l.keys l.ends)) l.initial.values)

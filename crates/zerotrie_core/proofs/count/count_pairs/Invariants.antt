@@ -1,5 +1,5 @@
 use Rattle.std.proofs.Common.{length}
-use Rattle.zerotrie_core.proofs.CountLemmas.{Counted}
+use Rattle.zerotrie_core.proofs.ListingLemmas.Rows.{Counted}
 use Rattle.zerotrie_core.proofs.count.count_pairs.Given as goal
 
 abbrev pub invariant-loop-node : goal.invariant-loop-node

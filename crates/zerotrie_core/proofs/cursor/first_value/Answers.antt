@@ -1,4 +1,4 @@
-use Rattle.zerotrie_core.proofs.CursorLemmas.{not_read}
+use Rattle.zerotrie_core.proofs.CursorLemmas.Calls.{not_read}
 use Rattle.zerotrie_core.proofs.cursor.first_value.Goals as goal
 
 pub returns-clause-none : goal.returns-clause-none

@@ -1,5 +1,5 @@
-use Rattle.zerotrie_core.proofs.KindLemmas.{ascii_spanless}
-use Rattle.zerotrie_core.proofs.CursorLemmas.{probe_text}
+use Rattle.zerotrie_core.proofs.MapLemmas.Kinds.{ascii_spanless}
+use Rattle.zerotrie_core.proofs.CursorLemmas.Calls.{probe_text}
 use Rattle.zerotrie_core.proofs.cursor.probe.Goals as goal
 
 pub returns-in-Some-clause-meaning : goal.returns-in-Some-clause-meaning

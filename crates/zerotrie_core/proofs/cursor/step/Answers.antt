@@ -1,6 +1,6 @@
 use Rattle.std.proofs.Common.{Some}
-use Rattle.zerotrie_core.proofs.KindLemmas.{ascii_spanless}
-use Rattle.zerotrie_core.proofs.CursorLemmas.{step_text}
+use Rattle.zerotrie_core.proofs.MapLemmas.Kinds.{ascii_spanless}
+use Rattle.zerotrie_core.proofs.CursorLemmas.Calls.{step_text}
 use Rattle.zerotrie_core.proofs.cursor.step.Goals as goal
 
 pub returns-in-Some-clause-meaning : goal.returns-in-Some-clause-meaning

@@ -1,4 +1,4 @@
-use Rattle.zerotrie_core.proofs.CursorLemmas.{take_some, take_none}
+use Rattle.zerotrie_core.proofs.CursorLemmas.Calls.{take_some, take_none}
 use Rattle.zerotrie_core.proofs.cursor.take_value.Goals as goal
 
 pub returns-in-None-clause-meaning : goal.returns-in-None-clause-meaning

@@ -1,6 +1,6 @@
 use Rattle.std.proofs.Common.{◌+◌, ◌/◌, ◌∙◌, sym, arith, inl, inr}
 use Rattle.std.proofs.lemmas.Bool.{cases_lt}
-use Rattle.zerotrie_core.proofs.PlaceLemmas.{bounded_place, below_middle, above_middle}
+use Rattle.zerotrie_core.proofs.NodeLemmas.Places.{bounded_place, below_middle, above_middle}
 use Rattle.zerotrie_core.proofs.edge_search.place_in.Goals as goal
 use Rattle.zerotrie_core.proofs.edge_search.place_in.Goals.{then-sought-first-via-then-sought-first, then-sought-first-via-else-sought-first+then-last-sought}
 

@@ -1,6 +1,6 @@
 use Rattle.std.proofs.Common.{length}
 use Rattle.zerotrie_core.specs.cursor.Edges.{HasTheEdges}
-use Rattle.zerotrie_core.proofs.RunLemmas.{SameSpan}
+use Rattle.zerotrie_core.proofs.CursorLemmas.Runs.{SameSpan}
 use Rattle.zerotrie_core.proofs.edges.edge_like.Given as goal
 
 abbrev pub invariant-loop-node : goal.invariant-loop-node

@@ -3,9 +3,9 @@ use Rattle.std.specs.Option.{option_map}
 use Rattle.zerotrie_core.specs.Texts.{Lists}
 use Rattle.zerotrie_core.specs.Places.{ListsAt, IsProbe}
 use Rattle.zerotrie_core.specs.cursor.Edges.{place_along}
-use Rattle.zerotrie_core.proofs.CursorLemmas.{edges_past, probe_over, nothing_probes, literal_number, literal_past_number, span_probes, branch_number, branch_past_number, branch_no_target}
+use Rattle.zerotrie_core.proofs.CursorLemmas.Calls.{edges_past, probe_over, nothing_probes, literal_number, literal_past_number, span_probes, branch_number, branch_past_number, branch_no_target}
 use Rattle.std.proofs.lemmas.Option.{IfSome_then}
-use Rattle.zerotrie_core.proofs.RunLemmas.{same_span, same_after, literal_meets, branch_meets, follows_text, follows_span}
+use Rattle.zerotrie_core.proofs.CursorLemmas.Runs.{same_span, same_after, literal_meets, branch_meets, follows_text, follows_span}
 use Rattle.zerotrie_core.proofs.edges.edge_numbered.Goals as goal
 
 pub loop-node-preserved : goal.loop-node-preserved

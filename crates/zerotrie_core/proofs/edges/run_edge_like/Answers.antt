@@ -1,5 +1,5 @@
 use Rattle.std.proofs.Common.{sym, ◌∙◌}
-use Rattle.zerotrie_core.proofs.CursorLemmas.{inside_along, inside_past}
+use Rattle.zerotrie_core.proofs.CursorLemmas.Calls.{inside_along, inside_past}
 use Rattle.zerotrie_core.proofs.edges.run_edge_like.Goals as goal
 
 pub returns-then-folded-clause-step : goal.returns-then-folded-clause-step

@@ -1,4 +1,4 @@
-use Rattle.zerotrie_core.proofs.CursorLemmas.{inside_number, inside_past_number}
+use Rattle.zerotrie_core.proofs.CursorLemmas.Calls.{inside_number, inside_past_number}
 use Rattle.zerotrie_core.proofs.edges.run_edge_numbered.Goals as goal
 
 pub returns-then-index-eq0-clause-probe : goal.returns-then-index-eq0-clause-probe

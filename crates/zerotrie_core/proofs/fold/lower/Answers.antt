@@ -1,5 +1,5 @@
 use Rattle.std.proofs.Common.{arith, refl}
-use Rattle.zerotrie_core.proofs.LowerLemmas.{lower_at}
+use Rattle.zerotrie_core.proofs.ReaderLemmas.LowerCase.{lower_at}
 use Rattle.zerotrie_core.proofs.fold.lower.Goals as goal
 
 pub returns : goal.returns

@@ -1,7 +1,7 @@
 use Rattle.std.proofs.Common.{take, eqb, arith, w8}
 use Rattle.std.proofs.lemmas.List.{length-take-le}
 use Rattle.std.proofs.lemmas.Simd.{bitmask_splat}
-use Rattle.zerotrie_core.proofs.LaneLemmas.{lowest_hit, lowest_missed}
+use Rattle.zerotrie_core.proofs.ReaderLemmas.Lanes.{lowest_hit, lowest_missed}
 use Rattle.zerotrie_core.proofs.lanes.first_in_32.Goals as goal
 
 pub returns-clause-hit : goal.returns-clause-hit

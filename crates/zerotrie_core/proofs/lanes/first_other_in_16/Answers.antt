@@ -2,7 +2,7 @@ use Rattle.std.proofs.Common.{◌^◌, ◌%◌, not, eqb, leb, take, replicate, 
 use Rattle.std.specs.Simd.Lanes.{mask_l, zip2}
 use Rattle.std.proofs.lemmas.List.{length-take-le}
 use Rattle.std.proofs.lemmas.Simd.{tops_compared, mask_l-mod, zip2_splat_left}
-use Rattle.zerotrie_core.proofs.LaneLemmas.{lowest_other, differ_len, high_len}
+use Rattle.zerotrie_core.proofs.ReaderLemmas.Lanes.{lowest_other, differ_len, high_len}
 use Rattle.zerotrie_core.proofs.lanes.first_other_in_16.Goals as goal
 
 pub returns : goal.returns

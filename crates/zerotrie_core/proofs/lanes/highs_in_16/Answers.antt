@@ -1,7 +1,7 @@
 use Rattle.std.proofs.Common.{take, ltb, arith, w8}
 use Rattle.std.proofs.lemmas.List.{length-take-le}
 use Rattle.std.proofs.lemmas.Simd.{bitmask_splat}
-use Rattle.zerotrie_core.proofs.LaneLemmas.{lowest_high, lowest_low}
+use Rattle.zerotrie_core.proofs.ReaderLemmas.Lanes.{lowest_high, lowest_low}
 use Rattle.zerotrie_core.proofs.lanes.highs_in_16.Goals as goal
 
 pub returns-clause-highs : goal.returns-clause-highs

@@ -1,7 +1,7 @@
 use Rattle.std.proofs.Common.{◌^◌, ◌%◌, leb, take, drop, ap, ◌∙◌, arith, w8}
 use Rattle.std.specs.Simd.Lanes.{mask_l}
 use Rattle.std.proofs.lemmas.Simd.{tops_compared, mask_l-mod}
-use Rattle.zerotrie_core.proofs.LaneLemmas.{lowest_rises, lowest_stops, stops_len}
+use Rattle.zerotrie_core.proofs.ReaderLemmas.Lanes.{lowest_rises, lowest_stops, stops_len}
 use Rattle.zerotrie_core.proofs.lanes.rising_in_17.Goals as goal
 
 pub returns-clause-rises : goal.returns-clause-rises

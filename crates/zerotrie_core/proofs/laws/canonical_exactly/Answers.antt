@@ -1,6 +1,6 @@
-use Rattle.zerotrie_core.proofs.OrderLaws.{means_enc}
-use Rattle.zerotrie_core.proofs.FitsLaws.{fits_meant}
-use Rattle.zerotrie_core.proofs.MeansLaws.{enc_means}
+use Rattle.zerotrie_core.proofs.CanonicalLemmas.Order.{means_enc}
+use Rattle.zerotrie_core.proofs.CanonicalLemmas.Fitting.{fits_meant}
+use Rattle.zerotrie_core.proofs.CanonicalLemmas.Meaning.{enc_means}
 use Rattle.zerotrie_core.proofs.laws.canonical_exactly.Goals as goal
 
 pub returns-clause-means : goal.returns-clause-means

@@ -1,4 +1,4 @@
-use Rattle.zerotrie_core.proofs.NodeLaws.{nodes_few}
+use Rattle.zerotrie_core.proofs.ReaderLemmas.Counts.{nodes_few}
 use Rattle.zerotrie_core.proofs.laws.few_nodes.Goals as goal
 
 pub returns : goal.returns

@@ -1,4 +1,4 @@
-use Rattle.zerotrie_core.proofs.AscendLaws.{list_the_map, lists_ascend, ascend_by_bytes}
+use Rattle.zerotrie_core.proofs.ListingLemmas.Ascending.{list_the_map, lists_ascend, ascend_by_bytes}
 use Rattle.zerotrie_core.proofs.laws.listing_is_the_map.Goals as goal
 
 pub returns-clause-map : goal.returns-clause-map

@@ -1,4 +1,4 @@
-use Rattle.zerotrie_core.proofs.CursorLaws.{no_second}
+use Rattle.zerotrie_core.proofs.CursorLemmas.Laws.{no_second}
 use Rattle.zerotrie_core.proofs.laws.no_second_value.Goals as goal
 
 pub returns : goal.returns

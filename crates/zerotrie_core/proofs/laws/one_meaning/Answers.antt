@@ -1,4 +1,4 @@
-use Rattle.zerotrie_core.proofs.TextLaws.{means_once}
+use Rattle.zerotrie_core.proofs.CanonicalLemmas.Texts.{means_once}
 use Rattle.zerotrie_core.proofs.laws.one_meaning.Goals as goal
 
 pub returns : goal.returns

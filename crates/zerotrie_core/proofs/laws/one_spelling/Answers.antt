@@ -1,6 +1,6 @@
 use Rattle.std.proofs.Common.{◌++◌, [], sym}
-use Rattle.zerotrie_core.proofs.NumberLaws.{one_spelling, no_front, spells_spelled, below_metadata}
-use Rattle.zerotrie_core.proofs.CanonLaws.{bytes_end}
+use Rattle.zerotrie_core.proofs.NumberLemmas.Spellings.{one_spelling, no_front, spells_spelled, below_metadata}
+use Rattle.zerotrie_core.proofs.CanonicalLemmas.Canonical.{bytes_end}
 use Rattle.zerotrie_core.proofs.laws.one_spelling.Goals as goal
 
 pub returns-clause-each : goal.returns-clause-each

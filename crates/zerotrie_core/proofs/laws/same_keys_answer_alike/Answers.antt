@@ -1,5 +1,5 @@
 use Rattle.std.specs.FinMap.{entries}
-use Rattle.zerotrie_core.proofs.CaseLemmas.{value_at-same}
+use Rattle.zerotrie_core.proofs.MapLemmas.Cases.{value_at-same}
 use Rattle.zerotrie_core.proofs.laws.same_keys_answer_alike.Goals as goal
 
 pub returns : goal.returns

@@ -1,4 +1,4 @@
-use Rattle.zerotrie_core.proofs.CursorLaws.{steps_answer, suffix_answers}
+use Rattle.zerotrie_core.proofs.CursorLemmas.Laws.{steps_answer, suffix_answers}
 use Rattle.zerotrie_core.proofs.laws.steps_look_ahead.Goals as goal
 
 pub returns-clause-pairs : goal.returns-clause-pairs

@@ -1,6 +1,6 @@
 use Rattle.std.proofs.Common.{◌≡◌, ◌+◌, ◌-◌, subst, sym, arith}
 use Rattle.zerotrie_core.specs.reader.Literals.{AreCommon}
-use Rattle.zerotrie_core.proofs.LiteralLemmas.{common_more, common_fewer}
+use Rattle.zerotrie_core.proofs.ReaderLemmas.Literals.{common_more, common_fewer}
 use Rattle.zerotrie_core.proofs.literals.common_by_sixteens.Goals as goal
 
 pub returns-then-more-lt16-2 : goal.returns-then-more-lt16-2

@@ -1,4 +1,4 @@
-use Rattle.zerotrie_core.proofs.NodeLemmas.{only_branch}
+use Rattle.zerotrie_core.proofs.NodeLemmas.Nodes.{only_branch}
 use Rattle.zerotrie_core.proofs.node.first_node.Goals as goal
 
 pub returns-in_err-branch_at-clause-none : goal.returns-in_err-branch_at-clause-none

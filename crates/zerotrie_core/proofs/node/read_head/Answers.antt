@@ -1,6 +1,6 @@
 use Rattle.std.proofs.Common.{arith, subst, sym, ◌∷◌, ◌%◌, ◌*◌, ◌+◌}
 use Rattle.zerotrie_core.specs.Numbers.{BeginsWith}
-use Rattle.zerotrie_core.proofs.HeadLemmas.{head_of_one, head_of_two, head_long}
+use Rattle.zerotrie_core.proofs.NodeLemmas.Heads.{head_of_one, head_of_two, head_long}
 use Rattle.zerotrie_core.proofs.node.read_head.Goals as goal
 
 pub returns-then-lead-lt224-clause-found : goal.returns-then-lead-lt224-clause-found

@@ -5,9 +5,9 @@ use Rattle.zerotrie_core.specs.Kind.{simple_ascii}
 use Rattle.zerotrie_core.specs.Texts.{Lists}
 use Rattle.zerotrie_core.specs.Canonical.{branch_node}
 use Rattle.zerotrie_core.specs.plain.Encoding.{pairs_from, IsBranching, weight}
-use Rattle.zerotrie_core.proofs.ItemLemmas.{key_at}
-use Rattle.zerotrie_core.proofs.GroupLemmas.{Grown, grown_start, grown_more, grown_lists, grown_targets, grown_wide, grown_starts, group_up, group_ascii, group_lighter, group_wide, refused_up, refused_branch, same_targets, leads_end}
-use Rattle.zerotrie_core.proofs.CutLemmas.{cut_at, none_ends, no_pairs, is_none, begun, deep_rest, leads_rest, branching_rest, grown_end}
+use Rattle.zerotrie_core.proofs.PlainLemmas.Items.{key_at}
+use Rattle.zerotrie_core.proofs.PlainLemmas.Groups.{Grown, grown_start, grown_more, grown_lists, grown_targets, grown_wide, grown_starts, group_up, group_ascii, group_lighter, group_wide, refused_up, refused_branch, same_targets, leads_end}
+use Rattle.zerotrie_core.proofs.PlainLemmas.Cuts.{cut_at, none_ends, no_pairs, is_none, begun, deep_rest, leads_rest, branching_rest, grown_end}
 use Rattle.zerotrie_core.proofs.plain.+encode.Goals as goal
 
 pub returns-then-is_empty-clause-ok : goal.returns-then-is_empty-clause-ok

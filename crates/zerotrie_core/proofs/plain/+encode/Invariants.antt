@@ -1,6 +1,6 @@
 use Rattle.std.proofs.Common.{◌≤◌, ◌-◌, length, drop}
 use Rattle.zerotrie_core.specs.plain.Encoding.{pairs_from, weight}
-use Rattle.zerotrie_core.proofs.GroupLemmas.{Grown}
+use Rattle.zerotrie_core.proofs.PlainLemmas.Groups.{Grown}
 use Rattle.zerotrie_core.proofs.plain.+encode.Given as goal
 
 abbrev pub decreases-encode : goal.decreases-encode

@@ -1,5 +1,5 @@
 use Rattle.std.proofs.Common.{arith, refl}
-use Rattle.zerotrie_core.proofs.ItemLemmas.{ascends_all, ascends_not, ascends_more}
+use Rattle.zerotrie_core.proofs.PlainLemmas.Items.{ascends_all, ascends_not, ascends_more}
 use Rattle.zerotrie_core.proofs.plain.is_ascending.Goals as goal
 
 pub returns-then-not-is_below : goal.returns-then-not-is_below

@@ -1,4 +1,4 @@
-use Rattle.zerotrie_core.proofs.ItemLemmas.{below_by_less}
+use Rattle.zerotrie_core.proofs.PlainLemmas.Items.{below_by_less}
 use Rattle.zerotrie_core.proofs.plain.is_below.Goals as goal
 
 pub returns : goal.returns

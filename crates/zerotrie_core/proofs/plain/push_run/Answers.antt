@@ -1,9 +1,9 @@
 use Rattle.std.proofs.Common.{◌≡◌, ◌+◌, ◌<◌, ◌≤◌, length, arith, drop, take, get_or, sym, ◌∙◌, ap, subst}
 use Rattle.zerotrie_core.specs.Maps.{with_front}
 use Rattle.zerotrie_core.specs.plain.Encoding.{pairs_from, Leads, weight, BeginsAll, BeginsNone}
-use Rattle.zerotrie_core.proofs.ItemLemmas.{key_at}
-use Rattle.zerotrie_core.proofs.GroupLemmas.{leads_value, leads_literal}
-use Rattle.zerotrie_core.proofs.CutLemmas.{ended, deep_next, deep_here, deeper, shared, some_rest, branches, first_at, literal_lighter}
+use Rattle.zerotrie_core.proofs.PlainLemmas.Items.{key_at}
+use Rattle.zerotrie_core.proofs.PlainLemmas.Groups.{leads_value, leads_literal}
+use Rattle.zerotrie_core.proofs.PlainLemmas.Cuts.{ended, deep_next, deep_here, deeper, shared, some_rest, branches, first_at, literal_lighter}
 use Rattle.zerotrie_core.proofs.plain.push_run.Goals as goal
 
 pub loop-at-preserved-then-key_len-depth : goal.loop-at-preserved-then-key_len-depth

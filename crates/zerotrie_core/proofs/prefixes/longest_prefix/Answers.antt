@@ -1,6 +1,6 @@
 use Rattle.std.proofs.Common.{sym, subst, arith}
 use Rattle.zerotrie_core.specs.Places.{ListsAt}
-use Rattle.zerotrie_core.proofs.LongestLemmas.{starts, goes_on, stops, ends, of_map, no_edge}
+use Rattle.zerotrie_core.proofs.CursorLemmas.Longest.{starts, goes_on, stops, ends, of_map, no_edge}
 use Rattle.zerotrie_core.proofs.prefixes.longest_prefix.Goals as goal
 
 pub loop-index-init : goal.loop-index-init

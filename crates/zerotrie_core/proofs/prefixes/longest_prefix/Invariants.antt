@@ -1,6 +1,6 @@
 use Rattle.zerotrie_core.specs.Maps.{Pairs}
 use Rattle.zerotrie_core.specs.Texts.{Lists}
-use Rattle.zerotrie_core.proofs.LongestLemmas.{GoesAlong}
+use Rattle.zerotrie_core.proofs.CursorLemmas.Longest.{GoesAlong}
 use Rattle.zerotrie_core.proofs.prefixes.longest_prefix.Given as goal
 
 abbrev pub invariant-loop-index : goal.invariant-loop-index

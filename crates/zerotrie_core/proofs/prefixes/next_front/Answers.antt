@@ -3,7 +3,7 @@ use Rattle.std.proofs.lemmas.Bool.{ltb-false}
 use Rattle.zerotrie_core.specs.Kind.{kind_with}
 use Rattle.zerotrie_core.specs.Places.{ListsAt, IsStep}
 use Rattle.zerotrie_core.specs.Prefixes.{along}
-use Rattle.zerotrie_core.proofs.FrontsLemmas.{stays, found, passed, stepped, stopped, ended}
+use Rattle.zerotrie_core.proofs.CursorLemmas.CommonPrefixes.{stays, found, passed, stepped, stopped, ended}
 use Rattle.zerotrie_core.proofs.prefixes.next_front.Goals as goal
 
 pub loop-value-init : goal.loop-value-init

@@ -1,7 +1,7 @@
 use Rattle.std.proofs.Common.{◌≡◌, ◌-◌, ◌≤◌, length, true}
 use Rattle.zerotrie_core.specs.Kind.{kind_with}
 use Rattle.zerotrie_core.specs.Prefixes.{along}
-use Rattle.zerotrie_core.proofs.FrontsLemmas.{GoesOn}
+use Rattle.zerotrie_core.proofs.CursorLemmas.CommonPrefixes.{GoesOn}
 use Rattle.zerotrie_core.proofs.prefixes.next_front.Given as goal
 
 abbrev pub invariant-loop-value : goal.invariant-loop-value

@@ -1,4 +1,4 @@
-use Rattle.zerotrie_core.proofs.FrontsLemmas.{looked_take}
+use Rattle.zerotrie_core.proofs.CursorLemmas.CommonPrefixes.{looked_take}
 use Rattle.zerotrie_core.proofs.prefixes.value_here.Goals as goal
 
 pub returns-then-looked-clause-take : goal.returns-then-looked-clause-take

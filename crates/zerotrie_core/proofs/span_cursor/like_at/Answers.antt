@@ -1,7 +1,7 @@
 use Rattle.std.proofs.Common.{sym, ◌∙◌}
 use Rattle.std.proofs.lemmas.List.{nil_from_length}
 use Rattle.std.proofs.lemmas.Bool.{eqb-true}
-use Rattle.zerotrie_core.proofs.CursorLemmas.{place_text}
+use Rattle.zerotrie_core.proofs.CursorLemmas.Calls.{place_text}
 use Rattle.zerotrie_core.proofs.span_cursor.like_at.Goals as goal
 
 pub returns-then-is_empty-clause-step : goal.returns-then-is_empty-clause-step

@@ -1,9 +1,9 @@
 use Rattle.std.proofs.Common.{◌∙◌, ap, arith, sym}
 use Rattle.std.proofs.lemmas.List.{drop_more}
 use Rattle.zerotrie_core.specs.Maps.{with_run}
-use Rattle.zerotrie_core.proofs.ListingStateLemmas.{run_run}
-use Rattle.zerotrie_core.proofs.PassLemmas.{place_below}
-use Rattle.zerotrie_core.proofs.PrefixLemmas.{starts, goes_on, stops, all_stepped}
+use Rattle.zerotrie_core.proofs.ListingLemmas.Left.{run_run}
+use Rattle.zerotrie_core.proofs.ListingLemmas.Passed.{place_below}
+use Rattle.zerotrie_core.proofs.ListingLemmas.Prefixes.{starts, goes_on, stops, all_stepped}
 use Rattle.zerotrie_core.proofs.stream.down_to.Goals as goal
 
 pub loop-byte-init : goal.loop-byte-init

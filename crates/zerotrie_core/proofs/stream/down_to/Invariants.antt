@@ -1,6 +1,6 @@
 use Rattle.zerotrie_core.specs.Maps.{Pairs}
 use Rattle.zerotrie_core.specs.Texts.{Lists}
-use Rattle.zerotrie_core.proofs.PrefixLemmas.{Stepped}
+use Rattle.zerotrie_core.proofs.ListingLemmas.Prefixes.{Stepped}
 use Rattle.zerotrie_core.proofs.stream.down_to.Given as goal
 
 abbrev pub invariant-loop-byte : goal.invariant-loop-byte

@@ -1,6 +1,6 @@
 use Rattle.std.proofs.Common.{arith, refl, add-one, length, ◌+◌}
 use Rattle.std.specs.Option.{option_map}
-use Rattle.zerotrie_core.proofs.ListingStateLemmas.{target_says, after_fall, at_next}
+use Rattle.zerotrie_core.proofs.ListingLemmas.Left.{target_says, after_fall, at_next}
 use Rattle.zerotrie_core.specs.declared.stream.opened.OpenBranch.{OpenBranch}
 use Rattle.zerotrie_core.proofs.stream.enter.Goals as goal
 

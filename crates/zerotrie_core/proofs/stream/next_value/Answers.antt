@@ -3,7 +3,7 @@ use Rattle.zerotrie_core.specs.Maps.{with_run}
 use Rattle.zerotrie_core.specs.listing.Listed.{listed}
 use Rattle.zerotrie_core.specs.listing.Opened.{Nested}
 use Rattle.std.proofs.Common.{◌≡◌, ◌<◌, arith, sym, ap, subst, refl, ◌∙◌, ◌∷◌, ◌++◌, length, length-append, reverse}
-use Rattle.zerotrie_core.proofs.ListingStateLemmas.{at_end, at_value, at_literals, at_span, at_branch, literals_shorter, stands_longer, span_end, branch_end, value_end}
+use Rattle.zerotrie_core.proofs.ListingLemmas.Left.{at_end, at_value, at_literals, at_span, at_branch, literals_shorter, stands_longer, span_end, branch_end, value_end}
 use Rattle.zerotrie_core.proofs.stream.next_value.Goals as goal
 
 pub returns-then-not-has_target-clause-found : goal.returns-then-not-has_target-clause-found

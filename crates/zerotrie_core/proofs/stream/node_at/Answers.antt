@@ -1,5 +1,5 @@
 use Rattle.std.proofs.Common.{arith}
-use Rattle.zerotrie_core.proofs.NodeOfLemmas.{node_read}
+use Rattle.zerotrie_core.proofs.NodeLemmas.Read.{node_read}
 use Rattle.zerotrie_core.proofs.stream.node_at.Goals as goal
 
 pub returns-clause-node : goal.returns-clause-node

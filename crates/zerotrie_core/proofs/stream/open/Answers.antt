@@ -1,5 +1,5 @@
 use Rattle.std.proofs.Common.{reverse}
-use Rattle.zerotrie_core.proofs.ListingStateLemmas.{leave, nested_around, no_less}
+use Rattle.zerotrie_core.proofs.ListingLemmas.Left.{leave, nested_around, no_less}
 use Rattle.zerotrie_core.proofs.stream.open.Goals as goal
 
 pub returns-else-has_next-clause-around : goal.returns-else-has_next-clause-around

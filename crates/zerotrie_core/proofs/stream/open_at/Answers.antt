@@ -2,9 +2,9 @@ use Rattle.std.proofs.lemmas.Grind.{common_steps}
 use Rattle.std.proofs.Common.{◌≡◌, ◌∙◌, ◌∷◌, ap, add-one, arith, length, reverse, subst, sym}
 use Rattle.zerotrie_core.specs.reader.Going.{AlwaysGoes}
 use Rattle.zerotrie_core.specs.Shapes.{branch_shape}
-use Rattle.zerotrie_core.proofs.GoingLemmas.{follow_goes, follow_some, follow_stops}
-use Rattle.zerotrie_core.proofs.ListingStateLemmas.{branch_end}
-use Rattle.zerotrie_core.proofs.PassLemmas.{branch_last}
+use Rattle.zerotrie_core.proofs.ReaderLemmas.Edges.{follow_goes, follow_some, follow_stops}
+use Rattle.zerotrie_core.proofs.ListingLemmas.Left.{branch_end}
+use Rattle.zerotrie_core.proofs.ListingLemmas.Passed.{branch_last}
 use Rattle.zerotrie_core.proofs.stream.open_at.Goals as goal
 
 pub returns-in_default-clause-stops : goal.returns-in_default-clause-stops

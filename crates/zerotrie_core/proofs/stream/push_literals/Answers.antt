@@ -1,6 +1,6 @@
 use Rattle.std.proofs.Common.{◌≡◌, arith, ◌∙◌, ap, length, ◌+◌, take}
 use Rattle.std.proofs.lemmas.Grind.{common_steps}
-use Rattle.zerotrie_core.proofs.ListingStateLemmas.{moves_sixteen}
+use Rattle.zerotrie_core.proofs.ListingLemmas.Left.{moves_sixteen}
 use Rattle.zerotrie_core.proofs.stream.push_literals.Goals as goal
 
 pub returns : goal.returns

@@ -1,7 +1,7 @@
 use Rattle.std.proofs.Common.{◌≡◌, ◌*◌, ◌%◌, ◌+◌, ◌≤◌, ◌^◌, length, get_or, arith, add-one}
 use Rattle.std.proofs.lemmas.Slice.{between_to_end}
 use Rattle.zerotrie_core.proofs.varint.read_number.Goals as goal
-use Rattle.zerotrie_core.proofs.NumberLemmas.{is_read, read_alone, too_large, too_large_next, cut, ended}
+use Rattle.zerotrie_core.proofs.NumberLemmas.Numbers.{is_read, read_alone, too_large, too_large_next, cut, ended}
 
 pub returns-then-start-latent-eq0-clause-found : goal.returns-then-start-latent-eq0-clause-found
 returns-then-start-latent-eq0-clause-found c =

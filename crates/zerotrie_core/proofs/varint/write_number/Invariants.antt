@@ -1,7 +1,7 @@
 use Rattle.std.proofs.Common.{◌≡◌, ◌*◌, reverse}
 use Rattle.zerotrie_core.proofs.varint.write_number.Given as goal
 use Rattle.zerotrie_core.specs.Numbers.{extender}
-use Rattle.zerotrie_core.proofs.WriteLemmas.{Completes}
+use Rattle.zerotrie_core.proofs.NumberLemmas.Written.{Completes}
 
 abbrev pub invariant-loop-value : goal.invariant-loop-value
 invariant-loop-value l = record {

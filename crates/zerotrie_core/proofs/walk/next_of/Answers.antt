@@ -1,7 +1,7 @@
-use Rattle.std.proofs.Common.{◌≡◌, ◌++◌, ◌∷◌, [], ◌∙◌, ap, sym}
+use Rattle.std.proofs.Common.{◌∙◌, sym}
 use Rattle.zerotrie_core.specs.Kind.{kind_with}
 use Rattle.zerotrie_core.specs.Shapes.{shape}
-use Rattle.zerotrie_core.proofs.WalkLemmas.{left_none, left_node}
+use Rattle.zerotrie_core.proofs.WalkLemmas.Visits.{left_none, left_node}
 use Rattle.zerotrie_core.proofs.walk.next_of.Goals as goal
 
 pub loop-part-preserved : goal.loop-part-preserved

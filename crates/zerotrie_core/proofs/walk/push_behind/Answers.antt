@@ -1,11 +1,10 @@
-use Rattle.std.proofs.Common.{◌≡◌, ◌++◌, ◌≤◌, ◌∙◌, length, vec_len, map, reverse, ap, sym, subst, arith, length-append}
+use Rattle.std.proofs.Common.{◌≡◌, ◌∙◌, length, vec_len, map, ap, arith, length-append}
 use Rattle.std.proofs.lemmas.List.{length-map}
 use Rattle.std.proofs.lemmas.Grind.{common_steps}
 use Rattle.zerotrie_core.specs.Shapes.{shape}
-use Rattle.zerotrie_core.specs.walk.Visits.{parts_behind, target_parts}
+use Rattle.zerotrie_core.specs.walk.Visits.{target_parts}
 use Rattle.zerotrie_core.specs.walk.Seen.{part_of}
-use Rattle.zerotrie_core.proofs.NodeOfLemmas.{Within}
-use Rattle.zerotrie_core.proofs.WalkLemmas.{behind_within, turned}
+use Rattle.zerotrie_core.proofs.WalkLemmas.Visits.{behind_within, turned}
 use Rattle.zerotrie_core.proofs.walk.push_behind.Goals as goal
 
 pub after-requires : goal.after-requires

@@ -1,9 +1,9 @@
-use Rattle.std.proofs.Common.{◌≡◌, ◌+◌, ◌-◌, ◌++◌, ◌∷◌, [], ◌∙◌, length, map, refl, sym, ap, rules, arith}
+use Rattle.std.proofs.Common.{◌≡◌, ◌+◌, ◌++◌, ◌∷◌, [], ◌∙◌, length, map, refl, sym, ap, rules, arith}
 use Rattle.std.proofs.lemmas.List.{append-nil, map-append}
 use Rattle.zerotrie_core.specs.Nodes.{targets_behind}
-use Rattle.zerotrie_core.specs.walk.Visits.{target_part, target_parts}
+use Rattle.zerotrie_core.specs.walk.Visits.{target_part}
 use Rattle.zerotrie_core.specs.walk.Seen.{part_of}
-use Rattle.zerotrie_core.proofs.WalkLemmas.{target_read, next_target, part_added, part_is, parts_fall}
+use Rattle.zerotrie_core.proofs.WalkLemmas.Visits.{target_read, next_target, part_added, part_is, parts_fall}
 use Rattle.zerotrie_core.proofs.walk.push_targets.Goals as goal
 
 pub loop-index-preserved : goal.loop-index-preserved

@@ -11,11 +11,11 @@ use Rattle.zerotrie_core.specs.declared.well_formed.Expected.TheVariants.{Someth
 use Rattle.zerotrie_core.specs.WellFormed.{IsWellFormed, IsShallow}
 use Rattle.zerotrie_core.specs.listing.Runs.{EndsWith}
 use Rattle.zerotrie_core.specs.well_formed.Testing.{IsText, Suits, Onward}
-use Rattle.zerotrie_core.proofs.DeepLemmas.{shallow_one, shallow_max, shallow_longer, deep_no_node, deep_some}
-use Rattle.zerotrie_core.proofs.NodeLemmas.{branch_shorter}
-use Rattle.zerotrie_core.proofs.ListingStateLemmas.{branch_end, ends_drop}
-use Rattle.zerotrie_core.proofs.StepLemmas.{onward_at, onward_more, literals_onward, no_bytes}
-use Rattle.zerotrie_core.proofs.BehindLemmas.{Passed, passed_first, passed_more, passed_all, shorter_there, no_target, target_some, both_some, next_begin, text_well, well_text, text_means}
+use Rattle.zerotrie_core.proofs.WellFormedLemmas.Depth.{shallow_one, shallow_max, shallow_longer, deep_no_node, deep_some}
+use Rattle.zerotrie_core.proofs.NodeLemmas.Nodes.{branch_shorter}
+use Rattle.zerotrie_core.proofs.ListingLemmas.Left.{branch_end, ends_drop}
+use Rattle.zerotrie_core.proofs.WellFormedLemmas.Steps.{onward_at, onward_more, literals_onward, no_bytes}
+use Rattle.zerotrie_core.proofs.WellFormedLemmas.Targets.{Passed, passed_first, passed_more, passed_all, shorter_there, no_target, target_some, both_some, next_begin, text_well, well_text, text_means}
 use Rattle.zerotrie_core.proofs.well_formed.+tested.Goals as goal
 
 pub go_behind-returns-then-not-has_front-clause-none : goal.go_behind-returns-then-not-has_front-clause-none

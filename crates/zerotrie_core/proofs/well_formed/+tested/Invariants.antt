@@ -3,7 +3,7 @@ use Rattle.std.specs.Prelude.{◌≢◌}
 use Rattle.zerotrie_core.specs.Nodes.{begin_of}
 use Rattle.zerotrie_core.specs.WellFormed.{IsShallow}
 use Rattle.zerotrie_core.specs.well_formed.Testing.{IsText, Suits, Onward}
-use Rattle.zerotrie_core.proofs.BehindLemmas.{Passed}
+use Rattle.zerotrie_core.proofs.WellFormedLemmas.Targets.{Passed}
 use Rattle.zerotrie_core.proofs.well_formed.+tested.Given as goal
 
 abbrev pub decreases-is_text_counted : goal.decreases-is_text_counted

@@ -1,6 +1,6 @@
 use Rattle.std.proofs.Common.{◌∙◌, sym, refl, arith, ap, length, ◌≡◌}
 use Rattle.std.proofs.lemmas.Bool.{eqb-false}
-use Rattle.zerotrie_core.proofs.TestLemmas.{high_from, high_at}
+use Rattle.zerotrie_core.proofs.WellFormedLemmas.Parts.{high_from, high_at}
 use Rattle.zerotrie_core.proofs.well_formed.is_run.Goals as goal
 
 pub returns-then-byte-lt128 : goal.returns-then-byte-lt128

@@ -1,7 +1,7 @@
-use Rattle.zerotrie_core.proofs.NumberLemmas.{after_shorter}
-use Rattle.zerotrie_core.proofs.NodeLemmas.{span_shorter}
-use Rattle.zerotrie_core.proofs.ListingStateLemmas.{value_end, span_end}
-use Rattle.zerotrie_core.proofs.StepLemmas.{value_onward, value_suits, literal_there, literal_suits, span_onward, span_high, span_suits, span_unfit}
+use Rattle.zerotrie_core.proofs.NumberLemmas.Numbers.{after_shorter}
+use Rattle.zerotrie_core.proofs.NodeLemmas.Nodes.{span_shorter}
+use Rattle.zerotrie_core.proofs.ListingLemmas.Left.{value_end, span_end}
+use Rattle.zerotrie_core.proofs.WellFormedLemmas.Steps.{value_onward, value_suits, literal_there, literal_suits, span_onward, span_high, span_suits, span_unfit}
 use Rattle.zerotrie_core.proofs.well_formed.next_step.Goals as goal
 use Rattle.zerotrie_core.proofs.well_formed.next_step.Goals.{else-takes_span-via-then-takes_span+else-is_run, else-takes_span-via-else-takes_span}
 

@@ -1,7 +1,7 @@
 use Rattle.std.proofs.Common.{◌≡◌, ◌∙◌, drop, arith, sym, subst, ap}
 use Rattle.zerotrie_core.specs.declared.well_formed.Expected.TheVariants.{NoValue, Something}
 use Rattle.zerotrie_core.specs.well_formed.Testing.{BeginsValue, Onward}
-use Rattle.zerotrie_core.proofs.StepLemmas.{literals_passed, value_passed}
+use Rattle.zerotrie_core.proofs.WellFormedLemmas.Steps.{literals_passed, value_passed}
 use Rattle.zerotrie_core.proofs.well_formed.pass.Goals as goal
 use Rattle.zerotrie_core.proofs.well_formed.pass.Goals.{then-len-gt0, else-len-gt0}
 

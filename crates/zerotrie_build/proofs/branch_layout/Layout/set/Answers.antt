@@ -1,4 +1,4 @@
-use Rattle.std.proofs.Common.{rules, ℕ, ◌≡◌, ◌≢◌, ◌+◌, ◌-◌, ◌*◌, ◌<◌, ◌^◌, List, map, length, take, drop, get_or, sym, ap, ◌∙◌, subst, arith}
+use Rattle.std.proofs.Common.{rules, ◌≡◌, ◌≢◌, ◌+◌, ◌-◌, ◌*◌, ◌<◌, ◌^◌, List, map, length, take, drop, sym, ap, ◌∙◌, subst, arith}
 use Rattle.std.specs.List.Sorted.{IsStrictlyIncreasing}
 use Rattle.zerotrie_base.specs.Refusals.{IsTableRefusal}
 use Rattle.zerotrie_core.specs.Kind.{is_hashed}
@@ -78,8 +78,8 @@ push_hashed-requires-clause-within g c =
     let count : n ≡ length ws = (let n = c.len-edges.ensures in let m = c.set_sorted.new.self.windows.ok in omega arith) in
     let k = branch_known c.requires.slots ws n c.in_ok-set_sorted.ensures.parts count in
     let laid = branch_hashed_laid kind (g.I.IndexedItems.pairs c.args.items) ws _ _ _ (ap (is_hashed kind) (sym count) ∙ sym c.is_hashed.ensures ∙ c.if-is_hashed.true) k.3 c.in_ok-set_sorted.ensures.table c.in_ok-set_hashed.ensures.ok in
-    let long = ap length (c.as_slice.ensures.value ∙ c.in_ok-set_hashed.ensures.windows) in
-    subst (λ x. (k d : ℕ) → k < length x → get_or x k d < length c.as_slice.result.now) (sym c.as_slice-then-is_hashed.ensures.value) (λ k d h. let w = numbers_within (length ws) _ laid.permutation k d h in omega arith)
+    let long = ap length c.in_ok-set_hashed.ensures.windows in
+    λ k d h. let w = numbers_within (length ws) _ laid.permutation k d h in omega arith
 
 pub overflow_add-slot-else-is_hashed : goal.overflow_add-slot-else-is_hashed
 overflow_add-slot-else-is_hashed g c =
@@ -96,8 +96,9 @@ returns-in_ok-push_hashed-clause-laid g c =
     let count : n ≡ length ws = (let n = c.len-edges.ensures in let m = c.set_sorted.new.self.windows.ok in omega arith) in
     let k = branch_known c.requires.slots ws n c.in_ok-set_sorted.ensures.parts count in
     let same : c.set_hashed.new.self.windows.items ≡ ws = c.in_ok-set_hashed.ensures.windows in
-    subst (λ x. IsLaid kind (edge_no all x) (length x) c.set_hashed.new.self.table.items c.set_hashed.new.self.numbers.items) (sym same)
-    (branch_hashed_laid kind all ws _ _ _ (ap (is_hashed kind) (sym count) ∙ sym c.is_hashed.ensures ∙ c.if-is_hashed.true) k.3 c.in_ok-set_sorted.ensures.table c.in_ok-set_hashed.ensures.ok)
+    let e = c.push_hashed.ensures in
+    rw (e.windows, e.table, e.numbers) (subst (λ x. IsLaid kind (edge_no all x) (length x) c.set_hashed.new.self.table.items c.set_hashed.new.self.numbers.items) (sym same)
+    (branch_hashed_laid kind all ws _ _ _ (ap (is_hashed kind) (sym count) ∙ sym c.is_hashed.ensures ∙ c.if-is_hashed.true) k.3 c.in_ok-set_sorted.ensures.table c.in_ok-set_hashed.ensures.ok))
 
 pub returns-in_ok-push_sorted-clause-laid : goal.returns-in_ok-push_sorted-clause-laid
 returns-in_ok-push_sorted-clause-laid g c =
@@ -106,12 +107,12 @@ returns-in_ok-push_sorted-clause-laid g c =
     let n = c.len-edges.result in
     let count : n ≡ length ws = (let n = c.len-edges.ensures in let m = c.set_sorted.new.self.windows.ok in omega arith) in
     let k = branch_known c.requires.slots ws n c.in_ok-set_sorted.ensures.parts count in
-    branch_sorted_laid kind (g.I.IndexedItems.pairs c.args.items) ws _ _ (ap (is_hashed kind) (sym count) ∙ sym c.is_hashed.ensures ∙ c.if-is_hashed.false) k.3 c.in_ok-set_sorted.ensures.table c.in_ok-set_sorted.ensures.numbers
+    let e = c.push_sorted.ensures in
+    rw (e.windows, e.table, e.numbers) (branch_sorted_laid kind (g.I.IndexedItems.pairs c.args.items) ws _ _ (ap (is_hashed kind) (sym count) ∙ sym c.is_hashed.ensures ∙ c.if-is_hashed.false) k.3 c.in_ok-set_sorted.ensures.table c.in_ok-set_sorted.ensures.numbers)
 
 pub push_sorted-requires : goal.push_sorted-requires
 push_sorted-requires g c =
     let count : c.len-edges.result ≡ length c.set_sorted.new.self.windows.items = (let n = c.len-edges.ensures in let m = c.set_sorted.new.self.windows.ok in omega arith) in
     let k = branch_known c.requires.slots _ c.len-edges.result c.in_ok-set_sorted.ensures.parts count in
-    let long = ap length c.as_slice-else-is_hashed.ensures.value in
     let some = k.2 in
     omega arith

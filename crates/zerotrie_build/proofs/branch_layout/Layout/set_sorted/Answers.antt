@@ -1,6 +1,7 @@
-use Rattle.std.proofs.Common.{[], ◌∷◌, ◌+◌, refl, subst, arith}
+use Rattle.std.proofs.Common.{[], ◌∷◌, ◌+◌, ◌++◌, ◌∙◌, ap, refl, subst, arith}
 use Rattle.std.proofs.lemmas.List.{append-nil}
 use Rattle.zerotrie_build.specs.declared.windows.Window.{Window}
+use Rattle.zerotrie_build.specs.passes.Windows.{edge_of}
 use Rattle.zerotrie_build.specs.passes.Measured.{TargetWindows}
 use Rattle.zerotrie_build.proofs.WindowLemmas.Ends.{ordered_rest}
 use Rattle.zerotrie_build.proofs.WriteLemmas.Layouts.{parts_more, edges_more, numbers_more}
@@ -13,12 +14,13 @@ loop-rest-preserved g c =
     let all = g.I.IndexedItems.pairs c.args.items in
     let ws = c.loop-rest.self.windows.items in
     let ws' = c.push-in-loop-rest-2.new.self.items in
-    let target : Window = record { from = rest.from; to = c.target_end.result; depth = rest.depth + 1 } in
-    let pushed = c.in_ok-push-3.ensures.items in
-    let group = c.target_end.ensures in
+    let target : Window = record { from = rest.from; to = c.target_end-to.result; depth = rest.depth + 1 } in
+    let pushed = c.in_ok-push-3.ensures.items ∙ ap (λ t. ws ++ t ∷ []) c.new-target.ensures in
+    let edge = c.edge_at-edge.ensures ∙ ap (edge_of all) c.new-target.ensures in
+    let group = c.target_end-to.ensures in
     record {
       parts = λ cs p. parts_more all c.args.window ws ws' target cs pushed (v.parts (target ∷ cs) (refl, refl, group, p));
-      table = edges_more all ws ws' target c.loop-rest.self.table.items c.push.new.self.items c.edge_at-edge.result pushed c.in_ok-push.ensures.items v.table c.edge_at-edge.ensures;
+      table = edges_more all ws ws' target c.loop-rest.self.table.items c.push.new.self.items c.edge_at-edge.result pushed c.in_ok-push.ensures.items v.table edge;
       numbers = numbers_more ws ws' target c.loop-rest.self.numbers.items c.push-in-loop-rest.new.self.items c.len-in-loop-rest.result pushed c.in_ok-push-2.ensures.items v.numbers
           (let n = c.len-in-loop-rest.ensures in let m = c.loop-rest.self.windows.ok in omega arith);
       pending = v.pending;

@@ -1,13 +1,13 @@
 use Rattle.std.proofs.Common.{◌≤◌, length}
 use Rattle.zerotrie_core.specs.Maps.{Pairs}
 use Rattle.zerotrie_build.specs.konst.Texts.{Keeps}
-use Rattle.zerotrie_build.specs.konst.Growing.{Standing}
+use Rattle.zerotrie_build.specs.konst.Growing.{IsClosedTo}
 use Rattle.zerotrie_build.proofs.konst.walk.close_to.Given as goal
 
 abbrev pub invariant-loop-depth : goal.invariant-loop-depth
 invariant-loop-depth g l = record {
-  closed : (listed : Pairs) → Standing g.row.K l.key (length l.key) l.initial.text l.initial.siblings.items listed
-      → Standing g.row.K l.key l.depth l.text l.siblings.items listed;
+  closed : (listed : Pairs) → IsClosedTo g.row.K l.key (length l.key) l.initial.text l.initial.siblings.items listed
+      → IsClosedTo g.row.K l.key l.depth l.text l.siblings.items listed;
   keeps : Keeps l.initial.text l.text;
   stop : l.stop ≤ l.depth;
   within : l.depth ≤ length l.key;

@@ -1,7 +1,7 @@
 use Rattle.std.proofs.Common.{◌≡◌, ◌∷◌, ◌+◌, ◌<◌, suc, sym, ◌∙◌, ap, arith, subst, inl, inr, get_or, length, rules}
 use Rattle.std.proofs.lemmas.Result.{err_from_is_err_and, on_ok_weaker, IfErr-weaker}
 use Rattle.zerotrie_build.specs.konst.Texts.{tops}
-use Rattle.zerotrie_build.specs.konst.Growing.{Standing}
+use Rattle.zerotrie_build.specs.konst.Growing.{IsClosedTo}
 use Rattle.zerotrie_build.proofs.OrderLemmas.Parting.{common}
 use Rattle.zerotrie_build.proofs.ArrayLemmas.Parting.{parted}
 use Rattle.zerotrie_build.proofs.ArrayLemmas.Steps.{on_ok_both, goes_before, parts_before, stuck_before, stuck_from}
@@ -12,7 +12,7 @@ returns-then-common-before-clause-waits g c =
     let e = c.common_front_len-common.ensures in
     on_ok_weaker c.close_to.result (λ closed. λ listed standing.
     goes_before g.row.K c.args.before.now c.args.key.now c.close_to.new.text c.close_to.new.siblings.items listed c.requires.sorted (sym e ∙ c.if-common-before.true)
-    (subst (λ d. Standing g.row.K c.args.key.now d c.close_to.new.text c.close_to.new.siblings.items listed) e (closed listed standing))) c.close_to.ensures.closed
+    (subst (λ d. IsClosedTo g.row.K c.args.key.now d c.close_to.new.text c.close_to.new.siblings.items listed) e (closed listed standing))) c.close_to.ensures.closed
 
 pub returns-then-common-before-clause-refused : goal.returns-then-common-before-clause-refused
 returns-then-common-before-clause-refused g c =
@@ -74,7 +74,7 @@ returns-clause-waits g c =
     on_ok_weaker c.set_aside.result (λ all. λ listed standing.
     parts_before g.row.K c.args.before.now c.args.key.now c.close_to-2.new.text c.set_aside.new.text c.close_to-2.new.siblings.items c.set_aside.new.siblings.items listed
     c.requires.sorted c.requires.ascii longer all.1.0 (all.0 ∙ ap (λ x. record { depth = x; byte = get_or c.args.key.now x 0; len = c.close_to-2.new.text.front } ∷ tops c.close_to-2.new.siblings.items) e) all.1.1.0 all.1.1.1.0 all.1.1.1.1
-    (subst (λ d. Standing g.row.K c.args.key.now d c.close_to-2.new.text c.close_to-2.new.siblings.items listed) next (c.in_ok-close_to.ensures.closed listed standing))) six
+    (subst (λ d. IsClosedTo g.row.K c.args.key.now d c.close_to-2.new.text c.close_to-2.new.siblings.items listed) next (c.in_ok-close_to.ensures.closed listed standing))) six
 
 pub returns-clause-refused : goal.returns-clause-refused
 returns-clause-refused g c =
@@ -87,4 +87,4 @@ returns-clause-refused g c =
     let next : c.common_front_len-common.result + 1 ≡ suc (common c.args.before.now c.args.key.now) = omega arith in
     IfErr-weaker c.set_aside.result _ _ (λ error refused. λ listed standing.
     stuck_before g.row.K c.args.before.now c.args.key.now c.close_to-2.new.text c.close_to-2.new.siblings.items listed error c.requires.sorted c.requires.ascii longer refused.1 refused.0
-    (subst (λ d. Standing g.row.K c.args.key.now d c.close_to-2.new.text c.close_to-2.new.siblings.items listed) next (c.in_ok-close_to.ensures.closed listed standing))) c.set_aside.ensures.refused
+    (subst (λ d. IsClosedTo g.row.K c.args.key.now d c.close_to-2.new.text c.close_to-2.new.siblings.items listed) next (c.in_ok-close_to.ensures.closed listed standing))) c.set_aside.ensures.refused

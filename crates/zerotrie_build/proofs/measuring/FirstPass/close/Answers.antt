@@ -1,10 +1,11 @@
-use Rattle.std.proofs.Common.{rules, ◌≡◌, ◌+◌, ◌-◌, ◌^◌, ◌≤◌, ◌<◌, ◌⊎◌, [], ◌∷◌, refl, sym, ◌∙◌, ap, subst, arith, length, reverse, take, drop}
+use Rattle.std.proofs.Common.{rules, ◌≡◌, ◌+◌, ◌-◌, ◌^◌, ◌≤◌, ◌<◌, ◌⊎◌, [], ◌∷◌, ◌++◌, get_or, refl, sym, ◌∙◌, ap, subst, arith, length, reverse, take, drop}
 use Rattle.std.proofs.lemmas.List.{get_or_read, reverse-append}
 use Rattle.std.proofs.lemmas.Result.{err_from_is_err_and}
 use Rattle.zerotrie_core.specs.Kind.{greatest_width}
 use Rattle.zerotrie_core.specs.Branches.{total}
 use Rattle.zerotrie_core.specs.Canonical.{branch_size}
 use Rattle.zerotrie_build.specs.declared.measuring.OpenBranch.{OpenBranch}
+use Rattle.zerotrie_build.specs.declared.windows.Window.{Window}
 use Rattle.zerotrie_build.specs.passes.Walking.{IsInside, Closing, left_open}
 use Rattle.zerotrie_build.proofs.Stacks.{popped}
 use Rattle.zerotrie_build.proofs.MeasureLemmas.Inner.{inner, inner_within, waits_next, all_closed}
@@ -38,8 +39,10 @@ target_of-requires g c =
     let i = inner f (reverse c.pop.new.self.items) c.loop-branch.invariant.closing (popped c.loop-branch.self.branches.items c.pop.new.self.items f c.in-Some.ensures.items) in
     let w = inner_within i in
     let long : length c.keep.new.self.slots.items ≡ length c.loop-branch.self.slots.items = ap length c.keep.ensures.slots ∙ with_len_long _ f c.loop-branch.len c.loop-branch.self.slots.items in
-    let t = c.if-branch.true in let within = w.2 in
-    λ k. ((refl, tt), (omega arith, i.counting.room))
+    let t = c.if-branch.true in let within = w.2 in let room = i.counting.room in
+    let slot = ap (λ (b : OpenBranch). b.next) c.after_target-branch.ensures in
+    let depth = ap (λ (b : OpenBranch). b.depth) c.after_target-branch.ensures in
+    λ k. ((refl, tt), (omega arith, omega arith))
 
 pub returns-then-branch-clause-turn : goal.returns-then-branch-clause-turn
 returns-then-branch-clause-turn g c =
@@ -48,10 +51,11 @@ returns-then-branch-clause-turn g c =
     let w = inner_within i in
     let next : OpenBranch = record { from = c.index-from.result.now; depth = f.depth; len = f.len; first = f.first; next = f.next + 1; end = f.end } in
     let slots = c.keep.new.self.slots.items in
+    let target = ap {B = Window} (λ (b : OpenBranch). record { from = b.from; to = get_or slots b.next 0; depth = b.depth + 1 }) c.after_target-branch.ensures in
     let back : reverse c.push.new.self.items ≡ next ∷ reverse c.pop.new.self.items =
-    ap reverse c.in_ok-push.ensures.items ∙ reverse-append c.keep.new.self.branches.items (next ∷ []) ∙ ap (λ x. next ∷ reverse x) c.keep.ensures.branches in
+    ap reverse (c.in_ok-push.ensures.items ∙ ap (λ b. c.keep.new.self.branches.items ++ b ∷ []) c.after_target-branch.ensures) ∙ reverse-append c.keep.new.self.branches.items (next ∷ []) ∙ ap (λ x. next ∷ reverse x) c.keep.ensures.branches in
     subst (λ x. IsInside g.K.ZeroTrieWithOptions.kind (g.I.IndexedItems.pairs c.args.self.now.items) c.target_of.result x slots) (sym back)
-    (subst (λ w. IsInside g.K.ZeroTrieWithOptions.kind (g.I.IndexedItems.pairs c.args.self.now.items) w (next ∷ reverse c.pop.new.self.items) slots) (sym c.target_of.ensures)
+    (subst (λ w. IsInside g.K.ZeroTrieWithOptions.kind (g.I.IndexedItems.pairs c.args.self.now.items) w (next ∷ reverse c.pop.new.self.items) slots) (sym (c.target_of.ensures ∙ target))
     (waits_next i slots c.index-from.result.now c.keep.ensures.slots (let within = w.2 in let below = w.1 in get_or_read c.loop-branch.self.slots.items f.next c.index-from.result.now (omega arith) (search rules) 0) c.if-branch.true next refl))
 
 pub offset_bounds-deref-branch : goal.offset_bounds-deref-branch

@@ -1,6 +1,7 @@
-use Rattle.std.proofs.Common.{rules, ◌≡◌, [], ◌∷◌, ◌++◌, sym, ◌∙◌, ap, arith, length, length-append, replicate}
+use Rattle.std.proofs.Common.{rules, ◌≡◌, ◌+◌, [], ◌∷◌, ◌++◌, get_or, sym, ◌∙◌, ap, arith, length, length-append, replicate}
 use Rattle.std.proofs.lemmas.List.{length-map}
 use Rattle.zerotrie_build.specs.declared.windows.Window.{Window}
+use Rattle.zerotrie_build.specs.declared.measuring.OpenBranch.{OpenBranch}
 use Rattle.zerotrie_build.specs.passes.Walking.{item_ends, spare_len}
 use Rattle.zerotrie_build.proofs.MeasureLemmas.Last.{wide_slots, plain_slots, first_to}
 use Rattle.zerotrie_build.proofs.measuring.FirstPass.push_branch.Goals as goal
@@ -30,9 +31,10 @@ returns-clause-opened g c =
       end = c.len-end.result;
       end_is = omega arith;
       branches_are = c.in_ok-push.ensures.items
+          ∙ ap (λ b. c.if-is_hashed.self.branches.items ++ b ∷ []) c.new-branch.ensures
           ∙ ap (λ n. c.if-is_hashed.self.branches.items ++ record { from = c.args.window.from; depth = c.args.window.depth; len = c.args.len; first = n; next = n; end = c.len-end.result } ∷ []) first
           ∙ ap (λ x. x ++ record { from = c.args.window.from; depth = c.args.window.depth; len = c.args.len; first = length slots; next = length slots; end = c.len-end.result } ∷ []) branches;
-      from = ap (λ (w : Window). w.from) c.target_of.ensures;
-      to = λ t more e. ap (λ (w : Window). w.to) c.target_of.ensures ∙ first_to slots c.if-is_hashed.self.slots.items c.len-first.result p.0 t more (replicate (spare_len kind (length p.0)) 0) slots_are first e;
-      depth = ap (λ (w : Window). w.depth) c.target_of.ensures;
+      from = ap (λ (w : Window). w.from) c.target_of.ensures ∙ ap (λ (b : OpenBranch). b.from) c.new-branch.ensures;
+      to = λ t more e. ap (λ (w : Window). w.to) c.target_of.ensures ∙ ap (λ (b : OpenBranch). get_or c.if-is_hashed.self.slots.items b.next 0) c.new-branch.ensures ∙ first_to slots c.if-is_hashed.self.slots.items c.len-first.result p.0 t more (replicate (spare_len kind (length p.0)) 0) slots_are first e;
+      depth = ap (λ (w : Window). w.depth) c.target_of.ensures ∙ ap (λ (b : OpenBranch). b.depth + 1) c.new-branch.ensures;
     }

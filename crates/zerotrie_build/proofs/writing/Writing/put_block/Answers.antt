@@ -3,7 +3,7 @@ use Rattle.std.proofs.lemmas.List.{map-append}
 use Rattle.std.specs.List.{range_with_len}
 use Rattle.zerotrie_core.specs.Branches.{total as total_of}
 use Rattle.zerotrie_core.proofs.CallerLemmas.{shifted}
-use Rattle.zerotrie_build.specs.passes.Writing.{lens_of}
+use Rattle.zerotrie_build.specs.passes.Writing.{target_lens}
 use Rattle.zerotrie_build.proofs.WriteLemmas.Puts.{puts_then, puts_same, total_take, block_so_far, lens_at, count_lens}
 use Rattle.zerotrie_build.proofs.Nodes.{total_more, offsets_more}
 use Rattle.zerotrie_build.proofs.writing.Writing.put_block.Goals as goal
@@ -12,7 +12,7 @@ pub overflow_add-end : goal.overflow_add-end
 overflow_add-end g c =
     let v = c.loop-index.invariant in
     let ns = c.args.numbers.now in
-    let ls = lens_of c.args.lens.now ns in
+    let ls = target_lens c.args.lens.now ns in
     let k = count_lens c.args.lens.now ns in
     let t = c.loop-index-test.true in let u = c.loop-index.auto.index in
     let m = total_more ls (c.loop-index.index - 1) (omega arith) in
@@ -25,7 +25,7 @@ pub put-requires : goal.put-requires
 put-requires g c =
     let v = c.loop-index.invariant in
     let p = v.puts in let a = p.at_is in let s = p.same in let r = c.requires.room in
-    let n = block_so_far c.args.place c.loop-index.index (lens_of c.args.lens.now c.args.numbers.now) in
+    let n = block_so_far c.args.place c.loop-index.index (target_lens c.args.lens.now c.args.numbers.now) in
     let t = c.loop-index-test.true in let u = c.loop-index.auto.index in omega arith
 
 pub loop-index-preserved : goal.loop-index-preserved
@@ -34,7 +34,7 @@ loop-index-preserved g c =
     let i = c.loop-index.index in
     let ts = c.args.lens.now in
     let ns = c.args.numbers.now in
-    let ls = lens_of ts ns in
+    let ls = target_lens ts ns in
     let so_far = map (λ j. total_of (take j ls)) (range_with_len 1 (i - 1)) in
     let f = λ (o : ℕ). o / 256 ^ c.args.place % 256 in
     let k = count_lens ts ns in

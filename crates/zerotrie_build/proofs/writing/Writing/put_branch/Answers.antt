@@ -1,6 +1,6 @@
 use Rattle.std.proofs.Common.{◌≡◌, ◌≤◌, ◌+◌, ◌^◌, refl, arith, subst, length}
 use Rattle.zerotrie_core.specs.Branches.{IsWidth}
-use Rattle.zerotrie_build.specs.passes.Writing.{lens_of}
+use Rattle.zerotrie_build.specs.passes.Writing.{target_lens}
 use Rattle.zerotrie_build.proofs.WriteLemmas.Puts.{puts_same, puts_then, count_lens, front_is, front_long}
 use Rattle.zerotrie_build.proofs.writing.Writing.put_branch.Goals as goal
 
@@ -15,7 +15,7 @@ overflow_add-width-2 g c = let l : c.width_of-width.result ≤ 7 = c.width_of-wi
 
 pub put_number-requires-clause-room : goal.put_number-requires-clause-room
 put_number-requires-clause-room g c =
-    let lens = lens_of c.args.lens.now c.args.numbers.now in
+    let lens = target_lens c.args.lens.now c.args.numbers.now in
     let w = c.width_of-width.result in
     let n = length c.args.numbers.now in
     let f = front_long c.args.table.now lens w n (subst (λ t. IsWidth t w) c.total.ensures c.width_of-width.ensures) (count_lens c.args.lens.now c.args.numbers.now) in
@@ -24,7 +24,7 @@ put_number-requires-clause-room g c =
 
 pub put_all-requires : goal.put_all-requires
 put_all-requires g c =
-    let lens = lens_of c.args.lens.now c.args.numbers.now in
+    let lens = target_lens c.args.lens.now c.args.numbers.now in
     let w = c.width_of-width.result in
     let n = length c.args.numbers.now in
     let f = front_long c.args.table.now lens w n (subst (λ t. IsWidth t w) c.total.ensures c.width_of-width.ensures) (count_lens c.args.lens.now c.args.numbers.now) in
@@ -37,7 +37,7 @@ put_offsets-requires-clause-bytes g c = let l : c.width_of-width.result ≤ 7 = 
 
 pub put_offsets-requires-clause-room : goal.put_offsets-requires-clause-room
 put_offsets-requires-clause-room g c =
-    let lens = lens_of c.args.lens.now c.args.numbers.now in
+    let lens = target_lens c.args.lens.now c.args.numbers.now in
     let w = c.width_of-width.result in
     let n = length c.args.numbers.now in
     let f = front_long c.args.table.now lens w n (subst (λ t. IsWidth t w) c.total.ensures c.width_of-width.ensures) (count_lens c.args.lens.now c.args.numbers.now) in
@@ -48,7 +48,7 @@ put_offsets-requires-clause-room g c =
 
 pub returns : goal.returns
 returns g c =
-    let lens = lens_of c.args.lens.now c.args.numbers.now in
+    let lens = target_lens c.args.lens.now c.args.numbers.now in
     let w = c.width_of-width.result in
     let n = length c.args.numbers.now in
     puts_same _ _ _ _ _ _ (front_is c.args.table.now lens w n (subst (λ t. IsWidth t w) c.total.ensures c.width_of-width.ensures) (count_lens c.args.lens.now c.args.numbers.now))

@@ -1,7 +1,7 @@
 use Rattle.std.proofs.Common.{◌≡◌, rules, refl, [], ◌+◌, ◌++◌, reverse, ap, sym, ◌∙◌, arith, length, length-append, length-drop, take, drop, ◌-◌}
 use Rattle.std.proofs.lemmas.List.{length-take-le}
 use Rattle.zerotrie_core.specs.Numbers.{span_form, spelled_as}
-use Rattle.zerotrie_build.specs.passes.Windows.{item_of}
+use Rattle.zerotrie_build.specs.passes.Windows.{item_no}
 use Rattle.zerotrie_build.specs.passes.Writing.{next_of}
 use Rattle.zerotrie_build.proofs.WindowLemmas.NodeRuns.{literal_low, lone_end}
 use Rattle.zerotrie_build.proofs.WriteLemmas.Fronts.{going_start, going_value, going_literals, going_span, going_lone, open_bytes, room_value, room_literals, room_span, room_lone, span_within}
@@ -100,7 +100,7 @@ loop-value-smaller-in-Literal g c =
     let past = e.past in
     let within = e.within in
     let r = room_literals c.in-Literal.field-0 c.literals_end-end.result _ v.2 o.stops o.within c.requires.keys step e.past e.low (open_bytes o) c.requires.room in
-    let key = (item_of (g.I.IndexedItems.pairs c.args.items) c.loop-value.rest.from).0 in
+    let key = (item_no (g.I.IndexedItems.pairs c.args.items) c.loop-value.rest.from).0 in
     let d = c.loop-value.rest.depth in
     let n = length-take-le (c.literals_end-end.result - d) (drop d key) (let l = length-drop d key in omega arith) in
     let a = c.put_literals.ensures.at_is in let l = c.put_literals.ensures.same in omega arith
@@ -120,7 +120,7 @@ loop-value-smaller g c =
     let r = room_span c.in-Span.count _ v.2 o.stops (sym c.first_step.ensures.is ∙ c.in-Span.is) (open_bytes o) c.requires.room in
     let p = c.put_span.ensures.puts in let a = p.at_is in let l = p.same in
     let some = ap length c.put_span.ensures.spells.bytes_are in
-    let n = length-append (spelled_as span_form c.in-Span.count) (take c.in-Span.count (drop c.loop-value.rest.depth (item_of (g.I.IndexedItems.pairs c.args.items) c.loop-value.rest.from).0)) in
+    let n = length-append (spelled_as span_form c.in-Span.count) (take c.in-Span.count (drop c.loop-value.rest.depth (item_no (g.I.IndexedItems.pairs c.args.items) c.loop-value.rest.from).0)) in
     omega arith
 
 pub returns-in-End-clause-put : goal.returns-in-End-clause-put

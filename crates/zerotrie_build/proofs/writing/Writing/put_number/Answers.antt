@@ -1,5 +1,5 @@
 use Rattle.std.proofs.Common.{ap, arith, length}
-use Rattle.zerotrie_build.proofs.WriteLemmas.Numbers.{one_byte, two_bytes, three_bytes}
+use Rattle.zerotrie_build.proofs.WriteLemmas.Numbers.{one_byte, two_bytes}
 use Rattle.zerotrie_build.proofs.WriteLemmas.Puts.{puts_same, puts_then}
 use Rattle.zerotrie_build.proofs.writing.Writing.put_number.Goals as goal
 
@@ -22,22 +22,3 @@ pub returns-then-low-least : goal.returns-then-low-least
 returns-then-low-least g c =
     puts_same _ _ _ _ _ _ (two_bytes c.args.bits c.args.latent c.args.number c.requires.form (omega arith) (omega arith) (omega arith))
     (puts_then _ _ _ _ _ _ _ _ c.put-then-low-least.ensures c.put-then-low-least-2.ensures)
-
-pub put-requires-then-high-least : goal.put-requires-then-high-least
-put-requires-then-high-least g c = let is = ap length (three_bytes c.args.bits c.args.latent c.args.number c.requires.form (omega arith) (omega arith) (omega arith) (omega arith)) in let room = c.requires.room in omega arith
-
-pub put-requires-then-high-least-2 : goal.put-requires-then-high-least-2
-put-requires-then-high-least-2 g c =
-    let is = ap length (three_bytes c.args.bits c.args.latent c.args.number c.requires.form (omega arith) (omega arith) (omega arith) (omega arith)) in
-    let room = c.requires.room in let a = c.put-then-high-least.ensures.at_is in let s = c.put-then-high-least.ensures.same in omega arith
-
-pub put-requires-then-high-least-3 : goal.put-requires-then-high-least-3
-put-requires-then-high-least-3 g c =
-    let is = ap length (three_bytes c.args.bits c.args.latent c.args.number c.requires.form (omega arith) (omega arith) (omega arith) (omega arith)) in
-    let room = c.requires.room in let a = c.put-then-high-least.ensures.at_is in let s = c.put-then-high-least.ensures.same in
-    let b = c.put-then-high-least-2.ensures.at_is in let t = c.put-then-high-least-2.ensures.same in omega arith
-
-pub returns-then-high-least : goal.returns-then-high-least
-returns-then-high-least g c =
-    puts_same _ _ _ _ _ _ (three_bytes c.args.bits c.args.latent c.args.number c.requires.form (omega arith) (omega arith) (omega arith) (omega arith))
-    (puts_then _ _ _ _ _ _ _ _ (puts_then _ _ _ _ _ _ _ _ c.put-then-high-least.ensures c.put-then-high-least-2.ensures) c.put-then-high-least-3.ensures)

@@ -1,7 +1,7 @@
 use Rattle.std.proofs.Common.{subst, sym}
 use Rattle.zerotrie_core.specs.reader.Going.{AlwaysGoes}
 use Rattle.zerotrie_core.specs.Shapes.{branch_shape}
-use Rattle.zerotrie_core.proofs.GoingLemmas.{follow_goes, follow_some, follow_stops, target_shorter}
+use Rattle.zerotrie_core.proofs.ReaderLemmas.Edges.{follow_goes, follow_some, follow_stops, target_shorter}
 use Rattle.zerotrie_core.proofs.branch.Branch.follow.Goals as goal
 
 pub returns-in_err-place-clause-none : goal.returns-in_err-place-clause-none

@@ -1,6 +1,6 @@
 use Rattle.std.proofs.Common.{sym, subst, refl, []}
 use Rattle.zerotrie_core.specs.listing.Runs.{EndsWith}
-use Rattle.zerotrie_core.proofs.ListingStateLemmas.{ends_drop}
+use Rattle.zerotrie_core.proofs.ListingLemmas.Left.{ends_drop}
 use Rattle.zerotrie_core.proofs.here.Here.after.Goals as goal
 
 pub behind-requires : goal.behind-requires

@@ -1,5 +1,5 @@
 use Rattle.std.proofs.Common.{◌∙◌, ap, sym, take, length}
-use Rattle.zerotrie_core.proofs.ListingStateLemmas.{lies_behind}
+use Rattle.zerotrie_core.proofs.ListingLemmas.Left.{lies_behind}
 use Rattle.zerotrie_core.proofs.here.Here.behind.Goals as goal
 
 pub invariant_of-result : goal.invariant_of-result

@@ -1,5 +1,5 @@
 use Rattle.std.proofs.Common.{◌≡◌, ◌^◌, suc, arith, refl}
-use Rattle.zerotrie_core.proofs.ItemLemmas.{width_between}
+use Rattle.zerotrie_core.proofs.PlainLemmas.Items.{width_between}
 use Rattle.zerotrie_core.proofs.plain.nodes.width_of.Goals as goal
 
 pub returns-in-65536-to-16777215-clause-width : goal.returns-in-65536-to-16777215-clause-width

@@ -1,7 +1,7 @@
 use Rattle.std.proofs.Common.{length, ap, sym, ◌∙◌}
 use Rattle.std.proofs.lemmas.Bool.{eqb-true, eq-eqb}
 use Rattle.std.proofs.lemmas.List.{nil_from_length}
-use Rattle.zerotrie_core.proofs.CursorLemmas.{at_nowhere, tells_empty}
+use Rattle.zerotrie_core.proofs.CursorLemmas.Calls.{at_nowhere, tells_empty}
 use Rattle.zerotrie_core.proofs.span_cursor.SpanCursor.is_empty.Goals as goal
 
 pub returns-then-is_empty-clause-pairs : goal.returns-then-is_empty-clause-pairs

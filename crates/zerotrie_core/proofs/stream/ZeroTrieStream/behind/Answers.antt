@@ -1,8 +1,8 @@
 use Rattle.std.proofs.Common.{◌∙◌, ap, arith}
 use Rattle.zerotrie_core.specs.Maps.{with_run}
 use Rattle.zerotrie_core.specs.Listings.{to_come}
-use Rattle.zerotrie_core.proofs.ListingLemmas.{listed_pairs}
-use Rattle.zerotrie_core.proofs.ListingStateLemmas.{fresh_left}
+use Rattle.zerotrie_core.proofs.ListingLemmas.Nodes.{listed_pairs}
+use Rattle.zerotrie_core.proofs.ListingLemmas.Left.{fresh_left}
 use Rattle.zerotrie_core.proofs.stream.ZeroTrieStream.behind.Goals as goal
 
 pub returns : goal.returns

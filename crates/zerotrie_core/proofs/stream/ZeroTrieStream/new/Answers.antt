@@ -1,7 +1,7 @@
 use Rattle.std.proofs.Common.{◌≤◌, length, ap, arith, sym, subst, ◌∙◌}
 use Rattle.zerotrie_core.specs.Listings.{to_come}
-use Rattle.zerotrie_core.proofs.ListingLemmas.{listed_pairs, listed_most}
-use Rattle.zerotrie_core.proofs.ListingStateLemmas.{all_left}
+use Rattle.zerotrie_core.proofs.ListingLemmas.Nodes.{listed_pairs, listed_most}
+use Rattle.zerotrie_core.proofs.ListingLemmas.Left.{all_left}
 use Rattle.zerotrie_core.proofs.stream.ZeroTrieStream.new.Goals as goal
 
 pub returns-clause-lists : goal.returns-clause-lists

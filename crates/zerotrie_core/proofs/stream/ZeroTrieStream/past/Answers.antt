@@ -1,25 +1,25 @@
-use Rattle.std.proofs.Common.{◌≡◌, ◌∙◌, ◌∷◌, ◌++◌, [], refl, sym, arith, length, length-append, reverse, drop, subst}
+use Rattle.std.proofs.Common.{◌≡◌, ◌∙◌, ◌∷◌, ◌<◌, [], ℕ, List, refl, sym, arith, length, reverse, subst, Option, Some, None}
+use Rattle.std.specs.Prelude.{IfSome}
+use Rattle.std.specs.Borrow.{Bor}
 use Rattle.std.proofs.lemmas.List.{nil_from_length}
 use Rattle.std.proofs.lemmas.Bool.{eqb-true, eqb-false}
-use Rattle.std.proofs.lemmas.Bool.Decides.{Decides-eqb}
-use Rattle.std.proofs.lemmas.Slice.Eq.{starts_is}
-use Rattle.zerotrie_core.specs.Maps.{with_run}
-use Rattle.zerotrie_core.specs.Shapes.{branch_shape}
-use Rattle.zerotrie_core.specs.listing.Opened.{pairs_left}
-use Rattle.zerotrie_core.specs.listing.Passed.{LeavesAfter}
-use Rattle.zerotrie_core.proofs.NumberLemmas.{after_shorter}
-use Rattle.zerotrie_core.proofs.NodeLemmas.{literal_shorter, span_shorter}
-use Rattle.zerotrie_core.proofs.ReaderLemmas.{span_ends, branch_ends, node_ends}
-use Rattle.zerotrie_core.proofs.ListingStateLemmas.{stands_longer, value_end, span_end}
-use Rattle.zerotrie_core.proofs.PassLemmas.{value_elsewhere, pass_starts, pass_nowhere, pass_none, pass_found, pass_value, pass_literal, pass_span, pass_branch, literal_none}
+use Rattle.zerotrie_core.specs.Kind.{Kind}
+use Rattle.zerotrie_core.specs.reader.Reading.{AlwaysFinds}
+use Rattle.zerotrie_core.specs.listing.Opened.{Stands}
+use Rattle.zerotrie_core.specs.listing.Passed.{IsTowards, LeadsOn, gone_to}
+use Rattle.zerotrie_core.specs.declared.here.Here.{Here}
+use Rattle.zerotrie_core.specs.declared.stream.opened.OpenBranch.{OpenBranch}
+use Rattle.zerotrie_core.proofs.NumberLemmas.Numbers.{after_shorter}
+use Rattle.zerotrie_core.proofs.ListingLemmas.Passed.{Passing, value_elsewhere, pass_starts, pass_nowhere, pass_none, pass_found, pass_value, pass_on}
 use Rattle.zerotrie_core.proofs.stream.ZeroTrieStream.past.Goals as goal
+use Rattle.zerotrie_core.proofs.stream.ZeroTrieStream.past.Goals.{in-Value+else-is_empty, in-Literal+in_ok-passed-in-Literal, in-Span+in_ok-passed-in-Span, in-Branch+in_ok-passed-in-Branch}
 
 pub returns-in_default : goal.returns-in_default
 returns-in_default g c pairs text =
     value_elsewhere g.K.ZeroTrieWithOptions.kind c.args.front.items c.args.sought.now pairs (rw c.as_slice.ensures.value at c.in_default.ensures)
 
-pub loop-key-init : goal.loop-key-init
-loop-key-init g c =
+pub loop-node-init : goal.loop-node-init
+loop-node-init g c =
     let top = c.closed-top.ensures in
     let h = rw c.as_slice.ensures.value at c.in-Some.ensures in
     rw (c.new-branches.ensures.items, c.at-at.ensures) (record {
@@ -27,130 +27,101 @@ loop-key-init g c =
       passing = pass_starts g.K.ZeroTrieWithOptions.kind c.args.bytes.now c.args.front.items c.args.sought.now c.in-Some.left.now h.0 c.closed-top.result (omega (arith, top.edges)) h.1 h.2;
     })
 
-pub returns-in-None : goal.returns-in-None
-returns-in-None g c pairs text = pass_nowhere c.loop-key.invariant.passing c.in-None.ensures.node pairs text
-
-pub behind-at-requires : goal.behind-at-requires
-behind-at-requires g c =
-    value_end g.K.ZeroTrieWithOptions.kind c.loop-key.at.rest.now c.in-Some-Value.after.now c.in-Some-Value.value (rw c.in-Some-Value.field-0-is at c.in-Some-Value.ensures.begins)
-
-pub invariant_of-result : goal.invariant_of-result
-invariant_of-result g c going = c.loop-key.invariant.stands
-
 pub returns-then-is_empty : goal.returns-then-is_empty
 returns-then-is_empty g c pairs text =
-    let begins = rw c.in-Some-Value.field-0-is at c.in-Some-Value.ensures.begins in
-    let none : c.loop-key.left.now ≡ [] = nil_from_length c.loop-key.left.now (eqb-true _ _ (sym c.is_empty.ensures ∙ c.if-is_empty.true)) in
+    let begins = rw c.in-Value.is at c.in-Some-node_at.ensures.begins in
+    let none : c.loop-node.left.now ≡ [] = nil_from_length c.loop-node.left.now (eqb-true _ _ (sym c.is_empty.ensures ∙ c.if-is_empty.true)) in
+    rw (c.standing.ensures, c.behind-at.ensures) (refl, pass_found c.loop-node.invariant.passing c.in-Value.value c.in-Value.after.now begins none pairs text)
+
+-- a step that was taken, by what it answered
+leads : (kind : Kind) (at left key : List ℕ) (branches : List OpenBranch) (passed : Option (Here × Bor (List ℕ))) (next : Here) (more : Bor (List ℕ)) (key' : List ℕ) (branches' : List OpenBranch)
+    → passed ≡ Some (next, more) → IsTowards kind at left key branches (gone_to passed) key' branches' → LeadsOn kind at left key branches next.rest.now more.now key' branches'
+leads kind at left key branches passed next more key' branches' is step = subst (λ r. IsTowards kind at left key branches (gone_to r) key' branches') is step
+
+ends : (kind : Kind) (at left key : List ℕ) (branches : List OpenBranch) (passed : Option (Here × Bor (List ℕ))) (key' : List ℕ) (branches' : List OpenBranch)
+    → passed ≡ None → IsTowards kind at left key branches (gone_to passed) key' branches' → AlwaysFinds kind at left None 1
+ends kind at left key branches passed key' branches' is step = subst (λ r. IsTowards kind at left key branches (gone_to r) key' branches') is step
+
+less : (n : ℕ) (passed : Option (Here × Bor (List ℕ))) (next : Here) (more : Bor (List ℕ)) → passed ≡ Some (next, more) → IfSome passed (λ r. length r.0.rest.now < n) → length next.rest.now < n
+less n passed next more is shorter = subst (λ r. IfSome r (λ r. length r.0.rest.now < n)) is shorter
+
+pub returns-in_default-passed : goal.returns-in_default-passed
+returns-in_default-passed g c pairs text =
+    let l = c.loop-node in
     let kind = g.K.ZeroTrieWithOptions.kind in
-    let key = c.loop-key.key.items in
-    let branches = c.loop-key.top ∷ reverse c.loop-key.branches.items in
-    let found = pass_found c.loop-key.invariant.passing c.in-Some-Value.value c.in-Some-Value.after.now begins none pairs text in
-    let leaves = LeavesAfter kind c.args.sought.now (with_run c.args.front.items pairs) in
-    (refl, subst (λ k. leaves (pairs_left k key c.behind-at.result.rest.now branches)) (sym c.of.ensures.kind) (subst (λ r. leaves (pairs_left kind key r branches)) (sym c.behind-at.ensures) found))
+    let branches = l.top ∷ reverse l.branches.items in
+    elim c.match-node.branch [
+      | in-Value+else-is_empty w ↦ (let is = w.passed-is in let none = c.in_default-passed.is in absurd (cc))
+      | in-Literal+in_ok-passed-in-Literal w ↦ pass_none l.invariant.passing
+          (ends kind l.at.rest.now l.left.now l.key.items branches w.in_ok-passed-in-Literal.passed w.past_literal.new.key.items branches (sym w.passed-is ∙ c.in_default-passed.is)
+          (w.in_ok-passed-in-Literal.ensures.step l.top (reverse l.branches.items) l.invariant.stands)) pairs text
+      | in-Span+in_ok-passed-in-Span w ↦ pass_none l.invariant.passing
+          (ends kind l.at.rest.now l.left.now l.key.items branches w.in_ok-passed-in-Span.passed w.past_span.new.key.items branches (sym w.passed-is ∙ c.in_default-passed.is)
+          (w.in_ok-passed-in-Span.ensures.step l.top (reverse l.branches.items) l.invariant.stands)) pairs text
+      | in-Branch+in_ok-passed-in-Branch w ↦ pass_none l.invariant.passing
+          (ends kind l.at.rest.now l.left.now l.key.items branches w.in_ok-passed-in-Branch.passed w.past_branch.new.key.items (w.past_branch.new.top ∷ reverse w.past_branch.new.branches.items)
+          (sym w.passed-is ∙ c.in_default-passed.is) w.in_ok-passed-in-Branch.ensures.step) pairs text
+    ]
 
-pub loop-key-smaller-else-is_empty : goal.loop-key-smaller-else-is_empty
-loop-key-smaller-else-is_empty g c =
-    let begins = rw c.in-Some-Value.field-0-is at c.in-Some-Value.ensures.begins in
-    rw c.behind-at.ensures (after_shorter 16 4 c.in-Some-Value.value c.loop-key.at.rest.now c.in-Some-Value.after.now begins)
+pub loop-node-smaller : goal.loop-node-smaller
+loop-node-smaller g c =
+    let l = c.loop-node in
+    let next = c.in-Some-passed.next in
+    let more = c.in-Some-passed.more in
+    elim c.match-node.branch [
+      | in-Value+else-is_empty w ↦ (
+          let begins = rw w.in-Value.is at c.in-Some-node_at.ensures.begins in
+          let shorter : length w.behind-at.result.rest.now < length l.at.rest.now = rw w.behind-at.ensures (after_shorter 16 4 w.in-Value.value l.at.rest.now w.in-Value.after.now begins) in
+          less (length l.at.rest.now) (Some (w.behind-at.result, l.left)) next more (sym w.passed-is ∙ c.in-Some-passed.is) shorter
+          )
+      | in-Literal+in_ok-passed-in-Literal w ↦ less (length l.at.rest.now) w.in_ok-passed-in-Literal.passed next more (sym w.passed-is ∙ c.in-Some-passed.is) w.in_ok-passed-in-Literal.ensures.shorter
+      | in-Span+in_ok-passed-in-Span w ↦ less (length l.at.rest.now) w.in_ok-passed-in-Span.passed next more (sym w.passed-is ∙ c.in-Some-passed.is) w.in_ok-passed-in-Span.ensures.shorter
+      | in-Branch+in_ok-passed-in-Branch w ↦ less (length l.at.rest.now) w.in_ok-passed-in-Branch.passed next more (sym w.passed-is ∙ c.in-Some-passed.is) w.in_ok-passed-in-Branch.ensures.shorter
+    ]
 
-pub loop-key-preserved-else-is_empty : goal.loop-key-preserved-else-is_empty
-loop-key-preserved-else-is_empty g c =
-    let begins = rw c.in-Some-Value.field-0-is at c.in-Some-Value.ensures.begins in
-    rw c.behind-at.ensures (record {
-      stands = c.loop-key.invariant.stands;
-      passing = pass_value c.loop-key.invariant.passing c.in-Some-Value.value c.in-Some-Value.after.now begins (eqb-false _ _ (sym c.is_empty.ensures ∙ c.if-is_empty.false));
-    })
+pub loop-node-preserved : goal.loop-node-preserved
+loop-node-preserved g c =
+    let l = c.loop-node in
+    let kind = g.K.ZeroTrieWithOptions.kind in
+    let next = c.in-Some-passed.next in
+    let more = c.in-Some-passed.more in
+    let outer = reverse l.branches.items in
+    let branches = l.top ∷ outer in
+    elim c.match-node.branch [
+      | in-Value+else-is_empty w ↦ (
+          let begins = rw w.in-Value.is at c.in-Some-node_at.ensures.begins in
+          let gone : Option (Here × Bor (List ℕ)) = Some (w.behind-at.result, l.left) in
+          let is : gone ≡ Some (next, more) = sym w.passed-is ∙ c.in-Some-passed.is in
+          let some = eqb-false _ _ (sym w.is_empty.ensures ∙ w.if-is_empty.false) in
+          let over : Passing kind c.args.bytes.now c.args.front.items c.args.sought.now w.behind-at.result.rest.now l.left.now l.key.items branches =
+          rw w.behind-at.ensures (pass_value l.invariant.passing w.in-Value.value w.in-Value.after.now begins some) in
+          rw (w.key-is, w.top-is, w.branches-is) (record {
+            stands = l.invariant.stands;
+            passing = subst (λ (r : Option (Here × Bor (List ℕ))). IfSome r (λ r. Passing kind c.args.bytes.now c.args.front.items c.args.sought.now r.0.rest.now r.1.now l.key.items branches)) is over;
+          })
+          )
+      | in-Literal+in_ok-passed-in-Literal w ↦ rw (w.key-is, w.top-is, w.branches-is) (record {
+        stands = w.in_ok-passed-in-Literal.ensures.stands l.top outer l.invariant.stands;
+        passing = pass_on l.invariant.passing
+            (leads kind l.at.rest.now l.left.now l.key.items branches w.in_ok-passed-in-Literal.passed next more w.past_literal.new.key.items branches (sym w.passed-is ∙ c.in-Some-passed.is)
+            (w.in_ok-passed-in-Literal.ensures.step l.top outer l.invariant.stands));
+      })
+      | in-Span+in_ok-passed-in-Span w ↦ rw (w.key-is, w.top-is, w.branches-is) (record {
+        stands = w.in_ok-passed-in-Span.ensures.stands l.top outer l.invariant.stands;
+        passing = pass_on l.invariant.passing
+            (leads kind l.at.rest.now l.left.now l.key.items branches w.in_ok-passed-in-Span.passed next more w.past_span.new.key.items branches (sym w.passed-is ∙ c.in-Some-passed.is)
+            (w.in_ok-passed-in-Span.ensures.step l.top outer l.invariant.stands));
+      })
+      | in-Branch+in_ok-passed-in-Branch w ↦ rw (w.key-is, w.top-is, w.branches-is) (
+          let opened = w.past_branch.new in
+          let is : w.in_ok-passed-in-Branch.passed ≡ Some (next, more) = sym w.passed-is ∙ c.in-Some-passed.is in
+          record {
+            stands = subst (λ r. IfSome r (λ r. Stands (length opened.key.items) opened.top (reverse opened.branches.items))) is w.in_ok-passed-in-Branch.ensures.stands;
+            passing = pass_on l.invariant.passing
+                (leads kind l.at.rest.now l.left.now l.key.items branches w.in_ok-passed-in-Branch.passed next more opened.key.items (opened.top ∷ reverse opened.branches.items) is w.in_ok-passed-in-Branch.ensures.step);
+          }
+          )
+    ]
 
-pub returns-in_default-after_edge : goal.returns-in_default-after_edge
-returns-in_default-after_edge g c pairs text =
-    let begins = rw c.in-Some-Literal.field-0-is at c.in-Some-Literal.ensures.begins in
-    let l = c.loop-key in
-    pass_none l.invariant.passing (literal_none g.K.ZeroTrieWithOptions.kind c.in-Some-Literal.edge c.in-Some-Literal.after.now l.left.now c.in_default-after_edge.ensures l.at.rest.now begins) pairs text
-
-pub behind-at-requires-in-Some-Literal : goal.behind-at-requires-in-Some-Literal
-behind-at-requires-in-Some-Literal g c =
-    let begins = rw c.in-Some-Literal.field-0-is at c.in-Some-Literal.ensures.begins in
-    (c.in-Some-Literal.edge ∷ [], begins.1)
-
-pub loop-key-smaller-in-Some-Literal : goal.loop-key-smaller-in-Some-Literal
-loop-key-smaller-in-Some-Literal g c =
-    let begins = rw c.in-Some-Literal.field-0-is at c.in-Some-Literal.ensures.begins in
-    rw c.behind-at-in-Some-Literal.ensures (literal_shorter g.K.ZeroTrieWithOptions.kind c.in-Some-Literal.edge c.in-Some-Literal.after.now c.loop-key.at.rest.now begins)
-
-pub loop-key-preserved-in-Some-Literal : goal.loop-key-preserved-in-Some-Literal
-loop-key-preserved-in-Some-Literal g c =
-    let begins = rw c.in-Some-Literal.field-0-is at c.in-Some-Literal.ensures.begins in
-    let l = c.loop-key in
-    let edge = c.in-Some-Literal.edge in
-    let len = length-append l.key.items (edge ∷ []) in
-    rw (c.behind-at-in-Some-Literal.ensures, c.in_ok-push-in-Some-Literal.ensures.items) (record {
-      stands = stands_longer (length l.key.items) (length (l.key.items ++ edge ∷ [])) l.top (reverse l.branches.items) (omega arith) l.invariant.stands;
-      passing = pass_literal l.invariant.passing edge c.in-Some-Literal.after.now c.in-Some-after_edge.more.now l.invariant.stands.0.low begins c.in-Some-after_edge.ensures;
-    })
-
-pub returns-then-not-starts_with : goal.returns-then-not-starts_with
-returns-then-not-starts_with g c pairs text =
-    let begins = rw c.in-Some-Span.field-0-is at c.in-Some-Span.ensures.begins in
-    let l = c.loop-key in
-    let run' = c.in-Some-Span.run'.now in
-    let starts = starts_is Decides-eqb l.left.now run' c.starts_with.result c.starts_with.ensures.value in
-    pass_none l.invariant.passing
-    (span_ends g.K.ZeroTrieWithOptions.kind run' c.in-Some-Span.after.now l.left.now (λ after e. (let yes = starts.1 after e in let gone = c.if-not-starts_with.true in absurd (cc))) l.at.rest.now begins)
-    pairs text
-
-pub behind-at-requires-in-Some-Span : goal.behind-at-requires-in-Some-Span
-behind-at-requires-in-Some-Span g c =
-    span_end g.K.ZeroTrieWithOptions.kind c.loop-key.at.rest.now c.in-Some-Span.run'.now c.in-Some-Span.after.now (rw c.in-Some-Span.field-0-is at c.in-Some-Span.ensures.begins)
-
-pub loop-key-smaller-in-Some-Span : goal.loop-key-smaller-in-Some-Span
-loop-key-smaller-in-Some-Span g c =
-    let begins = rw c.in-Some-Span.field-0-is at c.in-Some-Span.ensures.begins in
-    rw c.behind-at-in-Some-Span.ensures (span_shorter g.K.ZeroTrieWithOptions.kind c.in-Some-Span.run'.now c.in-Some-Span.after.now c.loop-key.at.rest.now begins)
-
-pub loop-key-preserved-in-Some-Span : goal.loop-key-preserved-in-Some-Span
-loop-key-preserved-in-Some-Span g c =
-    let begins = rw c.in-Some-Span.field-0-is at c.in-Some-Span.ensures.begins in
-    let l = c.loop-key in
-    let run' = c.in-Some-Span.run'.now in
-    let len = length-append l.key.items run' in
-    let starts = starts_is Decides-eqb l.left.now run' c.starts_with.result c.starts_with.ensures.value in
-    rw (c.behind-at-in-Some-Span.ensures, c.in_ok-extend_from_slice-in-Some-Span.ensures.items, c.split_at.ensures.back) (record {
-      stands = stands_longer (length l.key.items) (length (l.key.items ++ run')) l.top (reverse l.branches.items) (omega arith) l.invariant.stands;
-      passing = pass_span l.invariant.passing run' c.in-Some-Span.after.now (drop (length run') l.left.now) l.invariant.stands.0.low begins (starts.0 c.if-not-starts_with.false);
-    })
-
-pub returns-in_default-split_first : goal.returns-in_default-split_first
-returns-in_default-split_first g c pairs text =
-    let begins = rw c.in-Some-Branch.field-0-is at c.in-Some-Branch.ensures.begins in
-    let l = c.loop-key in
-    let b = c.in-Some-Branch.branch in
-    pass_none l.invariant.passing
-    (branch_ends g.K.ZeroTrieWithOptions.kind b.edges b.width b.table.now b.behind.now l.left.now (nil_from_length l.left.now c.in_default-split_first.ensures.cases) l.at.rest.now begins)
-    pairs text
-
-pub open_at-requires-clause-stands : goal.open_at-requires-clause-stands
-open_at-requires-clause-stands g c = c.loop-key.invariant.stands
-
-pub returns-in-None-2 : goal.returns-in-None-2
-returns-in-None-2 g c pairs text =
-    let begins = rw c.in-Some-Branch.field-0-is at c.in-Some-Branch.ensures.begins in
-    let l = c.loop-key in
-    let stops = rw c.in-None-2.is at c.in_ok-target-in-Some-Branch.ensures.stops in
-    pass_none l.invariant.passing
-    (node_ends g.K.ZeroTrieWithOptions.kind (branch_shape c.in-Some-Branch.branch) c.in-Some-split_first.byte.now l.left.now c.in-Some-split_first.more.now c.in-Some-split_first.ensures.cases.0 stops l.at.rest.now begins)
-    pairs text
-
-pub loop-key-smaller : goal.loop-key-smaller
-loop-key-smaller g c = rw c.in-Some-2.is at c.in_ok-target-in-Some-Branch.ensures.shorter
-
-pub loop-key-preserved : goal.loop-key-preserved
-loop-key-preserved g c =
-    let begins = rw c.in-Some-Branch.field-0-is at c.in-Some-Branch.ensures.begins in
-    let opened = c.open_at.new in
-    record {
-      stands = rw c.in-Some-2.is at c.in_ok-target-in-Some-Branch.ensures.stands;
-      passing =
-          let goes = rw c.in-Some-2.is at c.in_ok-target-in-Some-Branch.ensures.goes in
-          pass_branch c.loop-key.invariant.passing (branch_shape c.in-Some-Branch.branch) c.in-Some-split_first.byte.now c.in-Some-2.target.rest.now c.in-Some-split_first.more.now opened.key.items
-          (opened.top ∷ reverse opened.branches.items) begins c.in-Some-split_first.ensures.cases.0 goes;
-    }
+pub returns : goal.returns
+returns g c pairs text = pass_nowhere c.loop-node.invariant.passing c.in_default-node_at.ensures.node pairs text

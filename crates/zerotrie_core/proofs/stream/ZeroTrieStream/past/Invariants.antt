@@ -1,13 +1,13 @@
 use Rattle.std.proofs.Common.{◌∷◌, length, reverse}
 use Rattle.zerotrie_core.specs.listing.Opened.{Stands}
-use Rattle.zerotrie_core.proofs.PassLemmas.{Passing}
+use Rattle.zerotrie_core.proofs.ListingLemmas.Passed.{Passing}
 use Rattle.zerotrie_core.proofs.stream.ZeroTrieStream.past.Given as goal
 
-abbrev pub invariant-loop-key : goal.invariant-loop-key
-invariant-loop-key g l = record {
+abbrev pub invariant-loop-node : goal.invariant-loop-node
+invariant-loop-node g l = record {
   stands : Stands (length l.key.items) l.top (reverse l.branches.items);
   passing : Passing g.K.ZeroTrieWithOptions.kind l.bytes l.fn.front.items l.sought l.at.rest.now l.left l.key.items (l.top ∷ reverse l.branches.items);
 }
 
-abbrev pub decreases-loop-key : goal.decreases-loop-key
-decreases-loop-key g l = length l.at.rest.now
+abbrev pub decreases-loop-node : goal.decreases-loop-node
+decreases-loop-node g l = length l.at.rest.now

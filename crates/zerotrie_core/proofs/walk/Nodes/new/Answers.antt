@@ -1,11 +1,11 @@
-use Rattle.std.proofs.Common.{◌≡◌, ◌<◌, ◌≤◌, length, None, ◌∙◌, sym, subst, rules, arith}
+use Rattle.std.proofs.Common.{◌≡◌, ◌≤◌, length, None, ◌∙◌, sym, subst, rules, arith}
 use Rattle.std.specs.Prelude.{All}
 use Rattle.zerotrie_core.specs.Kind.{kind_with}
 use Rattle.zerotrie_core.specs.walk.Visits.{nodes_of, whole}
 use Rattle.zerotrie_core.specs.walk.Seen.{visits_left, LiesIn}
-use Rattle.zerotrie_core.proofs.WalkTextLemmas.{text_walked}
-use Rattle.zerotrie_core.proofs.WalkLemmas.{visits_most}
-use Rattle.zerotrie_core.proofs.WalkPlaceLemmas.{nodes_lie}
+use Rattle.zerotrie_core.proofs.WalkLemmas.Texts.{text_walked}
+use Rattle.zerotrie_core.proofs.WalkLemmas.Visits.{visits_most}
+use Rattle.zerotrie_core.proofs.WalkLemmas.Places.{nodes_lie}
 use Rattle.zerotrie_core.proofs.walk.Nodes.new.Goals as goal
 
 pub returns-clause-most : goal.returns-clause-most

@@ -2,7 +2,7 @@ use Rattle.std.proofs.Common.{◌≡◌, ◌∙◌, ap, false, sym, arith, subst
 use Rattle.std.specs.Prelude.{◌↔◌, IsTrue}
 use Rattle.std.specs.List.Sorted.{IsStrictlyIncreasing}
 use Rattle.zerotrie_core.specs.Kind.{flags, fold_byte}
-use Rattle.zerotrie_core.proofs.TestLemmas.{bytes_parts, rises_by}
+use Rattle.zerotrie_core.proofs.WellFormedLemmas.Parts.{bytes_parts, rises_by}
 use Rattle.zerotrie_core.proofs.well_formed.branches.front_rises.Goals as goal
 
 pub returns-then-bytes-ge17-clause-rises : goal.returns-then-bytes-ge17-clause-rises

@@ -1,6 +1,6 @@
 use Rattle.std.proofs.Common.{◌≡◌, take, ◌-◌, ◌*◌, length, drop, subst, sym}
 use Rattle.zerotrie_core.specs.Branches.{IsWidth}
-use Rattle.zerotrie_core.proofs.SoundLemmas.{no_width, no_table}
+use Rattle.zerotrie_core.proofs.WellFormedLemmas.Branches.{no_width, no_table}
 use Rattle.zerotrie_core.proofs.well_formed.branches.has_front.Goals as goal
 
 pub returns-then-has_width-clause-no : goal.returns-then-has_width-clause-no

@@ -1,6 +1,6 @@
 use Rattle.std.proofs.Common.{arith, refl}
 use Rattle.zerotrie_core.specs.Kind.{fold_byte}
-use Rattle.zerotrie_core.proofs.TestLemmas.{rises_from, rises_not}
+use Rattle.zerotrie_core.proofs.WellFormedLemmas.Parts.{rises_from, rises_not}
 use Rattle.zerotrie_core.proofs.well_formed.branches.rises.Goals as goal
 
 pub returns-then-folded-clause-rises : goal.returns-then-folded-clause-rises

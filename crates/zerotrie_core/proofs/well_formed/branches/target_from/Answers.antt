@@ -1,8 +1,8 @@
 use Rattle.std.proofs.Common.{◌≡◌, length, arith, sym, ◌∙◌, None, Some, Option}
 use Rattle.std.specs.Prelude.{IfNone}
 use Rattle.std.proofs.lemmas.Bool.{eqb-true}
-use Rattle.zerotrie_core.proofs.TestLemmas.{target_long}
-use Rattle.zerotrie_core.proofs.BehindLemmas.{no_target_there, target_there}
+use Rattle.zerotrie_core.proofs.WellFormedLemmas.Parts.{target_long}
+use Rattle.zerotrie_core.proofs.WellFormedLemmas.Targets.{no_target_there, target_there}
 use Rattle.zerotrie_core.proofs.well_formed.branches.target_from.Goals as goal
 
 if_none : {A B : Type 0} (r : Option A) → B → IfNone r B

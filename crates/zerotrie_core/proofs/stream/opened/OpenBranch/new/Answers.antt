@@ -1,4 +1,4 @@
-use Rattle.zerotrie_core.proofs.ListingStateLemmas.{ends_drop}
+use Rattle.zerotrie_core.proofs.ListingLemmas.Left.{ends_drop}
 use Rattle.zerotrie_core.proofs.stream.opened.OpenBranch.new.Goals as goal
 
 pub behind-requires : goal.behind-requires

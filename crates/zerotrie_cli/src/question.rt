@@ -1,0 +1,84 @@
+//! The questions to a trie that the command line asks.
+
+use crate::arguments::place_in;
+use clap::ArgMatches;
+use std::alloc::{AllocError, Global};
+use zerotrie_code::Language;
+use zerotrie_commands::Style;
+use zerotrie_queries::TrieKind;
+use zerotrie_run::{Keys, Question, TrieFile};
+use zerotrie_views::View;
+
+/// The file of the trie that is asked.
+pub fn file_in<'a>(matches: &ArgMatches<'a>) -> TrieFile<'a> {
+    TrieFile {
+        place: place_in(matches, "FILE"),
+        kind: matches.get_str("kind").and_then(TrieKind::named),
+        trust: matches.get_flag("trust"),
+    }
+}
+
+/// The words of an argument that takes many, as bytes. `None` if there are none.
+pub fn words_in<'a>(
+    alloc: Global,
+    matches: &ArgMatches<'a>,
+    name: &str,
+) -> Result<Option<Vec<&'a [u8]>>, AllocError> {
+    let Some(words) = matches.get_strs(name) else {
+        return Ok(None);
+    };
+    let mut keys = Vec::new(alloc);
+    for word in words {
+        keys.push(word.as_bytes())?;
+    }
+    Ok(Some(keys))
+}
+
+/// The keys that are asked for: words, or with none the lines of standard input.
+fn keys_of<'w, 'a: 'w>(words: &'w Option<Vec<&'a [u8]>>) -> Keys<'w> {
+    match words {
+        Some(words) => Keys::Words(words.as_slice()),
+        None => Keys::Lines,
+    }
+}
+
+/// How pairs are to be printed.
+fn style_in(matches: &ArgMatches<'_>) -> Style {
+    match matches.get_str("format") {
+        Some("keys") => Style::Keys,
+        Some("values") => Style::Values,
+        _ => Style::Tsv,
+    }
+}
+
+/// The language that is named.
+fn language_in(matches: &ArgMatches<'_>) -> Language {
+    match matches.get_str("lang") {
+        Some("c") => Language::C,
+        Some("rattle") => Language::Rattle,
+        _ => Language::Rust,
+    }
+}
+
+/// The question of a command of this name. `None` if a number in it is none.
+pub fn question_in<'w, 'a: 'w>(
+    matches: &ArgMatches<'a>,
+    name: &str,
+    words: &'w Option<Vec<&'a [u8]>>,
+) -> Option<Question<'w>> {
+    match name {
+        "get" => Some(Question::Get(keys_of(words))),
+        "longest" => Some(Question::Longest(keys_of(words))),
+        "code" => Some(Question::Code(language_in(matches))),
+        "check" => Some(Question::Report),
+        "dump" => Some(Question::View(View::Dump)),
+        "dot" => {
+            let most = matches.get_str("most").unwrap_or("100");
+            Some(Question::View(View::Dot(most.parse().ok()?)))
+        }
+        _ => {
+            let prefix = matches.get_str("prefix").unwrap_or("").as_bytes();
+            Some(Question::List(style_in(matches), prefix))
+        }
+    }
+}

@@ -1,0 +1,2 @@
+-- Words of the private functions of the search for a fault.
+pub mod Rules

@@ -1,0 +1,268 @@
+//! Where bytes are no trie, and which rule of the format fails there.
+//!
+//! The search goes over the parts of the bytes as a walk does, and tests the first node of each. The parts come in the
+//! order in which they lie, so the first fault that it meets is the first of all.
+
+ghost use Rattle.std.specs.Prelude.{◌≡◌, ◌↔◌, ◌≤◌, ℕ, length, IsTrue, IfOk, OnOk, IfSome, IfNone, None, List, ◌++◌, map, reverse};
+ghost use Rattle.std.specs.Option.{option_map};
+ghost use Rattle.zerotrie_core.specs.Nodes.{Shape, Begins};
+ghost use Rattle.zerotrie_core.specs.Nodes.Shape.{span};
+ghost use Rattle.zerotrie_core.specs.Shapes.{shape, branch_shape};
+ghost use Rattle.zerotrie_core.specs.WellFormed.{IsWellFormed};
+ghost use Rattle.zerotrie_core.specs.Faults.{Before, Fails, IsFirstFault};
+ghost use Rattle.zerotrie_core.specs.Kind.{Kind};
+ghost use Rattle.zerotrie_core.specs.listing.Listed.{node_of};
+ghost use Rattle.zerotrie_core.specs.walk.Seen.{part_of};
+ghost use Rattle.zerotrie_core.specs.well_formed.Branching.{InOrder};
+ghost use Rattle.zerotrie_core.specs.declared.well_formed.Expected.{Expected};
+ghost use Rattle.zerotrie_core.specs.fault_search.Rules.{before_of, AlwaysFails, Keeps, KeepsFirst, parts_next, expected_next};
+
+use crate::branch::Branch;
+use crate::node::Node;
+use crate::options::ZeroTrieWithOptions;
+use crate::stream::node_at;
+use crate::walk::{Part, push_behind};
+use crate::well_formed::branches::{has_table, has_width};
+use crate::well_formed::{Expected, is_run};
+use std::alloc::{AllocError, Allocator};
+use thiserror::Error;
+
+/// Which rule of the format fails.
+#[derive(Clone, Copy, PartialEq, Eq, Debug, Error)]
+pub enum FaultCause {
+    /// No node of the kind begins with these bytes.
+    ///
+    /// They are cut off, a number in them is too large, or they are a branch of one edge, or one whose offsets are wider
+    /// than any of the kind.
+    #[error("no node of this kind of trie begins here")]
+    NoNode,
+    /// A span begins, and the kind has none.
+    #[error("a span stands in a kind of trie that has none")]
+    NoSpans,
+    /// The bytes end where a text has to go on: after a literal or a span, or where a target is to begin.
+    #[error("the bytes end where a key has to go on")]
+    UnexpectedEnd,
+    /// A value follows a value.
+    #[error("a value follows a value")]
+    ValueAfterValue,
+    /// A span follows a span, with which it should be one.
+    #[error("a span follows a span")]
+    SpanAfterSpan,
+    /// A span has no bytes.
+    #[error("a span is empty")]
+    EmptySpan,
+    /// A span has a byte below 128.
+    #[error("a span has an ASCII byte")]
+    AsciiInSpan,
+    /// The search table of a branch is none of the kind.
+    ///
+    /// Its edges do not ascend, or it is hashed and does not find each edge at its place, or an edge is not ASCII and the
+    /// kind is for ASCII alone.
+    #[error("the search table of a branch is not one of this kind of trie")]
+    WrongTable,
+    /// The offsets of a branch have not the least width that reaches all its targets.
+    #[error("the offsets of a branch do not have the least width")]
+    WrongWidth,
+    /// The offsets of a branch do not ascend, or one is beyond the last target, so that a target is empty or not there.
+    #[error("the offsets of a branch do not ascend within its targets")]
+    WrongOffsets,
+}
+
+/// Where bytes are no trie, and why.
+#[derive(Clone, Copy, PartialEq, Eq, Debug, Error)]
+#[error("{cause}, at byte {place}")]
+pub struct Fault {
+    /// How many bytes stand before the node that is wrong, or before the end that comes too early.
+    pub place: usize,
+    /// The rule that fails there.
+    pub cause: FaultCause,
+}
+
+/// What is wrong where no node begins.
+fn no_node_fault<K: ZeroTrieWithOptions>(expected: Expected, bytes: &[u8]) -> Option<FaultCause>
+    requires { (node : Shape) → Begins K.kind bytes.now node → ⊥ }
+    ensures some { IfSome result (Fails K.kind (before_of expected) bytes.now) }
+    ensures none { IfNone result (KeepsFirst K.kind expected bytes.now None) }
+{
+    if bytes.is_empty() {
+        if expected.takes_end() {
+            None
+        } else {
+            Some(FaultCause::UnexpectedEnd)
+        }
+    } else if !K::SPANS && bytes[0] / 32 == 5 {
+        Some(FaultCause::NoSpans)
+    } else {
+        Some(FaultCause::NoNode)
+    }
+}
+
+/// What is wrong with a span of this run.
+fn span_fault<K: ZeroTrieWithOptions>(expected: Expected, run: &[u8]) -> Option<FaultCause>
+    ensures some { IfSome result (λ cause. (rest : List ℕ)
+        → AlwaysFails K.kind (before_of expected) (span run.now rest) cause) }
+    ensures none { IfNone result ((rest : List ℕ) → Keeps K.kind expected (span run.now rest)) }
+{
+    if !expected.takes_span() {
+        Some(FaultCause::SpanAfterSpan)
+    } else if run.is_empty() {
+        Some(FaultCause::EmptySpan)
+    } else if !is_run(run) {
+        Some(FaultCause::AsciiInSpan)
+    } else {
+        None
+    }
+}
+
+/// Whether the offsets of a branch ascend within its targets, so that each target has bytes.
+fn has_offsets(branch: &Branch<'_>) -> bool
+    ensures { IsTrue result
+        ↔ InOrder branch.now.edges branch.now.width branch.now.behind.now branch.now.edges }
+{
+    let (_, body) = branch.behind.split_at(branch.edges);
+    let (_, targets) = body.split_at(branch.width * (branch.edges - 1));
+    let mut begin = 0;
+    for index in 0..branch.edges {
+        let end = branch.end_at(index);
+        if end <= begin || targets.len() < end {
+            return false;
+        }
+        begin = end;
+    }
+    true
+}
+
+/// What is wrong with a branch itself.
+fn branch_fault<K: ZeroTrieWithOptions>(branch: Branch<'_>) -> Option<FaultCause>
+    requires { (bytes : List ℕ) × Begins K.kind bytes (branch_shape branch) }
+    ensures some { (before : Before)
+        → IfSome result (AlwaysFails K.kind before (branch_shape branch.entry)) }
+    ensures none { (expected : Expected)
+        → IfNone result (Keeps K.kind expected (branch_shape branch.entry)) }
+{
+    let (_, body) = branch.behind.split_at(branch.edges);
+    if !has_table::<K>(&branch, branch.behind) {
+        Some(FaultCause::WrongTable)
+    } else if !has_width(body, branch.width * (branch.edges - 1), branch.width) {
+        Some(FaultCause::WrongWidth)
+    } else if !has_offsets(&branch) {
+        Some(FaultCause::WrongOffsets)
+    } else {
+        None
+    }
+}
+
+/// What is wrong with a node where this may stand.
+fn node_fault<K: ZeroTrieWithOptions>(expected: Expected, node: Node<'_>) -> Option<FaultCause>
+    requires { (bytes : List ℕ) × Begins K.kind bytes (shape node) }
+    ensures some { IfSome result (AlwaysFails K.kind (before_of expected) (shape node.entry)) }
+    ensures none { IfNone result (Keeps K.kind expected (shape node.entry)) }
+{
+    match node {
+        Node::Value(_value, _rest) => {
+            if expected.takes_value() {
+                None
+            } else {
+                Some(FaultCause::ValueAfterValue)
+            }
+        }
+        Node::Literal(_byte, _rest) => None,
+        Node::Span(run, _rest) => span_fault::<K>(expected, run),
+        Node::Branch(branch) => branch_fault::<K>(branch),
+    }
+}
+
+/// What is wrong at the front of bytes that begin with the node, or with none.
+fn front_fault<K: ZeroTrieWithOptions>(
+    expected: Expected,
+    bytes: &[u8],
+    node: Option<Node<'_>>,
+) -> Option<FaultCause>
+    requires { node_of K.kind bytes.now ≡ option_map shape node }
+    ensures some { IfSome result (Fails K.kind (before_of expected) bytes.now) }
+    ensures none { IfNone result
+        (KeepsFirst K.kind expected bytes.now (option_map shape node.entry)) }
+{
+    match node {
+        None => no_node_fault::<K>(expected, bytes),
+        Some(node) => node_fault::<K>(expected, node),
+    }
+}
+
+/// What may stand first in the part that comes next, after a node or after none.
+fn expected_next(node: Option<Node<'_>>) -> Expected
+    ensures { result ≡ expected_next (option_map shape node.entry) }
+{
+    match node {
+        Some(Node::Value(_value, _rest)) => Expected::NoValue,
+        Some(Node::Span(_run, _rest)) => Expected::NoSpan,
+        Some(Node::Literal(_, _)) | Some(Node::Branch(_)) | None => Expected::Something,
+    }
+}
+
+/// Adds what follows the first node of a part, if it has one.
+fn push_next<'a, A: Allocator>(
+    parts: &mut Vec<Part<'a>, A>,
+    at: Part<'a>,
+    node: Option<Node<'a>>,
+) -> Result<(), AllocError>
+    requires { (kind : Kind) × (node_of kind at.bytes.now ≡ option_map shape node) }
+    ensures { OnOk result (map part_of (reverse parts.new.items)
+        ≡ parts_next (part_of at.entry) (option_map shape node.entry)
+        ++ map part_of (reverse parts.old.items)) }
+{
+    match node {
+        None => Ok(()),
+        Some(node) => push_behind(parts, at, node),
+    }
+}
+
+/// The first place where bytes are no trie of the kind, and which rule fails there. `None` exactly if they are a trie.
+///
+/// ```
+/// assert_eq!(rt; first_fault::<Hash, _>(rt.alloc(), b"a\x85")?, None);      // the key "a" with value 5
+/// let faults: [(&[u8], usize, FaultCause); 9] = [
+///     (b"ab\x90", 2, FaultCause::NoNode),                               // the value needs one more byte
+///     (b"ab", 2, FaultCause::UnexpectedEnd),
+///     (b"a\x81\x82", 2, FaultCause::ValueAfterValue),
+///     (b"\xA1\xC3\xA1\xA4\x85", 2, FaultCause::SpanAfterSpan),
+///     (b"\xA0\x85", 0, FaultCause::EmptySpan),
+///     (b"\xA1a\x85", 0, FaultCause::AsciiInSpan),
+///     (b"a\xC2cb\x01\x81\x82", 1, FaultCause::WrongTable),               // the edges are "c" and "b"
+///     (b"a\xE1\x62bc\x00\x01\x81\x82", 1, FaultCause::WrongWidth),       // the offset has two bytes
+///     (b"a\xC2bc\x02\x81\x82", 1, FaultCause::WrongOffsets),             // the target of "c" is empty
+/// ];
+/// for (bytes, place, cause) in faults {
+///     let fault = first_fault::<Hash, _>(rt.alloc(), bytes)?;
+///     assert_eq!(rt; fault, Some(Fault { place, cause }));
+/// }
+/// let of_another_kind = first_fault::<Simple, _>(rt.alloc(), b"a\xA1\xC3\x85")?;
+/// assert_eq!(rt; of_another_kind, Some(Fault { place: 1, cause: FaultCause::NoSpans }));
+/// ```
+///
+/// If more than one rule fails there, it is one of them. It returns on any bytes. It reads each byte a few times at most,
+/// and takes memory as branches lie in one another; the only error is that it is out of memory.
+pub fn first_fault<K: ZeroTrieWithOptions, A: Allocator>(
+    alloc: A,
+    bytes: &[u8],
+) -> Result<Option<Fault>, AllocError>
+    ensures none { IfOk result (λ fault. (fault ≡ None) ↔ IsWellFormed K.kind bytes.now) }
+    ensures some { IfOk result (λ fault. IfSome fault (IsFirstFault K.kind bytes.now)) }
+    ensures within { IfOk result (λ fault. IfSome fault (λ f. f.place ≤ length bytes.now)) }
+{
+    let mut parts = Vec::new(alloc);
+    parts.push(Part::whole(bytes))?;
+    let mut expected = Expected::Anything;
+    while let Some(part) = parts.pop() {
+        let node = node_at::<K>(part.bytes);
+        if let Some(cause) = front_fault::<K>(expected, part.bytes, node) {
+            return Ok(Some(Fault {
+                place: part.place,
+                cause,
+            }));
+        }
+        push_next(&mut parts, part, node)?;
+        expected = expected_next(node);
+    }
+    Ok(None)
+}

@@ -1,0 +1,9 @@
+-- Texts that were added one after another.
+use Rattle.std.proofs.Common.{◌≡◌, ℕ, List, ◌++◌, ◌∙◌, ap, append_assoc}
+
+-- four texts behind a list
+pub behind_four : (l l₁ l₂ l₃ a b c d : List ℕ) → l₁ ≡ l ++ a → l₂ ≡ l₁ ++ b → l₃ ≡ l₂ ++ c → l₃ ++ d ≡ l ++ (a ++ (b ++ (c ++ d)))
+behind_four l l₁ l₂ l₃ a b c d first second third =
+    ap (λ k. k ++ d) third ∙ append_assoc l₂ c d
+    ∙ ap (λ k. k ++ (c ++ d)) second ∙ append_assoc l₁ b (c ++ d)
+    ∙ ap (λ k. k ++ (b ++ (c ++ d))) first ∙ append_assoc l a (b ++ (c ++ d))

@@ -1,0 +1,4 @@
+pub mod Counts
+pub mod Reports
+pub mod Lines
+pub mod counting

@@ -1,0 +1,2 @@
+-- What the counting goes through.
+pub mod Steps

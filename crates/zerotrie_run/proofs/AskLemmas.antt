@@ -1,0 +1,57 @@
+-- A question that was answered, and the flush after it.
+use Rattle.std.proofs.Common.{◌≡◌, ◌⊎◌, ℕ, List, Option, Some, None, Bool, true, false, IsTrue, refl, subst, inl, inr}
+use Rattle.std.specs.Borrow.{Bor}
+use Rattle.std.specs.Io.KnownBytes.{Keeps}
+use Rattle.std.proofs.KnownBytes.{Appends-kept}
+use Rattle.zerotrie_queries.specs.declared.kind.TrieKind.{TrieKind}
+use Rattle.zerotrie_code.specs.Code.{code}
+use Rattle.zerotrie_views.specs.Views.{shown}
+use Rattle.zerotrie_reports.specs.Reports.{report_of}
+use Rattle.zerotrie_reports.specs.Lines.{report_lines}
+use Rattle.zerotrie_commands.specs.declared.requests.Request.{Request}
+use Rattle.zerotrie_commands.specs.declared.requests.Request.TheVariants as asks
+use Rattle.zerotrie_run.specs.Runs.{Answers, IsAnswered, AreKeys, are_lines, of_lines}
+use Rattle.zerotrie_run.specs.declared.command.Place.{Place}
+use Rattle.zerotrie_run.specs.declared.command.Place.TheVariants.{Stream}
+use Rattle.zerotrie_run.specs.declared.command.Keys.{Keys}
+use Rattle.zerotrie_run.specs.declared.command.Keys.TheVariants.{Words, Lines}
+use Rattle.zerotrie_run.specs.declared.command.Question.{Question}
+use Rattle.zerotrie_run.specs.declared.command.Question.TheVariants.{Get, Longest, List as Listing, Code, Report, View}
+
+kept_request : (kind : TrieKind) (bytes : List ℕ) (request : Request) (a b c : Option (List ℕ)) (all : Bool) → IsAnswered kind bytes request a b all → Keeps b c → IsAnswered kind bytes request a c all
+kept_request kind bytes request a b c all h k m means = let x = h m means in (x.0, x.1, Appends-kept a b c x.0 x.2 k)
+
+-- a flush leaves the answer
+pub kept_answer : (q : Question) (input : Option (List ℕ)) (kind : TrieKind) (bytes : List ℕ) (a b c : Option (List ℕ)) (all : Bool) → Answers q input kind bytes a b all → Keeps b c
+    → Answers q input kind bytes a c all
+kept_answer (Get keys) input kind bytes a b c all h k = (h.0, h.1, kept_request kind bytes (asks.Get h.0) a b c all h.2 k)
+kept_answer (Longest texts) input kind bytes a b c all h k = (h.0, h.1, kept_request kind bytes (asks.Longest h.0) a b c all h.2 k)
+kept_answer (Listing style prefix) input kind bytes a b c all h k = kept_request kind bytes (asks.List style prefix) a b c all h k
+kept_answer (Code language) input kind bytes a b c all h k = (h.0, Appends-kept a b c (code language kind bytes) h.1 k)
+kept_answer Report input kind bytes a b c all h k = (h.0, Appends-kept a b c (report_lines (report_of kind bytes)) h.1 k)
+kept_answer (View view) input kind bytes a b c all h k = (h.0, Appends-kept a b c (shown view kind bytes) h.1 k)
+
+-- words are the same keys whatever was typed
+other_keys : (keys : Keys) (i j : Option (List ℕ)) (ks : List (Bor (List ℕ))) → (are_lines keys ≡ true → ⊥) → AreKeys keys i ks → AreKeys keys j ks
+other_keys (Words words) i j ks apart h = h
+other_keys Lines i j ks apart h = absurd (apart refl)
+
+-- an answer whose keys are no lines is one whatever was typed
+pub other_input : (q : Question) (i j : Option (List ℕ)) (kind : TrieKind) (bytes : List ℕ) (a b : Option (List ℕ)) (all : Bool) → (of_lines q ≡ true → ⊥) → Answers q i kind bytes a b all
+    → Answers q j kind bytes a b all
+other_input (Get keys) i j kind bytes a b all apart h = (h.0, other_keys keys i j h.0.now apart h.1, h.2)
+other_input (Longest texts) i j kind bytes a b all apart h = (h.0, other_keys texts i j h.0.now apart h.1, h.2)
+other_input (Listing style prefix) i j kind bytes a b all apart h = h
+other_input (Code language) i j kind bytes a b all apart h = h
+other_input Report i j kind bytes a b all apart h = h
+other_input (View view) i j kind bytes a b all apart h = h
+
+-- the input that is left after a file was read answers as all of it
+pub same_answer : {R : Type 0} (place : Place) (remaining : R → Option (List ℕ)) (old new : R) (q : Question) (kind : TrieKind) (bytes : List ℕ) (a b : Option (List ℕ)) (all : Bool)
+    → ((place ≡ Stream) × (of_lines q ≡ true) → ⊥) → (place ≡ Stream) ⊎ (new ≡ old) → Answers q (remaining new) kind bytes a b all → Answers q (remaining old) kind bytes a b all
+same_answer place remaining old new q kind bytes a b all apart (inl is) h = other_input q (remaining new) (remaining old) kind bytes a b all (λ lines. apart (is, lines)) h
+same_answer place remaining old new q kind bytes a b all apart (inr is) h = subst (λ r. Answers q (remaining r) kind bytes a b all) is h
+
+-- what is false is not so
+pub is_not : (b : Bool) → b ≡ false → IsTrue b → ⊥
+is_not b is so = absurd (cc)

@@ -1,0 +1,20 @@
+use Rattle.zerotrie_run.proofs.AskLemmas.{kept_answer, same_answer, is_not}
+use Rattle.zerotrie_run.proofs.asking.ask.Goals as goal
+
+pub returns-in-Ok-flush-clause-ok : goal.returns-in-Ok-flush-clause-ok
+returns-in-Ok-flush-clause-ok g c =
+    let contents = g.W.Write.contents in
+    let remaining = g.R.Read.remaining in
+    let old = contents c.args.output.now in
+    let now = contents c.answer_held.new.output in
+    let answered = c.in_ok-all.ensures.ok in
+    let kept = kept_answer c.args.question (remaining c.read_place.new.input) answered.0 answered.1 old now (contents c.flush.new.self) c.in_ok-all.all answered.3 c.flush.ensures.bytes in
+    record {
+      held = c.as_slice.result.now;
+      read = rw c.as_slice.ensures.value c.in-Ok.ensures.read;
+      kind = answered.0;
+      bytes = answered.1;
+      opens = answered.2;
+      answers = same_answer c.args.file.place remaining c.args.input.now c.read_place.new.input c.args.question answered.0 answered.1 old (contents c.flush.new.self) c.in_ok-all.all
+          (λ both. is_not c.reads_twice.result c.if-reads_twice.false (c.reads_twice.ensures.1 both)) c.read_place.ensures.untouched kept;
+    }

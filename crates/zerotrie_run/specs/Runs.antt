@@ -1,0 +1,183 @@
+-- What each command prints, what it leaves in files, and how it ends.
+use Rattle.std.specs.Prelude.{◌≡◌, ℕ, List, Option, Some, IfSome, Bool, true, false, map}
+use Rattle.std.specs.Borrow.{Bor}
+use Rattle.std.specs.Io.KnownBytes.{Appends}
+use Rattle.zerotrie_core.specs.Maps.{Map}
+use Rattle.zerotrie_core.specs.Texts.{Means}
+use Rattle.zerotrie_core.specs.WellFormed.{IsWellFormed}
+use Rattle.zerotrie_core.specs.Faults.{IsFirstFault}
+use Rattle.zerotrie_core.specs.declared.faults.Fault.{Fault as ByteFault}
+use Rattle.zerotrie_lines.specs.Lines.{lines_of}
+use Rattle.zerotrie_queries.specs.Kinds.{kind_of}
+use Rattle.zerotrie_queries.specs.Files.{Holds, Explains}
+use Rattle.zerotrie_queries.specs.declared.kind.TrieKind.{TrieKind}
+use Rattle.zerotrie_queries.specs.declared.file.OpenError.{OpenError}
+use Rattle.zerotrie_commands.specs.Printed.{status_of}
+use Rattle.zerotrie_commands.specs.Answers.{Belongs}
+use Rattle.zerotrie_commands.specs.declared.requests.Request.{Request}
+use Rattle.zerotrie_commands.specs.declared.requests.Request.TheVariants as asks
+use Rattle.zerotrie_code.specs.Code.{code}
+use Rattle.zerotrie_views.specs.Views.{shown}
+use Rattle.zerotrie_reports.specs.Reports.{report_of}
+use Rattle.zerotrie_reports.specs.Lines.{report_lines}
+use Rattle.zerotrie_files.specs.Disks.{Files, SameBeside}
+use Rattle.zerotrie_files.specs.Stores.{FilesKnown, Kept}
+use Rattle.zerotrie_making.specs.Made.{IsFile}
+use Rattle.zerotrie_making.specs.Made as made
+use Rattle.zerotrie_making.specs.declared.refused.MakeError.{MakeError}
+use Rattle.zerotrie_run.specs.Statuses.{made_status}
+use Rattle.zerotrie_run.specs.declared.status.Status.{Status}
+use Rattle.zerotrie_run.specs.declared.status.Status.TheVariants.{Done, Absent, Refused, BadUsage, BadInput, Fault}
+use Rattle.zerotrie_run.specs.declared.command.Place.{Place}
+use Rattle.zerotrie_run.specs.declared.command.Place.TheVariants.{File, Stream}
+use Rattle.zerotrie_run.specs.declared.command.Keys.{Keys}
+use Rattle.zerotrie_run.specs.declared.command.Keys.TheVariants.{Words, Lines}
+use Rattle.zerotrie_run.specs.declared.command.Question.{Question}
+use Rattle.zerotrie_run.specs.declared.command.Question.TheVariants.{Get, Longest, List as Listing, Code, Report, View}
+use Rattle.zerotrie_run.specs.declared.command.TrieFile.{TrieFile}
+use Rattle.zerotrie_run.specs.declared.command.Build.{Build}
+use Rattle.zerotrie_run.specs.declared.asking.AskError.{AskError}
+use Rattle.zerotrie_run.specs.declared.asking.AskError.TheVariants as ask
+use Rattle.zerotrie_run.specs.declared.building.BuildError.{BuildError}
+use Rattle.zerotrie_run.specs.declared.building.BuildError.TheVariants as build
+use Rattle.zerotrie_run.specs.declared.command.Command.{Command}
+use Rattle.zerotrie_run.specs.declared.command.Command.TheVariants as commands
+
+-- What files hold and what was printed, each as far as it is known.
+pub record World : Type 0 where
+  pub files : Option Files
+  pub printed : Option (List ℕ)
+
+-- nothing was printed, and all files hold what they held
+abbrev pub Untouched : World → World → Type 0
+Untouched before after = (after.printed ≡ before.printed) × (after.files ≡ before.files)
+
+-- the bytes of a place: what its file holds, or all of standard input
+abbrev pub IsRead : Place → Option (List ℕ) → Option Files → List ℕ → Type 0
+IsRead (File path) input files bytes = IfSome files (λ held. held path.now ≡ Some bytes)
+IsRead Stream input files bytes = IfSome input (λ known. bytes ≡ known)
+
+-- the bytes were put in a place: its file holds them and no other file has changed, or they were printed
+abbrev pub IsWritten : Place → List ℕ → World → World → Type 0
+IsWritten (File path) bytes before after = (after.printed ≡ before.printed)
+    × FilesKnown before.files after.files (λ old new. (new path.now ≡ Some bytes) × SameBeside path.now old new)
+IsWritten Stream bytes before after = Appends before.printed after.printed bytes × (after.files ≡ before.files)
+
+-- the keys of a question: words, or the lines of standard input
+abbrev pub AreKeys : Keys → Option (List ℕ) → List (Bor (List ℕ)) → Type 0
+AreKeys (Words words) input keys = keys ≡ words.now
+AreKeys Lines input keys = IfSome input (λ known. map (λ key. key.now) keys ≡ lines_of known)
+
+-- whether keys are the lines of standard input
+abbrev pub are_lines : Keys → Bool
+are_lines (Words words) = false
+are_lines Lines = true
+
+-- whether the keys of a question are
+abbrev pub of_lines : Question → Bool
+of_lines (Get keys) = are_lines keys
+of_lines (Longest texts) = are_lines texts
+of_lines (Listing style prefix) = false
+of_lines (Code language) = false
+of_lines Report = false
+of_lines (View view) = false
+
+-- the bytes of this kind that a file has; they mean a map, unless they are taken for a trie without a test
+abbrev pub Opens : TrieFile → List ℕ → TrieKind → List ℕ → Type 0
+Opens file all kind bytes = Holds file.kind all kind bytes × (file.trust ≡ false → IsWellFormed (kind_of kind) bytes)
+
+-- what was printed, and whether all was found, belong to the request and to the map that the bytes mean, if they mean one
+abbrev pub IsAnswered : TrieKind → List ℕ → Request → (old new : Option (List ℕ)) → Bool → Type 0
+IsAnswered kind bytes request old new all = (m : Map) (means : Means (kind_of kind) bytes m)
+    → (printed : List ℕ) × Belongs (kind_of kind) m means.pairs request printed (status_of all) × Appends old new printed
+
+-- what was printed, and whether all was found, belong to the question and to bytes of this kind
+abbrev pub Answers : Question → (input : Option (List ℕ)) → TrieKind → List ℕ → (old new : Option (List ℕ)) → Bool → Type 0
+Answers (Get keys) input kind bytes old new all = (ks : Bor (List (Bor (List ℕ)))) × AreKeys keys input ks.now × IsAnswered kind bytes (asks.Get ks) old new all
+Answers (Longest texts) input kind bytes old new all = (ts : Bor (List (Bor (List ℕ)))) × AreKeys texts input ts.now × IsAnswered kind bytes (asks.Longest ts) old new all
+Answers (Listing style prefix) input kind bytes old new all = IsAnswered kind bytes (asks.List style prefix) old new all
+Answers (Code language) input kind bytes old new all = (all ≡ true) × Appends old new (code language kind bytes)
+Answers Report input kind bytes old new all = (all ≡ true) × Appends old new (report_lines (report_of kind bytes))
+Answers (View view) input kind bytes old new all = (all ≡ true) × Appends old new (shown view kind bytes)
+
+-- The trie of a file was asked: what was read, its bytes and their kind, and the answer.
+pub record IsAsked (file : TrieFile) (question : Question) (input : Option (List ℕ)) (files : Option Files) (old new : Option (List ℕ)) (all : Bool) : Type 0 where
+  pub held : List ℕ
+  pub read : IsRead file.place input files held
+  pub kind : TrieKind
+  pub bytes : List ℕ
+  pub opens : Opens file held kind bytes
+  pub answers : Answers question input kind bytes old new all
+
+-- the file has no trie
+abbrev pub HasNoTrie : TrieFile → Option (List ℕ) → Option Files → Type 0
+HasNoTrie file input files = (held : List ℕ) × IsRead file.place input files held × (why : OpenError) × Explains file.kind held why
+
+-- the fault is the first in the bytes that a file has
+abbrev pub IsFaultIn : Option TrieKind → List ℕ → ByteFault → Type 0
+IsFaultIn named held fault = (kind : TrieKind) × (bytes : List ℕ) × Holds named held kind bytes × IsFirstFault (kind_of kind) bytes fault
+
+-- what a file holds has no answer: it has no trie, and nothing was printed; or printing failed
+abbrev pub IsUnanswered : TrieFile → List ℕ → (old new : Option (List ℕ)) → AskError → Type 0
+IsUnanswered file held old new ask.TwoInputs = ⊥
+IsUnanswered file held old new (ask.Unread e) = ⊥
+IsUnanswered file held old new (ask.NoTrie why fault) = Explains file.kind held why × (new ≡ old) × IfSome fault (IsFaultIn file.kind held)
+IsUnanswered file held old new (ask.Untyped e) = Unit {0}
+IsUnanswered file held old new (ask.Failed e) = Unit {0}
+
+-- How a question to the trie of a file ends. The answer was printed, and all was found or not; the file and the keys are
+-- both standard input; the file has no trie; or a file can't be read, output can't be written, or it is out of memory.
+abbrev pub RunsAsk : TrieFile → Question → Option (List ℕ) → Option Files → (old new : Option (List ℕ)) → Status → Type 0
+RunsAsk file question input files old new Done = IsAsked file question input files old new true
+RunsAsk file question input files old new Absent = IsAsked file question input files old new false
+RunsAsk file question input files old new Refused = ⊥
+RunsAsk file question input files old new BadUsage = (file.place ≡ Stream) × (of_lines question ≡ true) × (new ≡ old)
+RunsAsk file question input files old new BadInput = HasNoTrie file input files × (new ≡ old)
+RunsAsk file question input files old new Fault = Unit {0}
+
+-- why a question has no answer, as the end of a run
+abbrev pub ask_status : AskError → Status
+ask_status ask.TwoInputs = BadUsage
+ask_status (ask.Unread e) = Fault
+ask_status (ask.NoTrie why fault) = BadInput
+ask_status (ask.Untyped e) = Fault
+ask_status (ask.Failed e) = Fault
+
+-- The file of a trie was made: what was read, and the file that was written.
+pub record IsMade (build : Build) (input : Option (List ℕ)) (before after : World) : Type 0 where
+  pub all : List ℕ
+  pub read : IsRead build.from input before.files all
+  pub file : List ℕ
+  pub made : IsFile build.plan all file
+  pub written : IsWritten build.to file before after
+
+-- the input makes no file, for a reason with this status, and nothing was touched
+abbrev pub IsRefused : Build → Option (List ℕ) → World → World → Status → Type 0
+IsRefused build input before after status = (all : List ℕ) × IsRead build.from input before.files all
+    × (e : MakeError) × made.Explains build.plan all e × (made_status e ≡ status) × Untouched before after
+
+-- after a fault the file of a place holds what it held; of what was printed to a stream nothing is known
+abbrev pub IsKept : Place → World → World → Type 0
+IsKept (File path) before after = (after.printed ≡ before.printed) × FilesKnown before.files after.files (Kept path.now)
+IsKept Stream before after = after.files ≡ before.files
+
+-- How a build ends. The file was made; its keys are refused, or its input is no pairs; or a file can't be read or written,
+-- or it is out of memory.
+abbrev pub RunsBuild : Build → Option (List ℕ) → World → World → Status → Type 0
+RunsBuild build input before after Done = IsMade build input before after
+RunsBuild build input before after Absent = ⊥
+RunsBuild build input before after Refused = IsRefused build input before after Refused
+RunsBuild build input before after BadUsage = ⊥
+RunsBuild build input before after BadInput = IsRefused build input before after BadInput
+RunsBuild build input before after Fault = IsKept build.to before after
+
+-- why no file is made, as the end of a run
+abbrev pub build_status : BuildError → Status
+build_status (build.Unread e) = Fault
+build_status (build.NotMade e) = made_status e
+build_status (build.Unwritten e) = Fault
+
+-- how a command ends, what it printed, and what it left in files
+abbrev pub Runs : Command → Option (List ℕ) → World → World → Status → Type 0
+Runs (commands.Build build) input before after status = RunsBuild build input before after status
+Runs (commands.Ask file question) input before after status = (after.files ≡ before.files) × RunsAsk file question input before.files before.printed after.printed status

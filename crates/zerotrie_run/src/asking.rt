@@ -1,0 +1,208 @@
+//! A question to the trie of a file.
+
+ghost use Rattle.std.specs.Prelude.{◌≡◌, ◌↔◌, ℕ, List, true, Some, IfOk, IfErr, IfSome, IsTrue};
+ghost use Rattle.zerotrie_queries.specs.Files.{Explains};
+ghost use Rattle.zerotrie_queries.specs.declared.kind.TrieKind.{TrieKind};
+ghost use Rattle.zerotrie_run.specs.Runs.{Opens, Answers, IsAsked, RunsAsk, IsUnanswered, IsFaultIn, AreKeys, ask_status, of_lines};
+ghost use Rattle.zerotrie_run.specs.declared.command.Place.TheVariants.{Stream};
+
+use crate::command::{Keys, Place, Question, TrieFile};
+use crate::reading::{read_all, read_place};
+use crate::status::Status;
+use std::alloc::{AllocError, Global};
+use std::io;
+use std::io::{Read, Write};
+use zerotrie_code::write_trie_code;
+use zerotrie_commands::{Request, answer_trie};
+use zerotrie_core::Fault;
+use zerotrie_files::Store;
+use zerotrie_lines::read_lines;
+use zerotrie_queries::{OpenError, Trie};
+use zerotrie_reports::write_trie_report;
+use zerotrie_views::write_trie_view;
+
+/// Why a question has no answer.
+#[derive(Debug, Drop)]
+pub enum AskError {
+    /// Standard input can't be both the file and the keys.
+    TwoInputs,
+    /// The file can't be read.
+    Unread(io::Error),
+    /// The file has no trie. If its bytes are of a kind, and it is not out of memory, the first fault in them.
+    NoTrie(OpenError, Option<Fault>),
+    /// The keys can't be read.
+    Untyped(io::Error),
+    /// Output can't be written, or it is out of memory.
+    Failed(io::Error),
+}
+
+impl AskError {
+    /// How the run ends.
+    pub fn status(&self) -> Status
+        ensures { result ≡ ask_status self.now }
+    {
+        match self {
+            AskError::TwoInputs => Status::BadUsage,
+            AskError::NoTrie(_, _) => Status::BadInput,
+            AskError::Unread(_) | AskError::Untyped(_) | AskError::Failed(_) => Status::Fault,
+        }
+    }
+}
+
+/// Whether the keys of a question are the lines of standard input.
+fn reads_lines(question: Question<'_>) -> bool
+    ensures { result ≡ of_lines question.entry }
+{
+    match question {
+        Question::Get(Keys::Lines) | Question::Longest(Keys::Lines) => true,
+        _ => false,
+    }
+}
+
+/// Whether standard input is to be both the file and the keys.
+fn reads_twice(place: Place<'_>, question: Question<'_>) -> bool
+    ensures { IsTrue result ↔ (place.entry ≡ Stream) × (of_lines question.entry ≡ true) }
+{
+    match place {
+        Place::Stream => reads_lines(question),
+        Place::File(_) => false,
+    }
+}
+
+/// The trie in what a file holds. It is tested, unless it is to be trusted.
+fn open<'a>(file: TrieFile<'_>, held: &'a [u8]) -> Result<Trie<'a>, OpenError>
+    ensures ok { IfOk result (λ trie. Opens file.entry held.now trie.kind trie.bytes.now) }
+    ensures err { IfErr result (λ why. Explains file.entry.kind held.now why) }
+{
+    if file.trust {
+        Trie::open_untested(file.kind, held)
+    } else {
+        Trie::open(file.kind, held)
+    }
+}
+
+/// The first fault in the bytes of a file. `None` if they are a trie or of no kind, or it is out of memory.
+fn fault_in(alloc: Global, file: TrieFile<'_>, held: &[u8]) -> Option<Fault>
+    ensures { IfSome result (IsFaultIn file.entry.kind held.now) }
+{
+    let trie = Trie::open_untested(file.kind, held).ok()?;
+    trie.first_fault(alloc).ok()?
+}
+
+/// The input that the keys of a question are lines of. If they are no lines, none is read.
+fn read_typed<R: Read>(alloc: Global, question: Question<'_>, input: &mut R) -> io::Result<Vec<u8>>
+    ensures { IfOk result (λ typed. of_lines question.entry ≡ true
+        → IfSome (R.remaining input.old) (λ known. typed.items ≡ known)) }
+{
+    if reads_lines(question) {
+        read_all(alloc, input)
+    } else {
+        Ok(Vec::new(alloc))
+    }
+}
+
+/// The keys themselves, if this is the input that they may be lines of.
+fn keys_in<'a>(alloc: Global, keys: Keys<'a>, typed: &'a [u8]) -> Result<Vec<&'a [u8]>, AllocError>
+    ensures { IfOk result (λ found. AreKeys keys.entry (Some typed.now) found.items) }
+{
+    match keys {
+        Keys::Words(words) => Vec::from_slice(alloc, words),
+        Keys::Lines => read_lines(alloc, typed),
+    }
+}
+
+/// Writes the answer to a question, whose keys may be lines of what was typed, and tells whether all was found.
+fn write_answer<W: Write>(
+    alloc: Global,
+    trie: &Trie<'_>,
+    question: Question<'_>,
+    typed: &[u8],
+    output: &mut W,
+) -> io::Result<bool>
+    ensures { IfOk result (λ all. Answers question.entry (Some typed.now)
+        trie.now.kind trie.now.bytes.now (W.contents output.old) (W.contents output.new) all) }
+{
+    match question {
+        Question::Get(keys) => {
+            let keys = keys_in(alloc, keys, typed)?;
+            Ok(answer_trie(alloc, trie, Request::Get(keys.as_slice()), output)?)
+        }
+        Question::Longest(texts) => {
+            let texts = keys_in(alloc, texts, typed)?;
+            Ok(answer_trie(alloc, trie, Request::Longest(texts.as_slice()), output)?)
+        }
+        Question::List(style, prefix) => {
+            Ok(answer_trie(alloc, trie, Request::List(style, prefix), output)?)
+        }
+        Question::Code(language) => {
+            write_trie_code(trie, language, output)?;
+            Ok(true)
+        }
+        Question::Report => {
+            write_trie_report(alloc, trie, output)?;
+            Ok(true)
+        }
+        Question::View(view) => {
+            write_trie_view(alloc, trie, view, output)?;
+            Ok(true)
+        }
+    }
+}
+
+/// Writes the answer to a question to the trie in what a file holds, and tells whether all was found.
+fn answer_held<R: Read, W: Write>(
+    alloc: Global,
+    file: TrieFile<'_>,
+    held: &[u8],
+    question: Question<'_>,
+    input: &mut R,
+    output: &mut W,
+) -> Result<bool, AskError>
+    ensures ok { IfOk result (λ all. (kind : TrieKind) × (bytes : List ℕ)
+        × Opens file.entry held.now kind bytes
+        × Answers question.entry (R.remaining input.old) kind bytes
+        (W.contents output.old) (W.contents output.new) all) }
+    ensures err { IfErr result (IsUnanswered file.entry held.now
+        (W.contents output.old) (W.contents output.new)) }
+{
+    let trie = match open(file, held) {
+        Ok(trie) => trie,
+        Err(why) => return Err(AskError::NoTrie(why, fault_in(alloc, file, held))),
+    };
+    let typed = match read_typed(alloc, question, input) {
+        Ok(typed) => typed,
+        Err(error) => return Err(AskError::Untyped(error)),
+    };
+    match write_answer(alloc, &trie, question, typed.as_slice(), output) {
+        Ok(all) => Ok(all),
+        Err(error) => Err(AskError::Failed(error)),
+    }
+}
+
+/// Writes the answer to a question to the trie of a file, and tells whether all was found.
+pub fn ask<F: Store, R: Read, W: Write>(
+    alloc: Global,
+    file: TrieFile<'_>,
+    question: Question<'_>,
+    files: &F,
+    input: &mut R,
+    output: &mut W,
+) -> Result<bool, AskError>
+    ensures ok { IfOk result (λ all. IsAsked file.entry question.entry (R.remaining input.old)
+        (F.files files.now) (W.contents output.old) (W.contents output.new) all) }
+    ensures err { IfErr result (λ e. RunsAsk file.entry question.entry (R.remaining input.old)
+        (F.files files.now) (W.contents output.old) (W.contents output.new) (ask_status e)) }
+{
+    if reads_twice(file.place, question) {
+        return Err(AskError::TwoInputs);
+    }
+    let held = match read_place(alloc, file.place, files, input) {
+        Ok(held) => held,
+        Err(error) => return Err(AskError::Unread(error)),
+    };
+    let all = answer_held(alloc, file, held.as_slice(), question, input, output)?;
+    match output.flush() {
+        Ok(()) => Ok(all),
+        Err(error) => Err(AskError::Failed(error)),
+    }
+}

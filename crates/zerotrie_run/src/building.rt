@@ -1,0 +1,65 @@
+//! A trie file that is made.
+
+ghost use Rattle.std.specs.Prelude.{◌≡◌, IfErr, OnOk};
+ghost use Rattle.zerotrie_run.specs.Runs.{World, IsMade, RunsBuild, build_status};
+
+use crate::command::Build;
+use crate::reading::{read_place, write_place};
+use crate::status::Status;
+use std::alloc::Global;
+use std::io;
+use std::io::{Read, Write};
+use zerotrie_files::Store;
+use zerotrie_making::{MakeError, make};
+
+/// Why no trie file is made.
+#[derive(Debug, Drop)]
+pub enum BuildError {
+    /// The input can't be read.
+    Unread(io::Error),
+    /// The input makes no file.
+    NotMade(MakeError),
+    /// The file can't be written.
+    Unwritten(io::Error),
+}
+
+impl BuildError {
+    /// How the run ends.
+    pub fn status(&self) -> Status
+        ensures { result ≡ build_status self.now }
+    {
+        match self {
+            BuildError::NotMade(error) => Status::of_refusal(error),
+            BuildError::Unread(_) | BuildError::Unwritten(_) => Status::Fault,
+        }
+    }
+}
+
+/// Makes a trie file, and puts it in its place.
+pub fn build<F: Store, R: Read, W: Write>(
+    alloc: Global,
+    build: Build<'_>,
+    files: &mut F,
+    input: &mut R,
+    output: &mut W,
+) -> Result<(), BuildError>
+    ensures ok { OnOk result (IsMade build.entry (R.remaining input.old)
+        (record { files = F.files files.old; printed = W.contents output.old })
+        (record { files = F.files files.new; printed = W.contents output.new })) }
+    ensures err { IfErr result (λ e. RunsBuild build.entry (R.remaining input.old)
+        (record { files = F.files files.old; printed = W.contents output.old })
+        (record { files = F.files files.new; printed = W.contents output.new }) (build_status e)) }
+{
+    let held = match read_place(alloc, build.from, files, input) {
+        Ok(held) => held,
+        Err(error) => return Err(BuildError::Unread(error)),
+    };
+    let file = match make(alloc, build.plan, held) {
+        Ok(file) => file,
+        Err(error) => return Err(BuildError::NotMade(error)),
+    };
+    match write_place(build.to, file.as_slice(), files, output) {
+        Ok(()) => Ok(()),
+        Err(error) => Err(BuildError::Unwritten(error)),
+    }
+}

@@ -1,0 +1,14 @@
+//! The program over files: what each of its commands prints, what it leaves in files, and its status.
+#![tactic(auto)]
+
+mod asking;
+mod building;
+mod command;
+mod messages;
+mod reading;
+mod running;
+mod status;
+
+pub use command::{Build, Command, Keys, Place, Question, TrieFile};
+pub use running::run;
+pub use status::Status;

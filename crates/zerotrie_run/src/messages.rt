@@ -1,0 +1,153 @@
+//! What is told on standard error. If it can't be told, the status tells it alone.
+
+use crate::asking::AskError;
+use crate::building::BuildError;
+use crate::command::{Build, Place};
+use std::alloc::Global;
+use std::io;
+use std::io::Write;
+use zerotrie_any::TagError;
+use zerotrie_core::{Fault, ZeroTrieBuildError};
+use zerotrie_lines::{Format, write_escaped};
+use zerotrie_making::{MakeError, Shown, Source};
+use zerotrie_queries::OpenError;
+
+const STANDARD_INPUT: &str = "standard input";
+
+const STANDARD_OUTPUT: &str = "standard output";
+
+/// How messages name the place that bytes come from.
+fn source_name(place: Place<'_>) -> &str {
+    place.name(STANDARD_INPUT)
+}
+
+/// Tells why a file has no trie, and where its first fault is.
+fn tell_no_trie<M: Write>(
+    messages: &mut M,
+    path: &str,
+    why: &OpenError,
+    fault: &Option<Fault>,
+) -> io::Result<()> {
+    match (why, fault) {
+        (OpenError::BadTag(TagError::Empty), _) => {
+            writeln!(messages, "zerotrie: {path}: the file is empty")
+        }
+        (OpenError::BadTag(TagError::InvalidTag), _) => writeln!(
+            messages,
+            "zerotrie: {path}: no kind has the number that the file begins with; if it is bare bytes, name their kind by --kind"
+        ),
+        (OpenError::NotWellFormed(kind), Some(fault)) => {
+            let name = kind.name();
+            writeln!(
+                messages,
+                "zerotrie: {path}: no trie of kind {name}: {fault}"
+            )
+        }
+        (OpenError::NotWellFormed(kind), None) => {
+            let name = kind.name();
+            writeln!(messages, "zerotrie: {path}: no trie of kind {name}")
+        }
+    }
+}
+
+/// Tells why a question has no answer.
+pub fn tell_ask<M: Write>(messages: &mut M, place: Place<'_>, error: &AskError) -> io::Result<()> {
+    let path = source_name(place);
+    match error {
+        AskError::TwoInputs => writeln!(
+            messages,
+            "zerotrie: standard input can't be the file and the keys"
+        ),
+        AskError::Unread(error) => writeln!(messages, "zerotrie: {path}: {error}"),
+        AskError::NoTrie(why, fault) => tell_no_trie(messages, path, why, fault),
+        AskError::Untyped(error) => writeln!(messages, "zerotrie: standard input: {error}"),
+        AskError::Failed(error) => writeln!(messages, "zerotrie: standard output: {error}"),
+    }
+}
+
+/// What the pairs of an input stand on.
+fn unit_of(source: Source) -> &'static str {
+    match source {
+        Source::Text(Format::Csv) => "record",
+        Source::Text(_) => "line",
+        Source::Json => "pair",
+    }
+}
+
+/// Adds why keys are refused together.
+fn add_shown(text: &mut Vec<u8>, unit: &str, shown: &Shown) -> io::Result<()> {
+    let first = shown.first.number;
+    let second = shown.second.number;
+    match &shown.error {
+        ZeroTrieBuildError::DuplicateKey => {
+            write!(text, "{unit}s {first} and {second} have the same key: ")?;
+            write_escaped(text, shown.first.key.as_slice())?;
+        }
+        ZeroTrieBuildError::Unsorted => {
+            write!(
+                text,
+                "{unit} {second}: its key is not above that of {unit} {first}; sort the input by the bytes of its keys, or leave out --sorted: "
+            )?;
+            write_escaped(text, shown.second.key.as_slice())?;
+        }
+        ZeroTrieBuildError::NonAsciiError => {
+            write!(
+                text,
+                "{unit} {first}: its key is not ASCII; take --kind hash or --kind ext: "
+            )?;
+            write_escaped(text, shown.first.key.as_slice())?;
+        }
+        _ => {
+            write!(
+                text,
+                "{unit}s {first} and {second}: their keys begin alike but for the case of a letter; --lower-case brings all keys into lower case: "
+            )?;
+            write_escaped(text, shown.first.key.as_slice())?;
+            write!(text, " and ")?;
+            write_escaped(text, shown.second.key.as_slice())?;
+        }
+    }
+    Ok(())
+}
+
+/// Why no file is made, as a line of text.
+fn refusal(alloc: Global, path: &str, unit: &str, error: &MakeError) -> io::Result<Vec<u8>> {
+    let mut text = Vec::new(alloc);
+    write!(text, "zerotrie: {path}: ")?;
+    match error {
+        MakeError::Line(number, bad) => write!(text, "{unit} {number}: {bad}")?,
+        MakeError::NotJson(line, column) => {
+            write!(text, "line {line}, column {column}: no JSON value")?
+        }
+        MakeError::NotPairs => write!(
+            text,
+            "no object from keys to numbers, and no list of pairs of a key and a number"
+        )?,
+        MakeError::Keys(shown) => add_shown(&mut text, unit, shown)?,
+        MakeError::Refused(error) => write!(text, "{error}")?,
+        MakeError::OutOfMemory => write!(text, "out of memory")?,
+    }
+    text.push(b'\n')?;
+    Ok(text)
+}
+
+/// Tells why no file is made.
+pub fn tell_build<M: Write>(
+    alloc: Global,
+    messages: &mut M,
+    build: Build<'_>,
+    error: &BuildError,
+) -> io::Result<()> {
+    let from = source_name(build.from);
+    match error {
+        BuildError::Unread(error) => writeln!(messages, "zerotrie: {from}: {error}"),
+        BuildError::NotMade(error) => {
+            let text = refusal(alloc, from, unit_of(build.plan.source), error)?;
+            messages.write_all(text.as_slice())
+        }
+        BuildError::Unwritten(error) => {
+            let to = build.to.name(STANDARD_OUTPUT);
+            writeln!(messages, "zerotrie: {to}: {error}")
+        }
+    }
+}

@@ -1,0 +1,60 @@
+//! Bytes that are read whole, or written whole.
+
+ghost use Rattle.std.specs.Prelude.{◌≡◌, ◌⊎◌, IfOk, IfSome, OnOk, OnErr};
+ghost use Rattle.zerotrie_run.specs.Runs.{World, IsRead, IsWritten, IsKept};
+ghost use Rattle.zerotrie_run.specs.declared.command.Place.TheVariants.{Stream};
+
+use crate::command::Place;
+use std::alloc::Global;
+use std::io;
+use std::io::{Read, Write};
+use zerotrie_files::Store;
+
+/// All that a stream still has.
+pub fn read_all<R: Read>(alloc: Global, input: &mut R) -> io::Result<Vec<u8>>
+    ensures { IfOk result (λ bytes. IfSome (R.remaining input.old) (λ known. bytes.items ≡ known)) }
+{
+    let mut bytes = Vec::new(alloc);
+    input.read_to_end(&mut bytes)?;
+    Ok(bytes)
+}
+
+/// All bytes of a place.
+pub fn read_place<F: Store, R: Read>(
+    alloc: Global,
+    place: Place<'_>,
+    files: &F,
+    input: &mut R,
+) -> io::Result<Vec<u8>>
+    ensures read { IfOk result (λ bytes.
+        IsRead place.entry (R.remaining input.old) (F.files files.now) bytes.items) }
+    ensures untouched { (place.entry ≡ Stream) ⊎ (input.new ≡ input.old) }
+{
+    match place {
+        Place::File(path) => files.read(path),
+        Place::Stream => read_all(alloc, input),
+    }
+}
+
+/// Puts bytes in a place: in place of what its file held, or on standard output.
+pub fn write_place<F: Store, W: Write>(
+    place: Place<'_>,
+    bytes: &[u8],
+    files: &mut F,
+    output: &mut W,
+) -> io::Result<()>
+    ensures ok { OnOk result (IsWritten place.entry bytes.now
+        (record { files = F.files files.old; printed = W.contents output.old })
+        (record { files = F.files files.new; printed = W.contents output.new })) }
+    ensures err { OnErr result (IsKept place.entry
+        (record { files = F.files files.old; printed = W.contents output.old })
+        (record { files = F.files files.new; printed = W.contents output.new })) }
+{
+    match place {
+        Place::File(path) => files.replace(path, bytes),
+        Place::Stream => {
+            output.write_all(bytes)?;
+            output.flush()
+        }
+    }
+}

@@ -1,0 +1,50 @@
+//! The program over files and streams.
+
+ghost use Rattle.std.specs.Prelude.{◌≡◌, ◌⊎◌};
+ghost use Rattle.zerotrie_run.specs.Runs.{World, Runs};
+ghost use Rattle.zerotrie_run.specs.declared.status.Status.TheVariants.{Done, Absent};
+
+use crate::asking::ask;
+use crate::building::build;
+use crate::command::Command;
+use crate::messages::{tell_ask, tell_build};
+use crate::status::Status;
+use std::alloc::Global;
+use std::io::{Read, Write};
+use zerotrie_files::Store;
+
+/// Does what a command asks, and tells how it ended. What is wrong is told by a message.
+///
+/// What is printed is that of the command, the files and the input, and what is left in files too; see `Runs`. A message
+/// that can't be written is lost, and the status tells alone.
+pub fn run<F: Store, R: Read, W: Write, M: Write>(
+    alloc: Global,
+    command: Command<'_>,
+    files: &mut F,
+    input: &mut R,
+    output: &mut W,
+    messages: &mut M,
+) -> Status
+    ensures runs { Runs command.entry (R.remaining input.old)
+        (record { files = F.files files.old; printed = W.contents output.old })
+        (record { files = F.files files.new; printed = W.contents output.new }) result }
+    ensures quiet { (result ≡ Done) ⊎ (result ≡ Absent) → messages.new ≡ messages.old }
+{
+    match command {
+        Command::Build(plan) => match build(alloc, plan, files, input, output) {
+            Ok(()) => Status::Done,
+            Err(error) => {
+                let _ = tell_build(alloc, messages, plan, &error);
+                error.status()
+            }
+        },
+        Command::Ask(file, question) => match ask(alloc, file, question, files, input, output) {
+            Ok(true) => Status::Done,
+            Ok(false) => Status::Absent,
+            Err(error) => {
+                let _ = tell_ask(messages, file.place, &error);
+                error.status()
+            }
+        },
+    }
+}
