@@ -73,7 +73,7 @@ pub fn answer_trie<W: Write>(
     ensures { IfOk result (λ all. (m : Map)
         → (means : Means (kind_of trie.now.kind) trie.now.bytes.now m) → (printed : List ℕ)
         × Belongs (kind_of trie.now.kind) m means.pairs request.entry printed
-            (status_of all)
+        (status_of all)
         × Appends (W.contents output.old) (W.contents output.new) printed) }
 {
     match request {

@@ -22,9 +22,8 @@ returns-in_ok-write_longest-in-Longest g c m means =
     )
 
 pub returns-in_ok-write_list-in-List : goal.returns-in_ok-write_list-in-List
-returns-in_ok-write_list-in-List g c m means =
-    (
-      pair_lines c.in-List.style (beginning (kind_of c.args.trie.now.kind) c.in-List.prefix.now means.pairs),
-      rw c.in-List.is (refl, refl),
-      c.in_ok-write_list-in-List.ensures means.pairs means.lists,
-    )
+returns-in_ok-write_list-in-List g c m means = (
+  pair_lines c.in-List.style (beginning (kind_of c.args.trie.now.kind) c.in-List.prefix.now means.pairs),
+  rw c.in-List.is (refl, refl),
+  c.in_ok-write_list-in-List.ensures means.pairs means.lists,
+)
