@@ -1,4 +1,5 @@
 pub mod CallerLemmas
+mod Chosen
 mod NumberLemmas
 mod MapLemmas
 mod NodeLemmas

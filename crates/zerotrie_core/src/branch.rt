@@ -9,14 +9,14 @@ ghost use Rattle.std.specs.Prelude.{◌≡◌, ◌↔◌, ℕ, ◌+◌, ◌-◌,
 ghost use Rattle.std.specs.Char.{to_ascii_lowercase};
 ghost use Rattle.zerotrie_core.specs.Kind.{fold_byte};
 ghost use Rattle.zerotrie_core.specs.Branches.{IsTable};
-ghost use Rattle.zerotrie_core.specs.Nodes.{number_from, offset_in, end_of, IsTargetResult};
+ghost use Rattle.zerotrie_core.specs.Nodes.{number_from, offset_in, end_of, targets_behind, IsTargetResult};
 ghost use Rattle.zerotrie_core.specs.reader.Reading.{AlwaysRises, IsPlace, HasNoPlace};
 ghost use Rattle.zerotrie_core.specs.reader.Going.{AlwaysGoes, AlwaysStops};
 
 use crate::edge_search::{before_end, place_in};
 use crate::fold::{both_cases, folded};
 use crate::lanes::{first_in_16, first_in_32, first_in_64};
-use crate::offsets::{offset_at, short_offset_at};
+use crate::offsets::{end_at, offset_at, offsets_and_targets, short_offset_at};
 use crate::options::ZeroTrieWithOptions;
 use zerotrie_base::PerfectByteHashMap;
 
@@ -38,6 +38,15 @@ pub struct Branch<'a> {
 impl<'a> Branch<'a> {
     ghost use Rattle.zerotrie_core.specs.Shapes.{branch_shape};
 
+    /// The targets, one after another.
+    #[inline(always)]
+    pub(crate) fn targets(&self) -> &'a [u8]
+        ensures { result.now ≡ targets_behind self.now.edges self.now.width self.now.behind.now }
+    {
+        let (_, targets) = offsets_and_targets(self.behind, self.edges, self.width);
+        targets
+    }
+
     /// The byte of an edge.
     #[inline(always)]
     pub fn edge_at(&self, index: usize) -> u8
@@ -56,11 +65,7 @@ impl<'a> Branch<'a> {
     {
         let sought = folded::<K>(byte);
         let place = (folded::<K>(self.behind[1]) == sought) as usize;
-        if folded::<K>(self.behind[place]) == sought {
-            Some(place)
-        } else {
-            None
-        }
+        (folded::<K>(self.behind[place]) == sought).then_some(place)
     }
 
     /// The place of the edge that is the byte to the kind.
@@ -183,14 +188,7 @@ impl<'a> Branch<'a> {
         requires { index < self.now.edges }
         ensures { result ≡ end_of self.now.edges self.now.width self.now.behind.now index }
     {
-        let count = self.edges - 1;
-        let (_, body) = self.behind.split_at(self.edges);
-        let (table, targets) = body.split_at(self.width * count);
-        if index < count {
-            offset_at(table, index, count, self.width)
-        } else {
-            targets.len()
-        }
+        end_at(self.behind, self.edges, self.width, index)
     }
 
     /// The edge that is the byte to the kind, and its target.

@@ -19,14 +19,8 @@ pub(crate) fn row_behind<'a>(node: Node<'a>) -> &'a [u8]
     ensures { result.now ≡ row_behind (shape node.entry) }
 {
     match node {
-        Node::Value(_value, after) => after,
-        Node::Literal(_byte, after) => after,
-        Node::Span(_run, after) => after,
-        Node::Branch(branch) => {
-            let (_, body) = branch.behind.split_at(branch.edges);
-            let (_, targets) = body.split_at(branch.width * (branch.edges - 1));
-            targets
-        }
+        Node::Value(_, after) | Node::Literal(_, after) | Node::Span(_, after) => after,
+        Node::Branch(branch) => branch.targets(),
     }
 }
 
@@ -36,9 +30,7 @@ fn values_in(node: &Node<'_>) -> usize
 {
     match node {
         Node::Value(_value, _after) => 1,
-        Node::Literal(_byte, _after) => 0,
-        Node::Span(_run, _after) => 0,
-        Node::Branch(_branch) => 0,
+        Node::Literal(_, _) | Node::Span(_, _) | Node::Branch(_) => 0,
     }
 }
 

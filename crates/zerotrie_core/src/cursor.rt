@@ -62,16 +62,12 @@ pub fn step<K: ZeroTrieWithOptions>(bytes: &mut &[u8], byte: u8) -> Option<u8>
         (Lists K.kind bytes.new.now) }
     ensures empty { IfNone result (bytes.new.now ≡ []) }
 {
-    match edge_like::<K>(bytes, byte) {
-        None => {
-            *bytes = &[];
-            None
-        }
-        Some(along) => {
-            *bytes = along.trie;
-            Some(along.edge)
-        }
-    }
+    let Some(along) = edge_like::<K>(bytes, byte) else {
+        *bytes = &[];
+        return None;
+    };
+    *bytes = along.trie;
+    Some(along.edge)
 }
 
 /// Takes the value of the empty key off the front of the bytes of a trie of any kind. `None` if there is
@@ -91,13 +87,9 @@ pub fn take_value(bytes: &mut &[u8]) -> Option<usize>
         → IsTake kind (Lists kind bytes.old.now) result (Lists kind bytes.new.now) }
     ensures none { IfNone result (bytes.new ≡ bytes.old) }
 {
-    match first_value(bytes) {
-        None => None,
-        Some((value, rest)) => {
-            *bytes = rest;
-            Some(value)
-        }
-    }
+    let (value, rest) = first_value(bytes)?;
+    *bytes = rest;
+    Some(value)
 }
 
 /// Goes along the edge of this number, and answers its byte and how many edges there are.
@@ -122,17 +114,13 @@ pub fn probe<K: ZeroTrieWithOptions>(bytes: &mut &[u8], index: usize) -> Option<
         (Lists K.kind bytes.new.now) }
     ensures empty { IfNone result (bytes.new.now ≡ []) }
 {
-    match edge_numbered::<K>(bytes, index) {
-        None => {
-            *bytes = &[];
-            None
-        }
-        Some((along, edges)) => {
-            *bytes = along.trie;
-            Some(AsciiProbeResult {
-                byte: along.edge,
-                total_siblings: edges.min(255) as u8,
-            })
-        }
-    }
+    let Some((along, edges)) = edge_numbered::<K>(bytes, index) else {
+        *bytes = &[];
+        return None;
+    };
+    *bytes = along.trie;
+    Some(AsciiProbeResult {
+        byte: along.edge,
+        total_siblings: edges.min(255) as u8,
+    })
 }

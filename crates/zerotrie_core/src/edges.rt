@@ -8,8 +8,11 @@ ghost use Rattle.std.specs.Option.{option_map};
 ghost use Rattle.zerotrie_core.specs.Kind.{Kind, has_spans};
 ghost use Rattle.zerotrie_core.specs.Texts.{Lists};
 ghost use Rattle.zerotrie_core.specs.Places.{ListsAt, IsStep, IsProbe, FollowsRun};
-ghost use Rattle.zerotrie_core.specs.cursor.Edges.{ListsInside, place_along, place_after};
+ghost use Rattle.zerotrie_core.specs.Nodes.Shape.{literal};
+ghost use Rattle.zerotrie_core.specs.Shapes.{branch_shape};
+ghost use Rattle.zerotrie_core.specs.cursor.Edges.{ListsInside, StepsFrom, ProbesFrom, place_along, place_after};
 
+use crate::branch::Branch;
 use crate::fold::folded;
 use crate::node::{Node, first_node};
 use crate::options::ZeroTrieWithOptions;
@@ -20,6 +23,19 @@ pub struct Along<'a> {
     pub edge: u8,
     pub run: &'a [u8],
     pub trie: &'a [u8],
+}
+
+impl<'a> Along<'a> {
+    /// An edge with no run after it.
+    #[inline(always)]
+    fn plain(edge: u8, trie: &'a [u8]) -> Self
+        ensures edge { result.edge ≡ edge }
+        ensures run { result.run.now ≡ [] }
+        ensures trie { result.trie.now ≡ trie.now }
+    {
+        let run = &[];
+        Along { edge, run, trie }
+    }
 }
 
 /// The next byte of a run, if it is the byte to the kind.
@@ -35,11 +51,26 @@ pub fn run_edge_like<'a, K: ZeroTrieWithOptions>(
 {
     let (edge, run) = run.split_first()?;
     let edge = *edge;
-    if folded::<K>(edge) == folded::<K>(byte) {
-        Some(Along { edge, run, trie })
-    } else {
-        None
-    }
+    (folded::<K>(edge) == folded::<K>(byte)).then_some(Along { edge, run, trie })
+}
+
+/// The one edge of a literal, if it is the byte to the kind.
+#[inline(always)]
+fn literal_like<K: ZeroTrieWithOptions>(edge: u8, trie: &[u8], byte: u8) -> Option<Along<'_>>
+    ensures step { StepsFrom K.kind (literal edge trie.now) byte result }
+    ensures run { IfSome result (λ a. a.run.now ≡ []) }
+{
+    (folded::<K>(edge) == folded::<K>(byte)).then_some(Along::plain(edge, trie))
+}
+
+/// The edge of a branch that is the byte to the kind.
+#[inline(always)]
+fn branch_edge_like<K: ZeroTrieWithOptions>(branch: Branch<'_>, byte: u8) -> Option<Along<'_>>
+    ensures step { StepsFrom K.kind (branch_shape branch.entry) byte result }
+    ensures run { IfSome result (λ a. a.run.now ≡ []) }
+{
+    let (edge, trie) = branch.follow::<K>(byte)?;
+    Some(Along::plain(edge, trie))
 }
 
 /// The edge that is the byte to the kind, past a value in front.
@@ -55,28 +86,9 @@ pub fn edge_like<K: ZeroTrieWithOptions>(bytes: &[u8], byte: u8) -> Option<Along
     while let Some(node) = first_node::<K>(rest) {
         match node {
             Node::Value(_value, after) => rest = after,
-            Node::Literal(edge, trie) => {
-                return if folded::<K>(edge) == folded::<K>(byte) {
-                    Some(Along {
-                        edge,
-                        run: &[],
-                        trie,
-                    })
-                } else {
-                    None
-                };
-            }
+            Node::Literal(edge, trie) => return literal_like::<K>(edge, trie, byte),
             Node::Span(run, trie) => return run_edge_like::<K>(run, trie, byte),
-            Node::Branch(branch) => {
-                return match branch.follow::<K>(byte) {
-                    None => None,
-                    Some((edge, trie)) => Some(Along {
-                        edge,
-                        run: &[],
-                        trie,
-                    }),
-                };
-            }
+            Node::Branch(branch) => return branch_edge_like::<K>(branch, byte),
         }
     }
     None
@@ -98,11 +110,31 @@ pub fn run_edge_numbered<'a>(
 {
     let (edge, run) = run.split_first()?;
     let edge = *edge;
-    if index == 0 {
-        Some((Along { edge, run, trie }, 1))
-    } else {
-        None
+    (index == 0).then_some((Along { edge, run, trie }, 1))
+}
+
+/// The edge of a literal, which is number 0 of one.
+#[inline(always)]
+fn literal_numbered(edge: u8, trie: &[u8], index: usize) -> Option<(Along<'_>, usize)>
+    ensures probe { (kind : Kind) → ProbesFrom kind (literal edge trie.now) index result }
+    ensures run { IfSome result (λ r. r.0.run.now ≡ []) }
+    ensures few { IfSome result (λ r. r.1 ≤ 256) }
+{
+    (index == 0).then_some((Along::plain(edge, trie), 1))
+}
+
+/// The edge of this number of a branch, and how many edges it has.
+#[inline(always)]
+fn branch_edge_numbered(branch: Branch<'_>, index: usize) -> Option<(Along<'_>, usize)>
+    ensures probe { (kind : Kind) → ProbesFrom kind (branch_shape branch.entry) index result }
+    ensures run { IfSome result (λ r. r.0.run.now ≡ []) }
+    ensures few { IfSome result (λ r. r.1 ≤ 256) }
+{
+    if index >= branch.edges {
+        return None;
     }
+    let trie = branch.target_at(index)?;
+    Some((Along::plain(branch.edge_at(index), trie), branch.edges))
 }
 
 /// The edge of this number, and how many edges there are, past a value in front.
@@ -123,23 +155,9 @@ pub fn edge_numbered<K: ZeroTrieWithOptions>(
     while let Some(node) = first_node::<K>(rest) {
         match node {
             Node::Value(_value, after) => rest = after,
-            Node::Literal(edge, trie) => {
-                if index > 0 {
-                    return None;
-                }
-                let run = &[];
-                return Some((Along { edge, run, trie }, 1));
-            }
+            Node::Literal(edge, trie) => return literal_numbered(edge, trie, index),
             Node::Span(run, trie) => return run_edge_numbered(run, trie, index),
-            Node::Branch(branch) => {
-                if index >= branch.edges {
-                    return None;
-                }
-                let trie = branch.target_at(index)?;
-                let edge = branch.edge_at(index);
-                let run = &[];
-                return Some((Along { edge, run, trie }, branch.edges));
-            }
+            Node::Branch(branch) => return branch_edge_numbered(branch, index),
         }
     }
     None

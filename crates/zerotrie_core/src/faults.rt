@@ -85,16 +85,12 @@ fn no_node_fault<K: ZeroTrieWithOptions>(expected: Expected, bytes: &[u8]) -> Op
     ensures none { IfNone result (KeepsFirst K.kind expected bytes.now None) }
 {
     if bytes.is_empty() {
-        if expected.takes_end() {
-            None
-        } else {
-            Some(FaultCause::UnexpectedEnd)
-        }
-    } else if !K::SPANS && bytes[0] / 32 == 5 {
-        Some(FaultCause::NoSpans)
-    } else {
-        Some(FaultCause::NoNode)
+        return (!expected.takes_end()).then_some(FaultCause::UnexpectedEnd);
     }
+    if !K::SPANS && bytes[0] / 32 == 5 {
+        return Some(FaultCause::NoSpans);
+    }
+    Some(FaultCause::NoNode)
 }
 
 /// What is wrong with a span of this run.
@@ -119,12 +115,11 @@ fn has_offsets(branch: &Branch<'_>) -> bool
     ensures { IsTrue result
         ↔ InOrder branch.now.edges branch.now.width branch.now.behind.now branch.now.edges }
 {
-    let (_, body) = branch.behind.split_at(branch.edges);
-    let (_, targets) = body.split_at(branch.width * (branch.edges - 1));
+    let len = branch.targets().len();
     let mut begin = 0;
     for index in 0..branch.edges {
         let end = branch.end_at(index);
-        if end <= begin || targets.len() < end {
+        if end <= begin || len < end {
             return false;
         }
         begin = end;
@@ -159,14 +154,8 @@ fn node_fault<K: ZeroTrieWithOptions>(expected: Expected, node: Node<'_>) -> Opt
     ensures none { IfNone result (Keeps K.kind expected (shape node.entry)) }
 {
     match node {
-        Node::Value(_value, _rest) => {
-            if expected.takes_value() {
-                None
-            } else {
-                Some(FaultCause::ValueAfterValue)
-            }
-        }
-        Node::Literal(_byte, _rest) => None,
+        Node::Value(_, _) if !expected.takes_value() => Some(FaultCause::ValueAfterValue),
+        Node::Value(_, _) | Node::Literal(_, _) => None,
         Node::Span(run, _rest) => span_fault::<K>(expected, run),
         Node::Branch(branch) => branch_fault::<K>(branch),
     }
@@ -256,10 +245,8 @@ pub fn first_fault<K: ZeroTrieWithOptions, A: Allocator>(
     while let Some(part) = parts.pop() {
         let node = node_at::<K>(part.bytes);
         if let Some(cause) = front_fault::<K>(expected, part.bytes, node) {
-            return Ok(Some(Fault {
-                place: part.place,
-                cause,
-            }));
+            let place = part.place;
+            return Ok(Some(Fault { place, cause }));
         }
         push_next(&mut parts, part, node)?;
         expected = expected_next(node);

@@ -52,6 +52,7 @@ impl<'a> Here<'a> {
     #[inline(always)]
     pub fn literals(&self) -> usize
         ensures within { result ≤ length self.now.rest.now }
+        ensures most { result ≤ 16 }
         ensures literals { (k : ℕ) → k < result → slice_index self.now.rest.now k < 128 }
     {
         if self.tail.len() < 16 {

@@ -1,6 +1,6 @@
 //! Runs of literals, held against a key many bytes at a time.
 
-ghost use Rattle.std.specs.Prelude.{◌+◌, ◌<◌, ◌≤◌, length, IsTrue};
+ghost use Rattle.std.specs.Prelude.{◌≡◌, ℕ, ◌+◌, ◌<◌, ◌≤◌, length, drop, slice_index, IsTrue};
 ghost use Rattle.zerotrie_core.specs.reader.Literals.{AreCommon, AreSame};
 
 use crate::fold::folded;
@@ -9,6 +9,19 @@ use crate::options::ZeroTrieWithOptions;
 
 /// How many bytes the longest value has.
 const LONGEST_VALUE: usize = 10;
+
+/// The first of sixteen bytes from a place on that is no literal, or not the one of the key there, or 64.
+#[inline(always)]
+fn first_other_at(bytes: &[u8], key: &[u8], place: usize) -> usize
+    requires bytes { place + 16 ≤ length bytes.now }
+    requires key { place + 16 ≤ length key.now }
+    ensures { (k : ℕ) → k < 16 → k < result → (slice_index (drop place bytes.now) k < 128)
+        × (slice_index (drop place bytes.now) k ≡ slice_index (drop place key.now) k) }
+{
+    let (_, rest) = bytes.split_at(place);
+    let (_, after) = key.split_at(place);
+    first_other_in_16(rest, after)
+}
 
 /// How many literals the bytes begin with that the key goes on with, where both are long: not always all of them.
 ///
@@ -23,18 +36,14 @@ fn common_by_sixteens<K: ZeroTrieWithOptions>(bytes: &[u8], key: &[u8]) -> usize
     let most = bytes.len().min(key.len());
     let mut passed = 0;
     while most - passed >= 16 {
-        let (_, rest) = bytes.split_at(passed);
-        let (_, after) = key.split_at(passed);
-        let more = first_other_in_16(rest, after);
+        let more = first_other_at(bytes, key, passed);
         if more < 16 {
             return passed + more;
         }
         passed += 16;
     }
     let last = most - 16;
-    let (_, rest) = bytes.split_at(last);
-    let (_, after) = key.split_at(last);
-    let more = first_other_in_16(rest, after);
+    let more = first_other_at(bytes, key, last);
     if more < 16 { last + more } else { most }
 }
 
@@ -107,21 +116,12 @@ fn common_in_long<K: ZeroTrieWithOptions>(bytes: &[u8], key: &[u8]) -> usize
     common_by_sixteens::<K>(bytes, key)
 }
 
-/// How many literals the bytes begin with that the key goes on with: not always all of them.
-///
-/// If both are long, so is as a rule the run, and it is compared sixteen at a time. As this tells letters of either
-/// case apart, if case is ignored and the first ones differ so, they are compared one by one.
+/// How many literals the bytes begin with that the key goes on with.
 #[inline(always)]
-pub fn common_literals<K: ZeroTrieWithOptions>(bytes: &[u8], key: &[u8]) -> usize
+fn common_one_by_one<K: ZeroTrieWithOptions>(bytes: &[u8], key: &[u8]) -> usize
     ensures { AreCommon K.kind bytes.now key.now result }
 {
     let most = bytes.len().min(key.len());
-    if most >= 16 {
-        let more = common_in_long::<K>(bytes, key);
-        if !K::IGNORE_CASE || more > 0 {
-            return more;
-        }
-    }
     let mut passed = 0;
     while passed < most
         && bytes[passed] < 128
@@ -130,4 +130,21 @@ pub fn common_literals<K: ZeroTrieWithOptions>(bytes: &[u8], key: &[u8]) -> usiz
         passed += 1;
     }
     passed
+}
+
+/// How many literals the bytes begin with that the key goes on with: not always all of them.
+///
+/// If both are long, so is as a rule the run, and it is compared sixteen at a time. As this tells letters of either
+/// case apart, if case is ignored and the first ones differ so, they are compared one by one.
+#[inline(always)]
+pub fn common_literals<K: ZeroTrieWithOptions>(bytes: &[u8], key: &[u8]) -> usize
+    ensures { AreCommon K.kind bytes.now key.now result }
+{
+    if bytes.len() >= 16 && key.len() >= 16 {
+        let more = common_in_long::<K>(bytes, key);
+        if !K::IGNORE_CASE || more > 0 {
+            return more;
+        }
+    }
+    common_one_by_one::<K>(bytes, key)
 }

@@ -39,11 +39,7 @@ fn read_head(lead: u8, rest: &[u8]) -> Option<(usize, &[u8])>
         return Some((digit, rest));
     }
     let (next, behind) = rest.split_first()?;
-    if *next < 128 {
-        Some((digit * 128 + *next as usize + 32, behind))
-    } else {
-        None
-    }
+    (*next < 128).then_some((digit * 128 + *next as usize + 32, behind))
 }
 
 /// The greatest width field of a branch.

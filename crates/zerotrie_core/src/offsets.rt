@@ -1,7 +1,8 @@
 //! The offsets of a branch, whose bytes stand in blocks: the highest bytes of all of them first, then the next, and so on.
 
-ghost use Rattle.std.specs.Prelude.{◌≡◌, ◌+◌, ◌-◌, ◌*◌, ◌<◌, ◌≤◌, length};
-ghost use Rattle.zerotrie_core.specs.Nodes.{number_from};
+ghost use Rattle.std.specs.Prelude.{◌≡◌, ◌+◌, ◌-◌, ◌*◌, ◌<◌, ◌≤◌, length, take, drop};
+ghost use Rattle.zerotrie_core.specs.Branches.{IsWidth};
+ghost use Rattle.zerotrie_core.specs.Nodes.{number_from, targets_behind, begin_of, end_of};
 
 /// The number whose bytes stand at one place of each of up to three blocks, the highest first.
 #[inline(always)]
@@ -53,4 +54,55 @@ pub fn offset_at(table: &[u8], place: usize, count: usize, width: usize) -> usiz
     } else {
         long_offset_at(table, place, count, width)
     }
+}
+
+/// The offsets of a branch and its targets, out of all bytes from its edges on.
+#[inline(always)]
+pub fn offsets_and_targets(behind: &[u8], edges: usize, width: usize) -> (&[u8], &[u8])
+    requires some { 1 ≤ edges }
+    requires whole { edges + width * (edges - 1) ≤ length behind.now }
+    ensures offsets { result.0.now ≡ take (width * (edges - 1)) (drop edges behind.now) }
+    ensures len { length result.0.now ≡ width * (edges - 1) }
+    ensures targets { result.1.now ≡ targets_behind edges width behind.now }
+{
+    let (_, body) = behind.split_at(edges);
+    body.split_at(width * (edges - 1))
+}
+
+/// Where the target of an edge begins among the targets, as the offset in front of it says.
+#[inline(always)]
+pub fn begin_at(behind: &[u8], edges: usize, width: usize, index: usize) -> usize
+    requires index { index < edges }
+    requires width { (1 ≤ width) × (width ≤ 8) }
+    requires whole { edges + width * (edges - 1) ≤ length behind.now }
+    ensures { result ≡ begin_of edges width behind.now index }
+{
+    if index == 0 {
+        return 0;
+    }
+    let (table, _) = offsets_and_targets(behind, edges, width);
+    offset_at(table, index - 1, edges - 1, width)
+}
+
+/// Where it ends, as the next offset says. After the last target there is none.
+#[inline(always)]
+pub fn end_at(behind: &[u8], edges: usize, width: usize, index: usize) -> usize
+    requires index { index < edges }
+    requires width { (1 ≤ width) × (width ≤ 8) }
+    requires whole { edges + width * (edges - 1) ≤ length behind.now }
+    ensures { result ≡ end_of edges width behind.now index }
+{
+    let (table, targets) = offsets_and_targets(behind, edges, width);
+    if index == edges - 1 {
+        return targets.len();
+    }
+    offset_at(table, index, edges - 1, width)
+}
+
+/// The least width field of a branch whose targets have this number of bytes together.
+pub fn least_width(total: usize) -> usize
+    ensures width { IsWidth total result }
+    ensures small { result ≤ 7 }
+{
+    total.max(1).ilog2() as usize / 8
 }

@@ -9,20 +9,13 @@ ghost use Rattle.zerotrie_core.specs.Kind.{simple_ascii};
 ghost use Rattle.zerotrie_core.specs.Maps.{Ascends};
 ghost use Rattle.zerotrie_core.specs.Items.{pairs_of};
 ghost use Rattle.zerotrie_core.specs.Routes.{ascending, IsBuild};
-ghost use Rattle.zerotrie_core.specs.plain.Encoding.{pairs_from, AsciiKeys, Deep, BeginsAll, BeginsNone, IsBranching, CannotWrite, Writes, Leads};
+ghost use Rattle.zerotrie_core.specs.plain.Encoding.{pairs_from, AsciiKeys, Deep, BeginsAll, BeginsNone, IsBranching, CannotWrite, Writes, WritesFront};
 
 mod nodes;
 
 use nodes::{push_branch, push_value};
 use std::alloc::Global;
 use zerotrie_base::ZeroTrieBuildError;
-
-/// Whether the key is below the next one.
-fn is_below(key: &[u8], next: &[u8]) -> bool
-    ensures { IsTrue result ↔ slice_cmp nat_cmp key.now next.now ≡ Less }
-{
-    key < next
-}
 
 /// Whether each key is below the next.
 fn is_ascending(items: &[(&[u8], usize)]) -> bool
@@ -31,7 +24,7 @@ fn is_ascending(items: &[(&[u8], usize)]) -> bool
     for i in 1..items.len() {
         let (key, _) = items[i - 1];
         let (next, _) = items[i];
-        if !is_below(key, next) {
+        if !(key < next) {
             return false;
         }
     }
@@ -86,7 +79,7 @@ fn push_run(
     ensures within { IfOk result (λ r. r.0 ≤ length items.now) }
     ensures deep { IfOk result (λ r. Deep (r.1 + 1) (drop r.0 items.now)) }
     ensures leads { IfOk result (λ r.
-        Leads out.old.items (pairs_from depth items.now) out.new.items
+        WritesFront out.old.items (pairs_from depth items.now) out.new.items
         (pairs_from r.1 (drop r.0 items.now))) }
     ensures room { IfOk result (λ r. r.0 < length items.now → r.1 + 1 < 2 ^ 64) }
     ensures branching { IfOk result (λ r.

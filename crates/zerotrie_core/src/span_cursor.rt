@@ -136,11 +136,7 @@ impl<'a> SpanCursor<'a> {
         ensures lists { IfSome result (λ trie. (kind : Kind) (pairs : Pairs)
             → ListsAt kind self.now pairs → Lists kind trie.now pairs) }
     {
-        if self.run.is_empty() {
-            Some(self.trie)
-        } else {
-            None
-        }
+        self.run.is_empty().then_some(self.trie)
     }
 
     /// Takes the value of the empty key. `None` if there is none, and then nothing changes.
@@ -166,16 +162,12 @@ impl<'a> SpanCursor<'a> {
         ensures run { IfSome result (λ edge. FollowsRun K.kind self.old edge self.new) }
         ensures empty { IfNone result (self.new ≡ nowhere) }
     {
-        match like_at::<K>(self.run, self.trie, byte) {
-            None => {
-                *self = SpanCursor::new(&[]);
-                None
-            }
-            Some(along) => {
-                *self = SpanCursor::behind(along);
-                Some(along.edge)
-            }
-        }
+        let Some(along) = like_at::<K>(self.run, self.trie, byte) else {
+            *self = SpanCursor::new(&[]);
+            return None;
+        };
+        *self = SpanCursor::behind(along);
+        Some(along.edge)
     }
 
     /// Goes along the edge of this number, and answers its byte and how many edges there are.
@@ -187,18 +179,14 @@ impl<'a> SpanCursor<'a> {
         ensures run { IfSome result (λ r. FollowsRun K.kind self.old r.byte self.new) }
         ensures empty { IfNone result (self.new ≡ nowhere) }
     {
-        match numbered_at::<K>(self.run, self.trie, index) {
-            None => {
-                *self = SpanCursor::new(&[]);
-                None
-            }
-            Some((along, edges)) => {
-                *self = SpanCursor::behind(along);
-                Some(ByteProbeResult {
-                    byte: along.edge,
-                    total_siblings: edges as u16,
-                })
-            }
-        }
+        let Some((along, edges)) = numbered_at::<K>(self.run, self.trie, index) else {
+            *self = SpanCursor::new(&[]);
+            return None;
+        };
+        *self = SpanCursor::behind(along);
+        Some(ByteProbeResult {
+            byte: along.edge,
+            total_siblings: edges as u16,
+        })
     }
 }

@@ -25,7 +25,6 @@ mod opened;
 use crate::branch::Branch;
 use crate::fold::folded;
 use crate::here::Here;
-use crate::lanes::first_other_in_16;
 use crate::node::{Node, first_node};
 use crate::options::{Ext, Hash, Ignore, Simple, ZeroTrieBuilderOptions, ZeroTrieWithOptions};
 use crate::span_cursor::SpanCursor;
@@ -89,26 +88,20 @@ impl<'a, A: Allocator> ZeroTrieStream<'a, A> {
         if self.ended {
             return Ok(false);
         }
-        match next_value_of(
+        self.ended = true;
+        let found = next_value_of(
             self.options,
             &mut self.here,
             &mut self.key,
             &mut self.top,
             &mut self.branches,
-        ) {
-            Ok(Some(value)) => {
-                self.value = value;
-                Ok(true)
-            }
-            Ok(None) => {
-                self.ended = true;
-                Ok(false)
-            }
-            Err(error) => {
-                self.ended = true;
-                Err(error)
-            }
-        }
+        )?;
+        let Some(value) = found else {
+            return Ok(false);
+        };
+        self.value = value;
+        self.ended = false;
+        Ok(true)
     }
 
     /// The key of the pair that the last call of `advance` went on to. Before the first call and after the end it is no
@@ -145,15 +138,7 @@ impl<'a, A: Allocator + Copy> ZeroTrieStream<'a, A> {
         ensures most { length result.left.pairs ≤ length bytes.now }
         ensures fresh { result.left.ended ≡ false }
     {
-        ZeroTrieStream {
-            options: ZeroTrieBuilderOptions::of::<K>(),
-            here: Here::at(bytes),
-            key: Vec::new(alloc),
-            value: 0,
-            top: OpenBranch::closed(),
-            branches: Vec::new(alloc),
-            ended: false,
-        }
+        ZeroTrieStream::behind::<K>(Vec::new(alloc), bytes)
     }
 
     /// A copy of the key.
@@ -165,18 +150,13 @@ impl<'a, A: Allocator + Copy> ZeroTrieStream<'a, A> {
 
     /// The pairs of these bytes, each key with a front before it.
     fn behind<K: ZeroTrieWithOptions>(front: Vec<u8, A>, bytes: &'a [u8]) -> Self
-        ensures { (pairs : Pairs) → Lists K.kind bytes.now pairs
+        ensures lists { (pairs : Pairs) → Lists K.kind bytes.now pairs
             → result.left ≡ to_come (with_run front.items pairs) }
+        ensures most { length result.left.pairs ≤ length bytes.now }
+        ensures fresh { result.left.ended ≡ false }
     {
-        ZeroTrieStream {
-            options: ZeroTrieBuilderOptions::of::<K>(),
-            here: Here::at(bytes),
-            branches: Vec::new(*front.allocator()),
-            key: front,
-            value: 0,
-            top: OpenBranch::closed(),
-            ended: false,
-        }
+        let branches = Vec::new(*front.allocator());
+        ZeroTrieStream::standing::<K>(Here::at(bytes), front, 0, OpenBranch::closed(), branches)
     }
 
     /// The pairs that are left after this one, whose key and value are given.
@@ -369,11 +349,7 @@ fn after_edge<'k, K: ZeroTrieWithOptions>(edge: u8, key: &'k [u8]) -> Option<&'k
     ensures { IsAfterEdge K.kind edge key.now (option_map (λ left. left.now) result) }
 {
     let (byte, left) = key.split_first()?;
-    if folded::<K>(edge) == folded::<K>(*byte) {
-        Some(left)
-    } else {
-        None
-    }
+    (folded::<K>(edge) == folded::<K>(*byte)).then_some(left)
 }
 
 /// Goes on past a literal, towards a key of which this is left. `None` if no pair has the key.
@@ -502,19 +478,14 @@ fn push_literals<'a, A: Allocator>(
 {
     if here.tail.len() < 16 {
         key.push(here.rest[0])?;
-        let (_, rest) = here.rest.split_at(1);
-        return Ok(here.behind(rest));
+        return Ok(here.after(1));
     }
-    let (sixteen, _) = here.tail.split_at(16);
-    let count = first_other_in_16(sixteen, sixteen)
-        .min(16)
-        .min(here.rest.len())
-        .max(1);
+    let count = here.literals().max(1);
     let len = key.len();
+    let (sixteen, _) = here.tail.split_at(16);
     key.extend_from_slice(sixteen)?;
     key.truncate(len + count);
-    let (_, rest) = here.rest.split_at(count);
-    Ok(here.behind(rest))
+    Ok(here.after(count))
 }
 
 /// Goes into the next target of a branch. Where its offsets fall, no more of the branch is listed. So no byte is gone

@@ -8,10 +8,11 @@ ghost use Rattle.std.specs.Prelude.{◌≡◌, ◌≢◌, ◌↔◌, ℕ, ◌<�
 ghost use Rattle.zerotrie_core.specs.Kind.{Kind};
 ghost use Rattle.zerotrie_core.specs.Maps.{Map};
 ghost use Rattle.zerotrie_core.specs.Texts.{AreHigh, Means};
+ghost use Rattle.zerotrie_core.specs.Nodes.Shape.{value, span};
 ghost use Rattle.zerotrie_core.specs.Shapes.{shape, branch_shape};
 ghost use Rattle.zerotrie_core.specs.WellFormed.{IsWellFormed, IsShallow, deep};
 ghost use Rattle.zerotrie_core.specs.listing.Runs.{EndsWith};
-ghost use Rattle.zerotrie_core.specs.well_formed.Testing.{Steps, Suits, Onward, IsFirstLonger, AlwaysOnward, AlwaysNoText};
+ghost use Rattle.zerotrie_core.specs.well_formed.Testing.{Steps, IsAllowed, ReducesTo, IsFirstLonger, AlwaysReducesTo, AlwaysNoText};
 
 pub(crate) mod branches;
 
@@ -36,36 +37,27 @@ pub(crate) enum Expected {
 
 impl Expected {
     ghost use Rattle.zerotrie_core.specs.declared.well_formed.Expected.TheVariants.{NoValue, NoSpan};
-    ghost use Rattle.zerotrie_core.specs.well_formed.Testing.{Suits};
+    ghost use Rattle.zerotrie_core.specs.well_formed.Testing.{IsAllowed};
 
     /// Whether a value may stand next.
     pub(crate) fn takes_value(self) -> bool
         ensures { IsTrue result ↔ (self ≢ NoValue) }
     {
-        match self {
-            Expected::NoValue => false,
-            Expected::Anything | Expected::NoSpan | Expected::Something => true,
-        }
+        !matches!(self, Expected::NoValue)
     }
 
     /// Whether a span may stand next.
     pub(crate) fn takes_span(self) -> bool
         ensures { IsTrue result ↔ (self ≢ NoSpan) }
     {
-        match self {
-            Expected::NoSpan => false,
-            Expected::Anything | Expected::NoValue | Expected::Something => true,
-        }
+        !matches!(self, Expected::NoSpan)
     }
 
     /// Whether the end may stand next.
     pub(crate) fn takes_end(self) -> bool
-        ensures { IsTrue result ↔ Suits self [] }
+        ensures { IsTrue result ↔ IsAllowed self [] }
     {
-        match self {
-            Expected::Anything | Expected::NoValue => true,
-            Expected::NoSpan | Expected::Something => false,
-        }
+        matches!(self, Expected::Anything | Expected::NoValue)
     }
 }
 
@@ -97,27 +89,39 @@ pub(crate) fn is_run(run: &[u8]) -> bool
     true
 }
 
+/// What a value comes to, after which these bytes stand.
+#[inline(always)]
+fn value_step(rest: &[u8], expected: Expected) -> Step<'_>
+    ensures { (kind : Kind) (v : ℕ) → Steps kind (value v rest.now) expected result }
+{
+    if expected.takes_value() {
+        Step::Over(rest, Expected::NoValue)
+    } else {
+        Step::Wrong
+    }
+}
+
+/// What a span of this run comes to, after which these bytes stand.
+#[inline(always)]
+fn span_step<'a>(run: &[u8], rest: &'a [u8], expected: Expected) -> Step<'a>
+    ensures { (kind : Kind) → Steps kind (span run.now rest.now) expected result }
+{
+    if expected.takes_span() && is_run(run) {
+        Step::Over(rest, Expected::NoSpan)
+    } else {
+        Step::Wrong
+    }
+}
+
 /// What a node comes to, if this may stand there.
 #[inline(always)]
 fn next_step<'a, K: ZeroTrieWithOptions>(node: Node<'a>, expected: Expected) -> Step<'a>
     ensures { Steps K.kind (shape node.entry) expected result }
 {
     match node {
-        Node::Value(_value, rest) => {
-            if expected.takes_value() {
-                Step::Over(rest, Expected::NoValue)
-            } else {
-                Step::Wrong
-            }
-        }
+        Node::Value(_value, rest) => value_step(rest, expected),
         Node::Literal(_edge, _rest) => Step::Literals,
-        Node::Span(run, rest) => {
-            if expected.takes_span() && is_run(run) {
-                Step::Over(rest, Expected::NoSpan)
-            } else {
-                Step::Wrong
-            }
-        }
+        Node::Span(run, rest) => span_step(run, rest, expected),
         Node::Branch(branch) => Step::Behind(branch),
     }
 }
@@ -128,8 +132,8 @@ fn next_step<'a, K: ZeroTrieWithOptions>(node: Node<'a>, expected: Expected) -> 
 #[inline(always)]
 fn pass(here: Here<'_>) -> (Here<'_>, Expected)
     ensures shorter { length result.0.rest.now ≤ length here.entry.rest.now }
-    ensures onward { here.entry.rest.now ≢ [] → (kind : Kind)
-        → Onward kind here.entry.rest.now result.0.rest.now result.1 1 }
+    ensures reduces { here.entry.rest.now ≢ [] → (kind : Kind)
+        → ReducesTo kind here.entry.rest.now result.0.rest.now result.1 1 }
 {
     let value = here.after(here.literals());
     let len = value.value_len();
@@ -168,15 +172,13 @@ fn go_behind<'a, K: ZeroTrieWithOptions>(
     ensures shorter { IfSome result (λ r. length r.0.rest.now < length branch.entry.behind.now) }
     ensures shallow { IfSome result (λ r. IsShallow branch.entry.behind.now r.1) }
     ensures some { IfSome result (λ r.
-        AlwaysOnward K.kind (branch_shape branch.entry) r.0.rest.now Expected.Something r.1) }
+        AlwaysReducesTo K.kind (branch_shape branch.entry) r.0.rest.now Expected.Something r.1) }
     ensures none { IfNone result (AlwaysNoText K.kind (branch_shape branch.entry)) }
 {
     if !has_front::<K>(&branch, here.behind(branch.behind)) {
         return None;
     }
-    let (_, body) = branch.behind.split_at(branch.edges);
-    let (_, targets) = body.split_at(branch.width * (branch.edges - 1));
-    let targets = here.behind(targets);
+    let targets = here.behind(branch.targets());
     let mut longest = target_from::<K>(&branch, targets, 0, 0)?;
     let mut begin = longest.rest.len();
     let mut most: u32 = 1;
@@ -217,8 +219,8 @@ fn is_target_counted<K: ZeroTrieWithOptions>(target: Here<'_>) -> (bool, u32)
 #[cycle(tested)]
 fn is_text_counted<K: ZeroTrieWithOptions>(here: Here<'_>, expected: Expected) -> (bool, u32)
     ensures yes { IsTrue result.0
-        ↔ (Suits expected here.entry.rest.now × IsWellFormed K.kind here.entry.rest.now) }
-    ensures count { Suits expected here.entry.rest.now → (m : Map)
+        ↔ (IsAllowed expected here.entry.rest.now × IsWellFormed K.kind here.entry.rest.now) }
+    ensures count { IsAllowed expected here.entry.rest.now → (m : Map)
         (means : Means K.kind here.entry.rest.now m) → result.1 ≡ deep means.lists }
     ensures shallow { IsShallow here.entry.rest.now result.1 }
 {
@@ -281,6 +283,5 @@ pub fn is_well_formed_counted<K: ZeroTrieWithOptions>(bytes: &[u8]) -> (bool, u3
 pub fn is_well_formed<K: ZeroTrieWithOptions>(bytes: &[u8]) -> bool
     ensures { IsTrue result ↔ IsWellFormed K.kind bytes.now }
 {
-    let (yes, _) = is_well_formed_counted::<K>(bytes);
-    yes
+    is_well_formed_counted::<K>(bytes).0
 }

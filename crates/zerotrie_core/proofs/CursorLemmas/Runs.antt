@@ -49,12 +49,17 @@ branch_meets kind bytes edges width table behind r t begins (at_once i) = let e 
 branch_meets kind bytes edges width table behind r t begins (after_value {after = more} w i m) = let e = node_once kind bytes (branch edges width table behind) (value w more) begins i in cc
 
 -- an edge that no span is behind
-pub follows_text : (kind : Kind) (bytes rest : List ℕ) (edge : ℕ) (trie : List ℕ) → SameSpan kind bytes rest → ((r t : List ℕ) → MeetsSpan kind rest r t → ⊥)
+follows_text : (kind : Kind) (bytes rest : List ℕ) (edge : ℕ) (trie : List ℕ) → SameSpan kind bytes rest → ((r t : List ℕ) → MeetsSpan kind rest r t → ⊥)
     → FollowsRun kind (record { run = []; trie = bytes }) edge (record { run = []; trie = trie })
 follows_text kind bytes rest edge trie same none = record {
   along = λ b run behind has. absurd (none (b ∷ run) behind (same.to (b ∷ run) behind has));
   no_other = λ some. absurd (some refl);
 }
+
+pub follows_plain : (kind : Kind) (bytes rest : List ℕ) (edge : ℕ) (run trie : List ℕ) → run ≡ [] → SameSpan kind bytes rest → ((r t : List ℕ) → MeetsSpan kind rest r t → ⊥)
+    → FollowsRun kind (record { run = []; trie = bytes }) edge (record { run = run; trie = trie })
+follows_plain kind bytes rest edge run trie none same meets =
+    subst (λ r. FollowsRun kind (record { run = []; trie = bytes }) edge (record { run = r; trie = trie })) (sym none) (follows_text kind bytes rest edge trie same meets)
 
 -- the first byte of a span
 pub follows_span : (kind : Kind) (bytes rest run behind : List ℕ) (edge : ℕ) (left trie : List ℕ) → SameSpan kind bytes rest → Begins kind rest (span run behind) → run ≡ edge ∷ left → trie ≡ behind

@@ -15,7 +15,7 @@ use Rattle.zerotrie_core.specs.declared.faults.FaultCause.TheVariants.{NoNode, N
 use Rattle.zerotrie_core.specs.declared.well_formed.Expected.{Expected}
 use Rattle.zerotrie_core.specs.declared.well_formed.Expected.TheVariants.{Anything, NoValue, NoSpan, Something}
 use Rattle.zerotrie_core.specs.WellFormed.{IsWellFormed}
-use Rattle.zerotrie_core.specs.well_formed.Testing.{IsText, Suits}
+use Rattle.zerotrie_core.specs.well_formed.Testing.{IsText, IsAllowed}
 use Rattle.zerotrie_core.specs.listing.Listed.{node_of, is_in_order, target_of}
 use Rattle.zerotrie_core.specs.walk.Visits.{Part, after_node, target_part, target_parts, parts_behind}
 use Rattle.zerotrie_core.specs.fault_search.Rules.{before_of, Keeps, KeepsFirst}
@@ -23,7 +23,7 @@ use Rattle.zerotrie_core.proofs.NodeLemmas.Nodes.{none_empty, branch_begins}
 use Rattle.zerotrie_core.proofs.NumberLemmas.Numbers.{IsBytes, some_bytes}
 use Rattle.zerotrie_core.proofs.NodeLemmas.Read.{node_begun, node_found, InSome, by_test}
 use Rattle.zerotrie_core.proofs.WellFormedLemmas.Depth.{deep_no_node, each_at}
-use Rattle.zerotrie_core.proofs.WellFormedLemmas.Steps.{value_first, literal_suits, value_onward, literal_onward, span_onward, span_high, span_unfit}
+use Rattle.zerotrie_core.proofs.WellFormedLemmas.Steps.{value_first, literal_allowed, value_reduces, literal_reduces, span_reduces, span_high, span_unfit}
 use Rattle.zerotrie_core.proofs.WellFormedLemmas.Pieces.{piece_is}
 use Rattle.zerotrie_core.proofs.WellFormedLemmas.Branches.{opens_on, table_long, no_table, no_width, no_order}
 
@@ -66,29 +66,29 @@ after_span NoValue is = absurd (cc)
 after_span NoSpan is = refl
 after_span Something is = absurd (cc)
 
-may_end : (e : Expected) → Suits e [] → faults.MustGoOn (before_of e) → ⊥
-may_end Anything suits on = on
-may_end NoValue suits on = on
-may_end NoSpan suits on = suits.0 refl
-may_end Something suits on = suits refl
+may_end : (e : Expected) → IsAllowed e [] → faults.MustGoOn (before_of e) → ⊥
+may_end Anything allowed on = on
+may_end NoValue allowed on = on
+may_end NoSpan allowed on = allowed.0 refl
+may_end Something allowed on = allowed refl
 
 -- where no node is read none begins
 pub none_read : (kind : Kind) (bytes : List ℕ) (s : Shape) → node_of kind bytes ≡ None → Begins kind bytes s → ⊥
 none_read kind bytes s none b = let e = sym (node_begun kind bytes s b) ∙ none in cc
 
-pub branch_suits : (kind : Kind) (n w : ℕ) (table behind : List ℕ) (e : Expected) (bytes : List ℕ) → BeginsBranch kind bytes n w table behind → Suits e bytes
-branch_suits kind n w table behind e [] b = absurd (some_bytes 32 3 _ b.body b.begins)
-branch_suits kind n w table behind Anything (lead ∷ rest) b = tt
-branch_suits kind n w table behind NoValue (lead ∷ rest) b = let high = branch_begins _ lead rest b.body b.begins in λ four. omega arith
-branch_suits kind n w table behind NoSpan (lead ∷ rest) b = let high = branch_begins _ lead rest b.body b.begins in (λ none. cc, λ five. omega arith)
-branch_suits kind n w table behind Something (lead ∷ rest) b = λ none. cc
+pub branch_allowed : (kind : Kind) (n w : ℕ) (table behind : List ℕ) (e : Expected) (bytes : List ℕ) → BeginsBranch kind bytes n w table behind → IsAllowed e bytes
+branch_allowed kind n w table behind e [] b = absurd (some_bytes 32 3 _ b.body b.begins)
+branch_allowed kind n w table behind Anything (lead ∷ rest) b = tt
+branch_allowed kind n w table behind NoValue (lead ∷ rest) b = let high = branch_begins _ lead rest b.body b.begins in λ four. omega arith
+branch_allowed kind n w table behind NoSpan (lead ∷ rest) b = let high = branch_begins _ lead rest b.body b.begins in (λ none. cc, λ five. omega arith)
+branch_allowed kind n w table behind Something (lead ∷ rest) b = λ none. cc
 
 -- in a kind without spans no node begins where one would stand
 none_there : (kind : Kind) (bytes : List ℕ) → has_spans kind ≡ false → (NoSpanFirst bytes → ⊥) → (s : Shape) → Begins kind bytes s → ⊥
 none_there kind bytes spans first (value v rest) b = first (value_first v bytes rest b).1
-none_there kind bytes spans first (literal c rest) b = first (literal_suits kind c rest NoSpan bytes b).1
+none_there kind bytes spans first (literal c rest) b = first (literal_allowed kind c rest NoSpan bytes b).1
 none_there kind bytes spans first (span run rest) b = let is = b.0 in cc
-none_there kind bytes spans first (branch n w table behind) b = first (branch_suits kind n w table behind NoSpan bytes b).1
+none_there kind bytes spans first (branch n w table behind) b = first (branch_allowed kind n w table behind NoSpan bytes b).1
 
 not_empty : (bytes : List ℕ) → (NoSpanFirst bytes → ⊥) → bytes ≡ [] → ⊥
 not_empty bytes first none = first (subst NoSpanFirst (sym none) tt)
@@ -140,30 +140,30 @@ expected_of a_value = NoValue
 expected_of a_span = NoSpan
 expected_of a_byte = Something
 
-no_end : (before : Before) (bytes : List ℕ) → bytes ≡ [] → faults.MustGoOn before → Suits (expected_of before) bytes → ⊥
-no_end nothing bytes none on suits = on
-no_end a_value bytes none on suits = on
-no_end a_span bytes none on suits = suits.0 none
-no_end a_byte bytes none on suits = suits none
+no_end : (before : Before) (bytes : List ℕ) → bytes ≡ [] → faults.MustGoOn before → IsAllowed (expected_of before) bytes → ⊥
+no_end nothing bytes none on allowed = on
+no_end a_value bytes none on allowed = on
+no_end a_span bytes none on allowed = allowed.0 none
+no_end a_byte bytes none on allowed = allowed none
 
 -- a text breaks no rule at its front
-no_text_fails : (kind : Kind) (before : Before) (bytes : List ℕ) (cause : FaultCause) → Fails kind before bytes cause → Suits (expected_of before) bytes → IsText kind bytes → ⊥
-no_text_fails kind before bytes NoNode fails suits text = fails.0 (deep_no_node text.1 fails.1).0
-no_text_fails kind before bytes NoSpans fails suits text = not_empty bytes fails.1 (deep_no_node text.1 (none_there kind bytes fails.0 fails.1)).0
-no_text_fails kind before bytes UnexpectedEnd fails suits text = no_end before bytes fails.0 fails.1 suits
-no_text_fails kind before bytes ValueAfterValue fails suits text =
-    (value_first fails.1.0 bytes fails.1.1 fails.1.2).2 (subst (λ x. Suits (expected_of x) bytes) fails.0 suits)
-no_text_fails kind before bytes SpanAfterSpan fails suits text =
-    span_unfit kind fails.1.0 fails.1.1 NoSpan (λ other. other refl) bytes fails.1.2 (subst (λ x. Suits (expected_of x) bytes) fails.0 suits)
-no_text_fails kind before bytes EmptySpan fails suits text = (span_high kind [] fails.0 bytes fails.1 text).0 refl
-no_text_fails kind before bytes AsciiInSpan fails suits text = fails.4 (span_high kind fails.0 fails.1 bytes fails.2 text).1
-no_text_fails kind before bytes WrongTable fails suits text = no_table kind fails.0 fails.1 fails.2 fails.3 (λ long has. fails.5 has) bytes fails.4 text
-no_text_fails kind before bytes WrongWidth fails suits text = no_width kind fails.0 fails.1 fails.2 fails.3 fails.5 bytes fails.4 text
-no_text_fails kind before bytes WrongOffsets fails suits text = no_order kind fails.0 fails.1 fails.2 fails.3 fails.5 bytes fails.4 text
+no_text_fails : (kind : Kind) (before : Before) (bytes : List ℕ) (cause : FaultCause) → Fails kind before bytes cause → IsAllowed (expected_of before) bytes → IsText kind bytes → ⊥
+no_text_fails kind before bytes NoNode fails allowed text = fails.0 (deep_no_node text.1 fails.1).0
+no_text_fails kind before bytes NoSpans fails allowed text = not_empty bytes fails.1 (deep_no_node text.1 (none_there kind bytes fails.0 fails.1)).0
+no_text_fails kind before bytes UnexpectedEnd fails allowed text = no_end before bytes fails.0 fails.1 allowed
+no_text_fails kind before bytes ValueAfterValue fails allowed text =
+    (value_first fails.1.0 bytes fails.1.1 fails.1.2).2 (subst (λ x. IsAllowed (expected_of x) bytes) fails.0 allowed)
+no_text_fails kind before bytes SpanAfterSpan fails allowed text =
+    span_unfit kind fails.1.0 fails.1.1 NoSpan (λ other. other refl) bytes fails.1.2 (subst (λ x. IsAllowed (expected_of x) bytes) fails.0 allowed)
+no_text_fails kind before bytes EmptySpan fails allowed text = (span_high kind [] fails.0 bytes fails.1 text).0 refl
+no_text_fails kind before bytes AsciiInSpan fails allowed text = fails.4 (span_high kind fails.0 fails.1 bytes fails.2 text).1
+no_text_fails kind before bytes WrongTable fails allowed text = no_table kind fails.0 fails.1 fails.2 fails.3 (λ long has. fails.5 has) bytes fails.4 text
+no_text_fails kind before bytes WrongWidth fails allowed text = no_width kind fails.0 fails.1 fails.2 fails.3 fails.5 bytes fails.4 text
+no_text_fails kind before bytes WrongOffsets fails allowed text = no_order kind fails.0 fails.1 fails.2 fails.3 fails.5 bytes fails.4 text
 
 -- a part is a text that may stand after this
 abbrev IsTextAfter : Kind → Before → Part → Type 0
-IsTextAfter kind before at = Suits (expected_of before) at.bytes × IsText kind at.bytes
+IsTextAfter kind before at = IsAllowed (expected_of before) at.bytes × IsText kind at.bytes
 
 -- the targets of a text
 targets_text : (kind : Kind) (at : Part) (n w : ℕ) (table behind : List ℕ) → BeginsBranch kind at.bytes n w table behind → IsText kind at.bytes → (k : ℕ) → k ≤ n → All (IsTextAfter kind a_byte) (target_parts at n w behind k)
@@ -185,12 +185,12 @@ one_text kind before at text = All-cons (IsTextAfter kind before) at [] text (Al
 
 -- and what follows its first node
 behind_text : (kind : Kind) (at : Part) (s : Shape) → Begins kind at.bytes s → IsText kind at.bytes → All (IsTextAfter kind (after s)) (parts_behind at s)
-behind_text kind at (value v rest) b text = let leads = (value_onward kind v rest at.bytes b).there text.0 text.1 in one_text kind a_value (after_node at rest) (leads.suits, (leads.below, leads.inner))
-behind_text kind at (literal c rest) b text = let leads = (literal_onward kind c rest at.bytes b).there text.0 text.1 in one_text kind a_byte (after_node at rest) (leads.suits, (leads.below, leads.inner))
+behind_text kind at (value v rest) b text = let leads = (value_reduces kind v rest at.bytes b).there text.0 text.1 in one_text kind a_value (after_node at rest) (leads.allowed, (leads.below, leads.inner))
+behind_text kind at (literal c rest) b text = let leads = (literal_reduces kind c rest at.bytes b).there text.0 text.1 in one_text kind a_byte (after_node at rest) (leads.allowed, (leads.below, leads.inner))
 behind_text kind at (span run rest) b text =
     let high = span_high kind run rest at.bytes b text in
-    let leads = (span_onward kind run rest high.0 high.1 at.bytes b).there text.0 text.1 in
-    one_text kind a_span (after_node at rest) (leads.suits, (leads.below, leads.inner))
+    let leads = (span_reduces kind run rest high.0 high.1 at.bytes b).there text.0 text.1 in
+    one_text kind a_span (after_node at rest) (leads.allowed, (leads.below, leads.inner))
 behind_text kind at (branch n w table behind) b text = targets_text kind at n w table behind b text n (omega arith)
 
 -- where a fault is there is no text

@@ -13,7 +13,7 @@ use Rattle.zerotrie_core.specs.Faults.FaultIn.{here, further}
 use Rattle.zerotrie_core.specs.declared.well_formed.Expected.{Expected}
 use Rattle.zerotrie_core.specs.declared.well_formed.Expected.TheVariants.{Anything, Something}
 use Rattle.zerotrie_core.specs.well_formed.Branching.{InOrder, HasFront}
-use Rattle.zerotrie_core.specs.well_formed.Testing.{IsText, Suits}
+use Rattle.zerotrie_core.specs.well_formed.Testing.{IsText, IsAllowed}
 use Rattle.zerotrie_core.specs.listing.Listed.{node_of, target_of}
 use Rattle.zerotrie_core.specs.walk.Seen.{part_of}
 use Rattle.zerotrie_core.specs.declared.walk.part.Part as parts
@@ -23,10 +23,10 @@ use Rattle.zerotrie_core.proofs.NodeLemmas.Tables.{table_parts}
 use Rattle.zerotrie_core.proofs.NodeLemmas.Read.{InSome}
 use Rattle.zerotrie_core.proofs.WalkLemmas.Visits.{behind_within}
 use Rattle.zerotrie_core.proofs.WellFormedLemmas.Depth.{each_from}
-use Rattle.zerotrie_core.proofs.WellFormedLemmas.Steps.{value_onward, value_suits, literal_onward, literal_suits, span_onward, span_suits}
+use Rattle.zerotrie_core.proofs.WellFormedLemmas.Steps.{value_reduces, value_allowed, literal_reduces, literal_allowed, span_reduces, span_allowed}
 use Rattle.zerotrie_core.proofs.WellFormedLemmas.Pieces.{pieces, length-pieces, get_or-pieces}
 use Rattle.zerotrie_core.proofs.WellFormedLemmas.Branches.{sound_is}
-use Rattle.zerotrie_core.proofs.FaultLemmas.Rules.{one_node, none_read, branch_suits, end_keeps, node_keeps}
+use Rattle.zerotrie_core.proofs.FaultLemmas.Rules.{one_node, none_read, branch_allowed, end_keeps, node_keeps}
 use Rattle.zerotrie_core.proofs.FaultLemmas.Rows.{InRow, row_earlier, row_more, row_within, work, work-append, next_part, behind_row, behind_work, fault_later}
 
 -- One of the parts has the fault. The first of them stands after this, and each other after the byte of an edge.
@@ -37,7 +37,7 @@ Left kind f before (p ∷ ps) = FaultIn kind f before p ⊎ Left kind f a_byte p
 -- The parts are texts. In the first of them this may stand, and each other is not empty.
 abbrev pub AllTexts : Kind → Expected → List Part → Type 0
 AllTexts kind e [] = Unit {0}
-AllTexts kind e (p ∷ ps) = Suits e p.bytes × IsText kind p.bytes × AllTexts kind Something ps
+AllTexts kind e (p ∷ ps) = IsAllowed e p.bytes × IsText kind p.bytes × AllTexts kind Something ps
 
 -- one of these, each of which stands after this, has it
 abbrev AnyHas : Kind → Fault → Before → List Part → Type 0
@@ -145,12 +145,12 @@ branch_text kind bytes n w table behind b front order each =
 
 -- a node that keeps the rules, with texts behind it, is a text
 node_text : (kind : Kind) (e : Expected) (at : Part) (s : Shape) (qs : List Part) → Begins kind at.bytes s → Keeps kind e s → AllTexts kind (expected_after s) (parts_behind at s ++ qs) → AllTexts kind e (at ∷ qs)
-node_text kind e at (value v rest) qs b keeps all = (value_suits kind v rest e keeps at.bytes b, (value_onward kind v rest at.bytes b).back all.0 all.1, all.2)
-node_text kind e at (literal c rest) qs b keeps all = (literal_suits kind c rest e at.bytes b, (literal_onward kind c rest at.bytes b).back all.0 all.1, all.2)
-node_text kind e at (span run rest) qs b keeps all = (span_suits kind run rest e keeps.0 at.bytes b, (span_onward kind run rest keeps.1 keeps.2 at.bytes b).back all.0 all.1, all.2)
+node_text kind e at (value v rest) qs b keeps all = (value_allowed kind v rest e keeps at.bytes b, (value_reduces kind v rest at.bytes b).back all.0 all.1, all.2)
+node_text kind e at (literal c rest) qs b keeps all = (literal_allowed kind c rest e at.bytes b, (literal_reduces kind c rest at.bytes b).back all.0 all.1, all.2)
+node_text kind e at (span run rest) qs b keeps all = (span_allowed kind run rest e keeps.0 at.bytes b, (span_reduces kind run rest keeps.1 keeps.2 at.bytes b).back all.0 all.1, all.2)
 node_text kind e at (branch n w table behind) qs b keeps all =
     let split = targets_texts kind at n w behind keeps.1 qs n (omega arith) all in (
-      branch_suits kind n w table behind e at.bytes b,
+      branch_allowed kind n w table behind e at.bytes b,
       branch_text kind at.bytes n w table behind b keeps.0 keeps.1
           (λ i h. (let back : n - suc (n - suc i) ≡ i = omega arith in subst (λ x. IsTarget kind (target_of n w behind x)) back (split.0 (n - suc i) (omega arith)))),
       split.1,
@@ -179,7 +179,7 @@ searched_end kind bytes e at qs so_far none keeps = record {
     | inl inside ↦ absurd (none_inner inside (end_keeps kind e at.bytes f.cause none keeps) none)
     | inr more ↦ more
   ]);
-  back = λ all. so_far.back (subst (Suits e) (sym keeps.0) keeps.1, subst (IsText kind) (sym keeps.0) ([], texts.Lists.nothing), all);
+  back = λ all. so_far.back (subst (IsAllowed e) (sym keeps.0) keeps.1, subst (IsText kind) (sym keeps.0) ([], texts.Lists.nothing), all);
   row = row_earlier (at.place + length at.bytes) 0 (length bytes) qs (omega arith) so_far.row.1;
 }
 

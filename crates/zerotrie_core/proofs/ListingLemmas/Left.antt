@@ -1,5 +1,5 @@
 -- What is left of a listing, as it goes from node to node.
-use Rattle.std.proofs.Common.{◌≡◌, ℕ, zero, suc, ◌+◌, ◌-◌, ◌<◌, ◌≤◌, List, [], ◌∷◌, ◌++◌, length, refl, sym, ◌∙◌, ap, subst, arith, Option, Some, None, Bool, true, false, take, drop, inl, inr, ◌⊎◌, length-append, append_assoc}
+use Rattle.std.proofs.Common.{◌≡◌, ℕ, suc, ◌+◌, ◌-◌, ◌<◌, ◌≤◌, List, [], ◌∷◌, ◌++◌, length, refl, sym, ◌∙◌, ap, subst, arith, Option, Some, None, Bool, true, false, take, drop, inl, inr, ◌⊎◌, length-append, append_assoc}
 use Rattle.std.specs.Prelude.{slice_index, if◌then◌else◌, IsTrue}
 use Rattle.std.proofs.lemmas.Bool.{cases_lt}
 use Rattle.std.specs.Borrow.{Bor}
@@ -356,23 +356,16 @@ lies_part tail targets target from to lies low high is =
     ∙ ap (λ m. take m rest) (sym len)
 
 -- Literals that were copied with the bytes behind them.
-pub moves_sixteen : (rest tail key rest' key' sixteen : List ℕ) (n first : ℕ) → rest ≡ take (length rest) tail → sixteen ≡ take 16 tail → 0 < n → n ≤ 16 → n ≤ length rest
-    → slice_index rest 0 < 128 → ((k : ℕ) → k < first → k < 16 → slice_index sixteen k < 128) → ((k : ℕ) → 0 < k → k < n → k < first)
+pub moves_sixteen : (rest tail key rest' key' sixteen : List ℕ) (n : ℕ) → rest ≡ take (length rest) tail → sixteen ≡ take 16 tail → 0 < n → n ≤ 16 → n ≤ length rest
+    → ((k : ℕ) → k < n → slice_index rest k < 128)
     → rest' ≡ drop n rest → key' ≡ take (length key + n) (key ++ sixteen) → MovesLiterals rest key rest' key'
-moves_sixteen rest tail key rest' key' sixteen n first lies is some most within zeroth literals below rest_is key_is =
+moves_sixteen rest tail key rest' key' sixteen n lies is some most within low rest_is key_is =
     let len : length (take n rest) ≡ n = length-take-le n rest within in
     let same : take n sixteen ≡ take n rest = ap (take n) is ∙ take-take n 16 tail most ∙ sym (take-take n (length rest) tail within) ∙ ap (take n) (sym lies) in
     record {
       run = take n rest;
       some = omega arith;
-      literal = λ k h. subst (λ b. b < 128) (sym (get_or-take n rest k 0 (omega arith))) (by k (omega arith));
+      literal = λ k h. subst (λ b. b < 128) (sym (get_or-take n rest k 0 (omega arith))) (low k (omega arith));
       rest_is = sym (take-append-drop n rest) ∙ ap (λ x. take n rest ++ x) (sym rest_is);
       key_is = key_is ∙ take-append-add key sixteen n ∙ ap (λ x. key ++ x) same;
     }
-  where
-    by : (k : ℕ) → k < n → slice_index rest k < 128
-    by zero h = zeroth
-    by (suc k) h =
-        let at : slice_index sixteen (suc k) ≡ slice_index rest (suc k) =
-        ap (λ xs. slice_index xs (suc k)) is ∙ get_or-take 16 tail (suc k) 0 (omega arith) ∙ sym (get_or-take (length rest) tail (suc k) 0 (omega arith)) ∙ ap (λ xs. slice_index xs (suc k)) (sym lies) in
-        subst (λ b. b < 128) at (literals (suc k) (below (suc k) (omega arith) h) (omega arith))

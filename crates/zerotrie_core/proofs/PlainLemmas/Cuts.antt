@@ -8,7 +8,7 @@ use Rattle.std.proofs.Math.Seq.{drop-cons}
 use Rattle.zerotrie_core.specs.Numbers.{Spells, extender}
 use Rattle.zerotrie_core.specs.Maps.{Pairs, with_front, Ascends, FirstAbove}
 use Rattle.zerotrie_core.specs.Items.{Items}
-use Rattle.zerotrie_core.specs.plain.Encoding.{pairs_from, Deep, BeginsAll, BeginsNone, IsBranching, Leads, with_bits, weight}
+use Rattle.zerotrie_core.specs.plain.Encoding.{pairs_from, Deep, BeginsAll, BeginsNone, IsBranching, WritesFront, with_bits, weight}
 use Rattle.zerotrie_core.proofs.CanonicalLemmas.Encoded.{above_nil}
 use Rattle.zerotrie_core.proofs.PlainLemmas.Items.{no_item, key_at}
 use Rattle.zerotrie_core.proofs.PlainLemmas.Groups.{Group, Grown, FirstOther, NoneEnds, weight-front, some_long}
@@ -238,8 +238,8 @@ begun at items rest e some = let n = ap length e ∙ length-drop at items in let
 pub deep_rest : (depth at : ℕ) (items rest : Items) → rest ≡ drop at items → Deep depth (drop at items) → Deep depth rest
 deep_rest depth at items rest e = subst (Deep depth) (sym e)
 
-pub leads_rest : (before out : List ℕ) (all : Pairs) (depth at : ℕ) (items rest : Items) → rest ≡ drop at items → Leads before all out (pairs_from depth (drop at items)) → Leads before all out (pairs_from depth rest)
-leads_rest before out all depth at items rest e = subst (λ x. Leads before all out (pairs_from depth x)) (sym e)
+pub leads_rest : (before out : List ℕ) (all : Pairs) (depth at : ℕ) (items rest : Items) → rest ≡ drop at items → WritesFront before all out (pairs_from depth (drop at items)) → WritesFront before all out (pairs_from depth rest)
+leads_rest before out all depth at items rest e = subst (λ x. WritesFront before all out (pairs_from depth x)) (sym e)
 
 pub branching_rest : (depth at : ℕ) (items rest : Items) → rest ≡ drop at items → IsBranching (pairs_from depth (drop at items)) → IsBranching (pairs_from depth rest)
 branching_rest depth at items rest e = subst (λ x. IsBranching (pairs_from depth x)) (sym e)

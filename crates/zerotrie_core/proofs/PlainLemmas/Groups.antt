@@ -10,7 +10,7 @@ use Rattle.zerotrie_core.specs.Texts.{Lists, ListEach}
 use Rattle.zerotrie_core.specs.Texts.Lists.{nothing, value, literal}
 use Rattle.zerotrie_core.specs.Texts.ListEach.{no_edge, edge}
 use Rattle.zerotrie_core.specs.Fits.{OverflowsAt}
-use Rattle.zerotrie_core.specs.plain.Encoding.{AsciiKeys, weight, IsBranching, CannotWrite, TooWide, Writes, Leads, AreTargets}
+use Rattle.zerotrie_core.specs.plain.Encoding.{AsciiKeys, weight, IsBranching, CannotWrite, Overflows, Writes, WritesFront, AreTargets}
 use Rattle.zerotrie_base.specs.declared.error.ZeroTrieBuildError.{ZeroTrieBuildError}
 use Rattle.zerotrie_base.specs.declared.error.ZeroTrieBuildError.TheVariants.{OutOfMemory, CapacityExceeded}
 use Rattle.zerotrie_core.proofs.MapLemmas.Edges.{Rise, residual-append, residual-front, edges_value}
@@ -36,10 +36,10 @@ some_long [] some = absurd (some refl)
 some_long (e ∷ pairs) some = omega arith
 
 -- a branch that is too wide behind a byte
-pub too_wide_front : (b : ℕ) (pairs behind : Pairs) → residual b pairs ≡ behind → TooWide behind → TooWide pairs
+pub too_wide_front : (b : ℕ) (pairs behind : Pairs) → residual b pairs ≡ behind → Overflows behind → Overflows pairs
 too_wide_front b pairs behind e w = (b ∷ w.0, subst (OverflowsAt simple_ascii w.0) (sym e) w.1)
 
-too_wide_value : (v : ℕ) (pairs : Pairs) (front : List ℕ) → OverflowsAt simple_ascii front pairs → TooWide (([], v) ∷ pairs)
+too_wide_value : (v : ℕ) (pairs : Pairs) (front : List ℕ) → OverflowsAt simple_ascii front pairs → Overflows (([], v) ∷ pairs)
 too_wide_value v pairs [] over =
     ([], (subst (λ es. 2 ≤ length es) (sym (edges_value v pairs)) over.0, subst (λ n. 2 ^ 32 ≤ n) (sym (targets_value simple_ascii v pairs)) over.1))
 too_wide_value v pairs (b ∷ front) over = (b ∷ front, over)
@@ -76,7 +76,7 @@ pub writes_nothing : (before : List ℕ) → Writes before before []
 writes_nothing before = record { text = []; lists = nothing; is = sym (bytes_end before) }
 
 -- a value node more
-pub leads_value : (before out out' spelling : List ℕ) (v : ℕ) (all left : Pairs) → Leads before all out (([], v) ∷ left) → SpellsAs value_form v spelling → out' ≡ out ++ spelling → Leads before all out' left
+pub leads_value : (before out out' spelling : List ℕ) (v : ℕ) (all left : Pairs) → WritesFront before all out (([], v) ∷ left) → SpellsAs value_form v spelling → out' ≡ out ++ spelling → WritesFront before all out' left
 leads_value before out out' spelling v all left l s e = record {
   finish = λ after w. l.finish after (record {
     text = spelling ++ w.text;
@@ -90,7 +90,7 @@ leads_value before out out' spelling v all left l s e = record {
 }
 
 -- a literal more
-pub leads_literal : (before out out' : List ℕ) (b : ℕ) (all left : Pairs) → Leads before all out (with_front b left) → (left ≡ [] → ⊥) → out' ≡ out ++ b ∷ [] → Leads before all out' left
+pub leads_literal : (before out out' : List ℕ) (b : ℕ) (all left : Pairs) → WritesFront before all out (with_front b left) → (left ≡ [] → ⊥) → out' ≡ out ++ b ∷ [] → WritesFront before all out' left
 leads_literal before out out' b all left l some e = record {
   finish = λ after w. l.finish after (record {
     text = b ∷ w.text;
@@ -255,7 +255,7 @@ module _ {all : Pairs} {edge_bytes starts target_bytes : List ℕ} {left : Pairs
       ∙ nil_end p
 
   -- a group that is too wide
-  pub group_wide : TooWide p → TooWide all
+  pub group_wide : Overflows p → Overflows all
   group_wide = too_wide_front b all p group_residual
 
   -- one group more
@@ -310,7 +310,7 @@ module _ {all : Pairs} {edge_bytes starts target_bytes : List ℕ} (g : Grown al
       record { count = count; offsets_are = ap (drop 1) g.starts_are ∙ starts_offsets g.texts (omega arith); bytes_are = g.bytes }
 
   -- the targets together are too wide
-  pub grown_wide : 2 ^ 32 ≤ length target_bytes → TooWide all
+  pub grown_wide : 2 ^ 32 ≤ length target_bytes → Overflows all
   grown_wide h =
       let apart = rises_distinct simple_ascii edge_bytes edges_rise in
       let bytes = rise_bytes 0 edge_bytes rise_256 in
@@ -330,11 +330,11 @@ grown_start all edge_bytes starts target_bytes a b c none up ascii =
     subst (λ x. Grown all x starts target_bytes all) (sym a) (subst (λ x. Grown all [] x target_bytes all) (sym b) (subst (λ x. Grown all [] [] x all) (sym c) (grown_none all none up ascii)))
 
 -- a refusal of a group is one of all the pairs
-pub refused_up : (all p : Pairs) (e : ZeroTrieBuildError) → (TooWide p → TooWide all) → CannotWrite p e → CannotWrite all e
+pub refused_up : (all p : Pairs) (e : ZeroTrieBuildError) → (Overflows p → Overflows all) → CannotWrite p e → CannotWrite all e
 refused_up all p e up r = elim r [ inl memory ↦ inl memory | inr wide ↦ inr (wide.0, up wide.1) ]
 
 -- where no pairs are left, the text is whole
-pub leads_end : (before out : List ℕ) (all left : Pairs) → left ≡ [] → Leads before all out left → Writes before out all
+pub leads_end : (before out : List ℕ) (all left : Pairs) → left ≡ [] → WritesFront before all out left → Writes before out all
 leads_end before out all left none l = l.finish out (subst (Writes out out) (sym none) (writes_nothing out))
 
 -- the offsets and the targets as they are passed on
@@ -350,5 +350,5 @@ branch_written texts es os ts head w t is spells =
     ∙ front_written es head w (length es) texts t.count (subst (λ x. IsWidth (length x) w) t.bytes_are is) spells
 
 -- a branch that is not written
-pub refused_branch : (all : Pairs) (e : ZeroTrieBuildError) (total : ℕ) → (2 ^ 32 ≤ total → TooWide all) → (e ≡ OutOfMemory) ⊎ ((e ≡ CapacityExceeded) × (2 ^ 32 ≤ total)) → CannotWrite all e
+pub refused_branch : (all : Pairs) (e : ZeroTrieBuildError) (total : ℕ) → (2 ^ 32 ≤ total → Overflows all) → (e ≡ OutOfMemory) ⊎ ((e ≡ CapacityExceeded) × (2 ^ 32 ≤ total)) → CannotWrite all e
 refused_branch all e total up r = elim r [ inl memory ↦ inl memory | inr wide ↦ inr (wide.0, up wide.1) ]

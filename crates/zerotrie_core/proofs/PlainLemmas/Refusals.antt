@@ -15,7 +15,7 @@ use Rattle.zerotrie_core.specs.Fits.{OverflowsAt, ExceedsCapacity}
 use Rattle.zerotrie_core.specs.Causes.{Cause}
 use Rattle.zerotrie_core.specs.Built.{IsBuilt}
 use Rattle.zerotrie_core.specs.Routes.{ascending, IsRefusal}
-use Rattle.zerotrie_core.specs.plain.Encoding.{pairs_from, AsciiKey, AsciiKeys, Deep, TooWide, CannotWrite, Writes}
+use Rattle.zerotrie_core.specs.plain.Encoding.{pairs_from, AsciiKey, AsciiKeys, Deep, Overflows, CannotWrite, Writes}
 use Rattle.zerotrie_base.specs.declared.error.ZeroTrieBuildError.{ZeroTrieBuildError}
 use Rattle.zerotrie_core.proofs.CanonicalLemmas.Order.{entries-map_of, means_enc}
 use Rattle.zerotrie_core.proofs.CanonicalLemmas.Fitting.{fits_meant}
@@ -87,7 +87,7 @@ ascends_apart (e ∷ pairs) up again =
       | inr later ↦ ascends_apart pairs up.1 later
     ]
 
-too_wide_exceeds : (pairs : Pairs) → Ascends pairs → TooWide pairs → ExceedsCapacity simple_ascii (map_of pairs)
+too_wide_exceeds : (pairs : Pairs) → Ascends pairs → Overflows pairs → ExceedsCapacity simple_ascii (map_of pairs)
 too_wide_exceeds pairs up w = inr (w.0, subst (OverflowsAt simple_ascii w.0) (sym (entries-map_of pairs up)) w.1)
 
 -- what the encoder can't write is refused

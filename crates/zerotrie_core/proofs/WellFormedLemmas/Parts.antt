@@ -11,7 +11,8 @@ use Rattle.zerotrie_core.specs.Branches.{IsTable, table_size}
 use Rattle.zerotrie_core.specs.Branches.IsTable.{sorted, hashed}
 use Rattle.zerotrie_core.specs.Texts.{AreHigh}
 use Rattle.zerotrie_core.specs.Nodes.{begin_of, end_of, targets_behind}
-use Rattle.zerotrie_core.specs.well_formed.Branching.{piece, extent, InOrder, AnswersEach, HasTable}
+use Rattle.zerotrie_core.specs.listing.Listed.{target_of}
+use Rattle.zerotrie_core.specs.well_formed.Branching.{extent, InOrder, AnswersEach, HasTable}
 use Rattle.zerotrie_core.proofs.MapLemmas.Kinds.{hashed_spans, edge_limit_is}
 use Rattle.zerotrie_core.proofs.NumberLemmas.Numbers.{IsBytes}
 
@@ -196,7 +197,7 @@ order_more n w behind index order low high i h = elim (cases_lt i index) [
   | inr past ↦ (let same : index ≡ i = omega arith in subst (λ k. (begin_of n w behind k < end_of n w behind k) × (end_of n w behind k ≤ length (targets_behind n w behind))) same (low, high))
 ]
 
-pub target_long : (n w : ℕ) (behind : List ℕ) (i : ℕ) (target : List ℕ) → begin_of n w behind i ≤ end_of n w behind i → end_of n w behind i ≤ length (targets_behind n w behind) → target ≡ piece n w behind i → length target ≡ extent n w behind i
+pub target_long : (n w : ℕ) (behind : List ℕ) (i : ℕ) (target : List ℕ) → begin_of n w behind i ≤ end_of n w behind i → end_of n w behind i ≤ length (targets_behind n w behind) → target ≡ target_of n w behind i → length target ≡ extent n w behind i
 target_long n w behind i target low high is =
     let rest = length-drop (begin_of n w behind i) (targets_behind n w behind) in
     ap length is ∙ length-take-le (extent n w behind i) (drop (begin_of n w behind i) (targets_behind n w behind)) (omega arith)

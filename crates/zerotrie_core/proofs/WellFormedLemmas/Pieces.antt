@@ -11,7 +11,8 @@ use Rattle.std.proofs.Math.Nat.{pow-suc, mul_comm, mod-lt, mod-eq_of_lt, mul-le-
 use Rattle.zerotrie_core.specs.Branches.{blocks, offsets}
 use Rattle.zerotrie_core.specs.Nodes.{number_from, offset_in, targets_behind, begin_of, end_of}
 use Rattle.zerotrie_core.specs.WellFormed.{greatest, longest_place}
-use Rattle.zerotrie_core.specs.well_formed.Branching.{piece, extent, InOrder, IsLongest}
+use Rattle.zerotrie_core.specs.listing.Listed.{target_of}
+use Rattle.zerotrie_core.specs.well_formed.Branching.{extent, InOrder, IsLongest}
 use Rattle.zerotrie_core.proofs.NumberLemmas.Numbers.{IsBytes}
 use Rattle.zerotrie_core.proofs.NodeLemmas.Offsets.{HasTargets, length-offsets, get_or-offsets, begin_is, end_is, next_end, ends_within, targets_are, target_between}
 
@@ -89,15 +90,15 @@ blocks_from (suc w) numbers bytes h len same =
 
 -- the targets of a branch, by its offsets
 pub pieces : ℕ → ℕ → List ℕ → List (List ℕ)
-pieces n w behind = map (piece n w behind) (range_with_len 0 n)
+pieces n w behind = map (target_of n w behind) (range_with_len 0 n)
 
 pub length-pieces : (n w : ℕ) (behind : List ℕ) → length (pieces n w behind) ≡ n
 unfolding pieces
-length-pieces n w behind = length-map-range_with_len (piece n w behind) 0 n
+length-pieces n w behind = length-map-range_with_len (target_of n w behind) 0 n
 
-pub get_or-pieces : (n w : ℕ) (behind : List ℕ) (i : ℕ) → i < n → get_or (pieces n w behind) i [] ≡ piece n w behind i
+pub get_or-pieces : (n w : ℕ) (behind : List ℕ) (i : ℕ) → i < n → get_or (pieces n w behind) i [] ≡ target_of n w behind i
 unfolding pieces
-get_or-pieces n w behind i h = get_or-map-range_with_len (piece n w behind) 0 n i i [] h (omega arith)
+get_or-pieces n w behind i h = get_or-map-range_with_len (target_of n w behind) 0 n i i [] h (omega arith)
 
 next_concat : (xs : List (List ℕ)) (i : ℕ) → i < length xs → concat (take (suc i) xs) ≡ concat (take i xs) ++ get_or xs i []
 next_concat [] i h = absurd (omega arith)
@@ -130,7 +131,7 @@ module _ (n w : ℕ) (behind : List ℕ) (some : 0 < n) (order : InOrder n w beh
       let is_order = order (suc i) h in
       next_concat (pieces n w behind) (suc i) inside
       ∙ ap (λ x. concat (take (suc i) (pieces n w behind)) ++ x) (get_or-pieces n w behind (suc i) h)
-      ∙ ap (λ x. x ++ piece n w behind (suc i)) (up_to i less ∙ ap (λ k. take k (targets_behind n w behind)) (sym begin))
+      ∙ ap (λ x. x ++ target_of n w behind (suc i)) (up_to i less ∙ ap (λ k. take k (targets_behind n w behind)) (sym begin))
       ∙ join_at (begin_of n w behind (suc i)) (end_of n w behind (suc i)) (targets_behind n w behind) (omega arith)
 
   pub concat_pieces : concat (pieces n w behind) ≡ targets_behind n w behind
@@ -183,7 +184,7 @@ has_pieces n w behind two bytes long short order =
 
 -- targets that a branch has, by its offsets
 module _ {targets : List (List ℕ)} {n w : ℕ} {behind : List ℕ} (has : HasTargets targets n w behind) where
-  pub piece_is : (i : ℕ) → i < n → piece n w behind i ≡ get_or targets i []
+  pub piece_is : (i : ℕ) → i < n → target_of n w behind i ≡ get_or targets i []
   piece_is i h = target_between has i h
 
   pub extent_is : (i : ℕ) → i < n → extent n w behind i ≡ length (get_or targets i [])

@@ -13,8 +13,9 @@ use Rattle.zerotrie_core.specs.Texts.Lists.{branch}
 use Rattle.zerotrie_core.specs.Nodes.{Shape, BeginsBranch, targets_behind, begin_of, end_of, IsTargetResult}
 use Rattle.zerotrie_core.specs.Nodes as shapes
 use Rattle.zerotrie_core.specs.WellFormed.{IsWellFormed, deep, deeps, greatest, one_more_but, IsShallow}
-use Rattle.zerotrie_core.specs.well_formed.Branching.{piece, extent, InOrder, IsLongest, HasFront, IsTarget, IsSound}
-use Rattle.zerotrie_core.specs.well_formed.Testing.{IsText, Leads, IsFirstLonger, AlwaysNoText, AlwaysOnward}
+use Rattle.zerotrie_core.specs.listing.Listed.{target_of}
+use Rattle.zerotrie_core.specs.well_formed.Branching.{extent, InOrder, IsLongest, HasFront, IsTarget, IsSound}
+use Rattle.zerotrie_core.specs.well_formed.Testing.{IsText, HasRest, IsFirstLonger, AlwaysNoText, AlwaysReducesTo}
 use Rattle.zerotrie_core.specs.declared.well_formed.Expected.TheVariants.{Something}
 use Rattle.zerotrie_core.proofs.NodeLemmas.Offsets.{HasTargets, got}
 use Rattle.zerotrie_core.proofs.WellFormedLemmas.Depth.{deep_some, at_place, at_other, greatest_at, length-one_more_but, length-deeps, each_at, each_from, shallow_one, shallow_max, shallow_more}
@@ -33,7 +34,7 @@ pub well_text : {kind : Kind} {bytes : List ℕ} → IsWellFormed kind bytes →
 well_text well = (well.1.pairs, well.1.lists)
 
 -- a target that lies in order is read
-pub target_there : (n w : ℕ) (behind : List ℕ) (i : ℕ) (r : Option (Bor (List ℕ))) → begin_of n w behind i < end_of n w behind i → end_of n w behind i ≤ length (targets_behind n w behind) → IsTargetResult n w behind i r → IsSomeAnd r (λ x. x.now ≡ piece n w behind i)
+pub target_there : (n w : ℕ) (behind : List ℕ) (i : ℕ) (r : Option (Bor (List ℕ))) → begin_of n w behind i < end_of n w behind i → end_of n w behind i ≤ length (targets_behind n w behind) → IsTargetResult n w behind i r → IsSomeAnd r (λ x. x.now ≡ target_of n w behind i)
 target_there n w behind i r low high g = got r (targets_behind n w behind) (begin_of n w behind i) (end_of n w behind i) g (omega arith) high
 
 -- a target that is not there makes the branch none
@@ -108,8 +109,8 @@ pub record Passed (kind : Kind) (n w : ℕ) (behind : List ℕ) (index : ℕ) (l
   pub order : InOrder n w behind index
   pub place : ℕ
   pub is_longest : IsLongest n w behind index place
-  pub is : longest ≡ piece n w behind place
-  pub texts : (i : ℕ) → i < index → (i ≡ place → ⊥) → IsText kind (piece n w behind i)
+  pub is : longest ≡ target_of n w behind place
+  pub texts : (i : ℕ) → i < index → (i ≡ place → ⊥) → IsText kind (target_of n w behind i)
   pub shallow : IsShallow behind most
   pub counts : (edges : List ℕ) (targets : List (List ℕ)) (pairs : Pairs) (each : ListEach kind edges targets pairs) → HasTargets targets n w behind → Reaches (deeps each) index place most
 
@@ -159,12 +160,12 @@ module _ (kind : Kind) (n w : ℕ) (behind : List ℕ) (index : ℕ) (longest ta
   abbrev order' : InOrder n w behind (index + 1)
   order' = order_more n w behind index so_far.order t.some t.within
 
-  piece_len : (i : ℕ) → i < index + 1 → length (piece n w behind i) ≡ extent n w behind i
-  piece_len i h = let o = order' i h in let low = o.0 in target_long n w behind i (piece n w behind i) (omega arith) o.1 refl
+  piece_len : (i : ℕ) → i < index + 1 → length (target_of n w behind i) ≡ extent n w behind i
+  piece_len i h = let o = order' i h in let low = o.0 in target_long n w behind i (target_of n w behind i) (omega arith) o.1 refl
 
   passed_by : (j k : ℕ) (shorter longer : List ℕ) (count : ℕ) → j < index + 1 → (j ≡ k → ⊥) → extent n w behind j ≤ extent n w behind k
       → ((i : ℕ) → i < index + 1 → (i ≡ k → ⊥) → (i ≡ j) ⊎ ((i < index) × (i ≡ so_far.place → ⊥))) → ((i : ℕ) → i < index → (i ≡ so_far.place → ⊥) → i ≡ k → ⊥)
-      → shorter ≡ piece n w behind j → longer ≡ piece n w behind k → IsLongest n w behind (index + 1) k
+      → shorter ≡ target_of n w behind j → longer ≡ target_of n w behind k → IsLongest n w behind (index + 1) k
       → IsText kind shorter → ((pairs : Pairs) (text : Lists kind shorter pairs) → count ≡ deep text) → IsShallow shorter count → Passed kind n w behind (index + 1) longer (max most (count + 1))
   passed_by j k shorter longer count j_in other less split join j_is k_is is_longest text counted shallow = record {
     order = order';
@@ -172,7 +173,7 @@ module _ (kind : Kind) (n w : ℕ) (behind : List ℕ) (index : ℕ) (longest ta
     is_longest = is_longest;
     is = k_is;
     texts = λ i h apart_k. (elim (split i h apart_k) [
-      | inl same ↦ subst (IsText kind) (j_is ∙ ap (piece n w behind) (sym same)) text
+      | inl same ↦ subst (IsText kind) (j_is ∙ ap (target_of n w behind) (sym same)) text
       | inr before ↦ so_far.texts i before.0 before.1
     ]);
     shallow = (
@@ -256,7 +257,7 @@ module _ (kind : Kind) (n w : ℕ) (behind : List ℕ) (index : ℕ) (longest ta
 -- of the longest target so far and the next one, the shorter one is a target, and shorter than all bytes from the edges on
 pub shorter_there : (kind : Kind) (n w : ℕ) (behind : List ℕ) (index : ℕ) (longest target : List ℕ) (most : ℕ) → index < n → n + w * (n - 1) ≤ length behind → 2 ≤ n
     → Passed kind n w behind index longest most → IsTarget n w behind index target → (shorter longer : List ℕ) → IsFirstLonger longest target shorter longer
-    → (i : ℕ) × (i < n) × (shorter ≡ piece n w behind i) × (length shorter < length behind)
+    → (i : ℕ) × (i < n) × (shorter ≡ target_of n w behind i) × (length shorter < length behind)
 shorter_there kind n w behind index longest target most inside long two so_far t shorter longer by =
     let all = targets_shorter n w behind long two in
     let size = target_len n w behind index target t in
@@ -273,7 +274,7 @@ shorter_there kind n w behind index longest target most inside long two so_far t
     ]
 
 -- a target that is no text makes the branch none
-pub no_target : (kind : Kind) (n w : ℕ) (table behind : List ℕ) (index : ℕ) (target : List ℕ) → index < n → target ≡ piece n w behind index → (IsText kind target → ⊥) → AlwaysNoText kind (shapes.Shape.branch n w table behind)
+pub no_target : (kind : Kind) (n w : ℕ) (table behind : List ℕ) (index : ℕ) (target : List ℕ) → index < n → target ≡ target_of n w behind index → (IsText kind target → ⊥) → AlwaysNoText kind (shapes.Shape.branch n w table behind)
 no_target kind n w table behind index target inside is wrong bytes b text =
     let o = opens_on text.1 n w table behind b in
     let has = o.holds.has_targets in
@@ -285,12 +286,12 @@ module _ {kind : Kind} {n w place : ℕ} {table behind : List ℕ} (sound : IsSo
   has_all : HasTargets (pieces n w behind) n w behind
   has_all = sound_targets sound.front sound.in_order long two some
 
-  pub piece_long : (i : ℕ) → i < n → length (piece n w behind i) ≡ extent n w behind i
+  pub piece_long : (i : ℕ) → i < n → length (target_of n w behind i) ≡ extent n w behind i
   piece_long i h = ap length (piece_is has_all i h) ∙ sym (extent_is has_all i h)
 
-  pub goes_on : (longest : List ℕ) (most : ℕ) → longest ≡ piece n w behind place → ((i : ℕ) → i < n → (i ≡ place → ⊥) → IsText kind (piece n w behind i))
+  pub goes_on : (longest : List ℕ) (most : ℕ) → longest ≡ target_of n w behind place → ((i : ℕ) → i < n → (i ≡ place → ⊥) → IsText kind (target_of n w behind i))
       → ((edges : List ℕ) (targets : List (List ℕ)) (pairs : Pairs) (each : ListEach kind edges targets pairs) → HasTargets targets n w behind → Reaches (deeps each) n place most)
-      → AlwaysOnward kind (shapes.Shape.branch n w table behind) longest Something most
+      → AlwaysReducesTo kind (shapes.Shape.branch n w table behind) longest Something most
   goes_on longest most is texts counts bytes b =
       let inside = sound.is_longest.inside in
       record {
@@ -305,9 +306,9 @@ module _ {kind : Kind} {n w place : ℕ} {table behind : List ℕ} (sound : IsSo
             let deep_here = at.deep_is in
             let some = deep_some at.inner in
             let all = greatest_reached ds place most (omega arith) (omega arith) (subst (λ k. Reaches ds k place most) (sym len) (counts o.edges o.targets pairs o.each has)) in
-            subst (λ t. Leads text t Something most) same (record { suits = at.some; below = at.below; inner = at.inner; counts = omega arith })
+            subst (λ t. HasRest text t Something most) same (record { allowed = at.some; below = at.below; inner = at.inner; counts = omega arith })
             );
-        back = λ suits text. (
+        back = λ allowed text. (
             let each = each_from kind (take n behind) (pieces n w behind) (length-pieces n w behind ∙ sym (length-take-le n behind (omega arith))) (λ i l. (
             let h : i < n = (let k = length-pieces n w behind in omega arith) in
             let at = get_or-pieces n w behind i h in
@@ -315,7 +316,7 @@ module _ {kind : Kind} {n w place : ℕ} {table behind : List ℕ} (sound : IsSo
             let size = piece_long i h in (
               (λ none. (let none_long = ap length (sym at ∙ none) in omega arith)),
               subst (IsText kind) (sym at) (elim (eqb_tells i place) [
-                | inl same ↦ subst (λ k. IsText kind (piece n w behind k)) (sym same.1) (subst (IsText kind) is text)
+                | inl same ↦ subst (λ k. IsText kind (target_of n w behind k)) (sym same.1) (subst (IsText kind) is text)
                 | inr other ↦ texts i h other.1
               ]),
             ))) in
@@ -325,7 +326,7 @@ module _ {kind : Kind} {n w place : ℕ} {table behind : List ℕ} (sound : IsSo
 
 -- when all but the longest were tested, the text goes on with it
 pub passed_all : (kind : Kind) (n w : ℕ) (table behind longest : List ℕ) (most : ℕ) → HasFront kind n w table behind → n + w * (n - 1) ≤ length behind → 2 ≤ n → 1 ≤ w
-    → Passed kind n w behind n longest most → AlwaysOnward kind (shapes.Shape.branch n w table behind) longest Something most
+    → Passed kind n w behind n longest most → AlwaysReducesTo kind (shapes.Shape.branch n w table behind) longest Something most
 passed_all kind n w table behind longest most front long two some passed =
     goes_on {place = passed.place} (record { front = front; in_order = passed.order; is_longest = passed.is_longest }) long two some longest most passed.is passed.texts passed.counts
 

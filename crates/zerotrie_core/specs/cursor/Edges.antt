@@ -1,12 +1,14 @@
 -- A step or a probe, past the value in front.
 use Rattle.std.specs.Prelude.{◌≡◌, ◌≢◌, ℕ, List, [], Option, Some, None}
+use Rattle.std.specs.Option.{option_map}
 use Rattle.zerotrie_core.specs.Kind.{Kind}
 use Rattle.zerotrie_core.specs.Maps.{Pairs}
 use Rattle.zerotrie_core.specs.Numbers.{BeginsWith}
 use Rattle.zerotrie_core.specs.Texts.{Lists}
 use Rattle.zerotrie_core.specs.Machine.{behind}
 use Rattle.zerotrie_core.specs.Cursors.{met}
-use Rattle.zerotrie_core.specs.Places.{Place, nowhere, ListsBehind}
+use Rattle.zerotrie_core.specs.Nodes.{Shape, Begins}
+use Rattle.zerotrie_core.specs.Places.{Place, nowhere, ListsBehind, ListsAt, IsStep, IsProbe}
 use Rattle.zerotrie_core.specs.declared.edges.Along as declared
 
 -- no value stands in front of the bytes
@@ -30,3 +32,13 @@ place_after along = record { run = along.run.now; trie = along.trie.now }
 abbrev pub place_along : Option declared.Along → Place
 place_along None = nowhere
 place_along (Some along) = place_after along
+
+-- whichever bytes begin with the node: the edge that is the byte c
+abbrev pub StepsFrom : Kind → Shape → ℕ → Option declared.Along → Type 0
+StepsFrom kind node c found = (bytes : List ℕ) → Begins kind bytes node
+    → IsStep kind (Lists kind bytes) c (option_map (λ a. a.edge) found) (ListsAt kind (place_along found))
+
+-- whichever bytes begin with the node: edge number i, and how many there are
+abbrev pub ProbesFrom : Kind → Shape → ℕ → Option (declared.Along × ℕ) → Type 0
+ProbesFrom kind node i found = (bytes : List ℕ) → Begins kind bytes node
+    → IsProbe (Lists kind bytes) i (option_map {U = ℕ × ℕ} (λ r. (r.0.edge, r.1)) found) (ListsAt kind (place_along (option_map (λ r. r.0) found)))

@@ -6,7 +6,7 @@ use Rattle.zerotrie_core.specs.Nodes.{Shape, Begins}
 use Rattle.zerotrie_core.specs.Nodes.Shape.{value, literal, span, branch}
 use Rattle.zerotrie_core.specs.Faults.{Before, nothing, a_value, a_span, a_byte, Fails, FaultCause}
 use Rattle.zerotrie_core.specs.well_formed.Branching.{HasFront, InOrder}
-use Rattle.zerotrie_core.specs.well_formed.Testing.{Suits}
+use Rattle.zerotrie_core.specs.well_formed.Testing.{IsAllowed}
 use Rattle.zerotrie_core.specs.walk.Visits.{Part, parts_behind}
 use Rattle.zerotrie_core.specs.declared.well_formed.Expected.{Expected}
 use Rattle.zerotrie_core.specs.declared.well_formed.Expected.TheVariants.{Anything, NoValue, NoSpan, Something}
@@ -38,7 +38,7 @@ Keeps kind expected (branch n w table behind) = HasFront kind n w table behind �
 
 -- bytes keep them at their front: by their first node, or they are none and the text may end
 abbrev pub KeepsFirst : Kind → Expected → List ℕ → Option Shape → Type 0
-KeepsFirst kind expected bytes None = (bytes ≡ []) × Suits expected []
+KeepsFirst kind expected bytes None = (bytes ≡ []) × IsAllowed expected []
 KeepsFirst kind expected bytes (Some node) = Keeps kind expected node
 
 -- the parts that follow the first node, and what may stand in the first of them; after none, in the part that is next

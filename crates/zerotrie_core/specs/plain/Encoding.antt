@@ -49,12 +49,12 @@ abbrev pub IsBranching : Pairs → Type 0
 IsBranching pairs = (b : ℕ) (behind : Pairs) → pairs ≢ with_front b behind
 
 -- some branch that the pairs need has more target bytes than an offset reaches
-abbrev pub TooWide : Pairs → Type 0
-TooWide pairs = (front : List ℕ) × OverflowsAt simple_ascii front pairs
+abbrev pub Overflows : Pairs → Type 0
+Overflows pairs = (front : List ℕ) × OverflowsAt simple_ascii front pairs
 
 -- why no text of the pairs is written
 abbrev pub CannotWrite : Pairs → ZeroTrieBuildError → Type 0
-CannotWrite pairs e = (e ≡ OutOfMemory) ⊎ ((e ≡ CapacityExceeded) × TooWide pairs)
+CannotWrite pairs e = (e ≡ OutOfMemory) ⊎ ((e ≡ CapacityExceeded) × Overflows pairs)
 
 -- a text of the pairs was appended
 pub record Writes (before after : List ℕ) (pairs : Pairs) : Type 0 where
@@ -63,9 +63,9 @@ pub record Writes (before after : List ℕ) (pairs : Pairs) : Type 0 where
   pub is : after ≡ before ++ text
 
 -- The first nodes of a text of all the pairs were appended: where a text of those left follows, it is whole.
-pub record Leads (before : List ℕ) (all : Pairs) (out : List ℕ) (left : Pairs) : Type 0 where
+pub record WritesFront (before : List ℕ) (all : Pairs) (out : List ℕ) (left : Pairs) : Type 0 where
   pub finish : (after : List ℕ) → Writes out after left → Writes before after all
-  pub wide : TooWide left → TooWide all
+  pub wide : Overflows left → Overflows all
   pub ascends : Ascends left
   pub ascii : AsciiKeys left
   pub lighter : weight left ≤ weight all

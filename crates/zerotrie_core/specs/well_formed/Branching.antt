@@ -4,17 +4,14 @@ use Rattle.zerotrie_base.specs.Hashes.{number_of}
 use Rattle.zerotrie_core.specs.Kind.{Kind, edge_limit}
 use Rattle.zerotrie_core.specs.Branches.{IsTable, IsWidth, table_size}
 use Rattle.zerotrie_core.specs.Nodes.{targets_behind, begin_of, end_of}
+use Rattle.zerotrie_core.specs.listing.Listed.{target_of}
 use Rattle.std.specs.List.{slice_index}
 
 -- each is a byte
 abbrev pub AreBytes : List ℕ → Type 0
 AreBytes bytes = (i : ℕ) → slice_index bytes i < 256
 
--- target number i of a branch, by its offsets
-abbrev pub piece : ℕ → ℕ → List ℕ → ℕ → List ℕ
-piece n w behind i = take (end_of n w behind i - begin_of n w behind i) (drop (begin_of n w behind i) (targets_behind n w behind))
-
--- how long it is
+-- how long target number i is, by its offsets
 abbrev pub extent : ℕ → ℕ → List ℕ → ℕ → ℕ
 extent n w behind i = end_of n w behind i - begin_of n w behind i
 
@@ -47,7 +44,7 @@ pub record HasFront (kind : Kind) (n w : ℕ) (table behind : List ℕ) : Type 0
 pub record IsTarget (n w : ℕ) (behind : List ℕ) (index : ℕ) (target : List ℕ) : Type 0 where
   pub some : begin_of n w behind index < end_of n w behind index
   pub within : end_of n w behind index ≤ length (targets_behind n w behind)
-  pub is : target ≡ piece n w behind index
+  pub is : target ≡ target_of n w behind index
 
 -- Table, width and offsets are well-formed, and the longest target is at the place.
 pub record IsSound (kind : Kind) (n w : ℕ) (table behind : List ℕ) (place : ℕ) : Type 0 where

@@ -18,45 +18,45 @@ abbrev pub IsText : Kind → List ℕ → Type 0
 IsText kind bytes = (pairs : Pairs) × Lists kind bytes pairs
 
 -- what may stand next in a text
-abbrev pub Suits : Expected → List ℕ → Type 0
-Suits Anything bytes = Unit {0}
-Suits NoValue bytes = NoValueFirst bytes
-Suits NoSpan bytes = (bytes ≢ []) × NoSpanFirst bytes
-Suits Something bytes = bytes ≢ []
+abbrev pub IsAllowed : Expected → List ℕ → Type 0
+IsAllowed Anything bytes = Unit {0}
+IsAllowed NoValue bytes = NoValueFirst bytes
+IsAllowed NoSpan bytes = (bytes ≢ []) × NoSpanFirst bytes
+IsAllowed Something bytes = bytes ≢ []
 
--- The rest of a text suits, and of the calls that the text opens at once, those outside the rest are at most so many.
-pub record Leads {kind : Kind} {bytes : List ℕ} {pairs : Pairs} (text : Lists kind bytes pairs) (rest : List ℕ) (expected : Expected) (most : ℕ) : Type 0 where
-  pub suits : Suits expected rest
+-- The rest of a text may stand there and is one, and of the calls that the text opens at once, those outside the rest are at most so many.
+pub record HasRest {kind : Kind} {bytes : List ℕ} {pairs : Pairs} (text : Lists kind bytes pairs) (rest : List ℕ) (expected : Expected) (most : ℕ) : Type 0 where
+  pub allowed : IsAllowed expected rest
   pub below : Pairs
   pub inner : Lists kind rest below
   pub counts : deep text ≡ max most (deep inner)
 
--- The bytes are a text exactly if the rest is one and suits.
-pub record Onward (kind : Kind) (bytes rest : List ℕ) (expected : Expected) (most : ℕ) : Type 0 where
-  pub there : (pairs : Pairs) (text : Lists kind bytes pairs) → Leads text rest expected most
-  pub back : Suits expected rest → IsText kind rest → IsText kind bytes
+-- The bytes are a text exactly if the rest is one and may stand there.
+pub record ReducesTo (kind : Kind) (bytes rest : List ℕ) (expected : Expected) (most : ℕ) : Type 0 where
+  pub there : (pairs : Pairs) (text : Lists kind bytes pairs) → HasRest text rest expected most
+  pub back : IsAllowed expected rest → IsText kind rest → IsText kind bytes
 
 -- whichever bytes begin with the node
-abbrev pub AlwaysOnward : Kind → Shape → List ℕ → Expected → ℕ → Type 0
-AlwaysOnward kind node rest expected most = (bytes : List ℕ) → Begins kind bytes node → Onward kind bytes rest expected most
+abbrev pub AlwaysReducesTo : Kind → Shape → List ℕ → Expected → ℕ → Type 0
+AlwaysReducesTo kind node rest expected most = (bytes : List ℕ) → Begins kind bytes node → ReducesTo kind bytes rest expected most
 
 abbrev pub AlwaysNoText : Kind → Shape → Type 0
 AlwaysNoText kind node = (bytes : List ℕ) → Begins kind bytes node → IsText kind bytes → ⊥
 
--- what suits begins with the node
-abbrev pub AlwaysSuits : Kind → Shape → Expected → Type 0
-AlwaysSuits kind node expected = (bytes : List ℕ) → Begins kind bytes node → Suits expected bytes
+-- bytes that begin with the node may stand there
+abbrev pub AlwaysAllowed : Kind → Shape → Expected → Type 0
+AlwaysAllowed kind node expected = (bytes : List ℕ) → Begins kind bytes node → IsAllowed expected bytes
 
 -- What a node comes to, where so much was expected.
 abbrev pub Steps : Kind → Shape → Expected → Step → Type 0
-Steps kind node expected Wrong = (bytes : List ℕ) → Begins kind bytes node → Suits expected bytes → IsText kind bytes → ⊥
+Steps kind node expected Wrong = (bytes : List ℕ) → Begins kind bytes node → IsAllowed expected bytes → IsText kind bytes → ⊥
 Steps kind node expected Literals =
     ((bytes : List ℕ) → Begins kind bytes node → (0 < length bytes) × (slice_index bytes 0 < 128))
-    × AlwaysSuits kind node expected
+    × AlwaysAllowed kind node expected
 Steps kind node expected (Over rest next) =
     ((bytes : List ℕ) → Begins kind bytes node → (length rest.now < length bytes) × EndsWith bytes rest.now)
-    × AlwaysSuits kind node expected × AlwaysOnward kind node rest.now next 1
-Steps kind node expected (Behind b) = (node ≡ branch_shape b) × AlwaysSuits kind node expected
+    × AlwaysAllowed kind node expected × AlwaysReducesTo kind node rest.now next 1
+Steps kind node expected (Behind b) = (node ≡ branch_shape b) × AlwaysAllowed kind node expected
 
 -- The bytes begin with a value, and after it stand the bytes after.
 abbrev pub BeginsValue : List ℕ → List ℕ → Type 0

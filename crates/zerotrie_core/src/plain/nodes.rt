@@ -6,6 +6,7 @@ ghost use Rattle.zerotrie_core.specs.Branches.{IsWidth, blocks};
 ghost use Rattle.zerotrie_core.specs.Canonical.{branch_node};
 ghost use Rattle.zerotrie_core.specs.plain.Encoding.{with_bits, AreTargets};
 
+use crate::offsets::least_width;
 use crate::varint::{write_varint_meta2, write_varint_meta3};
 use zerotrie_base::ZeroTrieBuildError;
 
@@ -65,13 +66,8 @@ fn width_of(total: usize) -> Option<usize>
     ensures width { IfSome result (λ w. (w ≤ 3) × IsWidth total w) }
     ensures none { IfNone result (2 ^ 32 ≤ total) }
 {
-    match total {
-        0..=0xFF => Some(0),
-        0x100..=0xFFFF => Some(1),
-        0x1_0000..=0xFF_FFFF => Some(2),
-        0x100_0000..=0xFFFF_FFFF => Some(3),
-        _ => None,
-    }
+    let width = least_width(total);
+    (width <= 3).then_some(width)
 }
 
 /// Writes a branch.

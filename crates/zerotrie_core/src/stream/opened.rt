@@ -7,7 +7,7 @@ ghost use Rattle.zerotrie_core.specs.listing.Runs.{EndsWith};
 
 use crate::branch::Branch;
 use crate::here::Here;
-use crate::offsets::offset_at;
+use crate::offsets::{begin_at, end_at, offsets_and_targets};
 
 /// A branch with targets to come: all its bytes from the edges on, all of the text from its first target on, its edge
 /// of the next target and where this one begins, and how much of the prefix stands in front of it.
@@ -55,11 +55,9 @@ impl<'a> OpenBranch<'a> {
         ensures begin { result.begin ≡ 0 }
         ensures depth { result.depth ≡ depth }
     {
-        let (_, body) = branch.behind.split_at(branch.edges);
-        let (_, targets) = body.split_at(branch.width * (branch.edges - 1));
         OpenBranch {
             behind: branch.behind,
-            tail: here.behind(targets).tail,
+            tail: here.behind(branch.targets()).tail,
             edges: branch.edges,
             width: branch.width,
             next: 0,
@@ -78,23 +76,10 @@ impl<'a> OpenBranch<'a> {
         ensures begin { result.begin ≡ begin_of self.entry.edges self.entry.width self.entry.behind.now place }
         ensures depth { result.depth ≡ self.entry.depth }
     {
-        let count = self.edges - 1;
-        let (_, body) = self.behind.split_at(self.edges);
-        let (table, _) = body.split_at(self.width * count);
-        let begin = if place == 0 {
-            0
-        } else {
-            offset_at(table, place - 1, count, self.width)
-        };
-        OpenBranch {
-            behind: self.behind,
-            tail: self.tail,
-            edges: self.edges,
-            width: self.width,
-            next: place,
-            begin,
-            depth: self.depth,
-        }
+        let mut at = self;
+        at.next = place;
+        at.begin = begin_at(self.behind, self.edges, self.width, place);
+        at
     }
 
     /// Whether targets are left.
@@ -113,16 +98,12 @@ impl<'a> OpenBranch<'a> {
         ensures { IsTargetResult self.now.edges self.now.width self.now.behind.now self.now.next
             (option_map (λ here. here.rest) result) }
     {
-        let count = self.edges - 1;
-        let (_, body) = self.behind.split_at(self.edges);
-        let (table, targets) = body.split_at(self.width * count);
-        let end = if self.next < count {
-            offset_at(table, self.next, count, self.width)
-        } else {
-            targets.len()
+        let (_, rest) = offsets_and_targets(self.behind, self.edges, self.width);
+        let end = end_at(self.behind, self.edges, self.width, self.next);
+        let targets = Here {
+            rest,
+            tail: self.tail,
         };
-        let target = targets.get(self.begin..end)?;
-        let (_, tail) = self.tail.split_at(self.begin);
-        Some(Here { rest: target, tail })
+        targets.part(self.begin, end)
     }
 }

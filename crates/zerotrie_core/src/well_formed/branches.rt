@@ -14,6 +14,7 @@ use crate::branch::Branch;
 use crate::fold::folded;
 use crate::here::Here;
 use crate::lanes::rising_in_17;
+use crate::offsets::least_width;
 use crate::options::ZeroTrieWithOptions;
 use zerotrie_base::PerfectByteHashMap;
 
@@ -79,14 +80,6 @@ pub(crate) fn has_table<K: ZeroTrieWithOptions>(branch: &Branch<'_>, tail: &[u8]
     } else {
         is_perfect(branch.table, edges)
     }
-}
-
-/// The width field of a branch whose targets have this number of bytes together.
-fn least_width(total: usize) -> usize
-    ensures width { IsWidth total result }
-    ensures small { result ≤ 7 }
-{
-    total.max(1).ilog2() as usize / 8
 }
 
 /// Whether offsets of this many bytes have the width that the targets after them need.

@@ -1,11 +1,11 @@
-use Rattle.std.proofs.Common.{refl, ℕ, [], Some, None, sym, subst, arith}
+use Rattle.std.proofs.Common.{refl, ℕ, [], None}
 use Rattle.std.specs.Option.{option_map}
 use Rattle.zerotrie_core.specs.Texts.{Lists}
-use Rattle.zerotrie_core.specs.Places.{ListsAt, IsProbe}
+use Rattle.zerotrie_core.specs.Places.{ListsAt}
 use Rattle.zerotrie_core.specs.cursor.Edges.{place_along}
-use Rattle.zerotrie_core.proofs.CursorLemmas.Calls.{edges_past, probe_over, nothing_probes, literal_number, literal_past_number, span_probes, branch_number, branch_past_number, branch_no_target}
+use Rattle.zerotrie_core.proofs.CursorLemmas.Calls.{edges_past, probe_over, nothing_probes, span_probes}
 use Rattle.std.proofs.lemmas.Option.{IfSome_then}
-use Rattle.zerotrie_core.proofs.CursorLemmas.Runs.{same_span, same_after, literal_meets, branch_meets, follows_text, follows_span}
+use Rattle.zerotrie_core.proofs.CursorLemmas.Runs.{same_span, same_after, literal_meets, branch_meets, follows_plain, follows_span}
 use Rattle.zerotrie_core.proofs.edges.edge_numbered.Goals as goal
 
 pub loop-node-preserved : goal.loop-node-preserved
@@ -24,19 +24,13 @@ loop-node-init g c = record {
   span = same_span g.K.ZeroTrieWithOptions.kind c.args.bytes.now;
 }
 
-pub returns-then-index-gt0-clause-probe : goal.returns-then-index-gt0-clause-probe
-returns-then-index-gt0-clause-probe g c =
-    let kind = g.K.ZeroTrieWithOptions.kind in
-    let begins = rw c.in-Literal.is at c.in-Some.ensures.some in
-    probe_over kind c.args.bytes.now c.loop-node.rest.now c.args.index None (Lists kind []) c.loop-node.invariant.edges
-    (literal_past_number kind c.loop-node.rest.now c.in-Literal.edge c.in-Literal.trie.now begins c.args.index (λ e. omega arith))
-
 pub returns-in-Literal-clause-probe : goal.returns-in-Literal-clause-probe
 returns-in-Literal-clause-probe g c =
     let kind = g.K.ZeroTrieWithOptions.kind in
     let begins = rw c.in-Literal.is at c.in-Some.ensures.some in
-    probe_over kind c.args.bytes.now c.loop-node.rest.now c.args.index (Some (c.in-Literal.edge, 1)) (Lists kind c.in-Literal.trie.now) c.loop-node.invariant.edges
-    (literal_number kind c.loop-node.rest.now c.in-Literal.edge c.in-Literal.trie.now begins c.args.index (omega arith))
+    let found = c.literal_numbered.result in
+    probe_over kind c.args.bytes.now c.loop-node.rest.now c.args.index (option_map {U = ℕ × ℕ} (λ r. (r.0.edge, r.1)) found) (ListsAt kind (place_along (option_map (λ r. r.0) found))) c.loop-node.invariant.edges
+    (c.literal_numbered.ensures.probe kind c.loop-node.rest.now begins)
 
 pub returns-in-Span-clause-probe : goal.returns-in-Span-clause-probe
 returns-in-Span-clause-probe g c =
@@ -47,32 +41,13 @@ returns-in-Span-clause-probe g c =
     probe_over kind c.args.bytes.now c.loop-node.rest.now c.args.index answer (ListsAt kind place) c.loop-node.invariant.edges
     (span_probes kind c.loop-node.rest.now c.in-Span.run'.now c.in-Span.trie.now c.args.index answer (ListsAt kind place) begins (c.run_edge_numbered.ensures.probe kind))
 
-pub returns-then-index-branch-clause-probe : goal.returns-then-index-branch-clause-probe
-returns-then-index-branch-clause-probe g c =
-    let kind = g.K.ZeroTrieWithOptions.kind in
-    let begins = rw c.in-Branch.is at c.in-Some.ensures.some in
-    let b = c.in-Branch.branch in
-    probe_over kind c.args.bytes.now c.loop-node.rest.now c.args.index None (Lists kind []) c.loop-node.invariant.edges
-    (branch_past_number kind c.loop-node.rest.now b.edges b.width b.table.now b.behind.now begins c.args.index (omega arith))
-
-pub returns-in_err-trie-in-Branch-clause-probe : goal.returns-in_err-trie-in-Branch-clause-probe
-returns-in_err-trie-in-Branch-clause-probe g c =
-    let kind = g.K.ZeroTrieWithOptions.kind in
-    let begins = rw c.in-Branch.is at c.in-Some.ensures.some in
-    let b = c.in-Branch.branch in
-    rw c.from_residual.ensures
-    (probe_over kind c.args.bytes.now c.loop-node.rest.now c.args.index None (Lists kind []) c.loop-node.invariant.edges
-    (branch_no_target kind c.loop-node.rest.now b.edges b.width b.table.now b.behind.now begins c.args.index (omega arith) c.in_err-trie-in-Branch.ensures))
-
 pub returns-in-Branch-clause-probe : goal.returns-in-Branch-clause-probe
 returns-in-Branch-clause-probe g c =
     let kind = g.K.ZeroTrieWithOptions.kind in
     let begins = rw c.in-Branch.is at c.in-Some.ensures.some in
-    let b = c.in-Branch.branch in
-    let trie = c.in_ok-trie-in-Branch.trie in
-    probe_over kind c.args.bytes.now c.loop-node.rest.now c.args.index (Some (c.edge_at-edge.result, b.edges)) (Lists kind trie.now) c.loop-node.invariant.edges
-    (subst (λ e. IsProbe (Lists kind c.loop-node.rest.now) c.args.index (Some (e, b.edges)) (Lists kind trie.now)) (sym c.edge_at-edge.ensures)
-    (branch_number kind c.loop-node.rest.now b.edges b.width b.table.now b.behind.now begins c.args.index trie (omega arith) c.in_ok-trie-in-Branch.ensures))
+    let found = c.branch_edge_numbered.result in
+    probe_over kind c.args.bytes.now c.loop-node.rest.now c.args.index (option_map {U = ℕ × ℕ} (λ r. (r.0.edge, r.1)) found) (ListsAt kind (place_along (option_map (λ r. r.0) found))) c.loop-node.invariant.edges
+    (c.branch_edge_numbered.ensures.probe kind c.loop-node.rest.now begins)
 
 pub returns-clause-probe : goal.returns-clause-probe
 returns-clause-probe g c =
@@ -84,8 +59,9 @@ pub returns-in-Literal-clause-run : goal.returns-in-Literal-clause-run
 returns-in-Literal-clause-run g c =
     let kind = g.K.ZeroTrieWithOptions.kind in
     let begins = rw c.in-Literal.is at c.in-Some.ensures.some in
-    follows_text kind c.args.bytes.now c.loop-node.rest.now c.in-Literal.edge c.in-Literal.trie.now c.loop-node.invariant.span
-    (λ r t. literal_meets kind c.loop-node.rest.now c.in-Literal.edge c.in-Literal.trie.now r t begins)
+    IfSome_then c.literal_numbered.result c.literal_numbered.ensures.run
+    (λ r none. follows_plain kind c.args.bytes.now c.loop-node.rest.now r.0.edge r.0.run.now r.0.trie.now none c.loop-node.invariant.span
+    (λ run t. literal_meets kind c.loop-node.rest.now c.in-Literal.edge c.in-Literal.trie.now run t begins))
 
 pub returns-in-Span-clause-run : goal.returns-in-Span-clause-run
 returns-in-Span-clause-run g c =
@@ -99,5 +75,6 @@ returns-in-Branch-clause-run g c =
     let kind = g.K.ZeroTrieWithOptions.kind in
     let begins = rw c.in-Branch.is at c.in-Some.ensures.some in
     let b = c.in-Branch.branch in
-    follows_text kind c.args.bytes.now c.loop-node.rest.now c.edge_at-edge.result c.in_ok-trie-in-Branch.trie.now c.loop-node.invariant.span
-    (λ r t. branch_meets kind c.loop-node.rest.now b.edges b.width b.table.now b.behind.now r t begins)
+    IfSome_then c.branch_edge_numbered.result c.branch_edge_numbered.ensures.run
+    (λ r none. follows_plain kind c.args.bytes.now c.loop-node.rest.now r.0.edge r.0.run.now r.0.trie.now none c.loop-node.invariant.span
+    (λ run t. branch_meets kind c.loop-node.rest.now b.edges b.width b.table.now b.behind.now run t begins))

@@ -1,12 +1,6 @@
 use Rattle.zerotrie_core.proofs.NodeLemmas.Nodes.{none_by}
-use Rattle.zerotrie_core.proofs.FaultLemmas.Rules.{no_value, some_by}
+use Rattle.zerotrie_core.proofs.FaultLemmas.Rules.{some_by}
 use Rattle.zerotrie_core.proofs.faults.node_fault.Goals as goal
-
-pub returns-else-takes_value-clause-some : goal.returns-else-takes_value-clause-some
-returns-else-takes_value-clause-some g c = rw c.in-Value.is (λ bytes begins. (
-  no_value c.args.expected (λ other. (let e = c.takes_value.ensures.1 other in let f = c.if-takes_value.false in cc)),
-  (c.in-Value._value, c.in-Value._rest.now, begins),
-))
 
 pub returns-in-Span-clause-some : goal.returns-in-Span-clause-some
 returns-in-Span-clause-some g c = rw c.in-Span.is (some_by c.span_fault.result (λ cause fails. fails c.in-Span._rest.now) c.span_fault.ensures.some)

@@ -1,6 +1,6 @@
 use Rattle.std.proofs.Common.{◌≡◌, ◌+◌, ◌<◌, ◌≤◌, length, arith, drop, take, get_or, sym, ◌∙◌, ap, subst}
 use Rattle.zerotrie_core.specs.Maps.{with_front}
-use Rattle.zerotrie_core.specs.plain.Encoding.{pairs_from, Leads, weight, BeginsAll, BeginsNone}
+use Rattle.zerotrie_core.specs.plain.Encoding.{pairs_from, WritesFront, weight, BeginsAll, BeginsNone}
 use Rattle.zerotrie_core.proofs.PlainLemmas.Items.{key_at}
 use Rattle.zerotrie_core.proofs.PlainLemmas.Groups.{leads_value, leads_literal}
 use Rattle.zerotrie_core.proofs.PlainLemmas.Cuts.{ended, deep_next, deep_here, deeper, shared, some_rest, branches, first_at, literal_lighter}
@@ -14,7 +14,7 @@ loop-at-preserved-then-key_len-depth c =
     record {
       within = omega arith;
       deep = deep_next c.loop-at.depth c.loop-at.at c.args.items.now inside c.loop-at.invariant.deep;
-      leads = leads_value _ _ _ k.0 _ _ _ (subst (Leads c.args.out.now.items (pairs_from c.args.depth c.args.items.now) c.loop-at.out.items) is c.loop-at.invariant.leads) k.1 k.2;
+      leads = leads_value _ _ _ k.0 _ _ _ (subst (WritesFront c.args.out.now.items (pairs_from c.args.depth c.args.items.now) c.loop-at.out.items) is c.loop-at.invariant.leads) k.1 k.2;
     }
 
 pub loop-at-smaller-then-key_len-depth : goal.loop-at-smaller-then-key_len-depth
@@ -55,7 +55,7 @@ pub loop-at-preserved : goal.loop-at-preserved
 loop-at-preserved c = record {
   within = c.loop-at.invariant.within;
   deep = deeper c.loop-at.depth c.loop-at.at c.args.items.now c.loop-at-test.true (λ e. c.if-key_len-depth.false (c.key_len.ensures ∙ e)) c.loop-at.invariant.deep c.loop-at.invariant.leads.ascends;
-  leads = leads_literal _ _ _ _ _ _ (subst (Leads c.args.out.now.items (pairs_from c.args.depth c.args.items.now) c.loop-at.out.items) (same c) c.loop-at.invariant.leads) (some_rest (c.loop-at.depth + 1) c.loop-at.at c.args.items.now c.loop-at-test.true) c.in_ok-push.ensures.items;
+  leads = leads_literal _ _ _ _ _ _ (subst (WritesFront c.args.out.now.items (pairs_from c.args.depth c.args.items.now) c.loop-at.out.items) (same c) c.loop-at.invariant.leads) (some_rest (c.loop-at.depth + 1) c.loop-at.at c.args.items.now c.loop-at-test.true) c.in_ok-push.ensures.items;
 }
 
 pub returns-then-group_len-rest-clause-room : goal.returns-then-group_len-rest-clause-room

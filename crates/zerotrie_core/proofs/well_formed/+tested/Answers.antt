@@ -10,11 +10,11 @@ use Rattle.zerotrie_core.specs.Shapes.{branch_shape}
 use Rattle.zerotrie_core.specs.declared.well_formed.Expected.TheVariants.{Something}
 use Rattle.zerotrie_core.specs.WellFormed.{IsWellFormed, IsShallow}
 use Rattle.zerotrie_core.specs.listing.Runs.{EndsWith}
-use Rattle.zerotrie_core.specs.well_formed.Testing.{IsText, Suits, Onward}
+use Rattle.zerotrie_core.specs.well_formed.Testing.{IsText, IsAllowed, ReducesTo}
 use Rattle.zerotrie_core.proofs.WellFormedLemmas.Depth.{shallow_one, shallow_max, shallow_longer, deep_no_node, deep_some}
 use Rattle.zerotrie_core.proofs.NodeLemmas.Nodes.{branch_shorter}
 use Rattle.zerotrie_core.proofs.ListingLemmas.Left.{branch_end, ends_drop}
-use Rattle.zerotrie_core.proofs.WellFormedLemmas.Steps.{onward_at, onward_more, literals_onward, no_bytes}
+use Rattle.zerotrie_core.proofs.WellFormedLemmas.Steps.{reduces_at, reduces_more, literals_reduces, no_bytes}
 use Rattle.zerotrie_core.proofs.WellFormedLemmas.Targets.{Passed, passed_first, passed_more, passed_all, shorter_there, no_target, target_some, both_some, next_begin, text_well, well_text, text_means}
 use Rattle.zerotrie_core.proofs.well_formed.+tested.Goals as goal
 
@@ -26,7 +26,7 @@ go_behind-behind-targets-requires g t c =
     let b = c.args.branch in
     let bytes = c.args.here.rest.now in
     let n = b.width * (b.edges - 1) in
-    subst (EndsWith bytes) (sym (c.split_at-2.ensures.back ∙ ap (drop n) c.split_at.ensures.back))
+    subst (EndsWith bytes) (sym c.targets.ensures)
     (ends_drop bytes (drop b.edges b.behind.now) n (ends_drop bytes b.behind.now b.edges c.requires))
 
 pub go_behind-loop-index-init : goal.go_behind-loop-index-init
@@ -112,22 +112,22 @@ go_behind-returns-clause-some g t c =
     (subst (λ k. Passed kind b.edges b.width b.behind.now k c.loop-index.longest.rest.now c.loop-index.most) all c.loop-index.invariant.passed)
 
 -- what stands at the place that the test passes to first
-module _ (kind : Kind) (bytes rest : List ℕ) (expected : Expected) (way : Onward kind bytes rest expected 1) (within : length rest ≤ length bytes) (small : length bytes < 2 ^ 64) where
-  passed_well : Suits expected rest → IsWellFormed kind rest → IsWellFormed kind bytes
-  passed_well suits well = text_well small (way.back suits (well_text well))
+module _ (kind : Kind) (bytes rest : List ℕ) (expected : Expected) (way : ReducesTo kind bytes rest expected 1) (within : length rest ≤ length bytes) (small : length bytes < 2 ^ 64) where
+  passed_well : IsAllowed expected rest → IsWellFormed kind rest → IsWellFormed kind bytes
+  passed_well allowed well = text_well small (way.back allowed (well_text well))
 
-  well_passed : IsWellFormed kind bytes → Suits expected rest × IsWellFormed kind rest
-  well_passed well = let text = well_text well in let leads = way.there text.0 text.1 in (leads.suits, text_well (omega arith) (leads.below, leads.inner))
+  well_passed : IsWellFormed kind bytes → IsAllowed expected rest × IsWellFormed kind rest
+  well_passed well = let text = well_text well in let leads = way.there text.0 text.1 in (leads.allowed, text_well (omega arith) (leads.below, leads.inner))
 
 pub is_target_counted-returns-then-is_empty-clause-yes : goal.is_target_counted-returns-then-is_empty-clause-yes
 is_target_counted-returns-then-is_empty-clause-yes g t c =
     let kind = g.K.ZeroTrieWithOptions.kind in
     let rest = c.pass-expected.result.0.rest.now in
     let expected = c.pass-expected.result.1 in
-    let way = c.pass-expected.ensures.onward c.requires kind in
+    let way = c.pass-expected.ensures.reduces c.requires kind in
     let none : rest ≡ [] = nil_from_length rest (eqb-true _ _ (sym c.is_empty.ensures ∙ c.if-is_empty.true)) in (
-      λ e. text_well (omega arith) (way.back (subst (Suits expected) (sym none) (c.takes_end.ensures.0 e)) (subst (IsText kind) (sym none) ([], nothing))),
-      λ well. (let text = well_text well in let leads = way.there text.0 text.1 in c.takes_end.ensures.1 (subst (Suits expected) none leads.suits)),
+      λ e. text_well (omega arith) (way.back (subst (IsAllowed expected) (sym none) (c.takes_end.ensures.0 e)) (subst (IsText kind) (sym none) ([], nothing))),
+      λ well. (let text = well_text well in let leads = way.there text.0 text.1 in c.takes_end.ensures.1 (subst (IsAllowed expected) none leads.allowed)),
     )
 
 pub is_target_counted-returns-then-is_empty-clause-count : goal.is_target_counted-returns-then-is_empty-clause-count
@@ -135,7 +135,7 @@ is_target_counted-returns-then-is_empty-clause-count g t c m means =
     let kind = g.K.ZeroTrieWithOptions.kind in
     let rest = c.pass-expected.result.0.rest.now in
     let none : rest ≡ [] = nil_from_length rest (eqb-true _ _ (sym c.is_empty.ensures ∙ c.if-is_empty.true)) in
-    let leads = (c.pass-expected.ensures.onward c.requires kind).there means.pairs means.lists in
+    let leads = (c.pass-expected.ensures.reduces c.requires kind).there means.pairs means.lists in
     let end = (deep_no_node leads.inner (λ s b. no_bytes kind s (subst (λ x. Begins kind x s) none b))).1 in
     let counts = leads.counts in
     omega arith
@@ -146,7 +146,7 @@ is_target_counted-returns-then-is_empty-clause-shallow g t c = shallow_one c.arg
 pub is_target_counted-returns-clause-yes : goal.is_target_counted-returns-clause-yes
 is_target_counted-returns-clause-yes g t c =
     let kind = g.K.ZeroTrieWithOptions.kind in
-    let way = c.pass-expected.ensures.onward c.requires kind in
+    let way = c.pass-expected.ensures.reduces c.requires kind in
     let within = c.pass-expected.ensures.shorter in
     let r = c.is_text_counted.ensures.yes in (
       λ e. passed_well kind c.args.target.rest.now c.pass-expected.result.0.rest.now c.pass-expected.result.1 way within (omega arith) (r.0 e).0 (r.0 e).1,
@@ -157,8 +157,8 @@ pub is_target_counted-returns-clause-count : goal.is_target_counted-returns-clau
 is_target_counted-returns-clause-count g t c m means =
     let kind = g.K.ZeroTrieWithOptions.kind in
     let within = c.pass-expected.ensures.shorter in
-    let leads = (c.pass-expected.ensures.onward c.requires kind).there means.pairs means.lists in
-    let is = c.is_text_counted.ensures.count leads.suits _ (text_means (omega arith) leads.inner) in
+    let leads = (c.pass-expected.ensures.reduces c.requires kind).there means.pairs means.lists in
+    let is = c.is_text_counted.ensures.count leads.allowed _ (text_means (omega arith) leads.inner) in
     let some = deep_some leads.inner in
     let counts = leads.counts in
     omega arith
@@ -170,21 +170,21 @@ pub is_text_counted-loop-node-init : goal.is_text_counted-loop-node-init
 is_text_counted-loop-node-init g t c = record {
   within = omega arith;
   shallow = shallow_one c.args.here.rest.now;
-  onward = λ suits. onward_at g.K.ZeroTrieWithOptions.kind c.args.here.rest.now c.args.expected suits;
-  begins = λ suits text. suits;
+  reduces = λ allowed. reduces_at g.K.ZeroTrieWithOptions.kind c.args.here.rest.now c.args.expected allowed;
+  begins = λ allowed text. allowed;
 }
 
 -- what comes next may not stand there
-wrong : (g : _) (t : _) (c : goal.is_text_counted-In-Wrong g t) → Suits c.args.expected c.args.here.rest.now → IsText g.K.ZeroTrieWithOptions.kind c.args.here.rest.now → ⊥
-wrong g t c suits text =
-    let leads = (c.loop-node.invariant.onward suits).there text.0 text.1 in
-    c.in-Wrong.ensures c.loop-node.at.rest.now c.in-Some.ensures.some leads.suits (leads.below, leads.inner)
+wrong : (g : _) (t : _) (c : goal.is_text_counted-In-Wrong g t) → IsAllowed c.args.expected c.args.here.rest.now → IsText g.K.ZeroTrieWithOptions.kind c.args.here.rest.now → ⊥
+wrong g t c allowed text =
+    let leads = (c.loop-node.invariant.reduces allowed).there text.0 text.1 in
+    c.in-Wrong.ensures c.loop-node.at.rest.now c.in-Some.ensures.some leads.allowed (leads.below, leads.inner)
 
 pub is_text_counted-returns-in-Wrong-clause-yes : goal.is_text_counted-returns-in-Wrong-clause-yes
 is_text_counted-returns-in-Wrong-clause-yes g t c = (λ e. absurd (cc), λ well. absurd (wrong g t c well.0 (well_text well.1)))
 
 pub is_text_counted-returns-in-Wrong-clause-count : goal.is_text_counted-returns-in-Wrong-clause-count
-is_text_counted-returns-in-Wrong-clause-count g t c = λ suits m means. absurd (wrong g t c suits (means.pairs, means.lists))
+is_text_counted-returns-in-Wrong-clause-count g t c = λ allowed m means. absurd (wrong g t c allowed (means.pairs, means.lists))
 
 pub is_text_counted-loop-node-preserved-in-Over : goal.is_text_counted-loop-node-preserved-in-Over
 is_text_counted-loop-node-preserved-in-Over g t c =
@@ -200,10 +200,10 @@ is_text_counted-loop-node-preserved-in-Over g t c =
     record {
       within = omega (arith, so_far.within, shorter, there);
       shallow = so_far.shallow;
-      onward = λ suits. subst (λ x. Onward kind c.args.here.rest.now x c.in-Over.following c.loop-node.most) (sym c.behind-at.ensures)
-          (subst (λ m. Onward kind c.args.here.rest.now c.in-Over.after.now c.in-Over.following m) same (onward_more (so_far.onward suits) (step.1 rest begins) (step.2 rest begins)));
-      begins = λ suits text. so_far.begins (step.1 rest begins)
-          ((step.2 rest begins).back (subst (Suits c.in-Over.following) c.behind-at.ensures suits) (subst (IsText kind) c.behind-at.ensures text));
+      reduces = λ allowed. subst (λ x. ReducesTo kind c.args.here.rest.now x c.in-Over.following c.loop-node.most) (sym c.behind-at.ensures)
+          (subst (λ m. ReducesTo kind c.args.here.rest.now c.in-Over.after.now c.in-Over.following m) same (reduces_more (so_far.reduces allowed) (step.1 rest begins) (step.2 rest begins)));
+      begins = λ allowed text. so_far.begins (step.1 rest begins)
+          ((step.2 rest begins).back (subst (IsAllowed c.in-Over.following) c.behind-at.ensures allowed) (subst (IsText kind) c.behind-at.ensures text));
     }
 
 pub is_text_counted-loop-node-preserved-in-Literals : goal.is_text_counted-loop-node-preserved-in-Literals
@@ -220,15 +220,15 @@ is_text_counted-loop-node-preserved-in-Literals g t c =
     let one = so_far.shallow.0 in
     let same : max c.loop-node.most 1 ≡ c.loop-node.most = omega arith in
     let is = c.after-at.ensures in
-    let way = literals_onward kind n rest some inside (low_at rest c.literals.result n (omega arith) first.1 c.literals.ensures.literals) in
+    let way = literals_reduces kind n rest some inside (low_at rest c.literals.result n (omega arith) first.1 c.literals.ensures.literals) in
     let there = ap length is in
     let gone = length-drop n rest in
     record {
       within = omega (arith, so_far.within, there, gone);
       shallow = so_far.shallow;
-      onward = λ suits. subst (λ x. Onward kind c.args.here.rest.now x Something c.loop-node.most) (sym is)
-          (subst (λ m. Onward kind c.args.here.rest.now (drop n rest) Something m) same (onward_more (so_far.onward suits) (step.1 rest begins) way));
-      begins = λ suits text. so_far.begins (step.1 rest begins) (way.back (subst (Suits Something) is suits) (subst (IsText kind) is text));
+      reduces = λ allowed. subst (λ x. ReducesTo kind c.args.here.rest.now x Something c.loop-node.most) (sym is)
+          (subst (λ m. ReducesTo kind c.args.here.rest.now (drop n rest) Something m) same (reduces_more (so_far.reduces allowed) (step.1 rest begins) way));
+      begins = λ allowed text. so_far.begins (step.1 rest begins) (way.back (subst (IsAllowed Something) is allowed) (subst (IsText kind) is text));
     }
   where
     low_at : (bytes : List ℕ) (m n : ℕ) → (0 < m → n ≤ m) × (m ≡ 0 → n ≡ 1) → slice_index bytes 0 < 128 → ((k : ℕ) → k < m → slice_index bytes k < 128) → (k : ℕ) → k < n → slice_index bytes k < 128
@@ -264,21 +264,21 @@ is_text_counted-loop-node-preserved g t c =
     let within = so_far.within in
     let m = c.max-most.ensures in
     let way = c.in-Some-go_behind.ensures.some rest begins in
-    let suits_here = c.in-Behind.ensures.1 rest c.in-Some.ensures.some in
+    let allowed_here = c.in-Behind.ensures.1 rest c.in-Some.ensures.some in
     record {
       within = omega arith;
       shallow = subst (λ n. IsShallow c.args.here.rest.now n) (sym m)
           (shallow_max c.args.here.rest.now c.loop-node.most count so_far.shallow (shallow_longer b.behind.now c.args.here.rest.now count (omega arith) c.in-Some-go_behind.ensures.shallow));
-      onward = λ suits. subst (λ n. Onward kind c.args.here.rest.now longest Something n) (sym m) (onward_more (so_far.onward suits) suits_here way);
-      begins = λ suits text. so_far.begins suits_here (way.back suits text);
+      reduces = λ allowed. subst (λ n. ReducesTo kind c.args.here.rest.now longest Something n) (sym m) (reduces_more (so_far.reduces allowed) allowed_here way);
+      begins = λ allowed text. so_far.begins allowed_here (way.back allowed text);
     }
 
 -- the branch that comes next is no text
-no_branch : (g : _) (t : _) (c : goal.is_text_counted-In-None g t) → Suits c.args.expected c.args.here.rest.now → IsText g.K.ZeroTrieWithOptions.kind c.args.here.rest.now → ⊥
-no_branch g t c suits text =
+no_branch : (g : _) (t : _) (c : goal.is_text_counted-In-None g t) → IsAllowed c.args.expected c.args.here.rest.now → IsText g.K.ZeroTrieWithOptions.kind c.args.here.rest.now → ⊥
+no_branch g t c allowed text =
     let kind = g.K.ZeroTrieWithOptions.kind in
     let rest = c.loop-node.at.rest.now in
-    let leads = (c.loop-node.invariant.onward suits).there text.0 text.1 in
+    let leads = (c.loop-node.invariant.reduces allowed).there text.0 text.1 in
     let begins : Begins kind rest (branch_shape c.in-Behind.branch) = subst (Begins kind rest) c.in-Behind.ensures.0 c.in-Some.ensures.some in
     c.in-None.ensures.none rest begins (leads.below, leads.inner)
 
@@ -286,7 +286,7 @@ pub is_text_counted-returns-in-None-clause-yes : goal.is_text_counted-returns-in
 is_text_counted-returns-in-None-clause-yes g t c = (λ e. absurd (cc), λ well. absurd (no_branch g t c well.0 (well_text well.1)))
 
 pub is_text_counted-returns-in-None-clause-count : goal.is_text_counted-returns-in-None-clause-count
-is_text_counted-returns-in-None-clause-count g t c = λ suits m means. absurd (no_branch g t c suits (means.pairs, means.lists))
+is_text_counted-returns-in-None-clause-count g t c = λ allowed m means. absurd (no_branch g t c allowed (means.pairs, means.lists))
 
 pub is_text_counted-returns-then-is_empty-clause-yes : goal.is_text_counted-returns-then-is_empty-clause-yes
 is_text_counted-returns-then-is_empty-clause-yes g t c =
@@ -297,15 +297,15 @@ is_text_counted-returns-then-is_empty-clause-yes g t c =
     let none : rest ≡ [] = nil_from_length rest (eqb-true _ _ (sym c.is_empty.ensures ∙ c.if-is_empty.true)) in
     let end : IsText kind rest = subst (IsText kind) (sym none) ([], nothing) in (
       λ e. (
-          let suits = subst (Suits next) (sym none) (c.takes_end.ensures.0 e) in
-          let first = so_far.begins suits end in (first, text_well (omega arith) ((so_far.onward first).back suits end))
+          let allowed = subst (IsAllowed next) (sym none) (c.takes_end.ensures.0 e) in
+          let first = so_far.begins allowed end in (first, text_well (omega arith) ((so_far.reduces first).back allowed end))
           ),
-      λ well. (let text = well_text well.1 in let leads = (so_far.onward well.0).there text.0 text.1 in c.takes_end.ensures.1 (subst (Suits next) none leads.suits)),
+      λ well. (let text = well_text well.1 in let leads = (so_far.reduces well.0).there text.0 text.1 in c.takes_end.ensures.1 (subst (IsAllowed next) none leads.allowed)),
     )
 
 pub is_text_counted-returns-then-is_empty-clause-count : goal.is_text_counted-returns-then-is_empty-clause-count
-is_text_counted-returns-then-is_empty-clause-count g t c = λ suits m means. (
-    let leads = (c.loop-node.invariant.onward suits).there means.pairs means.lists in
+is_text_counted-returns-then-is_empty-clause-count g t c = λ allowed m means. (
+    let leads = (c.loop-node.invariant.reduces allowed).there means.pairs means.lists in
     let end = deep_no_node leads.inner c.in_default.ensures.none in
     let counts = leads.counts in
     let deep_is = end.1 in
@@ -314,9 +314,9 @@ is_text_counted-returns-then-is_empty-clause-count g t c = λ suits m means. (
     )
 
 -- bytes are left, of which no node begins
-left : (g : _) (t : _) (c : goal.is_text_counted-Else-is_empty g t) → Suits c.args.expected c.args.here.rest.now → IsText g.K.ZeroTrieWithOptions.kind c.args.here.rest.now → ⊥
-left g t c suits text =
-    let leads = (c.loop-node.invariant.onward suits).there text.0 text.1 in
+left : (g : _) (t : _) (c : goal.is_text_counted-Else-is_empty g t) → IsAllowed c.args.expected c.args.here.rest.now → IsText g.K.ZeroTrieWithOptions.kind c.args.here.rest.now → ⊥
+left g t c allowed text =
+    let leads = (c.loop-node.invariant.reduces allowed).there text.0 text.1 in
     let end = deep_no_node leads.inner c.in_default.ensures.none in
     let some : length c.loop-node.at.rest.now ≡ 0 → ⊥ = eqb-false _ _ (sym c.is_empty.ensures ∙ c.if-is_empty.false) in
     some (ap length end.0)
@@ -325,4 +325,4 @@ pub is_text_counted-returns-else-is_empty-clause-yes : goal.is_text_counted-retu
 is_text_counted-returns-else-is_empty-clause-yes g t c = (λ e. absurd (let f = c.if-is_empty.false in cc), λ well. absurd (left g t c well.0 (well_text well.1)))
 
 pub is_text_counted-returns-else-is_empty-clause-count : goal.is_text_counted-returns-else-is_empty-clause-count
-is_text_counted-returns-else-is_empty-clause-count g t c = λ suits m means. absurd (left g t c suits (means.pairs, means.lists))
+is_text_counted-returns-else-is_empty-clause-count g t c = λ allowed m means. absurd (left g t c allowed (means.pairs, means.lists))

@@ -2,7 +2,7 @@ use Rattle.std.proofs.Common.{◌≡◌, ◌≤◌, ◌<◌, ◌+◌, ◌*◌, [
 use Rattle.std.specs.Prelude.{◌≢◌}
 use Rattle.zerotrie_core.specs.Nodes.{begin_of}
 use Rattle.zerotrie_core.specs.WellFormed.{IsShallow}
-use Rattle.zerotrie_core.specs.well_formed.Testing.{IsText, Suits, Onward}
+use Rattle.zerotrie_core.specs.well_formed.Testing.{IsText, IsAllowed, ReducesTo}
 use Rattle.zerotrie_core.proofs.WellFormedLemmas.Targets.{Passed}
 use Rattle.zerotrie_core.proofs.well_formed.+tested.Given as goal
 
@@ -19,8 +19,8 @@ abbrev pub invariant-is_text_counted-loop-node : goal.invariant-is_text_counted-
 invariant-is_text_counted-loop-node g l = record {
   within : length l.at.rest.now ≤ length l.here.rest.now;
   shallow : IsShallow l.here.rest.now l.most;
-  onward : Suits l.fn.expected l.here.rest.now → Onward g.K.ZeroTrieWithOptions.kind l.here.rest.now l.at.rest.now l.next l.most;
-  begins : Suits l.next l.at.rest.now → IsText g.K.ZeroTrieWithOptions.kind l.at.rest.now → Suits l.fn.expected l.here.rest.now;
+  reduces : IsAllowed l.fn.expected l.here.rest.now → ReducesTo g.K.ZeroTrieWithOptions.kind l.here.rest.now l.at.rest.now l.next l.most;
+  begins : IsAllowed l.next l.at.rest.now → IsText g.K.ZeroTrieWithOptions.kind l.at.rest.now → IsAllowed l.fn.expected l.here.rest.now;
 }
 
 abbrev pub decreases-is_text_counted-loop-node : goal.decreases-is_text_counted-loop-node

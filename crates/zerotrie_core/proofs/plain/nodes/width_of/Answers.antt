@@ -1,9 +1,24 @@
-use Rattle.std.proofs.Common.{◌≡◌, ◌^◌, suc, arith, refl}
-use Rattle.zerotrie_core.proofs.PlainLemmas.Items.{width_between}
+use Rattle.std.proofs.Common.{◌≤◌, ◌<◌, ◌^◌, arith, inl, inr}
+use Rattle.std.proofs.lemmas.Bool.{leb-true, leb-false, cases_lt}
+use Rattle.std.specs.Prelude.{IfSome, IfNone}
+use Rattle.zerotrie_core.specs.Branches.{IsWidth}
+use Rattle.zerotrie_core.proofs.Chosen.{chosen}
 use Rattle.zerotrie_core.proofs.plain.nodes.width_of.Goals as goal
 
-pub returns-in-65536-to-16777215-clause-width : goal.returns-in-65536-to-16777215-clause-width
-returns-in-65536-to-16777215-clause-width c = (omega arith, width_between c.args.total 1 (let e : 256 ^ suc 1 ≡ 65536 = refl in omega arith) (let e : 256 ^ suc (suc 1) ≡ 16777216 = refl in omega arith))
+pub returns-clause-width : goal.returns-clause-width
+returns-clause-width c =
+    chosen (λ r. IfSome r (λ w. (w ≤ 3) × IsWidth c.args.total w)) _ _ c.then_some.result c.then_some.ensures
+    (λ small. (leb-true _ _ small, c.least_width-width.ensures.width)) (λ large. tt)
 
-pub returns-in-16777216-to-4294967295-clause-width : goal.returns-in-16777216-to-4294967295-clause-width
-returns-in-16777216-to-4294967295-clause-width c = (omega arith, width_between c.args.total 2 (let e : 256 ^ suc 2 ≡ 16777216 = refl in omega arith) (let e : 256 ^ suc (suc 2) ≡ 4294967296 = refl in omega arith))
+pub returns-clause-none : goal.returns-clause-none
+returns-clause-none c =
+    chosen (λ r. IfNone r (2 ^ 32 ≤ c.args.total)) _ _ c.then_some.result c.then_some.ensures
+    (λ small. tt)
+    (λ large. elim (cases_lt c.args.total 4294967296) [
+      | inl less ↦ absurd (
+          let most : c.least_width-width.result ≤ 3 = c.least_width-width.ensures.width.least 3 less in
+          let over : 3 < c.least_width-width.result = leb-false _ _ large in
+          omega arith
+          )
+      | inr enough ↦ enough
+    ])

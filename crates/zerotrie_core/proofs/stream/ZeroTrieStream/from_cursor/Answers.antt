@@ -12,4 +12,4 @@ returns g c pairs lists =
     let b = place_below kind place.run place.trie pairs lists in
     let text = subst (λ t. Lists kind t b.0) (sym c.parts.ensures.trie) b.1 in
     let front = c.in_ok-extend_from_slice.ensures.items ∙ ap (λ f. f ++ c.parts.result.0.now) c.new-front.ensures.items ∙ c.parts.ensures.run in
-    c.behind.ensures b.0 text ∙ ap (λ f. to_come (with_run f b.0)) front ∙ ap to_come (sym b.2)
+    c.behind.ensures.lists b.0 text ∙ ap (λ f. to_come (with_run f b.0)) front ∙ ap to_come (sym b.2)

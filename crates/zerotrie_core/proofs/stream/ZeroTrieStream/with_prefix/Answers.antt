@@ -6,7 +6,7 @@ use Rattle.zerotrie_core.proofs.stream.ZeroTrieStream.with_prefix.Goals as goal
 pub returns-in-Some : goal.returns-in-Some
 returns-in-Some g c pairs text =
     let d = rw c.in-Some.is at (c.in_ok-front.ensures pairs text) in
-    c.behind.ensures d.0 d.1 ∙ ap to_come (sym d.2)
+    c.behind.ensures.lists d.0 d.1 ∙ ap to_come (sym d.2)
 
 pub returns-in-None : goal.returns-in-None
 returns-in-None g c pairs text =

@@ -1,6 +1,6 @@
 use Rattle.std.proofs.Common.{◌-◌}
 use Rattle.zerotrie_core.specs.reader.Literals.{AreCommon}
-use Rattle.zerotrie_core.proofs.literals.common_literals.Given as goal
+use Rattle.zerotrie_core.proofs.literals.common_one_by_one.Given as goal
 
 abbrev pub invariant-loop-passed : goal.invariant-loop-passed
 invariant-loop-passed g l = AreCommon g.K.ZeroTrieWithOptions.kind l.bytes l.key l.passed
