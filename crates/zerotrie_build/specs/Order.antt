@@ -69,8 +69,8 @@ abbrev pub AreFolded : Kind → Pairs → Type 0
 AreFolded kind pairs = All (λ e. All (IsFolded kind) e.0) pairs
 
 -- all bytes of the keys are below 128
-abbrev pub AreLow : Pairs → Type 0
-AreLow pairs = All (λ e. All (λ b. b < 128) e.0) pairs
+abbrev pub AreAsciiKeys : Pairs → Type 0
+AreAsciiKeys pairs = All (λ e. All (λ b. b < 128) e.0) pairs
 
 -- all values are numbers of 64 bits
 abbrev pub AreValues : Pairs → Type 0

@@ -1,8 +1,8 @@
 -- Words of the sort and of the two passes.
 pub mod Windows
 pub mod Measured
-pub mod Puts
+pub mod Zeros
 pub mod Writing
 pub mod Walking
 pub mod Sorts
-pub mod Turns
+pub mod OtherCase

@@ -8,7 +8,7 @@ ghost use Rattle.zerotrie_core.specs.Causes.{AreCrooked};
 ghost use Rattle.zerotrie_build.specs.Order.{Ordered};
 ghost use Rattle.zerotrie_build.specs.passes.Windows.{window as window_of, edge_of, IsGroup};
 ghost use Rattle.zerotrie_build.specs.passes.Measured.{TargetWindows};
-ghost use Rattle.zerotrie_build.specs.passes.Writing.{window_at, edge_no, place_in, position_at, text_of, placed_next, next_of, IsSearched, IsLaid, HasSlots};
+ghost use Rattle.zerotrie_build.specs.passes.Writing.{window_at, edge_no, place_in, position_at, text_of, placed_next, next_of, IsHashedLayout, IsLayout, HasSlots};
 
 use crate::indexed::IndexedItems;
 use crate::measuring::is_hashed;
@@ -130,7 +130,7 @@ impl<A: Allocator + Copy> Layout<A> {
     /// Lays the targets out in the order of a hashed table.
     fn set_hashed(&mut self) -> Result<(), ZeroTrieBuildError>
         requires { IsStrictlyIncreasing self.old.table.items }
-        ensures ok { OnOk result (IsSearched self.old.table.items self.new.table.items
+        ensures ok { OnOk result (IsHashedLayout self.old.table.items self.new.table.items
             self.new.numbers.items) }
         ensures refused { IfErr result (IsTableRefusal self.old.table.items) }
         ensures windows { self.new.windows.items ≡ self.old.windows.items }
@@ -227,7 +227,7 @@ impl<A: Allocator + Copy> Layout<A> {
         requires ordered { Ordered K.kind (window_of (I.pairs items) window) }
         requires slots { HasSlots K.kind (I.pairs items) window input.slots.now slot }
         ensures parts { OnOk result (TargetWindows (I.pairs items) window self.new.windows.items) }
-        ensures laid { OnOk result (IsLaid K.kind (edge_no (I.pairs items) self.new.windows.items)
+        ensures laid { OnOk result (IsLayout K.kind (edge_no (I.pairs items) self.new.windows.items)
             (length self.new.windows.items) self.new.table.items self.new.numbers.items) }
         ensures pending { OnOk result (reverse self.new.pending.items
             ≡ next_of K.kind input.entry.slots.now slot self.new.windows.items

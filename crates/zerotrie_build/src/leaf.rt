@@ -1,8 +1,8 @@
 //! Windows of one item, whose texts are told at once.
 
 ghost use Rattle.std.specs.Prelude.{◌≡◌, ◌+◌, ◌^◌, ◌<◌, ◌≤◌, IfSome, All, IsTrue, false, length};
-ghost use Rattle.zerotrie_build.specs.Order.{AreLow};
-ghost use Rattle.zerotrie_build.specs.passes.Windows.{byte_size, short_size, IsOne, IsRestLen, IsLone};
+ghost use Rattle.zerotrie_build.specs.Order.{AreAsciiKeys};
+ghost use Rattle.zerotrie_build.specs.passes.Windows.{byte_size, short_size, IsSingleItem, IsRestLen, IsAsciiLeaf};
 
 use crate::indexed::IndexedItems;
 use crate::windows::Window;
@@ -28,9 +28,9 @@ pub(crate) fn single_item<'a, I: IndexedItems<'a>>(
     window: Window,
 ) -> Option<(&'a [u8], usize)>
     requires items { window.to ≤ length (I.pairs items) }
-    ensures is { IfSome result (λ r. IsOne (I.pairs items) window r.0.now r.1) }
+    ensures is { IfSome result (λ r. IsSingleItem (I.pairs items) window r.0.now r.1) }
     ensures room { IfSome result (λ r. window.depth + length r.0.now < 2 ^ 64) }
-    ensures low { IfSome result (λ r. AreLow (I.pairs items) → All (λ b. b < 128) r.0.now) }
+    ensures low { IfSome result (λ r. AreAsciiKeys (I.pairs items) → All (λ b. b < 128) r.0.now) }
 {
     if window.to.saturating_sub(window.from) != 1 {
         return None;
@@ -51,8 +51,8 @@ pub(crate) fn ascii_leaf<'a, I: IndexedItems<'a>>(
     ascii: bool,
 ) -> Option<(&'a [u8], usize)>
     requires items { window.to ≤ length (I.pairs items) }
-    requires ascii { IsTrue ascii → AreLow (I.pairs items) }
-    ensures is { IfSome result (λ r. IsLone (I.pairs items) window r.0.now r.1) }
+    requires ascii { IsTrue ascii → AreAsciiKeys (I.pairs items) }
+    ensures is { IfSome result (λ r. IsAsciiLeaf (I.pairs items) window r.0.now r.1) }
     ensures room { IfSome result (λ r. window.depth + length r.0.now < 2 ^ 64) }
 {
     let (rest, value) = single_item(items, window)?;

@@ -7,7 +7,7 @@ ghost use Rattle.zerotrie_core.specs.Maps.{map_of};
 ghost use Rattle.zerotrie_core.specs.Branches.{IsWidth, total as sum};
 ghost use Rattle.zerotrie_core.specs.Canonical.{size_of, branch_size};
 ghost use Rattle.zerotrie_core.specs.Fits.{ExceedsCapacity};
-ghost use Rattle.zerotrie_build.specs.Order.{Ordered, AreKeys, AreLow};
+ghost use Rattle.zerotrie_build.specs.Order.{Ordered, AreKeys, AreAsciiKeys};
 ghost use Rattle.zerotrie_build.specs.passes.Windows.{window as window_of, step_of};
 ghost use Rattle.zerotrie_build.specs.passes.Measured.{Passes, NoneFirst, TargetWindows, IsMeasured};
 ghost use Rattle.zerotrie_build.specs.passes.Walking.{item_ends, spare_len, with_len, left_open, IsOpened, Closing, IsTurn, IsNextWindow};
@@ -134,13 +134,13 @@ fn value_len(value: usize) -> usize
 /// The end of a window of one item, as most are, and how many bytes its text has. `None` if there are more items, or if
 /// the rest of the key has spans that are told one by one. If `ascii` is true, all keys are ASCII.
 #[inline(always)]
-fn behind_leaf<'a, K: ZeroTrieWithOptions, I: IndexedItems<'a>>(
+fn after_leaf<'a, K: ZeroTrieWithOptions, I: IndexedItems<'a>>(
     items: I,
     start: Window,
     ascii: bool,
 ) -> Result<Option<(Window, usize)>, ZeroTrieBuildError>
     requires keys { AreKeys K.kind (I.pairs items) }
-    requires ascii { IsTrue ascii → AreLow (I.pairs items) }
+    requires ascii { IsTrue ascii → AreAsciiKeys (I.pairs items) }
     requires within { start.to ≤ length (I.pairs items) }
     requires ordered { Ordered K.kind (window_of (I.pairs items) start) }
     ensures run { IfOk result (λ leaf. IfSome leaf (λ r.
@@ -160,16 +160,13 @@ fn behind_leaf<'a, K: ZeroTrieWithOptions, I: IndexedItems<'a>>(
     Ok(Some((end, checked_sum(len, value_len(value))?)))
 }
 
-/// The window after the values, literals and spans that stand first, and how many bytes these have. If `ascii` is true,
-/// all keys are ASCII.
+/// The window after the values, literals and spans that stand first, and how many bytes these have.
 #[inline(always)]
-fn behind_nodes<'a, K: ZeroTrieWithOptions, I: IndexedItems<'a>>(
+fn after_front<'a, K: ZeroTrieWithOptions, I: IndexedItems<'a>>(
     items: I,
     start: Window,
-    ascii: bool,
 ) -> Result<(Window, usize), ZeroTrieBuildError>
     requires keys { AreKeys K.kind (I.pairs items) }
-    requires ascii { IsTrue ascii → AreLow (I.pairs items) }
     requires within { start.to ≤ length (I.pairs items) }
     requires ordered { Ordered K.kind (window_of (I.pairs items) start) }
     ensures run { IfOk result (λ r. Passes K.kind (I.pairs items) start r.0 r.1) }
@@ -179,9 +176,6 @@ fn behind_nodes<'a, K: ZeroTrieWithOptions, I: IndexedItems<'a>>(
     ensures refused { IfErr result (λ e. (e ≡ ZeroTrieBuildError.CapacityExceeded)
         × (2 ^ 64 ≤ size_of K.kind (window_of (I.pairs items) start))) }
 {
-    if let Some(leaf) = behind_leaf::<K, I>(items, start, ascii)? {
-        return Ok(leaf);
-    }
     let mut rest = start;
     let mut len = 0;
     loop {
@@ -202,6 +196,30 @@ fn behind_nodes<'a, K: ZeroTrieWithOptions, I: IndexedItems<'a>>(
             }
             Step::Branch | Step::End => return Ok((rest, len)),
         }
+    }
+}
+
+/// Like `after_front`, but tells a window of one item at once. If `ascii` is true, all keys are ASCII.
+#[inline(always)]
+fn after_nodes<'a, K: ZeroTrieWithOptions, I: IndexedItems<'a>>(
+    items: I,
+    start: Window,
+    ascii: bool,
+) -> Result<(Window, usize), ZeroTrieBuildError>
+    requires keys { AreKeys K.kind (I.pairs items) }
+    requires ascii { IsTrue ascii → AreAsciiKeys (I.pairs items) }
+    requires within { start.to ≤ length (I.pairs items) }
+    requires ordered { Ordered K.kind (window_of (I.pairs items) start) }
+    ensures run { IfOk result (λ r. Passes K.kind (I.pairs items) start r.0 r.1) }
+    ensures stops { IfOk result (λ r. NoneFirst K.kind (I.pairs items) r.0) }
+    ensures room { IfOk result (λ r. step_of K.kind (I.pairs items) r.0 ≡ Step.Branch
+        → r.0.depth + 1 < 2 ^ 64) }
+    ensures refused { IfErr result (λ e. (e ≡ ZeroTrieBuildError.CapacityExceeded)
+        × (2 ^ 64 ≤ size_of K.kind (window_of (I.pairs items) start))) }
+{
+    match after_leaf::<K, I>(items, start, ascii)? {
+        Some(leaf) => Ok(leaf),
+        None => after_front::<K, I>(items, start),
     }
 }
 
@@ -414,7 +432,8 @@ impl<'a, I: IndexedItems<'a>, A: Allocator + Copy> FirstPass<I, A> {
             self.old.slots.items measured }
         ensures turn { IfOk result (λ t. IsTurn K.kind (I.pairs self.old.items) t
             (reverse self.new.branches.items) self.new.slots.items) }
-        ensures less { IfOk result (λ t. IsNextWindow t → left_open (reverse self.new.branches.items)
+        ensures less { IfOk result (λ t. IsNextWindow t
+            → left_open (reverse self.new.branches.items)
             < left_open (reverse self.old.branches.items)) }
         ensures same { length self.new.slots.items ≡ length self.old.slots.items }
         ensures items { self.new.items ≡ self.old.items }
@@ -445,7 +464,7 @@ pub(crate) fn measure_all<'a, K: ZeroTrieWithOptions, I: IndexedItems<'a>, A: Al
 ) -> Result<Measured<A>, ZeroTrieBuildError>
     requires ordered { Ordered K.kind (I.pairs items) }
     requires keys { AreKeys K.kind (I.pairs items) }
-    requires ascii { IsTrue ascii → AreLow (I.pairs items) }
+    requires ascii { IsTrue ascii → AreAsciiKeys (I.pairs items) }
     ensures measured { IfOk result (λ m. IsMeasured K.kind (I.pairs items) m.slots.items m.len) }
     ensures refused { IfErr result (λ e. e ≢ ZeroTrieBuildError.OutOfMemory
         → (e ≡ ZeroTrieBuildError.CapacityExceeded)
@@ -454,7 +473,7 @@ pub(crate) fn measure_all<'a, K: ZeroTrieWithOptions, I: IndexedItems<'a>, A: Al
     let mut pass = FirstPass::new::<K>(alloc, items)?;
     let mut window = Window::new(0, items.len(), 0);
     loop {
-        let (rest, len) = behind_nodes::<K, I>(items, window, ascii)?;
+        let (rest, len) = after_nodes::<K, I>(items, window, ascii)?;
         if rest.from < rest.to {
             window = pass.push_branch::<K>(rest, len)?;
         } else {

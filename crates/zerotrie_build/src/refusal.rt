@@ -11,7 +11,7 @@ ghost use Rattle.zerotrie_core.specs.Kind.{simple_ascii};
 ghost use Rattle.zerotrie_core.specs.Routes.{ascending, any_order};
 ghost use Rattle.zerotrie_build.specs.Order.{AreKeys, RepeatsNext};
 ghost use Rattle.zerotrie_build.specs.passes.Sorts.{AreSortedItems, items_by_number, numbers_of};
-ghost use Rattle.zerotrie_build.specs.passes.Turns.{BeginsThen, NoneBeginsThen, NoneTurns};
+ghost use Rattle.zerotrie_build.specs.passes.OtherCase.{BeginsThen, NoneBeginsThen, NoneHasOtherCase};
 ghost use Rattle.zerotrie_build.specs.Refused.{key_at, DifferInCase, AreShown, IsWhyRefused};
 
 use crate::indexed::item_at;
@@ -136,7 +136,8 @@ fn begins(key: &[u8], front: &[u8], byte: u8) -> bool
 /// The number of a key that begins with the front and then the byte, of keys that ascend.
 fn key_after<Key: TrieKey>(items: &[(Key, usize)], front: &[u8], byte: u8) -> Option<usize>
     requires { Ascends (keyed Key.key items.now) }
-    ensures some { IfSome result (λ i. BeginsThen front.now byte (key_at (keyed Key.key items.now) i)) }
+    ensures some { IfSome result (λ i.
+        BeginsThen front.now byte (key_at (keyed Key.key items.now) i)) }
     ensures none { IfNone result (NoneBeginsThen front.now byte (keyed Key.key items.now)) }
 {
     let place = items.partition_point(|item| is_below(item.0.key_bytes(), front, byte));
@@ -158,7 +159,8 @@ fn other_case<K: ZeroTrieWithOptions, Key: TrieKey>(
     requires { Ascends (keyed Key.key items.now) }
     ensures some { IfSome result (λ i.
         DifferInCase K.kind key.now (key_at (keyed Key.key items.now) i)) }
-    ensures none { IfNone result (NoneTurns K.kind key.now next.now (keyed Key.key items.now)) }
+    ensures none { IfNone result
+        (NoneHasOtherCase K.kind key.now next.now (keyed Key.key items.now)) }
 {
     let common = common_front_len(key, next);
     if common == key.len() {

@@ -2,7 +2,7 @@
 
 ghost use Rattle.std.specs.Prelude.{◌≡◌, ℕ, ◌+◌, ◌-◌, ◌^◌, ◌<◌, ◌≤◌, IfSome, Some, drop, slice_index, length};
 ghost use Rattle.zerotrie_build.specs.Order.{Ordered};
-ghost use Rattle.zerotrie_build.specs.passes.Windows.{window as window_of, step_of, item_no, byte_of, edge_of, high_front, IsLow, IsGroup};
+ghost use Rattle.zerotrie_build.specs.passes.Windows.{window as window_of, step_of, item_no, byte_of, edge_of, high_front, HasLiteralAt, IsGroup};
 
 use crate::indexed::IndexedItems;
 use zerotrie_core::ZeroTrieWithOptions;
@@ -91,10 +91,10 @@ fn low_end(key: &[u8], other: &[u8], from: usize) -> usize
 pub(crate) fn literals_end<'a, I: IndexedItems<'a>>(items: I, window: Window) -> usize
     requires some { window.from < window.to }
     requires items { window.to ≤ length (I.pairs items) }
-    requires literal { IsLow (I.pairs items) window window.depth }
+    requires literal { HasLiteralAt (I.pairs items) window window.depth }
     ensures past { window.depth < result }
     ensures within { result ≤ length (item_no (I.pairs items) window.from).0 }
-    ensures low { (i : ℕ) → window.depth ≤ i → i < result → IsLow (I.pairs items) window i }
+    ensures low { (i : ℕ) → window.depth ≤ i → i < result → HasLiteralAt (I.pairs items) window i }
     ensures room { result < 2 ^ 64 }
 {
     let (first, _) = items.get(window.from);

@@ -7,11 +7,12 @@ ghost use Rattle.zerotrie_core.specs.Branches.{total as total_of, ends, blocks, 
 ghost use Rattle.zerotrie_core.specs.Canonical.{size_of};
 ghost use Rattle.zerotrie_core.specs.Texts.{Means};
 ghost use Rattle.zerotrie_core.specs.Causes.{Cause};
-ghost use Rattle.zerotrie_build.specs.Order.{Ordered, AreKeys, AreLow};
-ghost use Rattle.zerotrie_build.specs.passes.Windows.{window as window_of, item_no};
-ghost use Rattle.zerotrie_build.specs.passes.Measured.{IsMeasured};
-ghost use Rattle.zerotrie_build.specs.passes.Puts.{Puts};
-ghost use Rattle.zerotrie_build.specs.passes.Writing.{with_bits, IsLead, spelled_behind, target_lens, HasSlotsTo, position_at, IsPending, NodesWritten, WrittenTo};
+ghost use Rattle.zerotrie_core.specs.plain.Encoding.{with_bits};
+ghost use Rattle.zerotrie_build.specs.Order.{Ordered, AreKeys, AreAsciiKeys};
+ghost use Rattle.zerotrie_build.specs.passes.Windows.{window as window_of, item_no, step_of};
+ghost use Rattle.zerotrie_build.specs.passes.Measured.{NoneFirst, HasFirstTargets, IsMeasured};
+ghost use Rattle.zerotrie_build.specs.passes.Zeros.{WritesNext};
+ghost use Rattle.zerotrie_build.specs.passes.Writing.{IsLead, spelled_with_bits, target_lens, HasSlotsTo, position_at, IsPending, FrontWritten, NodesWritten, WrittenTo};
 
 use crate::branch_layout::{Layout, Next, PendingWindow, Position, WriteInput};
 use crate::indexed::IndexedItems;
@@ -25,13 +26,13 @@ use zerotrie_core::{
 };
 
 /// The bits of the lead of a value node.
-const VALUE: u8 = 0b1000_0000;
+pub(crate) const VALUE: u8 = 0b1000_0000;
 
 /// The bits of the lead of a span.
 const SPAN: u8 = 0b1010_0000;
 
 /// The bits of the lead of a branch.
-const BRANCH: u8 = 0b1100_0000;
+pub(crate) const BRANCH: u8 = 0b1100_0000;
 
 /// A store whose first `at` bytes are written. The others are zeros.
 #[derive(Drop)]
@@ -66,8 +67,7 @@ impl<S: TrieBuilderStore + Drop> Writing<S> {
     #[inline(always)]
     fn put(&mut self, byte: u8)
         requires { self.old.at < length (S.list self.old.data) }
-        ensures { Puts (S.list self.old.data) self.old.at (S.list self.new.data) self.new.at (byte
-            ∷ []) }
+        ensures { WritesNext S.list self.old self.new (byte ∷ []) }
     {
         // That a length is below 2^64 tells the proof that so is the place after it.
         let _len = self.data.atbs_len();
@@ -79,8 +79,7 @@ impl<S: TrieBuilderStore + Drop> Writing<S> {
     #[inline(always)]
     fn put_all(&mut self, bytes: &[u8])
         requires { self.old.at + length bytes.now ≤ length (S.list self.old.data) }
-        ensures { Puts (S.list self.old.data) self.old.at (S.list self.new.data) self.new.at
-            bytes.now }
+        ensures { WritesNext S.list self.old self.new bytes.now }
     {
         for byte in bytes {
             self.put(*byte);
@@ -91,8 +90,7 @@ impl<S: TrieBuilderStore + Drop> Writing<S> {
     fn put_spelling(&mut self, bits: u8, spelling: &[u8])
         requires room { self.old.at + length spelling.now ≤ length (S.list self.old.data) }
         requires bits { bits + slice_index spelling.now 0 < 256 }
-        ensures { Puts (S.list self.old.data) self.old.at (S.list self.new.data) self.new.at
-            (with_bits bits spelling.now) }
+        ensures { WritesNext S.list self.old self.new (with_bits bits spelling.now) }
     {
         if let Some((lead, trail)) = spelling.split_first() {
             self.put(bits + *lead);
@@ -103,10 +101,9 @@ impl<S: TrieBuilderStore + Drop> Writing<S> {
     /// Writes a number of any length, in the form whose shortest number of two bytes is `latent`.
     fn put_long(&mut self, bits: u8, latent: u8, number: usize)
         requires form { IsLead bits latent }
-        requires room { self.old.at + length (spelled_behind bits latent number)
+        requires room { self.old.at + length (spelled_with_bits bits latent number)
             ≤ length (S.list self.old.data) }
-        ensures { Puts (S.list self.old.data) self.old.at (S.list self.new.data) self.new.at
-            (spelled_behind bits latent number) }
+        ensures { WritesNext S.list self.old self.new (spelled_with_bits bits latent number) }
     {
         if latent == 16 {
             self.put_spelling(bits, &write_varint_meta3(number));
@@ -120,10 +117,9 @@ impl<S: TrieBuilderStore + Drop> Writing<S> {
     #[inline(always)]
     fn put_number(&mut self, bits: u8, latent: u8, number: usize)
         requires form { IsLead bits latent }
-        requires room { self.old.at + length (spelled_behind bits latent number)
+        requires room { self.old.at + length (spelled_with_bits bits latent number)
             ≤ length (S.list self.old.data) }
-        ensures { Puts (S.list self.old.data) self.old.at (S.list self.new.data) self.new.at
-            (spelled_behind bits latent number) }
+        ensures { WritesNext S.list self.old self.new (spelled_with_bits bits latent number) }
     {
         let least = latent as usize;
         if number < least {
@@ -144,10 +140,9 @@ impl<S: TrieBuilderStore + Drop> Writing<S> {
     fn put_large(&mut self, bits: u8, latent: u8, number: usize)
         requires form { IsLead bits latent }
         requires large { latent + 128 * latent ≤ number }
-        requires room { self.old.at + length (spelled_behind bits latent number)
+        requires room { self.old.at + length (spelled_with_bits bits latent number)
             ≤ length (S.list self.old.data) }
-        ensures { Puts (S.list self.old.data) self.old.at (S.list self.new.data) self.new.at
-            (spelled_behind bits latent number) }
+        ensures { WritesNext S.list self.old self.new (spelled_with_bits bits latent number) }
     {
         let least = latent as usize;
         let low = number - least;
@@ -166,8 +161,7 @@ impl<S: TrieBuilderStore + Drop> Writing<S> {
     fn put_value(&mut self, value: usize)
         requires { self.old.at + length (spelled_as value_form value)
             ≤ length (S.list self.old.data) }
-        ensures puts { Puts (S.list self.old.data) self.old.at (S.list self.new.data) self.new.at
-            (spelled_as value_form value) }
+        ensures puts { WritesNext S.list self.old self.new (spelled_as value_form value) }
         ensures spells { SpellsAs value_form value (spelled_as value_form value) }
     {
         self.put_number(VALUE, 16, value);
@@ -180,8 +174,7 @@ impl<S: TrieBuilderStore + Drop> Writing<S> {
         requires order { window.depth ≤ end }
         requires within { end ≤ length (item_no (I.pairs items) window.from).0 }
         requires room { self.old.at + (end - window.depth) ≤ length (S.list self.old.data) }
-        ensures { Puts (S.list self.old.data) self.old.at (S.list self.new.data) self.new.at
-            (take (end - window.depth)
+        ensures { WritesNext S.list self.old self.new (take (end - window.depth)
             (drop window.depth (item_no (I.pairs items) window.from).0)) }
     {
         let (key, _) = items.get(window.from);
@@ -195,8 +188,7 @@ impl<S: TrieBuilderStore + Drop> Writing<S> {
         requires run { window.depth + run ≤ length (item_no (I.pairs items) window.from).0 }
         requires room { self.old.at + (length (spelled_as span_form run) + run)
             ≤ length (S.list self.old.data) }
-        ensures puts { Puts (S.list self.old.data) self.old.at (S.list self.new.data) self.new.at
-            (spelled_as span_form run ++ take run
+        ensures puts { WritesNext S.list self.old self.new (spelled_as span_form run ++ take run
             (drop window.depth (item_no (I.pairs items) window.from).0)) }
         ensures spells { SpellsAs span_form run (spelled_as span_form run) }
     {
@@ -212,7 +204,7 @@ impl<S: TrieBuilderStore + Drop> Writing<S> {
         requires within { All (λ i. i < length lens.now) numbers.now }
         requires small { total_of (target_lens lens.now numbers.now) < 2 ^ 64 }
         requires room { self.old.at + (length numbers.now - 1) ≤ length (S.list self.old.data) }
-        ensures { Puts (S.list self.old.data) self.old.at (S.list self.new.data) self.new.at
+        ensures { WritesNext S.list self.old self.new
             (map (λ o. o / 256 ^ place % 256) (ends (target_lens lens.now numbers.now))) }
     {
         let mut end = 0;
@@ -231,7 +223,7 @@ impl<S: TrieBuilderStore + Drop> Writing<S> {
         requires small { total_of (target_lens lens.now numbers.now) < 2 ^ 64 }
         requires room { self.old.at + bytes * (length numbers.now - 1)
             ≤ length (S.list self.old.data) }
-        ensures { Puts (S.list self.old.data) self.old.at (S.list self.new.data) self.new.at
+        ensures { WritesNext S.list self.old self.new
             (blocks bytes (ends (target_lens lens.now numbers.now))) }
     {
         for place in (0..bytes).rev() {
@@ -244,15 +236,55 @@ impl<S: TrieBuilderStore + Drop> Writing<S> {
     fn put_branch(&mut self, table: &[u8], lens: &[usize], numbers: &[usize])
         requires within { All (λ i. i < length lens.now) numbers.now }
         requires small { total_of (target_lens lens.now numbers.now) < 2 ^ 64 }
-        requires room { self.old.at + length (branch_front table.now (target_lens lens.now numbers.now))
+        requires room { self.old.at
+            + length (branch_front table.now (target_lens lens.now numbers.now))
             ≤ length (S.list self.old.data) }
-        ensures { Puts (S.list self.old.data) self.old.at (S.list self.new.data) self.new.at
+        ensures { WritesNext S.list self.old self.new
             (branch_front table.now (target_lens lens.now numbers.now)) }
     {
         let width = width_of(total(lens, numbers));
         self.put_number(BRANCH, 32, 256 * width + numbers.len() % 256);
         self.put_all(table);
         self.put_offsets(lens, numbers, width + 1);
+    }
+
+    /// Writes the values, literals and spans that stand first in the window. Returns the window after them.
+    #[inline(always)]
+    fn put_front<'a, K: ZeroTrieWithOptions, I: IndexedItems<'a>>(
+        &mut self,
+        items: I,
+        window: Window,
+    ) -> Window
+        requires keys { AreKeys K.kind (I.pairs items) }
+        requires known { (targets : List Window)
+            × HasFirstTargets K.kind (I.pairs items) window targets }
+        requires room { self.old.at + size_of K.kind (window_of (I.pairs items) window)
+            ≤ length (S.list self.old.data) }
+        ensures front { FrontWritten K.kind (I.pairs items) window result
+            (S.list self.old.data) self.old.at (S.list self.new.data) self.new.at }
+        ensures stops { NoneFirst K.kind (I.pairs items) result }
+        ensures room { step_of K.kind (I.pairs items) result ≡ Step.Branch
+            → result.depth + 1 < 2 ^ 64 }
+    {
+        let mut rest = window;
+        loop {
+            match first_step::<K, I>(items, rest) {
+                Step::Value(value) => {
+                    self.put_value(value);
+                    rest.from += 1;
+                }
+                Step::Literal(_) => {
+                    let end = literals_end(items, rest);
+                    self.put_literals(items, rest, end);
+                    rest.depth = end;
+                }
+                Step::Span(count) => {
+                    self.put_span(items, rest, count);
+                    rest.depth += count;
+                }
+                Step::Branch | Step::End => return rest,
+            }
+        }
     }
 
     /// Writes a window, whose slots begin at `slot`, node after node up to the targets of its first branch, and lays
@@ -267,7 +299,7 @@ impl<S: TrieBuilderStore + Drop> Writing<S> {
         layout: &mut Layout<A>,
     ) -> Result<(), ZeroTrieBuildError>
         requires keys { AreKeys K.kind (I.pairs items) }
-        requires ascii { IsTrue input.ascii → AreLow (I.pairs items) }
+        requires ascii { IsTrue input.ascii → AreAsciiKeys (I.pairs items) }
         requires ordered { Ordered K.kind (I.pairs items) }
         requires kept { (end : ℕ)
             × HasSlotsTo K.kind (I.pairs items) input.slots.now slot end window }
@@ -287,32 +319,14 @@ impl<S: TrieBuilderStore + Drop> Writing<S> {
         }
         // That a length is below 2^64 tells the proof that so are the places of the slots.
         let _len = input.slots.len();
-        let mut rest = window;
-        loop {
-            match first_step::<K, I>(items, rest) {
-                Step::End => return Ok(()),
-                Step::Value(value) => {
-                    self.put_value(value);
-                    rest.from += 1;
-                }
-                Step::Literal(_) => {
-                    let end = literals_end(items, rest);
-                    self.put_literals(items, rest, end);
-                    rest.depth = end;
-                }
-                Step::Span(count) => {
-                    self.put_span(items, rest, count);
-                    rest.depth += count;
-                }
-                Step::Branch => {
-                    layout.set::<K, I>(items, input, rest, slot)?;
-                    let numbers = layout.numbers.as_slice();
-                    let lens = &input.slots[slot..slot + numbers.len()];
-                    self.put_branch(layout.table.as_slice(), lens, numbers);
-                    return Ok(());
-                }
-            }
+        let rest = self.put_front::<K, I>(items, window);
+        if rest.from < rest.to {
+            layout.set::<K, I>(items, input, rest, slot)?;
+            let numbers = layout.numbers.as_slice();
+            let lens = &input.slots[slot..slot + numbers.len()];
+            self.put_branch(layout.table.as_slice(), lens, numbers);
         }
+        Ok(())
     }
 
     /// Writes all that is pending, where the first window begins at the first item and the first slot.
@@ -323,7 +337,7 @@ impl<S: TrieBuilderStore + Drop> Writing<S> {
         layout: &mut Layout<A>,
     ) -> Result<(), ZeroTrieBuildError>
         requires keys { AreKeys K.kind (I.pairs items) }
-        requires ascii { IsTrue input.ascii → AreLow (I.pairs items) }
+        requires ascii { IsTrue input.ascii → AreAsciiKeys (I.pairs items) }
         requires ordered { Ordered K.kind (I.pairs items) }
         requires pending { (ws : List Window)
             × WrittenTo K.kind (I.pairs items) (S.list self.old.data) self.old.at ws
@@ -379,7 +393,7 @@ pub(crate) fn write<
 ) -> Result<S, ZeroTrieBuildError>
     requires measured { IsMeasured K.kind (I.pairs items) measured.now.slots.items
         measured.now.len }
-    requires ascii { IsTrue ascii → AreLow (I.pairs items) }
+    requires ascii { IsTrue ascii → AreAsciiKeys (I.pairs items) }
     ensures means { IfOk result (λ store. Means K.kind (S.list store) (map_of (I.pairs items))) }
     ensures refused { IfErr result (λ e. e ≢ ZeroTrieBuildError.OutOfMemory
         → (e ≡ ZeroTrieBuildError.CouldNotSolvePerfectHash) × Cause K.kind (I.pairs items) e) }

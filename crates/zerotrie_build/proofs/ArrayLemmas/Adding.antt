@@ -14,7 +14,7 @@ use Rattle.zerotrie_core.proofs.CallerLemmas.{residual-append, stack_none}
 use Rattle.zerotrie_build.specs.declared.konst.text.Sibling.{Sibling}
 use Rattle.zerotrie_build.specs.declared.konst.text.Text.{Text}
 use Rattle.zerotrie_build.specs.Order.{Before, Ordered}
-use Rattle.zerotrie_build.specs.konst.Texts.{Counts, Has, PutsBefore, tops}
+use Rattle.zerotrie_build.specs.konst.Texts.{Counts, Has, Prepends, newest_first}
 use Rattle.zerotrie_build.specs.konst.Growing.{IsClosedTo, IsReady, BuiltFrom, AtMost, AreAmong, RefusedFrom, RefusedBefore, IsRefusedBuild}
 use Rattle.zerotrie_build.proofs.Items.{got, each_ordered}
 use Rattle.zerotrie_build.proofs.Overflow.{same_edges, same_targets_size, exceeds}
@@ -29,15 +29,15 @@ drop_at (e ∷ all) (suc i) a h = drop_at all i a h
 
 -- the value is in front
 pub stands_at : (k : ℕ) (all : Pairs) (i : ℕ) (key : List ℕ) (v : ℕ) (old new : Text) (siblings : List Sibling) → slice_get all i ≡ Some (key, v)
-    → SpellsAs value_form v (spelled_as value_form v) → PutsBefore old new (spelled_as value_form v) → BuiltFrom k (suc i) all old siblings → IsClosedTo k key (length key) new siblings (drop i all)
+    → SpellsAs value_form v (spelled_as value_form v) → Prepends old new (spelled_as value_form v) → BuiltFrom k (suc i) all old siblings → IsClosedTo k key (length key) new siblings (drop i all)
 stands_at k all i key v old new siblings at spells p built =
     let waiting : IsReady k key old siblings (drop (suc i) all) = subst (λ e. IsReady k e.0 old siblings (drop (suc i) all)) (got all i ([], 0) (key, v) at) built in
     subst (IsClosedTo k key (length key) new siblings) (drop_at all i (key, v) at)
-    (spelled_as value_form v ++ waiting.0, p.has waiting.0 waiting.1, with_value k key v (spelled_as value_form v) (tops siblings) old.front new.front waiting.0 (drop (suc i) all) spells (λ m c. p.counts m c) waiting.2)
+    (spelled_as value_form v ++ waiting.0, p.has waiting.0 waiting.1, with_value k key v (spelled_as value_form v) (newest_first siblings) old.front new.front waiting.0 (drop (suc i) all) spells (λ m c. p.counts m c) waiting.2)
 
 pub built_at_start : (k : ℕ) (all : Pairs) (i : ℕ) (key : List ℕ) (text : Text) (siblings : List Sibling) → i ≡ 0 → IsClosedTo k key 0 text siblings (drop i all) → BuiltFrom k i all text siblings
 built_at_start k all i key text siblings e standing =
-    let w = whole k key (tops siblings) text.front standing.0 (drop i all) standing.2 in
+    let w = whole k key (newest_first siblings) text.front standing.0 (drop i all) standing.2 in
     let lists : Lists simple_ascii standing.0 all = subst (λ j. Lists simple_ascii standing.0 (drop j all)) e w.0 in
     let enough : stack_of all ≤ k = subst (λ j. stack_of (drop j all) ≤ k) e w.1 in
     subst (λ j. BuiltFrom k j all text siblings) (sym e) (standing.0, standing.1, lists, enough)

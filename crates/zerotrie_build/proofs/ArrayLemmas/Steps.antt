@@ -10,7 +10,7 @@ use Rattle.zerotrie_core.specs.Causes.{ZeroTrieBuildError, CapacityExceeded, Sta
 use Rattle.zerotrie_build.specs.declared.konst.text.Sibling.{Sibling}
 use Rattle.zerotrie_build.specs.declared.konst.text.Text.{Text}
 use Rattle.zerotrie_build.specs.Order.{Before}
-use Rattle.zerotrie_build.specs.konst.Texts.{Counts, EndsIn, Has, PutsBefore, tops, bytes_of, lens_of}
+use Rattle.zerotrie_build.specs.konst.Texts.{Counts, EndsIn, Has, Prepends, newest_first, bytes_of, lens_of}
 use Rattle.zerotrie_build.specs.konst.Growing.{NoneAt, AllAt, ReadyFor, IsClosedTo, IsReady, Joins, LevelTooWide, RefusedAt, RefusedFrom, RefusedBefore}
 use Rattle.zerotrie_build.proofs.Items.{below_or_from}
 use Rattle.zerotrie_build.proofs.OrderLemmas.Parting.{common}
@@ -26,15 +26,15 @@ all_at_more : (d : ℕ) (taken : List Sibling) (s : Sibling) → AllAt d taken �
 all_at_more d [] s all e = (e, tt)
 all_at_more d (t ∷ taken) s all e = (all.0, all_at_more d taken s all.1 e)
 
-pub level_more : (d : ℕ) (ss : List Sibling) (start : ℕ) (e : Sibling) → 0 < start → start ≤ length ss → (get_or ss (start - 1) e).depth ≡ d → AllAt d (tops (drop start ss)) → AllAt d (tops (drop (start - 1) ss))
+pub level_more : (d : ℕ) (ss : List Sibling) (start : ℕ) (e : Sibling) → 0 < start → start ≤ length ss → (get_or ss (start - 1) e).depth ≡ d → AllAt d (newest_first (drop start ss)) → AllAt d (newest_first (drop (start - 1) ss))
 level_more d ss start e some within at level =
     let next : (start - 1) + 1 ≡ start = omega arith in
     let s = get_or ss (start - 1) e in
     let cut : drop (start - 1) ss ≡ s ∷ drop start ss = drop_more ss (start - 1) e (omega arith) ∙ ap (λ n. s ∷ drop n ss) next in
-    subst (λ x. AllAt d (tops x)) (sym cut) (subst (AllAt d) (sym (reverse-append (s ∷ []) (drop start ss))) (all_at_more d (tops (drop start ss)) s level at))
+    subst (λ x. AllAt d (newest_first x)) (sym cut) (subst (AllAt d) (sym (reverse-append (s ∷ []) (drop start ss))) (all_at_more d (newest_first (drop start ss)) s level at))
 
 -- the siblings behind a place, and those before it
-pub split_at : (ss : List Sibling) (start : ℕ) → tops ss ≡ tops (drop start ss) ++ tops (take start ss)
+pub split_at : (ss : List Sibling) (start : ℕ) → newest_first ss ≡ newest_first (drop start ss) ++ newest_first (take start ss)
 split_at ss start = ap reverse (sym (take-append-drop start ss)) ∙ reverse-append (take start ss) (drop start ss)
 
 -- what a range to the end lends
@@ -51,67 +51,67 @@ pub sum_wide : (t r : ℕ) → (t < 2 ^ 64 → r ≡ t) → (2 ^ 64 ≤ t → 2 
 sum_wide t r exact capped large = elim (below_or_from t (2 ^ 64)) [ inl low ↦ let e = exact low in omega arith | inr high ↦ omega arith ]
 
 -- a branch is made of the siblings behind a place
-pub joins_at : (d : ℕ) (old mid new : Text) (ss branch left : List Sibling) (start : ℕ) → branch ≡ drop start ss → left ≡ take start ss → AllAt d (tops (drop start ss)) → NoneAt d (tops (take start ss))
-    → mid.buffer.now ≡ old.buffer.now → mid.len ≡ old.len → mid.front ≡ total (lens_of (tops branch)) → total (lens_of (tops branch)) < 2 ^ 32
-    → PutsBefore mid new (branch_front (bytes_of (tops branch)) (lens_of (tops branch))) → Joins d old new (tops ss) (tops left)
+pub joins_at : (d : ℕ) (old mid new : Text) (ss branch left : List Sibling) (start : ℕ) → branch ≡ drop start ss → left ≡ take start ss → AllAt d (newest_first (drop start ss)) → NoneAt d (newest_first (take start ss))
+    → mid.buffer.now ≡ old.buffer.now → mid.len ≡ old.len → mid.front ≡ total (lens_of (newest_first branch)) → total (lens_of (newest_first branch)) < 2 ^ 32
+    → Prepends mid new (branch_front (bytes_of (newest_first branch)) (lens_of (newest_first branch))) → Joins d old new (newest_first ss) (newest_first left)
 joins_at d old mid new ss branch left start is left_is level none written len front narrow p =
-    let taken = tops branch in record {
+    let taken = newest_first branch in record {
       taken = taken;
-      split = split_at ss start ∙ ap (λ x. tops x ++ tops (take start ss)) (sym is) ∙ ap (λ x. taken ++ tops x) (sym left_is);
-      level = subst (λ x. AllAt d (tops x)) (sym is) level;
-      no_more = subst (λ x. NoneAt d (tops x)) (sym left_is) none;
+      split = split_at ss start ∙ ap (λ x. newest_first x ++ newest_first (take start ss)) (sym is) ∙ ap (λ x. taken ++ newest_first x) (sym left_is);
+      level = subst (λ x. AllAt d (newest_first x)) (sym is) level;
+      no_more = subst (λ x. NoneAt d (newest_first x)) (sym left_is) none;
       narrow = narrow;
       has = λ behind h. p.has behind (has_same old mid behind (sym written) (sym len) h);
       counts = p.counts (total (lens_of taken)) (subst (λ c. Counts c (total (lens_of taken))) (sym front) (record { small = λ l. refl; large = λ l. l }));
     }
 
-pub wide_at : (d : ℕ) (ss branch : List Sibling) (start : ℕ) → branch ≡ drop start ss → AllAt d (tops (drop start ss)) → NoneAt d (tops (take start ss)) → 2 ^ 32 ≤ total (lens_of (tops branch)) → LevelTooWide d (tops ss)
+pub wide_at : (d : ℕ) (ss branch : List Sibling) (start : ℕ) → branch ≡ drop start ss → AllAt d (newest_first (drop start ss)) → NoneAt d (newest_first (take start ss)) → 2 ^ 32 ≤ total (lens_of (newest_first branch)) → LevelTooWide d (newest_first ss)
 wide_at d ss branch start is level none wide = record {
-  taken = tops branch;
-  after = tops (take start ss);
-  split = split_at ss start ∙ ap (λ x. tops x ++ tops (take start ss)) (sym is);
-  level = subst (λ x. AllAt d (tops x)) (sym is) level;
+  taken = newest_first branch;
+  after = newest_first (take start ss);
+  split = split_at ss start ∙ ap (λ x. newest_first x ++ newest_first (take start ss)) (sym is);
+  level = subst (λ x. AllAt d (newest_first x)) (sym is) level;
   no_more = none;
   wide = wide;
 }
 
 -- The text is set aside and a branch is made of it and the siblings at its depth.
 pub closes_branch : (k : ℕ) (key : List ℕ) (d : ℕ) (old mid new : Text) (before aside after : List Sibling) (listed : Pairs) → d < length key → All (λ b. b < 128) key
-    → (NoneAt d (tops before) → ⊥) → length before < k → tops aside ≡ record { depth = d; byte = get_or key d 0; len = old.front } ∷ tops before
-    → mid.buffer.now ≡ old.buffer.now → mid.len ≡ old.len → Joins d mid new (tops aside) (tops after)
+    → (NoneAt d (newest_first before) → ⊥) → length before < k → newest_first aside ≡ record { depth = d; byte = get_or key d 0; len = old.front } ∷ newest_first before
+    → mid.buffer.now ≡ old.buffer.now → mid.len ≡ old.len → Joins d mid new (newest_first aside) (newest_first after)
     → IsClosedTo k key (suc d) old before listed → IsClosedTo k key d new after listed
 closes_branch k key d old mid new before aside after listed within ascii some room is written len j standing =
     let bytes = standing.0 in
     let h = has_same old mid bytes (sym written) (sym len) standing.1 in
-    let o = opens k key d old.front (tops before) j.taken (tops after) bytes listed within (ascii d 0 within) some (let l = length-reverse before in omega arith) (sym is ∙ j.split) j.level j.no_more standing.2 in
-    (branch_front (bytes_of j.taken) (lens_of j.taken) ++ bytes, j.has bytes h, closed k key d new.front j.taken (tops after) bytes listed o j.narrow j.counts)
+    let o = opens k key d old.front (newest_first before) j.taken (newest_first after) bytes listed within (ascii d 0 within) some (let l = length-reverse before in omega arith) (sym is ∙ j.split) j.level j.no_more standing.2 in
+    (branch_front (bytes_of j.taken) (lens_of j.taken) ++ bytes, j.has bytes h, closed k key d new.front j.taken (newest_first after) bytes listed o j.narrow j.counts)
 
 -- their texts are too long together
 pub stuck_wide : (k : ℕ) (key : List ℕ) (d : ℕ) (old : Text) (before aside : List Sibling) (listed : Pairs) (e : ZeroTrieBuildError) → d < length key → All (λ b. b < 128) key
-    → (NoneAt d (tops before) → ⊥) → length before < k → tops aside ≡ record { depth = d; byte = get_or key d 0; len = old.front } ∷ tops before
-    → e ≡ CapacityExceeded → LevelTooWide d (tops aside) → IsClosedTo k key (suc d) old before listed → RefusedAt k key d listed e
+    → (NoneAt d (newest_first before) → ⊥) → length before < k → newest_first aside ≡ record { depth = d; byte = get_or key d 0; len = old.front } ∷ newest_first before
+    → e ≡ CapacityExceeded → LevelTooWide d (newest_first aside) → IsClosedTo k key (suc d) old before listed → RefusedAt k key d listed e
 stuck_wide k key d old before aside listed e within ascii some room is error t standing =
-    let o = opens k key d old.front (tops before) t.taken t.after standing.0 listed within (ascii d 0 within) some (let l = length-reverse before in omega arith) (sym is ∙ t.split) t.level t.no_more standing.2 in
+    let o = opens k key d old.front (newest_first before) t.taken t.after standing.0 listed within (ascii d 0 within) some (let l = length-reverse before in omega arith) (sym is ∙ t.split) t.level t.no_more standing.2 in
     inl (error, too_wide k key d t.taken t.after standing.0 listed o (omega arith) t.wide)
 
 -- too many siblings wait
 pub stuck_many : (k : ℕ) (key : List ℕ) (d : ℕ) (old : Text) (before : List Sibling) (listed : Pairs) (e : ZeroTrieBuildError) → d < length key → All (λ b. b < 128) key
-    → (NoneAt d (tops before) → ⊥) → k ≤ length before → e ≡ StackExceeded → IsClosedTo k key (suc d) old before listed → RefusedAt k key d listed e
+    → (NoneAt d (newest_first before) → ⊥) → k ≤ length before → e ≡ StackExceeded → IsClosedTo k key (suc d) old before listed → RefusedAt k key d listed e
 stuck_many k key d old before listed e within ascii some full error standing =
     inr (
       error,
       λ all among.
-          too_many k key d (tops before) old.front standing.0 listed all within ascii standing.2 (let l = length-reverse before in omega arith) among
-          (two_aside k key d (tops before) old.front standing.0 listed all within ascii standing.2 some among),
+          too_many k key d (newest_first before) old.front standing.0 listed all within ascii standing.2 (let l = length-reverse before in omega arith) among
+          (two_aside k key d (newest_first before) old.front standing.0 listed all within ascii standing.2 some among),
     )
 
 -- a literal is put in front
-pub closes_literal : (k : ℕ) (key : List ℕ) (d : ℕ) (old new : Text) (siblings : List Sibling) (listed : Pairs) → d < length key → All (λ b. b < 128) key → NoneAt d (tops siblings)
-    → PutsBefore old new (get_or key d 0 ∷ []) → IsClosedTo k key (suc d) old siblings listed → IsClosedTo k key d new siblings listed
+pub closes_literal : (k : ℕ) (key : List ℕ) (d : ℕ) (old new : Text) (siblings : List Sibling) (listed : Pairs) → d < length key → All (λ b. b < 128) key → NoneAt d (newest_first siblings)
+    → Prepends old new (get_or key d 0 ∷ []) → IsClosedTo k key (suc d) old siblings listed → IsClosedTo k key d new siblings listed
 closes_literal k key d old new siblings listed within ascii none p standing = (
   get_or key d 0 ∷ standing.0,
   p.has standing.0 standing.1,
-  with_literal k key d (get_or key d 0) (tops siblings) old.front new.front standing.0 listed within refl (ascii d 0 within) none
+  with_literal k key d (get_or key d 0) (newest_first siblings) old.front new.front standing.0 listed within refl (ascii d 0 within) none
       (λ m c. p.counts m c) standing.2,
 )
 
@@ -121,22 +121,22 @@ pub goes_before : (k : ℕ) (before key : List ℕ) (text : Text) (siblings : Li
 goes_before k before key text siblings listed sorted ends standing = (
   standing.0,
   standing.1,
-  goes_on k before key (common before key) (tops siblings) text.front standing.0 listed (parted before key sorted) ends standing.2,
+  goes_on k before key (common before key) (newest_first siblings) text.front standing.0 listed (parted before key sorted) ends standing.2,
 )
 
 -- the text is set aside for the key before
 pub parts_before : (k : ℕ) (before key : List ℕ) (old new : Text) (siblings aside : List Sibling) (listed : Pairs) → Before simple_ascii before key → All (λ b. b < 128) key → common before key < length before
-    → length siblings < k → tops aside ≡ record { depth = common before key; byte = get_or key (common before key) 0; len = old.front } ∷ tops siblings → new.front ≡ 0
+    → length siblings < k → newest_first aside ≡ record { depth = common before key; byte = get_or key (common before key) 0; len = old.front } ∷ newest_first siblings → new.front ≡ 0
     → new.buffer.now ≡ old.buffer.now → new.len ≡ old.len
     → IsClosedTo k key (suc (common before key)) old siblings listed → IsReady k before new aside listed
 parts_before k before key old new siblings aside listed sorted ascii longer room is front written len standing =
     let p = parted before key sorted in
     let c = common before key in
-    let w = set_aside k before key c (get_or key c 0) old.front (tops siblings) standing.0 listed p longer refl (ascii c 0 p.room) (let l = length-reverse siblings in omega arith) standing.2 in (
+    let w = set_aside k before key c (get_or key c 0) old.front (newest_first siblings) standing.0 listed p longer refl (ascii c 0 p.room) (let l = length-reverse siblings in omega arith) standing.2 in (
       standing.0,
       has_same old new standing.0 (sym written) (sym len) standing.1,
       subst (λ ss. ReadyFor k before ss new.front standing.0 listed) (sym is)
-          (subst (λ f. ReadyFor k before (record { depth = c; byte = get_or key c 0; len = old.front } ∷ tops siblings) f standing.0 listed) (sym front) w),
+          (subst (λ f. ReadyFor k before (record { depth = c; byte = get_or key c 0; len = old.front } ∷ newest_first siblings) f standing.0 listed) (sym front) w),
     )
 
 -- too many siblings wait for the key before
@@ -148,8 +148,8 @@ stuck_before k before key text siblings listed e sorted ascii longer full error 
     inr (
       error,
       λ v all among.
-          too_many k key c (tops siblings) text.front standing.0 listed all p.room ascii standing.2 (let l = length-reverse siblings in omega arith) (λ f b h. among f b (among_right ((before, v) ∷ []) listed f b h))
-          (two_before k before key v c (tops siblings) text.front standing.0 listed all p.room ascii p longer standing.2 among),
+          too_many k key c (newest_first siblings) text.front standing.0 listed all p.room ascii standing.2 (let l = length-reverse siblings in omega arith) (λ f b h. among f b (among_right ((before, v) ∷ []) listed f b h))
+          (two_before k before key v c (newest_first siblings) text.front standing.0 listed all p.room ascii p longer standing.2 among),
     )
 
 -- what stops the walk below the key stops it before the key before

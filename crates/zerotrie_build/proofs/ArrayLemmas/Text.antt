@@ -6,7 +6,7 @@ use Rattle.std.proofs.lemmas.List.Sums.{sum_by-cons}
 use Rattle.zerotrie_core.specs.Branches.{total}
 use Rattle.zerotrie_build.specs.declared.konst.text.Sibling.{Sibling}
 use Rattle.zerotrie_build.specs.declared.konst.text.Text.{Text}
-use Rattle.zerotrie_build.specs.konst.Texts.{Counts, Has, Keeps, PutsBefore, tops, bytes_of, lens_of}
+use Rattle.zerotrie_build.specs.konst.Texts.{Counts, Has, Keeps, Prepends, newest_first, bytes_of, lens_of}
 use Rattle.zerotrie_build.proofs.Nodes.{total_more}
 
 -- nothing but the count in front was changed
@@ -21,11 +21,11 @@ keeps_then a b c p q = record {
   before = λ n l. let m = q.more in let r = p.room in q.before n (omega arith) ∙ p.before n (omega arith);
 }
 
-pub puts_nothing : (t : Text) → PutsBefore t t []
+pub puts_nothing : (t : Text) → Prepends t t []
 puts_nothing t = record { keeps = keeps_same t t refl refl refl; has = λ behind h. h; counts = λ front h. subst (Counts t.front) (let e : front ≡ 0 + front = omega arith in e) h }
 
 -- bytes in front of others
-pub puts_then : (a b c : Text) (xs ys : List ℕ) → PutsBefore a b ys → PutsBefore b c xs → PutsBefore a c (xs ++ ys)
+pub puts_then : (a b c : Text) (xs ys : List ℕ) → Prepends a b ys → Prepends b c xs → Prepends a c (xs ++ ys)
 puts_then a b c xs ys p q = record {
   keeps = keeps_then a b c p.keeps q.keeps;
   has = λ behind h. subst (Has c) (sym (append_assoc xs ys behind)) (q.has (ys ++ behind) (p.has behind h));
@@ -34,32 +34,32 @@ puts_then a b c xs ys p q = record {
       (q.counts (length ys + front) (p.counts front h));
 }
 
-pub puts_same : (a b : Text) (xs ys : List ℕ) → xs ≡ ys → PutsBefore a b xs → PutsBefore a b ys
-puts_same a b xs ys e = subst (PutsBefore a b) e
+pub puts_same : (a b : Text) (xs ys : List ℕ) → xs ≡ ys → Prepends a b xs → Prepends a b ys
+puts_same a b xs ys e = subst (Prepends a b) e
 
 -- the byte in front of those from a place on
-pub puts_more : (a b c : Text) (xs : List ℕ) (i d : ℕ) → 0 < i → i ≤ length xs → d ≡ get_or xs (i - 1) 0 → PutsBefore a b (drop i xs) → PutsBefore b c (d ∷ []) → PutsBefore a c (drop (i - 1) xs)
+pub puts_more : (a b c : Text) (xs : List ℕ) (i d : ℕ) → 0 < i → i ≤ length xs → d ≡ get_or xs (i - 1) 0 → Prepends a b (drop i xs) → Prepends b c (d ∷ []) → Prepends a c (drop (i - 1) xs)
 puts_more a b c xs i d some within is p q =
     let next : i ≡ (i - 1) + 1 = omega arith in
     puts_same a c (d ∷ drop i xs) (drop (i - 1) xs)
     (ap (λ x. x ∷ drop i xs) is ∙ ap (λ k. get_or xs (i - 1) 0 ∷ drop k xs) next ∙ sym (drop_more xs (i - 1) 0 (omega arith)))
     (puts_then a b c (d ∷ []) (drop i xs) p q)
 
-pub length-lens : (ss : List Sibling) → length (lens_of (tops ss)) ≡ length ss
-length-lens ss = length-map (tops ss) (λ s. s.len) ∙ length-reverse ss
+pub length-lens : (ss : List Sibling) → length (lens_of (newest_first ss)) ≡ length ss
+length-lens ss = length-map (newest_first ss) (λ s. s.len) ∙ length-reverse ss
 
 -- the length of a sibling, counted from the other end
-pub len_at : (ss : List Sibling) (i : ℕ) (d : Sibling) → 0 < i → i ≤ length ss → get_or (lens_of (tops ss)) (length ss - i) 0 ≡ (get_or ss (i - 1) d).len
+pub len_at : (ss : List Sibling) (i : ℕ) (d : Sibling) → 0 < i → i ≤ length ss → get_or (lens_of (newest_first ss)) (length ss - i) 0 ≡ (get_or ss (i - 1) d).len
 len_at ss i d some within =
     let far : length ss - 1 - (length ss - i) ≡ i - 1 = omega arith in
-    get_or-map (λ r. r.len) (tops ss) (length ss - i) d 0 (let k = length-reverse ss in omega arith)
+    get_or-map (λ r. r.len) (newest_first ss) (length ss - i) d 0 (let k = length-reverse ss in omega arith)
     ∙ ap (λ r. r.len) (get_or-reverse ss (length ss - i) d (omega arith) ∙ ap (λ k. get_or ss k d) far)
 
 -- where the target before ends
-pub end_before : (ss : List Sibling) (i end len : ℕ) → 1 ≤ i → i < length ss → end ≡ total (take (length ss - (i - 1)) (lens_of (tops ss))) → get_or (lens_of (tops ss)) (length ss - i) 0 ≡ len
-    → end ≡ total (take (length ss - i) (lens_of (tops ss))) + len
+pub end_before : (ss : List Sibling) (i end len : ℕ) → 1 ≤ i → i < length ss → end ≡ total (take (length ss - (i - 1)) (lens_of (newest_first ss))) → get_or (lens_of (newest_first ss)) (length ss - i) 0 ≡ len
+    → end ≡ total (take (length ss - i) (lens_of (newest_first ss))) + len
 end_before ss i end len some within is at =
-    let ls = lens_of (tops ss) in
+    let ls = lens_of (newest_first ss) in
     let k = length-lens ss in
     let next : suc (length ss - i) ≡ length ss - (i - 1) = omega arith in
     let more : total (take (length ss - i) ls) + get_or ls (length ss - i) 0 ≡ total (take (suc (length ss - i)) ls) = total_more ls (length ss - i) (omega arith) in
@@ -79,17 +79,17 @@ all_blocks g f n (suc i) k e h =
     ap (λ a. map g (map f (range_with_len a (suc i)))) first ∙ ap (λ c. map g (map f (range_with_len 1 c))) e
 
 -- the edges of siblings in their order
-pub bytes_more : (ss : List Sibling) (s : Sibling) → bytes_of (tops (ss ++ s ∷ [])) ≡ s.byte ∷ bytes_of (tops ss)
+pub bytes_more : (ss : List Sibling) (s : Sibling) → bytes_of (newest_first (ss ++ s ∷ [])) ≡ s.byte ∷ bytes_of (newest_first ss)
 bytes_more ss s = ap bytes_of (reverse-append ss (s ∷ []))
 
 pub total_first : (x : ℕ) (xs : List ℕ) → total (x ∷ xs) ≡ x + total xs
 total_first x xs = sum_by-cons (λ n. n) x xs
 
-pub lens_more : (ss : List Sibling) (s : Sibling) → total (lens_of (tops (ss ++ s ∷ []))) ≡ s.len + total (lens_of (tops ss))
-lens_more ss s = ap (λ x. total (lens_of x)) (reverse-append ss (s ∷ [])) ∙ total_first s.len (lens_of (tops ss))
+pub lens_more : (ss : List Sibling) (s : Sibling) → total (lens_of (newest_first (ss ++ s ∷ []))) ≡ s.len + total (lens_of (newest_first ss))
+lens_more ss s = ap (λ x. total (lens_of x)) (reverse-append ss (s ∷ [])) ∙ total_first s.len (lens_of (newest_first ss))
 
-pub edges_take : (ss : List Sibling) (i : ℕ) (d : Sibling) → i < length ss → (get_or ss i d).byte ∷ bytes_of (tops (take i ss)) ≡ bytes_of (tops (take (i + 1) ss))
-edges_take ss i d within = sym (ap (λ x. bytes_of (tops x)) (take_more ss i d within) ∙ bytes_more (take i ss) (get_or ss i d))
+pub edges_take : (ss : List Sibling) (i : ℕ) (d : Sibling) → i < length ss → (get_or ss i d).byte ∷ bytes_of (newest_first (take i ss)) ≡ bytes_of (newest_first (take (i + 1) ss))
+edges_take ss i d within = sym (ap (λ x. bytes_of (newest_first x)) (take_more ss i d within) ∙ bytes_more (take i ss) (get_or ss i d))
 
-pub lens_take : (ss : List Sibling) (i : ℕ) (d : Sibling) → i < length ss → total (lens_of (tops (take (i + 1) ss))) ≡ (get_or ss i d).len + total (lens_of (tops (take i ss)))
-lens_take ss i d within = ap (λ x. total (lens_of (tops x))) (take_more ss i d within) ∙ lens_more (take i ss) (get_or ss i d)
+pub lens_take : (ss : List Sibling) (i : ℕ) (d : Sibling) → i < length ss → total (lens_of (newest_first (take (i + 1) ss))) ≡ (get_or ss i d).len + total (lens_of (newest_first (take i ss)))
+lens_take ss i d within = ap (λ x. total (lens_of (newest_first x))) (take_more ss i d within) ∙ lens_more (take i ss) (get_or ss i d)

@@ -10,8 +10,8 @@ use Rattle.zerotrie_build.specs.Order.{Ordered, AreKeys}
 use Rattle.zerotrie_build.specs.declared.windows.Window.{Window}
 use Rattle.zerotrie_build.specs.declared.measuring.OpenBranch.{OpenBranch}
 use Rattle.zerotrie_build.specs.passes.Windows.{window}
-use Rattle.zerotrie_build.specs.passes.Measured.{TargetWindows, sizes_of, ends_from, Kept, KeptEach, whole_window}
-use Rattle.zerotrie_build.specs.passes.Measured.KeptEach.{none as kept_none, more as kept_more}
+use Rattle.zerotrie_build.specs.passes.Measured.{TargetWindows, sizes_of, ends_from, AreSlotsOf, AreSlotsOfEach, whole_window}
+use Rattle.zerotrie_build.specs.passes.Measured.AreSlotsOfEach.{none as kept_none, more as kept_more}
 use Rattle.zerotrie_build.specs.passes.Walking.{IsPlaced, item_ends, spare_len, slots_so_far, with_len, MeasuresTarget, IsInside, Closing}
 use Rattle.zerotrie_build.specs.passes.Walking.IsInside.{outside, inside}
 use Rattle.zerotrie_build.proofs.WindowLemmas.Placed.{Targets, targets, eachw_middle, whole_placed}
@@ -26,12 +26,12 @@ pub record Inner (kind : Kind) (all : Pairs) (f : OpenBranch) (fs : List OpenBra
   pub below : List ℕ
   pub waits : IsInside kind all w fs before
   pub counting : MeasuresTarget kind all w c f before own
-  pub kept : Kept kind all c below
+  pub kept : AreSlotsOf kind all c below
   pub slots_are : slots ≡ (before ++ own) ++ below
   pub len_is : len ≡ size_of kind (window all c)
 
 inner_at : {kind : Kind} {all : Pairs} {w : Window} {branches : List OpenBranch} {front : List ℕ} (f : OpenBranch) (fs : List OpenBranch) (slots own : List ℕ) (len : ℕ)
-    → IsInside kind all w branches front → branches ≡ f ∷ fs → Kept kind all w own → slots ≡ front ++ own → len ≡ size_of kind (window all w) → Inner kind all f fs slots len
+    → IsInside kind all w branches front → branches ≡ f ∷ fs → AreSlotsOf kind all w own → slots ≡ front ++ own → len ≡ size_of kind (window all w) → Inner kind all f fs slots len
 inner_at f fs slots own len outside e kept_own is len_is = absurd (cc)
 inner_at {kind = kind} {all = all} f fs slots own len (inside {w = w} {c = c} {f = f'} {fs = fs'} {before = before} {own = before_own} waits counting) e kept_own is len_is =
     let same : f' ≡ f = cc in
@@ -52,12 +52,12 @@ pub inner : {kind : Kind} {all : Pairs} {branches : List OpenBranch} {slots : Li
 inner {slots = slots} {len = len} f fs closing e = inner_at f fs slots closing.own len closing.waits e closing.kept closing.slots_are closing.len_is
 
 -- no branch is open any more
-pub all_closed : {kind : Kind} {all : Pairs} {branches : List OpenBranch} {slots : List ℕ} {len : ℕ} → Closing kind all branches slots len → branches ≡ [] → Kept kind all (whole_window all) slots × (len ≡ size_of kind (window all (whole_window all)))
+pub all_closed : {kind : Kind} {all : Pairs} {branches : List OpenBranch} {slots : List ℕ} {len : ℕ} → Closing kind all branches slots len → branches ≡ [] → AreSlotsOf kind all (whole_window all) slots × (len ≡ size_of kind (window all (whole_window all)))
 all_closed {slots = slots} {len = len} closing e = by closing.waits e closing.kept closing.slots_are closing.len_is
   where
-    by : {kind : Kind} {all : Pairs} {w : Window} {bs : List OpenBranch} {front own : List ℕ} → IsInside kind all w bs front → bs ≡ [] → Kept kind all w own → slots ≡ front ++ own → len ≡ size_of kind (window all w)
-        → Kept kind all (whole_window all) slots × (len ≡ size_of kind (window all (whole_window all)))
-    by {kind = kind} {all = all} outside e k is n = (subst (Kept kind all (whole_window all)) (sym is) k, n)
+    by : {kind : Kind} {all : Pairs} {w : Window} {bs : List OpenBranch} {front own : List ℕ} → IsInside kind all w bs front → bs ≡ [] → AreSlotsOf kind all w own → slots ≡ front ++ own → len ≡ size_of kind (window all w)
+        → AreSlotsOf kind all (whole_window all) slots × (len ≡ size_of kind (window all (whole_window all)))
+    by {kind = kind} {all = all} outside e k is n = (subst (AreSlotsOf kind all (whole_window all)) (sym is) k, n)
     by (inside waits counting) e k is n = absurd (cc)
 
 -- what is known of all targets of the branch
@@ -70,11 +70,11 @@ waits_placed {kind = kind} {all = all} outside keys up = whole_placed kind all u
 waits_placed {kind = kind} {all = all} (inside {c = c} waits counting) keys up = eachw_middle (IsPlaced kind all) counting.done c counting.more (counted counting keys).placed
 
 -- the lengths of what is measured and kept
-pub kept_snoc : {kind : Kind} {all : Pairs} {cs : List Window} {below : List (List ℕ)} {c : Window} {own : List ℕ} → KeptEach kind all cs below → Kept kind all c own → KeptEach kind all (cs ++ c ∷ []) (below ++ own ∷ [])
+pub kept_snoc : {kind : Kind} {all : Pairs} {cs : List Window} {below : List (List ℕ)} {c : Window} {own : List ℕ} → AreSlotsOfEach kind all cs below → AreSlotsOf kind all c own → AreSlotsOfEach kind all (cs ++ c ∷ []) (below ++ own ∷ [])
 kept_snoc kept_none k = kept_more k kept_none
 kept_snoc (kept_more k' each) k = kept_more k' (kept_snoc each k)
 
-kept_count : {kind : Kind} {all : Pairs} {cs : List Window} {below : List (List ℕ)} → KeptEach kind all cs below → length below ≡ length cs
+kept_count : {kind : Kind} {all : Pairs} {cs : List Window} {below : List (List ℕ)} → AreSlotsOfEach kind all cs below → length below ≡ length cs
 kept_count kept_none = refl
 kept_count (kept_more k each) = ap suc (kept_count each)
 

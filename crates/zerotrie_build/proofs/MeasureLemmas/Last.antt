@@ -14,9 +14,9 @@ use Rattle.zerotrie_build.specs.declared.windows.Window.{Window}
 use Rattle.zerotrie_build.specs.declared.windows.Step.TheVariants.{Branch}
 use Rattle.zerotrie_build.specs.declared.measuring.OpenBranch.{OpenBranch}
 use Rattle.zerotrie_build.specs.passes.Windows.{window, edge_of, step_of}
-use Rattle.zerotrie_build.specs.passes.Measured.{Passes, TargetWindows, sizes_of, ends_from, slots_of, HasFirstTargets, KeptEach}
-use Rattle.zerotrie_build.specs.passes.Measured.Kept.{kept}
-use Rattle.zerotrie_build.specs.passes.Measured.KeptEach.{none as kept_none}
+use Rattle.zerotrie_build.specs.passes.Measured.{Passes, TargetWindows, sizes_of, ends_from, slots_of, HasFirstTargets, AreSlotsOfEach}
+use Rattle.zerotrie_build.specs.passes.Measured.AreSlotsOf.{kept}
+use Rattle.zerotrie_build.specs.passes.Measured.AreSlotsOfEach.{none as kept_none}
 use Rattle.zerotrie_build.specs.passes.Walking.{IsPlaced, item_ends, spare_len, slots_so_far, with_len, MeasuresTarget, IsInside, Closing, IsOpened, left_open}
 use Rattle.zerotrie_build.specs.passes.Walking.IsInside.{inside}
 use Rattle.zerotrie_build.proofs.Stacks.{popped}
@@ -42,7 +42,7 @@ pub record Last (kind : Kind) (all : Pairs) (f : OpenBranch) (w : Window) (befor
   pub parts : TargetWindows all behind cs
   pub known : Targets kind all behind cs
   pub below : List (List ℕ)
-  pub kept : KeptEach kind all cs below
+  pub kept : AreSlotsOfEach kind all cs below
   pub slots_are : slots ≡ before ++ slots_of kind (sizes_of kind all cs) below
   pub first : f.first ≡ length before
   pub end : f.end ≡ f.first + length cs

@@ -13,9 +13,9 @@ use Rattle.zerotrie_build.specs.Order.{Ordered, AreKeys, AreValues}
 use Rattle.zerotrie_build.specs.declared.windows.Window.{Window}
 use Rattle.zerotrie_build.specs.declared.windows.Step.TheVariants.{Branch}
 use Rattle.zerotrie_build.specs.passes.Windows.{window, item_no, edge_of, step_of}
-use Rattle.zerotrie_build.specs.passes.Measured.{Passes, sizes_of, HasFirstTargets, Kept, KeptEach, IsMeasured}
-use Rattle.zerotrie_build.specs.passes.Measured.Kept.{kept}
-use Rattle.zerotrie_build.specs.passes.Measured.KeptEach.{none as kept_none, more as kept_more}
+use Rattle.zerotrie_build.specs.passes.Measured.{Passes, sizes_of, HasFirstTargets, AreSlotsOf, AreSlotsOfEach, IsMeasured}
+use Rattle.zerotrie_build.specs.passes.Measured.AreSlotsOf.{kept}
+use Rattle.zerotrie_build.specs.passes.Measured.AreSlotsOfEach.{none as kept_none, more as kept_more}
 use Rattle.zerotrie_build.specs.passes.Measured.Passes.{here, value, literal, span}
 use Rattle.zerotrie_build.proofs.OrderLemmas.Agreeing.{ordered_consistent}
 use Rattle.zerotrie_build.proofs.WindowLemmas.Groups.{grouped, SomeEach, residual_group}
@@ -85,18 +85,18 @@ branch_narrow {kind = kind} {all = all} {cs = cs} o keys is each front =
     by (c ∷ front) size groups some rises = subst (NarrowBehind kind (c ∷ front)) (sym groups) (grouped_narrow kind (map (edge_of all) cs) (map (window all) cs) some rises each c front)
 
 mutual
-  kept_narrow : {kind : Kind} {all : Pairs} {w : Window} {slots : List ℕ} → Kept kind all w slots → AreKeys kind all → Narrow kind (window all w)
+  kept_narrow : {kind : Kind} {all : Pairs} {w : Window} {slots : List ℕ} → AreSlotsOf kind all w slots → AreKeys kind all → Narrow kind (window all w)
   kept_narrow {kind = kind} {all = all} (kept o each) keys =
       run_narrow o.run o.within keys o.ordered (elim o.stops [
         | inl ends ↦ subst (Narrow kind) (sym (cut_none all o.behind.from o.behind.to o.behind.depth (step_end kind all o.behind ends))) (λ front. narrow_none kind front)
         | inr is ↦ branch_narrow o keys is (each_narrow each keys)
       ])
 
-  each_narrow : {kind : Kind} {all : Pairs} {cs : List Window} {below : List (List ℕ)} → KeptEach kind all cs below → AreKeys kind all → EachNarrow kind (map (window all) cs)
+  each_narrow : {kind : Kind} {all : Pairs} {cs : List Window} {below : List (List ℕ)} → AreSlotsOfEach kind all cs below → AreKeys kind all → EachNarrow kind (map (window all) cs)
   each_narrow kept_none keys = tt
   each_narrow (kept_more k each) keys = (kept_narrow k keys, each_narrow each keys)
 
-kept_ordered : {kind : Kind} {all : Pairs} {w : Window} {slots : List ℕ} → Kept kind all w slots → Ordered kind (window all w)
+kept_ordered : {kind : Kind} {all : Pairs} {w : Window} {slots : List ℕ} → AreSlotsOf kind all w slots → Ordered kind (window all w)
 kept_ordered (kept o each) = o.ordered
 
 -- what was measured is how long the text of the map is

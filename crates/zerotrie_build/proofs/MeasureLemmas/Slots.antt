@@ -14,9 +14,9 @@ use Rattle.zerotrie_build.specs.declared.windows.Window.{Window}
 use Rattle.zerotrie_build.specs.declared.windows.Step.TheVariants.{End, Branch}
 use Rattle.zerotrie_build.specs.declared.measuring.OpenBranch.{OpenBranch}
 use Rattle.zerotrie_build.specs.passes.Windows.{window, step_of}
-use Rattle.zerotrie_build.specs.passes.Measured.{Passes, NoneFirst, ends_from, slots_of, HasFirstTargets, Kept}
-use Rattle.zerotrie_build.specs.passes.Measured.Kept.{kept}
-use Rattle.zerotrie_build.specs.passes.Measured.KeptEach.{none as kept_none}
+use Rattle.zerotrie_build.specs.passes.Measured.{Passes, NoneFirst, ends_from, slots_of, HasFirstTargets, AreSlotsOf}
+use Rattle.zerotrie_build.specs.passes.Measured.AreSlotsOf.{kept}
+use Rattle.zerotrie_build.specs.passes.Measured.AreSlotsOfEach.{none as kept_none}
 use Rattle.zerotrie_build.specs.passes.Walking.{IsBehindFront, IsPlaced, slots_so_far, with_len}
 use Rattle.zerotrie_build.proofs.Nodes.{power_some}
 use Rattle.zerotrie_build.proofs.Overflow.{same_edges}
@@ -61,7 +61,7 @@ not_branch kind all w end branch = let e = sym end ∙ branch in cc
 pub edges_behind : (kind : Kind) (all : Pairs) (w : Window) (at : IsBehindFront all w) (es : List ℕ) → in_order kind (edges (window all w)) ≡ es → in_order kind (edges (behind_all at.0 all)) ≡ es
 edges_behind kind all w at es is = ap (in_order kind) (same_edges (behind_all at.0 all) (window all w) at.1) ∙ is
 
-at_end : (kind : Kind) (all : Pairs) (w : Window) → NoneFirst kind all w → w.to ≤ w.from → step_of kind all w ≡ End
+pub at_end : (kind : Kind) (all : Pairs) (w : Window) → NoneFirst kind all w → w.to ≤ w.from → step_of kind all w ≡ End
 at_end kind all w (inl end) past = end
 at_end kind all w (inr branch) past = absurd (let p = (step_branch kind all w branch).inside in omega arith)
 
@@ -69,7 +69,7 @@ no_slots : (kind : Kind) → slots_of kind [] [] ≡ []
 no_slots kind = ap (λ b. (if b then ends_from 0 [] else []) ++ []) (no_edges kind)
 
 -- a window without a branch
-pub kept_end : (kind : Kind) (all : Pairs) (w behind : Window) (n : ℕ) → IsPlaced kind all w → AreKeys kind all → Passes kind all w behind n → NoneFirst kind all behind → behind.to ≤ behind.from → Kept kind all w [] × (n ≡ size_of kind (window all w))
+pub kept_end : (kind : Kind) (all : Pairs) (w behind : Window) (n : ℕ) → IsPlaced kind all w → AreKeys kind all → Passes kind all w behind n → NoneFirst kind all behind → behind.to ≤ behind.from → AreSlotsOf kind all w [] × (n ≡ size_of kind (window all w))
 kept_end kind all w behind n placed keys run stops past =
     let a = along run placed.within keys placed.ordered in
     let order = a.order placed.order in
@@ -95,7 +95,7 @@ kept_end kind all w behind n placed keys run stops past =
       some = λ e. absurd (not_branch kind all behind end e);
       narrow = power_some (greatest_width kind + 1);
     } in
-    (subst (Kept kind all w) (no_slots kind) (kept o kept_none), omega arith)
+    (subst (AreSlotsOf kind all w) (no_slots kind) (kept o kept_none), omega arith)
 
 -- one slot of a list
 set_middle : (xs : List ℕ) (y v : ℕ) (ys : List ℕ) → slice_set (xs ++ y ∷ ys) (length xs) v ≡ xs ++ v ∷ ys

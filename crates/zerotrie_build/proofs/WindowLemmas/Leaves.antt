@@ -10,7 +10,7 @@ use Rattle.zerotrie_core.specs.Numbers.{value_form, span_form, spelled_as}
 use Rattle.zerotrie_core.specs.Maps.{Pairs}
 use Rattle.zerotrie_build.specs.declared.windows.Window.{Window}
 use Rattle.zerotrie_build.specs.declared.windows.Step.TheVariants.{Value, Literal, Span}
-use Rattle.zerotrie_build.specs.passes.Windows.{item_no, byte_of, high_front, short_size, step_of, IsOne, IsRestLen}
+use Rattle.zerotrie_build.specs.passes.Windows.{item_no, byte_of, high_front, short_size, step_of, IsSingleItem, IsRestLen}
 use Rattle.zerotrie_build.specs.passes.Measured.{Passes}
 use Rattle.zerotrie_build.specs.passes.Measured.Passes.{here, value, literal, span}
 use Rattle.zerotrie_build.proofs.WriteLemmas.Puts.{spelled_len}
@@ -118,7 +118,7 @@ short_from (suc n) kind all w d one spans deep fuel few = elim (cases_lt d (leng
 ]
 
 -- the one item is all of the window's text
-pub one_run : (kind : Kind) (all : Pairs) (w : Window) (rest : List ℕ) (v n : ℕ) → IsOne all w rest v → IsRestLen kind rest n
+pub one_run : (kind : Kind) (all : Pairs) (w : Window) (rest : List ℕ) (v n : ℕ) → IsSingleItem all w rest v → IsRestLen kind rest n
     → Passes kind all w (record { from = w.to; to = w.to; depth = w.depth + length rest }) (n + length (spelled_as value_form v))
 one_run kind all w rest v n o (inl low) =
     let behind : Window = record { from = w.to; to = w.to; depth = w.depth + length rest } in

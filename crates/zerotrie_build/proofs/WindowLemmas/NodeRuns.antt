@@ -14,7 +14,7 @@ use Rattle.zerotrie_build.specs.Order.{Before, BeforeFirst, Ordered, AreKeys}
 use Rattle.zerotrie_build.specs.declared.windows.Window.{Window}
 use Rattle.zerotrie_build.specs.declared.windows.Step.{Step}
 use Rattle.zerotrie_build.specs.declared.windows.Step.TheVariants.{End, Value, Literal, Span, Branch}
-use Rattle.zerotrie_build.specs.passes.Windows.{cut, window, item_no, byte_of, high_front, step_at, step_of, IsLow, IsLone}
+use Rattle.zerotrie_build.specs.passes.Windows.{cut, window, item_no, byte_of, high_front, step_at, step_of, HasLiteralAt, IsAsciiLeaf}
 use Rattle.zerotrie_build.specs.passes.Measured.{Passes}
 use Rattle.zerotrie_build.specs.passes.Measured.Passes.{here, value, literal, span}
 use Rattle.zerotrie_build.specs.passes.Walking.{IsBehindFront}
@@ -229,17 +229,17 @@ stopped kind all w (inl end) inside = absurd (let past = step_end kind all w end
 stopped kind all w (inr branch) inside = branch
 
 -- a byte below 128 with which the first and the last key go on is a literal
-pub low_literal : (kind : Kind) (all : Pairs) (w : Window) (i : ℕ) → w.from < w.to → (l : IsLow all w i) → step_of kind all (record w { depth = i }) ≡ Literal l.byte
+pub low_literal : (kind : Kind) (all : Pairs) (w : Window) (i : ℕ) → w.from < w.to → (l : HasLiteralAt all w i) → step_of kind all (record w { depth = i }) ≡ Literal l.byte
 low_literal kind all w i inside l = rw (lt-ltb w.from w.to inside, l.first, l.last, eq-eqb l.byte l.byte refl, lt-leb 128 l.byte l.low) refl
 
 -- a literal is such a byte
-pub literal_low : (kind : Kind) (all : Pairs) (w : Window) (b : ℕ) → w.to ≤ length all → AreKeys kind all → step_of kind all w ≡ Literal b → (w.from < w.to) × IsLow all w w.depth
+pub literal_low : (kind : Kind) (all : Pairs) (w : Window) (b : ℕ) → w.to ≤ length all → AreKeys kind all → step_of kind all w ≡ Literal b → (w.from < w.to) × HasLiteralAt all w w.depth
 literal_low kind all w b within keys e =
     let a = literal_byte kind all w b within keys e in
     (a.inside, record { byte = b; low = a.low; first = a.first; last = a.last })
 
 -- so many such bytes one after another lead on
-pub literals_run : (n : ℕ) {kind : Kind} {all : Pairs} {w last : Window} {m : ℕ} → w.from < w.to → ((i : ℕ) → w.depth ≤ i → i < w.depth + n → IsLow all w i)
+pub literals_run : (n : ℕ) {kind : Kind} {all : Pairs} {w last : Window} {m : ℕ} → w.from < w.to → ((i : ℕ) → w.depth ≤ i → i < w.depth + n → HasLiteralAt all w i)
     → Passes kind all (record w { depth = w.depth + n }) last m → Passes kind all w last (n + m)
 literals_run zero {kind = kind} {all = all} {w = w} {last = last} {m = m} inside low run =
     let here : w.depth + 0 ≡ w.depth = omega arith in
@@ -252,14 +252,14 @@ literals_run (suc n) {kind = kind} {all = all} {w = w} {last = last} {m = m} ins
     let count : n + (1 + m) ≡ suc n + m = omega arith in
     subst (Passes kind all w last) count (literals_run n inside (λ i from below. low i from (omega arith)) one)
 
-pub literals_to : {kind : Kind} {all : Pairs} {w last : Window} {m : ℕ} (end : ℕ) → w.from < w.to → w.depth ≤ end → ((i : ℕ) → w.depth ≤ i → i < end → IsLow all w i)
+pub literals_to : {kind : Kind} {all : Pairs} {w last : Window} {m : ℕ} (end : ℕ) → w.from < w.to → w.depth ≤ end → ((i : ℕ) → w.depth ≤ i → i < end → HasLiteralAt all w i)
     → Passes kind all (record w { depth = end }) last m → Passes kind all w last (end - w.depth + m)
 literals_to {kind = kind} {all = all} {w = w} {last = last} {m = m} end inside past low run =
     let there : end ≡ w.depth + (end - w.depth) = omega arith in
     literals_run (end - w.depth) inside (λ i from below. low i from (omega arith)) (subst (λ d. Passes kind all (record w { depth = d }) last m) there run)
 
 -- the rest of the one key of a window has a byte at each place, and it is ASCII
-pub lone_low : (all : Pairs) (w : Window) (rest : List ℕ) (v : ℕ) → IsLone all w rest v → (i : ℕ) → w.depth ≤ i → i < w.depth + length rest → IsLow all w i
+pub lone_low : (all : Pairs) (w : Window) (rest : List ℕ) (v : ℕ) → IsAsciiLeaf all w rest v → (i : ℕ) → w.depth ≤ i → i < w.depth + length rest → HasLiteralAt all w i
 lone_low all w rest v l i from below =
     let key = (item_no all w.from).0 in
     let long = ap length l.rest_is ∙ length-drop w.depth key in
@@ -278,7 +278,7 @@ lone_low all w rest v l i from below =
     }
 
 -- behind it stands the value
-pub lone_value : (kind : Kind) (all : Pairs) (w : Window) (rest : List ℕ) (v : ℕ) → IsLone all w rest v → step_of kind all (record w { depth = w.depth + length rest }) ≡ Value v
+pub lone_value : (kind : Kind) (all : Pairs) (w : Window) (rest : List ℕ) (v : ℕ) → IsAsciiLeaf all w rest v → step_of kind all (record w { depth = w.depth + length rest }) ≡ Value v
 lone_value kind all w rest v l =
     let key = (item_no all w.from).0 in
     let long = ap length l.rest_is ∙ length-drop w.depth key in
@@ -288,7 +288,7 @@ lone_value kind all w rest v l =
     rw (lt-ltb w.from w.to (omega arith), none) (ap Value (sym l.value_is))
 
 -- so it is all of the window's text
-pub lone_run : (kind : Kind) (all : Pairs) (w : Window) (rest : List ℕ) (v : ℕ) → IsLone all w rest v
+pub lone_run : (kind : Kind) (all : Pairs) (w : Window) (rest : List ℕ) (v : ℕ) → IsAsciiLeaf all w rest v
     → Passes kind all w (record { from = w.to; to = w.to; depth = w.depth + length rest }) (length rest + length (spelled_as value_form v))
 lone_run kind all w rest v l =
     let one = l.one in
@@ -300,5 +300,5 @@ lone_run kind all w rest v l =
     literals_run (length rest) (omega arith) (lone_low all w rest v l) ends
 
 -- and then there is nothing
-pub lone_end : (kind : Kind) (all : Pairs) (w : Window) (rest : List ℕ) (v d : ℕ) → IsLone all w rest v → step_of kind all (record { from = w.from + 1; to = w.to; depth = d }) ≡ End
+pub lone_end : (kind : Kind) (all : Pairs) (w : Window) (rest : List ℕ) (v d : ℕ) → IsAsciiLeaf all w rest v → step_of kind all (record { from = w.from + 1; to = w.to; depth = d }) ≡ End
 lone_end kind all w rest v d l = let one = l.one in rw (le-ltb (w.from + 1) w.to (omega arith)) refl

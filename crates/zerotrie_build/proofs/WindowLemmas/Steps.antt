@@ -5,7 +5,7 @@ use Rattle.std.specs.Prelude.{◌&&◌}
 use Rattle.std.proofs.lemmas.List.{drop_all}
 use Rattle.std.proofs.lemmas.Option.{slice_get_within, slice_get-get_or, get_or_from_slice_get}
 use Rattle.zerotrie_core.specs.Maps.{Pairs}
-use Rattle.zerotrie_build.specs.passes.Windows.{byte_of, high_front, IsLow}
+use Rattle.zerotrie_build.specs.passes.Windows.{byte_of, high_front, HasLiteralAt}
 use Rattle.zerotrie_build.specs.declared.windows.Window.{Window}
 use Rattle.zerotrie_build.proofs.Items.{below_or_from}
 
@@ -39,7 +39,7 @@ key_within all i d b e at goes = slice_get_within e.0 d b (subst (λ f. slice_ge
 
 -- a byte below 128 that two keys have at one place
 pub low_at : (all : Pairs) (w : Window) (i : ℕ) (e f : List ℕ × ℕ) → slice_get all w.from ≡ Some e → slice_get all (w.to - 1) ≡ Some f → i < length e.0 → i < length f.0
-    → get_or e.0 i 0 ≡ get_or f.0 i 0 → get_or e.0 i 0 < 128 → IsLow all w i
+    → get_or e.0 i 0 ≡ get_or f.0 i 0 → get_or e.0 i 0 < 128 → HasLiteralAt all w i
 low_at all w i e f first last a b same low = record {
   byte = get_or e.0 i 0;
   low = low;

@@ -22,8 +22,8 @@ use Rattle.zerotrie_build.specs.declared.branch_layout.Next.TheVariants.{Go}
 use Rattle.zerotrie_build.specs.declared.windows.Step.TheVariants.{End, Branch}
 use Rattle.zerotrie_build.specs.passes.Windows.{window, edge_of, step_of}
 use Rattle.zerotrie_build.specs.passes.Measured.{NoneFirst, HasFirstTargets, TargetWindows, sizes_of}
-use Rattle.zerotrie_build.specs.passes.Puts.{Puts}
-use Rattle.zerotrie_build.specs.passes.Writing.{no_window, window_at, edge_no, target_lens, position_at, text_of, placed_next, next_of, Listed, Texts, NodesWritten, IsLaid, HasSlots, IsPending}
+use Rattle.zerotrie_build.specs.passes.Zeros.{OverwritesZeros}
+use Rattle.zerotrie_build.specs.passes.Writing.{no_window, window_at, edge_no, target_lens, position_at, text_of, placed_next, next_of, Listed, Texts, NodesWritten, IsLayout, HasSlots, IsPending}
 use Rattle.zerotrie_build.proofs.OrderLemmas.Sorting.{ordered_distinct}
 use Rattle.zerotrie_build.proofs.WriteLemmas.Puts.{puts_then, count_map}
 use Rattle.zerotrie_build.proofs.WindowLemmas.Windows.{cut_none, step_end}
@@ -44,7 +44,7 @@ record Turned (kind : Kind) (all : Pairs) (cs : List Window) (table numbers : Li
   lens : target_lens (sizes_of kind all cs) numbers ≡ sizes_of kind all (map (window_at cs) numbers)
   sum : total (sizes_of kind all (map (window_at cs) numbers)) ≡ total (sizes_of kind all cs)
 
-turned : {kind : Kind} {all : Pairs} {w : Window} {cs : List Window} {table numbers : List ℕ} → HasFirstTargets kind all w cs → IsLaid kind (edge_no all cs) (length cs) table numbers → Turned kind all cs table numbers
+turned : {kind : Kind} {all : Pairs} {w : Window} {cs : List Window} {table numbers : List ℕ} → HasFirstTargets kind all w cs → IsLayout kind (edge_no all cs) (length cs) table numbers → Turned kind all cs table numbers
 turned {kind = kind} {all = all} {w = w} {cs = cs} {table = table} {numbers = numbers} o laid =
     let n = length cs in
     let range = range_with_len 0 n in
@@ -147,10 +147,10 @@ branch_same {all = all} k other g stops =
 -- the windows that were found are those of the targets
 pub branch_windows : {kind : Kind} {all : Pairs} {slots : List ℕ} {slot end : ℕ} {w : Window} {list : List ℕ} {at : ℕ} {list' : List ℕ} {at' : ℕ} {rest : Window} (k : Opened kind all slots slot end w)
     → Going kind all w k.known.bytes k.known.behind list at list' at' rest → step_of kind all rest ≡ Branch → {table numbers : List ℕ} (ws : List Window) → TargetWindows all rest ws
-    → IsLaid kind (edge_no all ws) (length ws) table numbers → (ws ≡ k.cs) × IsLaid kind (edge_no all k.cs) (length k.cs) table numbers
+    → IsLayout kind (edge_no all ws) (length ws) table numbers → (ws ≡ k.cs) × IsLayout kind (edge_no all k.cs) (length k.cs) table numbers
 branch_windows {kind = kind} {all = all} {rest = rest} k g e {table = table} {numbers = numbers} ws parts laid =
     let same = parts_same all rest ws k.cs parts (subst (λ x. TargetWindows all x k.cs) (on_stop g.run (inr e)).0 k.known.parts) in
-    (same, subst (λ x. IsLaid kind (edge_no all x) (length x) table numbers) same laid)
+    (same, subst (λ x. IsLayout kind (edge_no all x) (length x) table numbers) same laid)
 
 branch_two : {kind : Kind} {all : Pairs} {slots : List ℕ} {slot end : ℕ} {w : Window} {list : List ℕ} {at : ℕ} {list' : List ℕ} {at' : ℕ} {rest : Window} (k : Opened kind all slots slot end w)
     → Going kind all w k.known.bytes k.known.behind list at list' at' rest → step_of kind all rest ≡ Branch → 2 ≤ length k.cs
@@ -158,7 +158,7 @@ branch_two {kind = kind} {all = all} k g e = let s = on_stop g.run (inr e) in (k
 
 -- the slots with the lengths of the targets
 pub branch_lens : {kind : Kind} {all : Pairs} {slots : List ℕ} {slot end : ℕ} {w : Window} {list : List ℕ} {at : ℕ} {list' : List ℕ} {at' : ℕ} {rest : Window} {table numbers : List ℕ} (k : Opened kind all slots slot end w)
-    → Going kind all w k.known.bytes k.known.behind list at list' at' rest → step_of kind all rest ≡ Branch → IsLaid kind (edge_no all k.cs) (length k.cs) table numbers
+    → Going kind all w k.known.bytes k.known.behind list at list' at' rest → step_of kind all rest ≡ Branch → IsLayout kind (edge_no all k.cs) (length k.cs) table numbers
     → (n : ℕ) → n ≡ length numbers → (take (slot + n - slot) (drop slot slots) ≡ sizes_of kind all k.cs) × (slot + n ≤ length slots)
 branch_lens {kind = kind} {all = all} {slots = slots} {slot = slot} k g e laid n count =
     let two = branch_two k g e in
@@ -167,17 +167,17 @@ branch_lens {kind = kind} {all = all} {slots = slots} {slot = slot} k g e laid n
     (ap (λ x. take x (drop slot slots)) (let z : slot + n - slot ≡ length k.cs = omega arith in z) ∙ l.0, (let r = l.1 in omega arith))
 
 -- what the writing of a branch asks
-pub branch_numbers : {kind : Kind} {all : Pairs} {w : Window} {cs : List Window} {table numbers : List ℕ} → HasFirstTargets kind all w cs → IsLaid kind (edge_no all cs) (length cs) table numbers
+pub branch_numbers : {kind : Kind} {all : Pairs} {w : Window} {cs : List Window} {table numbers : List ℕ} → HasFirstTargets kind all w cs → IsLayout kind (edge_no all cs) (length cs) table numbers
     → (ls ns : List ℕ) → ls ≡ sizes_of kind all cs → ns ≡ numbers → All (λ i. i < length ls) ns
 branch_numbers {kind = kind} {all = all} {cs = cs} {numbers = numbers} o laid ls ns ls_is ns_is =
     let long = ap length ls_is ∙ sizes_count kind all cs in
     subst (λ x. (k d : ℕ) → k < length x → get_or x k d < length ls) (sym ns_is) (λ k d h. let below = numbers_within (length cs) numbers laid.permutation k d h in omega arith)
 
-targets_lens : {kind : Kind} {all : Pairs} {w : Window} {cs : List Window} {table numbers : List ℕ} → HasFirstTargets kind all w cs → IsLaid kind (edge_no all cs) (length cs) table numbers
+targets_lens : {kind : Kind} {all : Pairs} {w : Window} {cs : List Window} {table numbers : List ℕ} → HasFirstTargets kind all w cs → IsLayout kind (edge_no all cs) (length cs) table numbers
     → (ls ns : List ℕ) → ls ≡ sizes_of kind all cs → ns ≡ numbers → target_lens ls ns ≡ sizes_of kind all (map (window_at cs) numbers)
 targets_lens {kind = kind} {all = all} {cs = cs} o laid ls ns ls_is ns_is = ap (λ x. target_lens x ns) ls_is ∙ ap (λ x. target_lens (sizes_of kind all cs) x) ns_is ∙ (turned o laid).lens
 
-pub branch_small : {kind : Kind} {all : Pairs} {w : Window} {cs : List Window} {table numbers : List ℕ} → HasFirstTargets kind all w cs → IsLaid kind (edge_no all cs) (length cs) table numbers
+pub branch_small : {kind : Kind} {all : Pairs} {w : Window} {cs : List Window} {table numbers : List ℕ} → HasFirstTargets kind all w cs → IsLayout kind (edge_no all cs) (length cs) table numbers
     → (ls ns : List ℕ) → ls ≡ sizes_of kind all cs → ns ≡ numbers → total (target_lens ls ns) < 2 ^ 64
 branch_small {kind = kind} o laid ls ns ls_is ns_is =
     let narrow = o.narrow in
@@ -192,7 +192,7 @@ front_same table tb lens ls a b = ap (λ x. branch_front x ls) a ∙ ap (branch_
 
 pub branch_room : {kind : Kind} {all : Pairs} {slots : List ℕ} {slot end : ℕ} {w : Window} {list : List ℕ} {at : ℕ} {list' : List ℕ} {at' : ℕ} {rest : Window} {table numbers : List ℕ} (k : Opened kind all slots slot end w)
     → Going kind all w k.known.bytes k.known.behind list at list' at' rest → step_of kind all rest ≡ Branch → at + size_of kind (window all w) ≤ length list
-    → IsLaid kind (edge_no all k.cs) (length k.cs) table numbers → (tb ls ns : List ℕ) → tb ≡ table → ls ≡ sizes_of kind all k.cs → ns ≡ numbers → at' + length (branch_front tb (target_lens ls ns)) ≤ length list'
+    → IsLayout kind (edge_no all k.cs) (length k.cs) table numbers → (tb ls ns : List ℕ) → tb ≡ table → ls ≡ sizes_of kind all k.cs → ns ≡ numbers → at' + length (branch_front tb (target_lens ls ns)) ≤ length list'
 branch_room {kind = kind} {all = all} {table = table} {numbers = numbers} k g e room laid tb ls ns tb_is ls_is ns_is =
     let o = k.known in
     let s = on_stop g.run (inr e) in
@@ -238,8 +238,8 @@ leads_at {kind = kind} {all = all} {slots = slots} {slot = slot} {end = end} {w 
 
 -- a branch was written
 pub front_branch : {kind : Kind} {all : Pairs} {slots : List ℕ} {slot end : ℕ} {w : Window} {list : List ℕ} {at : ℕ} {list' : List ℕ} {at' : ℕ} {rest : Window} {table numbers : List ℕ} (list'' : List ℕ) (at'' : ℕ) (k : Opened kind all slots slot end w)
-    → Going kind all w k.known.bytes k.known.behind list at list' at' rest → step_of kind all rest ≡ Branch → IsLaid kind (edge_no all k.cs) (length k.cs) table numbers
-    → (tb ls ns : List ℕ) → tb ≡ table → ls ≡ sizes_of kind all k.cs → ns ≡ numbers → Puts list' at' list'' at'' (branch_front tb (target_lens ls ns))
+    → Going kind all w k.known.bytes k.known.behind list at list' at' rest → step_of kind all rest ≡ Branch → IsLayout kind (edge_no all k.cs) (length k.cs) table numbers
+    → (tb ls ns : List ℕ) → tb ≡ table → ls ≡ sizes_of kind all k.cs → ns ≡ numbers → OverwritesZeros list' at' list'' at'' (branch_front tb (target_lens ls ns))
     → (next : List Next) → next ≡ next_of kind slots slot k.cs numbers → NodesWritten kind all slots slot w next list at list'' at''
 front_branch {kind = kind} {all = all} {slots = slots} {slot = slot} {end = end} {w = w} {list = list} {at = at} {list' = list'} {at' = at'} {rest = rest} {table = table} {numbers = numbers} list'' at'' k g e laid tb ls ns tb_is ls_is ns_is p next next_is =
     let o = k.known in
@@ -249,7 +249,7 @@ front_branch {kind = kind} {all = all} {slots = slots} {slot = slot} {end = end}
     let n = o.some (ap (step_of kind all) s.0 ∙ e) in
     let b = turned o laid in
     let front = branch_front table (sizes_of kind all vs) in
-    let put : Puts list' at' list'' at'' front = subst (Puts list' at' list'' at'') (front_same table tb (sizes_of kind all vs) (target_lens ls ns) tb_is (targets_lens o laid ls ns ls_is ns_is)) p in
+    let put : OverwritesZeros list' at' list'' at'' front = subst (OverwritesZeros list' at' list'' at'') (front_same table tb (sizes_of kind all vs) (target_lens ls ns) tb_is (targets_lens o laid ls ns ls_is ns_is)) p in
     let to_is = g.to_is in
     let inside = o.within in
     let whole = ap (λ x. x.to) s.0 in

@@ -9,13 +9,13 @@ use Rattle.zerotrie_core.specs.Canonical.{size_of}
 use Rattle.zerotrie_build.specs.Order.{Ordered, AreKeys}
 use Rattle.zerotrie_build.specs.declared.windows.Window.{Window}
 use Rattle.zerotrie_build.specs.declared.windows.Step.TheVariants.{Value, Literal, Span}
-use Rattle.zerotrie_build.specs.passes.Windows.{cut, window, item_no, high_front, step_of, IsLow, IsLone}
+use Rattle.zerotrie_build.specs.passes.Windows.{cut, window, item_no, high_front, step_of, HasLiteralAt, IsAsciiLeaf}
 use Rattle.zerotrie_build.specs.passes.Measured.{Passes, NoneFirst, HasFirstTargets}
 use Rattle.zerotrie_build.specs.passes.Measured.Passes.{here, value as run_value, literal as run_literal, span as run_span}
-use Rattle.zerotrie_build.specs.passes.Puts.{Puts}
-use Rattle.zerotrie_build.specs.passes.Writing.{Listed}
+use Rattle.zerotrie_build.specs.passes.Zeros.{OverwritesZeros}
+use Rattle.zerotrie_build.specs.passes.Writing.{Listed, FrontWritten}
 use Rattle.zerotrie_build.proofs.WriteLemmas.Puts.{puts_nothing, puts_then}
-use Rattle.zerotrie_build.proofs.WindowLemmas.NodeRuns.{low_literal, literal_low, lone_low, lone_value}
+use Rattle.zerotrie_build.proofs.WindowLemmas.NodeRuns.{low_literal, literal_low, lone_low, lone_value, along}
 use Rattle.zerotrie_build.proofs.WindowLemmas.Windows.{cut_first, key_cut, last_key, last_cut, step_value, none_empty, ordered_front}
 use Rattle.zerotrie_build.proofs.WindowLemmas.Spans.{step_literal, step_span}
 use Rattle.zerotrie_build.proofs.WriteLemmas.Listed.{listed_value, listed_literal, listed_span}
@@ -24,7 +24,7 @@ use Rattle.zerotrie_build.proofs.WriteLemmas.Listed.{listed_value, listed_litera
 pub record Going (kind : Kind) (all : Pairs) (w : Window) (bytes : ℕ) (behind : Window) (list : List ℕ) (at : ℕ) (list' : List ℕ) (at' : ℕ) (rest : Window) : Type 0 where
   pub done : List ℕ
   pub left : ℕ
-  pub puts : Puts list at list' at' done
+  pub puts : OverwritesZeros list at list' at' done
   pub sized : length done + left ≡ bytes
   pub run : Passes kind all rest behind left
   pub lists : (t : List ℕ) → Listed kind t (window all rest) → Listed kind (done ++ t) (window all w)
@@ -109,7 +109,7 @@ exact_none kind ((b ∷ key, v) ∷ pairs) h = exact_none kind pairs h
 
 pub going_value : {kind : Kind} {all : Pairs} {w behind : Window} {bytes : ℕ} {list : List ℕ} {at : ℕ} {list' : List ℕ} {at' : ℕ} {rest : Window} (list'' : List ℕ) (at'' : ℕ) (v : ℕ)
     → Going kind all w bytes behind list at list' at' rest → NoneFirst kind all behind → w.to ≤ length all → step_of kind all rest ≡ Value v → SpellsAs value_form v (spelled_as value_form v)
-    → Puts list' at' list'' at'' (spelled_as value_form v) → Going kind all w bytes behind list at list'' at'' (record rest { from = rest.from + 1 })
+    → OverwritesZeros list' at' list'' at'' (spelled_as value_form v) → Going kind all w bytes behind list at list'' at'' (record rest { from = rest.from + 1 })
 going_value {kind = kind} {all = all} {w = w} {rest = rest} list'' at'' v g stops within e s p =
     let o = on_value g.run stops v e in
     let to_is = g.to_is in
@@ -144,7 +144,7 @@ record Literals (kind : Kind) (all : Pairs) (w behind : Window) (n left : ℕ) :
   lists : (t : List ℕ) → Listed kind t (window all (record w { depth = w.depth + n })) → Listed kind (take n (drop w.depth (item_no all w.from).0) ++ t) (window all w)
 
 literals : (n : ℕ) (kind : Kind) (all : Pairs) (w behind : Window) (left : ℕ) → Passes kind all w behind left → NoneFirst kind all behind → w.from < w.to → w.to ≤ length all → AreKeys kind all → Ordered kind (window all w)
-    → ((i : ℕ) → w.depth ≤ i → i < w.depth + n → IsLow all w i) → Literals kind all w behind n left
+    → ((i : ℕ) → w.depth ≤ i → i < w.depth + n → HasLiteralAt all w i) → Literals kind all w behind n left
 literals zero kind all w behind left run stops inside within keys up low =
     let here : w.depth ≡ w.depth + 0 = omega arith in record {
       less = left;
@@ -178,8 +178,8 @@ literals (suc n) kind all w behind left run stops inside within keys up low =
 
 pub going_literals : {kind : Kind} {all : Pairs} {w behind : Window} {bytes : ℕ} {list : List ℕ} {at : ℕ} {list' : List ℕ} {at' : ℕ} {rest : Window} (list'' : List ℕ) (at'' b end : ℕ)
     → Going kind all w bytes behind list at list' at' rest → NoneFirst kind all behind → w.to ≤ length all → AreKeys kind all → step_of kind all rest ≡ Literal b
-    → rest.depth < end → ((i : ℕ) → rest.depth ≤ i → i < end → IsLow all rest i) → end ≤ length (item_no all rest.from).0
-    → Puts list' at' list'' at'' (take (end - rest.depth) (drop rest.depth (item_no all rest.from).0)) → Going kind all w bytes behind list at list'' at'' (record rest { depth = end })
+    → rest.depth < end → ((i : ℕ) → rest.depth ≤ i → i < end → HasLiteralAt all rest i) → end ≤ length (item_no all rest.from).0
+    → OverwritesZeros list' at' list'' at'' (take (end - rest.depth) (drop rest.depth (item_no all rest.from).0)) → Going kind all w bytes behind list at list'' at'' (record rest { depth = end })
 going_literals {kind = kind} {all = all} {w = w} {behind = behind} {rest = rest} list'' at'' b end g stops within keys e past low ends p =
     let to_is = g.to_is in
     let inside = (literal_low kind all rest b (omega arith) keys e).0 in
@@ -202,8 +202,8 @@ going_literals {kind = kind} {all = all} {w = w} {behind = behind} {rest = rest}
 
 -- all that is left of a window
 pub going_lone : {kind : Kind} {all : Pairs} {w behind : Window} {bytes : ℕ} {list : List ℕ} {at : ℕ} {list' : List ℕ} {at' : ℕ} {rest : Window} (list'' : List ℕ) (at'' : ℕ) (key : List ℕ) (v : ℕ)
-    → Going kind all w bytes behind list at list' at' rest → NoneFirst kind all behind → w.to ≤ length all → AreKeys kind all → IsLone all rest key v → SpellsAs value_form v (spelled_as value_form v)
-    → Puts list' at' list'' at'' (key ++ spelled_as value_form v) → Going kind all w bytes behind list at list'' at'' (record { from = rest.from + 1; to = rest.to; depth = rest.depth + length key })
+    → Going kind all w bytes behind list at list' at' rest → NoneFirst kind all behind → w.to ≤ length all → AreKeys kind all → IsAsciiLeaf all rest key v → SpellsAs value_form v (spelled_as value_form v)
+    → OverwritesZeros list' at' list'' at'' (key ++ spelled_as value_form v) → Going kind all w bytes behind list at list'' at'' (record { from = rest.from + 1; to = rest.to; depth = rest.depth + length key })
 going_lone {kind = kind} {all = all} {w = w} {behind = behind} {rest = rest} list'' at'' key v g stops within keys lone s p =
     let to_is = g.to_is in
     let one = lone.one in
@@ -235,7 +235,7 @@ run_some n run some long none = let l = ap length none in omega arith
 
 pub going_span : {kind : Kind} {all : Pairs} {w behind : Window} {bytes : ℕ} {list : List ℕ} {at : ℕ} {list' : List ℕ} {at' : ℕ} {rest : Window} (list'' : List ℕ) (at'' : ℕ) (n : ℕ)
     → Going kind all w bytes behind list at list' at' rest → NoneFirst kind all behind → w.to ≤ length all → AreKeys kind all → step_of kind all rest ≡ Span n → SpellsAs span_form n (spelled_as span_form n)
-    → Puts list' at' list'' at'' (spelled_as span_form n ++ take n (drop rest.depth (item_no all rest.from).0)) → Going kind all w bytes behind list at list'' at'' (record rest { depth = rest.depth + n })
+    → OverwritesZeros list' at' list'' at'' (spelled_as span_form n ++ take n (drop rest.depth (item_no all rest.from).0)) → Going kind all w bytes behind list at list'' at'' (record rest { depth = rest.depth + n })
 going_span {kind = kind} {all = all} {w = w} {rest = rest} list'' at'' n g stops within keys e s p =
     let o = on_span g.run stops n e in
     let to_is = g.to_is in
@@ -274,7 +274,7 @@ room_value v len g s e b r = let o = on_value g.run s v e in let a = g.puts.at_i
 
 pub room_literals : {kind : Kind} {all : Pairs} {w behind : Window} {bytes : ℕ} {list : List ℕ} {at : ℕ} {list' : List ℕ} {at' : ℕ} {rest : Window} (b end len : ℕ)
     → Going kind all w bytes behind list at list' at' rest → NoneFirst kind all behind → w.to ≤ length all → AreKeys kind all → step_of kind all rest ≡ Literal b
-    → rest.depth < end → ((i : ℕ) → rest.depth ≤ i → i < end → IsLow all rest i) → bytes ≤ len → at + len ≤ length list → at' + (end - rest.depth) ≤ length list'
+    → rest.depth < end → ((i : ℕ) → rest.depth ≤ i → i < end → HasLiteralAt all rest i) → bytes ≤ len → at + len ≤ length list → at' + (end - rest.depth) ≤ length list'
 room_literals {kind = kind} {all = all} {behind = behind} {rest = rest} b end len g stops within keys e past low h r =
     let to_is = g.to_is in
     let inside = (literal_low kind all rest b (omega arith) keys e).0 in
@@ -282,7 +282,7 @@ room_literals {kind = kind} {all = all} {behind = behind} {rest = rest} b end le
     let a = g.puts.at_is in let l = g.puts.same in let z = g.sized in let i = o.is in omega arith
 
 pub room_lone : {kind : Kind} {all : Pairs} {w behind : Window} {bytes : ℕ} {list : List ℕ} {at : ℕ} {list' : List ℕ} {at' : ℕ} {rest : Window} (key : List ℕ) (v len : ℕ)
-    → Going kind all w bytes behind list at list' at' rest → NoneFirst kind all behind → w.to ≤ length all → AreKeys kind all → IsLone all rest key v → bytes ≤ len → at + len ≤ length list
+    → Going kind all w bytes behind list at list' at' rest → NoneFirst kind all behind → w.to ≤ length all → AreKeys kind all → IsAsciiLeaf all rest key v → bytes ≤ len → at + len ≤ length list
     → at' + (length key + length (spelled_as value_form v)) ≤ length list'
 room_lone {kind = kind} {all = all} {behind = behind} {rest = rest} key v len g stops within keys lone h r =
     let to_is = g.to_is in
@@ -311,3 +311,35 @@ span_within {kind = kind} {all = all} {rest = rest} n g within keys e =
       | inl short ↦ absurd (let all_of = ap length (take_all n (drop d key) (omega arith)) in omega arith)
       | inr enough ↦ let l = length-drop d key in omega arith
     ]
+
+-- nothing is left of the values, literals and spans
+pub front_written : {kind : Kind} {all : Pairs} {w : Window} {cs : List Window} {list : List ℕ} {at : ℕ} {list' : List ℕ} {at' : ℕ} {rest : Window} (o : HasFirstTargets kind all w cs)
+    → Going kind all w o.bytes o.behind list at list' at' rest → NoneFirst kind all rest → FrontWritten kind all w rest list at list' at'
+front_written {kind = kind} {all = all} {w = w} {rest = rest} o g stops =
+    let s = on_stop g.run stops in
+    let long : o.bytes ≡ length g.done = (let a = g.sized in let b = s.1 in omega arith) in
+    record {
+      front = g.done;
+      writes = g.puts;
+      run = subst (λ n. Passes kind all w rest n) long (subst (λ x. Passes kind all w x o.bytes) s.0 o.run);
+      lists = g.lists;
+    }
+
+-- all of them are written
+pub going_front : {kind : Kind} {all : Pairs} {w : Window} {cs : List Window} {list : List ℕ} {at : ℕ} {list' : List ℕ} {at' : ℕ} {rest : Window} (o : HasFirstTargets kind all w cs) → AreKeys kind all
+    → FrontWritten kind all w rest list at list' at' → NoneFirst kind all rest → Going kind all w o.bytes o.behind list at list' at' rest
+going_front {kind = kind} {all = all} {rest = rest} o keys f stops =
+    let same : o.behind ≡ rest = behind_same o.run o.stops f.run stops in
+    let a = along o.run o.within keys o.ordered in
+    let b = along f.run o.within keys o.ordered in
+    let size = ap (λ x. size_of kind (window all x)) same in
+    record {
+      done = f.front;
+      left = 0;
+      puts = f.writes;
+      sized = (let x = a.size in let y = b.size in omega arith);
+      run = subst (λ x. Passes kind all rest x 0) (sym same) here;
+      lists = f.lists;
+      ordered = b.ordered;
+      to_is = b.to_is;
+    }

@@ -20,7 +20,7 @@ use Rattle.zerotrie_core.proofs.CallerLemmas.{hashed_spans, spans_fold}
 use Rattle.zerotrie_build.specs.declared.windows.Window.{Window}
 use Rattle.zerotrie_build.specs.passes.Windows.{edge_of}
 use Rattle.zerotrie_build.specs.passes.Measured.{TargetWindows}
-use Rattle.zerotrie_build.specs.passes.Writing.{no_window, edge_no, place_in, IsSearched, IsLaid}
+use Rattle.zerotrie_build.specs.passes.Writing.{no_window, edge_no, place_in, IsHashedLayout, IsLayout}
 
 -- each is below all behind it
 abbrev pub Up : List ℕ → Type 0
@@ -114,11 +114,11 @@ edges_back edge n placed up perm =
     ∙ sym (get_or-map-range_with_len edge 0 n i i 0 within (omega arith)) ∙ at)
 
 pub laid_sorted : (kind : Kind) (edge : ℕ → ℕ) (n : ℕ) (table numbers : List ℕ) → is_hashed kind n ≡ false → IsStrictlyIncreasing (map (fold_byte kind) (map edge (range_with_len 0 n)))
-    → table ≡ map edge (range_with_len 0 n) → numbers ≡ range_with_len 0 n → IsLaid kind edge n table numbers
+    → table ≡ map edge (range_with_len 0 n) → numbers ≡ range_with_len 0 n → IsLayout kind edge n table numbers
 laid_sorted kind edge n table numbers plain up t ns =
     let range = range_with_len 0 n in
     let count = length-map-range_with_len edge 0 n in
-    subst (λ x. IsLaid kind edge n x numbers) (sym t) (subst (λ x. IsLaid kind edge n (map edge range) x) (sym ns) (record {
+    subst (λ x. IsLayout kind edge n x numbers) (sym t) (subst (λ x. IsLayout kind edge n (map edge range) x) (sym ns) (record {
       is_table = sorted (ap (is_hashed kind) count ∙ plain) up;
       permutation = IsPermutation-refl range;
       in_order = λ h. refl;
@@ -129,10 +129,10 @@ pub hashed_up : (kind : Kind) (n : ℕ) (es : List ℕ) → is_hashed kind n ≡
 hashed_up kind n es h up = subst IsStrictlyIncreasing (back_each (fold_byte kind) es (λ k l. spans_fold kind (hashed_spans kind n h) (get_or es k 0))) up
 
 pub laid_hashed : (kind : Kind) (edge : ℕ → ℕ) (n : ℕ) (edges table numbers : List ℕ) → is_hashed kind n ≡ true → IsStrictlyIncreasing (map (fold_byte kind) (map edge (range_with_len 0 n)))
-    → edges ≡ map edge (range_with_len 0 n) → IsSearched edges table numbers → IsLaid kind edge n table numbers
+    → edges ≡ map edge (range_with_len 0 n) → IsHashedLayout edges table numbers → IsLayout kind edge n table numbers
 laid_hashed kind edge n edges table numbers wide rises same placing =
     let es = map edge (range_with_len 0 n) in
-    let l : IsSearched es table numbers = subst (λ x. IsSearched x table numbers) same placing in
+    let l : IsHashedLayout es table numbers = subst (λ x. IsHashedLayout x table numbers) same placing in
     let up = up_of es (hashed_up kind n es wide rises) in
     let count = length-map-range_with_len edge 0 n in
     let back = edges_back edge n l.placed up l.permutation in
@@ -159,13 +159,13 @@ named f xs d = ranged f xs d 0 (length xs) (omega arith) ∙ ap (map f) (take_al
 
 -- the branch as it was laid out
 pub branch_hashed_laid : (kind : Kind) (all : Pairs) (ws : List Window) (edges table numbers : List ℕ) → is_hashed kind (length ws) ≡ true → IsStrictlyIncreasing (map (fold_byte kind) (map (edge_of all) ws))
-    → edges ≡ map (edge_of all) ws → IsSearched edges table numbers → IsLaid kind (edge_no all ws) (length ws) table numbers
+    → edges ≡ map (edge_of all) ws → IsHashedLayout edges table numbers → IsLayout kind (edge_no all ws) (length ws) table numbers
 branch_hashed_laid kind all ws edges table numbers wide rises same placing =
     let es = sym (named (edge_of all) ws no_window) in
     laid_hashed kind (edge_no all ws) (length ws) edges table numbers wide (subst (λ x. IsStrictlyIncreasing (map (fold_byte kind) x)) es rises) (same ∙ es) placing
 
 pub branch_sorted_laid : (kind : Kind) (all : Pairs) (ws : List Window) (table numbers : List ℕ) → is_hashed kind (length ws) ≡ false → IsStrictlyIncreasing (map (fold_byte kind) (map (edge_of all) ws))
-    → table ≡ map (edge_of all) ws → numbers ≡ range_with_len 0 (length ws) → IsLaid kind (edge_no all ws) (length ws) table numbers
+    → table ≡ map (edge_of all) ws → numbers ≡ range_with_len 0 (length ws) → IsLayout kind (edge_no all ws) (length ws) table numbers
 branch_sorted_laid kind all ws table numbers plain rises t ns =
     let es = sym (named (edge_of all) ws no_window) in
     laid_sorted kind (edge_no all ws) (length ws) table numbers plain (subst (λ x. IsStrictlyIncreasing (map (fold_byte kind) x)) es rises) (t ∙ es) ns
@@ -210,7 +210,7 @@ pub table_keys : (keys bytes shown : List ℕ) → (t : IsPerfectTable keys byte
 table_keys keys bytes shown t is = is ∙ ap (λ b. drop (1 + length b / 2) b) t.bytes_are ∙ keys_behind t.p t.qs t.placed t.perfect.a_q_each
 
 pub placed : (edges keys bytes shown table numbers : List ℕ) → (t : IsPerfectTable keys bytes) → keys ≡ edges → shown ≡ drop (1 + length bytes / 2) bytes → table ≡ bytes
-    → numbers ≡ map (λ b. place_in edges b) shown → IsSearched edges table numbers
+    → numbers ≡ map (λ b. place_in edges b) shown → IsHashedLayout edges table numbers
 placed edges keys bytes shown table numbers t same shows is ns = record {
   p = t.p;
   qs = t.qs;

@@ -3,7 +3,8 @@ use Rattle.std.proofs.Common.{◌≡◌, ℕ, ◌+◌, ◌-◌, ◌*◌, ◌/◌
 use Rattle.zerotrie_core.specs.Numbers.{Spells}
 use Rattle.zerotrie_core.proofs.CallerLemmas.{spelling_is}
 use Rattle.zerotrie_build.proofs.WriteLemmas.Puts.{number_is, number_len}
-use Rattle.zerotrie_build.specs.passes.Writing.{IsLead, with_bits, spelled_behind}
+use Rattle.zerotrie_core.specs.plain.Encoding.{with_bits}
+use Rattle.zerotrie_build.specs.passes.Writing.{IsLead, spelled_with_bits}
 
 pub known : (bits L : ℕ) → IsLead bits L → (L ≡ 16) ⊎ (L ≡ 32)
 known bits L (inl is) = inl is.0
@@ -15,14 +16,14 @@ bits_are bits L (inl (is, inl of)) = rw (is, of) refl
 bits_are bits L (inl (is, inr of)) = rw (is, of) refl
 bits_are bits L (inr (is, of)) = rw (is, of) refl
 
-pub one_byte : (bits L v : ℕ) → IsLead bits L → v < 2 ^ 64 → v < L → (bits + v) ∷ [] ≡ spelled_behind bits L v
+pub one_byte : (bits L v : ℕ) → IsLead bits L → v < 2 ^ 64 → v < L → (bits + v) ∷ [] ≡ spelled_with_bits bits L v
 one_byte bits L v is below short =
     let b = bits_are bits L is in
     spelling_is (record { latent_value = L; metadata = bits / (2 * L) }) v ((bits + v) ∷ []) (known bits L is)
     (record { digit = v; trail = []; below = below; digit_below = short; is_trail = tt; bytes_are = ap (λ x. x ∷ []) (omega arith); value = omega arith })
 
 pub two_bytes : (bits L v : ℕ) → IsLead bits L → v < 2 ^ 64 → L ≤ v → v - L < 128 * L
-    → (bits + L + (v - L) / 128) ∷ (v - L) % 128 ∷ [] ≡ spelled_behind bits L v
+    → (bits + L + (v - L) / 128) ∷ (v - L) % 128 ∷ [] ≡ spelled_with_bits bits L v
 two_bytes bits L v is below long short =
     let b = bits_are bits L is in
     let low = v - L in
@@ -30,7 +31,7 @@ two_bytes bits L v is below long short =
     (record { digit = low / 128; trail = low % 128 ∷ []; below = below; digit_below = omega arith; is_trail = omega arith; bytes_are = ap (λ x. x ∷ low % 128 ∷ []) (omega arith); value = omega arith })
 
 pub three_bytes : (bits L v : ℕ) → IsLead bits L → v < 2 ^ 64 → L ≤ v → L ≤ (v - L) / 128 → (v - L) / 128 - L < 128 * L
-    → (bits + L + ((v - L) / 128 - L) / 128) ∷ (128 + ((v - L) / 128 - L) % 128) ∷ (v - L) % 128 ∷ [] ≡ spelled_behind bits L v
+    → (bits + L + ((v - L) / 128 - L) / 128) ∷ (128 + ((v - L) / 128 - L) % 128) ∷ (v - L) % 128 ∷ [] ≡ spelled_with_bits bits L v
 three_bytes bits L v is below long longer short =
     let b = bits_are bits L is in
     let low = v - L in
@@ -47,10 +48,10 @@ three_bytes bits L v is below long longer short =
       value = omega arith;
     })
 
-pub spelling_behind : (bits L v : ℕ) (bytes : List ℕ) → IsLead bits L → Spells L 0 v bytes → with_bits bits bytes ≡ spelled_behind bits L v
+pub spelling_behind : (bits L v : ℕ) (bytes : List ℕ) → IsLead bits L → Spells L 0 v bytes → with_bits bits bytes ≡ spelled_with_bits bits L v
 spelling_behind bits L v bytes is s = number_is (record { latent_value = L; metadata = bits / (2 * L) }) v bits bytes (known bits L is) (bits_are bits L is) s
 
-pub length_behind : (bits L v : ℕ) (bytes : List ℕ) → IsLead bits L → Spells L 0 v bytes → length bytes ≡ length (spelled_behind bits L v)
+pub length_behind : (bits L v : ℕ) (bytes : List ℕ) → IsLead bits L → Spells L 0 v bytes → length bytes ≡ length (spelled_with_bits bits L v)
 length_behind bits L v bytes is s = number_len (record { latent_value = L; metadata = bits / (2 * L) }) v bits bytes (known bits L is) (bits_are bits L is) s
 
 pub other_form : (bits L : ℕ) → IsLead bits L → (L ≡ 16 → ⊥) → L ≡ 32

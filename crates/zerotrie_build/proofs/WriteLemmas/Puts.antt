@@ -8,13 +8,14 @@ use Rattle.std.specs.List.{range_with_len}
 use Rattle.zerotrie_core.specs.Numbers.{Form, Spells, extender, spelled_as, branch_form}
 use Rattle.zerotrie_core.specs.Branches.{IsWidth, blocks, total, ends, branch_front}
 use Rattle.zerotrie_core.proofs.CallerLemmas.{below_metadata, spelling_is, Completes, length-blocks, width_is}
-use Rattle.zerotrie_build.specs.passes.Puts.{Puts}
-use Rattle.zerotrie_build.specs.passes.Writing.{with_bits, target_lens}
+use Rattle.zerotrie_build.specs.passes.Zeros.{OverwritesZeros}
+use Rattle.zerotrie_core.specs.plain.Encoding.{with_bits}
+use Rattle.zerotrie_build.specs.passes.Writing.{target_lens}
 
-pub puts_nothing : (list : List ℕ) (at : ℕ) → Puts list at list at []
+pub puts_nothing : (list : List ℕ) (at : ℕ) → OverwritesZeros list at list at []
 puts_nothing list at = record { at_is = omega arith; same = refl; puts = λ written left a l. l ∙ ap (λ n. written ++ replicate n 0) (let e : 0 + left ≡ left = omega arith in e) ∙ ap (λ w. w ++ replicate left 0) (sym (append-nil written)) }
 
-pub puts_then : (l : List ℕ) (a : ℕ) (l' : List ℕ) (a' : ℕ) (l'' : List ℕ) (a'' : ℕ) (xs ys : List ℕ) → Puts l a l' a' xs → Puts l' a' l'' a'' ys → Puts l a l'' a'' (xs ++ ys)
+pub puts_then : (l : List ℕ) (a : ℕ) (l' : List ℕ) (a' : ℕ) (l'' : List ℕ) (a'' : ℕ) (xs ys : List ℕ) → OverwritesZeros l a l' a' xs → OverwritesZeros l' a' l'' a'' ys → OverwritesZeros l a l'' a'' (xs ++ ys)
 puts_then l a l' a' l'' a'' xs ys p q = record {
   at_is = (let e = length-append xs ys in let f = p.at_is in let g = q.at_is in omega arith);
   same = q.same ∙ p.same;
@@ -26,11 +27,11 @@ puts_then l a l' a' l'' a'' xs ys p q = record {
 }
 
 -- the next of the bytes
-pub puts_more : (l : List ℕ) (a : ℕ) (l' : List ℕ) (a' : ℕ) (l'' : List ℕ) (a'' : ℕ) (xs : List ℕ) (i b : ℕ) → i < length xs → b ≡ get_or xs i 0 → Puts l a l' a' (take i xs) → Puts l' a' l'' a'' (b ∷ []) → Puts l a l'' a'' (take (i + 1) xs)
-puts_more l a l' a' l'' a'' xs i b h e p q = subst (Puts l a l'' a'') (ap (λ x. take i xs ++ x ∷ []) e ∙ sym (take_more xs i 0 h)) (puts_then l a l' a' l'' a'' (take i xs) (b ∷ []) p q)
+pub puts_more : (l : List ℕ) (a : ℕ) (l' : List ℕ) (a' : ℕ) (l'' : List ℕ) (a'' : ℕ) (xs : List ℕ) (i b : ℕ) → i < length xs → b ≡ get_or xs i 0 → OverwritesZeros l a l' a' (take i xs) → OverwritesZeros l' a' l'' a'' (b ∷ []) → OverwritesZeros l a l'' a'' (take (i + 1) xs)
+puts_more l a l' a' l'' a'' xs i b h e p q = subst (OverwritesZeros l a l'' a'') (ap (λ x. take i xs ++ x ∷ []) e ∙ sym (take_more xs i 0 h)) (puts_then l a l' a' l'' a'' (take i xs) (b ∷ []) p q)
 
-pub puts_same : (l : List ℕ) (a : ℕ) (l' : List ℕ) (a' : ℕ) (xs ys : List ℕ) → xs ≡ ys → Puts l a l' a' xs → Puts l a l' a' ys
-puts_same l a l' a' xs ys e = subst (Puts l a l' a') e
+pub puts_same : (l : List ℕ) (a : ℕ) (l' : List ℕ) (a' : ℕ) (xs ys : List ℕ) → xs ≡ ys → OverwritesZeros l a l' a' xs → OverwritesZeros l a l' a' ys
+puts_same l a l' a' xs ys e = subst (OverwritesZeros l a l' a') e
 
 -- a number with bits of metadata is its spelling
 pub number_is : (form : Form) (v bits : ℕ) (bytes : List ℕ) → (form.latent_value ≡ 16) ⊎ (form.latent_value ≡ 32) → bits ≡ form.metadata * (2 * form.latent_value)

@@ -12,10 +12,10 @@ use Rattle.zerotrie_build.specs.declared.branch_layout.Position.{Position}
 use Rattle.zerotrie_build.specs.declared.branch_layout.Next.{Next}
 use Rattle.zerotrie_build.specs.declared.branch_layout.Next.TheVariants.{Go}
 use Rattle.zerotrie_build.specs.passes.Windows.{window, edge_of, IsGroup}
-use Rattle.zerotrie_build.specs.passes.Measured.{Passes, TargetWindows, HasFirstTargets, Kept, KeptEach, sizes_of, slots_of, ends_from}
+use Rattle.zerotrie_build.specs.passes.Measured.{Passes, TargetWindows, HasFirstTargets, AreSlotsOf, AreSlotsOfEach, sizes_of, slots_of, ends_from}
 use Rattle.zerotrie_build.specs.passes.Measured.Passes.{here, value, literal, span}
-use Rattle.zerotrie_build.specs.passes.Measured.Kept.{kept}
-use Rattle.zerotrie_build.specs.passes.Measured.KeptEach.{none as none_kept, more as more_kept}
+use Rattle.zerotrie_build.specs.passes.Measured.AreSlotsOf.{kept}
+use Rattle.zerotrie_build.specs.passes.Measured.AreSlotsOfEach.{none as none_kept, more as more_kept}
 use Rattle.zerotrie_build.specs.passes.Writing.{window_at, position_at, text_of, placed_next, next_of, HasSlots, HasSlotsTo, IsPending}
 use Rattle.zerotrie_build.specs.passes.Writing.IsPending.{go as to_go, text as to_text}
 use Rattle.zerotrie_build.proofs.WriteLemmas.Puts.{count_map}
@@ -142,22 +142,22 @@ pub record Opened (kind : Kind) (all : Pairs) (slots : List ℕ) (slot end : ℕ
   pub below : List (List ℕ)
   pub more : List ℕ
   pub known : HasFirstTargets kind all w cs
-  pub each : KeptEach kind all cs below
+  pub each : AreSlotsOfEach kind all cs below
   pub slots_are : drop slot slots ≡ slots_of kind (sizes_of kind all cs) below ++ more
   pub end_is : end ≡ slot + length (slots_of kind (sizes_of kind all cs) below)
 
 pub opened : {kind : Kind} {all : Pairs} {slots : List ℕ} {slot end : ℕ} {w : Window} → HasSlotsTo kind all slots slot end w → Opened kind all slots slot end w
 opened {kind = kind} {all = all} {slots = slots} {slot = slot} {end = end} {w = w} k = by_kept k.kept k.slots_are k.end_is
   where
-    by_kept : {s : List ℕ} → Kept kind all w s → drop slot slots ≡ s ++ k.more → end ≡ slot + length s → Opened kind all slots slot end w
+    by_kept : {s : List ℕ} → AreSlotsOf kind all w s → drop slot slots ≡ s ++ k.more → end ≡ slot + length s → Opened kind all slots slot end w
     by_kept (kept {cs = cs} {below = below} o each) is to = record { cs = cs; below = below; more = k.more; known = o; each = each; slots_are = is; end_is = to }
 
-pub each_count : {kind : Kind} {all : Pairs} {cs : List Window} {below : List (List ℕ)} → KeptEach kind all cs below → length below ≡ length cs
+pub each_count : {kind : Kind} {all : Pairs} {cs : List Window} {below : List (List ℕ)} → AreSlotsOfEach kind all cs below → length below ≡ length cs
 each_count none_kept = refl
 each_count (more_kept k each) = ap suc (each_count each)
 
 -- the slots of the window of a number
-kept_at : {kind : Kind} {all : Pairs} {cs : List Window} {below : List (List ℕ)} (slots : List ℕ) (from n : ℕ) (more : List ℕ) → KeptEach kind all cs below → drop (from + n) slots ≡ concat below ++ more
+kept_at : {kind : Kind} {all : Pairs} {cs : List Window} {below : List (List ℕ)} (slots : List ℕ) (from n : ℕ) (more : List ℕ) → AreSlotsOfEach kind all cs below → drop (from + n) slots ≡ concat below ++ more
     → (i : ℕ) → i < length cs → (end : ℕ) × HasSlotsTo kind all slots (from + get_or (n ∷ ends_from n (map length below)) i 0) end (window_at cs i)
 kept_at slots from n more none_kept is i h = absurd (omega arith)
 kept_at slots from n more (more_kept {slots = s} {below = below} k each) is zero h =
@@ -175,7 +175,7 @@ leads_placed slots from cs ends each (i ∷ numbers) within next ws then at =
     let here = each i within.0 in
     to_go (to_text here.1 (leads_placed slots from cs ends each numbers within.1 next ws then (position_at (window_at cs i).to here.0)))
 
-leads_sorted : {kind : Kind} {all : Pairs} {cs : List Window} {below : List (List ℕ)} (slots : List ℕ) (v : Window) (at : ℕ) (more : List ℕ) → TargetWindows all v cs → KeptEach kind all cs below → drop at slots ≡ concat below ++ more
+leads_sorted : {kind : Kind} {all : Pairs} {cs : List Window} {below : List (List ℕ)} (slots : List ℕ) (v : Window) (at : ℕ) (more : List ℕ) → TargetWindows all v cs → AreSlotsOfEach kind all cs below → drop at slots ≡ concat below ++ more
     → (next : List Next) (ws : List Window) → IsPending kind all slots (position_at v.to (at + length (concat below))) next ws → IsPending kind all slots (position_at v.from at) (map text_of cs ++ next) (cs ++ ws)
 leads_sorted {kind = kind} {all = all} slots v at more parts none_kept is next ws then =
     subst (λ f. IsPending kind all slots (position_at f at) next ws) (sym parts) (subst (λ n. IsPending kind all slots (position_at v.to n) next ws) (let e : at + 0 ≡ at = omega arith in e) then)
@@ -286,7 +286,7 @@ none_ends {kind = kind} {all = all} {slot = slot} {end = end} k e = by_none k.cs
     nothing true = refl
     nothing false = refl
 
-    by_none : (cs : List Window) (below : List (List ℕ)) → KeptEach kind all cs below → cs ≡ [] → end ≡ slot + length (slots_of kind (sizes_of kind all cs) below) → end ≡ slot
+    by_none : (cs : List Window) (below : List (List ℕ)) → AreSlotsOfEach kind all cs below → cs ≡ [] → end ≡ slot + length (slots_of kind (sizes_of kind all cs) below) → end ≡ slot
     by_none [] [] each e is =
         let n = nothing (is_hashed kind 0) in
         let a = length-append (cond (is_hashed kind 0) (ends_from 0 []) []) [] in

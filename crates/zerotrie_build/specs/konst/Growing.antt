@@ -10,7 +10,7 @@ use Rattle.zerotrie_core.specs.Stack.{stack_of}
 use Rattle.zerotrie_core.specs.Causes.{ZeroTrieBuildError, CapacityExceeded, StackExceeded}
 use Rattle.zerotrie_build.specs.declared.konst.text.Sibling.{Sibling}
 use Rattle.zerotrie_build.specs.declared.konst.text.Text.{Text}
-use Rattle.zerotrie_build.specs.konst.Texts.{Counts, EndsIn, Has, tops, bytes_of, lens_of}
+use Rattle.zerotrie_build.specs.konst.Texts.{Counts, EndsIn, Has, newest_first, bytes_of, lens_of}
 
 -- the first sibling, if there is one, lies at a lower depth
 abbrev pub DepthsBelow : ℕ → List Sibling → Type 0
@@ -81,11 +81,11 @@ ClosedTo k key depth siblings front bytes pairs =
 
 -- the text and the siblings, the last that was set aside last, stand so
 abbrev pub IsClosedTo : ℕ → List ℕ → ℕ → Text → List Sibling → Pairs → Type 0
-IsClosedTo k key depth text siblings listed = (bytes : List ℕ) × Has text bytes × ClosedTo k key depth (tops siblings) text.front bytes listed
+IsClosedTo k key depth text siblings listed = (bytes : List ℕ) × Has text bytes × ClosedTo k key depth (newest_first siblings) text.front bytes listed
 
 -- they wait so
 abbrev pub IsReady : ℕ → List ℕ → Text → List Sibling → Pairs → Type 0
-IsReady k key text siblings listed = (bytes : List ℕ) × Has text bytes × ReadyFor k key (tops siblings) text.front bytes listed
+IsReady k key text siblings listed = (bytes : List ℕ) × Has text bytes × ReadyFor k key (newest_first siblings) text.front bytes listed
 
 -- the items from this one on are built
 abbrev pub BuiltFrom : ℕ → ℕ → Pairs → Text → List Sibling → Type 0

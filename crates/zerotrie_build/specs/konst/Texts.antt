@@ -26,14 +26,14 @@ pub record Keeps (old new : Text) : Type 0 where
   pub before : (n : ℕ) → n + new.len ≤ length old.buffer.now → take n new.buffer.now ≡ take n old.buffer.now
 
 -- The bytes were put in front of a text, and counted.
-pub record PutsBefore (old new : Text) (bytes : List ℕ) : Type 0 where
+pub record Prepends (old new : Text) (bytes : List ℕ) : Type 0 where
   pub keeps : Keeps old new
   pub has : (behind : List ℕ) → Has old behind → Has new (bytes ++ behind)
   pub counts : (front : ℕ) → Counts old.front front → Counts new.front (length bytes + front)
 
 -- the siblings, the last that was set aside first
-abbrev pub tops : List Sibling → List Sibling
-tops siblings = reverse siblings
+abbrev pub newest_first : List Sibling → List Sibling
+newest_first siblings = reverse siblings
 
 -- their edge bytes
 abbrev pub bytes_of : List Sibling → List ℕ

@@ -72,15 +72,15 @@ slots_of kind lens below = lens ++ ((if is_hashed kind (length lens) then ends_f
 
 mutual
   -- The slots are those of the first branch of a window and of the branches behind it.
-  pub data Kept (kind : Kind) (all : Pairs) : Window → List ℕ → Type 0 where
+  pub data AreSlotsOf (kind : Kind) (all : Pairs) : Window → List ℕ → Type 0 where
     kept : {w : Window} {cs : List Window} {below : List (List ℕ)}
-        → HasFirstTargets kind all w cs → KeptEach kind all cs below → Kept kind all w (slots_of kind (sizes_of kind all cs) below)
+        → HasFirstTargets kind all w cs → AreSlotsOfEach kind all cs below → AreSlotsOf kind all w (slots_of kind (sizes_of kind all cs) below)
 
   -- Each window has these slots.
-  pub data KeptEach (kind : Kind) (all : Pairs) : List Window → List (List ℕ) → Type 0 where
-    none : KeptEach kind all [] []
+  pub data AreSlotsOfEach (kind : Kind) (all : Pairs) : List Window → List (List ℕ) → Type 0 where
+    none : AreSlotsOfEach kind all [] []
     more : {c : Window} {cs : List Window} {slots : List ℕ} {below : List (List ℕ)}
-        → Kept kind all c slots → KeptEach kind all cs below → KeptEach kind all (c ∷ cs) (slots ∷ below)
+        → AreSlotsOf kind all c slots → AreSlotsOfEach kind all cs below → AreSlotsOfEach kind all (c ∷ cs) (slots ∷ below)
 
 -- the window of all items
 abbrev pub whole_window : Pairs → Window
@@ -89,5 +89,5 @@ whole_window all = record { from = 0; to = length all; depth = 0 }
 -- The slots are those of the pairs, whose text is so long.
 pub record IsMeasured (kind : Kind) (all : Pairs) (slots : List ℕ) (len : ℕ) : Type 0 where
   pub keys : AreKeys kind all
-  pub slots_are : Kept kind all (whole_window all) slots
+  pub slots_are : AreSlotsOf kind all (whole_window all) slots
   pub len_is : len ≡ size_of kind all

@@ -11,7 +11,7 @@ use Rattle.zerotrie_build.specs.declared.measuring.OpenBranch.{OpenBranch}
 use Rattle.zerotrie_build.specs.declared.measuring.Turn.{Turn}
 use Rattle.zerotrie_build.specs.declared.measuring.Turn.TheVariants.{Window as NextWindow, Whole}
 use Rattle.zerotrie_build.specs.passes.Windows.{window, step_of}
-use Rattle.zerotrie_build.specs.passes.Measured.{Passes, TargetWindows, sizes_of, ends_from, Kept, KeptEach, whole_window}
+use Rattle.zerotrie_build.specs.passes.Measured.{Passes, TargetWindows, sizes_of, ends_from, AreSlotsOf, AreSlotsOfEach, whole_window}
 
 -- behind some front stand the pairs of the window, but for the value of the empty key
 abbrev pub IsBehindFront : Pairs → Window → Type 0
@@ -54,7 +54,7 @@ pub record MeasuresTarget (kind : Kind) (all : Pairs) (w c : Window) (f : OpenBr
   pub more : List Window
   pub parts : TargetWindows all behind (done ++ c ∷ more)
   pub below : List (List ℕ)
-  pub kept : KeptEach kind all done below
+  pub kept : AreSlotsOfEach kind all done below
   pub from : f.from ≡ c.from
   pub depth : f.depth ≡ behind.depth
   pub room : f.depth + 1 < 2 ^ 64
@@ -75,7 +75,7 @@ pub record Closing (kind : Kind) (all : Pairs) (branches : List OpenBranch) (slo
   pub before : List ℕ
   pub own : List ℕ
   pub waits : IsInside kind all w branches before
-  pub kept : Kept kind all w own
+  pub kept : AreSlotsOf kind all w own
   pub slots_are : slots ≡ before ++ own
   pub len_is : len ≡ size_of kind (window all w)
 
@@ -94,7 +94,7 @@ pub record IsOpened (kind : Kind) (all : Pairs) (w : Window) (len : ℕ) (c : Wi
 -- the next window is measured, or all is
 abbrev pub IsTurn : Kind → Pairs → Turn → List OpenBranch → List ℕ → Type 0
 IsTurn kind all (NextWindow c) branches slots = IsInside kind all c branches slots
-IsTurn kind all (Whole len) branches slots = Kept kind all (whole_window all) slots × (len ≡ size_of kind (window all (whole_window all)))
+IsTurn kind all (Whole len) branches slots = AreSlotsOf kind all (whole_window all) slots × (len ≡ size_of kind (window all (whole_window all)))
 
 abbrev pub IsNextWindow : Turn → Type 0
 IsNextWindow (NextWindow c) = Unit {0}

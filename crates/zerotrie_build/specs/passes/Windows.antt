@@ -47,14 +47,14 @@ step_of kind all w = if nat_lt w.from w.to
     else End
 
 -- The first and the last key of the window have one byte at the depth, and it is below 128.
-pub record IsLow (all : Pairs) (w : Window) (depth : ℕ) : Type 0 where
+pub record HasLiteralAt (all : Pairs) (w : Window) (depth : ℕ) : Type 0 where
   pub byte : ℕ
   pub low : byte < 128
   pub first : byte_of all w.from depth ≡ Some byte
   pub last : byte_of all (w.to - 1) depth ≡ Some byte
 
 -- The window has one item, with this value, whose key goes on with this rest.
-pub record IsOne (all : Pairs) (w : Window) (rest : List ℕ) (value : ℕ) : Type 0 where
+pub record IsSingleItem (all : Pairs) (w : Window) (rest : List ℕ) (value : ℕ) : Type 0 where
   pub one : w.to ≡ w.from + 1
   pub deep : w.depth ≤ length (item_no all w.from).0
   pub rest_is : rest ≡ drop w.depth (item_no all w.from).0
@@ -74,7 +74,7 @@ abbrev pub IsRestLen : Kind → List ℕ → ℕ → Type 0
 IsRestLen kind rest n = (All (λ b. b < 128) rest × (n ≡ length rest)) ⊎ ((has_spans kind ≡ true) × (length rest < 16) × (n ≡ short_size false rest))
 
 -- The window has one item, with this value, whose key goes on with this rest, and the rest is ASCII.
-pub record IsLone (all : Pairs) (w : Window) (rest : List ℕ) (value : ℕ) : Type 0 where
+pub record IsAsciiLeaf (all : Pairs) (w : Window) (rest : List ℕ) (value : ℕ) : Type 0 where
   pub one : w.to ≡ w.from + 1
   pub deep : w.depth ≤ length (item_no all w.from).0
   pub rest_is : rest ≡ drop w.depth (item_no all w.from).0

@@ -14,21 +14,16 @@ use Rattle.zerotrie_build.specs.declared.branch_layout.Position.{Position}
 use Rattle.zerotrie_build.specs.declared.branch_layout.Next.{Next}
 use Rattle.zerotrie_build.specs.declared.branch_layout.Next.TheVariants.{Go, Text}
 use Rattle.zerotrie_build.specs.passes.Windows.{window, edge_of}
-use Rattle.zerotrie_build.specs.passes.Measured.{TargetWindows, Kept, sizes_of, slots_of}
-use Rattle.zerotrie_build.specs.passes.Puts.{Puts}
-
--- a number with these bits added to its lead byte
-abbrev pub with_bits : ℕ → List ℕ → List ℕ
-with_bits bits [] = []
-with_bits bits (lead ∷ trail) = (bits + lead) ∷ trail
+use Rattle.zerotrie_build.specs.passes.Measured.{Passes, TargetWindows, AreSlotsOf, sizes_of, slots_of}
+use Rattle.zerotrie_build.specs.passes.Zeros.{OverwritesZeros}
 
 -- these bits begin a node whose number has the form with this latent value
 abbrev pub IsLead : ℕ → ℕ → Type 0
 IsLead bits latent = ((latent ≡ 16) × ((bits ≡ 128) ⊎ (bits ≡ 160))) ⊎ ((latent ≡ 32) × (bits ≡ 192))
 
 -- the spelling of a number with these bits in its lead
-abbrev pub spelled_behind : ℕ → ℕ → ℕ → List ℕ
-spelled_behind bits latent number = spelled latent (bits / (2 * latent)) number
+abbrev pub spelled_with_bits : ℕ → ℕ → ℕ → List ℕ
+spelled_with_bits bits latent number = spelled latent (bits / (2 * latent)) number
 
 -- The bytes are a text of the kind, and what it lists answers as these pairs.
 pub record Listed (kind : Kind) (bytes : List ℕ) (pairs : Pairs) : Type 0 where
@@ -56,7 +51,7 @@ place_in [] b = 0
 place_in (e ∷ es) b = if e == b then 0 else 1 + place_in es b
 
 -- A perfect table of these edges, and their numbers in the order of the table.
-pub record IsSearched (edges table numbers : List ℕ) : Type 0 where
+pub record IsHashedLayout (edges table numbers : List ℕ) : Type 0 where
   pub p : ℕ
   pub qs : List ℕ
   pub placed : List ℕ
@@ -66,7 +61,7 @@ pub record IsSearched (edges table numbers : List ℕ) : Type 0 where
   pub numbers_are : numbers ≡ map (λ b. place_in edges b) placed
 
 -- The search table of a branch to so many targets, and their numbers in the order of the table.
-pub record IsLaid (kind : Kind) (edge : ℕ → ℕ) (count : ℕ) (table numbers : List ℕ) : Type 0 where
+pub record IsLayout (kind : Kind) (edge : ℕ → ℕ) (count : ℕ) (table numbers : List ℕ) : Type 0 where
   pub is_table : IsTable kind (map edge numbers) table
   pub permutation : IsPermutation (range_with_len 0 count) numbers
   pub in_order : is_hashed kind count ≡ false → numbers ≡ range_with_len 0 count
@@ -110,7 +105,7 @@ next_of kind slots slot windows numbers =
 pub record HasSlotsTo (kind : Kind) (all : Pairs) (slots : List ℕ) (slot end : ℕ) (w : Window) : Type 0 where
   pub below : List ℕ
   pub more : List ℕ
-  pub kept : Kept kind all w below
+  pub kept : AreSlotsOf kind all w below
   pub slots_are : drop slot slots ≡ below ++ more
   pub end_is : end ≡ slot + length below
 
@@ -130,11 +125,18 @@ Texts kind all [] (t ∷ ts) = ⊥
 Texts kind all (w ∷ ws) [] = ⊥
 Texts kind all (w ∷ ws) (t ∷ ts) = Listed kind t (window all w) × Texts kind all ws ts
 
+-- The values, literals and spans that stand first in a window were written, and the rest of it comes after them.
+pub record FrontWritten (kind : Kind) (all : Pairs) (w rest : Window) (list : List ℕ) (at : ℕ) (list' : List ℕ) (at' : ℕ) : Type 0 where
+  pub front : List ℕ
+  pub writes : OverwritesZeros list at list' at' front
+  pub run : Passes kind all w rest (length front)
+  pub lists : (text : List ℕ) → Listed kind text (window all rest) → Listed kind (front ++ text) (window all w)
+
 -- The bytes of a window in front of the targets of its first branch were written, and then come these windows.
 pub record NodesWritten (kind : Kind) (all : Pairs) (slots : List ℕ) (slot : ℕ) (w : Window) (next : List Next) (list : List ℕ) (at : ℕ) (list' : List ℕ) (at' : ℕ) : Type 0 where
   pub targets : List Window
   pub front : List ℕ
-  pub puts : Puts list at list' at' front
+  pub puts : OverwritesZeros list at list' at' front
   pub sized : length front + total (sizes_of kind all targets) ≡ size_of kind (window all w)
   pub many : length next ≤ length front
   pub lists : (texts : List (List ℕ)) → Texts kind all targets texts → Listed kind (front ++ concat texts) (window all w)

@@ -3,17 +3,12 @@
 ghost use Rattle.std.specs.Prelude.{◌≡◌, ℕ, ◌+◌, ◌-◌, ◌/◌, ◌%◌, ◌^◌, ◌<◌, ◌≤◌, [], ◌∷◌, length, map, slice_index};
 ghost use Rattle.zerotrie_core.specs.Numbers.{value_form, spelled_as, SpellsAs};
 ghost use Rattle.zerotrie_core.specs.Branches.{total as total_of, ends, blocks, branch_front};
-ghost use Rattle.zerotrie_build.specs.passes.Writing.{with_bits};
-ghost use Rattle.zerotrie_build.specs.konst.Texts.{PutsBefore, Counts, tops, bytes_of, lens_of};
+ghost use Rattle.zerotrie_core.specs.plain.Encoding.{with_bits};
+ghost use Rattle.zerotrie_build.specs.konst.Texts.{Prepends, Counts, newest_first, bytes_of, lens_of};
 
 use crate::measuring::width_of;
+use crate::writing::{BRANCH, VALUE};
 use zerotrie_core::{write_varint_meta2, write_varint_meta3};
-
-/// The bits of the lead of a value node.
-const VALUE: u8 = 0b1000_0000;
-
-/// The bits of the lead of a branch.
-const BRANCH: u8 = 0b1100_0000;
 
 /// A target of a branch that is not written yet.
 #[derive(Clone, Copy, Debug, Default)]
@@ -40,7 +35,7 @@ pub(crate) struct Text<'a> {
 impl Text<'_> {
     /// Puts a byte in front: a literal is its byte.
     pub(crate) fn put(&mut self, byte: u8)
-        ensures { PutsBefore self.old self.new (byte ∷ []) }
+        ensures { Prepends self.old self.new (byte ∷ []) }
     {
         self.len = self.len.saturating_add(1);
         if let Some(place) = self.buffer.len().checked_sub(self.len) {
@@ -51,7 +46,7 @@ impl Text<'_> {
 
     /// Puts bytes in front.
     fn put_all(&mut self, bytes: &[u8])
-        ensures { PutsBefore self.old self.new bytes.now }
+        ensures { Prepends self.old self.new bytes.now }
     {
         for index in (0..bytes.len()).rev() {
             self.put(bytes[index]);
@@ -61,7 +56,7 @@ impl Text<'_> {
     /// Puts a number in front, with these bits added to its lead.
     fn put_number(&mut self, bits: u8, number: &[u8])
         requires { bits + slice_index number.now 0 < 256 }
-        ensures { PutsBefore self.old self.new (with_bits bits number.now) }
+        ensures { Prepends self.old self.new (with_bits bits number.now) }
     {
         if let Some((lead, trail)) = number.split_first() {
             self.put_all(trail);
@@ -71,7 +66,7 @@ impl Text<'_> {
 
     /// Puts a value node in front.
     pub(crate) fn put_value(&mut self, value: usize)
-        ensures puts { PutsBefore self.old self.new (spelled_as value_form value) }
+        ensures puts { Prepends self.old self.new (spelled_as value_form value) }
         ensures spells { SpellsAs value_form value (spelled_as value_form value) }
     {
         self.put_number(VALUE, &write_varint_meta3(value));
@@ -80,9 +75,9 @@ impl Text<'_> {
     /// Puts the bytes of this weight of the offsets of a branch to these targets in front.
     fn put_block(&mut self, siblings: &[Sibling], total: usize, place: usize)
         requires place { place < 8 }
-        requires total { total ≡ total_of (lens_of (tops siblings.now)) }
-        ensures { PutsBefore self.old self.new
-            (map (λ o. o / 256 ^ place % 256) (ends (lens_of (tops siblings.now)))) }
+        requires total { total ≡ total_of (lens_of (newest_first siblings.now)) }
+        ensures { Prepends self.old self.new
+            (map (λ o. o / 256 ^ place % 256) (ends (lens_of (newest_first siblings.now)))) }
     {
         let mut end = total;
         for index in 1..siblings.len() {
@@ -94,8 +89,9 @@ impl Text<'_> {
     /// Puts `bytes` bytes of each offset of a branch to these targets in front.
     fn put_offsets(&mut self, siblings: &[Sibling], total: usize, bytes: usize)
         requires bytes { bytes ≤ 8 }
-        requires total { total ≡ total_of (lens_of (tops siblings.now)) }
-        ensures { PutsBefore self.old self.new (blocks bytes (ends (lens_of (tops siblings.now)))) }
+        requires total { total ≡ total_of (lens_of (newest_first siblings.now)) }
+        ensures { Prepends self.old self.new
+            (blocks bytes (ends (lens_of (newest_first siblings.now)))) }
     {
         for place in 0..bytes {
             self.put_block(siblings, total, place);
@@ -104,7 +100,7 @@ impl Text<'_> {
 
     /// Puts the edges of a branch to these targets in front.
     fn put_edges(&mut self, siblings: &[Sibling])
-        ensures { PutsBefore self.old self.new (bytes_of (tops siblings.now)) }
+        ensures { Prepends self.old self.new (bytes_of (newest_first siblings.now)) }
     {
         for sibling in siblings {
             self.put(sibling.byte);
@@ -114,9 +110,10 @@ impl Text<'_> {
     /// Puts the head, the edges and the offsets of a branch to these targets in front. Together the targets
     /// have `total` bytes.
     pub(crate) fn put_branch(&mut self, siblings: &[Sibling], total: usize)
-        requires total { total ≡ total_of (lens_of (tops siblings.now)) }
-        ensures { PutsBefore self.old self.new
-            (branch_front (bytes_of (tops siblings.now)) (lens_of (tops siblings.now))) }
+        requires total { total ≡ total_of (lens_of (newest_first siblings.now)) }
+        ensures { Prepends self.old self.new
+            (branch_front (bytes_of (newest_first siblings.now))
+            (lens_of (newest_first siblings.now))) }
     {
         let width = width_of(total);
         self.put_offsets(siblings, total, width + 1);
@@ -130,9 +127,9 @@ impl Text<'_> {
 
 /// How many bytes the targets have together, or the greatest number if they have more.
 pub(crate) fn total(siblings: &[Sibling]) -> usize
-    ensures exact { total_of (lens_of (tops siblings.now)) < 2 ^ 64
-        → result ≡ total_of (lens_of (tops siblings.now)) }
-    ensures capped { 2 ^ 64 ≤ total_of (lens_of (tops siblings.now)) → 2 ^ 32 ≤ result }
+    ensures exact { total_of (lens_of (newest_first siblings.now)) < 2 ^ 64
+        → result ≡ total_of (lens_of (newest_first siblings.now)) }
+    ensures capped { 2 ^ 64 ≤ total_of (lens_of (newest_first siblings.now)) → 2 ^ 32 ≤ result }
 {
     let mut total: usize = 0;
     for sibling in siblings {

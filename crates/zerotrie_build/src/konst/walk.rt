@@ -11,7 +11,7 @@ ghost use Rattle.zerotrie_core.specs.Stack.{stack_of};
 ghost use Rattle.zerotrie_core.specs.Causes.{CapacityExceeded, StackExceeded};
 ghost use Rattle.zerotrie_build.specs.Items.{pairs};
 ghost use Rattle.zerotrie_build.specs.Order.{Before, Ordered};
-ghost use Rattle.zerotrie_build.specs.konst.Texts.{EndsIn, Keeps, tops};
+ghost use Rattle.zerotrie_build.specs.konst.Texts.{EndsIn, Keeps, newest_first};
 ghost use Rattle.zerotrie_build.specs.konst.Growing.{NoneAt, AllAt, IsClosedTo, IsReady, BuiltFrom, Joins, LevelTooWide, RefusedAt, RefusedFrom, RefusedBefore, IsRefusedBuild};
 
 use crate::konst::text::{Sibling, Text, total};
@@ -27,8 +27,9 @@ fn set_aside<const K: usize>(
     byte: u8,
     depth: usize,
 ) -> Result<(), ZeroTrieBuildError>
-    ensures aside { OnOk result (tops siblings.new.items
-        ≡ record { depth = depth; byte = byte; len = text.old.front } ∷ tops siblings.old.items) }
+    ensures aside { OnOk result (newest_first siblings.new.items
+        ≡ record { depth = depth; byte = byte; len = text.old.front }
+        ∷ newest_first siblings.old.items) }
     ensures room { OnOk result (length siblings.old.items < K) }
     ensures front { OnOk result (text.new.front ≡ 0) }
     ensures bytes { OnOk result (text.new.buffer.now ≡ text.old.buffer.now) }
@@ -48,8 +49,8 @@ fn set_aside<const K: usize>(
 /// Where the siblings at this depth begin, which were set aside last.
 fn start_of<const K: usize>(siblings: &ArrayVec<Sibling, K>, depth: usize) -> usize
     ensures within { result ≤ length siblings.now.items }
-    ensures level { AllAt depth (tops (drop result siblings.now.items)) }
-    ensures no_more { NoneAt depth (tops (take result siblings.now.items)) }
+    ensures level { AllAt depth (newest_first (drop result siblings.now.items)) }
+    ensures no_more { NoneAt depth (newest_first (take result siblings.now.items)) }
 {
     let mut start = siblings.len();
     while start > 0 && siblings[start - 1].depth == depth {
@@ -66,9 +67,9 @@ fn join<const K: usize>(
 ) -> Result<(), ZeroTrieBuildError>
     ensures keeps { OnOk result (Keeps text.old text.new) }
     ensures joins { OnOk result (Joins depth text.old text.new
-        (tops siblings.old.items) (tops siblings.new.items)) }
+        (newest_first siblings.old.items) (newest_first siblings.new.items)) }
     ensures refused { IfErr result (λ e. (e ≡ CapacityExceeded)
-        × LevelTooWide depth (tops siblings.old.items)) }
+        × LevelTooWide depth (newest_first siblings.old.items)) }
 {
     let start = start_of(siblings, depth);
     let branch = &siblings.as_slice()[start..];
@@ -84,8 +85,8 @@ fn join<const K: usize>(
 
 /// Whether siblings lie at this depth.
 fn has_siblings_at<const K: usize>(siblings: &ArrayVec<Sibling, K>, depth: usize) -> bool
-    ensures yes { result ≡ true → NoneAt depth (tops siblings.now.items) → ⊥ }
-    ensures no { result ≡ false → NoneAt depth (tops siblings.now.items) }
+    ensures yes { result ≡ true → NoneAt depth (newest_first siblings.now.items) → ⊥ }
+    ensures no { result ≡ false → NoneAt depth (newest_first siblings.now.items) }
 {
     match siblings.last() {
         Some(top) => top.depth == depth,

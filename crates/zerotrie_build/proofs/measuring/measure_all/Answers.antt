@@ -7,7 +7,7 @@ use Rattle.zerotrie_core.specs.Fits.{ExceedsCapacity}
 use Rattle.zerotrie_build.specs.declared.measuring.Turn.TheVariants.{Window as NextWindow, Whole}
 use Rattle.zerotrie_build.specs.Order.{Ordered, AreKeys}
 use Rattle.zerotrie_build.specs.passes.Windows.{window}
-use Rattle.zerotrie_build.specs.passes.Measured.{Kept, whole_window}
+use Rattle.zerotrie_build.specs.passes.Measured.{AreSlotsOf, whole_window}
 use Rattle.zerotrie_build.specs.passes.Walking.{IsInside, Closing, IsOpened, IsTurn, IsNextWindow}
 use Rattle.zerotrie_build.specs.passes.Walking.IsInside.{outside}
 use Rattle.zerotrie_build.proofs.WindowLemmas.Windows.{cut_whole}
@@ -32,8 +32,8 @@ loop-pass-init g c = record {
       (subst (λ x. IsInside kind all (whole_window all) (reverse x) m.slots.items) (sym e.branches) (subst (IsInside kind all (whole_window all) []) (sym e.slots) outside)));
 }
 
-pub behind_nodes-requires : goal.behind_nodes-requires
-behind_nodes-requires g c =
+pub after_nodes-requires : goal.after_nodes-requires
+after_nodes-requires g c =
     let p = waits_placed c.loop-pass.invariant.waits c.requires.keys c.requires.ordered in
     λ k. ((refl, tt), (c.requires.keys, (c.requires.ascii, (p.within, p.ordered))))
 
@@ -122,6 +122,6 @@ returns-in-Whole-clause-measured g c =
     (subst (λ t. IsTurn kind (g.I.IndexedItems.pairs c.loop-pass.pass.items) t (reverse c.close.new.self.branches.items) c.close.new.self.slots.items) c.in-Whole.is c.in_ok-next.ensures.turn) in
     record {
       keys = c.requires.keys;
-      slots_are = subst (Kept kind all (whole_window all)) (sym c.measured.ensures.slots) t.0;
+      slots_are = subst (AreSlotsOf kind all (whole_window all)) (sym c.measured.ensures.slots) t.0;
       len_is = c.measured.ensures.len ∙ t.1 ∙ ap (size_of kind) (cut_whole all);
     }

@@ -1,8 +1,8 @@
 use Rattle.std.proofs.Common.{◌-◌, ap, arith, subst}
 use Rattle.zerotrie_core.specs.Items.{keyed}
 use Rattle.zerotrie_build.specs.Refused.{key_at, DifferInCase}
-use Rattle.zerotrie_build.specs.passes.Turns.{NoneTurns}
-use Rattle.zerotrie_build.proofs.RefusalLemmas.Turns.{no_turns, turns_consistent}
+use Rattle.zerotrie_build.specs.passes.OtherCase.{NoneHasOtherCase}
+use Rattle.zerotrie_build.proofs.RefusalLemmas.OtherCase.{no_turns, turns_consistent}
 use Rattle.zerotrie_build.proofs.RefusalLemmas.Shown.{count_keyed, differ_within, differ_shown, turn_more}
 use Rattle.zerotrie_build.proofs.refusal.mixed.Goals as goal
 
@@ -18,7 +18,7 @@ returns-in-Some-clause-some g c =
 pub loop-number-preserved : goal.loop-number-preserved
 loop-number-preserved g c =
     let all = keyed g.Key.TrieKey.key c.args.items.now in
-    turn_more (λ k l. NoneTurns g.K.ZeroTrieWithOptions.kind k l all) all c.loop-number.number c.item_at.result.0.now c.item_at-in-loop-number.result.0.now (omega arith)
+    turn_more (λ k l. NoneHasOtherCase g.K.ZeroTrieWithOptions.kind k l all) all c.loop-number.number c.item_at.result.0.now c.item_at-in-loop-number.result.0.now (omega arith)
     (ap (λ x. x.0) c.item_at.ensures) (ap (λ x. x.0) c.item_at-in-loop-number.ensures) c.in_default.ensures.none c.loop-number.invariant
 
 pub returns-clause-none : goal.returns-clause-none

@@ -4,9 +4,9 @@ use Rattle.zerotrie_core.specs.Kind.{fold_byte}
 use Rattle.zerotrie_core.specs.Items.{keyed}
 use Rattle.zerotrie_build.specs.Refused.{key_at}
 use Rattle.zerotrie_build.proofs.OrderLemmas.Parting.{common_most}
-use Rattle.zerotrie_build.specs.passes.Turns.{BeginsThen}
+use Rattle.zerotrie_build.specs.passes.OtherCase.{BeginsThen}
 use Rattle.zerotrie_build.proofs.RefusalLemmas.Shown.{none_then}
-use Rattle.zerotrie_build.proofs.RefusalLemmas.Turns.{turns_at, begins_differ}
+use Rattle.zerotrie_build.proofs.RefusalLemmas.OtherCase.{turns_at, begins_differ}
 use Rattle.zerotrie_build.proofs.refusal.other_case.Goals as goal
 
 pub returns-then-common-key-clause-none : goal.returns-then-common-key-clause-none

@@ -6,7 +6,7 @@ use Rattle.zerotrie_core.specs.Causes.{AreCrooked, CouldNotSolvePerfectHash, Out
 use Rattle.zerotrie_build.specs.declared.windows.Window.{Window}
 use Rattle.zerotrie_build.specs.passes.Windows.{edge_of}
 use Rattle.zerotrie_build.specs.passes.Measured.{TargetWindows}
-use Rattle.zerotrie_build.specs.passes.Writing.{edge_no, IsLaid}
+use Rattle.zerotrie_build.specs.passes.Writing.{edge_no, IsLayout}
 use Rattle.zerotrie_build.proofs.WriteLemmas.Layouts.{branch_hashed_laid, branch_sorted_laid, numbers_within, hashed_up, crooked}
 use Rattle.zerotrie_build.proofs.WriteLemmas.Puts.{count_map}
 use Rattle.zerotrie_build.proofs.WriteLemmas.Slots.{parts_same, ends_room, branch_known, branch_hashed, branch_within}
@@ -97,7 +97,7 @@ returns-in_ok-push_hashed-clause-laid g c =
     let k = branch_known c.requires.slots ws n c.in_ok-set_sorted.ensures.parts count in
     let same : c.set_hashed.new.self.windows.items ≡ ws = c.in_ok-set_hashed.ensures.windows in
     let e = c.push_hashed.ensures in
-    rw (e.windows, e.table, e.numbers) (subst (λ x. IsLaid kind (edge_no all x) (length x) c.set_hashed.new.self.table.items c.set_hashed.new.self.numbers.items) (sym same)
+    rw (e.windows, e.table, e.numbers) (subst (λ x. IsLayout kind (edge_no all x) (length x) c.set_hashed.new.self.table.items c.set_hashed.new.self.numbers.items) (sym same)
     (branch_hashed_laid kind all ws _ _ _ (ap (is_hashed kind) (sym count) ∙ sym c.is_hashed.ensures ∙ c.if-is_hashed.true) k.3 c.in_ok-set_sorted.ensures.table c.in_ok-set_hashed.ensures.ok))
 
 pub returns-in_ok-push_sorted-clause-laid : goal.returns-in_ok-push_sorted-clause-laid

@@ -1,10 +1,10 @@
 use Rattle.std.proofs.Common.{◌≡◌, ◌^◌, ◌<◌, ◌≤◌, take}
 use Rattle.zerotrie_core.specs.Branches.{total}
-use Rattle.zerotrie_build.specs.konst.Texts.{tops, lens_of}
+use Rattle.zerotrie_build.specs.konst.Texts.{newest_first, lens_of}
 use Rattle.zerotrie_build.proofs.konst.text.total.Given as goal
 
 abbrev pub invariant-loop-sibling : goal.invariant-loop-sibling
 invariant-loop-sibling l = record {
-  exact : total (lens_of (tops (take l.sibling-index l.siblings))) < 2 ^ 64 → l.total ≡ total (lens_of (tops (take l.sibling-index l.siblings)));
-  capped : 2 ^ 64 ≤ total (lens_of (tops (take l.sibling-index l.siblings))) → 2 ^ 32 ≤ l.total;
+  exact : total (lens_of (newest_first (take l.sibling-index l.siblings))) < 2 ^ 64 → l.total ≡ total (lens_of (newest_first (take l.sibling-index l.siblings)));
+  capped : 2 ^ 64 ≤ total (lens_of (newest_first (take l.sibling-index l.siblings))) → 2 ^ 32 ≤ l.total;
 }

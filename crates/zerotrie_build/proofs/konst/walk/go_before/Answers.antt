@@ -1,6 +1,6 @@
 use Rattle.std.proofs.Common.{◌≡◌, ◌∷◌, ◌+◌, ◌<◌, suc, sym, ◌∙◌, ap, arith, subst, inl, inr, get_or, length, rules}
 use Rattle.std.proofs.lemmas.Result.{err_from_is_err_and, on_ok_weaker, IfErr-weaker}
-use Rattle.zerotrie_build.specs.konst.Texts.{tops}
+use Rattle.zerotrie_build.specs.konst.Texts.{newest_first}
 use Rattle.zerotrie_build.specs.konst.Growing.{IsClosedTo}
 use Rattle.zerotrie_build.proofs.OrderLemmas.Parting.{common}
 use Rattle.zerotrie_build.proofs.ArrayLemmas.Parting.{parted}
@@ -73,7 +73,7 @@ returns-clause-waits g c =
     let six = on_ok_both _ _ c.set_aside.result s.aside (on_ok_both _ _ c.set_aside.result s.room (on_ok_both _ _ c.set_aside.result s.front (on_ok_both _ _ c.set_aside.result s.bytes s.len))) in
     on_ok_weaker c.set_aside.result (λ all. λ listed standing.
     parts_before g.row.K c.args.before.now c.args.key.now c.close_to-2.new.text c.set_aside.new.text c.close_to-2.new.siblings.items c.set_aside.new.siblings.items listed
-    c.requires.sorted c.requires.ascii longer all.1.0 (all.0 ∙ ap (λ x. record { depth = x; byte = get_or c.args.key.now x 0; len = c.close_to-2.new.text.front } ∷ tops c.close_to-2.new.siblings.items) e) all.1.1.0 all.1.1.1.0 all.1.1.1.1
+    c.requires.sorted c.requires.ascii longer all.1.0 (all.0 ∙ ap (λ x. record { depth = x; byte = get_or c.args.key.now x 0; len = c.close_to-2.new.text.front } ∷ newest_first c.close_to-2.new.siblings.items) e) all.1.1.0 all.1.1.1.0 all.1.1.1.1
     (subst (λ d. IsClosedTo g.row.K c.args.key.now d c.close_to-2.new.text c.close_to-2.new.siblings.items listed) next (c.in_ok-close_to.ensures.closed listed standing))) six
 
 pub returns-clause-refused : goal.returns-clause-refused

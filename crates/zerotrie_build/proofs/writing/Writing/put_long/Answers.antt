@@ -1,6 +1,6 @@
 use Rattle.std.proofs.Common.{ap, arith, length, ◌∙◌}
 use Rattle.zerotrie_core.specs.Numbers.{Spells}
-use Rattle.zerotrie_build.specs.passes.Writing.{with_bits}
+use Rattle.zerotrie_core.specs.plain.Encoding.{with_bits}
 use Rattle.zerotrie_build.proofs.WriteLemmas.Numbers.{spelling_behind, length_behind, other_form}
 use Rattle.zerotrie_build.proofs.WriteLemmas.Puts.{puts_same}
 use Rattle.zerotrie_build.proofs.writing.Writing.put_long.Goals as goal

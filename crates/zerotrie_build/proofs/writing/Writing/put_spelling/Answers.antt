@@ -1,5 +1,5 @@
 use Rattle.std.proofs.Common.{◌≡◌, ◌+◌, ◌∷◌, rules}
-use Rattle.zerotrie_build.specs.passes.Writing.{with_bits}
+use Rattle.zerotrie_core.specs.plain.Encoding.{with_bits}
 use Rattle.zerotrie_build.proofs.WriteLemmas.Puts.{puts_then, puts_same}
 use Rattle.zerotrie_build.proofs.writing.Writing.put_spelling.Goals as goal
 

@@ -3,14 +3,14 @@ use Rattle.std.proofs.Math.Seq.{take-length}
 use Rattle.std.specs.List.{range_with_len}
 use Rattle.zerotrie_core.specs.Branches.{total as total_of}
 use Rattle.zerotrie_core.proofs.CallerLemmas.{shifted}
-use Rattle.zerotrie_build.specs.konst.Texts.{tops, lens_of}
+use Rattle.zerotrie_build.specs.konst.Texts.{newest_first, lens_of}
 use Rattle.zerotrie_build.proofs.ArrayLemmas.Text.{puts_then, puts_same, puts_nothing, len_at, end_before, block_more, all_blocks, length-lens}
 use Rattle.zerotrie_build.proofs.konst.text.Text.put_block.Goals as goal
 
 pub loop-index-init : goal.loop-index-init
 loop-index-init c =
     let ss = c.args.siblings.now in
-    let ls = lens_of (tops ss) in
+    let ls = lens_of (newest_first ss) in
     let whole : take (length ss - 0) ls ≡ ls = ap (λ n. take n ls) (let k = length-lens ss in let e : length ss - 0 ≡ length ls = omega arith in e) ∙ take-length ls in
     record {
       end = c.requires.total ∙ ap total_of (sym whole);
@@ -30,7 +30,7 @@ overflow_sub-end-in-loop-index c =
 pub loop-index-preserved : goal.loop-index-preserved
 loop-index-preserved c =
     let ss = c.args.siblings.now in
-    let ls = lens_of (tops ss) in
+    let ls = lens_of (newest_first ss) in
     let i = c.loop-index.index in
     let t = c.loop-index-test.true in
     let u = c.loop-index.auto.index in
@@ -52,7 +52,7 @@ loop-index-preserved c =
 pub returns : goal.returns
 returns c =
     let ss = c.args.siblings.now in
-    let ls = lens_of (tops ss) in
+    let ls = lens_of (newest_first ss) in
     let i = c.loop-index.index in
     let v = c.loop-index.invariant in
     let f = λ (o : ℕ). o / 256 ^ c.args.place % 256 in

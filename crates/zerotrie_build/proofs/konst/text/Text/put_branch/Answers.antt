@@ -1,8 +1,8 @@
 use Rattle.std.proofs.Common.{◌≡◌, ◌≤◌, ◌+◌, ◌*◌, ◌%◌, ◌^◌, refl, ap, inr, ◌∙◌, arith, subst, length}
 use Rattle.zerotrie_core.specs.Numbers.{branch_form}
 use Rattle.zerotrie_core.specs.Branches.{IsWidth}
-use Rattle.zerotrie_build.specs.passes.Writing.{with_bits}
-use Rattle.zerotrie_build.specs.konst.Texts.{tops, bytes_of, lens_of}
+use Rattle.zerotrie_core.specs.plain.Encoding.{with_bits}
+use Rattle.zerotrie_build.specs.konst.Texts.{newest_first, bytes_of, lens_of}
 use Rattle.zerotrie_build.proofs.WriteLemmas.Puts.{number_is, front_is}
 use Rattle.zerotrie_build.proofs.ArrayLemmas.Text.{puts_then, puts_same, length-lens}
 use Rattle.zerotrie_build.proofs.konst.text.Text.put_branch.Goals as goal
@@ -22,8 +22,8 @@ overflow_add-width-2 c = let l : c.width_of-width.result ≤ 7 = c.width_of-widt
 pub returns : goal.returns
 returns c =
     let ss = c.args.siblings.now in
-    let lens = lens_of (tops ss) in
-    let table = bytes_of (tops ss) in
+    let lens = lens_of (newest_first ss) in
+    let table = bytes_of (newest_first ss) in
     let w = c.width_of-width.result in
     let n = length ss in
     let x = ap (with_bits 192) c.deref.ensures.0 ∙ number_is branch_form (256 * w + n % 256) 192 c.write_varint_meta2.result.items (inr refl) refl c.write_varint_meta2.ensures in

@@ -1,7 +1,7 @@
 use Rattle.std.proofs.Common.{refl, ap, inl, ◌∙◌}
 use Rattle.zerotrie_core.specs.Numbers.{value_form}
 use Rattle.zerotrie_core.proofs.CallerLemmas.{spells_spelled}
-use Rattle.zerotrie_build.specs.passes.Writing.{with_bits}
+use Rattle.zerotrie_core.specs.plain.Encoding.{with_bits}
 use Rattle.zerotrie_build.proofs.WriteLemmas.Puts.{number_is}
 use Rattle.zerotrie_build.proofs.ArrayLemmas.Text.{puts_same}
 use Rattle.zerotrie_build.proofs.konst.text.Text.put_value.Goals as goal

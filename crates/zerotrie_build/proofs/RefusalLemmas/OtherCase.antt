@@ -8,7 +8,7 @@ use Rattle.zerotrie_core.specs.Kind.{Kind, simple_ascii, ignore_case, perfect_ha
 use Rattle.zerotrie_core.specs.Maps.{Pairs, Ascends, IsCaseConsistent, common_front}
 use Rattle.zerotrie_core.proofs.CallerLemmas.{compare_first}
 use Rattle.zerotrie_build.specs.Refused.{key_at, DifferInCase}
-use Rattle.zerotrie_build.specs.passes.Turns.{BeginsThen, Turns, NoneTurns}
+use Rattle.zerotrie_build.specs.passes.OtherCase.{BeginsThen, HasOtherCase, NoneHasOtherCase}
 use Rattle.zerotrie_build.proofs.Items.{Below, below_or_from}
 use Rattle.zerotrie_build.proofs.OrderLemmas.Below.{below_before, before_below}
 use Rattle.zerotrie_build.proofs.OrderLemmas.Parting.{common}
@@ -86,7 +86,7 @@ differ_sym kind (a ∷ k) (b ∷ l) d =
 
 -- Of three keys that ascend, the first and the last of which differ in case, the first parts from the second by a
 -- letter whose other case the last goes on with, or the second and the last differ in case too.
-turns_or : (kind : Kind) (e g f : List ℕ) → Below e g → Below g f → DifferInCase kind e f → Turns kind e g f ⊎ DifferInCase kind g f
+turns_or : (kind : Kind) (e g f : List ℕ) → Below e g → Below g f → DifferInCase kind e f → HasOtherCase kind e g f ⊎ DifferInCase kind g f
 turns_or kind [] g f up next d = absurd (d refl)
 turns_or kind (a ∷ e) [] f up next d = absurd (cc)
 turns_or kind (a ∷ e) (b ∷ g) [] up next d = absurd (d refl)
@@ -114,7 +114,7 @@ turns_or kind (a ∷ e) (b ∷ g) (c ∷ f) up next d =
     ]
 
 -- and of two that follow one another it is the letter by which they part
-turns_next : (kind : Kind) (e f : List ℕ) → Below e f → DifferInCase kind e f → Turns kind e f f
+turns_next : (kind : Kind) (e f : List ℕ) → Below e f → DifferInCase kind e f → HasOtherCase kind e f f
 turns_next kind [] f up d = absurd (d refl)
 turns_next kind (a ∷ e) [] up d = absurd (d refl)
 turns_next kind (a ∷ e) (c ∷ f) up d =
@@ -133,7 +133,7 @@ pub record TurnsAt (kind : Kind) (key other : List ℕ) (c : ℕ) : Type 0 where
   pub letter : fold_byte kind (get_or key c 0) ≢ get_or key c 0
   pub begins : BeginsThen (take c key) (fold_byte kind (get_or key c 0)) other
 
-pub turns_at : (kind : Kind) (key next other : List ℕ) → Turns kind key next other → TurnsAt kind key other (common key next)
+pub turns_at : (kind : Kind) (key next other : List ℕ) → HasOtherCase kind key next other → TurnsAt kind key other (common key next)
 turns_at kind [] next other h = absurd h
 turns_at kind (a ∷ key) [] [] h = absurd h
 turns_at kind (a ∷ key) [] (c ∷ other) h = record {
@@ -179,9 +179,9 @@ begins_differ kind (a ∷ key) (x ∷ other) (suc c) room letter h =
 abbrev pub NoTurns : Kind → Pairs → Type 0
 NoTurns kind [] = Unit {0}
 NoTurns kind (e ∷ []) = Unit {0}
-NoTurns kind (e ∷ g ∷ pairs) = NoneTurns kind e.0 g.0 (g ∷ pairs) × NoTurns kind (g ∷ pairs)
+NoTurns kind (e ∷ g ∷ pairs) = NoneHasOtherCase kind e.0 g.0 (g ∷ pairs) × NoTurns kind (g ∷ pairs)
 
-pub no_turns : (kind : Kind) (pairs : Pairs) → ((k : ℕ) → suc k < length pairs → NoneTurns kind (key_at pairs k) (key_at pairs (suc k)) pairs) → NoTurns kind pairs
+pub no_turns : (kind : Kind) (pairs : Pairs) → ((k : ℕ) → suc k < length pairs → NoneHasOtherCase kind (key_at pairs k) (key_at pairs (suc k)) pairs) → NoTurns kind pairs
 no_turns kind [] h = tt
 no_turns kind (e ∷ []) h = tt
 no_turns kind (e ∷ g ∷ pairs) h = (

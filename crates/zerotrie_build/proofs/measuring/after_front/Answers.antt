@@ -5,7 +5,7 @@ use Rattle.zerotrie_build.specs.passes.Measured.{Passes}
 use Rattle.zerotrie_build.specs.passes.Measured.Passes.{here, value, span}
 use Rattle.zerotrie_build.proofs.WindowLemmas.Spans.{span_some}
 use Rattle.zerotrie_build.proofs.WindowLemmas.NodeRuns.{too_long, literal_low, literals_to}
-use Rattle.zerotrie_build.proofs.measuring.behind_nodes.Goals as goal
+use Rattle.zerotrie_build.proofs.measuring.after_front.Goals as goal
 
 pub loop-value-preserved-in-Value : goal.loop-value-preserved-in-Value
 loop-value-preserved-in-Value g c =
@@ -62,7 +62,7 @@ returns-in-Branch-clause-run g c =
 pub returns-in_err-len-in-Value-clause-refused : goal.returns-in_err-len-in-Value-clause-refused
 returns-in_err-len-in-Value-clause-refused g c =
     let v = c.loop-value.invariant in
-    let p = err_from_is_err_and c.from_residual-in_err-len-in-Value.result c.from_residual-in_err-len-in-Value.ensures.1 in
+    let p = err_from_is_err_and c.from_residual.result c.from_residual.ensures.1 in
     let f = c.in_err-len-in-Value.ensures.refused in
     let k = length (spelled_as value_form c.in-Value.value) in
     let run = v.goes_on (k + 0) (record c.loop-value.rest { from = c.loop-value.rest.from + 1 }) (value c.in-Value.value (sym c.first_step.ensures.is ∙ c.in-Value.is) here) in

@@ -13,13 +13,13 @@ abbrev pub NoneBeginsThen : List ℕ → ℕ → Pairs → Type 0
 NoneBeginsThen front byte pairs = All (λ e. BeginsThen front byte e.0 → ⊥) pairs
 
 -- the key parts from the next, and the other goes on with the fold of its byte there, which is another byte
-abbrev pub Turns : Kind → List ℕ → List ℕ → List ℕ → Type 0
-Turns kind [] next other = ⊥
-Turns kind (a ∷ key) [] [] = ⊥
-Turns kind (a ∷ key) [] (c ∷ other) = (fold_byte kind a ≢ a) × (c ≡ fold_byte kind a)
-Turns kind (a ∷ key) (b ∷ next) [] = ⊥
-Turns kind (a ∷ key) (b ∷ next) (c ∷ other) = MatchBool (a == b) ((c ≡ a) × Turns kind key next other)
+abbrev pub HasOtherCase : Kind → List ℕ → List ℕ → List ℕ → Type 0
+HasOtherCase kind [] next other = ⊥
+HasOtherCase kind (a ∷ key) [] [] = ⊥
+HasOtherCase kind (a ∷ key) [] (c ∷ other) = (fold_byte kind a ≢ a) × (c ≡ fold_byte kind a)
+HasOtherCase kind (a ∷ key) (b ∷ next) [] = ⊥
+HasOtherCase kind (a ∷ key) (b ∷ next) (c ∷ other) = MatchBool (a == b) ((c ≡ a) × HasOtherCase kind key next other)
     ((fold_byte kind a ≢ a) × (c ≡ fold_byte kind a))
 
-abbrev pub NoneTurns : Kind → List ℕ → List ℕ → Pairs → Type 0
-NoneTurns kind key next pairs = All (λ e. Turns kind key next e.0 → ⊥) pairs
+abbrev pub NoneHasOtherCase : Kind → List ℕ → List ℕ → Pairs → Type 0
+NoneHasOtherCase kind key next pairs = All (λ e. HasOtherCase kind key next e.0 → ⊥) pairs

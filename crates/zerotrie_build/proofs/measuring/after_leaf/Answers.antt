@@ -4,7 +4,7 @@ use Rattle.zerotrie_build.specs.declared.windows.Window.{Window}
 use Rattle.zerotrie_build.specs.passes.Measured.{Passes}
 use Rattle.zerotrie_build.proofs.WindowLemmas.NodeRuns.{too_long}
 use Rattle.zerotrie_build.proofs.WindowLemmas.Leaves.{one_run}
-use Rattle.zerotrie_build.proofs.measuring.behind_leaf.Goals as goal
+use Rattle.zerotrie_build.proofs.measuring.after_leaf.Goals as goal
 
 pub returns-in_err-checked_sum-clause-refused : goal.returns-in_err-checked_sum-clause-refused
 returns-in_err-checked_sum-clause-refused g c =
