@@ -15,14 +15,14 @@ use Rattle.zerotrie_core.specs.Kind.{simple_ascii}
 use Rattle.zerotrie_core.specs.Maps.{Pairs, Ascends, FirstAbove, value_at}
 use Rattle.zerotrie_core.proofs.CallerLemmas.{exact_same, same_equiv}
 use Rattle.zerotrie.specs.dense.Layout.{cell_of}
+use Rattle.zerotrie.specs.dense.RowFaults.{AreAsciiTexts, AreApart, HasTextFault}
+use Rattle.zerotrie.specs.dense.Views.{pairs_in}
+use Rattle.zerotrie.specs.dense.Windows.{in_window}
 use Rattle.zerotrie.specs.dense.Rows.{placed, put_text, put_texts}
 use Rattle.std.specs.Int.{w16, to_le_bytes}
 use Rattle.std.specs.Cmp.Lexicographic.{nat_list_cmp_total}
 use Rattle.zerotrie_core.specs.Causes.{ZeroTrieBuildError}
-use Rattle.zerotrie.specs.dense.Laid.{ArePlain, AreApart, HasFault}
 use Rattle.zerotrie.specs.dense.Records.{matrix_bytes}
-use Rattle.zerotrie.specs.dense.Views.{pairs_in}
-use Rattle.zerotrie.specs.dense.Windows.{in_window}
 use Rattle.zerotrie.proofs.TextLemmas.{V, same, either, first_once, kept_none}
 
 -- a look-up in the entries of a map is one in its pairs
@@ -125,8 +125,8 @@ pub matrix_more : (xs ys : List ℕ) → matrix_bytes (xs ++ ys) ≡ matrix_byte
 matrix_more [] ys = refl
 matrix_more (x ∷ xs) ys = ap (λ t. to_le_bytes w16 x ++ t) (matrix_more xs ys)
 
--- faults and their absence in a row and the rows behind it
-pub plain_append : (xs ys : List (List ℕ)) → ArePlain xs → ArePlain ys → ArePlain (xs ++ ys)
+-- faults and their absence in a row and the rows after it
+pub plain_append : (xs ys : List (List ℕ)) → AreAsciiTexts xs → AreAsciiTexts ys → AreAsciiTexts (xs ++ ys)
 plain_append [] ys p q = q
 plain_append (x ∷ xs) ys p q = (p.0, plain_append xs ys p.1 q)
 
@@ -134,11 +134,11 @@ pub apart_append : (d : ℕ) (xs ys : List (List ℕ)) → AreApart d xs → Are
 apart_append d [] ys p q = q
 apart_append d (x ∷ xs) ys p q = (p.0, apart_append d xs ys p.1 q)
 
-pub fault_left : (d : ℕ) (xs ys : List (List ℕ)) (e : ZeroTrieBuildError) → HasFault d xs e → HasFault d (xs ++ ys) e
+pub fault_left : (d : ℕ) (xs ys : List (List ℕ)) (e : ZeroTrieBuildError) → HasTextFault d xs e → HasTextFault d (xs ++ ys) e
 fault_left d [] ys e h = absurd h
 fault_left d (x ∷ xs) ys e h = elim h [ inl f ↦ inl f | inr more ↦ inr (fault_left d xs ys e more) ]
 
-pub fault_right : (d : ℕ) (xs ys : List (List ℕ)) (e : ZeroTrieBuildError) → HasFault d ys e → HasFault d (xs ++ ys) e
+pub fault_right : (d : ℕ) (xs ys : List (List ℕ)) (e : ZeroTrieBuildError) → HasTextFault d ys e → HasTextFault d (xs ++ ys) e
 fault_right d [] ys e h = h
 fault_right d (x ∷ xs) ys e h = inr (fault_right d xs ys e h)
 

@@ -10,12 +10,12 @@ use Rattle.zerotrie_core.specs.Maps.{Pairs, Ascends, RepeatsKey, map_of}
 use Rattle.zerotrie_core.specs.Fits.{ExceedsCapacity}
 use Rattle.zerotrie_core.specs.Routes.{ascending, any_order, IsRefusal}
 use Rattle.zerotrie_core.specs.Causes.{ZeroTrieBuildError, NonAsciiError, CapacityExceeded, CouldNotSolvePerfectHash, MixedCase, IllegalDelimiter, DuplicateKey, Unsorted, BufferTooSmall, BufferTooLarge, StackExceeded, OutOfMemory}
-use Rattle.zerotrie.specs.dense.Laid.{ArePlain, AreApart, HasFault, SomeWideWindow}
-use Rattle.zerotrie.specs.dense.Layout.{is_dense, beside, primary_pairs}
+use Rattle.zerotrie.specs.dense.Layout.{is_dense, laid, beside, under, primary_pairs}
+use Rattle.zerotrie.specs.dense.RowFaults.{AreAsciiTexts, AreApart, HasTextFault, SomeWideWindow}
+use Rattle.zerotrie.specs.dense.Windows.{in_window, inside, offset}
 use Rattle.zerotrie.specs.dense.Rows.{Rows, keys, texts, suffixes, placed, put_text, put_texts}
 use Rattle.zerotrie.specs.dense.Tables.{IsNonAscii, HoldsDelimiter, DenseCause}
-use Rattle.zerotrie.specs.dense.Windows.{in_window, inside, offset}
-use Rattle.zerotrie.proofs.TextLemmas.{either, fronted}
+use Rattle.zerotrie.proofs.TextLemmas.{either}
 use Rattle.zerotrie.proofs.RowLemmas.{firsts, offs, others_at, AllFree}
 use Rattle.zerotrie.proofs.EntryLemmas.{free_text}
 
@@ -84,15 +84,15 @@ low_kept q (e ∷ pairs) low = elim (either (q e.1)) [
 ]
 
 -- the texts of the rows
-plain_right : (xs ys : List (List ℕ)) → ArePlain (xs ++ ys) → ArePlain ys
+plain_right : (xs ys : List (List ℕ)) → AreAsciiTexts (xs ++ ys) → AreAsciiTexts ys
 plain_right [] ys h = h
 plain_right (x ∷ xs) ys h = plain_right xs ys h.1
 
-low_keys : (pairs : Pairs) (ys : List (List ℕ)) → ArePlain (keys pairs ++ ys) → LowKeys pairs
+low_keys : (pairs : Pairs) (ys : List (List ℕ)) → AreAsciiTexts (keys pairs ++ ys) → LowKeys pairs
 low_keys [] ys plain = tt
 low_keys (e ∷ pairs) ys plain = (low_text e.0 plain.0, low_keys pairs ys plain.1)
 
-low_rows : (rows : Rows) → ArePlain (texts rows) → LowRows rows
+low_rows : (rows : Rows) → AreAsciiTexts (texts rows) → LowRows rows
 low_rows [] plain = tt
 low_rows (row ∷ rows) plain =
     (low_text row.0 plain.0, low_keys row.1 (texts rows) plain.1, low_rows rows (plain_right (keys row.1) (texts rows) plain.1))
@@ -120,23 +120,23 @@ low_offs d n (row ∷ rows) small low = elim (either (is_dense n row.1)) [
   | inr f ↦ rw f (low_offs d n rows small low.2)
 ]
 
-low_fronted : (d : ℕ) (q : List ℕ) (es : Pairs) → d < 128 → Low q → LowKeys es → LowKeys (fronted q d es)
-low_fronted d q [] small front low = tt
-low_fronted d q (e ∷ es) small front low = (low_append q (d ∷ e.0) front (small, low.0), low_fronted d q es small front low.1)
+low_under : (d : ℕ) (q : List ℕ) (es : Pairs) → d < 128 → Low q → LowKeys es → LowKeys (under q d es)
+low_under d q [] small front low = tt
+low_under d q (e ∷ es) small front low = (low_append q (d ∷ e.0) front (small, low.0), low_under d q es small front low.1)
 
-low_beside : (n : ℕ) (row : Pairs) → LowKeys row → LowKeys (beside n row)
-low_beside n row low = elim (either (is_dense n row)) [
-  | inl y ↦ rw y (low_kept (λ v. not (in_window (offset row) v)) row low)
+low_beside : (n : ℕ) (row : List ℕ × Pairs) → LowKeys row.1 → LowKeys (beside (laid n row))
+low_beside n row low = elim (either (is_dense n row.1)) [
+  | inl y ↦ rw y (low_kept (λ v. not (in_window (offset row.1) v)) row.1 low)
   | inr f ↦ rw f low
 ]
 
 low_others : (d n : ℕ) (rows : Rows) → d < 128 → LowRows rows → LowKeys (others_at d n rows)
 low_others d n [] small low = tt
 low_others d n (row ∷ rows) small low =
-    low_keys_append (fronted row.0 d (beside n row.1)) (others_at d n rows) (low_fronted d row.0 (beside n row.1) small low.0 (low_beside n row.1 low.1))
+    low_keys_append (under row.0 d (beside (laid n row))) (others_at d n rows) (low_under d row.0 (beside (laid n row)) small low.0 (low_beside n row low.1))
     (low_others d n rows small low.2)
 
-low_primary : (d : ℕ) (rows : Rows) → d < 128 → ArePlain (texts rows) → LowKeys (primary_pairs d rows)
+low_primary : (d : ℕ) (rows : Rows) → d < 128 → AreAsciiTexts (texts rows) → LowKeys (primary_pairs d rows)
 unfolding primary_pairs
 low_primary d rows small plain =
     let n : ℕ = length (suffixes rows) in
@@ -171,17 +171,17 @@ low_placed : (k : ℕ) (ts : List (List ℕ)) → LowTexts ts → LowKeys (place
 low_placed k [] low = tt
 low_placed k (t ∷ ts) low = (low.0, low_placed (k + 1) ts low.1)
 
-low_columns : (rows : Rows) → ArePlain (texts rows) → LowKeys (placed 0 (suffixes rows))
+low_columns : (rows : Rows) → AreAsciiTexts (texts rows) → LowKeys (placed 0 (suffixes rows))
 unfolding suffixes
 low_columns rows plain = low_placed 0 (put_texts (flat_map (λ row. keys row.1) rows) []) (low_puts (flat_map (λ row. keys row.1) rows) [] (low_all rows (low_rows rows plain)) tt)
 
 -- no text is at fault
-plain_at : (xs : List (List ℕ)) (k : ℕ) (x : List ℕ) → ArePlain xs → k < length xs → get_or xs k x ≡ x → Any (λ b. 128 ≤ b) x → ⊥
+plain_at : (xs : List (List ℕ)) (k : ℕ) (x : List ℕ) → AreAsciiTexts xs → k < length xs → get_or xs k x ≡ x → Any (λ b. 128 ≤ b) x → ⊥
 plain_at [] k x plain h is any = omega arith
 plain_at (y ∷ xs) zero x plain h is any = plain.0 (subst (λ t. Any (λ b. 128 ≤ b) t) (sym is) any)
 plain_at (y ∷ xs) (suc k) x plain h is any = plain_at xs k x plain.1 (omega arith) is any
 
-pub no_high_text : (d : ℕ) (rows : Rows) → d < 128 → ArePlain (texts rows) → IsNonAscii d rows → ⊥
+pub no_high_text : (d : ℕ) (rows : Rows) → d < 128 → AreAsciiTexts (texts rows) → IsNonAscii d rows → ⊥
 no_high_text d rows small plain h = elim h [
   | inl high ↦ omega arith
   | inr a ↦ plain_at (texts rows) a.0 a.1 plain a.2 a.3 a.4
@@ -196,7 +196,7 @@ pub no_held : (d : ℕ) (rows : Rows) → AreApart d (texts rows) → HoldsDelim
 no_held d rows apart a = apart_at d (texts rows) a.0 a.1 apart a.2 a.3 a.4
 
 -- a text at fault
-fault_in : (d : ℕ) (xs : List (List ℕ)) (e : ZeroTrieBuildError) → HasFault d xs e
+fault_in : (d : ℕ) (xs : List (List ℕ)) (e : ZeroTrieBuildError) → HasTextFault d xs e
     → ((e ≡ NonAsciiError) × Any (λ text. Any (λ b. 128 ≤ b) text) xs) ⊎ ((e ≡ IllegalDelimiter) × Any (λ text. Contains text d) xs)
 fault_in d [] e h = absurd h
 fault_in d (x ∷ xs) e h = elim h [
@@ -210,7 +210,7 @@ fault_in d (x ∷ xs) e h = elim h [
   ]
 ]
 
-pub text_refused : (d : ℕ) (rows : Rows) (e : ZeroTrieBuildError) → ((e ≡ NonAsciiError) × (128 ≤ d)) ⊎ HasFault d (texts rows) e → (e ≡ OutOfMemory) ⊎ DenseCause d rows e
+pub text_refused : (d : ℕ) (rows : Rows) (e : ZeroTrieBuildError) → ((e ≡ NonAsciiError) × (128 ≤ d)) ⊎ HasTextFault d (texts rows) e → (e ≡ OutOfMemory) ⊎ DenseCause d rows e
 text_refused d rows e h = elim h [
   | inl n ↦ inr (subst (DenseCause d rows) (sym n.0) (inl n.1))
   | inr f ↦ elim (fault_in d (texts rows) e f) [
@@ -229,7 +229,7 @@ wide_in (row ∷ rows) h = elim h [
 
 -- neither a text nor the delimiter is at fault
 abbrev pub Faultless : ℕ → Rows → Type 0
-Faultless d rows = (d < 128) × ArePlain (texts rows) × AreApart d (texts rows)
+Faultless d rows = (d < 128) × AreAsciiTexts (texts rows) × AreApart d (texts rows)
 
 pub row_refused : (d : ℕ) (rows : Rows) (e : ZeroTrieBuildError) → Faultless d rows → (e ≡ OutOfMemory) ⊎ ((e ≡ CapacityExceeded) × SomeWideWindow rows)
     → (e ≡ OutOfMemory) ⊎ DenseCause d rows e

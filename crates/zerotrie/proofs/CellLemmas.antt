@@ -1,7 +1,8 @@
 -- The cells of a matrix's bytes.
-use Rattle.std.proofs.Common.{◌≡◌, ℕ, ◌+◌, ◌*◌, ◌-◌, ◌/◌, ◌<◌, ◌≤◌, List, [], ◌∷◌, length, get_or, refl, sym, ap, suc, cond, ◌∙◌, arith, Bool, true, false, inl, inr, Some, None}
-use Rattle.std.specs.Prelude.{◌==◌, ◌⊎◌, nat_lt}
-use Rattle.zerotrie.specs.dense.Laws.{cell_at}
+use Rattle.std.proofs.Common.{◌≡◌, ℕ, ◌+◌, ◌*◌, ◌-◌, ◌/◌, ◌<◌, ◌≤◌, List, [], ◌∷◌, length, get_or, refl, sym, ap, suc, cond, ◌∙◌, arith, Bool, true, false, inl, inr, Option, Some, None}
+use Rattle.std.specs.Prelude.{◌==◌, ◌⊎◌, ◌^◌, nat_lt, nat_le, SomeIff}
+use Rattle.zerotrie.specs.dense.Laws.{cell_at, value_of, in_matrix}
+use Rattle.zerotrie.specs.dense.Records.{Parts}
 
 either : (b : Bool) → (b ≡ true) ⊎ (b ≡ false)
 either true = inl refl
@@ -40,3 +41,26 @@ cell_some (b ∷ c ∷ more) n h = elim (either (n == 0)) [
       ∙ cell_some more (n - 1) (omega arith)
       ∙ sym (ap (λ t. cond t (Some (b + 256 * c)) (cell_at more (n - 1))) other)
 ]
+
+-- what a matrix has for a row and a column that are there, by the cell
+pub at_cell : (t : Parts) (row offset column : ℕ) (o k cell : Option ℕ) → o ≡ Some offset → k ≡ Some column → cell_at t.matrix (row * t.suffix_count + column) ≡ cell
+    → in_matrix t row o k ≡ value_of offset cell
+at_cell t row offset column o k cell a b is = ap (λ x. in_matrix t row x k) a ∙ ap (λ x. in_matrix t row (Some offset) x) b ∙ ap (value_of offset) is
+
+-- the cell of a place, by its two bytes
+pub cell_read : (m : List ℕ) (place index cell : ℕ) → place ≡ index → index < length m / 2 → cell ≡ get_or m (2 * index) 0 + get_or m (2 * index + 1) 0 * 256 → cell_at m place ≡ Some cell
+cell_read m place index cell here below is = ap (λ n. cell_at m n) here ∙ sym (cell_some m index below) ∙ ap Some (omega (arith, is))
+
+-- a cell that is full tells no value, and another the sum that fits eight bytes
+pub value_full : (offset cell : ℕ) → cell ≡ 65535 → None ≡ value_of offset (Some cell)
+value_full offset cell full = sym (ap (λ n. value_of offset (Some n)) full)
+
+pub value_sum : (offset cell : ℕ) (sum : Option ℕ) → (cell ≡ 65535 → ⊥) → SomeIff sum (offset + cell < 2 ^ 64) (offset + cell) → sum ≡ value_of offset (Some cell)
+value_sum offset cell None other far =
+    let one : (cell == 65535) ≡ false = grind arith in
+    let two : nat_le (2 ^ 64) (offset + cell) ≡ true = (let high = at_least (offset + cell) (2 ^ 64) far in grind arith) in
+    rw (one, two) refl
+value_sum offset cell (Some v) other near =
+    let one : (cell == 65535) ≡ false = grind arith in
+    let two : nat_le (2 ^ 64) (offset + cell) ≡ false = (let low = near.0 in grind arith) in
+    rw (one, two) (ap Some near.1)

@@ -8,10 +8,10 @@ use Rattle.zerotrie_core.specs.Maps.{Pairs, Ascends, value_at, look}
 use Rattle.zerotrie_core.specs.Canonical.{size_of}
 use Rattle.zerotrie_core.proofs.CallerLemmas.{value_at-append, value_at-some, same-entries}
 use Rattle.zerotrie.specs.dense.Rows.{Rows, row_of, entry, keys, texts, placed, suffixes, IsInOrder}
-use Rattle.zerotrie.specs.dense.Windows.{in_window, offset, inside, outside}
 use Rattle.zerotrie.specs.dense.Layout.{is_dense, cell_of, primary, primary_pairs, columns, matrix}
+use Rattle.zerotrie.specs.dense.Windows.{in_window, offset, inside, outside}
 use Rattle.zerotrie.specs.dense.Records.{Parts, matrix_bytes}
-use Rattle.zerotrie.specs.dense.Tables.{IsTable}
+use Rattle.zerotrie.specs.dense.Tables.{IsDenseTable}
 use Rattle.zerotrie.specs.dense.Laws.{cell_at, value_of, in_matrix, or_else, beside_matrix, in_row, by_row, answer}
 use Rattle.zerotrie.proofs.TextLemmas.{V, same, either, maybe, Free, held_other, parted}
 use Rattle.zerotrie.proofs.PlaceLemmas.{among_suffixes, Stands, stands, none_stands, of_or}
@@ -266,7 +266,7 @@ neither true b h = absurd (cc)
 neither false b h = refl
 
 -- by the parts of a table
-entry_by : (d : ℕ) (rows : Rows) (t : Parts) → IsTable d rows t → t.delimiter ≡ d → (p s : List ℕ) → answer t (primary d rows) (columns rows) p s ≡ entry rows p s
+entry_by : (d : ℕ) (rows : Rows) (t : Parts) → IsDenseTable d rows t → t.delimiter ≡ d → (p s : List ℕ) → answer t (primary d rows) (columns rows) p s ≡ entry rows p s
 entry_by d rows t table is p s =
     let free : FreeTexts d (texts rows) = free_texts d (texts rows) table.apart in
     let tests = ap (λ e. list_any (λ b. b == e) (p ++ s)) is ∙ list_any-append (λ b. b == d) p s in
@@ -279,5 +279,5 @@ entry_by d rows t table is p s =
           is (ap (λ x. x.suffix_count) table.parts_are) (ap (λ x. x.matrix) table.parts_are)
     ]
 
-pub entry_is : (d : ℕ) (rows : Rows) (t : Parts) → IsTable d rows t → (p s : List ℕ) → answer t (primary d rows) (columns rows) p s ≡ entry rows p s
+pub entry_is : (d : ℕ) (rows : Rows) (t : Parts) → IsDenseTable d rows t → (p s : List ℕ) → answer t (primary d rows) (columns rows) p s ≡ entry rows p s
 entry_is d rows t table = entry_by d rows t table (ap (λ x. x.delimiter) table.parts_are)

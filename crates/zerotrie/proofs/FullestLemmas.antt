@@ -6,14 +6,15 @@ use Rattle.std.specs.Prelude.{Contains}
 use Rattle.std.proofs.lemmas.List.Sums.{sum_by-cons}
 use Rattle.std.proofs.lemmas.List.Sorted.{sum_by-IsPermutation, Contains-permutation, length_permutation, IsPermutation-sym}
 use Rattle.std.specs.List.Sorted.{IsPermutation}
-use Rattle.zerotrie.specs.dense.Windows.{held, fullest, in_window, greatest, least}
+use Rattle.zerotrie_core.specs.WellFormed.{greatest}
+use Rattle.zerotrie.specs.dense.Windows.{count_within, fullest, in_window, least}
 use Rattle.zerotrie.proofs.WindowLaws.{Among, either, reached, among_filter, filter_among, least_among, at_greatest, in_made, in_bounds}
 
 -- r is the least of the values whose windows hold the most
 pub record IsFullest (vs : List ℕ) (r : ℕ) : Type 0 where
   pub among : Among r vs
-  pub most : (w : ℕ) → Among w vs → held vs w ≤ held vs r
-  pub first : (w : ℕ) → Among w vs → held vs r ≤ held vs w → r ≤ w
+  pub most : (w : ℕ) → Among w vs → count_within vs w ≤ count_within vs r
+  pub first : (w : ℕ) → Among w vs → count_within vs r ≤ count_within vs w → r ≤ w
 
 one_fullest : (vs : List ℕ) (a b : ℕ) → IsFullest vs a → IsFullest vs b → a ≡ b
 one_fullest vs a b p q =
@@ -43,19 +44,19 @@ is_fullest : (x : ℕ) (xs : List ℕ) → IsFullest (x ∷ xs) (fullest (x ∷ 
 unfolding fullest
 is_fullest x xs =
     let all : List ℕ = x ∷ xs in
-    let top : ℕ = greatest (map (held all) all) in
-    let p : ℕ → Bool = λ v. held all v == top in
-    let r = reached (held all) x xs in
+    let top : ℕ = greatest (map (count_within all) all) in
+    let p : ℕ → Bool = λ v. count_within all v == top in
+    let r = reached (count_within all) x xs in
     let t : p r.v ≡ true = grind (arith, r.reaches) in
     let there = filter_among p all r.v r.among t in
     let chosen = least_among (filter p all) r.v there in
-    let reaches : held all (least (filter p all)) ≡ top = (let b = among_filter p all (least (filter p all)) chosen in grind (arith, b)) in
+    let reaches : count_within all (least (filter p all)) ≡ top = (let b = among_filter p all (least (filter p all)) chosen in grind (arith, b)) in
     record {
       among = kept_among p all (least (filter p all)) chosen;
-      most = λ w a. let g = at_greatest (held all) all w a in omega (arith, g, reaches);
+      most = λ w a. let g = at_greatest (count_within all) all w a in omega (arith, g, reaches);
       first = λ w a h.
-          let g = at_greatest (held all) all w a in
-          let e : held all w ≡ top = omega (arith, g, reaches, h) in
+          let g = at_greatest (count_within all) all w a in
+          let e : count_within all w ≡ top = omega (arith, g, reaches, h) in
           let passes : p w ≡ true = grind (arith, e) in
           least_below (filter p all) w (filter_among p all w a passes);
     }
@@ -77,7 +78,7 @@ record Stretch (vs : List ℕ) (v k : ℕ) : Type 0 where
 shifted : (x : ℕ) (vs : List ℕ) (a k : ℕ) → get_or (x ∷ vs) (suc a + k) 0 ≡ get_or vs (a + k) 0
 shifted x vs a k = let e : suc a + k ≡ suc (a + k) = omega arith in rw e refl
 
-stretch : (vs : List ℕ) (v k : ℕ) → Rising vs → k < held vs v → Stretch vs v k
+stretch : (vs : List ℕ) (v k : ℕ) → Rising vs → k < count_within vs v → Stretch vs v k
 stretch [] v k rises h = absurd (omega arith)
 stretch (x ∷ vs) v zero rises h = elim (either (in_window v x)) [
   | inl y ↦ let b = in_bounds v x y in record { at = 0; below = omega arith; low = b.0; high = b.1 }
@@ -97,7 +98,7 @@ stretch (x ∷ vs) v (suc k) rises h = elim (either (in_window v x)) [
 ]
 
 -- and a window holds as many as neighbours stand in it
-holds : (vs : List ℕ) (v i k : ℕ) → Rising vs → i + k < length vs → v ≤ get_or vs i 0 → get_or vs (i + k) 0 < v + 65535 → k < held vs v
+holds : (vs : List ℕ) (v i k : ℕ) → Rising vs → i + k < length vs → v ≤ get_or vs i 0 → get_or vs (i + k) 0 < v + 65535 → k < count_within vs v
 holds [] v i k rises b low high = absurd (omega arith)
 holds (x ∷ vs) v (suc i) k rises b low high = let r = holds vs v i k (rising_tail x vs rises) (omega arith) low (rw (shifted x vs i k) at high) in omega arith
 holds (x ∷ vs) v zero zero rises b low high = let y = in_made v x low high in rw y (omega arith)
@@ -139,18 +140,18 @@ pub record Longest (vs : List ℕ) (e k r : ℕ) : Type 0 where
 
 longest_full : (vs : List ℕ) (k r : ℕ) → Rising vs → Longest vs (length vs) k r → IsFullest vs r
 longest_full vs k r rises l =
-    let here : k < held vs r = holds vs r l.start k rises l.within (omega (arith, l.is)) l.fits in
+    let here : k < count_within vs r = holds vs r l.start k rises l.within (omega (arith, l.is)) l.fits in
     record {
       among = subst (λ v. Among v vs) (sym l.is) (among_at vs l.start (omega (arith, l.within)));
-      most = λ w a. elim (either (nat_lt (k + 1) (held vs w))) [
+      most = λ w a. elim (either (nat_lt (k + 1) (count_within vs w))) [
         | inl y ↦
-            let more : k + 1 < held vs w = grind arith in
+            let more : k + 1 < count_within vs w = grind arith in
             let s = stretch vs w (k + 1) rises more in
             let far = l.no_longer s.at (omega (arith, s.below)) in
             let same : s.at + (k + 1) ≡ s.at + k + 1 = omega arith in
             let high = subst (λ j. get_or vs j 0 < w + 65535) same s.high in
             absurd (omega (arith, far, high, s.low))
-        | inr n ↦ let most : held vs w ≤ k + 1 = grind arith in omega (arith, most, here)
+        | inr n ↦ let most : count_within vs w ≤ k + 1 = grind arith in omega (arith, most, here)
       ];
       first = λ w a h. elim (either (nat_le r w)) [
         | inl y ↦ grind arith
@@ -276,9 +277,9 @@ going_ends vs e first r rises all going = elim going [
 ]
 
 -- another order of the values changes nothing
-held_sum : (vs : List ℕ) (s : ℕ) → held vs s ≡ sum_by (λ v. cond (in_window s v) 1 0) vs
-held_sum [] s = refl
-held_sum (v ∷ vs) s = ap (λ n. cond (in_window s v) 1 0 + n) (held_sum vs s) ∙ sym (sum_by-cons (λ w. cond (in_window s w) 1 0) v vs)
+count_within-sum : (vs : List ℕ) (s : ℕ) → count_within vs s ≡ sum_by (λ v. cond (in_window s v) 1 0) vs
+count_within-sum [] s = refl
+count_within-sum (v ∷ vs) s = ap (λ n. cond (in_window s v) 1 0 + n) (count_within-sum vs s) ∙ sym (sum_by-cons (λ w. cond (in_window s w) 1 0) v vs)
 
 among_contains : (vs : List ℕ) (w : ℕ) → Among w vs → Contains vs w
 among_contains [] w a = absurd a
@@ -292,8 +293,8 @@ contains_among [] k w h e = absurd (omega arith)
 contains_among (x ∷ vs) zero w h e = inl (sym e)
 contains_among (x ∷ vs) (suc k) w h e = inr (contains_among vs k w (omega arith) e)
 
-same_held : (xs ys : List ℕ) (s : ℕ) → IsPermutation xs ys → held ys s ≡ held xs s
-same_held xs ys s p = held_sum ys s ∙ sum_by-IsPermutation (λ v. cond (in_window s v) 1 0) xs ys p ∙ sym (held_sum xs s)
+count_within-permutation : (xs ys : List ℕ) (s : ℕ) → IsPermutation xs ys → count_within ys s ≡ count_within xs s
+count_within-permutation xs ys s p = count_within-sum ys s ∙ sum_by-IsPermutation (λ v. cond (in_window s v) 1 0) xs ys p ∙ sym (count_within-sum xs s)
 
 moved : (xs ys : List ℕ) (w : ℕ) → IsPermutation xs ys → Among w xs → Among w ys
 moved xs ys w p a = let c = among_contains xs w a in let d = Contains-permutation xs ys w p c in contains_among ys d.0 w d.1 d.2
@@ -309,6 +310,6 @@ permuted_fullest (x ∷ xs) (y ∷ ys) p =
     one_fullest (x ∷ xs) (fullest (y ∷ ys)) (fullest (x ∷ xs)) (record {
       among = moved (y ∷ ys) (x ∷ xs) (fullest (y ∷ ys)) back b.among;
       most = λ w t. let m = b.most w (moved (x ∷ xs) (y ∷ ys) w p t) in
-          omega (arith, m, same_held (x ∷ xs) (y ∷ ys) w p, same_held (x ∷ xs) (y ∷ ys) (fullest (y ∷ ys)) p);
-      first = λ w t h. b.first w (moved (x ∷ xs) (y ∷ ys) w p t) (omega (arith, h, same_held (x ∷ xs) (y ∷ ys) w p, same_held (x ∷ xs) (y ∷ ys) (fullest (y ∷ ys)) p));
+          omega (arith, m, count_within-permutation (x ∷ xs) (y ∷ ys) w p, count_within-permutation (x ∷ xs) (y ∷ ys) (fullest (y ∷ ys)) p);
+      first = λ w t h. b.first w (moved (x ∷ xs) (y ∷ ys) w p t) (omega (arith, h, count_within-permutation (x ∷ xs) (y ∷ ys) w p, count_within-permutation (x ∷ xs) (y ∷ ys) (fullest (y ∷ ys)) p));
     }) a

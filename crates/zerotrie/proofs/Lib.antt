@@ -18,7 +18,6 @@ mod FullestLemmas
 mod BuildLemmas
 mod RefusalLemmas
 mod OnceLemmas
-mod LaidLemmas
 mod CauseLemmas
 mod RowsLemmas
 mod MadeLemmas

@@ -1,4 +1,4 @@
--- What a dense row, or none, answers by what stands behind prefix and delimiter.
+-- What a dense row, or none, answers by what stands after prefix and delimiter.
 use Rattle.std.proofs.Common.{◌≡◌, ℕ, List, [], ◌∷◌, ◌++◌, refl, sym, ap, ◌∙◌, false, cond, Option, Some, None}
 use Rattle.std.specs.Prelude.{◌==◌}
 use Rattle.std.specs.List.{list_any}
@@ -34,7 +34,7 @@ beside_taken pairs (b ∷ key) = value_at-taken pairs b key
 pub looked : (bytes : List ℕ) (pairs : Pairs) (m : Map) → Lists simple_ascii bytes pairs → m ≡ map_of pairs → (key : List ℕ) → value_at simple_ascii pairs key ≡ look simple_ascii m key
 looked bytes pairs m lists is key = sym (look-map_of lists key) ∙ sym (ap (λ n. look simple_ascii n key) is)
 
--- behind a text, a value that is taken and the delimiter
+-- after a text, a value that is taken and the delimiter
 pub behind_delimiter : (pairs : Pairs) (prefix : List ℕ) (d : ℕ) (edge : Option ℕ) (key : List ℕ)
     → edge ≡ edge_like simple_ascii d (met (without_value (after_steps simple_ascii prefix pairs)))
     → value_at simple_ascii (behind edge (without_value (after_steps simple_ascii prefix pairs))) key ≡ value_at simple_ascii pairs (prefix ++ (d ∷ key))

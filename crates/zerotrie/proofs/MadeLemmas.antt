@@ -6,11 +6,11 @@ use Rattle.zerotrie_core.specs.Canonical.{enc}
 use Rattle.zerotrie_core.specs.Items.{Items, pairs_of}
 use Rattle.zerotrie_core.specs.Kind.{simple_ascii}
 use Rattle.zerotrie_core.specs.Maps.{Pairs}
-use Rattle.zerotrie.specs.dense.Laid.{AreInRange, AllInRange}
 use Rattle.zerotrie.specs.dense.Layout.{primary, columns, primary_pairs, matrix}
+use Rattle.zerotrie.specs.dense.RowFaults.{AreInRange, AllInRange}
 use Rattle.zerotrie.specs.dense.Records.{Parts, matrix_bytes}
 use Rattle.zerotrie.specs.dense.Rows.{Rows, placed, suffixes, IsInOrder}
-use Rattle.zerotrie.specs.dense.Tables.{IsTable, table_of}
+use Rattle.zerotrie.specs.dense.Tables.{IsDenseTable, table_of}
 use Rattle.zerotrie.proofs.CauseLemmas.{Faultless, no_high_text, no_held}
 
 value_in_range : (row : Pairs) → AreInRange row → All (λ e. e.1 < 2 ^ 64) row
@@ -46,7 +46,7 @@ same_parts_of d rows t a b c e f =
 
 pub made : (d : ℕ) (rows : Rows) (t : Parts) → Faultless d rows → IsInOrder rows → AllInRange rows → length (suffixes rows) ≤ 65535
     → t.suffix_count ≡ length (suffixes rows) → t.delimiter ≡ d → IsBuilt simple_ascii (primary_pairs d rows) t.primary
-    → IsBuilt simple_ascii (placed 0 (suffixes rows)) t.suffixes → t.matrix ≡ matrix_bytes (matrix rows) → IsTable d rows t
+    → IsBuilt simple_ascii (placed 0 (suffixes rows)) t.suffixes → t.matrix ≡ matrix_bytes (matrix rows) → IsDenseTable d rows t
 made d rows t good order values few count delimiter primary columns cells = record {
   in_order = order;
   values = rows_in_range rows values;

@@ -5,9 +5,9 @@ use Rattle.zerotrie_core.specs.Kind.{simple_ascii}
 use Rattle.zerotrie_core.specs.Maps.{Pairs, Ascends, RepeatsKey}
 use Rattle.zerotrie_core.proofs.CallerLemmas.{exact_itself, same_equiv}
 use Rattle.zerotrie.specs.dense.Rows.{Rows, placed, suffixes, IsInOrder}
+use Rattle.zerotrie.specs.dense.Layout.{LaidRow, is_dense, laid, beside, dense_rows, under, primary_pairs}
 use Rattle.zerotrie.specs.dense.Windows.{in_window, offset, outside}
-use Rattle.zerotrie.specs.dense.Layout.{is_dense, beside, primary_pairs}
-use Rattle.zerotrie.proofs.TextLemmas.{V, same, either, Free, NoKey, no_value, from_none, first_once, fronted, value_at-fronted}
+use Rattle.zerotrie.proofs.TextLemmas.{V, same, either, Free, NoKey, no_value, from_none, first_once, value_at-under}
 use Rattle.zerotrie.proofs.RowLemmas.{firsts, offs, others_at, AllFree, NoneNamed, none_named, no_offset, no_other, absent_number, absent_offset, absent_other}
 use Rattle.zerotrie.proofs.BuildLemmas.{kept_ascends}
 
@@ -88,10 +88,10 @@ not_some (Some v) h = absurd (cc)
 empty_inside : (n : ℕ) (row : Pairs) → is_dense n row ≡ true → V (outside row) [] ≡ None
 empty_inside n row y = not_some (V (outside row) []) (and_right _ (is_some (V (outside row) [])) y)
 
-other_row : (d : ℕ) (q p s : List ℕ) (es : Pairs) → Free d q → Free d p → same q p ≡ false → NoKey (p ++ (d ∷ s)) (fronted q d es)
-other_row d q p s es free k other = from_none (p ++ (d ∷ s)) (fronted q d es) (value_at-fronted d q p s es free k ∙ ap (λ b. cond b (V es s) None) other)
+other_row : (d : ℕ) (q p s : List ℕ) (es : Pairs) → Free d q → Free d p → same q p ≡ false → NoKey (p ++ (d ∷ s)) (under q d es)
+other_row d q p s es free k other = from_none (p ++ (d ∷ s)) (under q d es) (value_at-under d q p s es free k ∙ ap (λ b. cond b (V es s) None) other)
 
-offs_other_row : (d n : ℕ) (rows : Rows) (q : List ℕ) (es : Pairs) → AllFree d rows → Free d q → NoneNamed rows q → NoneIn (offs d n rows) (fronted q d es)
+offs_other_row : (d n : ℕ) (rows : Rows) (q : List ℕ) (es : Pairs) → AllFree d rows → Free d q → NoneNamed rows q → NoneIn (offs d n rows) (under q d es)
 offs_other_row d n [] q es free k none = tt
 offs_other_row d n (row ∷ rows) q es free k none = elim (either (is_dense n row.1)) [
   | inl y ↦ rw y (other_row d q row.0 [] es k free.0 ((same_equiv simple_ascii).symm q row.0 ∙ none.0), offs_other_row d n rows q es free.1 k none.1)
@@ -102,49 +102,49 @@ offs_apart : (d n : ℕ) (rows : Rows) → AllFree d rows → NamedOnce rows →
 offs_apart d n [] free named = tt
 offs_apart d n (row ∷ rows) free named =
     let more : NoneIn (offs d n rows) (others_at d n (row ∷ rows)) =
-    none_append (offs d n rows) (fronted row.0 d (beside n row.1)) (others_at d n rows)
-    (offs_other_row d n rows row.0 (beside n row.1) free.1 free.0 named.0) (offs_apart d n rows free.1 named.1) in
+    none_append (offs d n rows) (under row.0 d (beside (laid n row))) (others_at d n rows)
+    (offs_other_row d n rows row.0 (beside (laid n row)) free.1 free.0 named.0) (offs_apart d n rows free.1 named.1) in
     elim (either (is_dense n row.1)) [
       | inl y ↦
-          let own : V (beside n row.1) [] ≡ None = rw y (empty_inside n row.1 y) in
-          let none : V (fronted row.0 d (beside n row.1)) (row.0 ++ (d ∷ [])) ≡ None =
-          value_at-fronted d row.0 row.0 [] (beside n row.1) free.0 free.0 ∙ ap (λ o. cond (same row.0 row.0) o None) own ∙ ap (λ b. cond b None None) (exact_itself row.0) in
+          let own : V (beside (laid n row)) [] ≡ None = rw y (empty_inside n row.1 y) in
+          let none : V (under row.0 d (beside (laid n row))) (row.0 ++ (d ∷ [])) ≡ None =
+          value_at-under d row.0 row.0 [] (beside (laid n row)) free.0 free.0 ∙ ap (λ o. cond (same row.0 row.0) o None) own ∙ ap (λ b. cond b None None) (exact_itself row.0) in
           let first : NoKey (row.0 ++ d ∷ []) (others_at d n (row ∷ rows)) =
-          no_key_append (row.0 ++ d ∷ []) (fronted row.0 d (beside n row.1)) (others_at d n rows)
-          (from_none (row.0 ++ d ∷ []) (fronted row.0 d (beside n row.1)) none)
+          no_key_append (row.0 ++ d ∷ []) (under row.0 d (beside (laid n row))) (others_at d n rows)
+          (from_none (row.0 ++ d ∷ []) (under row.0 d (beside (laid n row))) none)
           (from_none (row.0 ++ d ∷ []) (others_at d n rows) (absent_other d n rows row.0 [] free.1 free.0 named.0)) in
-          subst (λ rs. NoneIn (map (λ r. (r.0 ++ d ∷ [], offset r.1)) rs) (others_at d n (row ∷ rows)))
-          (sym (ap (λ b. cond b (row ∷ filter (λ r. is_dense n r.1) rows) (filter (λ r. is_dense n r.1) rows)) y)) (first, more)
+          subst (λ (rs : List LaidRow). NoneIn (map (λ r. (r.prefix ++ d ∷ [], r.offset)) rs) (others_at d n (row ∷ rows)))
+          (sym (ap (λ b. cond b (laid n row ∷ dense_rows (map (laid n) rows)) (dense_rows (map (laid n) rows))) y)) (first, more)
       | inr f ↦
-          subst (λ rs. NoneIn (map (λ r. (r.0 ++ d ∷ [], offset r.1)) rs) (others_at d n (row ∷ rows)))
-          (sym (ap (λ b. cond b (row ∷ filter (λ r. is_dense n r.1) rows) (filter (λ r. is_dense n r.1) rows)) f)) more
+          subst (λ (rs : List LaidRow). NoneIn (map (λ r. (r.prefix ++ d ∷ [], r.offset)) rs) (others_at d n (row ∷ rows)))
+          (sym (ap (λ b. cond b (laid n row ∷ dense_rows (map (laid n) rows)) (dense_rows (map (laid n) rows))) f)) more
     ]
 
 -- the values beside the matrix
-once_fronted : (d : ℕ) (q : List ℕ) (es : Pairs) → Free d q → Ascends es → Once (fronted q d es)
-once_fronted d q [] free ascends = tt
-once_fronted d q (e ∷ es) free ascends =
+once_under : (d : ℕ) (q : List ℕ) (es : Pairs) → Free d q → Ascends es → Once (under q d es)
+once_under d q [] free ascends = tt
+once_under d q (e ∷ es) free ascends =
     let once : V es e.0 ≡ None = no_value e.0 es (first_once e.0 e.1 es ascends) in (
-      from_none (q ++ (d ∷ e.0)) (fronted q d es) (value_at-fronted d q q e.0 es free free ∙ ap (λ o. cond (same q q) o None) once ∙ ap (λ b. cond b None None) (exact_itself q)),
-      once_fronted d q es free ascends.1,
+      from_none (q ++ (d ∷ e.0)) (under q d es) (value_at-under d q q e.0 es free free ∙ ap (λ o. cond (same q q) o None) once ∙ ap (λ b. cond b None None) (exact_itself q)),
+      once_under d q es free ascends.1,
     )
 
-fronted_apart : (d n : ℕ) (q : List ℕ) (es : Pairs) (rows : Rows) → Free d q → AllFree d rows → NoneNamed rows q → NoneIn (fronted q d es) (others_at d n rows)
-fronted_apart d n q [] rows free all none = tt
-fronted_apart d n q (e ∷ es) rows free all none =
-    (from_none (q ++ (d ∷ e.0)) (others_at d n rows) (absent_other d n rows q e.0 all free none), fronted_apart d n q es rows free all none)
+under_apart : (d n : ℕ) (q : List ℕ) (es : Pairs) (rows : Rows) → Free d q → AllFree d rows → NoneNamed rows q → NoneIn (under q d es) (others_at d n rows)
+under_apart d n q [] rows free all none = tt
+under_apart d n q (e ∷ es) rows free all none =
+    (from_none (q ++ (d ∷ e.0)) (others_at d n rows) (absent_other d n rows q e.0 all free none), under_apart d n q es rows free all none)
 
-beside_ascends : (n : ℕ) (row : Pairs) → Ascends row → Ascends (beside n row)
-beside_ascends n row ascends = elim (either (is_dense n row)) [
-  | inl y ↦ rw y (kept_ascends (λ v. not (in_window (offset row) v)) row ascends)
+beside_ascends : (n : ℕ) (row : List ℕ × Pairs) → Ascends row.1 → Ascends (beside (laid n row))
+beside_ascends n row ascends = elim (either (is_dense n row.1)) [
+  | inl y ↦ rw y (kept_ascends (λ v. not (in_window (offset row.1) v)) row.1 ascends)
   | inr f ↦ rw f ascends
 ]
 
 once_others : (d n : ℕ) (rows : Rows) → AllFree d rows → NamedOnce rows → IsInOrder rows → Once (others_at d n rows)
 once_others d n [] free named order = tt
 once_others d n (row ∷ rows) free named order =
-    once_append (fronted row.0 d (beside n row.1)) (others_at d n rows) (once_fronted d row.0 (beside n row.1) free.0 (beside_ascends n row.1 order.0))
-    (once_others d n rows free.1 named.1 order.2) (fronted_apart d n row.0 (beside n row.1) rows free.0 free.1 named.0)
+    once_append (under row.0 d (beside (laid n row))) (others_at d n rows) (once_under d row.0 (beside (laid n row)) free.0 (beside_ascends n row order.0))
+    (once_others d n rows free.1 named.1 order.2) (under_apart d n row.0 (beside (laid n row)) rows free.0 free.1 named.0)
 
 -- all three
 pub primary_once : (d : ℕ) (rows : Rows) → AllFree d rows → IsInOrder rows → Once (primary_pairs d rows)

@@ -8,26 +8,26 @@ use Rattle.zerotrie_core.specs.Fits.{ExceedsCapacity}
 use Rattle.zerotrie_core.specs.Routes.{ascending, IsRefusal}
 use Rattle.zerotrie_core.specs.Causes.{ZeroTrieBuildError, NonAsciiError, CapacityExceeded, CouldNotSolvePerfectHash, MixedCase, IllegalDelimiter, DuplicateKey, Unsorted, BufferTooSmall, BufferTooLarge, StackExceeded, OutOfMemory}
 use Rattle.zerotrie_core.proofs.CallerLemmas.{entries-map_of}
-use Rattle.zerotrie.specs.dense.Laid.{ArePlain, IsRowRefusal, within, without}
 use Rattle.zerotrie.specs.dense.Layout.{is_dense}
+use Rattle.zerotrie.specs.dense.RowFaults.{AreAsciiTexts, IsRowRefusal}
+use Rattle.zerotrie.specs.dense.Windows.{within, without, in_window, inside, outside, offset}
 use Rattle.zerotrie.specs.dense.Rows.{keys}
-use Rattle.zerotrie.specs.dense.Windows.{in_window, inside, outside, offset}
 use Rattle.zerotrie.proofs.TextLemmas.{either}
 use Rattle.zerotrie.proofs.BuildLemmas.{kept_ascends}
 
-plain_kept : (q : ℕ → Bool) (pairs : Pairs) → ArePlain (keys pairs) → ArePlain (keys (filter (λ e. q e.1) pairs))
+plain_kept : (q : ℕ → Bool) (pairs : Pairs) → AreAsciiTexts (keys pairs) → AreAsciiTexts (keys (filter (λ e. q e.1) pairs))
 plain_kept q [] plain = tt
 plain_kept q (e ∷ pairs) plain = elim (either (q e.1)) [
   | inl t ↦ rw t (plain.0, plain_kept q pairs plain.1)
   | inr f ↦ rw f (plain_kept q pairs plain.1)
 ]
 
-plain_none : (pairs : Pairs) → ArePlain (keys pairs) → (k : ℕ) (x : List ℕ × ℕ) → k < length pairs → get_or pairs k x ≡ x → Any (λ b. 128 ≤ b) x.0 → ⊥
+plain_none : (pairs : Pairs) → AreAsciiTexts (keys pairs) → (k : ℕ) (x : List ℕ × ℕ) → k < length pairs → get_or pairs k x ≡ x → Any (λ b. 128 ≤ b) x.0 → ⊥
 plain_none [] plain k x h is any = omega arith
 plain_none (e ∷ pairs) plain zero x h is any = plain.0 (subst (λ p. Any (λ b. 128 ≤ b) p.0) (sym is) any)
 plain_none (e ∷ pairs) plain (suc k) x h is any = plain_none pairs plain.1 k x (omega arith) is any
 
-refused_by : (pairs row : Pairs) (e : ZeroTrieBuildError) → pairs ≡ inside row → Ascends pairs → ArePlain (keys pairs)
+refused_by : (pairs row : Pairs) (e : ZeroTrieBuildError) → pairs ≡ inside row → Ascends pairs → AreAsciiTexts (keys pairs)
     → IsRefusal ascending simple_ascii pairs e → e ≢ CouldNotSolvePerfectHash → IsRowRefusal row e
 refused_by pairs row OutOfMemory is ascends plain h searched = inl refl
 refused_by pairs row CapacityExceeded is ascends plain h searched = elim h [
@@ -48,11 +48,11 @@ refused_by pairs row (BufferTooLarge n) is ascends plain h searched = elim h [ i
 refused_by pairs row StackExceeded is ascends plain h searched = elim h [ inl m ↦ inl m | inr c ↦ absurd c.1 ]
 
 -- a refusal of the length of a window's text is one of the row
-pub row_refused : (pairs row : Pairs) (start : ℕ) (e : ZeroTrieBuildError) → pairs ≡ within start row → start ≡ offset row → Ascends row → ArePlain (keys row)
+pub row_refused : (pairs row : Pairs) (start : ℕ) (e : ZeroTrieBuildError) → pairs ≡ within start row → start ≡ offset row → Ascends row → AreAsciiTexts (keys row)
     → IsRefusal ascending simple_ascii pairs e → e ≢ CouldNotSolvePerfectHash → IsRowRefusal row e
 row_refused pairs row start e is at ascends plain h searched =
     let own : pairs ≡ inside row = is ∙ ap (λ s. within s row) at in
-    refused_by pairs row e own (subst Ascends (sym is) (kept_ascends (in_window start) row ascends)) (subst (λ p. ArePlain (keys p)) (sym is) (plain_kept (in_window start) row plain)) h searched
+    refused_by pairs row e own (subst Ascends (sym is) (kept_ascends (in_window start) row ascends)) (subst (λ p. AreAsciiTexts (keys p)) (sym is) (plain_kept (in_window start) row plain)) h searched
 
 -- and the length is that of the ascending pairs
 pub window_size : (pairs row : Pairs) (start n : ℕ) → pairs ≡ within start row → Ascends row → n ≡ size simple_ascii (map_of pairs) → n ≡ size_of simple_ascii (within start row)

@@ -7,31 +7,28 @@ use Rattle.zerotrie_core.specs.Kind.{simple_ascii}
 use Rattle.zerotrie_core.specs.Maps.{Pairs, value_at}
 use Rattle.zerotrie_core.proofs.CallerLemmas.{exact_same, value_at-append, value_at-some}
 use Rattle.zerotrie.specs.dense.Rows.{Rows, row_of, placed, IsInOrder}
+use Rattle.zerotrie.specs.dense.Layout.{is_dense, laid, beside, numbers, row_offsets, under, others, cell_of, dense_cells}
 use Rattle.zerotrie.specs.dense.Windows.{offset, inside, outside}
-use Rattle.zerotrie.specs.dense.Layout.{is_dense, beside, cell_of}
 use Rattle.zerotrie.specs.dense.Records.{matrix_bytes}
 use Rattle.zerotrie.specs.dense.Laws.{cell_at}
-use Rattle.zerotrie.proofs.TextLemmas.{V, same, either, Free, NoKey, first_once, fronted, value_at-fronted, value_at-no_text, no_text, no_key, split_key}
+use Rattle.zerotrie.proofs.TextLemmas.{V, same, either, Free, NoKey, first_once, value_at-under, value_at-no_text, no_text, no_key, split_key}
 
--- the dense rows of a table of n suffixes, and the three lists of their primary
-abbrev pub dense : ℕ → Rows → Rows
-dense n rows = filter (λ row. is_dense n row.1) rows
-
+-- the three lists of the primary of a table of n suffixes
 abbrev pub firsts : ℕ → ℕ → Rows → Pairs
-firsts k n rows = placed k (map (λ row. row.0) (dense n rows))
+firsts k n rows = numbers k (map (laid n) rows)
 
 abbrev pub offs : ℕ → ℕ → Rows → Pairs
-offs d n rows = map (λ row. (row.0 ++ d ∷ [], offset row.1)) (dense n rows)
+offs d n rows = row_offsets d (map (laid n) rows)
 
 abbrev pub others_at : ℕ → ℕ → Rows → Pairs
-others_at d n rows = flat_map (λ row. map (λ e. (row.0 ++ (d ∷ e.0), e.1)) (beside n row.1)) rows
+others_at d n rows = others d (map (laid n) rows)
 
--- the cells of a row, and of the dense rows
-abbrev pub row_cells : List (List ℕ) → Pairs → List ℕ
-row_cells S row = map (λ s. cell_of (offset row) (value_at simple_ascii (inside row) s)) S
+-- the cells of the window of pairs, and of the dense rows
+abbrev pub window_cells : List (List ℕ) → Pairs → List ℕ
+window_cells S row = map (λ s. cell_of (offset row) (value_at simple_ascii (inside row) s)) S
 
 abbrev pub all_cells : List (List ℕ) → ℕ → Rows → List ℕ
-all_cells S n rows = flat_map (λ row. row_cells S row.1) (dense n rows)
+all_cells S n rows = dense_cells S (map (laid n) rows)
 
 and_never : (b : Bool) → (b && false) ≡ false
 and_never true = refl
@@ -70,7 +67,7 @@ no_offset d n (row ∷ rows) p k = elim (either (is_dense n row.1)) [
 pub no_other : (d n : ℕ) (rows : Rows) (p : List ℕ) → Free d p → V (others_at d n rows) p ≡ None
 no_other d n [] p k = refl
 no_other d n (row ∷ rows) p k =
-    value_at-append simple_ascii p (fronted row.0 d (beside n row.1)) (others_at d n rows) (value_at-no_text d row.0 p (beside n row.1) k) ∙ no_other d n rows p k
+    value_at-append simple_ascii p (under row.0 d (beside (laid n row))) (others_at d n rows) (value_at-no_text d row.0 p (beside (laid n row)) k) ∙ no_other d n rows p k
 
 -- an offset is of the key that ends with d alone
 pub offset_ends : (d n : ℕ) (rows : Rows) (p : List ℕ) (b : ℕ) (s : List ℕ) → AllFree d rows → Free d p → V (offs d n rows) (p ++ (d ∷ (b ∷ s))) ≡ None
@@ -95,7 +92,7 @@ pub record DenseRow (S : List (List ℕ)) (d n : ℕ) (rows : Rows) (p : List �
   pub other : (s : List ℕ) → V (others_at d n rows) (p ++ (d ∷ s)) ≡ V (outside (row_of rows p)) s
   pub dense_is : is_dense n (row_of rows p) ≡ true
   pub below : (i : ℕ) → i < n → place * n + i < length (all_cells S n rows)
-  pub cells : (i x : ℕ) → i < n → get_or (all_cells S n rows) (place * n + i) x ≡ get_or (row_cells S (row_of rows p)) i x
+  pub cells : (i x : ℕ) → i < n → get_or (all_cells S n rows) (place * n + i) x ≡ get_or (window_cells S (row_of rows p)) i x
 
 pub absent_number : (k n : ℕ) (rows : Rows) (p : List ℕ) → NoneNamed rows p → V (firsts k n rows) p ≡ None
 absent_number k n [] p none = refl
@@ -121,18 +118,18 @@ absent_offset d n (row ∷ rows) p free k none = elim (either (is_dense n row.1)
 other_adds : (d n : ℕ) (row : List ℕ × Pairs) (rows : Rows) (p s : List ℕ) → Free d row.0 → Free d p → same row.0 p ≡ false
     → V (others_at d n (row ∷ rows)) (p ++ (d ∷ s)) ≡ V (others_at d n rows) (p ++ (d ∷ s))
 other_adds d n row rows p s free k other =
-    value_at-append simple_ascii (p ++ (d ∷ s)) (fronted row.0 d (beside n row.1)) (others_at d n rows)
-    (value_at-fronted d row.0 p s (beside n row.1) free k ∙ ap (λ b. cond b (V (beside n row.1) s) None) other)
+    value_at-append simple_ascii (p ++ (d ∷ s)) (under row.0 d (beside (laid n row))) (others_at d n rows)
+    (value_at-under d row.0 p s (beside (laid n row)) free k ∙ ap (λ b. cond b (V (beside (laid n row)) s) None) other)
 
 pub absent_other : (d n : ℕ) (rows : Rows) (p s : List ℕ) → AllFree d rows → Free d p → NoneNamed rows p → V (others_at d n rows) (p ++ (d ∷ s)) ≡ None
 absent_other d n [] p s free k none = refl
 absent_other d n (row ∷ rows) p s free k none = other_adds d n row rows p s free.0 k none.0 ∙ absent_other d n rows p s free.1 k none.1
 
 own_adds : (d n : ℕ) (row : List ℕ × Pairs) (rows : Rows) (p s : List ℕ) → Free d row.0 → AllFree d rows → Free d p → same row.0 p ≡ true → NoneNamed rows p
-    → V (others_at d n (row ∷ rows)) (p ++ (d ∷ s)) ≡ V (beside n row.1) s
+    → V (others_at d n (row ∷ rows)) (p ++ (d ∷ s)) ≡ V (beside (laid n row)) s
 own_adds d n row rows p s free all k own none =
-    value_at-some simple_ascii (p ++ (d ∷ s)) (fronted row.0 d (beside n row.1)) (others_at d n rows) (absent_other d n rows p s all k none)
-    ∙ value_at-fronted d row.0 p s (beside n row.1) free k ∙ ap (λ b. cond b (V (beside n row.1) s) None) own
+    value_at-some simple_ascii (p ++ (d ∷ s)) (under row.0 d (beside (laid n row))) (others_at d n rows) (absent_other d n rows p s all k none)
+    ∙ value_at-under d row.0 p s (beside (laid n row)) free k ∙ ap (λ b. cond b (V (beside (laid n row)) s) None) own
 
 get_left : (xs ys : List ℕ) (i x : ℕ) → i < length xs → get_or (xs ++ ys) i x ≡ get_or xs i x
 get_left [] ys i x h = absurd (omega arith)
@@ -146,7 +143,7 @@ get_right (a ∷ xs) ys i x = let e : length (a ∷ xs) + i ≡ suc (length xs +
 one_more : (a n i : ℕ) → (a + 1) * n + i ≡ n + (a * n + i)
 one_more a n i = grind arith
 
-length-row : (S : List (List ℕ)) (row : Pairs) → length (row_cells S row) ≡ length S
+length-row : (S : List (List ℕ)) (row : Pairs) → length (window_cells S row) ≡ length S
 length-row [] row = refl
 length-row (t ∷ S) row = let r = length-row S row in omega (arith, r)
 
@@ -160,8 +157,8 @@ ends_dense S d n row rows p len free all k own none t =
       offset_of = rw (t, own_key d row.0 p free k own, own) refl;
       other = λ s. own_adds d n row rows p s free all k own none ∙ rw (t, own) refl;
       dense_is = rw own t;
-      below = λ i h. rw t (let l = length-append (row_cells S row.1) (all_cells S n rows) in omega (arith, cells, len, l));
-      cells = λ i x h. rw (t, own) (let e : 0 * n + i ≡ i = omega arith in rw e (get_left (row_cells S row.1) (all_cells S n rows) i x (omega (arith, cells, len))));
+      below = λ i h. rw t (let l = length-append (window_cells S row.1) (all_cells S n rows) in omega (arith, cells, len, l));
+      cells = λ i x h. rw (t, own) (let e : 0 * n + i ≡ i = omega arith in rw e (get_left (window_cells S row.1) (all_cells S n rows) i x (omega (arith, cells, len))));
     }
 
 ends_sparse : (d n : ℕ) (row : List ℕ × Pairs) (rows : Rows) (p : List ℕ) → Free d row.0 → AllFree d rows → Free d p → same row.0 p ≡ true
@@ -197,10 +194,10 @@ later_dense S d n row rows p len free k other r = elim (either (is_dense n row.1
         offset_of = rw (t, other_key d row.0 p [] free k other, other) r.offset_of;
         other = λ s. other_adds d n row rows p s free k other ∙ r.other s ∙ rw other refl;
         dense_is = rw other r.dense_is;
-        below = λ i h. rw t (let l = length-append (row_cells S row.1) (all_cells S n rows) in let more = one_more r.place n i in let b = r.below i h in omega (arith, cells, len, l, more, b));
+        below = λ i h. rw t (let l = length-append (window_cells S row.1) (all_cells S n rows) in let more = one_more r.place n i in let b = r.below i h in omega (arith, cells, len, l, more, b));
         cells = λ i x h. rw (t, other) (
-            ap (λ j. get_or (row_cells S row.1 ++ all_cells S n rows) j x) (one_more r.place n i ∙ ap (λ m. m + (r.place * n + i)) (sym (cells ∙ len)))
-            ∙ get_right (row_cells S row.1) (all_cells S n rows) (r.place * n + i) x ∙ r.cells i x h
+            ap (λ j. get_or (window_cells S row.1 ++ all_cells S n rows) j x) (one_more r.place n i ∙ ap (λ m. m + (r.place * n + i)) (sym (cells ∙ len)))
+            ∙ get_right (window_cells S row.1) (all_cells S n rows) (r.place * n + i) x ∙ r.cells i x h
             );
       }
   | inr f ↦ record {

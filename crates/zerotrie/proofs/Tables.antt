@@ -4,7 +4,7 @@ use Rattle.std.specs.Prelude.{◌^◌}
 use Rattle.zerotrie.specs.dense.Rows.{Rows}
 use Rattle.zerotrie.specs.dense.Layout.{matrix}
 use Rattle.zerotrie.specs.dense.Records.{Parts, matrix_bytes, record_of}
-use Rattle.zerotrie.specs.dense.Tables.{IsTable}
+use Rattle.zerotrie.specs.dense.Tables.{IsDenseTable}
 use Rattle.zerotrie.specs.dense.Laws.{IsWhole}
 use Rattle.zerotrie.proofs.CellLemmas.{at_least}
 
@@ -17,7 +17,7 @@ longer : (t : Parts) → length t.primary + length t.suffixes + length t.matrix 
 longer t = let l : length ((t.primary ++ t.suffixes) ++ t.matrix) ≡ (length t.primary + length t.suffixes) + length t.matrix = simp length-append in omega arith
 
 -- A table that was built is one that a record can hold, if the record has fewer than 2 ^ 64 bytes, as each list in memory has.
-pub table_whole : (delimiter : ℕ) (rows : Rows) (t : Parts) → IsTable delimiter rows t → length (record_of t) < 2 ^ 64 → IsWhole t
+pub table_whole : (delimiter : ℕ) (rows : Rows) (t : Parts) → IsDenseTable delimiter rows t → length (record_of t) < 2 ^ 64 → IsWhole t
 table_whole delimiter rows t table short =
     let all = longer t in
     let is = table.parts_are in

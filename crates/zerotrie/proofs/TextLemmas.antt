@@ -6,6 +6,7 @@ use Rattle.zerotrie_core.specs.Kind.{simple_ascii}
 use Rattle.zerotrie_core.specs.Maps.{Pairs, Ascends, value_at, same_key}
 use Rattle.zerotrie_core.proofs.CallerLemmas.{exact_same, ascends_apart}
 use Rattle.zerotrie.specs.dense.Laws.{or_else}
+use Rattle.zerotrie.specs.dense.Layout.{under}
 use Rattle.zerotrie.proofs.Lookups.{one_of, key_there}
 
 abbrev pub V : Pairs → List ℕ → Option ℕ
@@ -80,22 +81,18 @@ held_other d (b ∷ q) (c ∷ p) h k = elim (either (b == c)) [
   | inr n ↦ rw n refl
 ]
 
--- pairs with a text and d in front of each key
-abbrev pub fronted : List ℕ → ℕ → Pairs → Pairs
-fronted q d es = map {B = List ℕ × ℕ} (λ e. (q ++ (d ∷ e.0), e.1)) es
-
 under_one : (a b : Bool) (v : ℕ) (o : Option ℕ) → cond (a && b) (Some v) (cond a o None) ≡ cond a (cond b (Some v) o) None
 under_one true b v o = refl
 under_one false b v o = refl
 
-pub value_at-fronted : (d : ℕ) (q p s : List ℕ) (es : Pairs) → Free d q → Free d p → V (fronted q d es) (p ++ (d ∷ s)) ≡ cond (same q p) (V es s) None
-value_at-fronted d q p s [] h k = elim (either (same q p)) [ inl y ↦ rw y refl | inr n ↦ rw n refl ]
-value_at-fronted d q p s (e ∷ es) h k =
-    ap (λ t. cond t (Some e.1) (V (fronted q d es) (p ++ (d ∷ s)))) (split_key d q p e.0 s h k)
-    ∙ ap (λ o. cond (same q p && same e.0 s) (Some e.1) o) (value_at-fronted d q p s es h k)
+pub value_at-under : (d : ℕ) (q p s : List ℕ) (es : Pairs) → Free d q → Free d p → V (under q d es) (p ++ (d ∷ s)) ≡ cond (same q p) (V es s) None
+value_at-under d q p s [] h k = elim (either (same q p)) [ inl y ↦ rw y refl | inr n ↦ rw n refl ]
+value_at-under d q p s (e ∷ es) h k =
+    ap (λ t. cond t (Some e.1) (V (under q d es) (p ++ (d ∷ s)))) (split_key d q p e.0 s h k)
+    ∙ ap (λ o. cond (same q p && same e.0 s) (Some e.1) o) (value_at-under d q p s es h k)
     ∙ under_one (same q p) (same e.0 s) e.1 (V es s)
 
-pub value_at-no_text : (d : ℕ) (q p : List ℕ) (es : Pairs) → Free d p → V (fronted q d es) p ≡ None
+pub value_at-no_text : (d : ℕ) (q p : List ℕ) (es : Pairs) → Free d p → V (under q d es) p ≡ None
 value_at-no_text d q p [] k = refl
 value_at-no_text d q p (e ∷ es) k = rw (no_text d q e.0 p k) (value_at-no_text d q p es k)
 

@@ -2,7 +2,8 @@
 use Rattle.std.proofs.Common.{◌≡◌, ℕ, ◌+◌, ◌<◌, ◌≤◌, List, [], ◌∷◌, refl, sym, ap, subst, arith, Bool, true, false, cond, inl, inr, ◌∙◌}
 use Rattle.std.specs.Prelude.{map, min, ◌==◌, ◌⊎◌, nat_le as leb}
 use Rattle.std.specs.List.{filter}
-use Rattle.zerotrie.specs.dense.Windows.{held, fullest, in_window, greatest, least}
+use Rattle.zerotrie_core.specs.WellFormed.{greatest}
+use Rattle.zerotrie.specs.dense.Windows.{count_within, fullest, in_window, least}
 
 abbrev pub Among : ℕ → List ℕ → Type 0
 Among v [] = ⊥
@@ -19,7 +20,7 @@ pub in_made : (s x : ℕ) → s ≤ x → x < s + 65535 → in_window s x ≡ tr
 in_made s x h k = grind arith
 
 -- the window of the least value that a window holds, holds as much
-holds_more : (vs : List ℕ) (s v : ℕ) → s ≤ v → ((x : ℕ) → Among x vs → in_window s x ≡ true → v ≤ x) → held vs s ≤ held vs v
+holds_more : (vs : List ℕ) (s v : ℕ) → s ≤ v → ((x : ℕ) → Among x vs → in_window s x ≡ true → v ≤ x) → count_within vs s ≤ count_within vs v
 holds_more [] s v h least = omega arith
 holds_more (x ∷ vs) s v h low =
     let rest = holds_more vs s v h (λ y a. low y (inr a)) in
@@ -54,11 +55,11 @@ least_in (x ∷ vs) s = elim (least_in vs s) [
   ]
 ]
 
-held_none : (vs : List ℕ) (s : ℕ) → ((x : ℕ) → Among x vs → in_window s x ≡ true → ⊥) → held vs s ≡ 0
-held_none [] s none = refl
-held_none (x ∷ vs) s none = elim (either (in_window s x)) [
+count_within-none : (vs : List ℕ) (s : ℕ) → ((x : ℕ) → Among x vs → in_window s x ≡ true → ⊥) → count_within vs s ≡ 0
+count_within-none [] s none = refl
+count_within-none (x ∷ vs) s none = elim (either (in_window s x)) [
   | inl e ↦ absurd (none x (inl refl) e)
-  | inr e ↦ let rest = held_none vs s (λ y a. none y (inr a)) in rw e (omega arith)
+  | inr e ↦ let rest = count_within-none vs s (λ y a. none y (inr a)) in rw e (omega arith)
 ]
 
 pub at_greatest : (f : ℕ → ℕ) (vs : List ℕ) (v : ℕ) → Among v vs → f v ≤ greatest (map f vs)
@@ -108,25 +109,25 @@ least_among (x ∷ y ∷ vs) v a = elim (either (leb x (least (y ∷ vs)))) [
       inr (subst (λ z. Among z (y ∷ vs)) (sym e) m)
 ]
 
-pub fullest_reaches : (x : ℕ) (vs : List ℕ) → held (x ∷ vs) (fullest (x ∷ vs)) ≡ greatest (map (held (x ∷ vs)) (x ∷ vs))
+pub fullest_reaches : (x : ℕ) (vs : List ℕ) → count_within (x ∷ vs) (fullest (x ∷ vs)) ≡ greatest (map (count_within (x ∷ vs)) (x ∷ vs))
 unfolding fullest
 fullest_reaches x vs =
     let all : List ℕ = x ∷ vs in
-    let r = reached (held all) x vs in
-    let p : ℕ → Bool = λ v. held all v == greatest (map (held all) all) in
+    let r = reached (count_within all) x vs in
+    let p : ℕ → Bool = λ v. count_within all v == greatest (map (count_within all) all) in
     let t : p r.v ≡ true = grind (arith, r.reaches) in
     let a = filter_among p all r.v r.among t in
     let b = among_filter p all (least (filter p all)) (least_among (filter p all) r.v a) in
     grind (arith, b)
 
-pub fullest_best : (values : List ℕ) (start : ℕ) → held values start ≤ held values (fullest values)
+pub fullest_best : (values : List ℕ) (start : ℕ) → count_within values start ≤ count_within values (fullest values)
 fullest_best [] start = omega arith
 fullest_best (x ∷ vs) start = elim (least_in (x ∷ vs) start) [
-  | inl none ↦ let zero_held = held_none (x ∷ vs) start none in omega arith
+  | inl none ↦ let zero_there = count_within-none (x ∷ vs) start none in omega arith
   | inr l ↦
       let bounds = in_bounds start l.v l.held_too in
       let more = holds_more (x ∷ vs) start l.v bounds.0 l.low in
-      let at = at_greatest (held (x ∷ vs)) (x ∷ vs) l.v l.among in
+      let at = at_greatest (count_within (x ∷ vs)) (x ∷ vs) l.v l.among in
       let full = fullest_reaches x vs in
       omega (arith, more, at, full)
 ]

@@ -7,4 +7,4 @@ pub mod Tables
 pub mod Laws
 pub mod Views
 pub mod Reading
-pub mod Laid
+pub mod RowFaults

@@ -8,10 +8,10 @@ use Rattle.std.proofs.Math.ListN.{drop_of_length-le}
 use Rattle.zerotrie_tool.specs.declared.answer.Session.{Session}
 use Rattle.zerotrie_tool.specs.Lines.{lines_of}
 use Rattle.zerotrie_tool.specs.Commands.{Command, IsCommand}
-use Rattle.zerotrie_tool.specs.Answers.{State, CanDo, Run, Answers}
-use Rattle.zerotrie_tool.specs.Answers.Run.{end, empty, does, bad}
+use Rattle.zerotrie_tool.specs.Answers.{State, CanDo, AnswersLines, Answers}
+use Rattle.zerotrie_tool.specs.Answers.AnswersLines.{end, empty, does, bad}
 use Rattle.zerotrie_tool.specs.Replies.{bad_line}
-use Rattle.zerotrie_tool.specs.answer.Sessions.{HoldsSome, AfterCommand}
+use Rattle.zerotrie_tool.specs.answer.Sessions.{HasStateIfAny, AfterCommand}
 
 -- lines that are borrowed
 abbrev pub texts : List (Bor (List ℕ)) → List (List ℕ)
@@ -20,14 +20,14 @@ texts lines = map {B = List ℕ} (λ line. line.now) lines
 -- The first i lines are answered: whatever answers the rest answers the input with it.
 pub record Answering (input : List ℕ) (lines : List (Bor (List ℕ))) (i : ℕ) (session : Option Session) (output : List ℕ) (status : ℕ) : Type 0 where
   pub held : Option State
-  pub holds : HoldsSome session held
-  pub rest : (more : List ℕ) (last : ℕ) → Run (i + 1) held (drop i (texts lines)) more last → Answers input (output ++ more) (max status last)
+  pub holds : HasStateIfAny session held
+  pub rest : (more : List ℕ) (last : ℕ) → AnswersLines (i + 1) held (drop i (texts lines)) more last → Answers input (output ++ more) (max status last)
 
 pub answering_none : (input : List ℕ) (lines : List (Bor (List ℕ))) → texts lines ≡ lines_of input → Answering input lines 0 None [] 0
 answering_none input lines e = record {
   held = None;
   holds = tt;
-  rest = λ more last run. let same : max 0 last ≡ last = omega arith in rw same (subst (λ l. Run 1 None l more last) e run);
+  rest = λ more last run. let same : max 0 last ≡ last = omega arith in rw same (subst (λ l. AnswersLines 1 None l more last) e run);
 }
 
 -- what is read past the end
@@ -55,7 +55,7 @@ pub answering_empty : (input : List ℕ) (lines : List (Bor (List ℕ))) (i : �
 answering_empty input lines i session output status a l none = record {
   held = a.held;
   holds = a.holds;
-  rest = λ more last run. a.rest more last (subst (λ ls. Run (i + 1) a.held ls more last) (sym (at_line lines i l ∙ ap (λ t. t ∷ drop (i + 1) (texts lines)) none)) (empty run));
+  rest = λ more last run. a.rest more last (subst (λ ls. AnswersLines (i + 1) a.held ls more last) (sym (at_line lines i l ∙ ap (λ t. t ∷ drop (i + 1) (texts lines)) none)) (empty run));
 }
 
 pub answering_more : (input : List ℕ) (lines : List (Bor (List ℕ))) (i : ℕ) (before after : Option Session) (output new : List ℕ) (status least : ℕ) → Answering input lines i before output status → i < length lines → AfterCommand (line_at lines i) before after output new least → Answering input lines (i + 1) after new (max status least)
@@ -67,18 +67,18 @@ answering_more input lines i before after output new status least a l done =
       rest = λ more last run.
           let same : new ++ more ≡ output ++ (p.printed ++ more) = ap (λ o. o ++ more) p.output ∙ append_assoc output p.printed more in
           let most : max (max status least) last ≡ max status (max least last) = omega arith in
-          rw (same, most) (a.rest (p.printed ++ more) (max least last) (subst (λ ls. Run (i + 1) a.held ls (p.printed ++ more) (max least last)) (sym (at_line lines i l)) (does r.1 p.does run)));
+          rw (same, most) (a.rest (p.printed ++ more) (max least last) (subst (λ ls. AnswersLines (i + 1) a.held ls (p.printed ++ more) (max least last)) (sym (at_line lines i l)) (does r.1 p.does run)));
     }
 
 pub answering_bad : (input : List ℕ) (lines : List (Bor (List ℕ))) (i : ℕ) (session : Option Session) (output new whole : List ℕ) (status : ℕ) → Answering input lines i session output status → i < length lines → line_at lines i ≢ []
-    → ((held : Option State) → HoldsSome session held → (command : Command) → IsCommand (line_at lines i) command → CanDo held command → ⊥) → new ≡ output → whole ≡ new ++ bad_line (i + 1) → status ≤ 2 → Answers input whole 2
+    → ((held : Option State) → HasStateIfAny session held → (command : Command) → IsCommand (line_at lines i) command → CanDo held command → ⊥) → new ≡ output → whole ≡ new ++ bad_line (i + 1) → status ≤ 2 → Answers input whole 2
 answering_bad input lines i session output new whole status a l some none same more low =
     let most : max status 2 ≡ 2 = omega arith in
     let text : whole ≡ output ++ bad_line (i + 1) = more ∙ ap (λ o. o ++ bad_line (i + 1)) same in
-    rw text (rw most at (a.rest (bad_line (i + 1)) 2 (subst (λ ls. Run (i + 1) a.held ls (bad_line (i + 1)) 2) (sym (at_line lines i l)) (bad some (none a.held a.holds)))))
+    rw text (rw most at (a.rest (bad_line (i + 1)) 2 (subst (λ ls. AnswersLines (i + 1) a.held ls (bad_line (i + 1)) 2) (sym (at_line lines i l)) (bad some (none a.held a.holds)))))
 
 pub answering_all : (input : List ℕ) (lines : List (Bor (List ℕ))) (i : ℕ) (session : Option Session) (output : List ℕ) (status : ℕ) → Answering input lines i session output status → length lines ≤ i → Answers input output status
 answering_all input lines i session output status a l =
     let past : drop i (texts lines) ≡ [] = drop_of_length-le (texts lines) (omega (arith, length-map {B = List ℕ} lines (λ line. line.now))) in
     let most : max status 0 ≡ status = omega arith in
-    rw most at (rw (append-nil output) at (a.rest [] 0 (subst (λ ls. Run (i + 1) a.held ls [] 0) (sym past) end)))
+    rw most at (rw (append-nil output) at (a.rest [] 0 (subst (λ ls. AnswersLines (i + 1) a.held ls [] 0) (sym past) end)))

@@ -22,7 +22,7 @@ use Rattle.zerotrie_tool.specs.Commands.{kind_of, choose, add, build, query, lis
 use Rattle.zerotrie_tool.specs.Answers.{State, CanDo, in_order, without_trie, with_trie}
 use Rattle.zerotrie_tool.specs.Answers.Does.{chosen, added, ok, refused, asked, listed, walked}
 use Rattle.zerotrie_tool.specs.answer.Tries.{trie_kind, trie_choice, trie_bytes}
-use Rattle.zerotrie_tool.specs.answer.Sessions.{Holds, HoldsSome, Performed, AfterRequest, AfterCommand, AfterLine}
+use Rattle.zerotrie_tool.specs.answer.Sessions.{HasState, HasStateIfAny, Performed, AfterRequest, AfterCommand, AfterLine}
 use Rattle.zerotrie_tool.specs.declared.answer.Outcome.{Outcome}
 use Rattle.zerotrie_tool.specs.declared.answer.Outcome.TheVariants.{Done, Refused, Bad}
 use Rattle.zerotrie_tool.proofs.LineLemmas.{walk_alone}
@@ -38,7 +38,7 @@ one_more items pairs key value e =
     map-append {B = List ℕ × ℕ} (λ e. (e.0.now, e.1)) items ((key, value) ∷ []) ∙ ap (λ ps. ps ++ (key.now, value) ∷ []) e
 
 -- A session with no trie holds its choice and its pairs.
-pub holds_none : (session : Session) (choice : Choice) (pairs : Pairs) → session.choice ≡ choice → pairs_of session.pairs.items ≡ pairs → trie_choice session.trie ≡ session.choice → trie_kind session.trie ≡ kind_of session.choice [] → trie_bytes session.trie ≡ [] → Holds session (without_trie choice pairs)
+pub holds_none : (session : Session) (choice : Choice) (pairs : Pairs) → session.choice ≡ choice → pairs_of session.pairs.items ≡ pairs → trie_choice session.trie ≡ session.choice → trie_kind session.trie ≡ kind_of session.choice [] → trie_bytes session.trie ≡ [] → HasState session (without_trie choice pairs)
 holds_none session choice pairs c p of kind text = record {
   choice = c;
   of = of ∙ c;
@@ -48,7 +48,7 @@ holds_none session choice pairs c p of kind text = record {
   means = no_trie_means (kind_of choice []);
 }
 
-pub performed_ok : (after : Session) (s : State) (old new text : List ℕ) → Takes any_order s.pairs → IsBuilt (kind_of s.choice s.pairs) s.pairs (trie_bytes after.trie) → Holds after (with_trie s.choice s.pairs (trie_bytes after.trie)) → text ≡ trie_bytes after.trie → new ≡ old ++ ok_line text → Performed build (Some s) (Some after) old new 0
+pub performed_ok : (after : Session) (s : State) (old new text : List ℕ) → Takes any_order s.pairs → IsBuilt (kind_of s.choice s.pairs) s.pairs (trie_bytes after.trie) → HasState after (with_trie s.choice s.pairs (trie_bytes after.trie)) → text ≡ trie_bytes after.trie → new ≡ old ++ ok_line text → Performed build (Some s) (Some after) old new 0
 performed_ok after s old new text takes built h e output = record {
   printed = ok_line (trie_bytes after.trie);
   state = Some (with_trie s.choice s.pairs (trie_bytes after.trie));
@@ -57,7 +57,7 @@ performed_ok after s old new text takes built h e output = record {
   output = output ∙ ap (λ t. old ++ ok_line t) e;
 }
 
-pub performed_refused : (after : Session) (s : State) (old new : List ℕ) (error : ZeroTrieBuildError) → IsRefusal any_order (kind_of s.choice s.pairs) s.pairs error → Holds after (without_trie s.choice s.pairs) → new ≡ old ++ refused_line error → Performed build (Some s) (Some after) old new 1
+pub performed_refused : (after : Session) (s : State) (old new : List ℕ) (error : ZeroTrieBuildError) → IsRefusal any_order (kind_of s.choice s.pairs) s.pairs error → HasState after (without_trie s.choice s.pairs) → new ≡ old ++ refused_line error → Performed build (Some s) (Some after) old new 1
 performed_refused after s old new error refuses h output = record {
   printed = refused_line error;
   state = Some (without_trie s.choice s.pairs);
@@ -66,7 +66,7 @@ performed_refused after s old new error refuses h output = record {
   output = output;
 }
 
-pub performed_chosen : (held : Option State) (after : Session) (choice : Choice) (old : List ℕ) → Holds after (without_trie choice []) → Performed (choose choice) held (Some after) old old 0
+pub performed_chosen : (held : Option State) (after : Session) (choice : Choice) (old : List ℕ) → HasState after (without_trie choice []) → Performed (choose choice) held (Some after) old old 0
 performed_chosen held after choice old h = record {
   printed = [];
   state = Some (without_trie choice []);
@@ -75,7 +75,7 @@ performed_chosen held after choice old h = record {
   output = sym (append-nil old);
 }
 
-pub performed_added : (after : Session) (s : State) (value : ℕ) (key old : List ℕ) → Holds after (record s { pairs = s.pairs ++ (key, value) ∷ [] }) → Performed (add value key) (Some s) (Some after) old old 0
+pub performed_added : (after : Session) (s : State) (value : ℕ) (key old : List ℕ) → HasState after (record s { pairs = s.pairs ++ (key, value) ∷ [] }) → Performed (add value key) (Some s) (Some after) old old 0
 performed_added after s value key old h = record {
   printed = [];
   state = Some (record s { pairs = s.pairs ++ (key, value) ∷ [] });
@@ -84,7 +84,7 @@ performed_added after s value key old h = record {
   output = sym (append-nil old);
 }
 
-pub performed_asked : (session : Session) (s : State) (key : List ℕ) (answer : Option ℕ) (old new : List ℕ) → Holds session s → answer ≡ look s.kind (map_of s.built) key → new ≡ old ++ number_line answer → Performed (query key) (Some s) (Some session) old new 0
+pub performed_asked : (session : Session) (s : State) (key : List ℕ) (answer : Option ℕ) (old new : List ℕ) → HasState session s → answer ≡ look s.kind (map_of s.built) key → new ≡ old ++ number_line answer → Performed (query key) (Some s) (Some session) old new 0
 performed_asked session s key answer old new h is output = record {
   printed = number_line (look s.kind (map_of s.built) key);
   state = Some s;
@@ -94,19 +94,19 @@ performed_asked session s key answer old new h is output = record {
 }
 
 -- a look-up in the trie that is held
-pub answer_is : (session : Session) (s : State) (key : List ℕ) (answer : Option ℕ) → Holds session s → (Means (trie_kind session.trie) (trie_bytes session.trie) (map_of s.built) → answer ≡ look (trie_kind session.trie) (map_of s.built) key) → answer ≡ look s.kind (map_of s.built) key
+pub answer_is : (session : Session) (s : State) (key : List ℕ) (answer : Option ℕ) → HasState session s → (Means (trie_kind session.trie) (trie_bytes session.trie) (map_of s.built) → answer ≡ look (trie_kind session.trie) (map_of s.built) key) → answer ≡ look s.kind (map_of s.built) key
 answer_is session s key answer h is =
     is (subst (λ kind. Means kind (trie_bytes session.trie) (map_of s.built)) (sym h.kind) (subst (λ text. Means s.kind text (map_of s.built)) (sym h.text) h.means)) ∙ ap (λ kind. look kind (map_of s.built) key) h.kind
 
 -- what the text of the trie that is held lists
-abbrev pub held_pairs : {session : Session} {s : State} → Holds session s → Pairs
+abbrev pub held_pairs : {session : Session} {s : State} → HasState session s → Pairs
 held_pairs h = h.means.pairs
 
-pub held_lists : (session : Session) (s : State) (h : Holds session s) → Lists (trie_kind session.trie) (trie_bytes session.trie) (held_pairs h)
+pub held_lists : (session : Session) (s : State) (h : HasState session s) → Lists (trie_kind session.trie) (trie_bytes session.trie) (held_pairs h)
 held_lists session s h =
     subst (λ kind. Lists kind (trie_bytes session.trie) (held_pairs h)) (sym h.kind) (subst (λ text. Lists s.kind text (held_pairs h)) (sym h.text) h.means.lists)
 
-pub performed_listed : (session : Session) (s : State) (old new : List ℕ) → Holds session s → ((pairs : Pairs) → Lists (trie_kind session.trie) (trie_bytes session.trie) pairs → new ≡ old ++ list_lines (in_order (trie_choice session.trie) pairs)) → Performed list (Some s) (Some session) old new 0
+pub performed_listed : (session : Session) (s : State) (old new : List ℕ) → HasState session s → ((pairs : Pairs) → Lists (trie_kind session.trie) (trie_bytes session.trie) pairs → new ≡ old ++ list_lines (in_order (trie_choice session.trie) pairs)) → Performed list (Some s) (Some session) old new 0
 performed_listed session s old new h output = record {
   printed = list_lines (in_order s.choice (held_pairs h));
   state = Some s;
@@ -115,7 +115,7 @@ performed_listed session s old new h output = record {
   output = output (held_pairs h) (held_lists session s h) ∙ ap (λ choice. old ++ list_lines (in_order choice (held_pairs h))) h.of;
 }
 
-pub performed_walked : (session : Session) (s : State) (ops : List CursorOp) (answers : List CursorAnswer) (old new : List ℕ) → Holds session s → trie_choice session.trie ≢ Auto → IsWalk (trie_kind session.trie) (trie_bytes session.trie) ops answers → new ≡ old ++ walk_line (answers_of answers) → Performed (walk (ops_of ops)) (Some s) (Some session) old new 0
+pub performed_walked : (session : Session) (s : State) (ops : List CursorOp) (answers : List CursorAnswer) (old new : List ℕ) → HasState session s → trie_choice session.trie ≢ Auto → IsWalk (trie_kind session.trie) (trie_bytes session.trie) ops answers → new ≡ old ++ walk_line (answers_of answers) → Performed (walk (ops_of ops)) (Some s) (Some session) old new 0
 performed_walked session s ops answers old new h named is output = record {
   printed = walk_line (run s.kind (ops_of ops) (held_pairs h));
   state = Some s;
@@ -135,11 +135,11 @@ can_do line (walk ops) other is reads s can =
     let same = walk_alone line is.0 is.1 other reads in subst (CanDo (Some s)) same.1 can
 
 -- a line that a session acts on, by what it does
-acted : (line : List ℕ) (command : Command) → IsCommand line command → (before after : Session) (old new : List ℕ) (least : ℕ) → ((s : State) → Holds before s → Performed command (Some s) (Some after) old new least) → AfterCommand line (Some before) (Some after) old new least
+acted : (line : List ℕ) (command : Command) → IsCommand line command → (before after : Session) (old new : List ℕ) (least : ℕ) → ((s : State) → HasState before s → Performed command (Some s) (Some after) old new least) → AfterCommand line (Some before) (Some after) old new least
 acted line command is before after old new least done None h = absurd h
 acted line command is before after old new least done (Some s) h = (command, is, done s h)
 
-not_done : (line : List ℕ) (command : Command) → IsCommand line command → (before : Session) → ((s : State) → Holds before s → CanDo (Some s) command → ⊥) → (held : Option State) → HoldsSome (Some before) held → (other : Command) → IsCommand line other → CanDo held other → ⊥
+not_done : (line : List ℕ) (command : Command) → IsCommand line command → (before : Session) → ((s : State) → HasState before s → CanDo (Some s) command → ⊥) → (held : Option State) → HasStateIfAny (Some before) held → (other : Command) → IsCommand line other → CanDo held other → ⊥
 not_done line command is before none None h = absurd h
 not_done line command is before none (Some s) h = λ other reads can. none s h (can_do line command other is reads s can)
 

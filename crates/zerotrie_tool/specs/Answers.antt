@@ -73,12 +73,12 @@ pub data Does : Option State → Command → List ℕ → ℕ → Option State �
 
 -- Lines, the first of them with number n, are answered by an output and a status. An empty line does nothing, and a
 -- line that is no command, or none that can be done, ends the run.
-pub data Run : ℕ → Option State → List (List ℕ) → List ℕ → ℕ → Type 0 where
-  end : {n : ℕ} {held : Option State} → Run n held [] [] 0
-  empty : {n status : ℕ} {held : Option State} {lines : List (List ℕ)} {output : List ℕ} → Run (n + 1) held lines output status → Run n held ([] ∷ lines) output status
-  does : {n least status : ℕ} {held after : Option State} {line : List ℕ} {command : Command} {lines : List (List ℕ)} {printed output : List ℕ} → IsCommand line command → Does held command printed least after → Run (n + 1) after lines output status → Run n held (line ∷ lines) (printed ++ output) (max least status)
-  bad : {n : ℕ} {held : Option State} {line : List ℕ} {lines : List (List ℕ)} → line ≢ [] → ((command : Command) → IsCommand line command → CanDo held command → ⊥) → Run n held (line ∷ lines) (bad_line n) 2
+pub data AnswersLines : ℕ → Option State → List (List ℕ) → List ℕ → ℕ → Type 0 where
+  end : {n : ℕ} {held : Option State} → AnswersLines n held [] [] 0
+  empty : {n status : ℕ} {held : Option State} {lines : List (List ℕ)} {output : List ℕ} → AnswersLines (n + 1) held lines output status → AnswersLines n held ([] ∷ lines) output status
+  does : {n least status : ℕ} {held after : Option State} {line : List ℕ} {command : Command} {lines : List (List ℕ)} {printed output : List ℕ} → IsCommand line command → Does held command printed least after → AnswersLines (n + 1) after lines output status → AnswersLines n held (line ∷ lines) (printed ++ output) (max least status)
+  bad : {n : ℕ} {held : Option State} {line : List ℕ} {lines : List (List ℕ)} → line ≢ [] → ((command : Command) → IsCommand line command → CanDo held command → ⊥) → AnswersLines n held (line ∷ lines) (bad_line n) 2
 
 -- The output and the status answer the input.
 abbrev pub Answers : List ℕ → List ℕ → ℕ → Type 0
-Answers input output status = Run 1 None (lines_of input) output status
+Answers input output status = AnswersLines 1 None (lines_of input) output status

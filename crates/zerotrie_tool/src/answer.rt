@@ -8,7 +8,7 @@ ghost use Rattle.zerotrie.specs.Walks.{ops_of};
 ghost use Rattle.zerotrie_tool.specs.Answers.{Answers, State, without_trie, with_trie};
 ghost use Rattle.zerotrie_tool.specs.answer.Parsing.{meaning};
 ghost use Rattle.zerotrie_tool.specs.answer.Tries.{trie_bytes};
-ghost use Rattle.zerotrie_tool.specs.answer.Sessions.{Holds, AfterLine, AfterRequest};
+ghost use Rattle.zerotrie_tool.specs.answer.Sessions.{HasState, AfterLine, AfterRequest};
 
 use crate::bad_line::BadLine;
 use crate::command::{Choice, Request, parse};
@@ -43,7 +43,7 @@ struct Session<'a> {
 
 impl<'a> Session<'a> {
     fn new(alloc: Global, choice: Choice) -> Self
-        ensures { Holds result (without_trie choice []) }
+        ensures { HasState result (without_trie choice []) }
     {
         Session {
             choice,
@@ -53,8 +53,8 @@ impl<'a> Session<'a> {
     }
 
     fn add(&mut self, value: usize, key: &'a [u8]) -> Result<(), AllocError>
-        ensures { OnOk result ((s : State) → Holds self.old s →
-            Holds self.new (record s { pairs = s.pairs ++ (key.now, value) ∷ [] })) }
+        ensures { OnOk result ((s : State) → HasState self.old s →
+            HasState self.new (record s { pairs = s.pairs ++ (key.now, value) ∷ [] })) }
     {
         self.pairs.push((key, value))?;
         Ok(())
@@ -62,12 +62,12 @@ impl<'a> Session<'a> {
 
     /// Builds the trie. After an error it is empty.
     fn build(&mut self, alloc: Global) -> Result<(), ZeroTrieBuildError>
-        ensures answer { (s : State) → Holds self.old s → let kind = kind_of s.choice s.pairs in
+        ensures answer { (s : State) → HasState self.old s → let kind = kind_of s.choice s.pairs in
             IsBuild any_order kind (λ _. trie_bytes self.new.trie) s.pairs result }
-        ensures built { OnOk result ((s : State) → Holds self.old s →
-            Holds self.new (with_trie s.choice s.pairs (trie_bytes self.new.trie))) }
-        ensures emptied { OnErr result ((s : State) → Holds self.old s →
-            Holds self.new (without_trie s.choice s.pairs)) }
+        ensures built { OnOk result ((s : State) → HasState self.old s →
+            HasState self.new (with_trie s.choice s.pairs (trie_bytes self.new.trie))) }
+        ensures emptied { OnErr result ((s : State) → HasState self.old s →
+            HasState self.new (without_trie s.choice s.pairs)) }
     {
         self.trie = Trie::empty(alloc, self.choice);
         self.trie = Trie::build(alloc, self.choice, self.pairs.as_slice())?;

@@ -6,13 +6,13 @@ use Rattle.zerotrie_core.specs.Maps.{Map, look}
 use Rattle.zerotrie_core.specs.Texts.{Means}
 use Rattle.zerotrie_core.specs.Causes.{ZeroTrieBuildError, OutOfMemory}
 use Rattle.zerotrie.specs.dense.Rows.{Rows, entry}
-use Rattle.zerotrie.specs.dense.Windows.{held, fullest}
+use Rattle.zerotrie.specs.dense.Windows.{count_within, fullest}
 use Rattle.zerotrie.specs.dense.Records.{Parts, record_of, asked}
-use Rattle.zerotrie.specs.dense.Tables.{IsTable, DenseCause}
+use Rattle.zerotrie.specs.dense.Tables.{IsDenseTable, DenseCause}
 
 -- no 65,535 consecutive numbers hold more of the values than the window of the offset
 abbrev pub FullestIsBest : Type 0
-FullestIsBest = (values : List ℕ) (start : ℕ) → held values start ≤ held values (fullest values)
+FullestIsBest = (values : List ℕ) (start : ℕ) → count_within values start ≤ count_within values (fullest values)
 
 -- the number in a cell of a matrix's bytes, if there is one
 abbrev pub cell_at : List ℕ → ℕ → Option ℕ
@@ -51,14 +51,14 @@ abbrev pub by_row : Parts → Map → Map → List ℕ → List ℕ → Option �
 by_row t primary columns prefix suffix None = look simple_ascii primary (prefix ++ (t.delimiter ∷ suffix))
 by_row t primary columns prefix suffix (Some row) = in_row t primary columns prefix suffix row
 
--- none where a text holds the delimiter (or is not ASCII: such a text is no key); else by the prefix's row number
+-- none if a text holds the delimiter (or is not ASCII: such a text is no key); else by the prefix's row number
 abbrev pub answer : Parts → Map → Map → List ℕ → List ℕ → Option ℕ
 answer t primary columns prefix suffix = cond (list_any (λ b. b == t.delimiter) (prefix ++ suffix)) None
     (by_row t primary columns prefix suffix (look simple_ascii primary prefix))
 
 -- what `get` promises: on tries that mean maps their answer, and on the table of rows the entry, for every two texts
 abbrev pub Answers : Parts → List ℕ → List ℕ → Option ℕ → Type 0
-Answers t prefix suffix result = (delimiter : ℕ) (rows : Rows) → IsTable delimiter rows t → result ≡ entry rows prefix suffix
+Answers t prefix suffix result = (delimiter : ℕ) (rows : Rows) → IsDenseTable delimiter rows t → result ≡ entry rows prefix suffix
 
 abbrev pub AnswersByMaps : Parts → List ℕ → List ℕ → Option ℕ → Type 0
 AnswersByMaps t prefix suffix result = (primary columns : Map) → Means simple_ascii t.primary primary → Means simple_ascii t.suffixes columns
@@ -66,14 +66,14 @@ AnswersByMaps t prefix suffix result = (primary columns : Map) → Means simple_
 
 -- by which the second gives the first
 abbrev pub AnswerIsEntry : Type 0
-AnswerIsEntry = (delimiter : ℕ) (rows : Rows) (t : Parts) (primary columns : Map) → IsTable delimiter rows t
+AnswerIsEntry = (delimiter : ℕ) (rows : Rows) (t : Parts) (primary columns : Map) → IsDenseTable delimiter rows t
     → Means simple_ascii t.primary primary → Means simple_ascii t.suffixes columns
     → (prefix suffix : List ℕ) → answer t primary columns prefix suffix ≡ entry rows prefix suffix
 
 -- what a dense build promises
 abbrev pub IsDenseBuild : {B : Type 0} → (B → Parts) → ℕ → Rows → Result B ZeroTrieBuildError → Type 0
 IsDenseBuild parts delimiter rows result =
-    MatchResult result (λ t. IsTable delimiter rows (parts t)) (λ e. (e ≡ OutOfMemory) ⊎ DenseCause delimiter rows e)
+    MatchResult result (λ t. IsDenseTable delimiter rows (parts t)) (λ e. (e ≡ OutOfMemory) ⊎ DenseCause delimiter rows e)
 
 -- parts that a record can hold
 pub record IsWhole (t : Parts) : Type 0 where

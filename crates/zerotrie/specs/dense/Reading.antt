@@ -10,7 +10,7 @@ abbrev pub beside_value : Pairs → List ℕ → Option ℕ
 beside_value pairs [] = None
 beside_value pairs (b ∷ key) = value_at simple_ascii pairs (b ∷ key)
 
--- what a dense row of this number answers, of which the primary has these pairs behind prefix and delimiter
+-- what a dense row of this number answers, of which the primary has these pairs after prefix and delimiter
 abbrev pub row_answer : Parts → Pairs → Map → List ℕ → ℕ → Option ℕ
 row_answer t pairs columns suffix row = or_else (beside_value pairs suffix)
     (in_matrix t row (value_at simple_ascii pairs []) (look simple_ascii columns suffix))

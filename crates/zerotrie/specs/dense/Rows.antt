@@ -10,7 +10,7 @@ use Rattle.zerotrie_core.specs.Maps.{Pairs, Ascends, value_at, same_key}
 abbrev pub Rows : Type 0
 Rows = List (List ℕ × Pairs)
 
--- the row of a prefix, empty where there is none
+-- the row of a prefix, empty if there is none
 abbrev pub row_of : Rows → List ℕ → Pairs
 row_of [] prefix = []
 row_of (row ∷ rows) prefix = if same_key simple_ascii row.0 prefix then row.1 else row_of rows prefix

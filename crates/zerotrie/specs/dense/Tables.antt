@@ -29,7 +29,7 @@ abbrev pub HoldsDelimiter : ℕ → Rows → Type 0
 HoldsDelimiter delimiter rows = Any (λ text. Contains text delimiter) (texts rows)
 
 -- The parts are the table of these rows, which are in order and in range, and both tries have a text.
-pub record IsTable (delimiter : ℕ) (rows : Rows) (parts : Parts) : Type 0 where
+pub record IsDenseTable (delimiter : ℕ) (rows : Rows) (parts : Parts) : Type 0 where
   pub in_order : IsInOrder rows
   pub values : All (λ row. All (λ e. e.1 < 2 ^ 64) row.1) rows
   pub ascii : IsNonAscii delimiter rows → ⊥

@@ -4,7 +4,9 @@ use Rattle.std.specs.Borrow.{Bor}
 use Rattle.std.specs.BTreeMap.{BTreeMap}
 use Rattle.zerotrie_core.specs.Maps.{Pairs}
 use Rattle.zerotrie.specs.dense.Rows.{Rows}
+use Rattle.zerotrie.specs.dense.Layout.{LaidRow}
 use Rattle.zerotrie.specs.dense.Records.{Parts}
+use Rattle.zerotrie.specs.declared.dense.rows.Row.{Row}
 use Rattle.zerotrie.specs.declared.dense.table.ZeroAsciiDenseSparse2dTrieBorrowed.{ZeroAsciiDenseSparse2dTrieBorrowed}
 use Rattle.zerotrie.specs.declared.dense.table.ZeroAsciiDenseSparse2dTrieOwned.{ZeroAsciiDenseSparse2dTrieOwned}
 
@@ -35,3 +37,7 @@ pairs_in es = map {B = List ℕ × ℕ} (λ e. (e.0.now, e.1)) es
 -- the rows of a map of maps, of its entries
 abbrev pub rows_in : List (Bor (List ℕ) × BTreeMap (Bor (List ℕ)) ℕ) → Rows
 rows_in es = map {B = List ℕ × Pairs} (λ e. (e.0.now, pairs_in e.1.entries)) es
+
+-- how a row in hand is kept
+abbrev pub row_shown : Row → LaidRow
+row_shown r = record { prefix = r.prefix.now; pairs = pairs_in r.entries.now.entries; offset = r.offset; dense = r.is_dense }

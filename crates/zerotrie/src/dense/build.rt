@@ -5,13 +5,13 @@ ghost use Rattle.zerotrie_core.specs.Causes.{OutOfMemory, NonAsciiError, Capacit
 ghost use Rattle.zerotrie_core.specs.Items.{pairs_of, keyed};
 ghost use Rattle.zerotrie_core.specs.Maps.{Ascends, value_at};
 ghost use Rattle.zerotrie_core.specs.Kind.{simple_ascii};
-ghost use Rattle.zerotrie_core.specs.Routes.{any_order, IsBuild};
-ghost use Rattle.zerotrie.specs.dense.Laid.{AllAscend, AllInRange, ArePlain, AreApart, AreInRange, HasFault, IsFault, IsPlain, beside_in, cells_in, cells_of, dense_cells, numbers_in, offsets_in, others_in, shown, under, within};
+ghost use Rattle.zerotrie.specs.dense.Layout.{beside, row_cells, dense_cells, numbers, row_offsets, others, under, laid_pairs, cell_of};
+ghost use Rattle.zerotrie.specs.dense.RowFaults.{AllAscend, AllInRange, AreAsciiTexts, AreApart, AreInRange, HasTextFault, IsTextFault, IsAsciiText};
+ghost use Rattle.zerotrie.specs.dense.Views.{row_shown, owned_parts, pairs_in, rows_in};
+ghost use Rattle.zerotrie.specs.dense.Windows.{within};
 ghost use Rattle.zerotrie.specs.dense.Laws.{IsDenseBuild};
-ghost use Rattle.zerotrie.specs.dense.Layout.{cell_of};
 ghost use Rattle.zerotrie.specs.dense.Records.{matrix_bytes};
 ghost use Rattle.zerotrie.specs.dense.Rows.{keys, placed, put_texts, suffixes, texts};
-ghost use Rattle.zerotrie.specs.dense.Views.{owned_parts, pairs_in, rows_in};
 
 use crate::dense::rows::{Row, rows_of};
 use crate::dense::table::ZeroAsciiDenseSparse2dTrieOwned;
@@ -26,9 +26,9 @@ type Pair = (Vec<u8>, usize);
 
 /// Tests that a text is ASCII and does not hold the delimiter.
 fn check_text(text: &str, delimiter: u8) -> Result<(), ZeroTrieBuildError>
-    ensures plain { OnOk result (IsPlain text.now) }
+    ensures plain { OnOk result (IsAsciiText text.now) }
     ensures apart { OnOk result (Contains text.now delimiter → ⊥) }
-    ensures fault { IfErr result (IsFault delimiter text.now) }
+    ensures fault { IfErr result (IsTextFault delimiter text.now) }
 {
     if !text.is_ascii() {
         return Err(ZeroTrieBuildError::NonAsciiError);
@@ -46,10 +46,10 @@ fn fits_eight_bytes(value: usize)
 
 /// Tests the suffixes of a row.
 fn check_row(entries: &BTreeMap<&str, usize>, delimiter: u8) -> Result<(), ZeroTrieBuildError>
-    ensures plain { OnOk result (ArePlain (keys (pairs_in entries.now.entries))) }
+    ensures plain { OnOk result (AreAsciiTexts (keys (pairs_in entries.now.entries))) }
     ensures apart { OnOk result (AreApart delimiter (keys (pairs_in entries.now.entries))) }
     ensures values { OnOk result (AreInRange (pairs_in entries.now.entries)) }
-    ensures fault { IfErr result (HasFault delimiter (keys (pairs_in entries.now.entries))) }
+    ensures fault { IfErr result (HasTextFault delimiter (keys (pairs_in entries.now.entries))) }
 {
     for (suffix, value) in entries {
         fits_eight_bytes(*value);
@@ -65,11 +65,11 @@ fn check_texts(
     delimiter: u8,
 ) -> Result<(), ZeroTrieBuildError>
     ensures delimiter { OnOk result (delimiter < 128) }
-    ensures plain { OnOk result (ArePlain (texts (rows_in entries.now.entries))) }
+    ensures plain { OnOk result (AreAsciiTexts (texts (rows_in entries.now.entries))) }
     ensures apart { OnOk result (AreApart delimiter (texts (rows_in entries.now.entries))) }
     ensures values { OnOk result (AllInRange (rows_in entries.now.entries)) }
     ensures fault { IfErr result (λ e. ((e ≡ NonAsciiError) × (128 ≤ delimiter))
-        ⊎ HasFault delimiter (texts (rows_in entries.now.entries)) e) }
+        ⊎ HasTextFault delimiter (texts (rows_in entries.now.entries)) e) }
 {
     if !delimiter.is_ascii() {
         return Err(ZeroTrieBuildError::NonAsciiError);
@@ -146,7 +146,7 @@ fn push_numbers(
     pairs: &mut Vec<Pair>,
 ) -> Result<(), ZeroTrieBuildError>
     ensures pushed { OnOk result (keyed (λ k. k.items) pairs.new.items
-        ≡ keyed (λ k. k.items) pairs.old.items ++ numbers_in 0 (map shown rows.now)) }
+        ≡ keyed (λ k. k.items) pairs.old.items ++ numbers 0 (map row_shown rows.now)) }
     ensures refused { IfErr result (λ e. e ≡ OutOfMemory) }
 {
     let mut number = 0;
@@ -167,7 +167,7 @@ fn push_offsets(
     pairs: &mut Vec<Pair>,
 ) -> Result<(), ZeroTrieBuildError>
     ensures pushed { OnOk result (keyed (λ k. k.items) pairs.new.items
-        ≡ keyed (λ k. k.items) pairs.old.items ++ offsets_in delimiter (map shown rows.now)) }
+        ≡ keyed (λ k. k.items) pairs.old.items ++ row_offsets delimiter (map row_shown rows.now)) }
     ensures refused { IfErr result (λ e. e ≡ OutOfMemory) }
 {
     for row in rows {
@@ -187,7 +187,7 @@ fn push_others_of(
 ) -> Result<(), ZeroTrieBuildError>
     ensures pushed { OnOk result (keyed (λ k. k.items) pairs.new.items
         ≡ keyed (λ k. k.items) pairs.old.items
-        ++ under row.now.prefix.now delimiter (beside_in (shown row.now))) }
+        ++ under row.now.prefix.now delimiter (beside (row_shown row.now))) }
     ensures refused { IfErr result (λ e. e ≡ OutOfMemory) }
 {
     for (suffix, value) in row.entries {
@@ -206,7 +206,7 @@ fn push_others(
     pairs: &mut Vec<Pair>,
 ) -> Result<(), ZeroTrieBuildError>
     ensures pushed { OnOk result (keyed (λ k. k.items) pairs.new.items
-        ≡ keyed (λ k. k.items) pairs.old.items ++ others_in delimiter (map shown rows.now)) }
+        ≡ keyed (λ k. k.items) pairs.old.items ++ others delimiter (map row_shown rows.now)) }
     ensures refused { IfErr result (λ e. e ≡ OutOfMemory) }
 {
     for row in rows {
@@ -222,9 +222,7 @@ fn primary_of(
     delimiter: u8,
 ) -> Result<Vec<Pair>, ZeroTrieBuildError>
     ensures pairs { IfOk result (λ pairs.
-        keyed (λ k. k.items) pairs.items ≡ numbers_in 0 (map shown rows.now)
-        ++ (offsets_in delimiter (map shown rows.now)
-        ++ others_in delimiter (map shown rows.now))) }
+        keyed (λ k. k.items) pairs.items ≡ laid_pairs delimiter (map row_shown rows.now)) }
     ensures refused { IfErr result (λ e. e ≡ OutOfMemory) }
 {
     let mut pairs = Vec::new(alloc);
@@ -234,22 +232,11 @@ fn primary_of(
     Ok(pairs)
 }
 
-/// The primary trie, of its pairs in any order.
-fn primary_trie(
-    alloc: Global,
-    pairs: Vec<Pair>,
-) -> Result<ZeroTrieSimpleAscii<Vec<u8>>, ZeroTrieBuildError>
-    ensures { IsBuild any_order simple_ascii (λ trie. trie.store.items)
-        (keyed (λ k. k.items) pairs.items) result }
-{
-    ZeroTrieSimpleAscii::try_from_iter(alloc, pairs)
-}
-
 /// The cell of a suffix: the value in the row's window less the row's offset, or 65,535.
 fn cell_in(row: &Row<'_, '_>, suffix: &str) -> u16
-    requires { Ascends (shown row.now).pairs }
+    requires { Ascends (row_shown row.now).pairs }
     ensures { result ≡ cell_of row.now.offset
-        (value_at simple_ascii (within row.now.offset (shown row.now).pairs) suffix.now) }
+        (value_at simple_ascii (within row.now.offset (row_shown row.now).pairs) suffix.now) }
 {
     match row.entries.get(suffix) {
         Some(value) => {
@@ -269,33 +256,16 @@ fn push_cells(
     suffixes: &BTreeSet<&str>,
     matrix: &mut Vec<u8>,
 ) -> Result<(), AllocError>
-    requires { Ascends (shown row.now).pairs }
+    requires { Ascends (row_shown row.now).pairs }
     ensures { OnOk result (matrix.new.items
         ≡ matrix.old.items ++ matrix_bytes
-        (cells_in (map (λ s. s.now) suffixes.now.keys) (shown row.now))) }
+        (row_cells (map (λ s. s.now) suffixes.now.keys) (row_shown row.now))) }
 {
     for suffix in suffixes {
         let cell = cell_in(row, suffix);
         matrix.extend_from_slice(&cell.to_le_bytes())?;
     }
     Ok(())
-}
-
-/// Adds the cells of a row if it is dense.
-fn push_dense_cells(
-    row: &Row<'_, '_>,
-    suffixes: &BTreeSet<&str>,
-    matrix: &mut Vec<u8>,
-) -> Result<(), AllocError>
-    requires { Ascends (shown row.now).pairs }
-    ensures { OnOk result (matrix.new.items
-        ≡ matrix.old.items ++ matrix_bytes
-        (dense_cells (map (λ s. s.now) suffixes.now.keys) (shown row.now))) }
-{
-    if !row.is_dense {
-        return Ok(());
-    }
-    push_cells(row, suffixes, matrix)
 }
 
 /// The cells of the dense rows.
@@ -305,13 +275,15 @@ fn matrix_of(
     rows: &[Row<'_, '_>],
     suffixes: &BTreeSet<&str>,
 ) -> Result<Vec<u8>, AllocError>
-    requires { AllAscend (map shown rows.now) }
+    requires { AllAscend (map row_shown rows.now) }
     ensures { IfOk result (λ matrix. matrix.items
-        ≡ matrix_bytes (cells_of (map (λ s. s.now) suffixes.now.keys) (map shown rows.now))) }
+        ≡ matrix_bytes (dense_cells (map (λ s. s.now) suffixes.now.keys) (map row_shown rows.now))) }
 {
     let mut matrix = Vec::new(alloc);
     for row in rows {
-        push_dense_cells(row, suffixes, &mut matrix)?;
+        if row.is_dense {
+            push_cells(row, suffixes, &mut matrix)?;
+        }
     }
     Ok(matrix)
 }
@@ -355,7 +327,7 @@ impl ZeroAsciiDenseSparse2dTrieOwned {
         let rows = rows_of(alloc, entries, columns.len())?;
         let pairs = primary_of(alloc, rows.as_slice(), delimiter)?;
         Ok(ZeroAsciiDenseSparse2dTrieOwned {
-            primary: primary_trie(alloc, pairs)?,
+            primary: ZeroTrieSimpleAscii::try_from_iter(alloc, pairs)?,
             suffixes: ZeroTrieSimpleAscii::try_from_sorted_slice(alloc, columns.as_slice())?,
             matrix: matrix_of(alloc, rows.as_slice(), &suffixes)?,
             suffix_count,

@@ -1,12 +1,11 @@
 //! Look-ups in a dense table.
 
-ghost use Rattle.std.specs.Prelude.{◌≡◌, ◌==◌, ◌+◌, ◌*◌, Some};
-ghost use Rattle.std.specs.List.{list_any};
+ghost use Rattle.std.specs.Prelude.{◌≡◌};
 ghost use Rattle.zerotrie_core.specs.Kind.{simple_ascii};
 ghost use Rattle.zerotrie_core.specs.Machine.{after_steps};
 ghost use Rattle.zerotrie_core.specs.Maps.{Pairs, Map, value_at};
 ghost use Rattle.zerotrie_core.specs.Texts.{Lists, Means};
-ghost use Rattle.zerotrie.specs.dense.Laws.{Answers, AnswersByMaps, cell_at, in_matrix};
+ghost use Rattle.zerotrie.specs.dense.Laws.{Answers, AnswersByMaps, in_matrix};
 ghost use Rattle.zerotrie.specs.dense.Reading.{row_answer, beside_value};
 ghost use Rattle.zerotrie.specs.dense.Views.{parts_of};
 
@@ -28,7 +27,7 @@ fn follow(trie: &mut &[u8], key: &[u8])
 }
 
 /// The value of a key in the trie that is left.
-fn value_behind(trie: &[u8], key: &[u8]) -> Option<usize>
+fn value_after(trie: &[u8], key: &[u8]) -> Option<usize>
     ensures { (pairs : Pairs) → Lists simple_ascii trie.now pairs
         → result ≡ value_at simple_ascii pairs key.now }
 {
@@ -45,14 +44,7 @@ fn value_beside(trie: &[u8], key: &[u8]) -> Option<usize>
     if key.is_empty() {
         return None;
     }
-    value_behind(trie, key)
-}
-
-/// Whether a text holds the byte.
-fn holds(text: &[u8], byte: u8) -> bool
-    ensures { result ≡ list_any (λ b. b == byte) text.now }
-{
-    text.contains(&byte)
+    value_after(trie, key)
 }
 
 impl<'a> ZeroAsciiDenseSparse2dTrieBorrowed<'a> {
@@ -106,7 +98,7 @@ impl<'a> ZeroAsciiDenseSparse2dTrieBorrowed<'a> {
     fn answer(&self, prefix: &[u8], suffix: &[u8]) -> Option<usize>
         ensures { AnswersByMaps (parts_of self.now) prefix.now suffix.now result }
     {
-        if holds(prefix, self.delimiter) || holds(suffix, self.delimiter) {
+        if prefix.contains(&self.delimiter) || suffix.contains(&self.delimiter) {
             return None;
         }
         let mut trie = self.primary.as_bytes();
@@ -115,11 +107,11 @@ impl<'a> ZeroAsciiDenseSparse2dTrieBorrowed<'a> {
         let _edge = step::<Simple>(&mut trie, self.delimiter);
         match row {
             Some(row) => self.answer_in_row(trie, row, suffix),
-            None => value_behind(trie, suffix),
+            None => value_after(trie, suffix),
         }
     }
 
-    /// What the dense row of a number answers, where `trie` is what the primary trie has behind prefix and
+    /// What the dense row of a number answers, if `trie` is what the primary trie has after prefix and
     /// delimiter.
     fn answer_in_row(&self, trie: &[u8], row: usize, suffix: &[u8]) -> Option<usize>
         ensures { (pairs : Pairs) (columns : Map) → Lists simple_ascii trie.now pairs
@@ -138,31 +130,18 @@ impl<'a> ZeroAsciiDenseSparse2dTrieBorrowed<'a> {
     fn in_matrix(&self, row: usize, offset: Option<usize>, column: Option<usize>) -> Option<usize>
         ensures { result ≡ in_matrix (parts_of self.now) row offset column }
     {
-        self.cell_value(row, offset?, column?)
-    }
-
-    /// The value in the matrix of a row with this offset and of a column.
-    fn cell_value(&self, row: usize, offset: usize, column: usize) -> Option<usize>
-        ensures { result ≡ in_matrix (parts_of self.now) row (Some offset) (Some column) }
-    {
-        let cell = self.cell(row, column)?;
-        if cell == u16::MAX {
-            return None;
-        }
-        offset.checked_add(usize::from(cell))
-    }
-
-    /// The cell of a row and a column, if there is one.
-    fn cell(&self, row: usize, column: usize) -> Option<u16>
-        ensures { result ≡ cell_at (parts_of self.now).matrix
-            (row * (parts_of self.now).suffix_count + column) }
-    {
+        let offset = offset?;
+        let column = column?;
         let index = row
             .checked_mul(usize::from(self.suffix_count))?
             .checked_add(column)?;
         if index >= self.matrix.len() / 2 {
             return None;
         }
-        Some(u16::from_le_bytes([self.matrix[2 * index], self.matrix[2 * index + 1]]))
+        let cell = u16::from_le_bytes([self.matrix[2 * index], self.matrix[2 * index + 1]]);
+        if cell == u16::MAX {
+            return None;
+        }
+        offset.checked_add(usize::from(cell))
     }
 }

@@ -7,11 +7,11 @@ ghost use Rattle.zerotrie_core.specs.Items.{pairs_of};
 ghost use Rattle.zerotrie_core.specs.Kind.{simple_ascii};
 ghost use Rattle.zerotrie_core.specs.Maps.{Ascends, value_at};
 ghost use Rattle.zerotrie_core.specs.Routes.{ascending, IsLength};
-ghost use Rattle.zerotrie.specs.dense.Laid.{ArePlain, IsRowRefusal, SomeWideWindow, laid, shown, within, without};
-ghost use Rattle.zerotrie.specs.dense.Layout.{is_dense};
+ghost use Rattle.zerotrie.specs.dense.Layout.{laid, is_dense};
+ghost use Rattle.zerotrie.specs.dense.RowFaults.{AreAsciiTexts, IsRowRefusal, SomeWideWindow};
+ghost use Rattle.zerotrie.specs.dense.Views.{row_shown, pairs_in, rows_in};
+ghost use Rattle.zerotrie.specs.dense.Windows.{within, without, offset, values};
 ghost use Rattle.zerotrie.specs.dense.Rows.{IsInOrder, keys, texts};
-ghost use Rattle.zerotrie.specs.dense.Views.{pairs_in, rows_in};
-ghost use Rattle.zerotrie.specs.dense.Windows.{offset, values};
 
 use crate::dense::window::{fullest_in, is_in_window};
 use std::alloc::{AllocError, Global};
@@ -100,7 +100,7 @@ fn window_len(
 ) -> Result<usize, ZeroTrieBuildError>
     requires start { start ≡ offset (pairs_in entries.now.entries) }
     requires ascends { Ascends (pairs_in entries.now.entries) }
-    requires plain { ArePlain (keys (pairs_in entries.now.entries)) }
+    requires plain { AreAsciiTexts (keys (pairs_in entries.now.entries)) }
     ensures len { IfOk result (λ len.
         len ≡ size_of simple_ascii (within start (pairs_in entries.now.entries))) }
     ensures refused { IfErr result (IsRowRefusal (pairs_in entries.now.entries)) }
@@ -120,7 +120,7 @@ fn is_dense_row(
 ) -> Result<bool, ZeroTrieBuildError>
     requires start { start ≡ offset (pairs_in entries.now.entries) }
     requires ascends { Ascends (pairs_in entries.now.entries) }
-    requires plain { ArePlain (keys (pairs_in entries.now.entries)) }
+    requires plain { AreAsciiTexts (keys (pairs_in entries.now.entries)) }
     requires few { columns ≤ 65535 }
     ensures dense { IfOk result (λ dense. dense ≡ is_dense columns (pairs_in entries.now.entries)) }
     ensures refused { IfErr result (IsRowRefusal (pairs_in entries.now.entries)) }
@@ -136,10 +136,10 @@ fn row_of<'m, 's>(
     entries: &'m BTreeMap<&'s str, usize>,
     columns: usize,
 ) -> Result<Row<'m, 's>, ZeroTrieBuildError>
-    requires plain { ArePlain (keys (pairs_in entries.now.entries)) }
+    requires plain { AreAsciiTexts (keys (pairs_in entries.now.entries)) }
     requires few { columns ≤ 65535 }
     ensures row { IfOk result (λ row.
-        shown row ≡ laid columns (prefix.now, pairs_in entries.now.entries)) }
+        row_shown row ≡ laid columns (prefix.now, pairs_in entries.now.entries)) }
     ensures ascends { OnOk result (Ascends (pairs_in entries.now.entries)) }
     ensures refused { IfErr result (IsRowRefusal (pairs_in entries.now.entries)) }
 {
@@ -160,10 +160,10 @@ pub(crate) fn rows_of<'m, 's>(
     entries: &'m BTreeMap<&str, BTreeMap<&'s str, usize>>,
     columns: usize,
 ) -> Result<Vec<Row<'m, 's>>, ZeroTrieBuildError>
-    requires plain { ArePlain (texts (rows_in entries.now.entries)) }
+    requires plain { AreAsciiTexts (texts (rows_in entries.now.entries)) }
     requires few { columns ≤ 65535 }
     ensures rows { IfOk result (λ rows.
-        map shown rows.items ≡ map (laid columns) (rows_in entries.now.entries)) }
+        map row_shown rows.items ≡ map (laid columns) (rows_in entries.now.entries)) }
     ensures order { OnOk result (IsInOrder (rows_in entries.now.entries)) }
     ensures refused { IfErr result (λ e. (e ≡ OutOfMemory)
         ⊎ ((e ≡ CapacityExceeded) × SomeWideWindow (rows_in entries.now.entries))) }

@@ -10,8 +10,8 @@ use Rattle.zerotrie_tool.specs.declared.answer.Session.{Session}
 use Rattle.zerotrie_tool.specs.declared.answer.Outcome.{Outcome}
 use Rattle.zerotrie_tool.specs.declared.answer.Outcome.TheVariants.{Done, Refused, Bad}
 
--- The session holds the state: its choice, its pairs, and a trie of that choice whose text means the pairs that were built.
-pub record Holds (session : Session) (s : State) : Type 0 where
+-- The session has the state: its choice, its pairs, and a trie of that choice whose text means the pairs that were built.
+pub record HasState (session : Session) (s : State) : Type 0 where
   pub choice : session.choice ≡ s.choice
   pub of : trie_choice session.trie ≡ s.choice
   pub pairs : pairs_of session.pairs.items ≡ s.pairs
@@ -20,29 +20,29 @@ pub record Holds (session : Session) (s : State) : Type 0 where
   pub means : Means s.kind s.text (map_of s.built)
 
 -- the same, before the first choice too
-abbrev pub HoldsSome : Option Session → Option State → Type 0
-HoldsSome None None = Unit {0}
-HoldsSome None (Some s) = ⊥
-HoldsSome (Some session) None = ⊥
-HoldsSome (Some session) (Some s) = Holds session s
+abbrev pub HasStateIfAny : Option Session → Option State → Type 0
+HasStateIfAny None None = Unit {0}
+HasStateIfAny None (Some s) = ⊥
+HasStateIfAny (Some session) None = ⊥
+HasStateIfAny (Some session) (Some s) = HasState session s
 
 -- A command was done, from what was held: it printed what the output has behind the old one.
 pub record Performed (command : Command) (held : Option State) (after : Option Session) (old new : List ℕ) (least : ℕ) : Type 0 where
   pub printed : List ℕ
   pub state : Option State
   pub does : Does held command printed least state
-  pub holds : HoldsSome after state
+  pub holds : HasStateIfAny after state
   pub output : new ≡ old ++ printed
 
 -- how a command ended; a bad one prints nothing
 abbrev pub AfterRequest : Command → Session → Session → List ℕ → List ℕ → Outcome → Type 0
-AfterRequest command before after old new Done = (s : State) → Holds before s → Performed command (Some s) (Some after) old new 0
-AfterRequest command before after old new Refused = (s : State) → Holds before s → Performed command (Some s) (Some after) old new 1
-AfterRequest command before after old new (Bad bad) = (new ≡ old) × ((s : State) → Holds before s → CanDo (Some s) command → ⊥)
+AfterRequest command before after old new Done = (s : State) → HasState before s → Performed command (Some s) (Some after) old new 0
+AfterRequest command before after old new Refused = (s : State) → HasState before s → Performed command (Some s) (Some after) old new 1
+AfterRequest command before after old new (Bad bad) = (new ≡ old) × ((s : State) → HasState before s → CanDo (Some s) command → ⊥)
 
 -- a line that is a command was done
 abbrev pub AfterCommand : List ℕ → Option Session → Option Session → List ℕ → List ℕ → ℕ → Type 0
-AfterCommand line before after old new least = (held : Option State) → HoldsSome before held
+AfterCommand line before after old new least = (held : Option State) → HasStateIfAny before held
     → (command : Command) × IsCommand line command × Performed command held after old new least
 
 -- how a line ended
@@ -50,4 +50,4 @@ abbrev pub AfterLine : List ℕ → Option Session → Option Session → List �
 AfterLine line before after old new Done = AfterCommand line before after old new 0
 AfterLine line before after old new Refused = AfterCommand line before after old new 1
 AfterLine line before after old new (Bad bad) = (new ≡ old)
-    × ((held : Option State) → HoldsSome before held → (command : Command) → IsCommand line command → CanDo held command → ⊥)
+    × ((held : Option State) → HasStateIfAny before held → (command : Command) → IsCommand line command → CanDo held command → ⊥)

@@ -1,11 +1,11 @@
 use Rattle.zerotrie_core.specs.Causes.{ZeroTrieBuildError}
-use Rattle.zerotrie.specs.dense.Laid.{AllInRange, ArePlain, AreApart, HasFault}
-use Rattle.zerotrie.specs.dense.Rows.{texts}
+use Rattle.zerotrie.specs.dense.RowFaults.{AllInRange, AreAsciiTexts, AreApart, HasTextFault}
 use Rattle.zerotrie.specs.dense.Views.{rows_in}
+use Rattle.zerotrie.specs.dense.Rows.{texts}
 use Rattle.zerotrie.proofs.dense.build.check_texts.Given as goal
 
 abbrev pub invariant-loop-prefix : goal.invariant-loop-prefix
-invariant-loop-prefix l = (ArePlain (texts (rows_in l.prefix-iterator)) → ArePlain (texts (rows_in l.entries.entries)))
+invariant-loop-prefix l = (AreAsciiTexts (texts (rows_in l.prefix-iterator)) → AreAsciiTexts (texts (rows_in l.entries.entries)))
     × (AreApart l.delimiter (texts (rows_in l.prefix-iterator)) → AreApart l.delimiter (texts (rows_in l.entries.entries)))
     × (AllInRange (rows_in l.prefix-iterator) → AllInRange (rows_in l.entries.entries))
-    × ((e : ZeroTrieBuildError) → HasFault l.delimiter (texts (rows_in l.prefix-iterator)) e → HasFault l.delimiter (texts (rows_in l.entries.entries)) e)
+    × ((e : ZeroTrieBuildError) → HasTextFault l.delimiter (texts (rows_in l.prefix-iterator)) e → HasTextFault l.delimiter (texts (rows_in l.entries.entries)) e)

@@ -1,8 +1,9 @@
 use Rattle.std.proofs.Common.{◌≡◌, ◌++◌, map, drop}
 use Rattle.zerotrie_core.specs.Items.{keyed}
-use Rattle.zerotrie.specs.dense.Laid.{offsets_in, shown}
+use Rattle.zerotrie.specs.dense.Layout.{row_offsets}
+use Rattle.zerotrie.specs.dense.Views.{row_shown}
 use Rattle.zerotrie.proofs.dense.build.push_offsets.Given as goal
 
 abbrev pub invariant-loop-row : goal.invariant-loop-row
-invariant-loop-row l = keyed (λ k. k.items) l.pairs.items ++ offsets_in l.delimiter (map shown (drop l.row-index l.rows))
-    ≡ keyed (λ k. k.items) l.initial.pairs.items ++ offsets_in l.delimiter (map shown l.rows)
+invariant-loop-row l = keyed (λ k. k.items) l.pairs.items ++ row_offsets l.delimiter (map row_shown (drop l.row-index l.rows))
+    ≡ keyed (λ k. k.items) l.initial.pairs.items ++ row_offsets l.delimiter (map row_shown l.rows)

@@ -17,7 +17,7 @@ returns-in-Some c primary columns mp mc =
     let row = sym (looked c.args.self.now.primary.store.now mp.pairs primary mp.lists mp.is prefix) ∙ ap (λ k. value_at simple_ascii mp.pairs k) (sym (nothing_behind prefix))
     ∙ sym (value_at-steps prefix mp.pairs []) ∙ sym took.0 ∙ c.in-Some.is in
     c.answer_in_row.ensures _ columns gone.1 mc
-    ∙ dense_answer (parts_of c.args.self.now) primary columns prefix c.args.suffix.now c.in-Some.row _ (sym c.holds.ensures ∙ c.if-holds.false) (sym c.holds-else-holds.ensures ∙ c.if-holds-2.false) row
+    ∙ dense_answer (parts_of c.args.self.now) primary columns prefix c.args.suffix.now c.in-Some.row _ (sym c.contains.ensures.value ∙ c.if-contains.false) (sym c.contains-else-contains.ensures.value ∙ c.if-contains-2.false) row
     (λ key. behind_delimiter mp.pairs prefix c.args.self.now.delimiter c.step-edge.result key gone.0 ∙ looked c.args.self.now.primary.store.now mp.pairs primary mp.lists mp.is _)
 
 pub returns-in-None : goal.returns-in-None
@@ -28,6 +28,6 @@ returns-in-None c primary columns mp mc =
     let gone = c.step-edge.ensures.meaning (without_value (after_steps simple_ascii prefix mp.pairs)) took.1 in
     let row = sym (looked c.args.self.now.primary.store.now mp.pairs primary mp.lists mp.is prefix) ∙ ap (λ k. value_at simple_ascii mp.pairs k) (sym (nothing_behind prefix))
     ∙ sym (value_at-steps prefix mp.pairs []) ∙ sym took.0 ∙ c.in-None.is in
-    c.value_behind.ensures _ gone.1
+    c.value_after.ensures _ gone.1
     ∙ behind_delimiter mp.pairs prefix c.args.self.now.delimiter c.step-edge.result c.args.suffix.now gone.0 ∙ looked c.args.self.now.primary.store.now mp.pairs primary mp.lists mp.is _
-    ∙ sparse_answer (parts_of c.args.self.now) primary columns prefix c.args.suffix.now (sym c.holds.ensures ∙ c.if-holds.false) (sym c.holds-else-holds.ensures ∙ c.if-holds-2.false) row
+    ∙ sparse_answer (parts_of c.args.self.now) primary columns prefix c.args.suffix.now (sym c.contains.ensures.value ∙ c.if-contains.false) (sym c.contains-else-contains.ensures.value ∙ c.if-contains-2.false) row
