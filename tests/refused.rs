@@ -185,6 +185,7 @@ fn builds(tally: &mut Tally, set: &Set) {
         tally.plainly(&name("JSON"), bytes, |out| calls::read_json(kind, json.as_bytes(), out));
         if kind < 4 {
             tally.plainly(&name("encoded_len"), &len.to_le_bytes(), |out| calls::length(kind, &flat, out));
+            refusals(tally, set, kind);
         }
         if kind == 0 {
             tally.plainly(&name("an array"), bytes, |out| calls::build(5, 0, &flat, out));
@@ -193,6 +194,68 @@ fn builds(tally: &mut Tally, set: &Set) {
         }
         questions(tally, set, kind, bytes);
     }
+}
+
+/// Asks which keys show why a build is refused: of the set none do, and with a key twice its two numbers.
+fn refusals(tally: &mut Tally, set: &Set, kind: u8) {
+    let name = |what: &str| format!("{}{what}, {} by why_iter_refused", set.name, NAMES[kind as usize]);
+    let flat = set.flat();
+    tally.plainly(&name(""), &[0], |out| calls::why_refused(kind, &flat, out));
+    let Some((key, _)) = set.pairs.first() else { return };
+    let pairs = set.pairs.iter().map(|(key, value)| (key.as_slice(), *value));
+    let twice = Flat::of(pairs.chain([(key.as_slice(), 1)]));
+    let full = [&[1][..], &0usize.to_le_bytes(), &set.pairs.len().to_le_bytes()].concat();
+    tally.plainly(&name(" and a key twice"), &full, |out| calls::why_refused(kind, &twice, out));
+}
+
+/// A listing gives these pairs, in the order of their keys if the kind has one, and ends early if memory is refused.
+fn listing(tally: &mut Tally, name: &str, kind: u8, pairs: &[Vec<u8>], call: impl Fn(&mut [u8]) -> usize) {
+    let mut out = vec![0; 1 << 16];
+    let len = call(&mut out);
+    let full = out[..len].to_vec();
+    let mut listed: Vec<&[u8]> = steps(&full).into_iter().filter(|step| step[0] == 1).collect();
+    let mut wanted: Vec<&[u8]> = pairs.iter().map(Vec::as_slice).collect();
+    if kind == 1 {
+        wanted.sort_by_key(|step| step[9..step.len() - 8].to_ascii_lowercase());
+    }
+    if kind > 1 {
+        listed.sort();
+        wanted.sort();
+    }
+    if listed != wanted {
+        tally.wrong(name, "another listing");
+    }
+    tally.look(name, &full, is_cut, call);
+}
+
+/// Lists the set's trie of a kind, all of it and from a prefix.
+fn listings(tally: &mut Tally, set: &Set, kind: u8, bytes: &[u8]) {
+    let pairs: Vec<Vec<u8>> = set.pairs.iter().map(|(key, value)| written(key, *value)).collect();
+    let name = |what: &str| format!("{}, {} by {what}", set.name, NAMES[kind as usize]);
+    for what in [4, 5] {
+        listing(tally, &name(ASKED[what as usize]), kind, &pairs, |out| calls::ask(kind, what, bytes, out));
+    }
+    let longest = set.pairs.iter().map(|(key, _)| key.as_slice()).max_by_key(|key| key.len()).unwrap_or_default();
+    let prefix = &longest[..longest.len().div_ceil(2)];
+    let begins = |key: &[u8]| match key.get(..prefix.len()) {
+        Some(front) if kind == 1 => front.eq_ignore_ascii_case(prefix),
+        front => front == Some(prefix),
+    };
+    let behind = set.pairs.iter().filter(|(key, _)| begins(key)).map(|(key, value)| written(key, *value));
+    let behind: Vec<Vec<u8>> = behind.collect();
+    for (lends, what) in [(false, "iter_prefix"), (true, "stream_prefix")] {
+        listing(tally, &name(what), kind, &behind, |out| calls::list_prefix(kind, lends, bytes, prefix, out));
+    }
+}
+
+/// Asks for the first fault of the set's trie of a kind, and of the trie with a value after it.
+fn faults(tally: &mut Tally, set: &Set, kind: u8, bytes: &[u8]) {
+    let name = |what: &str| format!("{}{what}, {} by {}", set.name, NAMES[kind as usize], ASKED[6]);
+    tally.plainly(&name(""), &[0], |out| calls::ask(kind, 6, bytes, out));
+    let longer = [bytes, &[0x80]].concat();
+    let place = [&[1][..], &bytes.len().to_le_bytes()].concat();
+    let full = if bytes.is_empty() { &[0][..] } else { &place };
+    tally.plainly(&name(" and a value"), full, |out| calls::ask(kind, 6, &longer, out));
 }
 
 /// Asks the set's trie of a kind for all that takes memory.
@@ -209,22 +272,8 @@ fn questions(tally: &mut Tally, set: &Set, kind: u8, bytes: &[u8]) {
     }
     tally.plainly(&name(3), &pairs.concat(), |out| asked(number, 3, out));
     if kind < 4 {
-        let mut out = vec![0; 1 << 16];
-        let len = asked(kind, 4, &mut out);
-        let full = out[..len].to_vec();
-        let mut listed: Vec<&[u8]> = steps(&full).into_iter().filter(|step| step[0] == 1).collect();
-        let mut wanted: Vec<&[u8]> = pairs.iter().map(Vec::as_slice).collect();
-        if kind == 1 {
-            wanted.sort_by_key(|step| step[9..step.len() - 8].to_ascii_lowercase());
-        }
-        if kind > 1 {
-            listed.sort();
-            wanted.sort();
-        }
-        if listed != wanted {
-            tally.wrong(&name(4), "another listing");
-        }
-        tally.look(&name(4), &full, is_cut, |out| asked(kind, 4, out));
+        listings(tally, set, kind, bytes);
+        faults(tally, set, kind, bytes);
     }
 }
 

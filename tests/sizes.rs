@@ -60,6 +60,12 @@ const LOOK_UPS: Call = ("look-ups", |input, _| {
     let Input { kind, pairs, bytes, .. } = input;
     asked(input).all(|number| calls::get(*kind, bytes, pairs.key(number)) == pairs.values[number])
 });
+/// Those keys again, by look-ups of many.
+const KEPT: Call = ("look-ups, many", |input, _| {
+    let Input { kind, pairs, bytes, .. } = input;
+    let bounds: Vec<usize> = asked(input).flat_map(|number| pairs.bounds[2 * number..2 * number + 2].to_vec()).collect();
+    calls::look_ups(*kind, bytes, &pairs.keys, &bounds) == asked(input).map(|number| pairs.values[number]).sum::<usize>()
+});
 const STEPS: Call = ("cursors", |input, _| {
     let Input { kind, pairs, bytes, .. } = input;
     asked(input).all(|number| calls::stepped(*kind, bytes, pairs.key(number)) == pairs.values[number])
@@ -74,6 +80,21 @@ const WALK: Call = ("walk", |input, out| {
 const TEST: Call = ("test of bytes", |input, _| calls::count(input.kind, 1, &input.bytes) == 1);
 const LISTING: Call = ("listing", |input, _| {
     calls::count(input.kind, 2, &input.bytes) == key_bytes(input) + input.pairs.values.iter().sum::<usize>()
+});
+const STREAM: Call = ("stream", |input, _| {
+    calls::count(input.kind, 4, &input.bytes) == key_bytes(input) + input.pairs.values.iter().sum::<usize>()
+});
+/// From the first byte of the first key.
+const PREFIX: Call = ("stream, prefix", |input, _| {
+    let Input { kind, pairs, bytes, .. } = input;
+    let prefix = &pairs.key(0)[..1];
+    let keys = (0..pairs.values.len()).map(|number| (pairs.key(number), pairs.values[number]));
+    let wanted = keys.filter(|(key, _)| key.starts_with(prefix)).map(|(key, value)| key.len() + value);
+    calls::count_prefix(*kind, bytes, prefix) == wanted.sum::<usize>()
+});
+const FAULT: Call = ("first fault", |input, _| calls::count(input.kind, 6, &input.bytes) == 1);
+const REFUSAL: Call = ("why refused", |input, out| {
+    calls::why_refused(input.kind, &input.pairs, out) == 1 && out[0] == 0
 });
 const MAP: Call = ("ordered map", |input, _| calls::count(input.kind, 3, &input.bytes) == input.pairs.values.len());
 const TAGGED: Call = ("tagged bytes", |input, out| {
@@ -169,7 +190,9 @@ fn rows(size: usize, _: u8) -> Flat {
 type Sort = (&'static str, fn(usize, u8) -> Flat, usize, &'static [u8], &'static [Call]);
 
 const ALL: &[u8] = &[0, 1, 2, 3];
-const MOST: &[Call] = &[SLICE, ITERATOR, LENGTH, LOOK_UPS, STEPS, WALK, TEST, LISTING, TAGGED];
+const MOST: &[Call] = &[
+    SLICE, ITERATOR, REFUSAL, LENGTH, LOOK_UPS, KEPT, STEPS, WALK, TEST, FAULT, LISTING, STREAM, PREFIX, TAGGED,
+];
 /// These copy all keys.
 const COPIES: &[Call] = &[MAP, TO_JSON, FROM_JSON];
 const SORTS: &[Sort] = &[
