@@ -7,8 +7,12 @@
  *         && zerotrie_get(ZEROTRIE_SIMPLE_ASCII, trie, len, (const uint8_t *)"bar", 3, &value))
  *         printf("bar is %zu, in %zu bytes\n", value, len);
  *
- * Link libzerotrie.a or libzerotrie.so (pkg-config --cflags --libs zerotrie), which are for 64-bit Linux on x86-64. Each
- * function below is proved to meet its contract over the map that the bytes mean. What a proof can't see is what a caller does.
+ * bindings/make makes libzerotrie.a and libzerotrie.so in bindings/build, for 64-bit Linux on x86-64:
+ *
+ *     cc -Ibindings/c program.c bindings/build/libzerotrie.a
+ *     cc program.c $(PKG_CONFIG_PATH=bindings/build pkg-config --cflags --libs zerotrie)
+ *
+ * Each function below is proved to meet its contract over the map that the bytes mean. What a proof can't see is what a caller does.
  *
  * A caller owes:
  *   - Pointers. A pointer with a length after it leads to that many elements, which can be read and which nothing writes

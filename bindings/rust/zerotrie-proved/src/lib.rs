@@ -19,7 +19,7 @@
 //! safe: it returns on any bytes, and any number of threads may read one trie at once. Bytes from elsewhere are tested by
 //! [`ZeroTrie::try_from_bytes`] or [`ZeroTrie::load`]; on bytes that are no trie each call still gives some answer.
 //!
-//! The crate is `no_std` with `alloc`. What the library itself takes during a build or a listing comes from the C library's `malloc`, and
+//! A package names it by its path, as `zerotrie-proved = { path = "zt/bindings/rust/zerotrie-proved" }`. It is `no_std` with `alloc`. What the library itself takes during a build or a listing comes from the C library's `malloc`, and
 //! [`Error::OutOfMemory`] tells that there was none. `bindings/make` makes the static library that is linked; the variable `ZEROTRIE_LIB`
 //! names its folder, if it is another.
 #![no_std]
