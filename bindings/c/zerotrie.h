@@ -7,28 +7,36 @@
  *         && zerotrie_get(ZEROTRIE_SIMPLE_ASCII, trie, len, (const uint8_t *)"bar", 3, &value))
  *         printf("bar is %zu, in %zu bytes\n", value, len);
  *
- * Link libzerotrie.a or libzerotrie.so (pkg-config --cflags --libs zerotrie). Each function below is proved to meet its
- * contract over the map that the bytes mean. What a proof can't see is what a caller does:
+ * bindings/make makes libzerotrie.a and libzerotrie.so in bindings/build, for 64-bit Linux on x86-64:
  *
- * A caller owes
- *   - A pointer and the length after it say where so many readable elements lie, which nothing writes to during the call.
- *     What a function writes to is writable, and overlaps nothing else that is passed to the call.
- *   - No pointer is null, also if the length is 0, and each is aligned for its type. zerotrie_bytes_of() makes such a
- *     pair of any pointer, null among them. A length is at most PTRDIFF_MAX bytes.
- *   - What a cursor, or zerotrie_untagged(), hands out points into the bytes that were given. It is used only while these
- *     lie where they lay and are unchanged.
- *   - "Takes memory" marks the functions that call malloc, realloc and free, and give back all of it before they return.
- *     These three align blocks as C says. Such a function is not called from a signal handler, nor in the forked child
- *     of a process with threads.
+ *     cc -Ibindings/c program.c bindings/build/libzerotrie.a
+ *     cc program.c $(PKG_CONFIG_PATH=bindings/build pkg-config --cflags --libs zerotrie)
  *
- * What holds then
- *   - Every function returns, whatever the bytes hold: it reads nothing outside them, and never aborts or throws.
- *   - It writes nothing but what is said below. Nothing that it hands out is to be freed.
- *   - There is no state between calls and no lock, so any number of threads may call at once over bytes that none of
- *     them writes. A cursor belongs to one thread at a time; a copy of it is a cursor of its own.
+ * Each function below is proved to meet its contract over the map that the bytes mean. What a proof can't see is what a caller does.
  *
- * What is said of a trie's keys holds of bytes that are a trie of the kind: zerotrie_is_well_formed() tells, and what a
- * build wrote is one. Test bytes that come from elsewhere once. On other bytes each function answers something.
+ * A caller owes:
+ *   - Pointers. A pointer with a length after it leads to that many elements, which can be read and which nothing writes
+ *     to during the call. What a function writes to can be written, and overlaps nothing else that the call is given.
+ *     A pointer is aligned for its type. A length is at most PTRDIFF_MAX bytes.
+ *   - Null. No pointer is null, not even one with the length 0: pass any address of the type then. Of a pointer that may
+ *     be null, zerotrie_bytes_of() makes bytes that are not.
+ *   - Lifetimes. A trie is only your bytes: there is nothing to open, close or free. What a cursor holds, and what
+ *     zerotrie_untagged() hands out, points into the bytes that were given. Use it only while they stay where they are and
+ *     unchanged. Keys and pairs are needed during the call alone.
+ *   - Memory. "Takes memory" marks the functions that call malloc, realloc and free; each gives back all of it before it
+ *     returns. Call none of them from a signal handler, nor in the forked child of a process with threads.
+ *
+ * What holds then:
+ *   - Every function returns, whatever the bytes hold. It reads nothing outside them, and never aborts or throws.
+ *   - It writes only what is said at the function. "Stays" says of a place that it is not written to.
+ *   - Threads. There is no state between calls and no lock, so any number of threads may call at once over bytes that none
+ *     of them writes. A cursor is for one thread at a time; a copy of it, made by =, is a cursor of its own.
+ *
+ * What is said of a trie's keys holds of bytes that are a trie of the kind: what a build wrote is one, and of bytes that come
+ * from elsewhere zerotrie_is_well_formed() tells it; ask once. On other bytes each function still answers something.
+ *
+ * A function that answers a bool tells whether something was found. One that answers a uint32_t tells a zerotrie_status;
+ * zerotrie_auto_kind() tells a zerotrie_kind.
  */
 #ifndef ZEROTRIE_H
 #define ZEROTRIE_H
@@ -60,7 +68,7 @@ typedef enum zerotrie_status {
     ZEROTRIE_ILLEGAL_DELIMITER = 5,  /* zerotrie_dense_build: a text has the delimiter in it */
     ZEROTRIE_DUPLICATE_KEY = 6,      /* zerotrie_build: a key comes twice */
     ZEROTRIE_UNSORTED = 7,           /* zerotrie_build_sorted: the keys don't ascend strictly by their bytes */
-    ZEROTRIE_BUFFER_TOO_SMALL = 8,   /* the room is too small; what is needed is told */
+    ZEROTRIE_BUFFER_TOO_SMALL = 8,   /* the room is too small; the function says what it tells then */
     ZEROTRIE_BUFFER_TOO_LARGE = 9,   /* no function here answers this */
     ZEROTRIE_STACK_EXCEEDED = 10,    /* no function here answers this */
     ZEROTRIE_OUT_OF_MEMORY = 11,
@@ -72,7 +80,7 @@ typedef enum zerotrie_status {
     ZEROTRIE_TRAILING_BYTES = 17     /* zerotrie_dense_get: more bytes than a record of a table asks for */
 } zerotrie_status;
 
-/* Bytes that lie elsewhere. */
+/* Bytes that lie elsewhere, as a key. They may hold zeros; none stands at their end. */
 typedef struct zerotrie_bytes {
     const uint8_t *ptr; /* never null */
     size_t len;
@@ -83,9 +91,9 @@ typedef struct zerotrie_pair {
     size_t value;
 } zerotrie_pair;
 
-/* A place in a trie, between two bytes of keys. While run.len is not 0 it stands inside a span: every key from here on goes
- * on with all of run, and then with a key of trie. Otherwise trie is a trie by itself: that of what the keys have from here
- * on. Nothing is left if both are empty. */
+/* A place in a trie, between two bytes of keys; zerotrie_cursor_new() or zerotrie_with_prefix() sets it. While run.len is not 0
+ * it stands inside a span: every key from here on goes on with all of run, and then with a key of trie. Otherwise trie is a
+ * trie by itself, that of what the keys have from here on: list it by zerotrie_list(). Nothing is left if both are empty. */
 typedef struct zerotrie_cursor {
     zerotrie_bytes run;
     zerotrie_bytes trie;
@@ -122,10 +130,11 @@ uint32_t zerotrie_get_many(uint32_t kind, const uint8_t *bytes, size_t len, cons
 bool zerotrie_longest_prefix(uint32_t kind, const uint8_t *bytes, size_t len, const uint8_t *text, size_t text_len,
                              size_t *key_len, size_t *value);
 
-/* Sets the cursor in front of all keys, of a trie of any kind. */
+/* Sets the cursor in front of all keys, of a trie of any kind. The calls below take the same kind each time. */
 void zerotrie_cursor_new(const uint8_t *bytes, size_t len, zerotrie_cursor *cursor);
 
-/* Sets the cursor after a prefix, where a step by each byte of it leads. Answers whether some key begins with it. */
+/* Sets the cursor after a prefix, where a step by each byte of it leads. Answers whether some key begins with it; if none
+ * does, or the kind is unknown, the cursor has nothing left. */
 bool zerotrie_with_prefix(uint32_t kind, const uint8_t *bytes, size_t len, const uint8_t *prefix, size_t prefix_len,
                           zerotrie_cursor *cursor);
 
@@ -133,7 +142,8 @@ bool zerotrie_with_prefix(uint32_t kind, const uint8_t *bytes, size_t len, const
  * is stored goes to *edge. If not, nothing is left and *edge stays. */
 bool zerotrie_cursor_step(uint32_t kind, zerotrie_cursor *cursor, uint8_t byte, uint8_t *edge);
 
-/* Takes the value of the key that ends here, which the cursor then hasn't any more. If there is none nothing changes. */
+/* Takes the value of the key that ends here: it goes to *value, and the cursor no longer has it. If there is none, nothing
+ * changes. Ask before the next step, which goes past the value. */
 bool zerotrie_cursor_take_value(zerotrie_cursor *cursor, size_t *value);
 
 /* Goes along edge number `index`, from 0; its byte goes to *edge, and how many edges there are to *siblings. If there is no
@@ -147,8 +157,8 @@ uint32_t zerotrie_untagged(const uint8_t *tagged, size_t len, uint32_t *kind, ze
 /* --- Building ------------------------------------------------------------------------------------------------------- */
 
 /* Builds the trie of pairs in any order. ZEROTRIE_DONE: it is the first *len bytes of `out`, and the rest stays.
- * ZEROTRIE_BUFFER_TOO_SMALL: it has *len bytes, more than out_len, and `out` stays. Otherwise the answer is a reason that is
- * true of the pairs, or ZEROTRIE_OUT_OF_MEMORY, and nothing is written. Takes memory. */
+ * ZEROTRIE_BUFFER_TOO_SMALL: it has *len bytes, more than out_len, and `out` stays; call again with as many. Otherwise the
+ * answer is a reason that is true of the pairs, or ZEROTRIE_OUT_OF_MEMORY, and nothing is written. Takes memory. */
 uint32_t zerotrie_build(uint32_t kind, const zerotrie_pair *pairs, size_t count, uint8_t *out, size_t out_len, size_t *len);
 
 /* The same of pairs whose keys ascend strictly by their bytes, as memcmp orders them, in IGNORE_CASE too. Takes memory. */

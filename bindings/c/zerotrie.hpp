@@ -1,4 +1,14 @@
-// zerotrie for C++17: views over zerotrie.h, whose rules hold here too. Keys are std::string_view, of any bytes.
+// zerotrie for C++17, over zerotrie.h, whose rules hold here too. Keys are std::string_view, of any bytes.
+//
+//     const std::map<std::string, size_t> map{{"foo", 1}, {"bar", 2}, {"bazzoo", 3}};
+//     const std::string bytes = zerotrie::build(zerotrie::Kind::SimpleAscii, map);
+//     const zerotrie::Trie trie(zerotrie::Kind::SimpleAscii, bytes);
+//     trie.get("bar"); // 2
+//
+// Trie, Cursor and DenseTable are views: copying one copies no bytes, and the bytes that it was made of have to outlive it, as
+// those of a std::string_view. A std::string that ends with the statement is refused. Items owns what it lists. What is refused is
+// thrown as Error; no other call throws, but for std::bad_alloc of a container. Many threads may ask one Trie at once; a Cursor is
+// for one thread at a time.
 #pragma once
 #include "zerotrie.h"
 
@@ -9,6 +19,7 @@
 #include <stdexcept>
 #include <string>
 #include <string_view>
+#include <type_traits>
 #include <utility>
 #include <vector>
 
@@ -32,6 +43,8 @@ namespace detail {
 inline zerotrie_bytes of(std::string_view text) { return zerotrie_bytes_of(text.data(), text.size()); }
 inline std::string_view text_of(zerotrie_bytes bytes) { return {reinterpret_cast<const char *>(bytes.ptr), bytes.len}; }
 inline uint8_t *room(std::string &text) { return reinterpret_cast<uint8_t *>(text.data()); }
+// A std::string that nothing else holds: a view of it would be left with nothing.
+template <class T> using Passing = std::enable_if_t<std::is_same_v<T, std::string>>;
 inline void check(uint32_t status) {
     if (status != ZEROTRIE_DONE) throw Error(status);
 }
@@ -44,21 +57,22 @@ public:
         const auto at = detail::of(bytes);
         zerotrie_cursor_new(at.ptr, at.len, &cursor_);
     }
+    template <class T, class = detail::Passing<T>> Cursor(Kind, T &&) = delete;
     Cursor(Kind kind, zerotrie_cursor cursor) : kind_(kind), cursor_(cursor) {}
-    // Goes along the edge that is the byte to the kind, and answers it as it is stored. None: nothing is left.
+    // Goes along the edge that is the byte to the kind, and answers it as it is stored. nullopt: nothing is left.
     std::optional<uint8_t> step(uint8_t byte) {
         uint8_t edge = 0;
         if (!zerotrie_cursor_step(number(), &cursor_, byte, &edge)) return std::nullopt;
         return edge;
     }
-    // The same along edge number `index`; answers its byte and how many edges there are.
+    // The same along edge number `index`, from 0; answers its byte and how many edges there are.
     std::optional<std::pair<uint8_t, uint16_t>> probe(size_t index) {
         uint8_t edge = 0;
         uint16_t siblings = 0;
         if (!zerotrie_cursor_probe(number(), &cursor_, index, &edge, &siblings)) return std::nullopt;
         return std::pair(edge, siblings);
     }
-    // Takes the value of the key that ends here.
+    // Takes the value of the key that ends here. nullopt: no key does, or it was taken.
     std::optional<size_t> take_value() {
         size_t value = 0;
         if (!zerotrie_cursor_take_value(&cursor_, &value)) return std::nullopt;
@@ -66,6 +80,7 @@ public:
     }
     // What is left of the span that it stands in: every key goes on with it. Empty outside of spans.
     std::string_view run() const { return detail::text_of(cursor_.run); }
+    // Whether no key goes on from here, and none ends here.
     bool is_empty() const { return cursor_.run.len == 0 && cursor_.trie.len == 0; }
 
 private:
@@ -74,7 +89,8 @@ private:
     zerotrie_cursor cursor_{};
 };
 
-// The pairs of a trie, in the order of its bytes: a range whose elements are pairs of a std::string_view and a value.
+// The pairs of a trie, in the order of its bytes: a range whose elements are pairs of a std::string_view and a value. All are
+// listed when it is made; the views lie in it.
 class Items {
 public:
     using value_type = std::pair<std::string_view, size_t>;
@@ -134,22 +150,26 @@ class Trie {
 public:
     // The bytes are not tested; if they are no trie of the kind, each call answers something.
     Trie(Kind kind, std::string_view bytes) : kind_(kind), bytes_(bytes) {}
-    // None if the bytes are no trie of the kind.
+    template <class T, class = detail::Passing<T>> Trie(Kind, T &&) = delete;
+    // Tests the bytes. nullopt: they are no trie of the kind.
     static std::optional<Trie> checked(Kind kind, std::string_view bytes) {
         const auto at = detail::of(bytes);
         if (!zerotrie_is_well_formed(static_cast<uint32_t>(kind), at.ptr, at.len)) return std::nullopt;
         return Trie(kind, bytes);
     }
-    // Of tagged bytes. None if they have no tag of a kind, or are no trie of it.
+    template <class T, class = detail::Passing<T>> static std::optional<Trie> checked(Kind, T &&) = delete;
+    // Of tagged bytes, which tell their kind; they are tested. nullopt: they have no tag of a kind, or are no trie of it.
     static std::optional<Trie> from_tagged(std::string_view tagged) {
         const auto at = detail::of(tagged);
         uint32_t kind = 0;
-        zerotrie_bytes behind{};
-        if (zerotrie_untagged(at.ptr, at.len, &kind, &behind) != ZEROTRIE_DONE) return std::nullopt;
-        return checked(static_cast<Kind>(kind), detail::text_of(behind));
+        zerotrie_bytes trie{};
+        if (zerotrie_untagged(at.ptr, at.len, &kind, &trie) != ZEROTRIE_DONE) return std::nullopt;
+        return checked(static_cast<Kind>(kind), detail::text_of(trie));
     }
+    template <class T, class = detail::Passing<T>> static std::optional<Trie> from_tagged(T &&) = delete;
     Kind kind() const { return kind_; }
     std::string_view bytes() const { return bytes_; }
+    // The value of the key. nullopt: the trie has no such key.
     std::optional<size_t> get(std::string_view key) const {
         const auto at = detail::of(bytes_), k = detail::of(key);
         size_t value = 0;
@@ -157,22 +177,23 @@ public:
         return value;
     }
     bool contains(std::string_view key) const { return get(key).has_value(); }
-    // The longest key that the text begins with, and its value.
+    // The longest key that the text begins with, as a view into the text, and its value. nullopt: it begins with no key.
     std::optional<std::pair<std::string_view, size_t>> longest_prefix(std::string_view text) const {
         const auto at = detail::of(bytes_), t = detail::of(text);
         size_t len = 0, value = 0;
         if (!zerotrie_longest_prefix(number(), at.ptr, at.len, t.ptr, t.len, &len, &value)) return std::nullopt;
         return std::pair(text.substr(0, len), value);
     }
+    // A cursor in front of all keys.
     Cursor cursor() const { return Cursor(kind_, bytes_); }
-    // A cursor after a prefix. None if no key begins with it.
+    // A cursor after a prefix. nullopt: no key begins with it.
     std::optional<Cursor> with_prefix(std::string_view prefix) const {
         const auto at = detail::of(bytes_), p = detail::of(prefix);
         zerotrie_cursor cursor;
         if (!zerotrie_with_prefix(number(), at.ptr, at.len, p.ptr, p.len, &cursor)) return std::nullopt;
         return Cursor(kind_, cursor);
     }
-    // The pairs, or those whose keys begin with a prefix.
+    // The pairs, or those whose keys begin with a prefix. Throws Error if the library is out of memory.
     Items items(std::string_view prefix = {}) const { return Items(kind_, bytes_, prefix); }
 
 private:
@@ -205,13 +226,13 @@ template <class Pairs> std::string build(Kind kind, const Pairs &pairs) {
     return out;
 }
 
-// The kind for pairs if you have no wish.
+// The kind for pairs if you have no wish: SimpleAscii if all keys are ASCII and there are fewer than 512, else PerfectHash.
 template <class Pairs> Kind auto_kind(const Pairs &pairs) {
     const auto items = pairs_of(pairs);
     return static_cast<Kind>(zerotrie_auto_kind(items.data(), items.size()));
 }
 
-// The bytes after the number of their kind.
+// Tagged bytes: the number of the kind, and then the bytes.
 inline std::string tagged(Kind kind, std::string_view bytes) {
     const auto at = detail::of(bytes);
     std::string out(bytes.size() + 1, '\0');
@@ -224,7 +245,8 @@ inline std::string tagged(Kind kind, std::string_view bytes) {
 class DenseTable {
 public:
     explicit DenseTable(std::string_view record) : record_(record) {}
-    // The value of a suffix under a prefix. Throws Error if the bytes are no record.
+    template <class T, class = detail::Passing<T>> explicit DenseTable(T &&) = delete;
+    // The value of a suffix under a prefix. nullopt: there is none. Throws Error if the bytes are no record.
     std::optional<size_t> get(std::string_view prefix, std::string_view suffix) const {
         const auto at = detail::of(record_), p = detail::of(prefix), s = detail::of(suffix);
         size_t value = 0;

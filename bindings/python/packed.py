@@ -1,5 +1,5 @@
-"""Packs the one module for `pip install .`, so that no other package is asked for. What is beside it goes along: a
-libzerotrie.so that lies here is installed next to the module, which finds it there."""
+"""Packs the one module for `pip install .`, so that no other package is asked for. The library goes along: a libzerotrie.so that lies
+here, or else where bindings/make leaves it, is installed next to the module, which finds it there."""
 
 import base64
 import hashlib
@@ -12,11 +12,11 @@ METADATA = "Metadata-Version: 2.1\nName: zerotrie\nVersion: 0.2.5.post1\nRequire
 
 def build_wheel(wheel_directory, config_settings=None, metadata_directory=None):
     here = pathlib.Path(__file__).parent
-    library = here / "libzerotrie.so"
-    tag = "py3-none-linux_x86_64" if library.exists() else "py3-none-any"
+    made = [path for path in (here / "libzerotrie.so", here.parent / "build" / "libzerotrie.so") if path.exists()]
+    tag = "py3-none-linux_x86_64" if made else "py3-none-any"
     files = {"zerotrie.py": (here / "zerotrie.py").read_bytes(), f"{NAME}.dist-info/METADATA": METADATA.encode()}
-    if library.exists():
-        files["libzerotrie.so"] = library.read_bytes()
+    if made:
+        files["libzerotrie.so"] = made[0].read_bytes()
     files[f"{NAME}.dist-info/WHEEL"] = f"Wheel-Version: 1.0\nGenerator: packed\nRoot-Is-Purelib: true\nTag: {tag}\n".encode()
     record = f"{NAME}.dist-info/RECORD"
     rows = []

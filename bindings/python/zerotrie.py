@@ -6,11 +6,20 @@
     >>> dict(trie.items("ba"))
     {b'bar': 2, b'bazzoo': 3}
 
-A trie lies in anything that lends bytes: `bytes`, a `memoryview`, an `mmap.mmap`. Nothing is copied, so one file can serve
-many processes. Keys are bytes, or text, which stands for its UTF-8.
+A trie is a read-only Mapping from bytes to numbers, which lies in anything that lends bytes: `bytes`, a `memoryview`, an
+`mmap.mmap`. Nothing is copied, so one file can serve many processes:
 
-The library is found by the variable ZEROTRIE_SO, else beside this file, else by the system's loader. Calls let other
-threads run. Values are from 0 to 2**64 - 1.
+    >>> import pathlib, tempfile
+    >>> path = pathlib.Path(tempfile.mkdtemp(), "names.trie")
+    >>> path.write_bytes(trie.to_tagged())
+    18
+    >>> ZeroTrie.open(path)["foo"]
+    1
+
+Keys are bytes, or text, which stands for its UTF-8; what is listed is bytes. Values are from 0 to 2**64 - 1. Many threads may ask one
+trie at once, and a call lets other threads run; a Cursor is for one thread at a time.
+
+The library is found by the variable ZEROTRIE_SO, else beside this file, else where bindings/make leaves it, else by the system's loader.
 """
 
 from __future__ import annotations
@@ -22,7 +31,7 @@ import mmap
 import os
 from collections.abc import Iterable, Iterator, Mapping
 from ctypes import POINTER, Structure, c_bool, c_char_p, c_size_t, c_uint8, c_uint16, c_uint32, c_void_p
-from typing import Any, Optional, Union
+from typing import Any, Optional, TypeVar, Union, overload
 
 __all__ = [
     "SIMPLE_ASCII", "PERFECT_HASH", "EXTENDED_CAPACITY", "IGNORE_CASE",
@@ -31,6 +40,7 @@ __all__ = [
 
 Key = Union[str, bytes, bytearray, memoryview]
 Pairs = Union[Mapping[Any, int], Iterable["tuple[Key, int]"]]
+Other = TypeVar("Other")
 
 #: The kinds of trie, by the numbers of tagged bytes.
 SIMPLE_ASCII, PERFECT_HASH, EXTENDED_CAPACITY, IGNORE_CASE = 0, 3, 7, 8
@@ -39,13 +49,16 @@ _DONE, _TOO_SMALL, _NO_MEMORY, _NO_ENTRY = 0, 8, 11, 15
 
 
 class ZeroTrieError(ValueError):
-    """Why something was refused. `status` is the number that zerotrie.h has for it."""
+    """Why something was refused, as text that says what to do. `status` is the number that zerotrie.h has for it."""
 
     def __init__(self, status: int) -> None:
         text = _Part()
         _lib.zerotrie_status_bytes(status, ctypes.byref(text))
         super().__init__(ctypes.string_at(text.ptr, text.len - 1).decode())
         self.status = status
+
+    def __reduce__(self) -> tuple[type, tuple[int]]:
+        return ZeroTrieError, (self.status,)
 
 
 class _Bytes(Structure):
@@ -98,8 +111,10 @@ _DECLARED = {
 
 
 def _load() -> ctypes.CDLL:
-    beside = os.path.join(os.path.dirname(os.path.abspath(__file__)), "libzerotrie.so")
-    lib = ctypes.CDLL(os.environ.get("ZEROTRIE_SO") or (beside if os.path.exists(beside) else "libzerotrie.so.0"))
+    here = os.path.dirname(os.path.abspath(__file__))
+    near = [os.path.join(here, "libzerotrie.so"), os.path.join(here, os.pardir, "build", "libzerotrie.so")]
+    found = [os.environ.get("ZEROTRIE_SO", ""), *filter(os.path.exists, near), "libzerotrie.so.0"]
+    lib = ctypes.CDLL(next(filter(None, found)))
     for name, (result, arguments) in _DECLARED.items():
         function = getattr(lib, name)
         function.restype, function.argtypes = result, arguments
@@ -135,7 +150,14 @@ def _check(status: int) -> None:
 
 
 def build(pairs: Pairs, kind: Optional[int] = None) -> bytes:
-    """The bytes of the trie of pairs in any order, or of a mapping. With no kind it is that of auto_kind()."""
+    """The bytes of the trie of pairs in any order, or of a mapping. With no kind it is that of auto_kind().
+
+    ZeroTrieError if a key comes twice or is none of the kind, OverflowError if a value is out of range.
+
+    >>> build([("a", 1), ("a", 2)])
+    Traceback (most recent call last):
+    zerotrie.ZeroTrieError: a key was given twice: give each key once
+    """
     raw = _raw_pairs(pairs)
     if kind is None:
         kind = _lib.zerotrie_auto_kind(raw, raw.count)
@@ -156,14 +178,14 @@ def auto_kind(pairs: Pairs) -> int:
 
 
 def encoded_len(pairs: Pairs, kind: int) -> int:
-    """How many bytes the trie has of pairs whose keys ascend by their bytes."""
+    """How many bytes the trie has of pairs whose keys ascend by their bytes; ZeroTrieError if they don't. It builds nothing."""
     raw, length = _raw_pairs(pairs), c_size_t()
     _check(_lib.zerotrie_encoded_len(kind, raw, raw.count, length))
     return length.value
 
 
 def tagged(data: bytes, kind: int) -> bytes:
-    """The number of the kind, then the bytes."""
+    """Tagged bytes: the number of the kind, then the bytes. ZeroTrie.open() and from_tagged() read them."""
     room, length = (c_uint8 * (len(data) + 1))(), c_size_t()
     lent = ctypes.cast(ctypes.c_char_p(bytes(data)), c_void_p)
     _check(_lib.zerotrie_tagged(kind, lent, len(data), room, len(room), length))
@@ -171,7 +193,12 @@ def tagged(data: bytes, kind: int) -> bytes:
 
 
 class Cursor:
-    """A place in a trie, between two bytes of keys."""
+    r"""A place in a trie, between two bytes of keys: cursor() of a trie makes one.
+
+    >>> cursor = ZeroTrie(b"a\x85b\x86").cursor()
+    >>> cursor.step(ord("a")), cursor.take_value(), cursor.probe(0), cursor.take_value()
+    (97, 5, (98, 1), 6)
+    """
 
     __slots__ = ("_trie", "_raw")
 
@@ -180,18 +207,18 @@ class Cursor:
         _lib.zerotrie_cursor_new(trie._at, trie._len, self._raw)
 
     def step(self, byte: int) -> Optional[int]:
-        """Goes along the edge that is the byte to the kind, and answers its byte. None: nothing is left."""
+        """Goes along the edge that is the byte to the kind, and answers its byte as it is stored. None: nothing is left."""
         edge = c_uint8()
         return edge.value if _lib.zerotrie_cursor_step(self._trie.kind, self._raw, byte, edge) else None
 
     def probe(self, index: int) -> Optional[tuple[int, int]]:
-        """Goes along edge number `index`, and answers its byte and how many edges there are. None: nothing is left."""
+        """Goes along edge number `index`, from 0, and answers its byte and how many edges there are. None: nothing is left."""
         edge, siblings = c_uint8(), c_uint16()
         found = _lib.zerotrie_cursor_probe(self._trie.kind, self._raw, index, edge, siblings)
         return (edge.value, siblings.value) if found else None
 
     def take_value(self) -> Optional[int]:
-        """Takes the value of the key that ends here."""
+        """Takes the value of the key that ends here. None: no key does, or it was taken."""
         value = c_size_t()
         return value.value if _lib.zerotrie_cursor_take_value(self._raw, value) else None
 
@@ -201,6 +228,7 @@ class Cursor:
         return ctypes.string_at(self._raw.run.ptr, self._raw.run.len)
 
     def copy(self) -> Cursor:
+        """A cursor of its own at the same place."""
         made = Cursor.__new__(Cursor)
         made._trie, made._raw = self._trie, _Cursor.from_buffer_copy(self._raw)
         return made
@@ -208,14 +236,18 @@ class Cursor:
     __copy__ = copy
 
     def __bool__(self) -> bool:
-        """Whether some key goes on from here."""
+        """Whether some key goes on from here, or ends here."""
         return self._raw.run.len + self._raw.trie.len > 0
 
 
-class ZeroTrie(Mapping):
-    """A map from byte strings to numbers, over bytes that are not copied.
+class ZeroTrie(Mapping[bytes, int]):
+    """A read-only map from byte strings to numbers, over bytes that are not copied.
 
-    Unless `check` is false, the bytes are tested first: ValueError if they are no trie of the kind.
+    The bytes are those of build(), or of a file. They stay in use as long as the trie is: don't change them. Unless `check` is false,
+    they are tested first: ValueError if they are no trie of the kind.
+
+    It is a Mapping, whose items(), keys() and values() are iterators, in the order of the bytes. len() lists all pairs. Two tries are
+    equal if their kinds and their bytes are.
     """
 
     __slots__ = ("kind", "_data", "_view", "_at", "_len", "__weakref__")
@@ -238,14 +270,14 @@ class ZeroTrie(Mapping):
 
     @classmethod
     def build(cls, pairs: Pairs, kind: Optional[int] = None) -> ZeroTrie:
-        """The trie of pairs in any order, or of a mapping."""
+        """The trie of pairs in any order, or of a mapping, as build() makes it."""
         raw = list(pairs.items() if isinstance(pairs, Mapping) else pairs)
         kind = auto_kind(raw) if kind is None else kind
         return cls(build(raw, kind), kind, check=False)
 
     @classmethod
     def from_tagged(cls, data: Any, check: bool = True) -> ZeroTrie:
-        """The trie of tagged bytes, which tell their kind."""
+        """The trie of tagged bytes, which tell their kind. ZeroTrieError if they have no tag of a kind."""
         view = memoryview(data).cast("B")
         first = bytes(view[:1])
         kind, part = c_uint32(), _Part()
@@ -254,7 +286,7 @@ class ZeroTrie(Mapping):
 
     @classmethod
     def open(cls, path: Any, kind: Optional[int] = None, check: bool = True) -> ZeroTrie:
-        """The trie that a file holds, mapped into memory: tagged bytes, or, with a kind, the trie alone."""
+        """The trie that a file holds, mapped into memory: tagged bytes, as `zerotrie build` writes them, or, with a kind, the trie alone."""
         with open(path, "rb") as file:
             size = os.fstat(file.fileno()).st_size
             data: Any = mmap.mmap(file.fileno(), 0, access=mmap.ACCESS_READ) if size else b""
@@ -264,13 +296,22 @@ class ZeroTrie(Mapping):
         """Whether the bytes are a trie of the kind, every rule of the format kept."""
         return _lib.zerotrie_is_well_formed(self.kind, self._at, self._len)
 
+    @overload  # type: ignore[override]
+    def get(self, key: Key) -> Optional[int]: ...
+    @overload
+    def get(self, key: Key, default: Other) -> Union[int, Other]: ...
     def get(self, key: Key, default: Any = None) -> Any:
+        """The value of the key, or `default`."""
         text, value = _key(key), c_size_t()
         found = _lib.zerotrie_get(self.kind, self._at, self._len, text, len(text), value)
         return value.value if found else default
 
     def get_many(self, keys: Iterable[Key], missing: int = (1 << 64) - 1) -> array.array:
-        """The value of each key, or `missing`, as an array of numbers: one call for all."""
+        """The value of each key, or `missing`, as an array of numbers: one call for all.
+
+        >>> list(ZeroTrie.build({"foo": 1, "bar": 2}).get_many(["bar", "x"], missing=0))
+        [2, 0]
+        """
         texts = [key if type(key) is bytes else _key(key) for key in keys]
         if not texts:
             return array.array("Q")
@@ -282,7 +323,7 @@ class ZeroTrie(Mapping):
         return values
 
     def longest_prefix(self, text: Key) -> Optional[tuple[bytes, int]]:
-        """The longest key that the text begins with, and its value."""
+        """The longest key that the text begins with, and its value. None: it begins with no key."""
         text, length, value = _key(text), c_size_t(), c_size_t()
         found = _lib.zerotrie_longest_prefix(self.kind, self._at, self._len, text, len(text), length, value)
         return (text[: length.value], value.value) if found else None
@@ -333,24 +374,30 @@ class ZeroTrie(Mapping):
                 at = ends[number]
 
     def keys(self, prefix: Key = b"") -> Iterator[bytes]:  # type: ignore[override]
+        """The keys of items()."""
         return (key for key, _ in self.items(prefix))
 
     def values(self, prefix: Key = b"") -> Iterator[int]:  # type: ignore[override]
+        """The values of items()."""
         return (value for _, value in self.items(prefix))
 
     def __iter__(self) -> Iterator[bytes]:
         return self.keys()
 
     def __len__(self) -> int:
+        """How many pairs there are, counted by listing all."""
         return sum(count for _, _, _, count in self._parts(b""))
 
     def __bool__(self) -> bool:
+        """Whether there is a pair. It lists nothing."""
         return self._len > 0
 
     def __bytes__(self) -> bytes:
+        """The bytes of the trie."""
         return bytes(self._view)
 
     def to_tagged(self) -> bytes:
+        """Tagged bytes: the number of the kind, then the bytes."""
         return tagged(bytes(self._view), self.kind)
 
     def __eq__(self, other: object) -> bool:
@@ -394,7 +441,7 @@ def build_dense(rows: Mapping[Key, Mapping[Key, int]], delimiter: Key = b"/") ->
 
 
 class DenseTable:
-    """A map from two texts to numbers, over the record of a dense table."""
+    """A map from two texts to numbers, over the record of a dense table. Bytes are not copied, anything else is."""
 
     __slots__ = ("_record", "_at")
 
@@ -403,7 +450,7 @@ class DenseTable:
         self._at = ctypes.cast(c_char_p(self._record), c_void_p)
 
     def get(self, prefix: Key, suffix: Key, default: Any = None) -> Any:
-        """The value of a suffix under a prefix. ZeroTrieError if the bytes are no record."""
+        """The value of a suffix under a prefix, or `default`. ZeroTrieError if the bytes are no record."""
         p, s, value = _key(prefix), _key(suffix), c_size_t()
         status = _lib.zerotrie_dense_get(self._at, len(self._record), p, len(p), s, len(s), value)
         if status == _NO_ENTRY:

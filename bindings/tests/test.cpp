@@ -94,7 +94,13 @@ int main(int count, char **arguments) {
     const std::string record = zerotrie::build_dense(rows, '/');
     const zerotrie::DenseTable table(record);
     CHECK(table.get("de", "CH") == 9 && table.get("en", "US") == 5 && !table.get("en", "AT") && !table.get("CH", "de"));
-    CHECK(!zerotrie::DenseTable(zerotrie::build_dense(std::map<std::string, Map>{}, '/')).get("", ""));
+    const std::string no_rows = zerotrie::build_dense(std::map<std::string, Map>{}, '/');
+    CHECK(!zerotrie::DenseTable(no_rows).get("", ""));
+    // a view of a string that ends with the statement is no call
+    static_assert(std::is_constructible_v<zerotrie::Trie, Kind, const std::string &>);
+    static_assert(std::is_constructible_v<zerotrie::Trie, Kind, const char *>);
+    static_assert(!std::is_constructible_v<zerotrie::Trie, Kind, std::string>);
+    static_assert(!std::is_constructible_v<zerotrie::DenseTable, std::string>);
     try {
         zerotrie::DenseTable(std::string_view(record).substr(1)).get("de", "CH");
         CHECK(false);

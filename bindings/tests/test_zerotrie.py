@@ -3,6 +3,7 @@
 import mmap
 import os
 import pathlib
+import pickle
 import random
 import sys
 import tempfile
@@ -56,6 +57,8 @@ refused(OverflowError, build, {"a": -1})
 assert refused(ZeroTrieError, build, [("a", 1), ("a", 2)]).status == 6
 assert str(refused(ZeroTrieError, build, {"å": 1}, SIMPLE_ASCII)) == "a key has a byte that is not ASCII: take a kind of trie for keys of any bytes"
 assert refused(ZeroTrieError, build, {}, 9).status == 12
+again = pickle.loads(pickle.dumps(refused(ZeroTrieError, build, [("a", 1), ("a", 2)])))
+assert again.status == 6 and str(again) == "a key was given twice: give each key once"
 assert refused(ZeroTrieError, ZeroTrie.from_tagged, b"\1").status == 14
 cursor = trie.cursor()
 assert (cursor.step(ord("f")), cursor.probe(0), cursor.run, bool(cursor)) == (ord("f"), (ord("o"), 1), b"", True)

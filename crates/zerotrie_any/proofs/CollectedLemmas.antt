@@ -66,7 +66,7 @@ module _ {K : Type 0} (cmp : K → K → Ordering) (key : K → List ℕ) (same 
     | false ↦ λ t other. some_key q es here other
   ] refl gone
 
-  -- or change nothing where the pairs are put in
+  -- or change nothing when the pairs are put in
   some_put : {P : Type 0} (q : List ℕ) (xs : List (K × ℕ)) (es : Pairs) → ((k : K) → key k ≡ q → P) → (find bytes_cmp q (put_all (keyed key xs) es) ≡ find bytes_cmp q es → P) → P
   some_put q [] es here gone = gone refl
   some_put {P} q (x ∷ xs) es here gone = elim (eq_by_cmp bytes_cmp q (key x.0)) as (λ b. eq_by_cmp bytes_cmp q (key x.0) ≡ b → P) [

@@ -41,7 +41,7 @@ refused_read kind bytes d pairs e (Err j) spelled refusal of = elim of [
   ])
 ]
 
--- where each element is read in what is shown of it, all are read in the list of what is shown
+-- if each element is read in what is shown of it, all are read in the list of what is shown
 pub each_shown : {A : Type 0} (shown : A → Data) (read : Data → Option A) (xs : List A) → All (λ x. read (shown x) ≡ Some x) xs
     → each read (items_of (map shown xs)) ≡ Some xs
 each_shown shown read [] h = refl

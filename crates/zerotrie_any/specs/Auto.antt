@@ -1,4 +1,4 @@
--- The kind that is taken for pairs, where none is named.
+-- The kind that is taken for pairs, if none is named.
 use Rattle.std.specs.Prelude.{◌≡◌, ℕ, ◌⊎◌, Bool, ◌&&◌, nat_lt, if◌then◌else◌, List, length, Result, Ok, Err}
 use Rattle.std.specs.List.{list_all}
 use Rattle.zerotrie_core.specs.Kind.{Kind, simple_ascii, perfect_hash}
@@ -23,8 +23,8 @@ is_simple pairs = nat_lt (length pairs) 512 && are_ascii pairs
 abbrev pub auto_kind : Pairs → Kind
 auto_kind pairs = if is_simple pairs then simple_ascii else perfect_hash
 
--- What a build answers of all pairs that an iterator gives, into the kind that is taken for them. Where memory was
--- wanting, it may not have given them all.
+-- What a build answers of all pairs that an iterator gives, into the kind that is taken for them. If memory was
+-- refused, it may not have given them all.
 abbrev pub IsAutoBuildOfAll : {B : Type 0} → ((Pairs → Type 0) → Type 0) → (B → Kind) → (B → List ℕ) → Result B ZeroTrieBuildError → Type 0
 IsAutoBuildOfAll OfAll kind bytes (Ok b) = OfAll (λ pairs. (kind b ≡ auto_kind pairs) × IsBuild any_order (auto_kind pairs) bytes pairs (Ok b))
 IsAutoBuildOfAll OfAll kind bytes (Err e) = (e ≡ OutOfMemory) ⊎ OfAll (λ pairs. HasCause any_order (auto_kind pairs) pairs e)

@@ -8,7 +8,7 @@ use Rattle.zerotrie_core.specs.declared.ZeroTrieBuildError.{ZeroTrieBuildError}
 use Rattle.zerotrie_any.specs.Json.{pairs_in}
 use Rattle.zerotrie_any.specs.declared.json.JsonError.{JsonError}
 
--- What reading answers: what is there, or that nothing is. Where memory was wanting, neither is said.
+-- What reading answers: what is there, or that nothing is. If it is out of memory, neither is said.
 abbrev pub IsReading : {A B : Type 0} → (B → A) → Option A → Result B JsonError → Type 0
 IsReading seen there (Ok b) = there ≡ Some (seen b)
 IsReading seen there (Err JsonError.Shape) = there ≡ None
@@ -27,7 +27,7 @@ IsBuildOfJson kind bytes d (Err JsonError.Shape) = pairs_in d ≡ None
 IsBuildOfJson kind bytes d (Err (JsonError.Build e)) = HasPairs d (λ pairs. HasCause any_order (kind pairs) pairs e)
 IsBuildOfJson kind bytes d (Err JsonError.OutOfMemory) = Unit {0}
 
--- a refusal of a build as one of a reading: want of memory is its own, all else is held
+-- a refusal of a build as one of a reading: out of memory is a case of its own, all else is held
 abbrev pub IsOfBuild : ZeroTrieBuildError → JsonError → Type 0
 IsOfBuild e j = ((e ≡ ZeroTrieBuildError.OutOfMemory) × (j ≡ JsonError.OutOfMemory))
     ⊎ ((e ≡ ZeroTrieBuildError.OutOfMemory → ⊥) × (j ≡ JsonError.Build e))

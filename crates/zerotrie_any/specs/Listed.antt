@@ -9,7 +9,7 @@ use Rattle.zerotrie_core.specs.Items.{keyed}
 use Rattle.zerotrie_core.specs.declared.listing.ListError.{ListError}
 use Rattle.zerotrie_core.specs.declared.listing.ListError.TheVariants.{OutOfMemory}
 
--- the answer is the map, its keys by their bytes, or memory was wanting
+-- the answer is the map, its keys by their bytes, or memory was refused
 abbrev pub IsListed : {K : Type 0} → (K → List ℕ) → Map → Result (BTreeMap K ℕ) ListError → Type 0
 IsListed key m (Ok map) = keyed key map.entries ≡ entries m
 IsListed key m (Err e) = e ≡ OutOfMemory

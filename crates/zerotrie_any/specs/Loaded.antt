@@ -10,7 +10,7 @@ use Rattle.zerotrie_any.specs.declared.load.LoadError.TheVariants.{Tag, NotWellF
 abbrev pub IsLoaded : Kind → List ℕ → List ℕ → Type 0
 IsLoaded kind bytes rest = (bytes ≡ tagged kind rest) × IsWellFormed kind rest
 
--- why bytes are refused where such tags are read: no such tag stands in front, or what stands after one means no map of
+-- why bytes are refused if such tags are read: no such tag stands in front, or what stands after one means no map of
 -- its kind
 abbrev pub IsLoadFault : (ℕ → Type 0) → List ℕ → LoadError → Type 0
 IsLoadFault IsRead bytes (Tag e) = IsTagFault IsRead bytes e

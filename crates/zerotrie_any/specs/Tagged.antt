@@ -1,4 +1,4 @@
--- Tagged bytes: a trie's bytes behind the number of its kind.
+-- Tagged bytes: a trie's bytes after the number of its kind.
 use Rattle.std.specs.Prelude.{◌≡◌, ℕ, List, [], ◌∷◌}
 use Rattle.zerotrie_core.specs.Kind.{Kind, tag}
 use Rattle.zerotrie_any.specs.Flavors.{flavor_kind}
@@ -10,7 +10,7 @@ use Rattle.zerotrie_any.specs.declared.tags.TagError.TheVariants.{Empty, Invalid
 abbrev pub tagged : Kind → List ℕ → List ℕ
 tagged kind bytes = tag kind ∷ bytes
 
--- why tagged bytes are refused where such tags are read: there are none, or the first is another tag
+-- why tagged bytes are refused if such tags are read: there are none, or the first is another tag
 abbrev pub IsTagFault : (ℕ → Type 0) → List ℕ → TagError → Type 0
 IsTagFault IsRead [] e = e ≡ Empty
 IsTagFault IsRead (first ∷ bytes) e = (e ≡ InvalidTag) × (IsRead first → ⊥)

@@ -29,7 +29,7 @@ pub enum JsonError {
     /// The pairs in the value make no trie of the kind, for this reason, which is never out of memory.
     #[error("the pairs in the value make no trie: {0}")]
     Build(ZeroTrieBuildError),
-    /// A growth was refused.
+    /// Memory was refused.
     #[error("out of memory")]
     OutOfMemory,
 }

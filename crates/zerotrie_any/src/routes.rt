@@ -60,7 +60,7 @@ pub(crate) fn items_of<Key: TrieKey + Ord>(
 /// The bytes of the trie of a map. An empty map gives an empty trie.
 ///
 /// A build is refused as one of a slice is, each time for the reason that `ZeroTrieBuildError` gives.
-/// `Unsorted` never comes where the map's keys are in the order of their bytes, as keys of bytes and of text
+/// `Unsorted` never comes if the map's keys are in the order of their bytes, as keys of bytes and of text
 /// are.
 pub fn bytes_from_map<K: ZeroTrieWithOptions, Key: TrieKey + Ord>(
     alloc: Global,

@@ -15,7 +15,7 @@ pub length-keys_from : (from : ℕ) (bytes ends : List ℕ) → length (keys_fro
 length-keys_from from bytes [] = refl
 length-keys_from from bytes (to ∷ ends) = ap (λ n. suc n) (length-keys_from to bytes ends)
 
--- the entry of a number, and those behind it
+-- the entry of a number, and those after it
 next_entry : (n : ℕ) (P S : List (List ℕ)) (V : List ℕ) (p s : List ℕ) → slice_get P n ≡ Some p → slice_get S n ≡ Some s → n < length V
     → drop n (entries_of P S V) ≡ (p, s, get_or V n 0) ∷ drop (suc n) (entries_of P S V)
 next_entry n [] S V p s ip is some = absurd (none_some p ip)
@@ -34,7 +34,7 @@ entry_below (suc n) P S V p s some room ip is =
     let e : suc n - 1 ≡ n = omega arith in
     rw e (next_entry n P S V p s (rw e at ip) (rw e at is) (omega arith))
 
--- none is left behind the shortest list
+-- none is left after the shortest list
 pub no_entries : (n : ℕ) (P S : List (List ℕ)) (V : List ℕ) → (n < length P → n < length S → n < length V → ⊥) → drop n (entries_of P S V) ≡ []
 no_entries zero [] S V over = refl
 no_entries zero (x ∷ P) [] V over = refl

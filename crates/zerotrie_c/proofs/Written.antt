@@ -15,7 +15,7 @@ going_on-more f keys n from (e ∷ ends) [] some room = absurd (omega arith)
 going_on-more f keys zero from (e ∷ ends) (v ∷ values) some room = refl
 going_on-more f keys (suc n) from (e ∷ ends) (v ∷ values) some room = ap (λ l. v ∷ l) (going_on-more f keys n from ends values (omega arith) (omega arith))
 
--- nothing is written where there is no room
+-- nothing is written if there is no room
 written_nowhere : (new : List ℕ) → written_over new [] ≡ []
 written_nowhere [] = refl
 written_nowhere (n ∷ new) = refl

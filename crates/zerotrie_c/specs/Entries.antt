@@ -29,7 +29,7 @@ abbrev pub rows_of : Entries → Rows
 rows_of [] = []
 rows_of (e ∷ entries) = entry_before e (rows_of entries)
 
--- the rows of the texts that lie one behind another up to these ends, and of the values
+-- the rows of the texts that lie one after another up to these ends, and of the values
 abbrev pub rows_given : List ℕ → List ℕ → List ℕ → List ℕ → List ℕ → Rows
 rows_given prefixes prefix_ends suffixes suffix_ends values =
     rows_of (entries_of (keys_from 0 prefixes prefix_ends) (keys_from 0 suffixes suffix_ends) values)

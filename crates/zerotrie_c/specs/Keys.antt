@@ -1,4 +1,4 @@
--- Keys that lie one behind another, and the values that are written for them.
+-- Keys that lie one after another, and the values that are written for them.
 use Rattle.std.specs.Prelude.{ℕ, List, [], ◌∷◌, map, take, drop, Option, Some, None}
 use Rattle.zerotrie_core.specs.Kind.{Kind}
 use Rattle.zerotrie_core.specs.Maps.{Map, look}

@@ -6,7 +6,7 @@ use Rattle.zerotrie_core.specs.Listings.{rest_after}
 use Rattle.zerotrie_core.specs.declared.ZeroTrieBuildError.TheVariants.{BufferTooSmall, OutOfMemory}
 use Rattle.zerotrie_c.specs.Statuses.{done, status_of}
 
--- all keys, one behind another
+-- all keys, one after another
 abbrev pub joined : Pairs → List ℕ
 joined [] = []
 joined (p ∷ pairs) = p.0 ++ joined pairs
@@ -20,7 +20,7 @@ ends_from n (p ∷ pairs) = (n + length p.0) ∷ ends_from (n + length p.0) pair
 abbrev pub values_of : Pairs → List ℕ
 values_of pairs = map (λ p. p.1) pairs
 
--- keys that lie one behind another, where each ends, and their values
+-- keys that lie one after another, where each ends, and their values
 pub record IsFlat (pairs : Pairs) (keys ends values : List ℕ) : Type 0 where
   pub keys_are : keys ≡ joined pairs
   pub ends_are : ends ≡ ends_from 0 pairs
@@ -42,7 +42,7 @@ IsGiven all_keys all_ends all_values status old_keys keys old_ends ends old_valu
     × IsPut all_keys k old_keys keys × IsPut all_ends e old_ends ends × IsPut all_values v old_values values
     × (status ≡ status_if (k && e && v))
 
--- What a listing of the pairs comes to: they are given, or memory was wanting, and the rooms stay.
+-- What a listing of the pairs comes to: they are given, or memory was refused, and the rooms stay.
 abbrev pub IsListed : Pairs → ℕ → List ℕ → List ℕ → List ℕ → List ℕ → List ℕ → List ℕ → ℕ → ℕ → Type 0
 IsListed pairs status old_keys keys old_ends ends old_values values key_bytes count =
     IsGiven (joined pairs) (ends_from 0 pairs) (values_of pairs) status old_keys keys old_ends ends old_values values key_bytes count
@@ -65,7 +65,7 @@ HasNoRoom keys ends values written (p ∷ left) next_len = (next_len ≡ length 
     × ((keys < length (joined written) + length p.0) ⊎ (ends ≤ length written) ⊎ (values ≤ length written))
 
 -- What a part of a listing comes to: the first of the pairs are written, as many as are counted. It is done if none is
--- left; else the next one has no room, or memory was wanting.
+-- left; else the next one has no room, or memory was refused.
 abbrev pub IsListedSome : Pairs → ℕ → List ℕ → List ℕ → List ℕ → List ℕ → List ℕ → List ℕ → ℕ → ℕ → Type 0
 IsListedSome pairs status old_keys keys old_ends ends old_values values count next_len =
     (written : Pairs) × (left : Pairs) × (pairs ≡ written ++ left) × (count ≡ length written)

@@ -5,7 +5,7 @@ use Rattle.zerotrie_any.specs.Tagged.{tagged}
 use Rattle.zerotrie_c.specs.Numbers.{kind_of}
 use Rattle.zerotrie_c.specs.Statuses.{done, no_tag, invalid_tag}
 
--- the bytes are these behind the tag of the kind of this number
+-- the bytes are these after the tag of the kind of this number
 abbrev pub IsTaggedAs : List ℕ → ℕ → List ℕ → Type 0
 IsTaggedAs bytes number behind = (kind : Kind) × (number ≡ tag kind) × (bytes ≡ tagged kind behind)
 
@@ -14,7 +14,7 @@ abbrev pub IsNotTagged : List ℕ → ℕ → Type 0
 IsNotTagged [] status = status ≡ no_tag
 IsNotTagged (first ∷ bytes) status = (status ≡ invalid_tag) × (kind_of first ≡ None)
 
--- What is told of tagged bytes: the number of their kind and what stands behind it, or why they are none; then nothing
+-- What is told of tagged bytes: the number of their kind and what stands after it, or why they are none; then nothing
 -- is written.
 abbrev pub IsUntagged : List ℕ → ℕ → ℕ → ℕ → List ℕ → List ℕ → Type 0
 IsUntagged bytes status old_number number old_behind behind =

@@ -90,7 +90,7 @@ fn record_given(
 /// Builds the table of entries, each a prefix, a suffix and the value of both, and hands out its record. The entries are
 /// in the order of their prefixes, and under one prefix in that of their suffixes.
 ///
-/// The prefixes lie one behind another in `prefixes`, each up to its end, and so do the suffixes in `suffixes`; an end
+/// The prefixes lie one after another in `prefixes`, each up to its end, and so do the suffixes in `suffixes`; an end
 /// past all bytes stands for theirs, and an end below the one before it makes an empty text. There are as many entries
 /// as the shortest of `prefix_ends`, `suffix_ends` and `values` has.
 #[unsafe(no_mangle)]

@@ -15,7 +15,7 @@ use std::cmp::Ordering;
 use std::collections::BTreeMap;
 use zerotrie_core::ZeroTrieBuildError;
 
-/// Texts that lie one behind another, and where each ends.
+/// Texts that lie one after another, and where each ends.
 #[derive(Clone, Copy)]
 pub struct Texts<'a> {
     pub bytes: &'a [u8],
@@ -146,7 +146,7 @@ fn start_of(ends: &[usize], number: usize) -> usize
     }
 }
 
-/// The key of this number, among those that lie one behind another.
+/// The key of this number, among those that lie one after another.
 fn key_at<'b>(bytes: &'b [u8], ends: &[usize], number: usize) -> &'b [u8]
     requires { number < length ends.now }
     ensures { slice_get (keys_from 0 bytes.now ends.now) number ≡ Some result.now }

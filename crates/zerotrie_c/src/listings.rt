@@ -13,7 +13,7 @@ use crate::statuses::{BUFFER_TOO_SMALL, DONE, OUT_OF_MEMORY, UNKNOWN_KIND};
 use std::alloc::{AllocError, Global};
 use zerotrie_core::{Ext, Hash, Ignore, ListError, Simple, ZeroTrieStream, ZeroTrieWithOptions};
 
-/// Keys that lie one behind another, where each ends, and their values.
+/// Keys that lie one after another, where each ends, and their values.
 #[derive(Drop)]
 struct Flat {
     keys: Vec<u8>,
@@ -129,7 +129,7 @@ fn list_out<K: ZeroTrieWithOptions>(
     }
 }
 
-/// Lists the pairs of a trie whose keys begin with a prefix, with the empty prefix all of them: their keys one behind
+/// Lists the pairs of a trie whose keys begin with a prefix, with the empty prefix all of them: their keys one after
 /// another, where each ends, and their values.
 ///
 /// How many bytes the keys have together and how many there are is told also if a room is too small; a room that is has
@@ -250,7 +250,7 @@ fn list_some<K: ZeroTrieWithOptions>(
 }
 
 /// Lists the next pairs whose keys begin with a prefix, as many as the rooms have places for: if `goes_on`, those after
-/// the key `last`, which the call before gave, and else the first ones. Their keys go one behind another, and where each
+/// the key `last`, which the call before gave, and else the first ones. Their keys go one after another, and where each
 /// ends, and their values.
 ///
 /// It is done if none is left. If the next pair has no room, the length of its key is told. It costs a look-up of the

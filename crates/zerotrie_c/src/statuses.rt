@@ -11,7 +11,7 @@ pub const DONE: u32 = 0;
 /// The room is too small; the length that it takes is told.
 pub const BUFFER_TOO_SMALL: u32 = 8;
 
-/// A growth was refused.
+/// Memory was refused.
 pub const OUT_OF_MEMORY: u32 = 11;
 
 /// The number given for a kind is that of none.

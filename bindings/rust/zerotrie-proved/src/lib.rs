@@ -11,8 +11,17 @@
 //! # Ok::<(), zerotrie_proved::Error>(())
 //! ```
 //!
+//! A [`ZeroTrie`] borrows its bytes, from a file that was read or mapped, from a constant or from [`build`], and takes no memory:
+//! look-ups and cursors read the bytes where they lie. [`ZeroTrie::iter`] goes over the pairs, and [`ZeroTrie::prefix`] over
+//! those of a prefix. [`DenseTable`] is a map from two texts.
+//!
 //! The library asks nothing of a call beside what its pointers owe, and slices of Rust give that. So each function here is
-//! safe: it returns on any bytes, and any number of threads may read one trie at once.
+//! safe: it returns on any bytes, and any number of threads may read one trie at once. Bytes from elsewhere are tested by
+//! [`ZeroTrie::try_from_bytes`] or [`ZeroTrie::load`]; on bytes that are no trie each call still gives some answer.
+//!
+//! A package names it by its path, as `zerotrie-proved = { path = "zt/bindings/rust/zerotrie-proved" }`. It is `no_std` with `alloc`. What the library itself takes during a build or a listing comes from the C library's `malloc`, and
+//! [`Error::OutOfMemory`] tells that there was none. `bindings/make` makes the static library that is linked; the variable `ZEROTRIE_LIB`
+//! names its folder, if it is another.
 #![no_std]
 extern crate alloc;
 
@@ -137,6 +146,8 @@ impl fmt::Display for Error {
 impl core::error::Error for Error {}
 
 /// A map from byte strings to numbers, read from bytes where they lie.
+///
+/// Two are equal if their kinds and their bytes are.
 #[derive(Clone, Copy, Debug, PartialEq, Eq, Hash)]
 pub struct ZeroTrie<'a> {
     kind: Kind,
@@ -149,13 +160,36 @@ impl<'a> ZeroTrie<'a> {
         ZeroTrie { kind, bytes }
     }
 
-    /// The trie of these bytes, if they are one of the kind, and else `NotWellFormed`.
+    /// The trie of these bytes, which are tested: `NotWellFormed` if they are no trie of the kind.
+    ///
+    /// ```
+    /// # use zerotrie_proved::{Error, Kind, ZeroTrie};
+    /// assert_eq!(ZeroTrie::try_from_bytes(Kind::SimpleAscii, b"in\x83")?.get("in"), Some(3));
+    /// assert_eq!(ZeroTrie::try_from_bytes(Kind::SimpleAscii, b"in"), Err(Error::NotWellFormed));
+    /// # Ok::<(), Error>(())
+    /// ```
     pub fn try_from_bytes(kind: Kind, bytes: &'a [u8]) -> Result<Self, Error> {
         let trie = ZeroTrie { kind, bytes };
         if trie.is_well_formed() { Ok(trie) } else { Err(Error::NotWellFormed) }
     }
 
-    /// The trie of tagged bytes, which tell their kind. What stands after the tag is not tested.
+    /// The trie of tagged bytes, which tell their kind. What stands after the tag is tested: `NotWellFormed` if it is no trie of
+    /// that kind. `NoTag` if there are no bytes, and `InvalidTag` if the first is the number of no kind.
+    ///
+    /// ```
+    /// # use zerotrie_proved::{Error, Kind, ZeroTrie, build};
+    /// let bytes = build(Kind::PerfectHash, [("å", 1)])?;
+    /// let file = ZeroTrie::from_bytes(Kind::PerfectHash, &bytes).to_tagged();
+    /// assert_eq!(ZeroTrie::load(&file)?.get("å"), Some(1));
+    /// assert_eq!(ZeroTrie::load(&file[..2]), Err(Error::NotWellFormed));
+    /// # Ok::<(), Error>(())
+    /// ```
+    pub fn load(tagged: &'a [u8]) -> Result<Self, Error> {
+        let trie = ZeroTrie::from_tagged(tagged)?;
+        ZeroTrie::try_from_bytes(trie.kind, trie.bytes)
+    }
+
+    /// The trie of tagged bytes, as `load`, but what stands after the tag is not tested.
     ///
     /// ```
     /// # use zerotrie_proved::{Error, Kind, ZeroTrie};
@@ -165,19 +199,19 @@ impl<'a> ZeroTrie<'a> {
     /// # Ok::<(), Error>(())
     /// ```
     pub fn from_tagged(tagged: &'a [u8]) -> Result<Self, Error> {
-        let (mut number, mut behind) = (0, ffi::Bytes { ptr: tagged.as_ptr(), len: 0 });
+        let (mut number, mut after) = (0, ffi::Bytes { ptr: tagged.as_ptr(), len: 0 });
         // SAFETY: a slice, and two places that are this call's own.
-        match unsafe { ffi::zerotrie_untagged(tagged.as_ptr(), tagged.len(), &mut number, &mut behind) } {
+        match unsafe { ffi::zerotrie_untagged(tagged.as_ptr(), tagged.len(), &mut number, &mut after) } {
             0 => {
                 let kind = Kind::of(number).ok_or(Error::InvalidTag)?;
                 // SAFETY: the library hands out a part of the bytes that it was given.
-                Ok(ZeroTrie { kind, bytes: unsafe { slice(behind) } })
+                Ok(ZeroTrie { kind, bytes: unsafe { slice(after) } })
             }
             status => Err(Error::of(status)),
         }
     }
 
-    /// The number of the kind, and then the bytes.
+    /// Tagged bytes: the number of the kind, and then the bytes. `load` reads them.
     pub fn to_tagged(&self) -> Vec<u8> {
         let (mut out, mut len) = (vec![0; self.bytes.len() + 1], 0);
         // SAFETY: a slice that is read, one that is written and is this call's own, and a place.
@@ -219,6 +253,11 @@ impl<'a> ZeroTrie<'a> {
         found.then_some(value)
     }
 
+    /// Whether the trie has the key.
+    pub fn contains_key(&self, key: impl AsRef<[u8]>) -> bool {
+        self.get(key).is_some()
+    }
+
     /// Looks up keys that lie one after another, each up to its end. Writes the value of each, or `missing` for a key that
     /// the trie hasn't, as far as there is room; the rest of the room stays.
     ///
@@ -249,7 +288,7 @@ impl<'a> ZeroTrie<'a> {
         debug_assert_eq!(status, 0);
     }
 
-    /// The longest key that a text begins with, and its value. `None` if the text begins with no key.
+    /// The longest key that a text begins with, as a part of the text, and its value. `None` if the text begins with no key.
     pub fn longest_prefix<'t, T: AsRef<[u8]> + ?Sized>(&self, text: &'t T) -> Option<(&'t [u8], usize)> {
         let (text, mut len, mut value) = (text.as_ref(), 0, 0);
         // SAFETY: two slices, and two places that are this call's own.
@@ -276,7 +315,14 @@ impl<'a> ZeroTrie<'a> {
     }
 
     /// A cursor after a prefix. `None` if no key begins with it.
-    pub fn cursor_behind(&self, prefix: impl AsRef<[u8]>) -> Option<Cursor<'a>> {
+    ///
+    /// ```
+    /// # use zerotrie_proved::{Kind, ZeroTrie};
+    /// let trie = ZeroTrie::from_bytes(Kind::SimpleAscii, b"a\x85b\x86");
+    /// assert_eq!(trie.with_prefix("ab").and_then(|mut cursor| cursor.take_value()), Some(6));
+    /// assert!(trie.with_prefix("b").is_none());
+    /// ```
+    pub fn with_prefix(&self, prefix: impl AsRef<[u8]>) -> Option<Cursor<'a>> {
         let (prefix, mut raw) = (prefix.as_ref(), nowhere(self.bytes));
         // SAFETY: two slices, and a cursor that is this call's own.
         let some = unsafe {
@@ -292,8 +338,8 @@ impl<'a> ZeroTrie<'a> {
         some.then_some(Cursor { kind: self.kind, raw, bytes: PhantomData })
     }
 
-    /// The pairs, one after another, in the order of the bytes. It goes on as it is asked, and keeps a key and the places
-    /// on the way to it.
+    /// The pairs, one after another, in the order of the bytes, which in `SimpleAscii` is that of the keys. It goes on as it is
+    /// asked, and keeps a key and the places on the way to it.
     ///
     /// ```
     /// # use zerotrie_proved::{Kind, ZeroTrie};
@@ -304,7 +350,14 @@ impl<'a> ZeroTrie<'a> {
         Iter { key: Vec::new(), places: vec![(self.cursor(), 0)] }
     }
 
-    /// The pairs whose keys begin with a prefix, listed at once; each with its whole key.
+    /// The pairs whose keys begin with a prefix, listed at once; each with its whole key. `OutOfMemory` if the library gets none.
+    ///
+    /// ```
+    /// # use zerotrie_proved::{Kind, ZeroTrie};
+    /// let trie = ZeroTrie::from_bytes(Kind::SimpleAscii, b"a\x85b\x86");
+    /// assert!(trie.prefix("ab")?.eq([(b"ab".to_vec(), 6)]));
+    /// # Ok::<(), zerotrie_proved::Error>(())
+    /// ```
     pub fn prefix(&self, prefix: impl AsRef<[u8]>) -> Result<Items, Error> {
         let prefix = prefix.as_ref();
         let mut items = Items { keys: vec![], ends: vec![], values: vec![], next: 0 };
@@ -364,6 +417,15 @@ impl<'a> IntoIterator for ZeroTrie<'a> {
     }
 }
 
+impl<'a> IntoIterator for &ZeroTrie<'a> {
+    type Item = (Vec<u8>, usize);
+    type IntoIter = Iter<'a>;
+
+    fn into_iter(self) -> Iter<'a> {
+        self.iter()
+    }
+}
+
 /// A place in a trie, between two bytes of keys. A copy is a place of its own.
 ///
 /// ```
@@ -379,14 +441,16 @@ pub struct Cursor<'a> {
 }
 
 impl<'a> Cursor<'a> {
-    /// Goes along the edge that is the byte to the kind, and answers its byte. If there is none, nothing is left.
+    /// Goes along the edge that is the byte to the kind, and answers its byte as it is stored. `None` if there is none, and then
+    /// nothing is left.
     pub fn step(&mut self, byte: u8) -> Option<u8> {
         let mut edge = 0;
         // SAFETY: the library made the cursor over bytes that are still borrowed.
         unsafe { ffi::zerotrie_cursor_step(self.kind as u32, &mut self.raw, byte, &mut edge) }.then_some(edge)
     }
 
-    /// Goes along edge number `index`, and answers its byte and how many edges there are. If there is none, nothing is left.
+    /// Goes along edge number `index`, from 0, and answers its byte and how many edges there are. `None` if there is no such
+    /// edge, and then nothing is left.
     pub fn probe(&mut self, index: usize) -> Option<(u8, u16)> {
         let (mut edge, mut siblings) = (0, 0);
         // SAFETY: as in `step`.
@@ -394,7 +458,7 @@ impl<'a> Cursor<'a> {
             .then_some((edge, siblings))
     }
 
-    /// Takes the value of the key that ends here.
+    /// Takes the value of the key that ends here. `None` if no key does, or if it was taken.
     pub fn take_value(&mut self) -> Option<usize> {
         let mut value = 0;
         // SAFETY: as in `step`.
@@ -407,7 +471,7 @@ impl<'a> Cursor<'a> {
         unsafe { slice(self.raw.run) }
     }
 
-    /// Whether no key goes on from here.
+    /// Whether no key goes on from here, and none ends here.
     pub fn is_empty(&self) -> bool {
         self.raw.run.len == 0 && self.raw.trie.len == 0
     }
@@ -470,7 +534,7 @@ pub struct Items {
 }
 
 impl Items {
-    /// The next pair, whose key is lent.
+    /// The next pair, as `next`, but its key is lent and not copied.
     pub fn next_lent(&mut self) -> Option<(&[u8], usize)> {
         let number = self.next;
         let value = *self.values.get(number)?;
@@ -496,18 +560,30 @@ impl Iterator for Items {
 impl ExactSizeIterator for Items {}
 impl FusedIterator for Items {}
 
-/// The bytes of the trie of pairs in any order.
+/// The bytes of the trie of pairs in any order, as of an array, a map or another iterator. Refused if a key comes twice, or is none of
+/// the kind.
+///
+/// ```
+/// # use std::collections::BTreeMap;
+/// # use zerotrie_proved::{Error, Kind, build};
+/// let map = BTreeMap::from([("foo".to_string(), 1), ("bar".to_string(), 2)]);
+/// assert_eq!(build(Kind::SimpleAscii, map)?, b"\xC2bf\x03ar\x82oo\x81");
+/// let error = build(Kind::SimpleAscii, [("a", 1), ("a", 2)]).unwrap_err();
+/// assert_eq!(error.to_string(), "a key was given twice: give each key once");
+/// # Ok::<(), Error>(())
+/// ```
 pub fn build<K: AsRef<[u8]>>(kind: Kind, pairs: impl IntoIterator<Item = (K, usize)>) -> Result<Vec<u8>, Error> {
     let pairs: Vec<(K, usize)> = pairs.into_iter().collect();
     built(kind, &pairs, ffi::zerotrie_build)
 }
 
-/// The bytes of the trie of pairs whose keys ascend strictly by their bytes.
+/// The bytes of the trie of pairs whose keys ascend strictly by their bytes, which need not be sorted. `Unsorted` if they
+/// don't ascend.
 pub fn build_sorted<K: AsRef<[u8]>>(kind: Kind, pairs: &[(K, usize)]) -> Result<Vec<u8>, Error> {
     built(kind, pairs, ffi::zerotrie_build_sorted)
 }
 
-/// How many bytes `build_sorted` of these pairs has.
+/// How many bytes `build_sorted` of these pairs has. It builds nothing.
 pub fn encoded_len<K: AsRef<[u8]>>(kind: Kind, pairs: &[(K, usize)]) -> Result<usize, Error> {
     let (pairs, mut len) = (raw_pairs(pairs), 0);
     // SAFETY: a slice of pairs, whose keys are borrowed, and a place that is this call's own.

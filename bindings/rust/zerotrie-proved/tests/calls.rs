@@ -26,7 +26,8 @@ fn the_map_that_went_in_comes_out() {
         trie.get_many(&keys, &ends, usize::MAX, &mut values);
         assert!(values.iter().eq(map.values()));
         let tagged = trie.to_tagged();
-        assert_eq!(ZeroTrie::from_tagged(&tagged), Ok(trie));
+        assert_eq!((ZeroTrie::from_tagged(&tagged), ZeroTrie::load(&tagged)), (Ok(trie), Ok(trie)));
+        assert!((&trie).into_iter().eq(trie) && trie.contains_key("key-0") && !trie.contains_key("key"));
     }
     assert_eq!(Kind::for_pairs(&pairs), Kind::PerfectHash);
     assert_eq!(Kind::for_pairs(&pairs[..511]), Kind::SimpleAscii);
@@ -42,6 +43,8 @@ fn refusals() {
         assert_eq!(build(kind, [("", 0); 0]), Ok(vec![]));
     }
     assert_eq!(ZeroTrie::try_from_bytes(Kind::SimpleAscii, b"into"), Err(Error::NotWellFormed));
+    assert_eq!(ZeroTrie::load(b"\x00into"), Err(Error::NotWellFormed));
+    assert_eq!((ZeroTrie::load(b""), ZeroTrie::load(b"\x05")), (Err(Error::NoTag), Err(Error::InvalidTag)));
     assert_eq!(Error::DuplicateKey.to_string(), "a key was given twice: give each key once");
 }
 
@@ -93,7 +96,7 @@ fn any_bytes() {
             let mut cursor = trie.cursor();
             for byte in &key { cursor.step(*byte); }
             let taken = cursor.take_value();
-            let _ = (trie.cursor_behind(&key).is_some_and(|cursor| cursor.is_empty()), cursor.run().len());
+            let _ = (trie.with_prefix(&key).is_some_and(|cursor| cursor.is_empty()), cursor.run().len());
             if trie.is_well_formed() {
                 tries += 1;
                 assert_eq!(found, taken);
