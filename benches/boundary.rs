@@ -27,7 +27,7 @@ fn best(rounds: usize, items: usize, contestants: &mut [Work<'_>]) -> Vec<f64> {
     times
 }
 
-/// The sum of the answers to all keys, so many times over.
+/// The sum of the answers to all keys, this many times over.
 fn all<'a>(turns: usize, keys: &'a [&'a [u8]], get: impl Fn(&[u8]) -> Option<usize> + 'a) -> Work<'a> {
     Box::new(move || (0..turns).map(|_| keys.iter().map(|k| get(k).unwrap_or(7)).sum::<usize>()).sum())
 }

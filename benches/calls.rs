@@ -127,7 +127,7 @@ pub fn asked_by(keys: &[&[u8]], get: impl Fn(&[u8]) -> Option<usize>) -> usize {
     keys.iter().map(|key| get(key).unwrap_or(usize::MAX)).fold(0, usize::wrapping_add)
 }
 
-/// The same so many times, by a look-up of the library.
+/// The same this many times, by a look-up of the library.
 pub fn ask_many(kind: Kind, bytes: &[u8], flat: &Flat, times: usize) -> usize {
     // SAFETY: the function reads the three slices.
     unsafe {

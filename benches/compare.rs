@@ -53,7 +53,7 @@ fn shuffled(keys: &[Vec<u8>]) -> Vec<Vec<u8>> {
     keys
 }
 
-/// Look-ups. The keys that are asked for lie elsewhere than those of the maps, one behind another in the order in which they are.
+/// Look-ups. The keys that are asked for lie elsewhere than those of the maps, one after another in the order in which they are.
 fn look_ups(title: &str, sets: &[Set], rounds: usize, asked: impl Fn(&Set) -> Vec<Vec<u8>>) -> Table {
     let mut table = Table::of_shares(title);
     for set in sets {

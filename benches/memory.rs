@@ -69,7 +69,7 @@ enum Route {
     Iterator,
 }
 
-/// Our build, so many times. A call without a build holds the items alone, or the map of them, which are its caller's.
+/// Our build, this many times. A call without a build holds the items alone, or the map of them, which are its caller's.
 fn build(kind: Kind, route: Route, flat: &Flat, times: usize, out: &mut [u8]) {
     let len = match route {
         Route::Slice => calls::build_many(kind, 0, flat, times, out),
@@ -177,8 +177,8 @@ fn grown(kind: Kind, set: &Set) -> Vec<(&'static str, (f64, f64))> {
 /// Time and memory of builds from 1,000 to 1,000,000 made words, as two tables and a chart.
 fn growth(kind: Kind) -> (Table, Table, [chart::Growth; 2]) {
     let named = |what: &str| format!("{what}, {}", kind.name());
-    let mut times = Table::plain(&named("Builds of so many words, ns a key"));
-    let mut peaks = Table::plain(&named("Builds of so many words, bytes a key at the peak"));
+    let mut times = Table::plain(&named("Builds of this many words, ns a key"));
+    let mut peaks = Table::plain(&named("Builds of this many words, bytes a key at the peak"));
     let mut lines: Vec<(String, [Vec<(f64, f64)>; 2])> = Vec::new();
     for count in [1_000, 3_000, 10_000, 30_000, 100_000, 300_000, 1_000_000] {
         let set = Set::numbered("words", sets::words(29, count));

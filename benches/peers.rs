@@ -57,7 +57,7 @@ fn fst_listed(map: &peers::fst::Map) -> usize {
     sum
 }
 
-/// Asks for each key so many times.
+/// Asks for each key this many times.
 fn all<'a>(turns: usize, keys: &'a [&'a [u8]], get: impl Fn(&[u8]) -> Option<usize> + Copy + 'a) -> Work<'a> {
     Box::new(move || (0..turns).map(|_| asked_by(keys, get)).fold(0, usize::wrapping_add))
 }
@@ -78,7 +78,7 @@ impl Peers {
         }
     }
 
-    /// Look-ups of keys, each so many times.
+    /// Look-ups of keys, each this many times.
     pub fn look_ups<'a>(&'a self, turns: usize, keys: &'a [&'a [u8]]) -> Contestants<'a> {
         vec![
             ("BTreeMap", all(turns, keys, |key| self.ordered.get(key).copied())),
@@ -94,7 +94,7 @@ impl Peers {
         ]
     }
 
-    /// Listings of all pairs that lend their keys, each so many times.
+    /// Listings of all pairs that lend their keys, each this many times.
     pub fn listings<'a>(&'a self, turns: usize) -> Contestants<'a> {
         let ordered = || self.ordered.iter().map(|(key, value)| key.len().wrapping_add(*value)).fold(0, usize::wrapping_add);
         vec![

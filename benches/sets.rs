@@ -236,7 +236,7 @@ fn locales() -> Vec<(String, String, usize)> {
     entries.into_iter().map(|((prefix, suffix), value)| (prefix, suffix, value)).collect()
 }
 
-/// So many full rows of so many suffixes, each row with its values in a range of 1,000.
+/// This many full rows of this many suffixes, each row with its values in a range of 1,000.
 fn full_rows(prefixes: usize, suffixes: usize) -> Vec<(String, String, usize)> {
     let mut random = Random::new(61);
     let text = |word: Vec<u8>| String::from_utf8(word).unwrap();
@@ -278,7 +278,7 @@ pub fn absent(table: &Table) -> Vec<(String, String)> {
     missing
 }
 
-/// As many keys that are not in the set: each is a key of it with one byte changed, and, should that be a key, more bytes behind it.
+/// As many keys that are not in the set: each is a key of it with one byte changed, and, should that be a key, more bytes after it.
 pub fn misses(set: &Set) -> Vec<Vec<u8>> {
     let mut random = Random::new(41);
     let held: BTreeSet<&[u8]> = set.keys.iter().map(Vec::as_slice).collect();

@@ -7,7 +7,7 @@ pub type Work<'a> = Box<dyn FnMut() -> usize + 'a>;
 /// Who takes part, with the work of a round.
 pub type Contestants<'a> = Vec<(&'static str, Work<'a>)>;
 
-/// How long a round of each takes for one of so many items, in nanoseconds, at best of so many rounds. The contestants take
+/// How long a round of each takes for one of this many items, in nanoseconds, at best of this many rounds. The contestants take
 /// turns, so that what disturbs the machine disturbs all of them.
 pub fn best(rounds: usize, items: usize, contestants: &mut Contestants<'_>) -> Vec<(&'static str, f64)> {
     let mut times: Vec<_> = contestants.iter().map(|(name, _)| (*name, f64::INFINITY)).collect();
@@ -58,7 +58,7 @@ fn number(value: f64) -> String {
 }
 
 impl Table {
-    /// A table whose first column is ours, and the others have our share behind their own number.
+    /// A table whose first column is ours, and the others have our share after their own number.
     pub fn of_shares(title: &str) -> Table {
         Table { title: String::from(title), rows: Vec::new(), has_shares: true }
     }

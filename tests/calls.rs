@@ -1,9 +1,9 @@
 //! The calls of the static library. What they answer is written to `out`, and told by a number: its length or a refusal.
 #![allow(dead_code)]
 
-/// Want of memory, by the error that the call has for it.
+/// Out of memory, by the error that the call has for it.
 pub const REFUSED: usize = usize::MAX;
-/// Want of memory while the arguments were made or the answer written down.
+/// Out of memory while the arguments were made or the answer written down.
 pub const UNREADY: usize = usize::MAX - 2;
 
 /// The kinds, `ZeroTrie`, arrays and the plain encoder, by the numbers of the library.
@@ -69,7 +69,7 @@ pub struct Flat {
 }
 
 impl Flat {
-    /// Each key behind the one before it.
+    /// Each key after the one before it.
     pub fn of<'a>(pairs: impl Iterator<Item = (&'a [u8], usize)>) -> Flat {
         let mut flat = Flat { keys: Vec::new(), bounds: Vec::new(), values: Vec::new() };
         for (key, value) in pairs {
@@ -188,7 +188,7 @@ pub fn look_ups(kind: u8, bytes: &[u8], keys: &[u8], bounds: &[usize]) -> usize 
     unsafe { look_ups_(kind, bytes.as_ptr(), bytes.len(), keys.as_ptr(), keys.len(), bounds.as_ptr(), bounds.len()) }
 }
 
-/// The length of the record of a dense table in which so many prefixes have all suffixes, which follow them.
+/// The length of the record of a dense table in which this many prefixes have all suffixes, which follow them.
 pub fn dense_length(pairs: &Flat, prefixes: usize) -> usize {
     let Flat { keys, bounds, values } = pairs;
     // SAFETY: as above.

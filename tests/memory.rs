@@ -5,7 +5,7 @@ use std::sync::atomic::{AtomicBool, AtomicUsize, Ordering::Relaxed};
 
 /// How many requests are still granted before one is refused.
 static GRANTED: AtomicUsize = AtomicUsize::new(usize::MAX);
-/// Whether all requests behind the refused one are refused too.
+/// Whether all requests after the refused one are refused too.
 static ALL: AtomicBool = AtomicBool::new(false);
 static MET: AtomicBool = AtomicBool::new(false);
 static BLOCKS: AtomicUsize = AtomicUsize::new(0);
@@ -19,7 +19,7 @@ unsafe extern "C" {
     fn malloc_usable_size(block: *mut u8) -> usize;
 }
 
-/// Refuses the request behind so many, and, if asked, all that follow.
+/// Refuses the request after this many, and, if asked, all that follow.
 #[allow(dead_code)]
 pub fn refuse(granted: usize, all: bool) {
     ALL.store(all, Relaxed);

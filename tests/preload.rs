@@ -1,4 +1,4 @@
-//! Refuses a program one of its requests for memory: the one behind as many as the variable GRANTED says, and all
+//! Refuses a program one of its requests for memory: the one after as many as the variable GRANTED says, and all
 //! that follow where ALL is set. Then it says so on standard error.
 #![no_std]
 

@@ -1,4 +1,4 @@
-//! Lets every request for memory fail in turn, and looks at what each call answers then: the want of memory of its
+//! Lets every request for memory fail in turn, and looks at what each call answers then: the error for out of memory of its
 //! type and nothing else, or its full answer.
 
 mod calls;
@@ -22,7 +22,7 @@ impl Tally {
         println!("{name}: {what}");
     }
 
-    /// Runs the call with each of its requests refused, alone and with all behind it, up to a run in which none is.
+    /// Runs the call with each of its requests refused, alone and with all after it, up to a run in which none is.
     /// `partly` says of the full answer and another one whether a refusal may be answered so.
     fn look(
         &mut self, name: &str, full: &[u8], partly: impl Fn(&[u8], &[u8]) -> bool, call: impl Fn(&mut [u8]) -> usize,
@@ -343,7 +343,7 @@ const LONGER: &[Line] = &[
     ("list", "3 61\n1 62\n", ""),
 ];
 
-/// All that the program may print, with its status, where so many builds at most are refused.
+/// All that the program may print, with its status, if this many builds at most are refused.
 fn may_print(session: &[Line], most: usize) -> Vec<(String, i32)> {
     let builds = session.iter().filter(|line| line.0 == "build").count();
     let choices = (0..1u32 << builds).filter(|refused| refused.count_ones() as usize <= most);

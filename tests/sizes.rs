@@ -123,19 +123,19 @@ fn pairs(size: usize, _: u8) -> Flat {
     Flat::of(keys.iter().enumerate().map(|(number, key)| (key.as_bytes(), number)))
 }
 
-/// One key of so many letters.
+/// One key of this many letters.
 fn one_key(size: usize, _: u8) -> Flat {
     let key: Vec<u8> = (0..size).map(|place| b'a' + (place % 23) as u8).collect();
     Flat::of([(key.as_slice(), 7)].into_iter())
 }
 
-/// One key of so many bytes that are no ASCII.
+/// One key of this many bytes that are no ASCII.
 fn one_span(size: usize, _: u8) -> Flat {
     let key: Vec<u8> = (0..size).map(|place| 128 + (place % 101) as u8).collect();
     Flat::of([(key.as_slice(), 7)].into_iter())
 }
 
-/// The keys "b", "ab", "aab" and so on, so many. They are ends of one text.
+/// The keys "b", "ab", "aab" and so on, this many. They are ends of one text.
 fn nested(size: usize, _: u8) -> Flat {
     let mut keys = vec![b'a'; size];
     keys[size - 1] = b'b';

@@ -13,7 +13,7 @@ use Rattle.std.specs.Slice.Iter.{iter_rest, iter_steps}
 use Rattle.zerotrie_core.specs.Items.{keyed}
 use Rattle.zerotrie_core.specs.Kind.{Kind}
 use Rattle.zerotrie_core.specs.Maps.{Pairs}
-use Rattle.zerotrie_core.specs.Routes.{any_order, HasCause, IsBuild, OfAllGiven, IsBuildOfAll}
+use Rattle.zerotrie_core.specs.Routes.{any_order, HasCause, IsBuild, HoldsOfItsPairs, IsBuildOfAll}
 use Rattle.zerotrie_core.specs.declared.ZeroTrieBuildError.{ZeroTrieBuildError}
 use Rattle.zerotrie_any.specs.Auto.{auto_kind, IsAutoBuildOfAll}
 pub use Rattle.zerotrie_any.proofs.Elements.{of_elements}
@@ -35,16 +35,16 @@ of_copies rest Fact i s t copied all is h =
 -- A build of what `items.iter().copied()` gives is one of the items: `is` and `all` are the clauses `rest` and `runs` of the first call, `copied` is `runs` of the second.
 pub build_of_copies : {B S K : Type 0} {steps : S → Option (K × ℕ) → S → Type 0} (key : K → List ℕ) (kind : Kind) (bytes : B → List ℕ) (r : Result B ZeroTrieBuildError)
     (items : List (K × ℕ)) (iter : Iter (K × ℕ)) (copies : S) (is : iter_rest iter ≡ items) (all : EveryRun (iter_steps {A = K × ℕ}) (λ q. ItemsMapTo q (λ y. y.now) (iter_rest q.from)))
-    (copied : EachRunFrom steps copies (λ p. SomeRun (iter_steps {A = K × ℕ}) iter (λ q. IsCopiedRun p q (λ y. y.now)))) → IsBuildOfAll (OfAllGiven (λ given it. it ≡ given) steps key copies) kind bytes r
+    (copied : EachRunFrom steps copies (λ p. SomeRun (iter_steps {A = K × ℕ}) iter (λ q. IsCopiedRun p q (λ y. y.now)))) → IsBuildOfAll (HoldsOfItsPairs (λ given it. it ≡ given) steps key copies) kind bytes r
     → IsBuild any_order kind bytes (keyed key items) r
 build_of_copies {S = S} {steps = steps} key kind bytes r items iter copies is all copied build =
-    build_of {OfAll = OfAllGiven (λ (given it : S). it ≡ given) steps key copies} kind bytes (keyed key items) r
+    build_of {OfAll = HoldsOfItsPairs (λ (given it : S). it ≡ given) steps key copies} kind bytes (keyed key items) r
     (λ Fact h. subst (λ xs. Fact (keyed key xs)) is (of_copies iter_rest (λ xs. Fact (keyed key xs)) h.0 copies iter copied all h.1 h.2)) build
 
--- The same of a build into the kind that is taken for the items, and that it is of this kind.
+-- The same for a build into the kind that is taken for the items, and that it is of this kind.
 pub auto_build_of_copies : {B S K : Type 0} {steps : S → Option (K × ℕ) → S → Type 0} (key : K → List ℕ) (kind_of : B → Kind) (bytes : B → List ℕ) (r : Result B ZeroTrieBuildError)
     (items : List (K × ℕ)) (iter : Iter (K × ℕ)) (copies : S) (is : iter_rest iter ≡ items) (all : EveryRun (iter_steps {A = K × ℕ}) (λ q. ItemsMapTo q (λ y. y.now) (iter_rest q.from)))
-    (copied : EachRunFrom steps copies (λ p. SomeRun (iter_steps {A = K × ℕ}) iter (λ q. IsCopiedRun p q (λ y. y.now)))) → IsAutoBuildOfAll (OfAllGiven (λ given it. it ≡ given) steps key copies) kind_of bytes r
+    (copied : EachRunFrom steps copies (λ p. SomeRun (iter_steps {A = K × ℕ}) iter (λ q. IsCopiedRun p q (λ y. y.now)))) → IsAutoBuildOfAll (HoldsOfItsPairs (λ given it. it ≡ given) steps key copies) kind_of bytes r
     → IfOk r (λ b. kind_of b ≡ auto_kind (keyed key items)) × IsBuild any_order (auto_kind (keyed key items)) bytes (keyed key items) r
 auto_build_of_copies key kind_of bytes (Ok b) items iter copies is all copied h =
     subst (λ xs. (kind_of b ≡ auto_kind (keyed key xs)) × IsBuild any_order (auto_kind (keyed key xs)) bytes (keyed key xs) (Ok b)) is
@@ -61,9 +61,9 @@ auto_build_of_copies key kind_of bytes (Err e) items iter copies is all copied r
 -- A build of what an iterator over the elements of a list gives is one of the list.
 pub build_of_elements : {B U S K : Type 0} (gives : U → S → Type 0) (steps : S → Option (K × ℕ) → S → Type 0) (rest : S → List (K × ℕ)) (key : K → List ℕ) (kind : Kind) (bytes : B → List ℕ)
     (items : List (K × ℕ)) (given : U) (r : Result B ZeroTrieBuildError) → ((it : S) → gives given it → (rest it ≡ items) × EveryRun steps (λ p. ItemsAre p (rest p.from)))
-    → IsBuildOfAll (OfAllGiven gives steps key given) kind bytes r → IsBuild any_order kind bytes (keyed key items) r
+    → IsBuildOfAll (HoldsOfItsPairs gives steps key given) kind bytes r → IsBuild any_order kind bytes (keyed key items) r
 build_of_elements gives steps rest key kind bytes items given r all build =
-    build_of {OfAll = OfAllGiven gives steps key given} kind bytes (keyed key items) r
+    build_of {OfAll = HoldsOfItsPairs gives steps key given} kind bytes (keyed key items) r
     (λ Fact h. let a = all h.0 h.1 in of_elements rest (λ xs. Fact (keyed key xs)) items h.0 a.0 a.1 h.2) build
 
 -- what std says of an array of n items and an iterator over it
@@ -74,7 +74,7 @@ GivesArray {A = A} n xs it =
 
 -- A build of an array of n items is one of these items.
 pub build_of_array : {B K : Type 0} (n : ℕ) (key : K → List ℕ) (kind : Kind) (bytes : B → List ℕ) (items : List (K × ℕ)) (r : Result B ZeroTrieBuildError)
-    → IsBuildOfAll (OfAllGiven (GivesArray {A = K × ℕ} n) (array_steps {A = K × ℕ} {n = n}) key items) kind bytes r → IsBuild any_order kind bytes (keyed key items) r
+    → IsBuildOfAll (HoldsOfItsPairs (GivesArray {A = K × ℕ} n) (array_steps {A = K × ℕ} {n = n}) key items) kind bytes r → IsBuild any_order kind bytes (keyed key items) r
 build_of_array {K = K} n key kind bytes items r build =
     build_of_elements (GivesArray {A = K × ℕ} n) (array_steps {A = K × ℕ} {n = n}) array_into_iter_items key kind bytes items items r (λ it g. (g.0, g.2)) build
 
@@ -85,6 +85,6 @@ GivesVec {A = A} {Z = Z} v it =
 
 -- A build of a Vec is one of its elements.
 pub build_of_vec : {B K Z : Type 0} (key : K → List ℕ) (kind : Kind) (bytes : B → List ℕ) (items : Vec (K × ℕ) Z) (r : Result B ZeroTrieBuildError)
-    → IsBuildOfAll (OfAllGiven (GivesVec {A = K × ℕ} {Z = Z}) (into_iter_steps {X = K × ℕ} {Z = Z}) key items) kind bytes r → IsBuild any_order kind bytes (keyed key items.items) r
+    → IsBuildOfAll (HoldsOfItsPairs (GivesVec {A = K × ℕ} {Z = Z}) (into_iter_steps {X = K × ℕ} {Z = Z}) key items) kind bytes r → IsBuild any_order kind bytes (keyed key items.items) r
 build_of_vec {K = K} {Z = Z} key kind bytes items r build =
     build_of_elements (GivesVec {A = K × ℕ} {Z = Z}) (into_iter_steps {X = K × ℕ} {Z = Z}) into_iter_items key kind bytes items.items items r (λ it g. (g.0, g.3)) build

@@ -1,4 +1,4 @@
--- What a cursor finds behind the bytes that it stepped.
+-- What a cursor finds after the bytes that it stepped.
 use Rattle.std.proofs.Common.{◌≡◌, ℕ, ◌<◌, List, [], ◌∷◌, ◌++◌, length, refl, sym, ap, subst, ◌∙◌, Option, None, Result, Ok, Err}
 use Rattle.std.specs.Prelude.{◌^◌, IsOk, MatchResult}
 use Rattle.std.proofs.lemmas.List.{append-nil}

@@ -148,14 +148,14 @@ at_suffix : (d n : ℕ) (rows : Rows) (p : List ℕ) (b : ℕ) (s : List ℕ) �
 at_suffix d n rows p b s free k = at_key d n rows p (b ∷ s) free
     ∙ value_at-append simple_ascii (p ++ (d ∷ (b ∷ s))) (offs d n rows) (others_at d n rows) (offset_ends d n rows p b s free k)
 
--- where the prefix names no dense row
+-- if the prefix names no dense row
 sparse_key : (d n : ℕ) (rows : Rows) (p s : List ℕ) → AllFree d rows → Free d p → Sparse d n rows p
     → V (firsts 0 n rows ++ (offs d n rows ++ others_at d n rows)) (p ++ (d ∷ s)) ≡ entry rows p s
 sparse_key d n rows p [] free k r = at_key d n rows p [] free
     ∙ value_at-append simple_ascii (p ++ (d ∷ [])) (offs d n rows) (others_at d n rows) r.no_offset_of ∙ r.other []
 sparse_key d n rows p (b ∷ s) free k r = at_suffix d n rows p b s free k ∙ r.other (b ∷ s)
 
--- where it names one: what stands beside the matrix
+-- if it names one: what stands beside the matrix
 never : (b : Bool) → (b && false) ≡ true → ⊥
 never true h = absurd (cc)
 never false h = absurd (cc)

@@ -18,7 +18,7 @@ IsLast counts at text None = (n : ℕ) → n ≤ length text → counts n ≡ tr
 IsLast counts at text (Some v) = (n : ℕ) × (n ≤ length text) × (counts n ≡ true) × (at (take n text) ≡ Some v)
     × ((k : ℕ) → n < k → k ≤ length text → counts k ≡ true → at (take k text) ≡ None)
 
--- The same of a rest of a text, with `len` bytes before it.
+-- The same for a rest of a text, with `len` bytes before it.
 abbrev IsLastFrom : (ℕ → Bool) → ℕ → (List ℕ → Option ℕ) → List ℕ → Option ℕ → Type 0
 IsLastFrom counts len at text None = (n : ℕ) → n ≤ length text → counts (len + n) ≡ true → at (take n text) ≡ None
 IsLastFrom counts len at text (Some v) = (n : ℕ) × (n ≤ length text) × (counts (len + n) ≡ true) × (at (take n text) ≡ Some v)

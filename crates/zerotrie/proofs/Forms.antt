@@ -28,7 +28,7 @@ read_back kind bytes m d b law fits is h =
     let same : h.0 ≡ entries m = same_pairs h.0 (entries m) (sym h.1 ∙ ap pairs_in is ∙ law kind m fits) in
     subst (Means kind (bytes b)) (ap map_of same ∙ map_of-entries m) h.2.1.means
 
--- The same of a trie of the kind that is taken for the pairs, and that it is of the kind that is taken for the map's entries.
+-- The same for a trie of the kind that is taken for the pairs, and that it is of the kind that is taken for the map's entries.
 pub auto_read_back_map : {B : Type 0} (kind : Kind) (kind_of : B → Kind) (bytes : B → List ℕ) (m : Map) (d : Data) (b : B) → JsonKeepsPairs → Fits kind m → d ≡ json m
     → HasPairs d (λ pairs. kind_of b ≡ auto_kind pairs) → IsBuildOfJson auto_kind bytes d (Ok b)
     → (kind_of b ≡ auto_kind (entries m)) × Means (auto_kind (entries m)) (bytes b) m
@@ -39,7 +39,7 @@ auto_read_back_map kind kind_of bytes m d b law fits is of h =
     let means : Means (auto_kind h.0) (bytes b) m = subst (Means (auto_kind h.0) (bytes b)) (ap map_of same ∙ map_of-entries m) h.2.1.means in
     (of.2 ∙ ap auto_kind other, subst (λ pairs. Means (auto_kind pairs) (bytes b) m) same means)
 
--- The same of pairs that ascend: the trie that was read is of the kind that is taken for them, as the one that was written.
+-- The same for pairs that ascend: the trie that was read is of the kind that is taken for them, as the one that was written.
 pub auto_read_back : {B : Type 0} (kind_of : B → Kind) (bytes : B → List ℕ) (pairs : Pairs) (d : Data) (b : B) → JsonKeepsPairs → Ascends pairs
     → Fits (auto_kind pairs) (map_of pairs) → d ≡ json (map_of pairs) → HasPairs d (λ given. kind_of b ≡ auto_kind given) → IsBuildOfJson auto_kind bytes d (Ok b)
     → (kind_of b ≡ auto_kind pairs) × Means (auto_kind pairs) (bytes b) (map_of pairs)

@@ -13,7 +13,7 @@ use Rattle.zerotrie.proofs.Lookups.{look_is, present, absent, found, same_itself
 use Rattle.zerotrie_core.proofs.CallerLemmas.{ascends_apart}
 pub use Rattle.zerotrie_core.proofs.CallerLemmas.{exact_same}
 
--- What a look-up answers by the pairs, where the kind may take keys as one that differ in case.
+-- What a look-up answers by the pairs, if the kind may take keys as one that differ in case.
 pub record Answer (kind : Kind) (pairs : Pairs) (key : List ℕ) (answer : Option ℕ) : Type 0 where
   pub value : answer ≡ value_at kind pairs key
   pub present : (own : List ℕ) (v : ℕ) → Contains pairs (own, v) → same_key kind own key ≡ true → answer ≡ Some v
@@ -82,7 +82,7 @@ pub array_answered : {k : ℕ} {pairs : Pairs} {bytes key : List ℕ} {answer : 
     → ((m : Map) → Means simple_ascii bytes m → answer ≡ look simple_ascii m key) → Answer simple_ascii pairs key answer
 array_answered {pairs = pairs} build get = by_map (ascends_apart pairs build.ascends) build.built (get (map_of pairs) build.built.means)
 
--- the clause of `get` where the trie's kind is another word for this one, as of a `ZeroTrie`
+-- the clause of `get` if the trie's kind is another word for this one, as of a `ZeroTrie`
 pub get_by_kind : {own kind : Kind} (bytes key : List ℕ) (answer : Option ℕ) → own ≡ kind → ((m : Map) → Means own bytes m → answer ≡ look own m key)
     → (m : Map) → Means kind bytes m → answer ≡ look kind m key
 get_by_kind bytes key answer is get = subst (λ k. (m : Map) → Means k bytes m → answer ≡ look k m key) is get

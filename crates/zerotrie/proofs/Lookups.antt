@@ -112,7 +112,7 @@ folded_first f [] (b ∷ q) = refl
 folded_first f (a ∷ p) [] = refl
 folded_first f (a ∷ p) (b ∷ q) = ap (λ t. (f a == f b) && t) (folded_first f p q)
 
--- the kind without case takes keys as one where std's comparison without case does
+-- the kind without case takes keys as one if std's comparison without case does
 pub same_ignoring_case : (p q : List ℕ) → same_key ignore_case p q ≡ str_eq_ignore_ascii_case p q
 same_ignoring_case p q = folded_first to_ascii_lowercase p q
 

@@ -61,7 +61,7 @@ value_at-taken [] c key = refl
 value_at-taken (([], v) ∷ pairs) c key = refl
 value_at-taken ((b ∷ k, v) ∷ pairs) c key = rw (value_at-taken pairs c key) refl
 
--- where nothing is left, steps leave nothing
+-- if nothing is left, steps leave nothing
 pub after_none : (key : List ℕ) → after_steps simple_ascii key [] ≡ []
 after_none [] = refl
 after_none (c ∷ key) = after_none key

@@ -4,7 +4,7 @@ ghost use Rattle.std.specs.Prelude.{◌≡◌, IfOk, OnOk};
 ghost use Rattle.std.specs.Iterator.{IsFiniteIterable};
 ghost use Rattle.zerotrie_core.specs.Maps.{Ascends};
 ghost use Rattle.zerotrie_core.specs.Items.{pairs_of, keyed};
-ghost use Rattle.zerotrie_core.specs.Routes.{ascending, in_order, IsBuild, OfAllGiven, IsBuildOfAll};
+ghost use Rattle.zerotrie_core.specs.Routes.{ascending, in_order, IsBuild, HoldsOfItsPairs, IsBuildOfAll};
 ghost use Rattle.zerotrie_any.specs.Order.{IsByBytes};
 
 use std::alloc::{AllocError, Global};
@@ -95,7 +95,7 @@ pub fn bytes_from_iter<
 where
     U::IntoIter: Drop,
     requires { IsFiniteIterable U.into_iter_gives U.IntoIter.can_next U.IntoIter.remaining iter }
-    ensures { IsBuildOfAll (OfAllGiven U.into_iter_gives U.IntoIter.next_gives Key.key iter)
+    ensures { IsBuildOfAll (HoldsOfItsPairs U.into_iter_gives U.IntoIter.next_gives Key.key iter)
         K.kind (λ bytes. bytes.items) result }
 {
     let builder: ZeroTrieBuilder<VecDeque<u8>> = ZeroTrieBuilder::from_bytes_iter(

@@ -12,7 +12,7 @@ ghost use Rattle.zerotrie_core.specs.Kind.{Kind, simple_ascii, tag};
 ghost use Rattle.zerotrie_core.specs.Maps.{Map, look};
 ghost use Rattle.zerotrie_core.specs.Texts.{Means};
 ghost use Rattle.zerotrie_core.specs.Items.{pairs_of, keyed};
-ghost use Rattle.zerotrie_core.specs.Routes.{ascending, in_order, any_order, IsBuild, OfAllGiven};
+ghost use Rattle.zerotrie_core.specs.Routes.{ascending, in_order, any_order, IsBuild, HoldsOfItsPairs};
 ghost use Rattle.zerotrie_any.specs.Auto.{auto_kind, is_simple, is_ascii, are_ascii, IsAutoBuildOfAll};
 ghost use Rattle.zerotrie_any.specs.Flavors.{flavor_kind};
 ghost use Rattle.zerotrie_any.specs.Order.{IsByBytes};
@@ -358,7 +358,7 @@ impl ZeroTrie<Vec<u8>> {
         U::IntoIter: Drop,
         requires { IsFiniteIterable U.into_iter_gives U.IntoIter.can_next U.IntoIter.remaining
             iter }
-        ensures { IsAutoBuildOfAll (OfAllGiven U.into_iter_gives U.IntoIter.next_gives Key.key iter)
+        ensures { IsAutoBuildOfAll (HoldsOfItsPairs U.into_iter_gives U.IntoIter.next_gives Key.key iter)
             (λ trie. flavor_kind trie.flavor) (λ trie. trie.store.items) result }
     {
         let pairs: Vec<(Key, usize)> = iter.into_iter().collect(alloc)?;

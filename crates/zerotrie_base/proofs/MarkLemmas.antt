@@ -36,7 +36,7 @@ pub taken_not : (used : List ℕ) (taken : List Bool) (y : ℕ) (rest : List ℕ
 taken_not used taken y rest m hy e d =
     apart_across y used (y ∷ rest) (apart_distinct (used ++ y ∷ rest) d) (has_any y used (sym (m.marks y hy) ∙ e)) (inl refl)
 
--- what stays marked when the places behind are freed
+-- what stays marked when the places after it are freed
 freed_bit : (u v : Bool) → (u ≡ true → v ≡ false) → ((u || v) && not v) ≡ u
 freed_bit true true h = absurd (let e = h refl in cc)
 freed_bit true false h = refl

@@ -10,7 +10,7 @@ f1 b p zero = b
 f1 b zero (suc n) = b % suc n
 f1 b (suc p) (suc n) = bit_xor (bit_xor b (suc p)) (b / 2 ^ (suc p % 8)) % suc n
 
--- the eight bits of r, turned so many times
+-- the eight bits of r, turned this many times
 abbrev pub turned : ℕ → ℕ → ℕ
 turned zero r = r
 turned (suc k) r = turned k (bit_xor (bit_xor r (r * 2 % 256)) (r / 2))
@@ -40,7 +40,7 @@ pub record IsPerfectTable (keys bytes : List ℕ) : Type 0 where
   pub perfect : IsPerfect p qs placed
   pub permutation : IsPermutation keys placed
 
--- what the bytes of a table answer for the byte b, behind p and with n keys
+-- what the bytes of a table answer for the byte b, after p and with n keys
 abbrev pub number_behind : ℕ → ℕ → List ℕ → ℕ → Option ℕ
 number_behind p n rest b =
     let place = place_of p rest (n % 256) b in

@@ -14,7 +14,7 @@ use thiserror::Error;
 /// ```
 ///
 /// A build that answers one of the first ten cases was given pairs of which the condition beside it is true.
-/// The last comes of a refused growth alone, whatever else is true of the pairs.
+/// The last comes only if memory was refused, whatever else is true of the pairs.
 /// Of `NonAsciiError`, `MixedCase`, `DuplicateKey` and `Unsorted`, `why_slice_refused` and `why_iter_refused` say which
 /// keys show it.
 #[derive(Clone, PartialEq, Eq, Debug, Drop, Error)]
@@ -54,7 +54,7 @@ pub enum ZeroTrieBuildError {
     /// The array builder's stack is too small for the branches that are open at once.
     #[error("the stack is too small for the trie: take a larger one")]
     StackExceeded,
-    /// A growth was refused.
+    /// Memory was refused.
     #[error("out of memory")]
     OutOfMemory,
 }

@@ -42,7 +42,7 @@ some_foreign kind pairs none =
       | inr any ↦ any
     ]
 
--- an error is want of memory, or what holds of every other holds of it
+-- an error is out of memory, or what holds of every other holds of it
 pub memory_or : (P : Type 0) (e : ZeroTrieBuildError) → (e ≢ OutOfMemory → P) → (e ≡ OutOfMemory) ⊎ P
 memory_or P OutOfMemory other = inl refl
 memory_or P CapacityExceeded other = inr (other (λ e. cc))

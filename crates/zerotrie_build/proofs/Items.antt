@@ -78,7 +78,7 @@ follows_on R pairs j i a b e p q h before k below =
       | inr less ↦ before k (omega arith)
     ]
 
--- where two items follow one another and their keys are not in this order, not all are
+-- if two items follow one another and their keys are not in this order, not all are
 pub not_following : (R : List ℕ → List ℕ → Type 0) (pairs : Pairs) (j i : ℕ) (a b : List ℕ × ℕ) → suc j ≡ i → slice_get pairs j ≡ Some a → slice_get pairs i ≡ Some b
     → (R a.0 b.0 → ⊥) → ((k : ℕ) → suc k < length pairs → Follows R pairs k) → ⊥
 not_following R pairs j i a b e p q h each =
@@ -124,7 +124,7 @@ ascii_on pairs i before here k d below =
 pub take_one_more : (pairs : Pairs) (i : ℕ) (a : List ℕ × ℕ) → slice_get pairs i ≡ Some a → take (i + 1) pairs ≡ take i pairs ++ a ∷ []
 take_one_more pairs i a h = grind (arith, common_steps, got pairs i a a h, slice_get_within pairs i a h)
 
--- any byte may be an edge where there are spans, and an ASCII byte alone where there are none
+-- any byte may be an edge if there are spans, and an ASCII byte alone if there are none
 pub limit_high : (kind : Kind) → (flags kind).spans ≡ true → edge_limit kind ≡ 256
 limit_high simple_ascii h = absurd (cc)
 limit_high ignore_case h = absurd (cc)

@@ -7,7 +7,7 @@ pub with_run-nil : (pairs : Pairs) → with_run [] pairs ≡ pairs
 with_run-nil [] = refl
 with_run-nil (e ∷ pairs) = ap (λ x. e ∷ x) (with_run-nil pairs)
 
--- a byte behind the run is a byte in front of the keys
+-- a byte after the run is a byte in front of the keys
 pub with_run-push : (run : List ℕ) (b : ℕ) (pairs : Pairs) → with_run (run ++ b ∷ []) pairs ≡ with_run run (with_front b pairs)
 with_run-push run b [] = refl
 with_run-push run b (e ∷ pairs) =

@@ -31,7 +31,7 @@ fold_cmp kind a b = slice_cmp nat_cmp (map (fold_byte kind) a) (map (fold_byte k
 abbrev pub sort_cmp : Kind → List ℕ → List ℕ → Ordering
 sort_cmp kind a b = ordering_then (fold_cmp kind a b) (slice_cmp nat_cmp a b)
 
--- the folds of the first n bytes of a key as one number, behind the digits that are there; zeros stand where the key has ended
+-- the folds of the first n bytes of a key as one number, after the digits that are there; zeros stand where the key has ended
 abbrev pub prefix_behind : Kind → ℕ → ℕ → List ℕ → ℕ
 prefix_behind kind zero there key = there
 prefix_behind kind (suc n) there [] = prefix_behind kind n (256 * there) []
@@ -41,7 +41,7 @@ prefix_behind kind (suc n) there (b ∷ key) = prefix_behind kind n (256 * there
 abbrev pub prefix_of : Kind → List ℕ → ℕ
 prefix_of kind key = prefix_behind kind 8 0 key
 
--- the fold of a byte, or zero where there is none
+-- the fold of a byte, or zero if there is none
 abbrev pub digit_of : Kind → Option ℕ → ℕ
 digit_of kind None = 0
 digit_of kind (Some b) = fold_byte kind b

@@ -144,7 +144,7 @@ impl<A: Allocator + Copy> Layout<A> {
         Ok(())
     }
 
-    /// Puts the windows on the list of what is to be written, the first on top, where its slots begin at `slot`.
+    /// Puts the windows on the list of what is to be written, the first on top, if its slots begin at `slot`.
     fn push_sorted(&mut self, slot: usize) -> Result<(), AllocError>
         requires { 0 < length self.old.windows.items }
         ensures pushed { OnOk result (reverse self.new.pending.items
@@ -183,7 +183,7 @@ impl<A: Allocator + Copy> Layout<A> {
     }
 
     /// Puts the windows on the list of what is to be written, in the order of the table, the first on top, each with its
-    /// place, where the slots of the first window begin at `slot`, and beneath them the place after all. `ends` tells
+    /// place, if the slots of the first window begin at `slot`, and beneath them the place after all. `ends` tells
     /// how many slots there are up to each window.
     fn push_hashed(&mut self, ends: &[usize], slot: usize) -> Result<(), AllocError>
         requires some { 0 < length ends.now }

@@ -6,7 +6,7 @@ ghost use Rattle.std.specs.Iterator.{IsFiniteIterable};
 ghost use Rattle.zerotrie_core.specs.Items.{pairs_of, keyed};
 ghost use Rattle.zerotrie_core.specs.Kind.{kind_with};
 ghost use Rattle.zerotrie_core.specs.Maps.{Ascends};
-ghost use Rattle.zerotrie_core.specs.Routes.{ascending, any_order, IsRefusal, IsBuild, IsLength, OfAllGiven, IsBuildOfAll};
+ghost use Rattle.zerotrie_core.specs.Routes.{ascending, any_order, IsRefusal, IsBuild, IsLength, HoldsOfItsPairs, IsBuildOfAll};
 ghost use Rattle.zerotrie_build.specs.Items.{pairs};
 ghost use Rattle.zerotrie_build.specs.Order.{Ordered, AreKeys, AreValues};
 
@@ -313,7 +313,7 @@ impl<S: TrieBuilderStore + Drop> ZeroTrieBuilder<S> {
         U::IntoIter: Drop,
         requires { IsFiniteIterable U.into_iter_gives U.IntoIter.can_next U.IntoIter.remaining
             iter }
-        ensures { IsBuildOfAll (OfAllGiven U.into_iter_gives U.IntoIter.next_gives K.key iter)
+        ensures { IsBuildOfAll (HoldsOfItsPairs U.into_iter_gives U.IntoIter.next_gives K.key iter)
             (kind_with options) (λ b. S.list b.data) result }
     {
         let mut given: Vec<(K, usize)> = iter.into_iter().collect(alloc)?;

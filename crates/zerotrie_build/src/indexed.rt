@@ -48,7 +48,7 @@ impl<'a, Key: TrieKey> IndexedItems<'a> for &'a [(Key, usize)] {
     }
 }
 
-/// The item of the number, its key by its bytes. Behind the last are an empty key and zero.
+/// The item of the number, its key by its bytes. After the last are an empty key and zero.
 pub(crate) fn item_at<Key: TrieKey>(given: &[(Key, usize)], index: usize) -> (&[u8], usize)
     ensures { (result.0.now, result.1) ≡ item_no (keyed Key.key given.now) index }
 {

@@ -88,7 +88,7 @@ fn short_len(rest: &[u8]) -> usize
     len
 }
 
-/// How many bytes the literals and spans of the rest of a key have, if its spans need not be told one by one. Where
+/// How many bytes the literals and spans of the rest of a key have, if its spans need not be told one by one. If
 /// `ascii` is true, it has none.
 #[inline(always)]
 pub(crate) fn rest_len<K: ZeroTrieWithOptions>(rest: &[u8], ascii: bool) -> Option<usize>

@@ -204,7 +204,7 @@ fn mixed<K: ZeroTrieWithOptions, Key: TrieKey>(items: &[(Key, usize)]) -> Option
 ///
 /// It asks first for keys that do not ascend, `Unsorted`, then for one with a byte from 128 on in a kind for ASCII,
 /// `NonAsciiError`, and then for two that the kind without case refuses together, `MixedCase`. On `None` a build
-/// is refused for its length, for a hashed table or for want of memory at most.
+/// is refused only for its length, for a hashed table or as out of memory.
 ///
 /// It takes no memory, and time as the keys' bytes in kinds with case. In the kind without case, each key that parts
 /// from the next by an upper-case letter costs a binary search besides.
@@ -276,7 +276,7 @@ fn why_sorted_refused<K: ZeroTrieWithOptions, Key: TrieKey>(
 ///
 /// It asks first for two keys that are the same, `DuplicateKey`, then for one with a byte from 128 on in a kind for
 /// ASCII, `NonAsciiError`, and then for two that the kind without case refuses together, `MixedCase`. On `None` a build
-/// is refused for its length, for a hashed table or for want of memory at most.
+/// is refused only for its length, for a hashed table or as out of memory.
 ///
 /// It sorts the keys as a build does, in about the same time and memory. The only error is out of memory.
 pub fn why_iter_refused<K: ZeroTrieWithOptions, Key: TrieKey>(

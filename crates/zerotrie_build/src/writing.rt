@@ -42,7 +42,7 @@ pub(crate) struct Writing<S> {
 }
 
 impl<S: TrieBuilderStore + Drop> Writing<S> {
-    /// A store of so many zeros.
+    /// A store of this many zeros.
     fn new(alloc: Global, len: usize) -> Result<Self, AllocError>
         ensures zeros { IfOk result (λ w. S.list w.data ≡ replicate len 0) }
         ensures at { IfOk result (λ w. w.at ≡ 0) }
@@ -329,7 +329,7 @@ impl<S: TrieBuilderStore + Drop> Writing<S> {
         Ok(())
     }
 
-    /// Writes all that is pending, where the first window begins at the first item and the first slot.
+    /// Writes all that is pending, if the first window begins at the first item and the first slot.
     fn put_pending<'a, K: ZeroTrieWithOptions, I: IndexedItems<'a>, A: Allocator + Copy>(
         &mut self,
         items: I,

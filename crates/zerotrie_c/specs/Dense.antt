@@ -4,7 +4,7 @@ use Rattle.zerotrie_core.specs.Causes.{ZeroTrieBuildError, Unsorted, OutOfMemory
 use Rattle.zerotrie.specs.dense.Laws.{Answers, AnswersByMaps}
 use Rattle.zerotrie.specs.dense.Records.{Parts, record_of}
 use Rattle.zerotrie.specs.dense.Rows.{Rows, IsInOrder}
-use Rattle.zerotrie.specs.dense.Tables.{IsTable, DenseCause}
+use Rattle.zerotrie.specs.dense.Tables.{IsDenseTable, DenseCause}
 use Rattle.zerotrie_c.specs.Builds.{IsHandedOut}
 use Rattle.zerotrie_c.specs.Statuses.{done, no_entry, status_of}
 
@@ -26,5 +26,5 @@ IsDenseRefusal delimiter rows e = (e ≡ OutOfMemory) ⊎ (DenseCause delimiter 
 -- nothing is written
 abbrev pub IsDenseBuildTold : ℕ → Rows → ℕ → ℕ → ℕ → List ℕ → List ℕ → Type 0
 IsDenseBuildTold delimiter rows status old_len len old out =
-    ((t : Parts) × IsTable delimiter rows t × IsHandedOut (record_of t) status len old out)
+    ((t : Parts) × IsDenseTable delimiter rows t × IsHandedOut (record_of t) status len old out)
     ⊎ ((e : ZeroTrieBuildError) × IsDenseRefusal delimiter rows e × (status ≡ status_of e) × (len ≡ old_len) × (out ≡ old))

@@ -3,7 +3,7 @@
 ghost use Rattle.std.specs.Prelude.{◌≡◌, ◌≢◌, ◌↔◌, ◌<◌, length, IfOk, IfErr};
 ghost use Rattle.zerotrie.specs.dense.Laws.{IsWhole};
 ghost use Rattle.zerotrie.specs.dense.Records.{Parts, record_of, asked};
-ghost use Rattle.zerotrie.specs.dense.Tables.{IsTable};
+ghost use Rattle.zerotrie.specs.dense.Tables.{IsDenseTable};
 ghost use Rattle.zerotrie.specs.dense.Views.{rows_in};
 ghost use Rattle.zerotrie_c.specs.Dense.{IsDenseAnswerTold, IsDenseBuildTold, IsDenseRefusal, IsEntryTold};
 ghost use Rattle.zerotrie_c.specs.Entries.{rows_given};
@@ -60,7 +60,7 @@ fn record_of_rows(
     rows: &BTreeMap<&str, BTreeMap<&str, usize>>,
     delimiter: u8,
 ) -> Result<Vec<u8>, ZeroTrieBuildError>
-    ensures built { IfOk result (λ bytes. (t : Parts) × IsTable delimiter (rows_in rows.now.entries) t
+    ensures built { IfOk result (λ bytes. (t : Parts) × IsDenseTable delimiter (rows_in rows.now.entries) t
         × (bytes.items ≡ record_of t)) }
     ensures refused { IfErr result (IsDenseRefusal delimiter (rows_in rows.now.entries)) }
 {
@@ -77,7 +77,7 @@ fn record_given(
     values: &[usize],
     delimiter: u8,
 ) -> Result<Vec<u8>, ZeroTrieBuildError>
-    ensures built { IfOk result (λ bytes. (t : Parts) × IsTable delimiter (rows_given
+    ensures built { IfOk result (λ bytes. (t : Parts) × IsDenseTable delimiter (rows_given
         prefixes.entry.bytes.now prefixes.entry.ends.now suffixes.entry.bytes.now suffixes.entry.ends.now values.now) t
         × (bytes.items ≡ record_of t)) }
     ensures refused { IfErr result (IsDenseRefusal delimiter (rows_given

@@ -123,7 +123,7 @@ fn dump_command<'a>(alloc: Global) -> Result<Command<'a>, AllocError> {
 }
 
 fn dot_command<'a>(alloc: Global) -> Result<Command<'a>, AllocError> {
-    let most = option(alloc, "most", "At most so many nodes")
+    let most = option(alloc, "most", "At most this many nodes")
         .value_name("N")
         .default_value("100");
     let about = "Prints a drawing of the first nodes, for Graphviz";

@@ -45,7 +45,7 @@ pub record Answers (named : Option TrieKind) (file : List ℕ) (request : Reques
   pub means : Means (kind_of kind) bytes of
   pub belongs : Belongs (kind_of kind) of means.pairs request output status
 
--- why there is no answer: the file has no trie, and then nothing was written; or writing failed, or memory was wanting
+-- why there is no answer: the file has no trie, and then nothing was written; or writing failed, or memory was refused
 abbrev pub IsRefusal : Option TrieKind → List ℕ → Type 0 → AnswerError → Type 0
 IsRefusal named file Unwritten (NoTrie why) = Explains named file why × Unwritten
 IsRefusal named file Unwritten (Failed e) = Unit {0}

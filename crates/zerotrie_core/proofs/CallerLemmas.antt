@@ -8,7 +8,7 @@ pub use Rattle.zerotrie_core.proofs.CanonicalLemmas.Order.{entries-map_of}
 pub use Rattle.zerotrie_core.proofs.CanonicalLemmas.Fitting.{consistent_entries}
 -- pairs that answer alike
 pub use Rattle.zerotrie_core.proofs.MapLemmas.Alike.{Same, same-sym, same-map, same-entries, same-behind, same-edges, same-targets, exact_itself, exact_same, first_found, map_agree}
--- the pairs behind a byte or a front
+-- the pairs after a byte or a front
 pub use Rattle.zerotrie_core.proofs.MapLemmas.Edges.{residual-append, residual-front, residual-other}
 pub use Rattle.zerotrie_core.proofs.MapLemmas.Alike.{some_pair, begins_behind}
 pub use Rattle.zerotrie_core.proofs.MapLemmas.Listed.{behind_all-nil}
@@ -31,12 +31,12 @@ pub use Rattle.zerotrie_core.proofs.MapLemmas.Spans.{value_at-run, residual-run,
 -- the length of texts, by what stands first in them
 pub use Rattle.zerotrie_core.proofs.CanonicalLemmas.Sizes.{size_none, size_value, size_literal, size_span, size_branch}
 pub use Rattle.zerotrie_core.proofs.CanonicalLemmas.Lengths.{listed_size}
--- pairs in groups behind their first bytes, and the edges in the order of the kind
+-- pairs in groups after their first bytes, and the edges in the order of the kind
 pub use Rattle.zerotrie_core.proofs.MapLemmas.Edges.{member_head, member_later, begins_some-append, begins_some-front}
 pub use Rattle.zerotrie_core.proofs.MapLemmas.Ordered.{ordered_is, edges_rise, member-edges, member-edges_past, length-ordered, total-ordered}
 pub use Rattle.zerotrie_core.proofs.CanonicalLemmas.Canonical.{edge_once, residual_later, not_first}
 pub use Rattle.zerotrie_core.proofs.CanonicalLemmas.Encoded.{rises_increasing}
--- what a writer of texts cites: kinds, spellings, what pairs answer behind a byte, and tables
+-- what a writer of texts cites: kinds, spellings, what pairs answer after a byte, and tables
 pub use Rattle.zerotrie_core.proofs.MapLemmas.Kinds.{edge_limit_to, greatest_width_most, spans_fold, spans_limit, hashed_spans, hashed_by}
 pub use Rattle.zerotrie_core.proofs.NumberLemmas.Spellings.{spells_spelled}
 pub use Rattle.zerotrie_core.proofs.NodeLemmas.Offsets.{length-blocks}

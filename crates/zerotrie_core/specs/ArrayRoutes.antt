@@ -32,21 +32,21 @@ pub record IsArrayBuilt (k : ℕ) (pairs : Pairs) (bytes : List ℕ) : Type 0 wh
   pub built : IsBuilt simple_ascii pairs bytes
   pub within : stack (map_of pairs) ≤ k
 
--- What a build of the pairs that fills an array of n bytes answers, where the bytes of an answer are these.
+-- What a build of the pairs that fills an array of n bytes answers, if the bytes of an answer are these.
 abbrev pub IsArrayBuild : {B : Type 0} → ℕ → ℕ → (B → List ℕ) → Pairs → Result B ZeroTrieBuildError → Type 0
 IsArrayBuild n k bytes pairs (Ok b) = IsArrayBuilt k pairs (bytes b) × (size simple_ascii (map_of pairs) ≡ n)
 IsArrayBuild n k bytes pairs (Err e) = ArrayCause n k pairs e
 
 -- why a build into an array that need not be full is refused
-abbrev pub IsTooMuch : ℕ → ℕ → Pairs → ZeroTrieBuildError → Type 0
-IsTooMuch n k pairs e = ((needed : ℕ) → e ≢ BufferTooLarge needed) × ArrayCause n k pairs e
+abbrev pub IsRefusalWithin : ℕ → ℕ → Pairs → ZeroTrieBuildError → Type 0
+IsRefusalWithin n k pairs e = ((needed : ℕ) → e ≢ BufferTooLarge needed) × ArrayCause n k pairs e
 
 -- what a build of the pairs into an array of n bytes answers, which need not be full
 abbrev pub IsBuildWithin : {B : Type 0} → ℕ → ℕ → (B → List ℕ) → Pairs → Result B ZeroTrieBuildError → Type 0
 IsBuildWithin n k bytes pairs (Ok b) = IsArrayBuilt k pairs (bytes b) × (size simple_ascii (map_of pairs) ≤ n)
-IsBuildWithin n k bytes pairs (Err e) = IsTooMuch n k pairs e
+IsBuildWithin n k bytes pairs (Err e) = IsRefusalWithin n k pairs e
 
--- what such a build answers whose bytes are then copied into memory of their own, for which memory may be wanting
+-- what such a build answers whose bytes are then copied into memory of their own, for which memory may be refused
 abbrev pub IsBuildCopied : {B : Type 0} → ℕ → ℕ → (B → List ℕ) → Pairs → Result B ZeroTrieBuildError → Type 0
 IsBuildCopied n k bytes pairs (Ok b) = IsArrayBuilt k pairs (bytes b) × (size simple_ascii (map_of pairs) ≤ n)
-IsBuildCopied n k bytes pairs (Err e) = (e ≡ OutOfMemory) ⊎ IsTooMuch n k pairs e
+IsBuildCopied n k bytes pairs (Err e) = (e ≡ OutOfMemory) ⊎ IsRefusalWithin n k pairs e

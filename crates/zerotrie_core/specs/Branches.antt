@@ -31,7 +31,7 @@ pub data IsTable (kind : Kind) : List ℕ → List ℕ → Type 0 where
   hashed : {p : ℕ} {qs edges : List ℕ} → is_hashed kind (length edges) ≡ true
       → IsPerfect p qs edges → IsTable kind edges (p ∷ (qs ++ edges))
 
--- how long the search table of a branch of so many edges is
+-- how long the search table of a branch of this many edges is
 abbrev pub table_size : Kind → ℕ → ℕ
 table_size kind n = if is_hashed kind n then 2 * n + 1 else n
 
@@ -44,7 +44,7 @@ pub record IsWidth (n w : ℕ) : Type 0 where
   pub enough : n < 256 ^ (w + 1)
   pub least : (x : ℕ) → n < 256 ^ (x + 1) → w ≤ x
 
--- the least w with n below 256 ^ (w + 1), for an n of at most so much
+-- the least w with n below 256 ^ (w + 1), for an n of at most this much
 abbrev pub width_to : ℕ → ℕ → ℕ
 width_to zero n = 0
 width_to (suc more) n = if nat_lt n 256 then 0 else 1 + width_to more (n / 256)

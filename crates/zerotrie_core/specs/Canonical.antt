@@ -41,12 +41,12 @@ enc kind m = enc_of kind (entries m)
 abbrev pub branch_size : Kind → List ℕ → ℕ
 branch_size kind lengths = length (branch_front [] lengths) + table_size kind (length lengths)
 
--- the bytes of a span, of b and the longest run with which each key behind it begins, and of what follows it
+-- the bytes of a span, of b and the longest run with which each key after it begins, and of what follows it
 abbrev pub span_size : (Pairs → ℕ) → Pairs → ℕ → ℕ
 span_size size_behind pairs b = let run = b ∷ run_of (residual b pairs) in
     length (spelled_as span_form (length run)) + length run + size_behind (behind_all run pairs)
 
--- the bytes behind the value of the empty key, by the edges: none, a byte and its target (a span, if the byte is from 128
+-- the bytes after the value of the empty key, by the edges: none, a byte and its target (a span, if the byte is from 128
 -- on and the kind has spans), or a branch and its targets, each as long as the function says of its pairs
 abbrev pub rest_size : Kind → (Pairs → ℕ) → Pairs → List ℕ → ℕ
 rest_size kind size_behind pairs [] = 0

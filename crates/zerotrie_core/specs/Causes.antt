@@ -1,4 +1,4 @@
--- What holds of the pairs where a build of them is refused.
+-- What holds of the pairs if a build of them is refused.
 use Rattle.std.specs.Prelude.{◌≡◌, ℕ, ◌<◌, ◌≤◌, List, length, true, Any}
 use Rattle.std.specs.FinMap.{entries}
 use Rattle.zerotrie_core.specs.Kind.{Kind, edge_limit, is_hashed}
@@ -12,7 +12,7 @@ pub use Rattle.zerotrie_base.specs.declared.error.ZeroTrieBuildError.TheVariants
 abbrev pub AreCrooked : Kind → List ℕ → Type 0
 AreCrooked kind edges = (is_hashed kind (length edges) ≡ true) × (length edges < 256) × (IsStraight edges → ⊥)
 
--- The cause of a refusal of a build of the pairs into a text of the kind, however long. Want of memory has
+-- The cause of a refusal of a build of the pairs into a text of the kind, however long. Out of memory has
 -- none, and the errors of arrays and delimiters have none here.
 abbrev pub Cause : Kind → Pairs → ZeroTrieBuildError → Type 0
 Cause kind pairs NonAsciiError = Any (λ e. Any (λ b. edge_limit kind ≤ b) e.0) pairs

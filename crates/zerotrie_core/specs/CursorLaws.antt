@@ -10,16 +10,16 @@ use Rattle.zerotrie_core.specs.Places.{Place, ListsAt}
 abbrev pub steps_by : List ℕ → List Op
 steps_by key = map (λ c. Op.step c) key
 
--- what they answer where each is along an edge
+-- what they answer if each is along an edge
 abbrev pub stepped_along : List ℕ → List Answer
 stepped_along edges = map (λ b. Answer.stepped (Some b)) edges
 
--- what is left after steps answers for a key what the whole answers behind the bytes of the steps
+-- what is left after steps answers for a key what the whole answers after the bytes of the steps
 abbrev pub StepsAnswer : Type 0
 StepsAnswer = (kind : Kind) (place : Place) (pairs : Pairs) → ListsAt kind place pairs → (front key : List ℕ)
     → value_at kind (after_steps kind front pairs) key ≡ value_at kind pairs (front ++ key)
 
--- where a text is left after steps, so does its map
+-- if a text is left after steps, so does its map
 abbrev pub SuffixAnswers : Type 0
 SuffixAnswers = (kind : Kind) (bytes rest : List ℕ) (m : Map) (means : Means kind bytes m) (front key : List ℕ)
     → Lists kind rest (after_steps kind front means.pairs)

@@ -20,7 +20,7 @@ pub record Fits (kind : Kind) (m : Map) : Type 0 where
       → targets_size kind (behind_all front (entries m)) < 256 ^ (greatest_width kind + 1)
   pub short : size kind m < 2 ^ 64
 
--- the pairs need a branch behind these bytes whose targets no offset of the kind reaches
+-- the pairs need a branch after these bytes whose targets no offset of the kind reaches
 abbrev pub OverflowsAt : Kind → List ℕ → Pairs → Type 0
 OverflowsAt kind front pairs = (2 ≤ length (edges (behind_all front pairs)))
     × (256 ^ (greatest_width kind + 1) ≤ targets_size kind (behind_all front pairs))

@@ -3,7 +3,7 @@ use Rattle.std.specs.Prelude.{ℕ, List, map}
 use Rattle.std.specs.Borrow.{Bor}
 use Rattle.zerotrie_core.specs.Maps.{Pairs}
 
--- keys behind references, with their values
+-- keys that references lead to, with their values
 abbrev pub Items : Type 0
 Items = List (Bor (List ℕ) × ℕ)
 

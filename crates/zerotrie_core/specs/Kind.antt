@@ -62,7 +62,7 @@ greatest_width ignore_case = 3
 greatest_width perfect_hash = 3
 greatest_width extended_capacity = 7
 
--- whether a branch of so many edges has a hashed table
+-- whether a branch of this many edges has a hashed table
 abbrev pub is_hashed : Kind → ℕ → Bool
 is_hashed simple_ascii n = false
 is_hashed ignore_case n = false

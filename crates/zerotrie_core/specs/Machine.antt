@@ -5,7 +5,7 @@ use Rattle.zerotrie_core.specs.Kind.{Kind}
 use Rattle.zerotrie_core.specs.Maps.{Pairs, value_at, residual}
 use Rattle.zerotrie_core.specs.Cursors.{met, edge_like}
 
--- the pairs behind an edge, and none where there is no edge
+-- the pairs after an edge, and none if there is no edge
 abbrev pub behind : Option ℕ → Pairs → Pairs
 behind None pairs = []
 behind (Some b) pairs = residual b pairs
@@ -17,8 +17,8 @@ without_value (([], v) ∷ pairs) = pairs
 without_value ((b ∷ key, v) ∷ pairs) = (b ∷ key, v) ∷ without_value pairs
 
 -- edge number i, and how many there are
-abbrev pub numbered : ℕ → List ℕ → Option (ℕ × ℕ)
-numbered i edges = option_map (λ b. (b, length edges)) (slice_get edges i)
+abbrev pub nth_edge : ℕ → List ℕ → Option (ℕ × ℕ)
+nth_edge i edges = option_map (λ b. (b, length edges)) (slice_get edges i)
 
 -- what a cursor is asked
 pub data Op : Type 0 where
@@ -42,7 +42,7 @@ pub data Answer : Type 0 where
 abbrev pub run_one : Kind → Op → Pairs → Answer × Pairs
 run_one kind (step c) pairs = let edge = edge_like kind c (met pairs) in (stepped edge, behind edge pairs)
 run_one kind take_value pairs = (taken (value_at kind pairs []), without_value pairs)
-run_one kind (probe i) pairs = let edge = numbered i (met pairs) in (probed edge, behind (option_map (λ e. e.0) edge) pairs)
+run_one kind (probe i) pairs = let edge = nth_edge i (met pairs) in (probed edge, behind (option_map (λ e. e.0) edge) pairs)
 
 -- the answers to a list of calls, each on what the one before it leaves
 abbrev pub run : Kind → List Op → Pairs → List Answer

@@ -43,7 +43,7 @@ with_front b pairs = map (λ e. (b ∷ e.0, e.1)) pairs
 abbrev pub with_run : List ℕ → Pairs → Pairs
 with_run run pairs = map {B = List ℕ × ℕ} (λ e. (run ++ e.0, e.1)) pairs
 
--- what a key has behind the run, if it begins with all of it
+-- what a key has after the run, if it begins with all of it
 abbrev pub after_run : List ℕ → List ℕ → Option (List ℕ)
 after_run [] key = Some key
 after_run (b ∷ run) [] = None
@@ -98,7 +98,7 @@ abbrev pub longest : Pairs → ℕ
 longest [] = 0
 longest (e ∷ pairs) = max (length e.0) (longest pairs)
 
--- the only edge, if it is from 128 on, and what stands behind it
+-- the only edge, if it is from 128 on, and what stands after it
 abbrev pub high_edge : List ℕ → (ℕ → List ℕ) → List ℕ
 high_edge [] behind = []
 high_edge (b ∷ []) behind = if nat_le 128 b then b ∷ behind b else []

@@ -1,4 +1,4 @@
--- The nodes of a text, and what lies behind them.
+-- The nodes of a text, and what lies after them.
 use Rattle.std.proofs.Common.{zero, suc}
 use Rattle.std.specs.Prelude.{◌≡◌, ℕ, ◌+◌, ◌-◌, ◌*◌, ◌%◌, ◌<◌, ◌≤◌, ◌==◌, List, ◌∷◌, ◌++◌, length, true, slice_index, take, drop, if◌then◌else◌, Option}
 use Rattle.std.specs.Borrow.{Bor}
@@ -44,7 +44,7 @@ Begins kind bytes (branch edges width table behind) = BeginsBranch kind bytes ed
 abbrev pub targets_behind : ℕ → ℕ → List ℕ → List ℕ
 targets_behind edges width behind = drop (width * (edges - 1)) (drop edges behind)
 
--- a number whose bytes stand at one place of w blocks of so many bytes, the highest first, behind the number a
+-- a number whose bytes stand at one place of w blocks of this many bytes, the highest first, after the number a
 abbrev pub number_from : ℕ → ℕ → ℕ → ℕ → List ℕ → ℕ
 number_from a zero count place bytes = a
 number_from a (suc w) count place bytes = number_from (256 * a + slice_index bytes place) w count place (drop count bytes)
@@ -60,7 +60,7 @@ begin_of edges width behind i = if i == 0 then 0 else offset_in edges width behi
 abbrev pub end_of : ℕ → ℕ → List ℕ → ℕ → ℕ
 end_of edges width behind i = if i == edges - 1 then length (targets_behind edges width behind) else offset_in edges width behind i
 
--- what target number i is read as: the bytes from its begin to its end, where these are in order and within the targets
+-- what target number i is read as: the bytes from its begin to its end, if these are in order and within the targets
 abbrev pub IsTargetResult : ℕ → ℕ → List ℕ → ℕ → Option (Bor (List ℕ)) → Type 0
 IsTargetResult edges width behind i r =
     IsGetRangeResult (targets_behind edges width behind) (begin_of edges width behind i) (end_of edges width behind i) r

@@ -7,14 +7,14 @@ use Rattle.zerotrie_core.specs.Texts.{Lists}
 use Rattle.zerotrie_core.specs.Nodes.{Begins}
 use Rattle.zerotrie_core.specs.Nodes.Shape.{value, span}
 use Rattle.zerotrie_core.specs.Cursors.{met, edge_like}
-use Rattle.zerotrie_core.specs.Machine.{behind, without_value, numbered}
+use Rattle.zerotrie_core.specs.Machine.{behind, without_value, nth_edge}
 
--- The rest of a run of bytes that all keys go on with, and the text behind it.
+-- The rest of a run of bytes that all keys go on with, and the text after it.
 pub record Place : Type 0 where
   pub run : List ℕ
   pub trie : List ℕ
 
--- no run is left, and nothing behind it
+-- no run is left, and nothing after it
 abbrev pub nowhere : Place
 nowhere = record { run = []; trie = [] }
 
@@ -27,7 +27,7 @@ ListsBehind kind (b ∷ run) trie pairs = (below : Pairs) × (below ≢ []) × (
 abbrev pub ListsAt : Kind → Place → Pairs → Type 0
 ListsAt kind place pairs = ListsBehind kind place.run place.trie pairs
 
--- Whichever pairs there were: the edge that is the byte c to the kind, and the pairs behind it.
+-- Whichever pairs there were: the edge that is the byte c to the kind, and the pairs after it.
 abbrev pub IsStep : Kind → (Pairs → Type 0) → ℕ → Option ℕ → (Pairs → Type 0) → Type 0
 IsStep kind Before c answer After = (pairs : Pairs) → Before pairs
     → (answer ≡ edge_like kind c (met pairs)) × After (behind answer pairs)
@@ -37,10 +37,10 @@ abbrev pub IsTake : Kind → (Pairs → Type 0) → Option ℕ → (Pairs → Ty
 IsTake kind Before answer After = (pairs : Pairs) → Before pairs
     → (answer ≡ value_at kind pairs []) × After (without_value pairs)
 
--- Whichever there were: edge number i with how many there are, and the pairs behind it.
+-- Whichever there were: edge number i with how many there are, and the pairs after it.
 abbrev pub IsProbe : (Pairs → Type 0) → ℕ → Option (ℕ × ℕ) → (Pairs → Type 0) → Type 0
 IsProbe Before i answer After = (pairs : Pairs) → Before pairs
-    → (answer ≡ numbered i (met pairs)) × After (behind (option_map (λ a. a.0) answer) pairs)
+    → (answer ≡ nth_edge i (met pairs)) × After (behind (option_map (λ a. a.0) answer) pairs)
 
 -- after the values in front of them, the bytes begin with a span: its run, and the rest after it
 pub data MeetsSpan (kind : Kind) : List ℕ → List ℕ → List ℕ → Type 0 where

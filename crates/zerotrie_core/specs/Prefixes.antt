@@ -5,7 +5,7 @@ use Rattle.zerotrie_core.specs.Kind.{Kind}
 use Rattle.zerotrie_core.specs.Maps.{Pairs, Map, look, value_at}
 use Rattle.zerotrie_core.specs.Places.{Place, ListsAt}
 
--- Of the fronts of a text of at most so many bytes, the longest that is answered: its length, and the answer; or none is.
+-- Of the fronts of a text of at most this many bytes, the longest that is answered: its length, and the answer; or none is.
 abbrev pub IsLongest : (List ℕ → Option ℕ) → List ℕ → ℕ → Option (ℕ × ℕ) → Type 0
 IsLongest at text most None = (n : ℕ) → n ≤ most → at (take n text) ≡ None
 IsLongest at text most (Some r) = (r.0 ≤ most) × (at (take r.0 text) ≡ Some r.1) × ((n : ℕ) → r.0 < n → n ≤ most → at (take n text) ≡ None)
@@ -23,7 +23,7 @@ fronts at len (c ∷ text) = option_to_list (option_map (λ v. (len, v)) (at [])
 abbrev pub common_prefixes : Kind → Map → List ℕ → List (ℕ × ℕ)
 common_prefixes kind m text = fronts (look kind m) 0 text
 
--- Where a search along a text stands: at a place of a trie, after so many bytes of the text, and whether the value there was looked for.
+-- Where a search along a text stands: at a place of a trie, after this many bytes of the text, and whether the value there was looked for.
 pub record Along : Type 0 where
   pub kind : Kind
   pub place : Place

@@ -26,20 +26,20 @@ Takes in_order pairs = Ascends pairs
 Takes any_order pairs = RepeatsKey pairs → ⊥
 
 -- an error that the route never answers, whatever holds of the pairs
-abbrev pub IsForeign : Route → ZeroTrieBuildError → Type 0
-IsForeign ascending e = e ≡ DuplicateKey
-IsForeign in_order e = (e ≡ DuplicateKey) ⊎ (e ≡ Unsorted)
-IsForeign any_order e = e ≡ Unsorted
+abbrev pub IsNeverAnswered : Route → ZeroTrieBuildError → Type 0
+IsNeverAnswered ascending e = e ≡ DuplicateKey
+IsNeverAnswered in_order e = (e ≡ DuplicateKey) ⊎ (e ≡ Unsorted)
+IsNeverAnswered any_order e = e ≡ Unsorted
 
 -- an error of the route whose cause holds of the pairs
 abbrev pub HasCause : Route → Kind → Pairs → ZeroTrieBuildError → Type 0
-HasCause route kind pairs e = (IsForeign route e → ⊥) × Cause kind pairs e
+HasCause route kind pairs e = (IsNeverAnswered route e → ⊥) × Cause kind pairs e
 
--- why a build of the pairs by the route is refused: want of memory, or a cause that holds of them
+-- why a build of the pairs by the route is refused: out of memory, or a cause that holds of them
 abbrev pub IsRefusal : Route → Kind → Pairs → ZeroTrieBuildError → Type 0
 IsRefusal route kind pairs e = (e ≡ OutOfMemory) ⊎ HasCause route kind pairs e
 
--- What a build of the pairs by the route answers, where the bytes of an answer are these: bytes that mean the
+-- What a build of the pairs by the route answers, if the bytes of an answer are these: bytes that mean the
 -- pairs, or a refusal.
 abbrev pub IsBuild : {B : Type 0} → Route → Kind → (B → List ℕ) → Pairs → Result B ZeroTrieBuildError → Type 0
 IsBuild route kind bytes pairs (Ok b) = Takes route pairs × IsBuilt kind pairs (bytes b)
@@ -52,11 +52,11 @@ IsLength route kind pairs (Ok n) = Takes route pairs × Fits kind (map_of pairs)
 IsLength route kind pairs (Err e) = IsRefusal route kind pairs e × (e ≢ CouldNotSolvePerfectHash)
 
 -- the fact holds of the pairs that an iterator gives, one after another and no more
-abbrev pub OfAllGiven : {U I K : Type 0} → (U → I → Type 0) → (I → Option (K × ℕ) → I → Type 0) → (K → List ℕ) → U → (Pairs → Type 0) → Type 0
-OfAllGiven {I = I} into_iter_gives next_gives key given Fact =
+abbrev pub HoldsOfItsPairs : {U I K : Type 0} → (U → I → Type 0) → (I → Option (K × ℕ) → I → Type 0) → (K → List ℕ) → U → (Pairs → Type 0) → Type 0
+HoldsOfItsPairs {I = I} into_iter_gives next_gives key given Fact =
     (it : I) × into_iter_gives given it × WholeRun next_gives it (λ run. Fact (keyed key run.items))
 
--- What a build of all pairs that an iterator gives answers. Where memory was wanting, it may not have given them all.
+-- What a build of all pairs that an iterator gives answers. If it is out of memory, the iterator may not have given them all.
 abbrev pub IsBuildOfAll : {B : Type 0} → ((Pairs → Type 0) → Type 0) → Kind → (B → List ℕ) → Result B ZeroTrieBuildError → Type 0
 IsBuildOfAll OfAll kind bytes (Ok b) = OfAll (λ pairs. IsBuild any_order kind bytes pairs (Ok b))
 IsBuildOfAll OfAll kind bytes (Err e) = (e ≡ OutOfMemory) ⊎ OfAll (λ pairs. HasCause any_order kind pairs e)

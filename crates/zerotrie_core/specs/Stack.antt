@@ -1,17 +1,17 @@
--- The stack need of a map: how many targets wait for their branch at once where a text is written from its end, with
+-- The stack need of a map: how many targets wait for their branch at once while a text is written from its end, with
 -- those of a branch from the last to the first, and a branch in front of its targets as soon as all of them are there.
 use Rattle.std.proofs.Common.{zero, suc}
 use Rattle.std.specs.Prelude.{ℕ, ◌+◌, List, [], ◌∷◌, length, max}
 use Rattle.std.specs.FinMap.{entries}
 use Rattle.zerotrie_core.specs.Maps.{Pairs, Map, edges, residual, longest}
 
--- of the edges of a branch: the greatest of their number and, for each of them, how many come after it and the need behind it
+-- of the edges of a branch: the greatest of their number and, for each of them, how many come after it and the need after it
 abbrev pub branch_need : (Pairs → ℕ) → Pairs → List ℕ → ℕ
 branch_need need_behind pairs [] = 0
 branch_need need_behind pairs (b ∷ edges) =
     max (1 + length edges) (max (length edges + need_behind (residual b pairs)) (branch_need need_behind pairs edges))
 
--- by the edges: none, one with the need behind it, or a branch
+-- by the edges: none, one with the need after it, or a branch
 abbrev pub need_by : (Pairs → ℕ) → Pairs → List ℕ → ℕ
 need_by need_behind pairs [] = 0
 need_by need_behind pairs (b ∷ []) = need_behind (residual b pairs)

@@ -1,6 +1,6 @@
 //! A branch, where it lies.
 //!
-//! Behind its head a branch has its search table, a table of offsets, and its targets, one after another. A
+//! After its head a branch has its search table, a table of offsets, and its targets, one after another. A
 //! sorted search table is the edges. A hashed one has the parameters of a perfect hash in front of them. The
 //! table of offsets has one for each edge but the first, where its target begins: the highest bytes of all
 //! of them first, then the next, and so on.

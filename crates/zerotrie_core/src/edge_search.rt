@@ -17,7 +17,7 @@ fn half_passed(half: usize, middle: u8, byte: u8) -> usize
 
 /// The place of a byte in a table whose bytes rise when they are folded.
 ///
-/// Since each byte is above the one before it, the first and the last bound the place, closely where the
+/// Since each byte is above the one before it, the first and the last bound the place, closely if the
 /// edges lie close together. What is left is halved, with no branch on what it holds: which edge a key
 /// takes can't be predicted. Only the bytes that are looked at are folded.
 #[inline(always)]

@@ -78,7 +78,7 @@ pub struct Fault {
     pub cause: FaultCause,
 }
 
-/// What is wrong where no node begins.
+/// What is wrong at a place at which no node begins.
 fn no_node_fault<K: ZeroTrieWithOptions>(expected: Expected, bytes: &[u8]) -> Option<FaultCause>
     requires { (node : Shape) → Begins K.kind bytes.now node → ⊥ }
     ensures some { IfSome result (Fails K.kind (before_of expected) bytes.now) }

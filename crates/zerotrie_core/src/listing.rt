@@ -17,7 +17,7 @@ use thiserror::Error;
 /// Why a listing ended early.
 #[derive(Clone, PartialEq, Eq, Debug, Drop, Error)]
 pub enum ListError {
-    /// A growth was refused.
+    /// Memory was refused.
     #[error("out of memory")]
     OutOfMemory,
     /// A key is no text, which is so on bytes alone that mean no map of an ASCII kind.

@@ -23,7 +23,7 @@ fn first_other_at(bytes: &[u8], key: &[u8], place: usize) -> usize
     first_other_in_16(rest, after)
 }
 
-/// How many literals the bytes begin with that the key goes on with, where both are long: not always all of them.
+/// How many literals the bytes begin with that the key goes on with, if both are long: not always all of them.
 ///
 /// They are compared sixteen at a time. If these are all the same, it goes on after them and waits for no number;
 /// in the end come the last sixteen, some of which may have been compared before.
@@ -75,7 +75,7 @@ fn are_48_same(bytes: &[u8], key: &[u8], place: usize, last: usize) -> bool
 
 /// Whether the bytes begin with the whole key, each of its bytes as a literal and in the same case.
 ///
-/// Each turn compares 96, with no jump in between, since how many there are can't be predicted. Where there are
+/// Each turn compares 96, with no jump in between, since how many there are can't be predicted. If there are
 /// fewer, it compares the last sixteen again.
 #[inline(always)]
 fn are_all_same(bytes: &[u8], key: &[u8]) -> bool
@@ -96,7 +96,7 @@ fn are_all_same(bytes: &[u8], key: &[u8]) -> bool
     true
 }
 
-/// How many literals the bytes begin with that the key goes on with, where both are long: not always all of them.
+/// How many literals the bytes begin with that the key goes on with, if both are long: not always all of them.
 ///
 /// If no more than a value can follow as many bytes as the key has, they are as a rule the key's end, and
 /// all of it is compared at once. It stays a call, as few runs are so long, and a look-up is expanded wherever it is

@@ -157,7 +157,7 @@ fn encode(
 /// each target but the first begins, in bytes from the first one on, and the targets.
 ///
 /// The time is that of reading each key's bytes a few times and copying each target once for each branch that
-/// it is behind. A call goes as deep as there are branches on one key's path, however long the keys are.
+/// it lies below. A call goes as deep as there are branches on one key's path, however long the keys are.
 ///
 /// # Errors
 ///

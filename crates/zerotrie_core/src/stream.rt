@@ -488,7 +488,7 @@ fn push_literals<'a, A: Allocator>(
     Ok(here.after(count))
 }
 
-/// Goes into the next target of a branch. Where its offsets fall, no more of the branch is listed. So no byte is gone
+/// Goes into the next target of a branch. If its offsets fall, no more of the branch is listed. So no byte is gone
 /// over twice.
 #[inline(always)]
 fn enter<'a, A: Allocator>(

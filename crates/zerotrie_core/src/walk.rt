@@ -97,7 +97,7 @@ fn push_targets<'a, A: Allocator>(
     Ok(())
 }
 
-/// Turns the order of all after the first ones round, which are so many.
+/// Turns the order of all parts after the first `len` round.
 fn reverse_from<T: Drop, A: Allocator>(parts: &mut Vec<T, A>, len: usize)
     requires { len ≤ vec_len parts.old }
     ensures { parts.new.items ≡ take len parts.old.items ++ reverse (drop len parts.old.items) }

@@ -10,7 +10,7 @@ ghost use Rattle.std.specs.Iterator.{IsFiniteIterable};
 ghost use Rattle.zerotrie_core.specs.Maps.{Map, look};
 ghost use Rattle.zerotrie_core.specs.Texts.{Means};
 ghost use Rattle.zerotrie_core.specs.Items.{pairs_of, keyed};
-ghost use Rattle.zerotrie_core.specs.Routes.{ascending, in_order, IsBuild, IsLength, OfAllGiven, IsBuildOfAll};
+ghost use Rattle.zerotrie_core.specs.Routes.{ascending, in_order, IsBuild, IsLength, HoldsOfItsPairs, IsBuildOfAll};
 ghost use Rattle.zerotrie_any.specs.Flavors.{flavor_kind};
 ghost use Rattle.zerotrie_any.specs.Order.{IsByBytes};
 
@@ -51,7 +51,7 @@ pub struct HashedTrie<K, S> {
 /// assert_eq!(rt; trie.get(b"bar"), None);
 /// ```
 ///
-/// A build is refused where the targets of a branch would have 2^32 bytes or more together.
+/// A build is refused if the targets of a branch would have 2^32 bytes or more together.
 pub type ZeroTriePerfectHash<S> = HashedTrie<Hash, S>;
 
 /// A map from keys of any bytes to numbers, whose branches may have targets of any length.
@@ -347,7 +347,7 @@ impl<K: HashedKind> HashedTrie<K, Vec<u8>> {
         U::IntoIter: Drop,
         requires { IsFiniteIterable U.into_iter_gives U.IntoIter.can_next U.IntoIter.remaining
             iter }
-        ensures { IsBuildOfAll (OfAllGiven U.into_iter_gives U.IntoIter.next_gives Key.key iter)
+        ensures { IsBuildOfAll (HoldsOfItsPairs U.into_iter_gives U.IntoIter.next_gives Key.key iter)
             K.kind (λ trie. trie.store.items) result }
     {
         let store = bytes_from_iter::<K, Key, U>(alloc, iter)?;

@@ -6,7 +6,7 @@ use Rattle.std.proofs.lemmas.Bool.Decides.{eqb_tells}
 use Rattle.std.proofs.lemmas.List.{append-nil}
 use Rattle.zerotrie_lines.specs.Escapes.{IsHexDigit, SpellsHex, SpellsEscape, SpellsFirst, Spells, is_plain, escaped}
 
--- what is left behind the first byte that a text spells
+-- what is left after the first byte that a text spells
 after_escape : ℕ → List ℕ → List ℕ
 after_escape letter more = if letter == 120 then drop 2 more else more
 

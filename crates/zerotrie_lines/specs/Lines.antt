@@ -26,7 +26,7 @@ lines_of (b ∷ input) = if is_feed b then [] ∷ lines_of input else onto_line 
 abbrev pub HasTab : List ℕ → Type 0
 HasTab line = position_or_len is_tab line < length line
 
--- the line has a tab; what stands before the first spells the key, and what stands behind it are the digits of the value
+-- the line has a tab; what stands before the first spells the key, and what stands after it are the digits of the value
 abbrev pub IsPairLine : List ℕ → Pair → Type 0
 IsPairLine line e = HasTab line × Spells (before_first is_tab line) e.0 × IsNumber (after_first is_tab line) e.1
 

@@ -32,7 +32,7 @@ Reads Lines input pairs = ReadsLines Lines 1 (lines_of input) pairs
 Reads Tsv input pairs = ReadsLines Tsv 1 (lines_of input) pairs
 Reads Csv input pairs = (rows : List Fields) × AreRowsOf input rows × ArePairRecords rows pairs
 
--- why a line is no pair: it has no tab, what stands before the tab spells no key, or what stands behind it is no number
+-- why a line is no pair: it has no tab, what stands before the tab spells no key, or what stands after it is no number
 abbrev pub IsLineFault : List ℕ → BadLine → Type 0
 IsLineFault line bad.NoTab = HasTab line → ⊥
 IsLineFault line bad.Escape = HasTab line × ((key : List ℕ) → Spells (before_first is_tab line) key → ⊥)
@@ -56,7 +56,7 @@ abbrev pub IsBadRecord : List ℕ → ℕ → BadLine → Type 0
 IsBadRecord input m fault = (rows : List Fields) × (row : Fields) × (pairs : Pairs) × AreFirstRowsOf input (rows ++ row ∷ []) × ArePairRecords rows pairs
     × (m ≡ length rows + 1) × IsRecordFault row fault
 
--- why an input is not read: this line or record is no pair, or memory was wanting
+-- why an input is not read: this line or record is no pair, or memory was refused
 abbrev pub Explains : Format → List ℕ → ReadError → Type 0
 Explains format input OutOfMemory = Unit {0}
 Explains Lines input (Line m fault) = ⊥

@@ -1,4 +1,4 @@
--- Pairs whose keys lie one behind another.
+-- Pairs whose keys lie one after another.
 use Rattle.std.specs.Prelude.{ℕ, ◌+◌, List, [], ◌∷◌, take, drop, map, Bool, if◌then◌else◌}
 use Rattle.std.specs.Char.{to_ascii_lowercase}
 use Rattle.std.specs.Borrow.{Bor}

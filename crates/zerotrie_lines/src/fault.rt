@@ -35,7 +35,7 @@ impl fmt::Display for BadLine {
 pub enum ReadError {
     /// The line with this number is no pair, and why. Of comma-separated fields it is the record with this number.
     Line(usize, BadLine),
-    /// A growth was refused.
+    /// Memory was refused.
     OutOfMemory,
 }
 

@@ -18,6 +18,6 @@ abbrev pub kind_for : Option TrieKind → Pairs → Kind
 kind_for None pairs = auto_kind pairs
 kind_for (Some kind) pairs = kind_of kind
 
--- the file of a trie with these bytes, bare or behind the number of the kind
+-- the file of a trie with these bytes, bare or after the number of the kind
 abbrev pub file_of : Bool → Kind → List ℕ → List ℕ
 file_of bare kind bytes = if bare then bytes else tagged kind bytes

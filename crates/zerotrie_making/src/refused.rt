@@ -41,7 +41,7 @@ pub enum MakeError {
     Keys(Shown),
     /// The build is refused though no key is at fault: `CapacityExceeded` or `CouldNotSolvePerfectHash`.
     Refused(ZeroTrieBuildError),
-    /// A growth was refused.
+    /// Memory was refused.
     OutOfMemory,
 }
 

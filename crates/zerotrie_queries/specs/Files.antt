@@ -7,7 +7,7 @@ use Rattle.zerotrie_queries.specs.declared.kind.TrieKind.{TrieKind}
 use Rattle.zerotrie_queries.specs.declared.file.OpenError.{OpenError}
 use Rattle.zerotrie_queries.specs.declared.file.OpenError.TheVariants.{BadTag, NotWellFormed}
 
--- the file has these bytes of this kind: all of it if the kind was named, and else what stands behind the number of the kind
+-- the file has these bytes of this kind: all of it if the kind was named, and else what stands after the number of the kind
 abbrev pub Holds : Option TrieKind → List ℕ → TrieKind → List ℕ → Type 0
 Holds None file kind bytes = file ≡ tagged (kind_of kind) bytes
 Holds (Some named) file kind bytes = (kind ≡ named) × (bytes ≡ file)

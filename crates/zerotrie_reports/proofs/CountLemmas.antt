@@ -33,7 +33,7 @@ none_within kind bytes = record {
   cells = All-replicate (λ n. n ≤ 0) 64 0 (omega arith);
 }
 
--- the greatest of two lists one behind the other
+-- the greatest of two lists one after the other
 greatest-append : (a b : List ℕ) → greatest (a ++ b) ≡ max (greatest a) (greatest b)
 greatest-append [] b = omega arith
 greatest-append (n ∷ a) b = let e = greatest-append a b in omega arith
@@ -180,7 +180,7 @@ counted kind bytes visits =
     joins visits (no_nodes kind bytes)
     ∙ same_report kind bytes _ _ _ _ _ _ _ _ _ _ _ _ _ _ (omega arith) (omega arith) refl (omega arith) (omega arith) (omega arith) (branches_counted visits)
 
--- values one list of nodes behind the other
+-- values one list of nodes after the other
 values-append : (a b : List Visit) → values (a ++ b) ≡ values a ++ values b
 values-append [] b = refl
 values-append (v ∷ a) b = ap (λ ns. value_in v.node ++ ns) (values-append a b) ∙ sym (append_assoc (value_in v.node) (values a) (values b))

@@ -1,7 +1,7 @@
 -- Texts that were added one after another.
 use Rattle.std.proofs.Common.{◌≡◌, ℕ, List, ◌++◌, ◌∙◌, ap, append_assoc}
 
--- four texts behind a list
+-- four texts after a list
 pub behind_four : (l l₁ l₂ l₃ a b c d : List ℕ) → l₁ ≡ l ++ a → l₂ ≡ l₁ ++ b → l₃ ≡ l₂ ++ c → l₃ ++ d ≡ l ++ (a ++ (b ++ (c ++ d)))
 behind_four l l₁ l₂ l₃ a b c d first second third =
     ap (λ k. k ++ d) third ∙ append_assoc l₂ c d

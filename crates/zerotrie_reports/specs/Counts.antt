@@ -58,7 +58,7 @@ group_of edges =
     if nat_le edges 2 then 0 else (if nat_le edges 4 then 1 else (if nat_le edges 8 then 2 else (if nat_le edges 16 then 3
     else (if nat_le edges 32 then 4 else (if nat_le edges 64 then 5 else (if nat_le edges 128 then 6 else 7))))))
 
--- the cell of branches with so many edges and offsets of so many bytes
+-- the cell of branches with this many edges and offsets of this many bytes
 abbrev pub cell_of : ℕ → ℕ → ℕ
 cell_of edges width = 8 * group_of edges + (width - 1)
 

@@ -8,7 +8,7 @@ use Rattle.zerotrie_queries.specs.declared.kind.TrieKind.{TrieKind}
 use Rattle.zerotrie_reports.specs.Counts.{values, depths, greatest_of, is_literal, is_span, count_of, branches_in}
 use Rattle.zerotrie_reports.specs.declared.counting.Report.{Report}
 
--- the report of so many bytes of a kind, by their nodes
+-- the report of this many bytes of a kind, by their nodes
 abbrev pub report_over : TrieKind → ℕ → List Visit → Report
 report_over kind bytes visits = record {
   kind = kind;

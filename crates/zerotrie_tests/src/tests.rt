@@ -20,7 +20,7 @@ use std::process::Abort;
 use std::test::Fail;
 use zerotrie::*;
 
-/// Ends the test where the two differ, and writes both: `assert_eq!` in a function of its own, since the proof of what
+/// Ends the test if the two differ, and writes both: `assert_eq!` in a function of its own, since the proof of what
 /// it writes is long, and made anew wherever it stands.
 fn same<T: Debug + PartialEq + Drop, H: Abort>(rt: &H, left: T, right: T) {
     assert_eq!(rt; left, right);

@@ -66,7 +66,7 @@ word_is_digits digits key text all h = elim h [
   | inr with_key ↦ ap (before_first is_space) with_key ∙ digits_before digits key all
 ]
 
--- behind two bytes a text has the same key
+-- after two bytes a text has the same key
 pub HasKey-tail : (a b : ℕ) (words key text : List ℕ) → HasKey (a ∷ b ∷ words) key (a ∷ b ∷ text) → HasKey words key text
 HasKey-tail a b words key text h = elim h [
   | inl alone ↦ inl (cc, alone.1)
@@ -88,7 +88,7 @@ stripped line words rest h = strip_prefix_is Decides-eqb line words (Some rest) 
 pub not_stripped : (line words : List ℕ) → begins line words ≡ false → (rest : List ℕ) → line ≡ words ++ rest → ⊥
 not_stripped line words h = strip_prefix_is Decides-eqb line words None h
 
--- a line that does not begin with the words has no key behind them
+-- a line that does not begin with the words has no key after them
 pub no_words : (line words : List ℕ) → begins line words ≡ false → (key : List ℕ) → HasKey words key line → ⊥
 no_words line words h key with_key = elim with_key [
   | inl alone ↦ not_stripped line words h [] (alone.0 ∙ sym (append-nil words))
@@ -103,7 +103,7 @@ pub same_rest : (words rest more : List ℕ) → words ++ rest ≡ words ++ more
 same_rest [] rest more e = e
 same_rest (w ∷ words) rest more e = same_rest words rest more (cc)
 
--- behind the words stands neither nothing nor a space
+-- after the words stands neither nothing nor a space
 pub other_key : (line words rest : List ℕ) (b : ℕ) (behind : List ℕ) → line ≡ words ++ rest → rest ≡ b ∷ behind → (b ≡ 32 → ⊥) → (key : List ℕ) → HasKey words key line → ⊥
 other_key line words rest b behind e is other key h = elim h [
   | inl alone ↦ let same : rest ≡ [] = same_rest words rest [] (sym e ∙ alone.0 ∙ sym (append-nil words)) in cc

@@ -40,7 +40,7 @@ in_order Hash pairs = pairs
 in_order Ext pairs = pairs
 in_order Auto pairs = entries (map_of pairs)
 
--- Before the first choice only a choice can be made, and a walk only where the choice names a kind.
+-- Before the first choice only a choice can be made, and a walk only if the choice names a kind.
 abbrev pub CanDo : Option State → Command → Type 0
 CanDo None (choose choice) = Unit {0}
 CanDo None (add value key) = ⊥

@@ -17,7 +17,7 @@ IsNoCommand line = (command : Command) → IsCommand line command → ⊥
 abbrev pub EndsInReturn : List ℕ → Type 0
 EndsInReturn line = (front : List ℕ) × (line ≡ front ++ 13 ∷ [])
 
--- the line begins with the words, and has a text like this behind them
+-- the line begins with the words, and has a text like this after them
 abbrev pub HasBehind : List ℕ → (List ℕ → Type 0) → List ℕ → Type 0
 HasBehind words IsSo line = (text : List ℕ) × (line ≡ words ++ text) × IsSo text
 

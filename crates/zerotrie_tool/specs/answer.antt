@@ -1,4 +1,4 @@
--- Words of the functions behind `answer_all`.
+-- Words of the private functions of `answer_all`.
 pub mod Parsing
 pub mod Tries
 pub mod Sessions

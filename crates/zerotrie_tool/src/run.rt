@@ -20,7 +20,7 @@ pub enum RunError {
     /// The writer failed.
     #[error("write failed")]
     Write,
-    /// A growth was refused, outside of a build.
+    /// Memory was refused, outside of a build.
     #[error("out of memory")]
     OutOfMemory,
 }

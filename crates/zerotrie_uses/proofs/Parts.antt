@@ -1,4 +1,4 @@
--- The keys that a name begins with by whole parts, and those that a text begins with, as fronts of so many bytes.
+-- The keys that a name begins with by whole parts, and those that a text begins with, as fronts of this many bytes.
 use Rattle.std.proofs.Common.{◌≡◌, ℕ, zero, suc, ◌<◌, ◌≤◌, List, [], ◌∷◌, ◌++◌, length, take, drop, refl, sym, ◌∙◌, ap, subst, arith, true, Option, Some, None}
 use Rattle.std.specs.Prelude.{◌||◌}
 use Rattle.std.proofs.Math.Dec.{eqb-suc-zero}
@@ -10,7 +10,7 @@ use Rattle.zerotrie.specs.Prefixes.{IsLongestPrefix}
 use Rattle.zerotrie.proofs.Fallbacks.{IsLast}
 use Rattle.zerotrie_uses.specs.Fallback.{is_end, ends_part, BeginsWithParts, BeginsWith, IsFallback, IsLongestKey}
 
--- a front of so many bytes at which a part ends
+-- a front of this many bytes at which a part ends
 front : (name : List ℕ) (n : ℕ) → n ≤ length name → ends_part name n ≡ true → BeginsWithParts name (take n name)
 front [] zero l ends = tt
 front [] (suc n) l ends = absurd (omega arith)

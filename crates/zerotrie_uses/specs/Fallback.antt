@@ -22,7 +22,7 @@ abbrev pub is_end : List ℕ → Bool
 is_end [] = true
 is_end (b ∷ rest) = b == hyphen
 
--- a part ends after so many bytes of a name: none, all of it, or those in front of a hyphen
+-- a part ends after this many bytes of a name: none, all of it, or those in front of a hyphen
 abbrev pub ends_part : List ℕ → ℕ → Bool
 ends_part name len = (len == 0) || is_end (drop len name)
 

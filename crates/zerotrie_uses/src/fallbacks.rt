@@ -11,7 +11,7 @@ use zerotrie::{TrieStore, ZeroTriePerfectHash, ZeroTrieSimpleAscii};
 /// The byte between the parts of a locale.
 const HYPHEN: u8 = b'-';
 
-/// Whether a part of a name ends after so many bytes of it: in front of all of it, in front of a hyphen, or at its end.
+/// Whether a part of a name ends after this many bytes of it: in front of all of it, in front of a hyphen, or at its end.
 fn ends_part(name: &[u8], len: usize) -> bool
     ensures { result ≡ ends_part name.now len }
 {

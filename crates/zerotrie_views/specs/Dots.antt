@@ -55,6 +55,6 @@ abbrev pub dot_nodes : List Visit → List ℕ
 dot_nodes [] = []
 dot_nodes (v ∷ visits) = dot_node v ++ dot_nodes visits
 
--- the drawing of the first nodes, at most so many
+-- the drawing of the first nodes, at most this many
 abbrev pub drawing : ℕ → List Visit → List ℕ
 drawing most visits = codes "digraph trie {\n  rankdir=LR;\n" ++ (dot_nodes (take most visits) ++ codes "}\n")

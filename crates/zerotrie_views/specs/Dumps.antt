@@ -9,7 +9,7 @@ abbrev pub edge_text : Option ℕ → List ℕ
 edge_text None = []
 edge_text (Some b) = escaped (b ∷ [])
 
--- where a node stands: its place, how many branches it lies behind, and the byte of its edge, with tabs between them
+-- where a node stands: its place, how many branches stand above it, and the byte of its edge, with tabs between them
 abbrev pub stand_text : Part → List ℕ
 stand_text p = decimal p.place ++ (9 ∷ (decimal p.depth ++ (9 ∷ edge_text p.edge)))
 

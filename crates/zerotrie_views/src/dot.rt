@@ -132,7 +132,7 @@ fn add_node(line: &mut Vec<u8>, visit: &Visit<'_>) -> Result<(), AllocError>
     add_arrow(line, &visit.part)
 }
 
-/// Writes the lines of the nodes that a walk still has, at most so many.
+/// Writes the lines of the nodes that a walk still has, at most this many.
 fn write_nodes<W: Write>(
     alloc: Global,
     nodes: &mut Nodes<'_>,
@@ -156,7 +156,7 @@ fn write_nodes<W: Write>(
     Ok(())
 }
 
-/// Writes a drawing of the first nodes that a walk still has, at most so many.
+/// Writes a drawing of the first nodes that a walk still has, at most this many.
 fn write_drawing<W: Write>(
     alloc: Global,
     nodes: &mut Nodes<'_>,
@@ -171,7 +171,7 @@ fn write_drawing<W: Write>(
     output.write_all(b"}\n")
 }
 
-/// Writes a drawing of the first nodes of a trie, at most so many.
+/// Writes a drawing of the first nodes of a trie, at most this many.
 pub fn write_dot<W: Write>(
     alloc: Global,
     trie: &Trie<'_>,

@@ -22,7 +22,7 @@ use zerotrie_queries::{Trie, TrieKind};
 pub enum View {
     /// A line for each node.
     Dump,
-    /// A drawing of its first nodes, at most so many, as Graphviz reads it.
+    /// A drawing of its first nodes, at most this many, as Graphviz reads it.
     Dot(usize),
 }
 

@@ -7,7 +7,7 @@ use Rattle.zerotrie_core.specs.Canonical.{size_of}
 use Rattle.zerotrie.specs.dense.Rows.{Rows, suffixes, placed}
 use Rattle.zerotrie.specs.dense.Windows.{offset, within, without, inside, outside}
 
--- A row is dense, in a table of so many suffixes, if the text of its window is longer than a row of the matrix;
+-- A row is dense, in a table of this many suffixes, if the text of its window is longer than a row of the matrix;
 -- but not if it has the empty suffix with a value outside the window.
 abbrev pub is_dense : ℕ → Pairs → Bool
 is_dense columns row = nat_lt (2 * columns) (size_of simple_ascii (inside row)) && not (is_some (value_at simple_ascii (outside row) []))
@@ -19,7 +19,7 @@ pub record LaidRow : Type 0 where
   pub offset : ℕ
   pub dense : Bool
 
--- a row of a table of so many suffixes
+-- a row of a table of this many suffixes
 abbrev pub laid : ℕ → (List ℕ × Pairs) → LaidRow
 laid columns row = record { prefix = row.0; pairs = row.1; offset = offset row.1; dense = is_dense columns row.1 }
 

@@ -143,7 +143,7 @@ impl PerfectByteHashMapCacheOwned {
         Ok(self.held_table(keys.as_slice()))
     }
 
-    /// Makes and holds the table where it is not held.
+    /// Makes and holds the table if it is not held.
     fn hold(&mut self, keys: &[u8]) -> Result<(), ZeroTrieBuildError>
         requires { IsDistinct nat_eq keys.now }
         ensures held { IsSome (find keys.now self.old) → IsOk result × (self.new ≡ self.old) }

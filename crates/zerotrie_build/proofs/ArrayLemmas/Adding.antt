@@ -94,7 +94,7 @@ rising_at all j i a b e p q up =
 pub ascii_at : (all : Pairs) (i : ℕ) (a : List ℕ × ℕ) → slice_get all i ≡ Some a → All (λ e. All (λ b. b < 128) e.0) all → All (λ b. b < 128) a.0
 ascii_at all i a at ascii = subst (λ x. All (λ b. b < 128) x.0) (got all i a a at) (ascii i a (slice_get_within all i a at))
 
--- What overflows among the last pairs overflows among all, if nothing before them stands strictly behind the front.
+-- What overflows among the last pairs overflows among all, if nothing before them stands strictly after the front.
 overflows_all : (front : List ℕ) (all before listed : Pairs) → all ≡ before ++ listed → ((b : ℕ) → residual b (behind_all front before) ≡ []) → OverflowsAt simple_ascii front listed → OverflowsAt simple_ascii front all
 overflows_all front all before listed is none over =
     let same : (b : ℕ) → residual b (behind_all front listed) ≡ residual b (behind_all front all) =

@@ -50,7 +50,7 @@ moved k key other d (s ∷ siblings) bytes pairs within same low below aside =
       },
     )
 
--- the siblings that lie before a depth list nothing behind that depth's front
+-- the siblings that lie before a depth list nothing after that depth's front
 pub nothing_aside : (k : ℕ) (key : List ℕ) (d : ℕ) (siblings : List Sibling) (bytes : List ℕ) (pairs : Pairs) → d ≤ length key → DepthsBelow d siblings → Aside k key siblings bytes pairs
     → behind_all (take d key) pairs ≡ []
 nothing_aside k key d [] bytes pairs within below aside = ap (behind_all (take d key)) aside.1 ∙ behind_all-nil (take d key)
@@ -82,7 +82,7 @@ counts_more a b m n p q = record {
 pub counts_same : (a m n : ℕ) → m ≡ n → Counts a m → Counts a n
 counts_same a m n e = subst (Counts a) e
 
--- the siblings at one depth, as the targets of a branch, and what stands behind them
+-- the siblings at one depth, as the targets of a branch, and what stands after them
 pub record Gathered (k : ℕ) (key : List ℕ) (d low : ℕ) (taken after : List Sibling) (rest : List ℕ) (others : Pairs) : Type 0 where
   pub targets : List (List ℕ)
   pub node : Pairs
@@ -188,7 +188,7 @@ abbrev pub AboveAt : ℕ → ℕ → List Sibling → Type 0
 AboveAt d low [] = Unit {0}
 AboveAt d low (s ∷ siblings) = ((s.depth ≡ d) × (low < s.byte)) ⊎ (s.depth < d)
 
--- behind one sibling, the next one is so beside it
+-- after one sibling, the next one is so beside it
 next_above : (s : Sibling) (siblings : List Sibling) → ComesBefore s siblings → AboveAt s.depth s.byte siblings
 next_above s [] b = tt
 next_above s (t ∷ siblings) b = elim b [ inl less ↦ inr less | inr same ↦ inl (same.0, same.1) ]

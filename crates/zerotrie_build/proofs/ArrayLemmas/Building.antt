@@ -6,7 +6,7 @@ use Rattle.zerotrie_core.specs.Texts.{Lists, Means}
 use Rattle.zerotrie_core.specs.Canonical.{size, size_of}
 use Rattle.zerotrie_core.specs.Stack.{stack, stack_of}
 use Rattle.zerotrie_core.specs.Laws.{MeansFits, MeansCanonical}
-use Rattle.zerotrie_core.specs.ArrayRoutes.{IsArrayBuilt, IsTooMuch}
+use Rattle.zerotrie_core.specs.ArrayRoutes.{IsArrayBuilt, IsRefusalWithin}
 use Rattle.zerotrie_core.specs.Causes.{ZeroTrieBuildError, NonAsciiError, BufferTooSmall}
 use Rattle.zerotrie_core.proofs.CallerLemmas.{ascends_apart, entries-map_of, listed_size}
 use Rattle.zerotrie_build.specs.konst.Texts.{EndsIn}
@@ -23,16 +23,16 @@ pub stack_is : (pairs : Pairs) → Ascends pairs → stack (map_of pairs) ≡ st
 unfolding stack
 stack_is pairs up = ap stack_of (entries-map_of pairs up)
 
-pub too_much : (n k : ℕ) (pairs : Pairs) (e : ZeroTrieBuildError) → Ascends pairs → IsRefusedBuild k pairs e → IsTooMuch n k pairs e
+pub too_much : (n k : ℕ) (pairs : Pairs) (e : ZeroTrieBuildError) → Ascends pairs → IsRefusedBuild k pairs e → IsRefusalWithin n k pairs e
 too_much n k pairs e up stuck = elim stuck [
-  | inl wide ↦ subst (IsTooMuch n k pairs) (sym wide.0) ((λ needed same. cc), (ascends_apart pairs up, wide.1))
-  | inr many ↦ subst (IsTooMuch n k pairs) (sym many.0) ((λ needed same. cc), (ascends_apart pairs up, (let s = stack_is pairs up in let m = many.1 in omega arith)))
+  | inl wide ↦ subst (IsRefusalWithin n k pairs) (sym wide.0) ((λ needed same. cc), (ascends_apart pairs up, wide.1))
+  | inr many ↦ subst (IsRefusalWithin n k pairs) (sym many.0) ((λ needed same. cc), (ascends_apart pairs up, (let s = stack_is pairs up in let m = many.1 in omega arith)))
 ]
 
-pub not_ascii : (n k : ℕ) (pairs : Pairs) → (All (λ e. All (λ b. b < 128) e.0) pairs → ⊥) → IsTooMuch n k pairs NonAsciiError
+pub not_ascii : (n k : ℕ) (pairs : Pairs) → (All (λ e. All (λ b. b < 128) e.0) pairs → ⊥) → IsRefusalWithin n k pairs NonAsciiError
 not_ascii n k pairs none = ((λ needed same. cc), some_foreign simple_ascii pairs none)
 
-pub too_small : (n k : ℕ) (pairs : Pairs) (bytes : List ℕ) → Ascends pairs → Lists simple_ascii bytes pairs → n < length bytes → IsTooMuch n k pairs BufferTooSmall
+pub too_small : (n k : ℕ) (pairs : Pairs) (bytes : List ℕ) → Ascends pairs → Lists simple_ascii bytes pairs → n < length bytes → IsRefusalWithin n k pairs BufferTooSmall
 too_small n k pairs bytes up lists long = ((λ needed same. cc), (ascends_apart pairs up, (let s = size_is pairs bytes up lists in omega arith)))
 
 pub array_built : (k : ℕ) (pairs : Pairs) (bytes : List ℕ) → ((kind : Kind) → MeansFits kind) → ((kind : Kind) → IsAscii kind → MeansCanonical kind) → Ascends pairs → Lists simple_ascii bytes pairs → length bytes < 2 ^ 64
@@ -77,6 +77,6 @@ filled_whole k pairs first buffer len again fits canonical w v room short =
     (subst (IsArrayBuilt k pairs) (sym is) (array_built k pairs v.bytes fits canonical v.ascends v.lists (omega arith) v.enough), size_w ∙ sym e)
 
 -- more bytes were counted than there may be
-pub lost : (n k : ℕ) (pairs : Pairs) (buffer : List ℕ) (len : ℕ) → IsWritten k pairs buffer len → n < len → n < 2 ^ 64 → IsTooMuch n k pairs BufferTooSmall
+pub lost : (n k : ℕ) (pairs : Pairs) (buffer : List ℕ) (len : ℕ) → IsWritten k pairs buffer len → n < len → n < 2 ^ 64 → IsRefusalWithin n k pairs BufferTooSmall
 lost n k pairs buffer len w more short =
     too_small n k pairs w.bytes w.ascends w.lists (elim (below_or_from (length w.bytes) (2 ^ 64)) [ inl low ↦ let e = w.ends.exact low in omega arith | inr high ↦ omega arith ])

@@ -211,7 +211,7 @@ too_wide k key d taken after bytes listed o within large =
     let two = o.two in
     subst (OverflowsAt simple_ascii []) (sym behind) (omega arith, omega arith)
 
--- Where siblings wait at this depth or below it and the text in front has to wait with them, a stack of so many is too small.
+-- If siblings wait at this depth or below it and the text in front has to wait with them, a stack of this many is too small.
 pub too_many : (k : ℕ) (key : List ℕ) (d : ℕ) (siblings : List Sibling) (front : ℕ) (bytes : List ℕ) (listed all : Pairs) → d < length key → All (λ b. b < 128) key
     → ClosedTo k key (suc d) siblings front bytes listed → k ≤ length siblings → AreAmong listed all → 2 ≤ length (edges (behind_all (take d key) all)) → k < stack_of all
 too_many k key d siblings front bytes listed all within ascii h full among two =

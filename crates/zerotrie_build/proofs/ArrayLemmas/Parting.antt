@@ -62,7 +62,7 @@ parted (x ∷ before) (y ∷ key) h =
       | inr same ↦ rw (eq-eqb x y same.0) (parted_later x y (common before key) before key same.0 (parted before key same.1))
     ]
 
--- no key at most the front stands strictly behind it
+-- no key at most the front stands strictly after it
 at_most_none : (front key : List ℕ) (v b : ℕ) → AtMost front key → residual b (behind_all front ((key, v) ∷ [])) ≡ []
 at_most_none [] [] v b h = refl
 at_most_none [] (c ∷ key) v b h = absurd (cc)
@@ -109,12 +109,12 @@ each_none front (e ∷ pairs) b h =
     ∙ ap (λ x. x ++ residual b (behind_all front pairs)) (at_most_none front e.0 e.1 b h.0)
     ∙ each_none front pairs b h.1
 
--- no pair up to number i stands strictly behind a front that its key does not pass
+-- no pair up to number i stands strictly after a front that its key does not pass
 pub nothing_before : (front : List ℕ) (pairs : Pairs) (i b : ℕ) → Ordered simple_ascii pairs → i < length pairs → AtMost front (get_or pairs i ([], 0)).0
     → residual b (behind_all front (take (suc i) pairs)) ≡ []
 nothing_before front pairs i b up h l = each_none front (take (suc i) pairs) b (each_at_most front pairs i up h l)
 
--- the key before does not pass a front that is longer than what it has in common, or as long where it ends there
+-- the key before does not pass a front that is longer than what it has in common, or as long if it ends there
 pub at_most_front : (before key : List ℕ) (d : ℕ) → Before simple_ascii before key
     → ((length before ≡ common before key) × (common before key ≤ d)) ⊎ (common before key < d) → AtMost (take d key) before
 at_most_front [] key zero h l = refl

@@ -1,4 +1,4 @@
--- Keys that lead behind a front, and how many siblings wait beside it.
+-- Keys that lead after a front, and how many siblings wait beside it.
 use Rattle.std.proofs.Common.{◌≡◌, ℕ, zero, suc, ◌+◌, ◌<◌, ◌≤◌, List, [], ◌∷◌, ◌++◌, length, refl, sym, ◌∙◌, ap, subst, arith, take, get_or, Bool, true, false, eqb}
 use Rattle.std.specs.Prelude.{◌||◌}
 use Rattle.std.proofs.lemmas.Bool.{eq-eqb}
@@ -28,7 +28,7 @@ or_right : (x y : Bool) → y ≡ true → (x || y) ≡ true
 or_right true y e = refl
 or_right false y e = e
 
--- pairs are among them with others behind or in front
+-- pairs are among them with others after or in front
 pub among_left : (xs ys : Pairs) → AreAmong xs (xs ++ ys)
 among_left xs ys front b h =
     ap (λ p. begins_some p b) (behind_all-append front xs ys) ∙ begins_some-append (behind_all front xs) (behind_all front ys) b
@@ -39,7 +39,7 @@ among_right xs ys front b h =
     ap (λ p. begins_some p b) (behind_all-append front xs ys) ∙ begins_some-append (behind_all front xs) (behind_all front ys) b
     ∙ or_right (begins_some (behind_all front xs) b) (begins_some (behind_all front ys) b) h
 
--- a run with a byte behind it leads there
+-- a run with a byte after it leads there
 pub leads_run : (run : List ℕ) (b : ℕ) (pairs : Pairs) → (pairs ≡ [] → ⊥) → SomeBegins (with_run (run ++ b ∷ []) pairs) run b
 leads_run run b pairs some =
     ap (λ p. begins_some p b) (ap (behind_all run) (with_run-push run b pairs) ∙ behind_all-run run (with_front b pairs))
@@ -57,7 +57,7 @@ leads_key key d v pairs within = among_left ((key, v) ∷ []) pairs (take d key)
     alone (x ∷ key) zero h = or_left (eqb x x) false (eq-eqb x x refl)
     alone (x ∷ key) (suc d) h = subst (λ p. begins_some (behind_all (take d key) p) (get_or key d 0) ≡ true) (sym (here x x key refl)) (alone key d (let g : suc d < suc (length key) = h in omega arith))
 
--- where some key leads there is an edge
+-- to where some key leads there is an edge
 pub leads_edge : (pairs : Pairs) (front : List ℕ) (b : ℕ) → b < 256 → SomeBegins pairs front b → member b (edges (behind_all front pairs)) ≡ true
 leads_edge pairs front b low h = member-edges (behind_all front pairs) b low ∙ h
 
@@ -91,7 +91,7 @@ begins_at pairs b front c h = begins_behind pairs b ∙ some (residual b pairs) 
     some [] h = absurd (none_leads front c h)
     some (e ∷ p) h = refl
 
--- what is needed behind a front while the edges beside it wait
+-- what is needed after a front while the edges beside it wait
 pub need_behind : (front : List ℕ) (c : ℕ) (pairs : Pairs) → ((i d : ℕ) → i < length front → get_or front i d < 128) → SomeBegins pairs front c
     → beside front pairs + stack_of (behind_all front pairs) ≤ stack_of pairs
 need_behind [] c pairs low h = omega arith

@@ -33,7 +33,7 @@ level_more d ss start e some within at level =
     let cut : drop (start - 1) ss ≡ s ∷ drop start ss = drop_more ss (start - 1) e (omega arith) ∙ ap (λ n. s ∷ drop n ss) next in
     subst (λ x. AllAt d (newest_first x)) (sym cut) (subst (AllAt d) (sym (reverse-append (s ∷ []) (drop start ss))) (all_at_more d (newest_first (drop start ss)) s level at))
 
--- the siblings behind a place, and those before it
+-- the siblings after a place, and those before it
 pub split_at : (ss : List Sibling) (start : ℕ) → newest_first ss ≡ newest_first (drop start ss) ++ newest_first (take start ss)
 split_at ss start = ap reverse (sym (take-append-drop start ss)) ∙ reverse-append (take start ss) (drop start ss)
 
@@ -50,7 +50,7 @@ sum_exact t r exact capped small = elim (below_or_from t (2 ^ 64)) [ inl low ↦
 pub sum_wide : (t r : ℕ) → (t < 2 ^ 64 → r ≡ t) → (2 ^ 64 ≤ t → 2 ^ 32 ≤ r) → 2 ^ 32 ≤ r → 2 ^ 32 ≤ t
 sum_wide t r exact capped large = elim (below_or_from t (2 ^ 64)) [ inl low ↦ let e = exact low in omega arith | inr high ↦ omega arith ]
 
--- a branch is made of the siblings behind a place
+-- a branch is made of the siblings after a place
 pub joins_at : (d : ℕ) (old mid new : Text) (ss branch left : List Sibling) (start : ℕ) → branch ≡ drop start ss → left ≡ take start ss → AllAt d (newest_first (drop start ss)) → NoneAt d (newest_first (take start ss))
     → mid.buffer.now ≡ old.buffer.now → mid.len ≡ old.len → mid.front ≡ total (lens_of (newest_first branch)) → total (lens_of (newest_first branch)) < 2 ^ 32
     → Prepends mid new (branch_front (bytes_of (newest_first branch)) (lens_of (newest_first branch))) → Joins d old new (newest_first ss) (newest_first left)

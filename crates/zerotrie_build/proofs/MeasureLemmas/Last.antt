@@ -234,7 +234,7 @@ plain_slots kind xs xs' cs first end is at till plain =
 pub first_to : (slots slots' : List ℕ) (n : ℕ) (cs : List Window) (t : Window) (more : List Window) (rest : List ℕ) → slots' ≡ slots ++ (item_ends cs ++ rest) → n ≡ length slots → cs ≡ t ∷ more → slice_index slots' n ≡ t.to
 first_to slots slots' n cs t more rest is at e = get_at slots' slots t.to (item_ends more ++ rest) n (is ∙ ap (λ x. slots ++ (item_ends x ++ rest)) e) at
 
--- fewer slots are left for what is to be measured, where a branch is opened
+-- fewer slots are left for what is to be measured, once a branch is opened
 pub opened_less : {kind : Kind} {all : Pairs} {w c : Window} {n : ℕ} {slots slots' : List ℕ} {branches branches' : List OpenBranch} → IsOpened kind all w n c slots branches slots' branches' → w.from < w.to → length slots' < 2 ^ 64
     → 2 * (2 ^ 64 - length slots') + left_open (reverse branches') < 2 * (2 ^ 64 - length slots) + left_open (reverse branches)
 opened_less {kind = kind} {all = all} {w = w} {slots = slots} {branches = branches} {branches' = branches'} o some few =

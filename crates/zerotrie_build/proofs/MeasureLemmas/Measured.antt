@@ -24,7 +24,7 @@ use Rattle.zerotrie_build.proofs.WindowLemmas.Opened.{groups_grouped, some_each,
 use Rattle.zerotrie_build.proofs.WindowLemmas.Windows.{step_value, step_end, ordered_front, cut_none, cut_whole}
 use Rattle.zerotrie_build.proofs.WindowLemmas.Spans.{step_literal, step_span}
 
--- no branch behind any front has more target bytes than an offset reaches
+-- no branch after any front has more target bytes than an offset reaches
 abbrev Narrow : Kind → Pairs → Type 0
 Narrow kind pairs = (front : List ℕ) → NarrowBehind kind front pairs
 

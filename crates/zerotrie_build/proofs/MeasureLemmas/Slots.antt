@@ -124,7 +124,7 @@ pub length-zeros : (n : ℕ) → length (replicate {A = ℕ} n 0) ≡ n
 length-zeros zero = refl
 length-zeros (suc n) = ap suc (length-zeros n)
 
--- the slots of a branch while a target is measured, as what stands in front of its slot and behind it
+-- the slots of a branch while a target is measured, as what stands in front of its slot and after it
 pub so_far_at : (kind : Kind) (lens : List ℕ) (e : ℕ) (ends : List ℕ) (below : List (List ℕ)) (before more : List ℕ) → (before ++ slots_so_far kind lens (e ∷ ends) below) ++ more
     ≡ (before ++ lens) ++ e ∷ (ends ++ (((if is_hashed kind (length (lens ++ e ∷ ends)) then ends_from 0 (map length below) ++ replicate (length (e ∷ ends)) 0 else []) ++ concat below) ++ more))
 so_far_at kind lens e ends below before more =

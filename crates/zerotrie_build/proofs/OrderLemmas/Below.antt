@@ -1,4 +1,4 @@
--- Keys that are below others by their bytes come before them where case is kept.
+-- Keys that are below others by their bytes come before them if case is kept.
 use Rattle.std.proofs.Common.{ℕ, inl, inr, List, [], ◌∷◌, refl, arith}
 use Rattle.std.proofs.lemmas.Bool.{cases_lt, cases_eq}
 use Rattle.zerotrie_core.specs.Kind.{simple_ascii}

@@ -56,7 +56,7 @@ common_nil : (before : List ℕ) → common before [] ≡ 0
 common_nil [] = refl
 common_nil (x ∷ before) = refl
 
--- behind the end of the key nothing is in common
+-- after the end of the key nothing is in common
 pub common_past : (before key : List ℕ) (n : ℕ) → length key ≤ n → common (drop n before) (drop n key) ≡ 0
 common_past before key n h = ap (common (drop n before)) (drop_past key n h) ∙ common_nil (drop n before)
 

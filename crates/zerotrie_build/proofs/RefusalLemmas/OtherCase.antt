@@ -58,7 +58,7 @@ differ_more kind a b k l same d e = let f = rw (eq-eqb a b same, eq-eqb (fold_by
 differ_rest : (kind : Kind) (a b : ℕ) (k l : List ℕ) → a ≡ b → DifferInCase kind (a ∷ k) (b ∷ l) → DifferInCase kind k l
 differ_rest kind a b k l same d e = d (rw (eq-eqb a b same, eq-eqb (fold_byte kind a) (fold_byte kind b) (ap (fold_byte kind) same)) (ap (λ n. 1 + n) e))
 
--- first bytes that are not the same have one fold, where the keys differ in case
+-- first bytes that are not the same have one fold, if the keys differ in case
 differ_fold : (kind : Kind) (a b : ℕ) (k l : List ℕ) → (a ≡ b → ⊥) → DifferInCase kind (a ∷ k) (b ∷ l) → fold_byte kind a ≡ fold_byte kind b
 differ_fold kind a b k l apart d =
     elim (cases_eq (fold_byte kind a) (fold_byte kind b)) [

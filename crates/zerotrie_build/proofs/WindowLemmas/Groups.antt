@@ -1,4 +1,4 @@
--- Groups of pairs behind bytes: their edges, and how long their texts are.
+-- Groups of pairs after bytes: their edges, and how long their texts are.
 use Rattle.std.proofs.Common.{◌≡◌, ℕ, suc, ◌+◌, ◌*◌, ◌<◌, ◌≤◌, List, [], ◌∷◌, ◌++◌, length, refl, sym, ◌∙◌, ap, arith, map, None, Bool, true, false, inl, inr}
 use Rattle.std.proofs.lemmas.Bool.{cases_lt}
 use Rattle.std.proofs.lemmas.List.{length-map, append-nil}
@@ -49,13 +49,13 @@ no_pair : (pairs : Pairs) → some_pair pairs ≡ false → pairs ≡ []
 no_pair [] h = refl
 no_pair (e ∷ pairs) h = absurd (cc)
 
--- what stands behind the first byte is the first group
+-- what stands after the first byte is the first group
 pub residual_group : (kind : Kind) (b : ℕ) (bs : List ℕ) (p : Pairs) (ps : List Pairs) → SomeEach (b ∷ bs) (p ∷ ps) → Rises kind (b ∷ bs) → residual b (grouped (b ∷ bs) (p ∷ ps)) ≡ p
 residual_group kind b bs p ps some rises =
     let none : residual b (grouped bs ps) ≡ [] = no_pair (residual b (grouped bs ps)) (sym (begins_behind (grouped bs ps) b) ∙ begins_grouped bs ps some.1 b ∙ edge_once kind b bs rises.0) in
     residual-append b (with_front b p) (grouped bs ps) ∙ ap (λ x. x ++ residual b (grouped bs ps)) (residual-front b p) ∙ ap (λ x. p ++ x) none ∙ append-nil p
 
--- each group is what stands behind its byte
+-- each group is what stands after its byte
 pub sizes_grouped : {A : Type 0} (kind : Kind) (f : Pairs → A) (bs : List ℕ) (ps : List Pairs) (all : Pairs) → SomeEach bs ps → Rises kind bs → ((b : ℕ) → member b bs ≡ true → residual b all ≡ residual b (grouped bs ps))
     → map (λ b. f (residual b all)) bs ≡ map f ps
 sizes_grouped kind f [] [] all some rises same = refl

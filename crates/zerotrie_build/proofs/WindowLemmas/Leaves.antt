@@ -24,7 +24,7 @@ short_span n few = spelled_len span_form 16 n n [] (inl refl) refl (omega arith)
 front_some : (b : ℕ) (rest : List ℕ) → leb 128 b ≡ true → high_front (b ∷ rest) (b ∷ rest) ≡ suc (high_front rest rest)
 front_some b rest high = rw (eq-eqb b b refl, high) (let e : 1 + high_front rest rest ≡ suc (high_front rest rest) = omega arith in e)
 
--- bytes from 128 on behind another add no more than themselves
+-- bytes from 128 on after another add no more than themselves
 short_high : (rest : List ℕ) → short_size true rest ≡ high_front rest rest + short_size false (drop (high_front rest rest) rest)
 short_high [] = refl
 short_high (b ∷ rest) = elim (leb_tells 128 b) [
@@ -64,7 +64,7 @@ size_low b rest low = rw low refl
 size_high : (b : ℕ) (rest : List ℕ) → leb 128 b ≡ true → short_size false (b ∷ rest) ≡ 1 + short_size true (b ∷ rest)
 size_high b rest high = rw high (let e : 2 + short_size true rest ≡ 1 + (1 + short_size true rest) = omega arith in e)
 
--- From a depth on, the text of a window of one item has so many bytes.
+-- From a depth on, the text of a window of one item has this many bytes.
 abbrev ShortFrom : Kind → Pairs → Window → ℕ → Type 0
 ShortFrom kind all w d = Passes kind all (record w { depth = d }) (record { from = w.to; to = w.to; depth = length (item_no all w.from).0 })
     (short_size false (drop d (item_no all w.from).0) + length (spelled_as value_form (item_no all w.from).1))

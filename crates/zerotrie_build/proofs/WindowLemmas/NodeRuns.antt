@@ -72,7 +72,7 @@ follows_cut (suc n) kind all from to d h within up =
     subst (λ i. Before kind (drop d (item_no all i).0) (drop d (item_no all (from + suc (suc n))).0)) a
     (subst (λ i. Before kind (drop d (item_no all (from + 1 + n)).0) (drop d (item_no all i).0)) b more)
 
--- a key behind one that goes on goes on
+-- a key after one that goes on goes on
 goes_on : (kind : Kind) (b d : ℕ) (k key : List ℕ) (o : Option ℕ) → slice_get key d ≡ o → Before kind (b ∷ k) (drop d key) → (c : ℕ) × (slice_get key d ≡ Some c)
 goes_on kind b d k key (Some c) is before = (c, is)
 goes_on kind b d k key None is before = absurd (subst (Before kind (b ∷ k)) (no_byte key d is) before)
@@ -110,7 +110,7 @@ two_members [] b c m n apart = absurd (cc)
 two_members (e ∷ []) b c m n apart = absurd (apart (sym (one_member e b m) ∙ one_member e c n))
 two_members (e ∷ f ∷ es) b c m n apart = omega arith
 
--- where the keys part there are two edges
+-- if the keys part, there are two edges
 parting_edges : (kind : Kind) (all : Pairs) (w : Window) → w.to ≤ length all → AreKeys kind all → Ordered kind (window all w) → IsParting all w → 2 ≤ length (edges (window all w))
 parting_edges kind all w within keys up p =
     let inside = p.inside in
@@ -134,7 +134,7 @@ parting_edges kind all w within keys up p =
 pub some_items : (all : Pairs) (w : Window) → w.from < w.to → w.to ≤ length all → window all w ≡ [] → ⊥
 some_items all w inside within none = let first = sym (cut_first all w.from w.to w.depth inside within) ∙ none in cc
 
--- no run of bytes from 128 on stands in front of all keys but where a span stands
+-- no run of bytes from 128 on stands in front of all keys unless a span stands there
 no_run : (kind : Kind) (all : Pairs) (w : Window) (s : Step) → step_of kind all w ≡ s → ((m : ℕ) → s ≡ Span m → ⊥) → w.from < w.to → w.to ≤ length all → AreKeys kind all → Ordered kind (window all w) → run_of (window all w) ≡ []
 no_run kind all w End is none inside within keys up = absurd (let past = step_end kind all w is in omega arith)
 no_run kind all w (Value v) is none inside within keys up = let a = step_value kind all w v within is in ap run_of a.1 ∙ run_of-value v (window all (record w { from = w.from + 1 }))
@@ -148,7 +148,7 @@ behind_more : (front more : List ℕ) (pairs : Pairs) → behind_all (front ++ m
 behind_more [] more pairs = refl
 behind_more (b ∷ front) more pairs = behind_more front more (residual b pairs)
 
--- what is behind a byte more
+-- what is after a byte more
 pub behind_byte : (all : Pairs) (w c : Window) (b : ℕ) → residual b (window all w) ≡ window all c → IsBehindFront all w → IsBehindFront all c
 behind_byte all w c b is at =
     let there : behind_all (at.0 ++ b ∷ []) all ≡ window all c = behind_more at.0 (b ∷ []) all ∙ at.1 b ∙ is in
@@ -160,7 +160,7 @@ behind_bytes all w c (b ∷ run) some is at =
     let there : behind_all (at.0 ++ b ∷ run) all ≡ window all c = behind_more at.0 (b ∷ run) all ∙ ap (behind_all run) (at.1 b) ∙ ap (λ x. behind_all run (residual b x)) is ∙ behind_all-run (b ∷ run) (window all c) in
     (at.0 ++ b ∷ run, λ x. ap (residual x) there)
 
--- What a run says of the window behind it.
+-- What a run says of the window after it.
 pub record Along (kind : Kind) (all : Pairs) (w behind : Window) (n : ℕ) : Type 0 where
   pub to_is : behind.to ≡ w.to
   pub order : w.from ≤ w.to → behind.from ≤ behind.to
@@ -223,7 +223,7 @@ along {kind = kind} {all = all} {w = w} {behind = behind} (span {n = n} m is run
 pub too_long : {kind : Kind} {all : Pairs} {w behind : Window} {n : ℕ} → Passes kind all w behind n → w.to ≤ length all → AreKeys kind all → Ordered kind (window all w) → 2 ^ 64 ≤ n → 2 ^ 64 ≤ size_of kind (window all w)
 too_long run within keys up large = let size = (along run within keys up).size in omega arith
 
--- where no node stands first and there are items, a branch does
+-- if no node stands first and there are items, a branch does
 pub stopped : (kind : Kind) (all : Pairs) (w : Window) → (step_of kind all w ≡ End) ⊎ (step_of kind all w ≡ Branch) → w.from < w.to → step_of kind all w ≡ Branch
 stopped kind all w (inl end) inside = absurd (let past = step_end kind all w end in omega arith)
 stopped kind all w (inr branch) inside = branch
@@ -238,7 +238,7 @@ literal_low kind all w b within keys e =
     let a = literal_byte kind all w b within keys e in
     (a.inside, record { byte = b; low = a.low; first = a.first; last = a.last })
 
--- so many such bytes one after another lead on
+-- this many such bytes one after another lead on
 pub literals_run : (n : ℕ) {kind : Kind} {all : Pairs} {w last : Window} {m : ℕ} → w.from < w.to → ((i : ℕ) → w.depth ≤ i → i < w.depth + n → HasLiteralAt all w i)
     → Passes kind all (record w { depth = w.depth + n }) last m → Passes kind all w last (n + m)
 literals_run zero {kind = kind} {all = all} {w = w} {last = last} {m = m} inside low run =
@@ -277,7 +277,7 @@ lone_low all w rest v l i from below =
       last = subst (λ j. byte_of all j i ≡ Some b) same here;
     }
 
--- behind it stands the value
+-- after it stands the value
 pub lone_value : (kind : Kind) (all : Pairs) (w : Window) (rest : List ℕ) (v : ℕ) → IsAsciiLeaf all w rest v → step_of kind all (record w { depth = w.depth + length rest }) ≡ Value v
 lone_value kind all w rest v l =
     let key = (item_no all w.from).0 in

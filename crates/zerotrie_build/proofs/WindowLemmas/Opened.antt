@@ -189,7 +189,7 @@ byte_here (suc d) (x ∷ key) b k e = byte_here d key b k e
 first_same : (a b : ℕ) → Some a ≡ Some b → a ≡ b
 first_same a b e = cc
 
--- where the keys part there are two groups
+-- if the keys part, there are two groups
 two_groups : (all : Pairs) (w : Window) (cs : List Window) → w.to ≤ length all → IsParting all w → Groups all w.depth w.from w.to cs → 2 ≤ length cs
 two_groups all w [] within p g = absurd (let inside = p.inside in omega arith)
 two_groups all w (c ∷ []) within p g =

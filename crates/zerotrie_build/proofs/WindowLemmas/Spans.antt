@@ -14,7 +14,7 @@ use Rattle.zerotrie_build.specs.passes.Windows.{cut, window, item_no, byte_of, h
 use Rattle.zerotrie_build.proofs.Runs.{with_run-nil, with_run-front}
 use Rattle.zerotrie_build.proofs.WindowLemmas.Windows.{tests, at_literal, High, at_span, key_cut, cut_shared, ordered_front, key_byte, low_without}
 
--- What a literal in front means: the byte is below 128 where a span could take it, and stands in front of all keys.
+-- What a literal in front means: the byte is below 128 if a span could take it, and stands in front of all keys.
 pub record IsLiteral (kind : Kind) (all : Pairs) (w : Window) (b : ℕ) : Type 0 where
   pub inside : w.from < w.to
   pub byte : byte_of all w.from w.depth ≡ Some b
@@ -88,7 +88,7 @@ edge_most ignore_case b h = omega arith
 edge_most perfect_hash b h = h
 edge_most extended_capacity b h = h
 
--- the first byte behind the depth is one of the kind
+-- the first byte after the depth is one of the kind
 pub rest_byte : (kind : Kind) (all : Pairs) (i d b : ℕ) (k : List ℕ) → AreKeys kind all → i < length all → drop d (item_no all i).0 ≡ b ∷ k → b < edge_limit kind
 rest_byte kind all i d b k keys h is =
     let key = (item_no all i).0 in
@@ -145,7 +145,7 @@ span_high : (kind : Kind) (all : Pairs) (w : Window) (n : ℕ) → step_of kind 
     → High kind (byte_of all w.from w.depth) (byte_of all (w.to - 1) w.depth) (high_front (drop w.depth (item_no all w.from).0) (drop w.depth (item_no all (w.to - 1)).0)) n
 span_high kind all w n e = let t = tests kind all w (Span n) (λ h. cc) e in at_span kind _ _ _ _ n t.is
 
--- the keys have some bytes in common where a span stands
+-- the keys have some bytes in common if a span stands
 pub span_some : (kind : Kind) (all : Pairs) (w : Window) (n : ℕ) → step_of kind all w ≡ Span n → (0 < n) × (high_front (drop w.depth (item_no all w.from).0) (drop w.depth (item_no all (w.to - 1)).0) ≡ n)
 span_some kind all w n e =
     let a = span_high kind all w n e in
@@ -171,7 +171,7 @@ step_span kind all w n within keys up e =
       front = front_run n kind all w.from w.to w.depth t.inside within keys up s.1;
     }
 
--- behind a span stands no span
+-- after a span stands no span
 pub span_once : (kind : Kind) (all : Pairs) (w : Window) (n m : ℕ) → IsSpan kind all w n → step_of kind all (record w { depth = w.depth + n }) ≡ Span m → ⊥
 span_once kind all w n m is e =
     let s = span_some kind all (record w { depth = w.depth + n }) m e in

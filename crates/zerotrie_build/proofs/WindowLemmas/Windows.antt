@@ -231,7 +231,7 @@ low_without ignore_case b h n = h
 low_without perfect_hash b h n = elim (cases_lt b 128) [ inl low ↦ low | inr high ↦ absurd (let n' = rw (le-leb 128 b high) at n in cc) ]
 low_without extended_capacity b h n = elim (cases_lt b 128) [ inl low ↦ low | inr high ↦ absurd (let n' = rw (le-leb 128 b high) at n in cc) ]
 
--- behind the empty key all keys are longer
+-- after the empty key all keys are longer
 pub none_empty : (kind : Kind) (v : ℕ) (pairs : Pairs) → Ordered kind (([], v) ∷ pairs) → value_at kind pairs [] ≡ None
 none_empty kind v [] h = refl
 none_empty kind v (([], u) ∷ pairs) h = absurd (h.0)

@@ -136,7 +136,7 @@ branch_slots {kind = kind} {all = all} k g e =
       below_each = each_count k.each;
     }
 
--- what stands behind the values, literals and spans of a window is known, and so are the targets
+-- what stands after the values, literals and spans of a window is known, and so are the targets
 branch_same : {kind : Kind} {all : Pairs} {slots : List ℕ} {slot end last : ℕ} {w : Window} {list : List ℕ} {at : ℕ} {list' : List ℕ} {at' : ℕ} {rest : Window} (k : Opened kind all slots slot end w) (other : Opened kind all slots slot last w)
     → Going kind all w k.known.bytes k.known.behind list at list' at' rest → NoneFirst kind all rest → (other.known.behind ≡ rest) × (other.cs ≡ k.cs)
 branch_same {all = all} k other g stops =
@@ -204,7 +204,7 @@ branch_room {kind = kind} {all = all} {table = table} {numbers = numbers} k g e 
     let a = g.puts.at_is in let l = g.puts.same in let z = g.sized in let c = s.1 in let d = n.1 in
     omega arith
 
--- what is written behind a branch is no more than its bytes
+-- what is written after a branch is no more than its bytes
 next_count : (kind : Kind) (slots : List ℕ) (slot : ℕ) (cs : List Window) (numbers : List ℕ) → 2 ≤ length cs → length numbers ≡ length cs → length (next_of kind slots slot cs numbers) ≤ table_size kind (length cs) + (length cs - 1)
 next_count kind slots slot cs numbers two many = counted (is_hashed kind (length cs))
   where

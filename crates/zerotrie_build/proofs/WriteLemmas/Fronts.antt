@@ -20,7 +20,7 @@ use Rattle.zerotrie_build.proofs.WindowLemmas.Windows.{cut_first, key_cut, last_
 use Rattle.zerotrie_build.proofs.WindowLemmas.Spans.{step_literal, step_span}
 use Rattle.zerotrie_build.proofs.WriteLemmas.Listed.{listed_value, listed_literal, listed_span}
 
--- The window was written as far as the rest, in front of what is behind its values, literals and spans.
+-- The window was written as far as the rest, in front of what is after its values, literals and spans.
 pub record Going (kind : Kind) (all : Pairs) (w : Window) (bytes : ℕ) (behind : Window) (list : List ℕ) (at : ℕ) (list' : List ℕ) (at' : ℕ) (rest : Window) : Type 0 where
   pub done : List ℕ
   pub left : ℕ
@@ -94,7 +94,7 @@ on_stop (run_literal b f run) (inr s) = absurd (cc)
 on_stop (run_span m f run) (inl s) = absurd (cc)
 on_stop (run_span m f run) (inr s) = absurd (cc)
 
--- the window behind the run is known
+-- the window after the run is known
 pub behind_same : {kind : Kind} {all : Pairs} {w behind last : Window} {m n : ℕ} → Passes kind all w behind m → NoneFirst kind all behind → Passes kind all w last n → NoneFirst kind all last → behind ≡ last
 behind_same here s run stops = sym (on_stop run s).0
 behind_same (run_value v f r) s run stops = behind_same r s (on_value run stops v f).run stops
@@ -135,7 +135,7 @@ cut_some all from to d h within none = let e = sym (cut_first all from to d h wi
 pub window_some : (all : Pairs) (w : Window) → w.from < w.to → w.to ≤ length all → window all w ≡ [] → ⊥
 window_some all w h within = cut_some all w.from w.to w.depth h within
 
--- so many literals that stand first in a window
+-- this many literals that stand first in a window
 record Literals (kind : Kind) (all : Pairs) (w behind : Window) (n left : ℕ) : Type 0 where
   less : ℕ
   run : Passes kind all (record w { depth = w.depth + n }) behind less

@@ -22,7 +22,7 @@ use Rattle.zerotrie_build.specs.passes.Windows.{edge_of}
 use Rattle.zerotrie_build.specs.passes.Measured.{TargetWindows}
 use Rattle.zerotrie_build.specs.passes.Writing.{no_window, edge_no, place_in, IsHashedLayout, IsLayout}
 
--- each is below all behind it
+-- each is below all after it
 abbrev pub Up : List ℕ → Type 0
 Up [] = Unit {0}
 Up (x ∷ xs) = AllByRecursion (λ y. x < y) xs × Up xs
@@ -198,7 +198,7 @@ crooked kind n es BufferTooSmall wide count r some = absurd r
 crooked kind n es (BufferTooLarge needed) wide count r some = absurd r
 crooked kind n es StackExceeded wide count r some = absurd r
 
--- the keys of a table stand behind its parameters
+-- the keys of a table stand after its parameters
 keys_behind : (p : ℕ) (qs placed : List ℕ) → length qs ≡ length placed → drop (1 + length (p ∷ (qs ++ placed)) / 2) (p ∷ (qs ++ placed)) ≡ placed
 keys_behind p qs placed same =
     let all = length-append qs placed in

@@ -51,7 +51,7 @@ no_value_lead bytes rest v m L known other s = let l = lead_is L m v bytes rest 
 no_span_lead : (bytes rest : List ℕ) (v m L : ℕ) → (L ≡ 16) ⊎ (L ≡ 32) → ((lead : ℕ) → m * (2 * L) ≤ lead → lead < m * (2 * L) + 2 * L → lead / 32 ≡ 5 → ⊥) → Spells L m v bytes → NoSpanFirst (bytes ++ rest)
 no_span_lead bytes rest v m L known other s = let l = lead_is L m v bytes rest s in subst NoSpanFirst (sym l.4) (other l.0 l.2 l.3)
 
--- where no key is empty no value stands first
+-- if no key is empty, no value stands first
 no_value_first : {kind : Kind} {bytes : List ℕ} {pairs : Pairs} → Lists kind bytes pairs → value_at simple_ascii pairs [] ≡ None → NoValueFirst bytes
 no_value_first nothing h = tt
 no_value_first (value s n text) h = absurd (cc)
@@ -75,7 +75,7 @@ last_found e (f ∷ pairs) = let l = last_found f pairs in here (same_key simple
     here true v o h = (e.1, refl)
     here false v o h = (v, h)
 
--- where the first and the last key have no byte from 128 on in common in front no span stands first
+-- if the first and the last key have no byte from 128 on in common in front, no span stands first
 no_span_first : {kind : Kind} {bytes : List ℕ} {listed : Pairs} → Lists kind bytes listed → (e : List ℕ × ℕ) (more : Pairs) → Same listed (e ∷ more) → high_front e.0 (last_key (e ∷ more)) ≡ 0 → NoSpanFirst bytes
 no_span_first nothing e more same h = tt
 no_span_first (value {spelling = sp} {rest = rest} s n text) e more same h = no_span_lead sp rest _ 4 16 (inl refl) (λ lead a b f. omega arith) s

@@ -127,7 +127,7 @@ branch_within {kind = kind} {slots = slots} {slot = slot} h ws n parts count =
     let k = branch_known h ws n parts count in
     (slots_lens kind slots slot n h.lens h.below h.more k.0 k.2 h.slots_are).1
 
--- what is behind the lengths of another branch
+-- what is after the lengths of another branch
 plain_at : (kind : Kind) (slots : List ℕ) (slot count : ℕ) (lens : List ℕ) (below : List (List ℕ)) (more : List ℕ) → is_hashed kind count ≡ false → length lens ≡ count
     → drop slot slots ≡ slots_of kind lens below ++ more → drop (slot + count) slots ≡ concat below ++ more
 plain_at kind slots slot count lens below more h lens_each is =

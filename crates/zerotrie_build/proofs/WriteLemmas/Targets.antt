@@ -24,7 +24,7 @@ use Rattle.zerotrie_build.proofs.WriteLemmas.Layouts.{Up, up_of, up_count}
 use Rattle.zerotrie_build.proofs.WriteLemmas.Listed.{Same, listed_some, listed_long}
 use Rattle.zerotrie_build.proofs.WriteLemmas.Fronts.{window_some}
 
--- What the pairs of windows answer, each behind its edge.
+-- What the pairs of windows answer, each after its edge.
 pub record Answers (all : Pairs) (ws : List Window) (pairs : Pairs) : Type 0 where
   pub none : value_at simple_ascii pairs [] ≡ None
   pub at : (i : ℕ) → i < length ws → (key : List ℕ) → value_at simple_ascii pairs (edge_of all (get_or ws i no_window) ∷ key) ≡ value_at simple_ascii (window all (get_or ws i no_window)) key
@@ -122,7 +122,7 @@ answers_same all ws vs p q perm a b (c ∷ key) = elim (seek all ws c) [
       ∙ sym (b.other c (λ j h e. let m = moved vs ws j (IsPermutation-sym ws vs perm) h in none m.0 m.1 (ap (edge_of all) m.2 ∙ e)) key)
 ]
 
--- texts of windows, each behind its edge
+-- texts of windows, each after its edge
 pub record Each (kind : Kind) (all : Pairs) (ws : List Window) (texts : List (List ℕ)) : Type 0 where
   pub listed : Pairs
   pub each : ListEach kind (map (edge_of all) ws) texts listed

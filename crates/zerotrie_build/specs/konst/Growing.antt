@@ -33,7 +33,7 @@ ComesBefore s [] = Unit {0}
 ComesBefore s (t ∷ siblings) = (t.depth < s.depth) ⊎ ((t.depth ≡ s.depth) × (s.byte < t.byte))
 
 -- The bytes begin with the text of a sibling, which stands above the key, and the pairs with those that the text lists.
--- While it was written so many siblings waited, and so the stack of k was enough.
+-- While it was written this many siblings waited, and so the stack of k was enough.
 pub record BeginsWithSibling (k : ℕ) (key : List ℕ) (s : Sibling) (waited : ℕ) (Rest : List ℕ → Pairs → Type 0) (bytes : List ℕ) (pairs : Pairs) : Type 0 where
   pub text : List ℕ
   pub rest : List ℕ
@@ -55,7 +55,7 @@ abbrev pub Aside : ℕ → List ℕ → List Sibling → List ℕ → Pairs → 
 Aside k key [] bytes pairs = (bytes ≡ []) × (pairs ≡ [])
 Aside k key (s ∷ siblings) bytes pairs = ComesBefore s siblings × BeginsWithSibling k key s (length siblings) (Aside k key siblings) bytes pairs
 
--- In front stands the text of what is under the first bytes of the key, so many, and behind it the siblings.
+-- In front stands the text of what is under this many first bytes of the key, and after it the siblings.
 pub record TextAndSiblings (k : ℕ) (Front : List ℕ → Type 0) (key : List ℕ) (depth : ℕ) (siblings : List Sibling) (front : ℕ) (bytes : List ℕ) (pairs : Pairs) : Type 0 where
   pub text : List ℕ
   pub rest : List ℕ
@@ -148,7 +148,7 @@ RefusedBefore k before listed e =
 abbrev pub IsRefusedBuild : ℕ → Pairs → ZeroTrieBuildError → Type 0
 IsRefusedBuild k all e = ((e ≡ CapacityExceeded) × ExceedsCapacity simple_ascii (map_of all)) ⊎ ((e ≡ StackExceeded) × (k < stack_of all))
 
--- The text of the pairs, which ascend, was written at the end of the buffer, and so many bytes counted; a stack of k was enough.
+-- The text of the pairs, which ascend, was written at the end of the buffer, and this many bytes counted; a stack of k was enough.
 pub record IsWritten (k : ℕ) (pairs : Pairs) (buffer : List ℕ) (len : ℕ) : Type 0 where
   pub bytes : List ℕ
   pub ascends : Ascends pairs

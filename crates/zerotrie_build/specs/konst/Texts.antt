@@ -3,7 +3,7 @@ use Rattle.std.specs.Prelude.{◌≡◌, ℕ, ◌+◌, ◌-◌, ◌^◌, ◌<◌
 use Rattle.zerotrie_build.specs.declared.konst.text.Sibling.{Sibling}
 use Rattle.zerotrie_build.specs.declared.konst.text.Text.{Text}
 
--- The count of so many: exact below 2 ^ 32, and else no less than that.
+-- The count of this many: exact below 2 ^ 32, and else no less than that.
 pub record Counts (count n : ℕ) : Type 0 where
   pub small : count < 2 ^ 32 → count ≡ n
   pub large : 2 ^ 32 ≤ count → 2 ^ 32 ≤ n

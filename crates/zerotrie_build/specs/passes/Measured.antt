@@ -12,7 +12,7 @@ use Rattle.zerotrie_build.specs.passes.Windows.{window, cut, edge_of, step_of, I
 use Rattle.zerotrie_build.specs.declared.windows.Window.{Window}
 use Rattle.zerotrie_build.specs.declared.windows.Step.TheVariants.{End, Value, Literal, Span, Branch}
 
--- values, literals and spans, of so many bytes together, lead from a window to one behind them
+-- values, literals and spans, of this many bytes together, lead from a window to one after them
 pub data Passes (kind : Kind) (all : Pairs) : Window → Window → ℕ → Type 0 where
   here : {w : Window} → Passes kind all w w 0
   value : {w behind : Window} {n : ℕ} (v : ℕ) → step_of kind all w ≡ Value v
@@ -61,7 +61,7 @@ pub record HasFirstTargets (kind : Kind) (all : Pairs) (w : Window) (cs : List W
       × (size_of kind (window all w) ≡ bytes + (branch_size kind (sizes_of kind all cs) + total (sizes_of kind all cs)))
   pub narrow : total (sizes_of kind all cs) < 256 ^ (greatest_width kind + 1)
 
--- how many there are up to each of these, behind so many
+-- how many there are up to each of these, after this many
 abbrev pub ends_from : ℕ → List ℕ → List ℕ
 ends_from n [] = []
 ends_from n (m ∷ ms) = (n + m) ∷ ends_from (n + m) ms
@@ -71,7 +71,7 @@ abbrev pub slots_of : Kind → List ℕ → List (List ℕ) → List ℕ
 slots_of kind lens below = lens ++ ((if is_hashed kind (length lens) then ends_from 0 (map length below) else []) ++ concat below)
 
 mutual
-  -- The slots are those of the first branch of a window and of the branches behind it.
+  -- The slots are those of the first branch of a window and of the branches after it.
   pub data AreSlotsOf (kind : Kind) (all : Pairs) : Window → List ℕ → Type 0 where
     kept : {w : Window} {cs : List Window} {below : List (List ℕ)}
         → HasFirstTargets kind all w cs → AreSlotsOfEach kind all cs below → AreSlotsOf kind all w (slots_of kind (sizes_of kind all cs) below)

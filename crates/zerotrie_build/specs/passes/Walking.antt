@@ -13,7 +13,7 @@ use Rattle.zerotrie_build.specs.declared.measuring.Turn.TheVariants.{Window as N
 use Rattle.zerotrie_build.specs.passes.Windows.{window, step_of}
 use Rattle.zerotrie_build.specs.passes.Measured.{Passes, TargetWindows, sizes_of, ends_from, AreSlotsOf, AreSlotsOfEach, whole_window}
 
--- behind some front stand the pairs of the window, but for the value of the empty key
+-- after some front stand the pairs of the window, but for the value of the empty key
 abbrev pub IsBehindFront : Pairs → Window → Type 0
 IsBehindFront all w = (front : List ℕ) × ((b : ℕ) → residual b (behind_all front all) ≡ residual b (window all w))
 
@@ -29,7 +29,7 @@ pub record IsPlaced (kind : Kind) (all : Pairs) (w : Window) : Type 0 where
 abbrev pub item_ends : List Window → List ℕ
 item_ends cs = map (λ c. c.to) cs
 
--- how many slots a branch of so many edges has besides the lengths of its targets
+-- how many slots a branch of this many edges has besides the lengths of its targets
 abbrev pub spare_len : Kind → ℕ → ℕ
 spare_len kind n = if is_hashed kind n then n else 0
 
@@ -44,7 +44,7 @@ with_len kind f len slots = if is_hashed kind (f.end - f.first)
     then slice_set (slice_set slots f.next len) (f.next + (f.end - f.first)) (length slots - (f.end + (f.end - f.first)))
     else slice_set slots f.next len
 
--- Of the branch of a window, a target's window is measured, behind these slots before the branch and these of its own.
+-- Of the branch of a window, a target's window is measured, after these slots before the branch and these of its own.
 pub record MeasuresTarget (kind : Kind) (all : Pairs) (w c : Window) (f : OpenBranch) (before own : List ℕ) : Type 0 where
   pub placed : IsPlaced kind all w
   pub behind : Window
@@ -63,7 +63,7 @@ pub record MeasuresTarget (kind : Kind) (all : Pairs) (w c : Window) (f : OpenBr
   pub end : f.end ≡ f.next + 1 + length more
   pub own_is : own ≡ slots_so_far kind (sizes_of kind all done) (item_ends (c ∷ more)) below
 
--- The window is measured, inside of these branches, the innermost of them first, and behind these slots.
+-- The window is measured, inside of these branches, the innermost of them first, and after these slots.
 pub data IsInside (kind : Kind) (all : Pairs) : Window → List OpenBranch → List ℕ → Type 0 where
   outside : IsInside kind all (whole_window all) [] []
   inside : {w c : Window} {f : OpenBranch} {fs : List OpenBranch} {before own : List ℕ}
@@ -79,7 +79,7 @@ pub record Closing (kind : Kind) (all : Pairs) (branches : List OpenBranch) (slo
   pub slots_are : slots ≡ before ++ own
   pub len_is : len ≡ size_of kind (window all w)
 
--- A branch was opened behind so many bytes, and its first target is next.
+-- A branch was opened after this many bytes, and its first target is next.
 pub record IsOpened (kind : Kind) (all : Pairs) (w : Window) (len : ℕ) (c : Window) (slots : List ℕ) (branches : List OpenBranch) (slots' : List ℕ) (branches' : List OpenBranch) : Type 0 where
   pub targets : List Window
   pub parts : TargetWindows all w targets

@@ -6,7 +6,7 @@ use Rattle.zerotrie_build.specs.declared.windows.Window.{Window}
 use Rattle.zerotrie_build.specs.declared.windows.Step.{Step}
 use Rattle.zerotrie_build.specs.declared.windows.Step.TheVariants.{End, Value, Literal, Span, Branch}
 
--- the items from one number to below another, each key without so many first bytes
+-- the items from one number to below another, each key without this many first bytes
 abbrev pub cut : Pairs → ℕ → ℕ → ℕ → Pairs
 cut all from to depth = map {B = List ℕ × ℕ} (λ e. (drop depth e.0, e.1)) (take (to - from) (drop from all))
 
@@ -60,7 +60,7 @@ pub record IsSingleItem (all : Pairs) (w : Window) (rest : List ℕ) (value : �
   pub rest_is : rest ≡ drop w.depth (item_no all w.from).0
   pub value_is : value ≡ (item_no all w.from).1
 
--- how many bytes a byte of a short rest makes, behind one from 128 on or not: it begins a span, and its length has one, or does not
+-- how many bytes a byte of a short rest makes, after one from 128 on or not: it begins a span, and its length has one, or does not
 abbrev pub byte_size : Bool → ℕ → ℕ
 byte_size high b = if nat_le 128 b then (if high then 1 else 2) else 1
 
@@ -69,7 +69,7 @@ abbrev pub short_size : Bool → List ℕ → ℕ
 short_size high [] = 0
 short_size high (b ∷ rest) = byte_size high b + short_size (nat_le 128 b) rest
 
--- The literals and spans of a rest have so many bytes: it is ASCII, or too short for a span whose length has two bytes.
+-- The literals and spans of a rest have this many bytes: it is ASCII, or too short for a span whose length has two bytes.
 abbrev pub IsRestLen : Kind → List ℕ → ℕ → Type 0
 IsRestLen kind rest n = (All (λ b. b < 128) rest × (n ≡ length rest)) ⊎ ((has_spans kind ≡ true) × (length rest < 16) × (n ≡ short_size false rest))
 

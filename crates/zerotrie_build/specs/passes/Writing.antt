@@ -60,7 +60,7 @@ pub record IsHashedLayout (edges table numbers : List ℕ) : Type 0 where
   pub permutation : IsPermutation edges placed
   pub numbers_are : numbers ≡ map (λ b. place_in edges b) placed
 
--- The search table of a branch to so many targets, and their numbers in the order of the table.
+-- The search table of a branch to this many targets, and their numbers in the order of the table.
 pub record IsLayout (kind : Kind) (edge : ℕ → ℕ) (count : ℕ) (table numbers : List ℕ) : Type 0 where
   pub is_table : IsTable kind (map edge numbers) table
   pub permutation : IsPermutation (range_with_len 0 count) numbers
@@ -86,13 +86,13 @@ position_at from slot = record { from = from; slot = slot }
 abbrev pub text_of : Window → Next
 text_of w = Text (record { to = w.to; depth = w.depth })
 
--- the windows of these numbers, each behind its place, by how many slots there are up to each, from one on
+-- the windows of these numbers, each after its place, by how many slots there are up to each, from one on
 abbrev pub placed_next : List ℕ → ℕ → List Window → List ℕ → List Next
 placed_next ends slot windows [] = []
 placed_next ends slot windows (i ∷ numbers) =
     Go (position_at (window_at windows i).from (slot + slice_index_or (0 ∷ ends) i 0)) ∷ text_of (window_at windows i) ∷ placed_next ends slot windows numbers
 
--- what is written behind a branch whose slots begin at one of these
+-- what is written after a branch whose slots begin at one of these
 abbrev pub next_of : Kind → List ℕ → ℕ → List Window → List ℕ → List Next
 next_of kind slots slot windows numbers =
     let count = length windows in
@@ -109,7 +109,7 @@ pub record HasSlotsTo (kind : Kind) (all : Pairs) (slots : List ℕ) (slot end :
   pub slots_are : drop slot slots ≡ below ++ more
   pub end_is : end ≡ slot + length below
 
--- What is written next are the texts of these windows, where the first begins at a place.
+-- What is written next are the texts of these windows, if the first begins at a place.
 pub data IsPending (kind : Kind) (all : Pairs) (slots : List ℕ) : Position → List Next → List Window → Type 0 where
   done : {at : Position} → IsPending kind all slots at [] []
   go : {at to : Position} {next : List Next} {ws : List Window}

@@ -2,7 +2,7 @@
 use Rattle.std.specs.Prelude.{◌≡◌, ℕ, ◌+◌, List, ◌++◌, length, replicate}
 use Rattle.zerotrie_build.specs.declared.writing.Writing.{Writing}
 
--- The bytes were written from at on, where there were zeros, and the new at is behind them.
+-- The bytes were written from at on, where there were zeros, and the new at is after them.
 pub record OverwritesZeros (list : List ℕ) (at : ℕ) (list' : List ℕ) (at' : ℕ) (bytes : List ℕ) : Type 0 where
   pub at_is : at' ≡ at + length bytes
   pub same : length list' ≡ length list

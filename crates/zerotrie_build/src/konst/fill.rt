@@ -1,7 +1,7 @@
 //! Texts that are written from their end into a buffer, or into memory of their own.
 
 ghost use Rattle.std.specs.Prelude.{◌≡◌, ℕ, ◌+◌, ◌<◌, ◌≤◌, ◌^◌, length, take, drop, IfOk, IfErr};
-ghost use Rattle.zerotrie_core.specs.ArrayRoutes.{IsBuildWithin, IsBuildCopied, IsTooMuch};
+ghost use Rattle.zerotrie_core.specs.ArrayRoutes.{IsBuildWithin, IsBuildCopied, IsRefusalWithin};
 ghost use Rattle.zerotrie_build.specs.Items.{pairs};
 ghost use Rattle.zerotrie_build.specs.konst.Growing.{IsWritten};
 
@@ -80,7 +80,7 @@ fn write<const K: usize>(
     ensures written { IfOk result (λ len. IsWritten K (pairs items.entry) buffer.new len) }
     ensures before { IfOk result (λ len. (n : ℕ) → n + len ≤ length buffer.old
         → take n buffer.new ≡ take n buffer.old) }
-    ensures refused { IfErr result (λ e. (n : ℕ) → IsTooMuch n K (pairs items.entry) e) }
+    ensures refused { IfErr result (λ e. (n : ℕ) → IsRefusalWithin n K (pairs items.entry) e) }
 {
     if !items.is_sorted() {
         return Err(ZeroTrieBuildError::Unsorted);

@@ -7,7 +7,7 @@ use zerotrie_core::Ignore;
 
 const CASE: &str = "begin alike but for the case of a letter: lower-case the keys first";
 
-/// The sentence, or nothing where no keys show a cause.
+/// The sentence, or nothing if no keys show a cause.
 fn text_of(alloc: Global, answer: Option<Refusal>) -> Result<String, AllocError> {
     match answer {
         Some(refusal) => format!(in alloc; "{refusal}"),

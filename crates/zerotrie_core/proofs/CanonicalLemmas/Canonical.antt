@@ -100,7 +100,7 @@ members_each {es = es} {pairs = pairs} each bytes b =
       | inr high ↦ member-edges_past pairs b high ∙ sym (no_byte (member b es) b high (bytes b))
     ]
 
--- ascending by byte, or, where they rise, in the order of the kind
+-- ascending by byte, or, if they rise, in the order of the kind
 pub edges_sorted : {kind : Kind} {es : List ℕ} {targets : List (List ℕ)} {pairs : Pairs} → ListEach kind es targets pairs → Distinct kind es → Bytes es → edges pairs ≡ sorted_by (λ b. b) es
 edges_sorted {kind = kind} {es = es} {pairs = pairs} each apart bytes = sorted_is kind 0 256 (edges pairs) es (edges_rise pairs) apart (members_each each bytes)
 
@@ -137,11 +137,11 @@ no_pair : (pairs : Pairs) → some_pair pairs ≡ false → pairs ≡ []
 no_pair [] h = refl
 no_pair (e ∷ pairs) h = absurd (cc)
 
--- no pair is behind a byte that is no edge
+-- no pair is after a byte that is no edge
 pub residual_none : {kind : Kind} {es : List ℕ} {targets : List (List ℕ)} {pairs : Pairs} → ListEach kind es targets pairs → (b : ℕ) → member b es ≡ false → residual b pairs ≡ []
 residual_none {pairs = pairs} each b h = no_pair (residual b pairs) (sym (begins_behind pairs b) ∙ begins_each each b ∙ h)
 
--- the pairs of the first target, and those behind it
+-- the pairs of the first target, and those after it
 pub residual_first : {kind : Kind} {es : List ℕ} {targets : List (List ℕ)} {more : Pairs} (e : ℕ) (p : Pairs) → ListEach kind es targets more → member e es ≡ false → residual e (with_front e p ++ more) ≡ p
 residual_first {more = more} e p each h =
     residual-append e (with_front e p) more ∙ ap (λ x. x ++ residual e more) (residual-front e p) ∙ ap (λ x. p ++ x) (residual_none each e h) ∙ nil_end p

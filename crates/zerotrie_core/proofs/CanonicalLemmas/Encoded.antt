@@ -139,7 +139,7 @@ pub record Sound (kind : Kind) (d : ℕ) (pairs : Pairs) : Type 0 where
   pub agree : (k l : List ℕ) (v w : ℕ) → value_at simple_ascii pairs k ≡ Some v → value_at simple_ascii pairs l ≡ Some w
       → common_front (same_byte kind) k l ≡ common_front (λ a b. a == b) k l
 
--- behind the front the targets can be reached by an offset of the kind, where there is a branch
+-- after the front the targets can be reached by an offset of the kind, if there is a branch
 abbrev pub NarrowBehind : Kind → List ℕ → Pairs → Type 0
 NarrowBehind kind front pairs = 2 ≤ length (edges (behind_all front pairs)) → targets_size kind (behind_all front pairs) < 256 ^ (greatest_width kind + 1)
 
@@ -202,13 +202,13 @@ pub record Listed (kind : Kind) (bytes : List ℕ) (pairs : Pairs) : Type 0 wher
   pub lists : Lists kind bytes listed
   pub same : Same listed pairs
 
--- The targets list the answers behind these edges.
+-- The targets list the answers after these edges.
 record ListedEach (kind : Kind) (es : List ℕ) (targets : List (List ℕ)) (pairs : Pairs) : Type 0 where
   listed : Pairs
   each : ListEach kind es targets listed
   same : (c : ℕ) (key : List ℕ) → value_at simple_ascii listed (c ∷ key) ≡ cond (member c es) (value_at simple_ascii pairs (c ∷ key)) None
 
--- the answers behind the first edge, and behind the others
+-- the answers after the first edge, and after the others
 answers_first : (e c : ℕ) (key es : List ℕ) (p more pairs : Pairs) → member e es ≡ false → Same p (residual e pairs)
     → ((key : List ℕ) → value_at simple_ascii more (c ∷ key) ≡ cond (member c es) (value_at simple_ascii pairs (c ∷ key)) None)
     → value_at simple_ascii (with_front e p ++ more) (c ∷ key) ≡ cond (member c (e ∷ es)) (value_at simple_ascii pairs (c ∷ key)) None

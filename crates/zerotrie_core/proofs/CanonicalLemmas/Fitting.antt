@@ -49,7 +49,7 @@ narrow_branch {kind = kind} {targets = targets} b each two =
     subst (λ n. n < 256 ^ (greatest_width kind + 1)) (sym (targets_each each (table_distinct b.is_table) (branch_bytes b)))
     (within_width (greatest_width kind) b.width (length (concat targets)) b.fits b.is_width)
 
--- behind any front
+-- after any front
 abbrev pub AllNarrow : Kind → Pairs → Type 0
 AllNarrow kind pairs = (pairs ≡ [] → ⊥) × ((front : List ℕ) → NarrowBehind kind front pairs)
 

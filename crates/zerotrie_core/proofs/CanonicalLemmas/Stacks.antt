@@ -10,7 +10,7 @@ use Rattle.zerotrie_core.proofs.MapLemmas.Ordered.{edges_rise, member_from}
 use Rattle.zerotrie_core.proofs.CanonicalLemmas.Canonical.{Shorter, shorter_none}
 use Rattle.zerotrie_core.proofs.CanonicalLemmas.Sizes.{longest_shorter, Shorter-residual}
 
--- the need of a branch goes by what is behind its edges
+-- the need of a branch goes by what is after its edges
 pub branch_agree : (f g : Pairs → ℕ) (p q : Pairs) (es : List ℕ) → ((b : ℕ) → member b es ≡ true → f (residual b p) ≡ g (residual b q)) → branch_need f p es ≡ branch_need g q es
 branch_agree f g p q [] same = refl
 branch_agree f g p q (b ∷ es) same =
@@ -80,7 +80,7 @@ above_all : (b low high : ℕ) (es : List ℕ) → b < low → Rise low high es 
 above_all b low high [] h r = refl
 above_all b low high (e ∷ es) h r = rw (lt-ltb b e (omega (arith, r.0))) (let n = above_all b (suc e) high es (omega (arith, r.0)) r.2 in omega arith)
 
--- what is needed behind one edge while those above it wait
+-- what is needed after one edge while those above it wait
 branch_member : (f : Pairs → ℕ) (pairs : Pairs) (b low high : ℕ) (es : List ℕ) → Rise low high es → member b es ≡ true → above b es + f (residual b pairs) ≤ branch_need f pairs es
 branch_member f pairs b low high [] r m = absurd (cc)
 branch_member f pairs b low high (e ∷ es) r m = elim (eqb_tells e b) [

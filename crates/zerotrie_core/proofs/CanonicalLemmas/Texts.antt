@@ -21,7 +21,7 @@ same_targets n w behind ts us a b =
     let na = a.count in
     from_places ts us (na ∙ sym b.count) (λ i h. let inside : i < n = omega arith in sym (target_between a i inside) ∙ target_between b i inside)
 
--- The pairs of the first target, and those behind it.
+-- The pairs of the first target, and those after it.
 record First (kind : Kind) (e : ℕ) (edges target : List ℕ) (targets : List (List ℕ)) (pairs : Pairs) : Type 0 where
   below : Pairs
   inner : Lists kind target below

@@ -53,7 +53,7 @@ letters_sorted : size_to 2 simple_ascii letters ≡ 48
 unfolding letters spelled width edges
 letters_sorted = refl
 
--- so many zeros
+-- this many zeros
 zeros : ℕ → List ℕ
 zeros zero = []
 zeros (suc n) = 0 ∷ zeros n
@@ -135,7 +135,7 @@ fork = record {
     rises zero h = omega arith
     rises (suc k) h = absurd (omega arith)
 
--- the keys "å" and "ø", which have their first byte in common: a span and a branch behind it
+-- the keys "å" and "ø", which have their first byte in common: a span and a branch after it
 spanned : Lists perfect_hash (0xA1 ∷ 0xC3 ∷ 0xC2 ∷ 0xA5 ∷ 0xB8 ∷ 0x01 ∷ 0x81 ∷ 0x82 ∷ []) ((0xC3 ∷ 0xA5 ∷ [], 1) ∷ (0xC3 ∷ 0xB8 ∷ [], 2) ∷ [])
 spanned = span {spelling = 0xA1 ∷ []} (0xC3 ∷ []) refl (λ none. absurd (cc)) (omega arith, omega arith, tt)
     (record { digit = 1; trail = []; below = omega arith; digit_below = omega arith; is_trail = tt; bytes_are = refl; value = refl })

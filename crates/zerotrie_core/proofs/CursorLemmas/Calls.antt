@@ -13,7 +13,7 @@ use Rattle.zerotrie_core.specs.Texts.ListEach.{no_edge, edge}
 use Rattle.zerotrie_core.specs.Nodes.{Shape, Begins, IsTargetResult}
 use Rattle.zerotrie_core.specs.Nodes as shapes
 use Rattle.zerotrie_core.specs.Cursors.{met, edge_like}
-use Rattle.zerotrie_core.specs.Machine.{behind, without_value, numbered}
+use Rattle.zerotrie_core.specs.Machine.{behind, without_value, nth_edge}
 use Rattle.zerotrie_core.specs.Places.{Place, nowhere, ListsBehind, ListsAt, IsStep, IsTake, IsProbe}
 use Rattle.zerotrie_core.specs.reader.Going.{AlwaysGoes, AlwaysStops}
 use Rattle.zerotrie_core.specs.cursor.Edges.{NoValue, HasTheEdges, ListsInside}
@@ -90,12 +90,12 @@ along_none {kind = kind} {edges = edges} p c none = (sym (ap (edge_like kind c) 
 
 -- by its number
 pub by_number : {kind : Kind} {pairs : Pairs} {edges : List ℕ} {places : ℕ → Place} → Parts kind pairs edges places → (i : ℕ) → i < length edges
-    → (Some (get_or edges i 0, length edges) ≡ numbered i (met pairs)) × ListsAt kind (places i) (residual (get_or edges i 0) pairs)
-by_number {edges = edges} p i h = (sym (ap (numbered i) p.met_is ∙ ap (option_map (λ b. (b, length edges))) (slice_get-get_or edges i 0 h)), p.leads i h)
+    → (Some (get_or edges i 0, length edges) ≡ nth_edge i (met pairs)) × ListsAt kind (places i) (residual (get_or edges i 0) pairs)
+by_number {edges = edges} p i h = (sym (ap (nth_edge i) p.met_is ∙ ap (option_map (λ b. (b, length edges))) (slice_get-get_or edges i 0 h)), p.leads i h)
 
 pub past_number : {kind : Kind} {pairs : Pairs} {edges : List ℕ} {places : ℕ → Place} → Parts kind pairs edges places → (i : ℕ) → length edges ≤ i
-    → (None ≡ numbered i (met pairs)) × Lists kind [] []
-past_number {edges = edges} p i h = (sym (ap (numbered i) p.met_is ∙ ap (option_map (λ b. (b, length edges))) (slice_get_past edges i h)), nothing)
+    → (None ≡ nth_edge i (met pairs)) × Lists kind [] []
+past_number {edges = edges} p i h = (sym (ap (nth_edge i) p.met_is ∙ ap (option_map (λ b. (b, length edges))) (slice_get_past edges i h)), nothing)
 
 -- inside a run
 inside_parts : (kind : Kind) (b : ℕ) (run run' trie : List ℕ) (pairs : Pairs) → run ≡ b ∷ run' → ListsBehind kind run trie pairs → Parts kind pairs (b ∷ []) (λ i. record { run = run'; trie = trie })
@@ -113,7 +113,7 @@ module _ (kind : Kind) (b : ℕ) (run run' trie : List ℕ) (e : run ≡ b ∷ r
   pub inside_number : (i : ℕ) → i ≡ 0 → IsProbe (ListsInside kind run trie) i (Some (b, 1)) (ListsBehind kind run' trie)
   inside_number i first pairs lists =
       let n = by_number (inside_parts kind b run run' trie pairs e lists.1) 0 (omega arith) in
-      (n.0 ∙ ap (λ k. numbered k (met pairs)) (sym first), n.1)
+      (n.0 ∙ ap (λ k. nth_edge k (met pairs)) (sym first), n.1)
 
   pub inside_past_number : (i : ℕ) → (i ≡ 0 → ⊥) → IsProbe (ListsInside kind run trie) i None (Lists kind [])
   inside_past_number i other pairs lists = past_number (inside_parts kind b run run' trie pairs e lists.1) i (omega arith)
@@ -141,12 +141,12 @@ pub span_probes : (kind : Kind) (bytes run rest : List ℕ) (i : ℕ) (answer : 
     → IsProbe (ListsInside kind run rest) i answer After → IsProbe (Lists kind bytes) i answer After
 span_probes kind bytes run rest i answer After begins s pairs lists = s pairs (span_lists lists run rest begins)
 
--- where no node begins
+-- if no node begins
 pub nothing_steps : (kind : Kind) (bytes : List ℕ) (c : ℕ) → ((s : Shape) → Begins kind bytes s → ⊥) → IsStep kind (Lists kind bytes) c None (Lists kind [])
 nothing_steps kind bytes c none pairs lists = (sym (ap (λ p. edge_like kind c (met p)) (no_node lists none).is), nothing)
 
 pub nothing_probes : (kind : Kind) (bytes : List ℕ) (i : ℕ) → ((s : Shape) → Begins kind bytes s → ⊥) → IsProbe (Lists kind bytes) i None (Lists kind [])
-nothing_probes kind bytes i none pairs lists = (sym (ap (λ p. numbered i (met p)) (no_node lists none).is), nothing)
+nothing_probes kind bytes i none pairs lists = (sym (ap (λ p. nth_edge i (met p)) (no_node lists none).is), nothing)
 
 -- a literal
 module _ (kind : Kind) (bytes : List ℕ) (b : ℕ) (rest : List ℕ) (begins : Begins kind bytes (shapes.Shape.literal b rest)) where
@@ -162,7 +162,7 @@ module _ (kind : Kind) (bytes : List ℕ) (b : ℕ) (rest : List ℕ) (begins : 
   pub literal_number : (i : ℕ) → i ≡ 0 → IsProbe (Lists kind bytes) i (Some (b, 1)) (Lists kind rest)
   literal_number i first pairs lists =
       let n = by_number (literal_parts pairs lists) 0 (omega arith) in
-      (n.0 ∙ ap (λ k. numbered k (met pairs)) (sym first), n.1)
+      (n.0 ∙ ap (λ k. nth_edge k (met pairs)) (sym first), n.1)
 
   pub literal_past_number : (i : ℕ) → (i ≡ 0 → ⊥) → IsProbe (Lists kind bytes) i None (Lists kind [])
   literal_past_number i other pairs lists = past_number (literal_parts pairs lists) i (omega arith)
@@ -227,7 +227,7 @@ run_without (b ∷ run) pairs some =
     let is = with_run-front b run pairs in
     ap without_value is ∙ front_without b (with_run run pairs) ∙ sym is
 
--- where none stands in front, no pair has the empty key
+-- if none stands in front, no pair has the empty key
 abbrev pub HasNoValue : Kind → Pairs → Type 0
 HasNoValue kind pairs = (value_at kind pairs [] ≡ None) × (without_value pairs ≡ pairs)
 
@@ -269,7 +269,7 @@ pub probe_over : (kind : Kind) (bytes rest : List ℕ) (i : ℕ) (answer : Optio
 probe_over kind bytes rest i answer After has s pairs text =
     let h = has pairs text in
     let r = s h.0 h.1 in
-    (r.0 ∙ ap (numbered i) h.2, subst After (h.3 (option_map (λ a. a.0) answer)) r.1)
+    (r.0 ∙ ap (nth_edge i) h.2, subst After (h.3 (option_map (λ a. a.0) answer)) r.1)
 
 -- inside a run no value stands
 pub inside_take : (kind : Kind) (place : Place) → (place.run ≡ [] → ⊥) → IsTake kind (ListsAt kind place) None (ListsAt kind place)
@@ -313,7 +313,7 @@ pub step_text : (kind : Kind) (bytes : List ℕ) (c : ℕ) (answer : Option ℕ)
 step_text kind bytes c answer run trie none s = subst (λ r. IsStep kind (Lists kind bytes) c answer (ListsBehind kind r trie)) none s
 
 -- how many edges a probe tells
-told : (i b count : ℕ) (edges : List ℕ) → ◌≡◌ {A = Option (ℕ × ℕ)} (Some (b, count)) (numbered i edges) → count ≡ length edges
+told : (i b count : ℕ) (edges : List ℕ) → ◌≡◌ {A = Option (ℕ × ℕ)} (Some (b, count)) (nth_edge i edges) → count ≡ length edges
 told i b count edges e = by (slice_get edges i) e
   where
     by : (o : Option ℕ) → ◌≡◌ {A = Option (ℕ × ℕ)} (Some (b, count)) (option_map (λ x. (x, length edges)) o) → count ≡ length edges

@@ -162,7 +162,7 @@ at_filter p [] b keep i l is = absurd (omega arith)
 at_filter p (x ∷ xs) b keep zero l is = rw (ap p is ∙ keep) (0, omega arith, is)
 at_filter p (x ∷ xs) b keep (suc i) l is = at_kept p x xs b (p x) refl (at_filter p xs b keep i (omega arith) is)
 
--- the first byte of a key is met, and what stands behind it is left
+-- the first byte of a key is met, and what stands after it is left
 met_among : (pairs : Pairs) (b : ℕ) (key : List ℕ) (v : ℕ) → Among pairs (b ∷ key) v → At (met pairs) b
 unfolding Among At
 met_among [] b key v m = absurd m

@@ -72,7 +72,7 @@ longest_same : (f g : List ℕ → Option ℕ) (text : List ℕ) (most : ℕ) (f
 longest_same f g text most None same h = λ n low. same (take n text) ∙ h n low
 longest_same f g text most (Some r) same h = (h.0, same (take r.0 text) ∙ h.1, λ n l high. same (take n text) ∙ h.2 n l high)
 
--- Behind i bytes of the text the cursor has what these pairs have behind them, and the longest key so far was found.
+-- After i bytes of the text the cursor has what these pairs have after them, and the longest key so far was found.
 pub record GoesAlong (kind : Kind) (pairs : Pairs) (text : List ℕ) (i : ℕ) (place : Place) (found : Option (ℕ × ℕ)) : Type 0 where
   pub left : Pairs
   pub lists : ListsAt kind place left

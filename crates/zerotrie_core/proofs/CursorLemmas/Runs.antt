@@ -48,7 +48,7 @@ pub branch_meets : (kind : Kind) (bytes : List ℕ) (edges width : ℕ) (table b
 branch_meets kind bytes edges width table behind r t begins (at_once i) = let e = node_once kind bytes (branch edges width table behind) (span r t) begins i in cc
 branch_meets kind bytes edges width table behind r t begins (after_value {after = more} w i m) = let e = node_once kind bytes (branch edges width table behind) (value w more) begins i in cc
 
--- an edge that no span is behind
+-- an edge that no span follows
 follows_text : (kind : Kind) (bytes rest : List ℕ) (edge : ℕ) (trie : List ℕ) → SameSpan kind bytes rest → ((r t : List ℕ) → MeetsSpan kind rest r t → ⊥)
     → FollowsRun kind (record { run = []; trie = bytes }) edge (record { run = []; trie = trie })
 follows_text kind bytes rest edge trie same none = record {

@@ -91,7 +91,7 @@ module _ (at : Part) (n w : ℕ) (behind : List ℕ) (order : InOrder n w behind
   targets_count zero h = refl
   targets_count (suc k) h = ap length (next_part k h) ∙ ap suc (targets_count k (omega arith))
 
--- what follows a node lies in a row behind it
+-- what follows a node lies in a row after it
 pub behind_row : (kind : Kind) (e : Expected) (at : Part) (s : Shape) → Within (length at.bytes) s → Keeps kind e s → InRow at.place (at.place + length at.bytes) (parts_behind at s)
 behind_row kind e at (value v rest) h keeps = (omega arith, omega arith)
 behind_row kind e at (literal c rest) h keeps = (omega arith, omega arith)

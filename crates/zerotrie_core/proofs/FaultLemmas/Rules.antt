@@ -42,14 +42,7 @@ pub read_begins : (kind : Kind) (bytes : List ℕ) (r : Option Node) → IfSome 
 read_begins kind bytes None b = tt
 read_begins kind bytes (Some node) b = b
 
--- where no value may stand a value stands before
-pub no_value : (e : Expected) → ((e ≡ NoValue → ⊥) → ⊥) → before_of e ≡ a_value
-no_value Anything not = absurd (not (λ is. cc))
-no_value NoValue not = refl
-no_value NoSpan not = absurd (not (λ is. cc))
-no_value Something not = absurd (not (λ is. cc))
-
--- what holds where there is something, by what does
+-- what holds if there is something, by what does
 pub some_by : {T : Type 0} {P Q : T → Type 0} (o : Option T) → ((x : T) → P x → Q x) → IfSome o P → IfSome o Q
 some_by None f p = p
 some_by (Some x) f p = f x p
@@ -72,7 +65,7 @@ may_end NoValue allowed on = on
 may_end NoSpan allowed on = allowed.0 refl
 may_end Something allowed on = allowed refl
 
--- where no node is read none begins
+-- if no node is read, none begins
 pub none_read : (kind : Kind) (bytes : List ℕ) (s : Shape) → node_of kind bytes ≡ None → Begins kind bytes s → ⊥
 none_read kind bytes s none b = let e = sym (node_begun kind bytes s b) ∙ none in cc
 
@@ -93,7 +86,7 @@ none_there kind bytes spans first (branch n w table behind) b = first (branch_al
 not_empty : (bytes : List ℕ) → (NoSpanFirst bytes → ⊥) → bytes ≡ [] → ⊥
 not_empty bytes first none = first (subst NoSpanFirst (sym none) tt)
 
--- where the text may end it breaks no rule
+-- if the text may end, it breaks no rule
 pub end_keeps : (kind : Kind) (e : Expected) (bytes : List ℕ) (cause : FaultCause) → node_of kind bytes ≡ None → KeepsFirst kind e bytes None → Fails kind (before_of e) bytes cause → ⊥
 end_keeps kind e bytes NoNode none keeps fails = fails.0 keeps.0
 end_keeps kind e bytes NoSpans none keeps fails = not_empty bytes fails.1 keeps.0
@@ -193,7 +186,7 @@ behind_text kind at (span run rest) b text =
     one_text kind a_span (after_node at rest) (leads.allowed, (leads.below, leads.inner))
 behind_text kind at (branch n w table behind) b text = targets_text kind at n w table behind b text n (omega arith)
 
--- where a fault is there is no text
+-- if there is a fault, there is no text
 no_text_faulty : {kind : Kind} {f : Fault} {before : Before} {at : Part} → FaultIn kind f before at → IsTextAfter kind before at → ⊥
 no_text_faulty {kind = kind} {f = f} {before = before} {at = at} (here place fails) text = no_text_fails kind before at.bytes f.cause fails text.0 text.1
 no_text_faulty {kind = kind} {at = at} (further {next = next} s b there inner) text =

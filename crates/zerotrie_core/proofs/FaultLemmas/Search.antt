@@ -143,7 +143,7 @@ branch_text kind bytes n w table behind b front order each =
     (λ i l. (let h : i < n = omega arith in let is = get_or-pieces n w behind i h in let t = each i h in (λ none. t.0 (sym is ∙ none), subst (IsText kind) (sym is) t.1))) in
     (targets.0, texts.Lists.branch (sound_is front order long b.two b.some b) targets.1)
 
--- a node that keeps the rules, with texts behind it, is a text
+-- a node that keeps the rules, with texts after it, is a text
 node_text : (kind : Kind) (e : Expected) (at : Part) (s : Shape) (qs : List Part) → Begins kind at.bytes s → Keeps kind e s → AllTexts kind (expected_after s) (parts_behind at s ++ qs) → AllTexts kind e (at ∷ qs)
 node_text kind e at (value v rest) qs b keeps all = (value_allowed kind v rest e keeps at.bytes b, (value_reduces kind v rest at.bytes b).back all.0 all.1, all.2)
 node_text kind e at (literal c rest) qs b keeps all = (literal_allowed kind c rest e at.bytes b, (literal_reduces kind c rest at.bytes b).back all.0 all.1, all.2)

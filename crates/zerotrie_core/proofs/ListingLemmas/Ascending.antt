@@ -58,7 +58,7 @@ beyond_above b key [] h = tt
 beyond_above b key (([], v) ∷ pairs) h = absurd h
 beyond_above b key ((c ∷ k, v) ∷ pairs) h = less_first b c key k h
 
--- pairs behind one byte, and pairs behind greater ones
+-- pairs after one byte, and pairs after greater ones
 joined_above : (b : ℕ) (key : List ℕ) (xs ys : Pairs) → FirstAbove key xs → FirstBeyond b ys → FirstAbove (b ∷ key) (with_front b xs ++ ys)
 joined_above b key [] ys h g = beyond_above b key ys g
 joined_above b key (e ∷ xs) ys h g = same_first b key e.0 ∙ h

@@ -18,7 +18,7 @@ use Rattle.zerotrie_core.proofs.MapLemmas.Spans.{with_run-none}
 use Rattle.zerotrie_core.proofs.ListingLemmas.Nodes.{listed_node, listed_read, order_is, is_order, next_begin}
 use Rattle.zerotrie_core.proofs.NodeLemmas.Read.{InSome, Within, node_within, node_begun}
 
--- nothing is behind a branch that has no edge left
+-- nothing is after a branch that has no edge left
 pub none_behind : (kind : Kind) (o : OpenBranch) → o.edges ≤ o.next → pairs_behind kind o ≡ []
 none_behind kind o h = let none : o.edges - o.next ≡ 0 = omega arith in rw none refl
 
@@ -29,10 +29,7 @@ listed_nothing kind prefix o h = rw (none_behind kind o h) refl
 pub fresh_left : (kind : Kind) (prefix bytes : List ℕ) (o : OpenBranch) → o.edges ≤ o.next → pairs_left kind prefix bytes (o ∷ []) ≡ with_run prefix (listed kind bytes)
 fresh_left kind prefix bytes o h = ap (λ ps. with_run prefix (listed kind bytes) ++ ps) (listed_nothing kind prefix o h) ∙ append-nil (with_run prefix (listed kind bytes))
 
-pub all_left : (kind : Kind) (bytes : List ℕ) (o : OpenBranch) → o.edges ≤ o.next → pairs_left kind [] bytes (o ∷ []) ≡ listed kind bytes
-all_left kind bytes o h = fresh_left kind [] bytes o h ∙ with_run-none (listed kind bytes)
-
--- runs in front, one behind another
+-- runs in front, one after another
 pub run_run : (front run : List ℕ) (pairs : Pairs) → with_run front (with_run run pairs) ≡ with_run (front ++ run) pairs
 run_run front run [] = refl
 run_run front run (e ∷ pairs) = ap (λ k. (k, e.1) ∷ with_run front (with_run run pairs)) (sym (append_assoc front run e.0)) ∙ ap (λ ps. ((front ++ run) ++ e.0, e.1) ∷ ps) (run_run front run pairs)
@@ -48,7 +45,7 @@ pub run_append : (front : List ℕ) (xs ys : Pairs) → with_run front (xs ++ ys
 run_append front [] ys = refl
 run_append front (e ∷ xs) ys = ap (λ ps. (front ++ e.0, e.1) ∷ ps) (run_append front xs ys)
 
--- the first of the open branches, if there is one, stands behind a beginning of at most so many bytes
+-- the first of the open branches, if there is one, stands after a beginning of at most this many bytes
 abbrev pub FirstLow : ℕ → List OpenBranch → Type 0
 FirstLow depth [] = Unit {0}
 FirstLow depth (o ∷ branches) = o.depth ≤ depth
@@ -61,7 +58,7 @@ first_longer : (d e : ℕ) (branches : List OpenBranch) → d ≤ e → FirstLow
 first_longer d e [] h low = tt
 first_longer d e (o ∷ branches) h low = omega arith
 
--- what stands behind the beginnings that open branches stand behind does not matter to them
+-- what stands after the beginnings that open branches stand after does not matter to them
 pub open_longer : (kind : Kind) (prefix more : List ℕ) (branches : List OpenBranch) → FirstLow (length prefix) branches → pairs_open kind (prefix ++ more) branches ≡ pairs_open kind prefix branches
 open_longer kind prefix more [] low = refl
 open_longer kind prefix more (o ∷ branches) low = ap (λ front. with_run front (pairs_behind kind o) ++ pairs_open kind front branches) (take-append-le o.depth prefix more low)
@@ -144,7 +141,7 @@ at_branch kind prefix bytes n w table behind branches o b edges width same next 
     from_first : (n : ℕ) → n - 0 ≡ n
     from_first n = omega arith
 
--- what target number i, read, says of the pairs behind its edge and later ones
+-- what target number i, read, says of the pairs after its edge and later ones
 abbrev pub TargetSays : Kind → OpenBranch → Option (Bor (List ℕ)) → Type 0
 TargetSays kind o None = pairs_behind kind o ≡ []
 TargetSays kind o (Some t) =
@@ -156,7 +153,7 @@ one_more n i h = omega arith
 back_at : (n i : ℕ) → i < n → n - suc (n - suc i) ≡ i
 back_at n i h = omega arith
 
--- the pairs behind the edges from number i on
+-- the pairs after the edges from number i on
 pub opened : (f : List ℕ → Pairs) (n w : ℕ) (behind : List ℕ) (i : ℕ) → i < n
     → of_targets f n w behind (n - i) ≡ (if is_in_order n w behind i then with_front (slice_index behind i) (f (target_of n w behind i)) ++ of_targets f n w behind (n - suc i) else [])
 opened f n w behind i h =
@@ -181,7 +178,7 @@ target_says kind o (Some t) h g =
     opened (listed kind) o.edges o.width o.behind.now o.next h
     ∙ rw ordered (ap (λ x. with_front (slice_index o.behind.now o.next) (listed kind x) ++ of_targets (listed kind) o.edges o.width o.behind.now (o.edges - suc o.next)) (sym g.0.2))
 
--- Where the offsets of the next target fall, nothing more of the branch is left.
+-- If the offsets of the next target fall, nothing more of the branch is left.
 module _ (prefix : List ℕ) (outer : List OpenBranch) (o p : OpenBranch) (depth : p.depth ≡ o.depth) (over : p.edges ≤ p.next) where
   length-take-most : (d : ℕ) (xs : List ℕ) → length (take d xs) ≤ d
   length-take-most d xs = let n = length-take d xs in omega arith
@@ -194,7 +191,7 @@ module _ (prefix : List ℕ) (outer : List OpenBranch) (o p : OpenBranch) (depth
       ∙ ap (λ fs. with_run fs (pairs_behind kind p) ++ pairs_open kind fs outer) same
       ∙ ap (λ ps. with_run front ps ++ pairs_open kind front outer) (none_behind kind p over ∙ sym none)
 
--- Into the next target, whose edge goes behind the front of the branch.
+-- Into the next target, whose edge goes after the front of the branch.
 module _ (kind : Kind) (prefix : List ℕ) (outer : List OpenBranch) (o : OpenBranch) (target : List ℕ) (low : o.depth ≤ length prefix)
     (says : pairs_behind kind o ≡ with_front (slice_index o.behind.now o.next) (listed kind target) ++ of_targets (listed kind) o.edges o.width o.behind.now (o.edges - suc o.next)) where
   abbrev front : List ℕ
@@ -216,7 +213,7 @@ module _ (kind : Kind) (prefix : List ℕ) (outer : List OpenBranch) (o : OpenBr
       ∙ ap (λ ps. ps ++ pairs_open kind front outer) (run_append front (with_front edge (listed kind target)) later ∙ ap (λ ps. ps ++ with_run front later) (run_front front edge (listed kind target)))
       ∙ append_assoc (with_run (front ++ edge ∷ []) (listed kind target)) (with_run front later) (pairs_open kind front outer)
 
-  -- the branch stays open at the edge behind it
+  -- the branch stays open at the edge after it
   pub at_next : (p : OpenBranch) → p.edges ≡ o.edges → p.width ≡ o.width → p.behind.now ≡ o.behind.now → p.next ≡ suc o.next → p.depth ≡ o.depth
       → pairs_left kind (front ++ edge ∷ []) target (p ∷ outer) ≡ pairs_open kind prefix (o ∷ outer)
   at_next p edges width behind next depth =
@@ -292,7 +289,7 @@ nested_around depth top branches stands = nested_longer top.depth depth branches
 pub nested_with : (depth : ℕ) (top : OpenBranch) (branches : List OpenBranch) → Stands depth top branches → top.next < top.edges → Nested depth (top ∷ branches)
 nested_with depth top branches stands some = (stands.0, some, stands.1)
 
--- what stands behind a node that was read is shorter
+-- what stands after a node that was read is shorter
 pub read_shorter : (kind : Kind) (bytes : List ℕ) (s : Shape) → node_of kind bytes ≡ Some s → Within (length bytes) s
 read_shorter kind bytes s e = subst (InSome (Within (length bytes))) e (node_within kind bytes)
 
@@ -304,7 +301,7 @@ branch_less kind bytes n w table behind branches more o e edges width same next 
     let own : length (targets_behind o.edges o.width o.behind.now) ≡ length (targets_behind n w behind) = rw (edges, width, same) refl in
     omega arith
 
--- what a node has behind it ends its bytes
+-- what a node has after it ends its bytes
 pub value_end : (kind : Kind) (bytes rest : List ℕ) (v : ℕ) → Begins kind bytes (shapes.Shape.value v rest) → EndsWith bytes rest
 value_end kind bytes rest v b = (b.spelling, b.bytes_are)
 
@@ -355,7 +352,7 @@ lies_part tail targets target from to lies low high is =
     ∙ take-take (to - from) more rest (omega arith)
     ∙ ap (λ m. take m rest) (sym len)
 
--- Literals that were copied with the bytes behind them.
+-- Literals that were copied with the bytes after them.
 pub moves_sixteen : (rest tail key rest' key' sixteen : List ℕ) (n : ℕ) → rest ≡ take (length rest) tail → sixteen ≡ take 16 tail → 0 < n → n ≤ 16 → n ≤ length rest
     → ((k : ℕ) → k < n → slice_index rest k < 128)
     → rest' ≡ drop n rest → key' ≡ take (length key + n) (key ++ sixteen) → MovesLiterals rest key rest' key'

@@ -59,7 +59,7 @@ enough (suc d) zero kind (b ∷ bytes) h g = absurd (omega arith)
 enough (suc d) (suc e) kind bytes h g =
     nodes_agree (listed_to d kind) (listed_to e kind) (length bytes) (node_of kind bytes) (node_within kind bytes) (λ x l. enough d e kind x (omega arith) (omega arith))
 
--- by the first node, and what stands behind it
+-- by the first node, and what stands after it
 pub listed_node : (kind : Kind) (bytes : List ℕ) → listed kind bytes ≡ of_node (listed kind) (node_of kind bytes)
 unfolding listed
 listed_node kind [] = refl
@@ -99,7 +99,7 @@ length-run : (run : List ℕ) (pairs : Pairs) → length (with_run run pairs) �
 length-run run [] = refl
 length-run run (e ∷ pairs) = ap suc (length-run run pairs)
 
--- behind target number n - suc k the next one begins, if there is one
+-- after target number n - suc k the next one begins, if there is one
 later_most : (f : List ℕ → Pairs) (n w : ℕ) (behind : List ℕ) (k : ℕ) → suc k ≤ n
     → length (of_targets f n w behind k) ≤ length (targets_behind n w behind) - begin_of n w behind (n - k)
     → length (of_targets f n w behind k) ≤ length (targets_behind n w behind) - end_of n w behind (n - suc k)
@@ -110,7 +110,7 @@ later_most f n w behind (suc k) h more =
     let next = next_begin n w behind i (omega arith) in
     subst (λ x. length (of_targets f n w behind (suc k)) ≤ length (targets_behind n w behind) - x) (ap (begin_of n w behind) same ∙ next) more
 
--- of so many bytes at most so many pairs
+-- of n bytes at most n pairs
 targets_most : (f : List ℕ → Pairs) → ((x : List ℕ) → length (f x) ≤ length x) → (n w : ℕ) (behind : List ℕ) (k : ℕ) → k ≤ n
     → length (of_targets f n w behind k) ≤ length (targets_behind n w behind) - begin_of n w behind (n - k)
 targets_most f most n w behind zero h = omega arith

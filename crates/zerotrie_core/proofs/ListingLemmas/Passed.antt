@@ -33,14 +33,14 @@ both_of : (a b : Bool) → (a && b) ≡ true → (a ≡ true) × (b ≡ true)
 both_of true b e = (refl, e)
 both_of false b e = absurd (cc)
 
--- keys behind fronts that are one to the kind
+-- keys after fronts that are one to the kind
 pub same_behind : (kind : Kind) (p q k l : List ℕ) → same_key kind p q ≡ true → same_key kind (p ++ k) (q ++ l) ≡ same_key kind k l
 same_behind kind [] [] k l e = refl
 same_behind kind [] (c ∷ q) k l e = absurd (cc)
 same_behind kind (b ∷ p) [] k l e = absurd (cc)
 same_behind kind (b ∷ p) (c ∷ q) k l e = let parts = both_of (same_byte kind b c) (same_key kind p q) e in rw parts.0 (same_behind kind p q k l parts.1)
 
--- where no pair has the key, none stands after it
+-- if no pair has the key, none stands after it
 pub rest_none : (kind : Kind) (key : List ℕ) (pairs : Pairs) → value_at kind pairs key ≡ None → rest_after kind key pairs ≡ []
 rest_none kind key [] none = refl
 rest_none kind key (e ∷ pairs) none = by (same_key kind e.0 key) e.1 (value_at kind pairs key) pairs (rest_after kind key pairs) none (rest_none kind key pairs)
@@ -89,12 +89,12 @@ past_left {kind = kind} {pairs = pairs} text prefix key found left is past =
     let apart = subst (Apart kind) is (apart_kept kind _ pairs (lists_apart text)) in
     past.0 ∙ ap to_come (sym (rest_left kind key found left.pairs apart past.1)) ∙ ap (λ ps. to_come (rest_after kind key ps)) (sym is)
 
--- a key behind a front
+-- a key after a front
 value_behind : (kind : Kind) (front taken key : List ℕ) (pairs : Pairs) → same_key kind front taken ≡ true → value_at kind (with_run front pairs) (taken ++ key) ≡ value_at kind pairs key
 value_behind kind front taken key [] same = refl
 value_behind kind front taken key (e ∷ pairs) same = rw (same_behind kind front taken e.0 key same) (ap (cond (same_key kind e.0 key) (Some e.1)) (value_behind kind front taken key pairs same))
 
--- none of the keys behind a front that the key does not begin with
+-- none of the keys after a front that the key does not begin with
 pub value_elsewhere : (kind : Kind) (front key : List ℕ) (pairs : Pairs) → ((more : List ℕ) → same_key kind (front ++ more) key ≡ false) → value_at kind (with_run front pairs) key ≡ None
 value_elsewhere kind front key [] other = refl
 value_elsewhere kind front key (e ∷ pairs) other = rw (other e.0) (value_elsewhere kind front key pairs other)
@@ -124,7 +124,7 @@ front_more kind front key left taken i more inside is same h =
       ap (λ f. same_key kind f (taken ++ h.0 ∷ [])) (take_more front i 0 inside) ∙ same_behind kind (take i front) taken (e ∷ []) (h.0 ∷ []) same ∙ rw (eq-eqb _ _ h.2) refl,
     )
 
--- what a place lists are the pairs of its text, behind its run
+-- what a place lists are the pairs of its text, after its run
 pub place_below : (kind : Kind) (run trie : List ℕ) (pairs : Pairs) → ListsBehind kind run trie pairs → (below : Pairs) × Lists kind trie below × (pairs ≡ with_run run below)
 place_below kind [] trie pairs lists = (pairs, lists, sym (with_run-none pairs))
 place_below kind (b ∷ run) trie pairs lists =
@@ -144,7 +144,7 @@ literal_none kind edge rest (c ∷ left) other = node_ends kind (shapes.Shape.li
 no_more : (n : ℕ) → n ≡ n - 0
 no_more n = omega arith
 
--- the pairs behind the edges from number i on are the last of a branch whose offsets rise
+-- the pairs after the edges from number i on are the last of a branch whose offsets rise
 skip : (f : List ℕ → Pairs) (n w : ℕ) (behind : List ℕ) (i : ℕ) → i ≤ n → ((j : ℕ) → j < i → is_in_order n w behind j ≡ true)
     → (before : Pairs) × (of_targets f n w behind n ≡ before ++ of_targets f n w behind (n - i))
 skip f n w behind zero h ordered = ([], ap (of_targets f n w behind) (no_more n))

@@ -76,7 +76,7 @@ only_edge kind c (d ∷ es) o is distinct = elim (cases_eq (fold_byte kind d) (f
       )
 ]
 
--- the pairs behind the edge that a byte goes along are those whose keys go on with it
+-- the pairs after the edge that a byte goes along are those whose keys go on with it
 step_none : (kind : Kind) (c : ℕ) (front : List ℕ) (pairs : Pairs) → AllFirst (Only kind c None) pairs → beginning kind (c ∷ front) pairs ≡ []
 step_none kind c front [] all = refl
 step_none kind c front (([], v) ∷ pairs) all = step_none kind c front pairs all

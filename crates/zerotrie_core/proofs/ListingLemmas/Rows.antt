@@ -1,4 +1,4 @@
--- Texts one behind another, as a row of nodes, and how many pairs they list together.
+-- Texts one after another, as a row of nodes, and how many pairs they list together.
 use Rattle.std.proofs.Common.{◌≡◌, ℕ, ◌+◌, ◌-◌, ◌*◌, ◌<◌, ◌≤◌, List, [], ◌∷◌, ◌++◌, length, refl, sym, ◌∙◌, ap, subst, arith, drop, Option, Some, None, length-append, append_assoc}
 use Rattle.std.specs.List.{concat}
 use Rattle.std.proofs.lemmas.List.{take_at, drop_at, append-nil, length-map}
@@ -18,12 +18,12 @@ use Rattle.zerotrie_core.proofs.ListingLemmas.Left.{read_shorter}
 use Rattle.zerotrie_core.proofs.NodeLemmas.Offsets.{length-blocks, length-offsets}
 use Rattle.zerotrie_core.proofs.NodeLemmas.Opened.{body_of, body_long, from_edges}
 
--- The bytes are texts one behind another, which list so many pairs together.
+-- The bytes are texts one after another, which list this many pairs together.
 pub data Counts (kind : Kind) : List ℕ → ℕ → Type 0 where
   none : Counts kind [] 0
   text : {bytes more : List ℕ} {pairs : Pairs} {n : ℕ} → Lists kind bytes pairs → Counts kind more n → Counts kind (bytes ++ more) (length pairs + n)
 
--- by the first node: its value counts, and then what stands behind it
+-- by the first node: its value counts, and then what stands after it
 abbrev pub CountsOn : Kind → Option Shape → ℕ → Type 0
 CountsOn kind None n = n ≡ 0
 CountsOn kind (Some s) n = (left : ℕ) × (n ≡ values_in s + left) × Counts kind (row_behind s) left
@@ -68,7 +68,7 @@ targets_on {edges = edges} {targets = targets} b more =
     ap (drop (w * (length edges - 1))) (drop_at edges (behind_edges b more) (length edges) refl ∙ append_assoc table (concat targets) more)
     ∙ drop_at table (concat targets ++ more) (w * (length edges - 1)) long
 
--- targets one behind another, in front of more texts
+-- targets one after another, in front of more texts
 counts_each : {kind : Kind} {edges : List ℕ} {targets : List (List ℕ)} {pairs : Pairs} {more : List ℕ} {n : ℕ} → ListEach kind edges targets pairs → Counts kind more n
     → Counts kind (concat targets ++ more) (length pairs + n)
 counts_each {kind = kind} {more = more} {n = n} no_edge c = let same : n ≡ 0 + n = omega arith in subst (Counts kind more) same c
@@ -107,7 +107,7 @@ pub record Counted (kind : Kind) (bytes : List ℕ) (count : ℕ) (rest : List �
 pub counted_none : (kind : Kind) (bytes : List ℕ) → Counted kind bytes 0 bytes
 counted_none kind bytes = record { within = omega arith; counts = λ n c. (n, omega arith, c) }
 
--- a node is longer than what stands behind it
+-- a node is longer than what stands after it
 pub row_shorter : (kind : Kind) (bytes : List ℕ) (s : Shape) → node_of kind bytes ≡ Some s → length (row_behind s) + values_in s ≤ length bytes × length (row_behind s) < length bytes
 row_shorter kind bytes (shapes.Shape.value v rest) e = let h = read_shorter kind bytes (shapes.Shape.value v rest) e in (omega arith, h)
 row_shorter kind bytes (shapes.Shape.literal b rest) e = let h = read_shorter kind bytes (shapes.Shape.literal b rest) e in (omega arith, h)

@@ -66,7 +66,7 @@ value_exact kind ((b ∷ key, v) ∷ pairs) = value_exact kind pairs
 pub same-value : (kind : Kind) (p q : Pairs) → Same p q → value_at kind p [] ≡ value_at kind q []
 same-value kind p q s = value_exact kind p ∙ s [] ∙ sym (value_exact kind q)
 
--- what stands behind b answers as the list does for the keys that begin with b
+-- what stands after b answers as the list does for the keys that begin with b
 behind_one : (same : Bool) (k key : List ℕ) (v : ℕ) (p : Pairs) (x : Option ℕ) → value_at simple_ascii p key ≡ x
     → value_at simple_ascii (cond same ((k, v) ∷ p) p) key ≡ cond (same && same_key simple_ascii k key) (Some v) x
 behind_one true k key v p x e = ap (λ y. cond (same_key simple_ascii k key) (Some v) y) e
@@ -188,7 +188,7 @@ pub same-run_of : (p q : Pairs) → Same p q → run_of p ≡ run_of q
 unfolding run_of
 same-run_of p q s = ap (λ d. run_to d p) (same-longest p q s) ∙ same-run_to (longest q) p q s
 
--- sizes go by those of the pairs behind an edge and behind a span
+-- sizes go by those of the pairs after an edge and after a span
 pub rest_agree : (kind : Kind) (f g : Pairs → ℕ) (p q : Pairs) → ((b : ℕ) → f (residual b p) ≡ g (residual b q)) → ((b : ℕ) → span_size f p b ≡ span_size g q b) → (es : List ℕ) → rest_size kind f p es ≡ rest_size kind g q es
 rest_agree kind f g p q same spans [] = refl
 rest_agree kind f g p q same spans (b ∷ []) =

@@ -161,7 +161,7 @@ edge_apart kind e p m other pp mm =
     (λ x h. every_more (λ f. BeginsOther kind e f.0) (OtherKey kind (e ∷ x.0)) m (λ f a. (other_apart kind e x.0 f.0 a).1) other)
     (every_any (λ x. ⊤) p (λ x. tt)))
 
--- no key behind a byte is empty
+-- no key after a byte is empty
 front_some : (kind : Kind) (b : ℕ) (pairs : Pairs) → AllByRecursion (OtherKey kind []) (with_front b pairs)
 front_some kind b pairs = every_front (λ x. ⊤) (OtherKey kind []) b pairs (λ x h. refl) (every_any (λ x. ⊤) pairs (λ x. tt))
 
@@ -261,7 +261,7 @@ other_found kind key own v (e ∷ pairs) a h = elim (chosen_value (same_key simp
   | inr later ↦ other_found kind key own v pairs a.1 later.1
 ]
 
--- it is the only one, where no two keys are one to the kind
+-- it is the only one, if no two keys are one to the kind
 only_key : (kind : Kind) (pairs : Pairs) (own key : List ℕ) (v : ℕ) → Apart kind pairs → value_at simple_ascii pairs own ≡ Some v → same_key kind own key ≡ true → value_at kind pairs key ≡ Some v
 only_key kind [] own key v a h same = absurd (cc)
 only_key kind (e ∷ pairs) own key v a h same = elim (chosen_value (same_key simple_ascii e.0 own) e.1 v (value_at simple_ascii pairs own) h) [
@@ -295,7 +295,7 @@ some_too kind p q key (Some v) a same is =
     let k = key_of kind q key v is in
     is ∙ sym (only_key kind p k.own key v a (sym (same k.own) ∙ k.found) k.same)
 
--- pairs that answer alike by bytes answer alike, where no two keys of one list are one to the kind
+-- pairs that answer alike by bytes answer alike, if no two keys of one list are one to the kind
 pub same_answers : (kind : Kind) (p q : Pairs) (key : List ℕ) → Apart kind p → ((k : List ℕ) → value_at simple_ascii q k ≡ value_at simple_ascii p k) → value_at kind q key ≡ value_at kind p key
 same_answers kind p q key a same = some_too kind p q key (value_at kind q key) a same refl
 

@@ -110,7 +110,7 @@ rise_above : (kind : Kind) → ((b : ℕ) → fold_byte kind b ≡ b) → (x low
 rise_above kind keeps x low high [] h r = tt
 rise_above kind keeps x low high (e ∷ es) h r = (let k = keeps e in omega (arith, r.0), rise_above kind keeps x (suc e) high es (omega (arith, r.0)) r.2)
 
--- edges that rise by byte rise by fold, where the fold is the byte
+-- edges that rise by byte rise by fold, if the fold is the byte
 pub rise_rises : (kind : Kind) → ((b : ℕ) → fold_byte kind b ≡ b) → (low high : ℕ) (es : List ℕ) → Rise low high es → Rises kind es
 rise_rises kind keeps low high [] r = tt
 rise_rises kind keeps low high (e ∷ es) r = (let k = keeps e in rise_above kind keeps (fold_byte kind e) (suc e) high es (omega arith) r.2, rise_rises kind keeps (suc e) high es r.2)
@@ -168,7 +168,7 @@ rises_once kind (x ∷ xs) (y ∷ ys) up vp same =
     let same' : (b : ℕ) → member b (x ∷ xs) ≡ member b (x ∷ ys) = subst (λ z. (b : ℕ) → member b (x ∷ xs) ≡ member b (z ∷ ys)) (sym first) same in
     ap (λ z. x ∷ z) (rises_once kind xs ys up.1 vp'.1 (λ b. same_behind kind x b xs ys up.0 vp'.0 (same' b))) ∙ ap (λ z. z ∷ ys) first
 
--- members that rise have one fold only where they are one
+-- members that rise have one fold only if they are one
 pub member_fold : (kind : Kind) (es : List ℕ) → Rises kind es → (b c : ℕ) → member b es ≡ true → member c es ≡ true → fold_byte kind b ≡ fold_byte kind c → b ≡ c
 member_fold kind [] up b c m n same = absurd (cc)
 member_fold kind (e ∷ es) up b c m n same = elim (or_cases (eqb e b) (member b es) m) [

@@ -29,7 +29,7 @@ pub run_none : (run : List ℕ) (pairs : Pairs) → with_run run pairs ≡ [] �
 run_none run [] e = refl
 run_none run (x ∷ pairs) e = absurd (cc)
 
--- a look-up goes on behind the run
+-- a look-up goes on after the run
 pub value_at-run : (kind : Kind) → ((b : ℕ) → fold_byte kind b ≡ b) → (run : List ℕ) (pairs : Pairs) (key : List ℕ) → value_at kind (with_run run pairs) key ≡ option_map_or (λ after. value_at kind pairs after) (after_run run key) None
 value_at-run kind keeps [] pairs key = ap (λ ps. value_at kind ps key) (with_run-none pairs)
 value_at-run kind keeps (b ∷ run) pairs [] = ap (λ ps. value_at kind ps []) (with_run-front b run pairs) ∙ value_at-no_key kind b (with_run run pairs)
@@ -47,7 +47,7 @@ pub value_at-no_run : (kind : Kind) (run : List ℕ) (pairs : Pairs) → (run �
 value_at-no_run kind [] pairs some = absurd (some refl)
 value_at-no_run kind (b ∷ run) pairs some = ap (λ ps. value_at kind ps []) (with_run-front b run pairs) ∙ value_at-no_key kind b (with_run run pairs)
 
--- the pairs behind the first byte, and behind any other
+-- the pairs after the first byte, and after any other
 pub residual-run : (b : ℕ) (run : List ℕ) (pairs : Pairs) → residual b (with_run (b ∷ run) pairs) ≡ with_run run pairs
 residual-run b run pairs = ap (residual b) (with_run-front b run pairs) ∙ residual-front b (with_run run pairs)
 
@@ -64,7 +64,7 @@ edges_run b run pairs low some = ap edges (with_run-front b run pairs) ∙ edges
 nothing_some : (o : Option (List ℕ)) (x : List ℕ) → o ≡ None → o ≡ Some x → ⊥
 nothing_some o x none some = cc
 
--- a key is the run and what it has behind it
+-- a key is the run and what it has after it
 pub after_is : (run key after : List ℕ) → after_run run key ≡ Some after → key ≡ run ++ after
 after_is [] key after e = cc
 after_is (b ∷ run) [] after e = absurd (cc)
@@ -99,7 +99,7 @@ run_of-front b pairs high low some =
     ∙ run_front (longest pairs) b pairs low some
     ∙ rw (le-leb 128 b high) refl
 
--- a run in front goes on as what stands behind it begins
+-- a run in front goes on as what stands after it begins
 pub run_of-run : (run : List ℕ) (pairs : Pairs) → AreHigh run → (pairs ≡ [] → ⊥) → run_of (with_run run pairs) ≡ run ++ run_of pairs
 run_of-run [] pairs high some = ap run_of (with_run-none pairs)
 run_of-run (b ∷ run) pairs high some =

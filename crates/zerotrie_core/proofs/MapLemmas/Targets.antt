@@ -1,4 +1,4 @@
--- What lies behind each edge of a list of targets.
+-- What lies after each edge of a list of targets.
 use Rattle.std.proofs.Common.{◌≡◌, ℕ, zero, suc, ◌<◌, List, [], ◌∷◌, ◌++◌, length, refl, sym, ◌∙◌, ap, arith, Some, None, Bool, true, false, get_or, inl, inr, ◌⊎◌}
 use Rattle.std.specs.Prelude.{filter, not, ◌==◌}
 use Rattle.std.proofs.lemmas.Bool.{eq-eqb, ne_eqb}
@@ -36,7 +36,7 @@ each_none {kind = kind} (edge {e = e} {pairs = pairs} {more = more} n text each)
     let rest = each_none each c none.1 in
     (λ key. value_at-append kind (c ∷ key) (with_front e pairs) more (value_at-other kind e c key pairs other) ∙ rest.0 key, λ key. rw other (rest.1 key))
 
--- The target lists the pairs behind the edge b.
+-- The target lists the pairs after the edge b.
 pub record BehindEdge {kind : Kind} {edges : List ℕ} {targets : List (List ℕ)} {pairs : Pairs} (each : ListEach kind edges targets pairs) (b : ℕ) (target : List ℕ) : Type 0 where
   pub below : Pairs
   pub inner : Lists kind target below
@@ -48,7 +48,7 @@ none_of_fold : (kind : Kind) (e c : ℕ) (edges : List ℕ) → fold_byte kind e
 none_of_fold kind e c [] same none = tt
 none_of_fold kind e c (f ∷ edges) same none = (λ s. none.0 (same ∙ s), none_of_fold kind e c edges same none.1)
 
--- target number i lists the pairs behind edge number i
+-- target number i lists the pairs after edge number i
 pub each_behind : {kind : Kind} {edges : List ℕ} {targets : List (List ℕ)} {pairs : Pairs} (each : ListEach kind edges targets pairs) → Distinct kind edges → (i : ℕ) → i < length edges
     → BehindEdge each (get_or edges i 0) (get_or targets i [])
 each_behind no_edge apart i h = absurd (omega arith)
@@ -104,7 +104,7 @@ filter-filter p (x ∷ xs) = elim (either (p x)) [
   | inr h ↦ ap (filter p) (left_out p x xs h) ∙ filter-filter p xs ∙ sym (left_out p x xs h)
 ]
 
--- the pairs behind e make no further edge
+-- the pairs after e make no further edge
 met_more : (e : ℕ) (pairs more : Pairs) → filter (differs e) (met (with_front e pairs ++ more)) ≡ filter (differs e) (met more)
 met_more e [] more = refl
 met_more e (x ∷ pairs) more =

@@ -32,7 +32,7 @@ pub value_at-some : (kind : Kind) (key : List ℕ) (xs ys : Pairs) → value_at 
 value_at-some kind key [] ys h = h
 value_at-some kind key (e ∷ xs) ys h = rw (value_at-some kind key xs ys h) refl
 
--- no key behind an edge is empty
+-- no key after an edge is empty
 pub behind_none : {kind : Kind} {edges : List ℕ} {targets : List (List ℕ)} {pairs : Pairs} (each : ListEach kind edges targets pairs) → value_at kind pairs [] ≡ None
 behind_none no_edge = refl
 behind_none {kind = kind} (edge {e = e} {pairs = pairs} {more = more} n text each) = value_at-append kind [] (with_front e pairs) more (value_at-no_key kind e pairs) ∙ behind_none each

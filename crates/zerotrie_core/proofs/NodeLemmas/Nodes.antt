@@ -42,7 +42,7 @@ pub span_no_branch : (n w : ℕ) (bytes after behind : List ℕ) → BeginsWith 
 span_no_branch n w [] after behind a b = some_bytes 16 5 n after a
 span_no_branch n w (lead ∷ rest) after behind a b = let low = span_begins n lead rest after a in let high = branch_begins w lead rest behind b in omega arith
 
--- where no byte is left there is no node
+-- if no byte is left, there is no node
 pub none_empty : (kind : Kind) (bytes : List ℕ) → bytes ≡ [] → (s : Shape) → Begins kind bytes s → ⊥
 none_empty kind bytes e (value v rest) b = some_bytes 16 4 v rest (subst (λ x. BeginsWith 16 4 v x rest) e b)
 none_empty kind bytes e (literal c rest) b = let is = sym e ∙ b.1 in cc
@@ -77,12 +77,12 @@ dropped zero xs = omega arith
 dropped (suc n) [] = omega arith
 dropped (suc n) (x ∷ xs) = let h = dropped n xs in omega arith
 
--- what holds where there is no value, by what does
+-- what holds if there is no value, by what does
 pub none_by : {T P Q : Type 0} (o : Option T) → (P → Q) → IfNone o P → IfNone o Q
 none_by None f p = f p
 none_by (Some x) f p = p
 
--- what lies behind a node is shorter than the bytes
+-- what lies after a node is shorter than the bytes
 pub literal_shorter : (kind : Kind) (c : ℕ) (rest bytes : List ℕ) → Begins kind bytes (literal c rest) → length rest < length bytes
 literal_shorter kind c rest bytes b = omega (arith, ap length b.1)
 

@@ -122,7 +122,7 @@ offset_before edges width i behind some within = number_same width 0 (edges - 1)
     ∙ sym (get_or-take (width * (edges - 1)) (drop edges behind) (i - 1 + k * (edges - 1)) 0 inside ∙ get_or-drop edges behind (i - 1 + k * (edges - 1)) 0)
     ))
 
--- and one behind it, with what stands behind the offsets
+-- and one after it, with what stands after the offsets
 pub offset_next : (edges width i : ℕ) (behind : List ℕ) → i < edges - 1 → number_from 0 width (edges - 1) i (drop edges behind) ≡ offset_in edges width behind i
 offset_next edges width i behind within = number_same width 0 (edges - 1) i i (drop edges behind) (take (width * (edges - 1)) (drop edges behind)) (λ k h. (
     let blocks : (k + 1) * (edges - 1) ≤ width * (edges - 1) = mul-le-mul_right (edges - 1) (omega arith) in
@@ -141,7 +141,7 @@ pub got : (r : Option (Bor (List ℕ))) (xs : List ℕ) (from to : ℕ) → IsGe
 got None xs from to g low high = let h = g.1 (low, high) in absurd (cc)
 got (Some x) xs from to g low high = g.0.2
 
--- Behind n edges stand the offsets of the targets, at w bytes each, and the targets.
+-- After n edges stand the offsets of the targets, at w bytes each, and the targets.
 pub record HasTargets (targets : List (List ℕ)) (n w : ℕ) (behind : List ℕ) : Type 0 where
   pub count : length targets ≡ n
   pub enough : length (concat targets) < 256 ^ w

@@ -68,7 +68,7 @@ pub record OpensBranch {kind : Kind} {bytes : List ℕ} {pairs : Pairs} (text : 
   pub opens : Opens text edges targets
   pub holds : Holds kind edges targets n w table behind
 
--- the bytes behind the head of a branch
+-- the bytes after the head of a branch
 abbrev pub body_of : {kind : Kind} {edges : List ℕ} {targets : List (List ℕ)} {bytes : List ℕ} → IsBranch kind edges targets bytes → List ℕ
 body_of {targets = targets} b = b.table ++ (blocks (b.width + 1) (offsets targets) ++ concat targets)
 
@@ -212,7 +212,7 @@ nothing_listed (span {rest = rest} run h some high s n f text) e =
 nothing_listed (branch {edges = edges} i each) e =
     absurd (some_bytes 32 3 _ (body_of i) (subst (λ x. BeginsWith 32 3 (256 * i.width + length edges % 256) x (body_of i)) e (head_begins i)))
 
--- where no node begins, nothing is listed
+-- if no node begins, nothing is listed
 pub no_node : {kind : Kind} {bytes : List ℕ} {pairs : Pairs} → (text : Lists kind bytes pairs) → ((s : Shape) → Begins kind bytes s → ⊥) → HasNothing text
 no_node nothing none = record { is = refl; counts = λ key. refl }
 no_node (value {v = v} {spelling = spelling} {rest = rest} s n text) none = absurd (none (shapes.Shape.value v rest) (record { spelling = spelling; spells = s; bytes_are = refl }))

@@ -51,7 +51,7 @@ above_middle kind xs b mid k up h is low = elim (cases_lt k mid) [
   | inr more ↦ more
 ]
 
--- where no hash is asked, the table is sorted
+-- if no hash is asked, the table is sorted
 sorted_rises : (kind : Kind) (edges table : List ℕ) → IsTable kind edges table → (is_hashed kind (length edges) ≡ true → length edges < length table → ⊥) → AlwaysRises kind edges
 sorted_rises kind edges table (sorted plain up) none = rises_at kind edges (table_rises plain (sorted plain up))
 sorted_rises kind edges table (hashed {qs = qs} wide perfect) none = absurd (none wide (let all = length-append qs edges in let n = perfect.a_q_each in omega arith))
@@ -64,7 +64,7 @@ none_sorted kind n b behind edges table None front count plain none = λ is k h 
     none up k (omega arith) (ap (λ x. fold_byte kind (get_or x k 0)) front ∙ ap (fold_byte kind) (get_or-take n behind k 0 h) ∙ e)
     )
 
--- a place is below the number of places, for which 0 stands where there are 256
+-- a place is below the number of places, for which 0 stands if there are 256
 place_within : (b q m n : ℕ) → b < 256 → (m ≡ 0 → 256 ≤ n) → m ≤ n → f2 b q m < n
 place_within b q zero n byte whole h = let all = whole refl in omega arith
 place_within b q (suc m) n byte whole h = omega arith
@@ -106,7 +106,7 @@ none_hashed kind b edges table long none (hashed {p = p} {qs = qs} wide perfect)
     let keeps = spans_fold kind (hashed_spans kind (length edges) wide) in
     none p qs edges refl perfect k h (sym (keeps (get_or edges k 0)) ∙ same ∙ keeps b)
 
--- where a hashed table answers none, it has none
+-- if a hashed table answers none, it has none
 pub hashed_none : (kind : Kind) (n b : ℕ) (behind table : List ℕ) (r : Option ℕ) → n ≤ length behind → n < length table
     → ((p : ℕ) (qs keys : List ℕ) → table ≡ p ∷ (qs ++ keys) → IsPerfect p qs keys → (i : ℕ) → (r ≡ Some i) ↔ ((i < length keys) × (get_or keys i 0 ≡ b)))
     → IfNone r (IsTable kind (take n behind) table → HasNoPlace kind n behind b)

@@ -129,7 +129,7 @@ head_is head = elim (cases_eq (head % 256) 0) [
   | inr some ↦ rw (ne_eqb (head % 256) 0 some) (omega arith, omega arith)
 ]
 
--- what is read begins the bytes, where it is below 2 ^ 64
+-- what is read begins the bytes, if it is below 2 ^ 64
 abbrev IsReadOf : ℕ → ℕ → List ℕ → Option (ℕ × List ℕ) → Type 0
 IsReadOf L lead rest = InSome (λ r. r.0 < 2 ^ 64 → BeginsWith L (lead / (2 * L)) r.0 (lead ∷ rest) r.1)
 
@@ -198,11 +198,11 @@ node_found kind (lead ∷ rest) bytes =
     (λ spans. as_span_so kind lead rest (number_read 16 lead rest) spans (let a = ltb-false lead 160 from160 in let b = ltb-true lead 192 low in omega arith) (read_of_bytes 16 lead rest (omega arith) more)) (λ _. tt))
     (λ from192. as_branch_so kind lead rest (number_read 32 lead rest) (let a = ltb-false lead 192 from192 in omega arith) (read_of_bytes 32 lead rest (omega arith) more))))
 
--- where no node begins, none is read
+-- if no node begins, none is read
 pub none_begun : (kind : Kind) (bytes : List ℕ) → IsBytes bytes → ((s : Shape) → Begins kind bytes s → ⊥) → node_of kind bytes ≡ None
 none_begun kind bytes is none = by_option (λ r. InSome (Begins kind bytes) r → r ≡ None) (node_of kind bytes) (λ _ _. refl) (λ s _ b. absurd (none s b)) (node_found kind bytes is)
 
--- what stands behind a node is shorter than n bytes; with the edges, a branch and its targets are
+-- what stands after a node is shorter than n bytes; with the edges, a branch and its targets are
 abbrev pub Within : ℕ → Shape → Type 0
 Within n (value v rest) = length rest < n
 Within n (literal b rest) = length rest < n

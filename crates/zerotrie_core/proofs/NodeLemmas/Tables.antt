@@ -1,4 +1,4 @@
--- The table of a branch: its edges have distinct folds, and where it is sorted they rise.
+-- The table of a branch: its edges have distinct folds, and if it is sorted, they rise.
 use Rattle.std.proofs.Common.{◌≡◌, ℕ, zero, suc, ◌+◌, ◌*◌, ◌%◌, ◌<◌, ◌≤◌, List, [], ◌∷◌, ◌++◌, length, refl, sym, ◌∙◌, ap, subst, arith, get_or, map, Bool, true, false, cond, drop, length-append}
 use Rattle.std.specs.List.{slice_index}
 use Rattle.std.proofs.lemmas.List.{drop_at}
@@ -101,7 +101,7 @@ not_placed kind place x from (e ∷ es) keeps before at = (
   not_placed kind place x (suc from) es keeps (omega arith) (λ i h. let later = at (suc i) (omega arith) in omega arith),
 )
 
--- keys with places of their own are distinct, where case is kept
+-- keys with places of their own are distinct, if case is kept
 placed_distinct : (kind : Kind) (place : ℕ → ℕ) (from : ℕ) (es : List ℕ) → ((b : ℕ) → fold_byte kind b ≡ b) → ((i : ℕ) → i < length es → place (slice_index es i) ≡ from + i) → Distinct kind es
 placed_distinct kind place from [] keeps at = tt
 placed_distinct kind place from (e ∷ es) keeps at = (

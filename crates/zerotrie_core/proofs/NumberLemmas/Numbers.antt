@@ -8,7 +8,7 @@ use Rattle.std.proofs.lemmas.List.{drop_all}
 use Rattle.std.proofs.lemmas.Bool.{ltb-true, ltb-false, lt-ltb, le-ltb, eqb-true, eqb-false, ne_eqb}
 use Rattle.zerotrie_core.specs.Numbers.{IsTrail, base_128, latent, extender, BeginsWith}
 
--- what a reader finds behind the digit a
+-- what a reader finds after the digit a
 abbrev pub read_from : ℕ → ℕ → List ℕ → Option (ℕ × List ℕ)
 read_from L a [] = None
 read_from L a (t ∷ ts) = cond (ltb t 128) (Some (128 * a + t % 128 + L, ts)) (read_from L (128 * a + t % 128 + L) ts)
@@ -155,7 +155,7 @@ read_grows_more L a v t ts after e =
       | inr h ↦ let more = read_grows L (128 * a + t % 128 + L) v ts after h.1 in omega arith
     ]
 
--- no number below 2 ^ 64 is spelled where the bytes so far give too much
+-- no number below 2 ^ 64 is spelled if the bytes so far give too much
 pub too_large : (L start a i : ℕ) (rest : List ℕ) → (start / L % 2 ≡ 0 → ⊥) → read_from L a (drop i rest) ≡ read_from L (start % L) rest → 2 ^ 64 ≤ 128 * a
     → (metadata v : ℕ) (after : List ℕ) → BeginsWith L metadata v (start ∷ rest) after → ⊥
 too_large L start a i rest on same large metadata v after b =

@@ -35,7 +35,7 @@ pub some_long : (pairs : Pairs) → (pairs ≡ [] → ⊥) → 0 < length pairs
 some_long [] some = absurd (some refl)
 some_long (e ∷ pairs) some = omega arith
 
--- a branch that is too wide behind a byte
+-- a branch that is too wide after a byte
 pub too_wide_front : (b : ℕ) (pairs behind : Pairs) → residual b pairs ≡ behind → Overflows behind → Overflows pairs
 too_wide_front b pairs behind e w = (b ∷ w.0, subst (OverflowsAt simple_ascii w.0) (sym e) w.1)
 
@@ -333,7 +333,7 @@ grown_start all edge_bytes starts target_bytes a b c none up ascii =
 pub refused_up : (all p : Pairs) (e : ZeroTrieBuildError) → (Overflows p → Overflows all) → CannotWrite p e → CannotWrite all e
 refused_up all p e up r = elim r [ inl memory ↦ inl memory | inr wide ↦ inr (wide.0, up wide.1) ]
 
--- where no pairs are left, the text is whole
+-- if no pairs are left, the text is whole
 pub leads_end : (before out : List ℕ) (all left : Pairs) → left ≡ [] → WritesFront before all out left → Writes before out all
 leads_end before out all left none l = l.finish out (subst (Writes out out) (sym none) (writes_nothing out))
 

@@ -24,7 +24,7 @@ no_item = (record { ref_ptr = (0, 0); now = [] }, 0)
 abbrev pub key_at : Items → ℕ → List ℕ
 key_at items i = (get_or items i no_item).0.now
 
--- the first so many keys ascend
+-- the first n keys ascend
 abbrev pub AscendsTo : ℕ → Items → Type 0
 AscendsTo n items = (i : ℕ) → suc i < n → slice_cmp nat_cmp (key_at items i) (key_at items (suc i)) ≡ Less
 
@@ -98,13 +98,3 @@ ascends_more items n one h here i l =
 pub ascends_not : (items : Items) (n : ℕ) → 1 ≤ n → n < length items → (slice_cmp nat_cmp (key_at items (n - 1)) (key_at items n) ≡ Less → ⊥) → Ascends (pairs_of items) → ⊥
 ascends_not items zero one h wrong up = absurd (omega arith)
 ascends_not items (suc n) one h wrong up = let e : suc n - 1 ≡ n = omega arith in wrong (subst (λ k. slice_cmp nat_cmp (key_at items k) (key_at items (suc n)) ≡ Less) (sym e) (ascends_at items up n h))
-
--- a width is the least where the width below it is not enough
-pub width_between : (total w : ℕ) → 256 ^ suc w ≤ total → total < 256 ^ suc (suc w) → IsWidth total (suc w)
-width_between total w low high = record {
-  enough = (let e : suc w + 1 ≡ suc (suc w) = omega arith in subst (λ k. total < 256 ^ k) (sym e) high);
-  least = λ x h. elim (cases_lt x (suc w)) [
-    | inl less ↦ let more : x + 1 ≤ suc w = omega arith in let up : 256 ^ (x + 1) ≤ 256 ^ suc w = pow-le-pow_right (lit< tt) more in absurd (omega arith)
-    | inr enough ↦ enough
-  ];
-}

@@ -25,7 +25,7 @@ some_run : (run : List ℕ) → (run ≡ [] → ⊥) → 1 ≤ length run
 some_run [] some = absurd (some refl)
 some_run (b ∷ run) some = omega arith
 
--- the key is longer than what it has behind a run
+-- the key is longer than what it has after a run
 run_few : (n : List ℕ → ℕ) → ((key : List ℕ) → n key ≤ 2 * length key + 1) → (run key : List ℕ) → (run ≡ [] → ⊥) → option_map_or n (after_run run key) 0 ≤ 2 * length key - 1
 run_few n few run key some = go (after_run run key) refl
   where

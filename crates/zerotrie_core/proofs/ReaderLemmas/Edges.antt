@@ -1,4 +1,4 @@
--- What lies behind a byte of a node.
+-- What lies after a byte of a node.
 use Rattle.std.proofs.Common.{◌≡◌, ℕ, ◌+◌, ◌-◌, ◌*◌, ◌<◌, ◌≤◌, List, [], ◌∷◌, length, sym, ◌∙◌, ap, subst, arith, Some, None, get_or, take, drop}
 use Rattle.std.specs.Borrow.{Bor}
 use Rattle.zerotrie_core.specs.Kind.{Kind, fold_byte}
@@ -16,7 +16,7 @@ use Rattle.zerotrie_core.proofs.NodeLemmas.Offsets.{target_is}
 use Rattle.zerotrie_core.proofs.NodeLemmas.Nodes.{dropped}
 use Rattle.zerotrie_core.proofs.NodeLemmas.Opened.{Opens, held_edge, literal_opens, branch_opens}
 
--- behind an edge stands its target, and a byte that is no edge leads nowhere
+-- after an edge stands its target, and a byte that is no edge leads nowhere
 pub opens_goes : {kind : Kind} {bytes : List ℕ} {pairs : Pairs} {edges : List ℕ} {targets : List (List ℕ)} (text : Lists kind bytes pairs) → (o : Opens text edges targets)
     → (c i : ℕ) → i < length edges → fold_byte kind (get_or edges i 0) ≡ fold_byte kind c → Goes text c (get_or edges i 0) (get_or targets i [])
 opens_goes {kind = kind} {edges = edges} text o c i h same =
@@ -70,7 +70,7 @@ module _ (kind : Kind) (n w : ℕ) (table behind : List ℕ) (c : ℕ) where
       none is_table k inside (ap (fold_byte kind) (sym (held_edge o.holds k inside)) ∙ sym e)
       )))
 
--- a target is no longer than what stands behind the head
+-- a target is no longer than what stands after the head
 pub target_shorter : (n w : ℕ) (behind : List ℕ) (place : ℕ) (r : Bor (List ℕ)) → IsTargetResult n w behind place (Some r) → length r.now ≤ length behind
 target_shorter n w behind place r g =
     let whole = dropped n behind in

@@ -40,7 +40,7 @@ common_fewer kind bytes key n m common few = record {
   same = λ k h. common.same k (omega arith);
 }
 
--- the look-up comes behind them
+-- the look-up comes after them
 pub literals_come : (kind : Kind) (n : ℕ) (bytes key : List ℕ) → AreCommon kind bytes key n → AlwaysComes kind bytes key (drop n bytes) (drop n key) n
 literals_come kind zero bytes key common = comes_nowhere kind bytes key
 literals_come kind (suc n) [] key common = absurd (omega (arith, common.within))
@@ -59,7 +59,7 @@ literals_come kind (suc n) (b ∷ rest) (c ∷ after) common =
     subst (AlwaysComes kind (b ∷ rest) (c ∷ after) (drop n rest) (drop n after)) (omega arith)
     (comes_more kind (b ∷ rest) (c ∷ after) rest after (drop n rest) (drop n after) 1 n goes (literals_come kind n rest after less))
 
--- and behind the first one, that was told apart
+-- and after the first one, that was told apart
 pub literal_run : (kind : Kind) (b c : ℕ) (rest key after : List ℕ) (more : ℕ) → key ≡ c ∷ after → fold_byte kind b ≡ fold_byte kind c → AreCommon kind rest after more
     → NodeGoes kind (literal b rest) key (drop more rest) (drop more after) (1 + more)
 literal_run kind b c rest key after more e same common bytes begins =

@@ -44,7 +44,7 @@ value_goes kind v rest (c ∷ key) some bytes begins = (
       ),
 )
 
--- it goes on behind the run of a span
+-- it goes on after the run of a span
 after_run-append : (run after : List ℕ) → after_run run (run ++ after) ≡ Some after
 after_run-append [] after = refl
 after_run-append (b ∷ run) after = rw (eq-eqb b b refl) (after_run-append run after)
@@ -56,7 +56,7 @@ after_run-none run key none = by (after_run run key) refl
     by None e = e
     by (Some after) e = absurd (none after (after_is run key after e))
 
--- a span is found or passed by what the key has behind its run
+-- a span is found or passed by what the key has after its run
 module _ {kind : Kind} {bytes : List ℕ} {pairs : Pairs} (text : Lists kind bytes pairs) (run rest : List ℕ) (h : HasSpan text run rest) (key : List ℕ) (o : Option (List ℕ)) (e : after_run run key ≡ o) where
   span_answers : value_at kind pairs key ≡ option_map_or (λ after. value_at kind h.below after) o None
   span_answers =
@@ -121,7 +121,7 @@ finds_at_end kind bytes key trie rest answer count came ends pairs text =
     let all = c.counts in
     record { answers = c.answers ∙ e.answers; counts = omega arith }
 
--- where no node begins, nothing is found
+-- if no node begins, nothing is found
 pub finds_nothing : (kind : Kind) (bytes key trie rest : List ℕ) (count : ℕ) → AlwaysComes kind bytes key trie rest count → ((s : Shape) → Begins kind trie s → ⊥) → AlwaysFinds kind bytes key None count
 finds_nothing kind bytes key trie rest count came none pairs text =
     let c = came pairs text in

@@ -13,7 +13,7 @@ use Rattle.zerotrie_core.specs.reader.Starts.{AnswersAs, LeadsTo}
 use Rattle.zerotrie_core.proofs.CursorLemmas.Calls.{before_text}
 use Rattle.zerotrie_core.proofs.MapLemmas.Maps.{look-map_of}
 
--- a step leads to what it leaves, where that is a text
+-- a step leads to what it leaves, if that is a text
 pub after_step : (kind : Kind) (bytes : List ℕ) (b : ℕ) (answer : Option ℕ) (place : Place) (rest : List ℕ) → StepsAnswer
     → IsStep kind (ListsAt kind (before_text bytes)) b answer (ListsAt kind place) → ((pairs : Pairs) → ListsAt kind place pairs → Lists kind rest pairs) → LeadsTo kind bytes b rest
 after_step kind bytes b answer place rest law step text key pairs lists =

@@ -29,7 +29,7 @@ part_bytes all at bytes here i = elim (cases_lt i (length at.bytes)) [
   | inr past ↦ subst (λ b. b < 256) (sym (get_or_past at.bytes i 0 past)) (omega arith)
 ]
 
--- what ends a part stands behind it
+-- what ends a part stands after it
 after_there : (all : List ℕ) (at : Part) (rest : List ℕ) → IsPartOf all at → EndsWith at.bytes rest → IsPartOf all (after_node at rest)
 after_there all at rest here ends =
     let len = ends_len at.bytes rest ends in
@@ -67,7 +67,7 @@ targets_there all at n w behind (suc k) here =
 one_there : (all : List ℕ) (at : Part) (rest : List ℕ) → IsPartOf all at → EndsWith at.bytes rest → All (IsPartOf all) (after_node at rest ∷ [])
 one_there all at rest here ends = All-cons (IsPartOf all) (after_node at rest) [] (after_there all at rest here ends) (All-nil (IsPartOf all))
 
--- what follows a node stands behind it
+-- what follows a node stands after it
 behind_there : (kind : Kind) (all : List ℕ) (at : Part) (s : Shape) → IsPartOf all at → Begins kind at.bytes s → All (IsPartOf all) (parts_behind at s)
 behind_there kind all at (shapes.Shape.value v rest) here b = one_there all at rest here (value_end kind at.bytes rest v b)
 behind_there kind all at (shapes.Shape.literal c rest) here b = one_there all at rest here (c ∷ [], b.1)

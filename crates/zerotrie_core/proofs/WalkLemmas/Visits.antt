@@ -51,7 +51,7 @@ no_bytes : (bytes : List ℕ) → length bytes ≤ 0 → bytes ≡ []
 no_bytes [] h = refl
 no_bytes (b ∷ bytes) h = absurd (omega arith)
 
--- where there are no bytes there is no node
+-- if there are no bytes, there is no node
 nothing_first : (f : Part → List Visit) (kind : Kind) (at : Part) → length at.bytes ≤ 0 → of_first f at (node_of kind at.bytes) ≡ []
 nothing_first f kind at h = ap (λ bytes. of_first f at (node_of kind bytes)) (no_bytes at.bytes h)
 
@@ -109,7 +109,7 @@ turned f old new turn more len added is turns =
     ∙ ap (λ x. x ++ map f (reverse (take len new))) last
     ∙ ap (λ x. more ++ x) (map-reverse f (take len new) ∙ ap reverse front ∙ sym (map-reverse f old))
 
--- what a node has behind it is no longer than its bytes
+-- what a node has after it is no longer than its bytes
 pub behind_within : (kind : Kind) (bytes : List ℕ) (s : Shape) → node_of kind bytes ≡ Some s → Within (length bytes) s
 behind_within kind bytes s e = subst (InSome (Within (length bytes))) e (node_within kind bytes)
 
@@ -134,7 +134,7 @@ fallen : (from to len : ℕ) → (to < from) ⊎ (len < to) → from ≤ to → 
 fallen from to len (inl h) low high = omega arith
 fallen from to len (inr h) low high = omega arith
 
--- where the offsets of a target fall there is no more
+-- if the offsets of a target fall, there is no more
 pub parts_fall : (at : Part) (n w : ℕ) (behind : List ℕ) (i : ℕ) → i < n → IsTargetResult n w behind i None → target_parts at n w behind (n - i) ≡ []
 parts_fall at n w behind i h g =
     let out : is_in_order n w behind i ≡ false = not_true (is_in_order n w behind i) (λ e. let bounds = order_is n w behind i e in fallen _ _ _ g.0 bounds.0 bounds.1) in
@@ -163,7 +163,7 @@ target_read at n w behind i t h g =
       first = parts_at at n w behind i h ∙ rw (is_order n w behind i low high) refl;
     }
 
--- and the part behind it begins there
+-- and the part after it begins there
 pub next_target : (n w : ℕ) (behind : List ℕ) (i j begin len : ℕ) → j ≡ i + 1 → j < n → begin ≡ begin_of n w behind i → begin_of n w behind i + len ≡ end_of n w behind i → begin + len ≡ begin_of n w behind j
 next_target n w behind i j begin len next h is ends =
     let sum : begin + len ≡ begin_of n w behind i + len = ap (λ b. b + len) is in
@@ -187,12 +187,12 @@ part_is at n w behind i place edge bytes p e b =
     ap (λ x. made at x edge bytes) p ∙ ap (λ x. made at (targets_place at n w behind + begin_of n w behind i) x bytes) e
     ∙ ap (λ x. made at (targets_place at n w behind + begin_of n w behind i) (slice_index behind i) x) b
 
--- Of so many bytes at most so many nodes.
+-- Of n bytes at most n nodes.
 module _ (f : Part → List Visit) (most : (p : Part) → length (f p) ≤ length p.bytes) (at : Part) (n w : ℕ) (behind : List ℕ) where
   abbrev nodes_from : ℕ → ℕ
   nodes_from k = length (of_parts f (target_parts at n w behind k))
 
-  -- behind target number n - suc k the next one begins, if there is one
+  -- after target number n - suc k the next one begins, if there is one
   later_most : (k : ℕ) → suc k ≤ n → nodes_from k ≤ length (targets_behind n w behind) - begin_of n w behind (n - k) → nodes_from k ≤ length (targets_behind n w behind) - end_of n w behind (n - suc k)
   later_most zero h more = omega arith
   later_most (suc k) h more =

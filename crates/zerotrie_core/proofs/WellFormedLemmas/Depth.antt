@@ -117,7 +117,7 @@ each_from kind (e ∷ edges) (t ∷ targets) n h =
     let more = each_from kind edges targets (omega arith) (λ i l. h (suc i) (omega arith)) in
     (_, edge first.0 first.1.1 more.1)
 
--- where no node begins, there are no bytes, and one call is open
+-- if no node begins, there are no bytes, and one call is open
 pub deep_no_node : {kind : Kind} {bytes : List ℕ} {pairs : Pairs} (text : Lists kind bytes pairs) → ((s : Shape) → Begins kind bytes s → ⊥) → (bytes ≡ []) × (deep text ≡ 1)
 deep_no_node nothing none = (refl, refl)
 deep_no_node (value {v = v} {spelling = spelling} {rest = rest} s n text) none = absurd (none (shapes.Shape.value v rest) (record { spelling = spelling; spells = s; bytes_are = refl }))

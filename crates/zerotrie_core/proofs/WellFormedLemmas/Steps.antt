@@ -82,7 +82,7 @@ span_reduces kind run rest some high bytes b = record {
 pub span_high : (kind : Kind) (run rest bytes : List ℕ) → Begins kind bytes (shapes.Shape.span run rest) → IsText kind bytes → (run ≡ [] → ⊥) × AreHigh run
 span_high kind run rest bytes b text = let leads = leads_span text.1 run rest b.1 in (leads.some, leads.high)
 
--- what each node may stand behind
+-- what each node may stand after
 pub value_first : (v : ℕ) (bytes rest : List ℕ) → BeginsWith 16 4 v bytes rest → (bytes ≡ [] → ⊥) × NoSpanFirst bytes × (NoValueFirst bytes → ⊥)
 value_first v [] rest b = absurd (some_bytes 16 4 v rest b)
 value_first v (lead ∷ more) rest b = let is = value_begins v lead more rest b in (λ e. cc, λ five. omega arith, λ not. not (omega arith))
@@ -152,7 +152,7 @@ literals_reduces kind (suc (suc n)) (b ∷ []) some within low = absurd (omega a
 literals_reduces kind (suc (suc n)) (b ∷ c ∷ rest) some within low =
     reduces_more (literal_reduces kind b (c ∷ rest) (b ∷ c ∷ rest) (low zero (omega arith), refl)) (λ e. cc) (literals_reduces kind (suc n) (c ∷ rest) (omega arith) (omega arith) (λ k h. low (suc k) (omega arith)))
 
--- no node begins where nothing is
+-- if there is nothing, no node begins
 pub no_bytes : (kind : Kind) (s : Shape) → Begins kind [] s → ⊥
 no_bytes kind (shapes.Shape.value v rest) b = some_bytes 16 4 v rest b
 no_bytes kind (shapes.Shape.literal c rest) b = let e = b.1 in cc

@@ -1,4 +1,4 @@
--- What lies behind a branch, target by target.
+-- What lies after a branch, target by target.
 use Rattle.std.proofs.Common.{◌≡◌, ℕ, zero, suc, ◌+◌, ◌-◌, ◌*◌, ◌^◌, ◌<◌, ◌≤◌, List, [], length, ◌∷◌, refl, sym, ◌∙◌, ap, subst, arith, get_or, take, drop, inl, inr, Option}
 use Rattle.std.specs.Prelude.{max, ◌⊎◌}
 use Rattle.std.specs.Option.{IsSomeAnd}

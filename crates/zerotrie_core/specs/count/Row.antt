@@ -3,7 +3,7 @@ use Rattle.std.specs.Prelude.{ℕ, List}
 use Rattle.zerotrie_core.specs.Nodes.{Shape, targets_behind}
 use Rattle.zerotrie_core.specs.Nodes.Shape.{value, literal, span, branch}
 
--- what stands behind a node in the row
+-- what stands after a node in the row
 abbrev pub row_behind : Shape → List ℕ
 row_behind (value v rest) = rest
 row_behind (literal b rest) = rest

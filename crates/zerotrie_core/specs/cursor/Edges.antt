@@ -15,7 +15,7 @@ use Rattle.zerotrie_core.specs.declared.edges.Along as declared
 abbrev pub NoValue : List ℕ → Type 0
 NoValue bytes = (v : ℕ) (rest : List ℕ) → BeginsWith 16 4 v bytes rest → ⊥
 
--- Whatever the bytes list, the rest lists pairs with the same edges, and the same behind each.
+-- Whatever the bytes list, the rest lists pairs with the same edges, and the same after each.
 abbrev pub HasTheEdges : Kind → List ℕ → List ℕ → Type 0
 HasTheEdges kind bytes rest = (pairs : Pairs) → Lists kind bytes pairs
     → (below : Pairs) × Lists kind rest below × (met below ≡ met pairs) × ((edge : Option ℕ) → behind edge below ≡ behind edge pairs)

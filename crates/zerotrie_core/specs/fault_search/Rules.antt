@@ -11,7 +11,7 @@ use Rattle.zerotrie_core.specs.walk.Visits.{Part, parts_behind}
 use Rattle.zerotrie_core.specs.declared.well_formed.Expected.{Expected}
 use Rattle.zerotrie_core.specs.declared.well_formed.Expected.TheVariants.{Anything, NoValue, NoSpan, Something}
 
--- what stands before bytes where this may stand next
+-- what stands before bytes if this may stand next
 abbrev pub before_of : Expected → Before
 before_of Anything = nothing
 before_of NoValue = a_value
@@ -29,7 +29,7 @@ expected_after (branch n w table behind) = Something
 abbrev pub AlwaysFails : Kind → Before → Shape → FaultCause → Type 0
 AlwaysFails kind before node cause = (bytes : List ℕ) → Begins kind bytes node → Fails kind before bytes cause
 
--- a node keeps the rules, where so much may stand
+-- a node keeps the rules at a place where this may stand
 abbrev pub Keeps : Kind → Expected → Shape → Type 0
 Keeps kind expected (value v rest) = expected ≢ NoValue
 Keeps kind expected (literal b rest) = Unit {0}

@@ -12,7 +12,7 @@ abbrev pub trail_read : ℕ → ℕ → List ℕ → Option (ℕ × List ℕ)
 trail_read L a [] = None
 trail_read L a (t ∷ ts) = let more = 128 * a + t % 128 + L in if nat_lt t 128 then Some (more, ts) else trail_read L more ts
 
--- the number at the front of the bytes behind its lead
+-- the number at the front of the bytes after its lead
 abbrev pub number_read : ℕ → ℕ → List ℕ → Option (ℕ × List ℕ)
 number_read L lead rest = if lead / L % 2 == 0 then Some (lead % L, rest) else trail_read L (lead % L) rest
 
@@ -21,12 +21,12 @@ abbrev pub as_value : Option (ℕ × List ℕ) → Option Shape
 as_value None = None
 as_value (Some r) = if nat_lt r.0 (2 ^ 64) then Some (value r.0 r.1) else None
 
--- a span of so many bytes, where they are there
+-- a span of this many bytes, if they are there
 abbrev pub as_span : Option (ℕ × List ℕ) → Option Shape
 as_span None = None
 as_span (Some r) = if nat_lt r.0 (2 ^ 64) && nat_le r.0 (length r.1) then Some (span (take r.0 r.1) (drop r.0 r.1)) else None
 
--- whether a kind has branches of so many edges and this width, and the body has the table and the offsets
+-- whether a kind has branches of this many edges and this width, and the body has the table and the offsets
 abbrev pub is_whole : Kind → ℕ → ℕ → List ℕ → Bool
 is_whole kind edges width body =
     nat_le 2 edges && nat_le width (greatest_width kind + 1) && nat_le (table_size kind edges + width * (edges - 1)) (length body)

@@ -7,11 +7,11 @@ use Rattle.zerotrie_core.specs.Listings.{Left, to_come, over}
 use Rattle.zerotrie_core.specs.listing.Listed.{listed, of_targets}
 use Rattle.zerotrie_core.specs.declared.stream.opened.OpenBranch.{OpenBranch}
 
--- the pairs behind an open branch from its next edge on
+-- the pairs after an open branch from its next edge on
 abbrev pub pairs_behind : Kind → OpenBranch → Pairs
 pairs_behind kind o = of_targets (listed kind) o.edges o.width o.behind.now (o.edges - o.next)
 
--- the pairs behind open branches, the innermost first: what is in front of a branch is a beginning of the prefix
+-- the pairs after open branches, the innermost first: what is in front of a branch is a beginning of the prefix
 abbrev pub pairs_open : Kind → List ℕ → List OpenBranch → Pairs
 pairs_open kind prefix [] = []
 pairs_open kind prefix (o ∷ branches) = let front = take o.depth prefix in with_run front (pairs_behind kind o) ++ pairs_open kind front branches
@@ -23,18 +23,18 @@ pairs_left kind prefix rest branches = with_run prefix (listed kind rest) ++ pai
 abbrev pub left_in : Bool → Kind → List ℕ → List ℕ → List OpenBranch → Left
 left_in ended kind prefix rest branches = if ended then over else to_come (pairs_left kind prefix rest branches)
 
--- An open branch stands behind a beginning of the prefix, and knows where its next target begins, if one is left.
+-- An open branch stands after a beginning of the prefix, and knows where its next target begins, if one is left.
 pub record IsOpen (depth : ℕ) (o : OpenBranch) : Type 0 where
   pub low : o.depth ≤ depth
   pub inside : o.next ≤ o.edges
   pub begins : o.next < o.edges → o.begin ≡ begin_of o.edges o.width o.behind.now o.next
 
--- each open branch has a target left, and inner ones stand behind no shorter beginning
+-- each open branch has a target left, and inner ones stand after no shorter beginning
 abbrev pub Nested : ℕ → List OpenBranch → Type 0
 Nested depth [] = Unit {0}
 Nested depth (o ∷ branches) = IsOpen depth o × (o.next < o.edges) × Nested o.depth branches
 
--- the same, where the innermost one may have none left
+-- the same, if the innermost one may have none left
 abbrev pub Stands : ℕ → OpenBranch → List OpenBranch → Type 0
 Stands depth top branches = IsOpen depth top × Nested top.depth branches
 

@@ -10,7 +10,7 @@ use Rattle.zerotrie_core.specs.Items.{Items}
 use Rattle.zerotrie_base.specs.declared.error.ZeroTrieBuildError.{ZeroTrieBuildError}
 use Rattle.zerotrie_base.specs.declared.error.ZeroTrieBuildError.TheVariants.{CapacityExceeded, OutOfMemory}
 
--- the pairs of a slice of items, each key without so many first bytes
+-- the pairs of a slice of items, each key without this many first bytes
 abbrev pub pairs_from : ℕ → Items → Pairs
 pairs_from depth items = map (λ e. (drop depth e.0.now, e.1)) items
 
@@ -62,7 +62,7 @@ pub record Writes (before after : List ℕ) (pairs : Pairs) : Type 0 where
   pub lists : Lists simple_ascii text pairs
   pub is : after ≡ before ++ text
 
--- The first nodes of a text of all the pairs were appended: where a text of those left follows, it is whole.
+-- The first nodes of a text of all the pairs were appended: if a text of those left follows, it is whole.
 pub record WritesFront (before : List ℕ) (all : Pairs) (out : List ℕ) (left : Pairs) : Type 0 where
   pub finish : (after : List ℕ) → Writes out after left → Writes before after all
   pub wide : Overflows left → Overflows all

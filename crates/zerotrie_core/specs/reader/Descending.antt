@@ -10,7 +10,7 @@ use Rattle.zerotrie_core.specs.declared.reader.Descent.TheVariants.{Answer, Down
 abbrev pub NodeEnds : Kind → Shape → List ℕ → Option ℕ → Type 0
 NodeEnds kind node key answer = (bytes : List ℕ) → Begins kind bytes node → AlwaysFinds kind bytes key answer 1
 
--- it goes on behind the node, so many nodes further
+-- it goes on after the node, this many nodes further
 abbrev pub NodeGoes : Kind → Shape → List ℕ → List ℕ → List ℕ → ℕ → Type 0
 NodeGoes kind node key rest after count =
     (bytes : List ℕ) → Begins kind bytes node

@@ -1,4 +1,4 @@
--- What lies behind a byte of a text.
+-- What lies after a byte of a text.
 use Rattle.std.specs.Prelude.{◌≡◌, ℕ, ◌+◌, List, ◌∷◌, Some, None}
 use Rattle.zerotrie_core.specs.Kind.{Kind}
 use Rattle.zerotrie_core.specs.Maps.{Pairs, value_at, residual}
@@ -6,7 +6,7 @@ use Rattle.zerotrie_core.specs.Texts.{Lists, nodes}
 use Rattle.zerotrie_core.specs.Nodes.{Shape, Begins}
 use Rattle.zerotrie_core.specs.Cursors.{met, edge_like}
 
--- The rest lists the pairs behind the edge b, which is the byte c to the kind.
+-- The rest lists the pairs after the edge b, which is the byte c to the kind.
 pub record Goes {kind : Kind} {bytes : List ℕ} {pairs : Pairs} (text : Lists kind bytes pairs) (c b : ℕ) (rest : List ℕ) : Type 0 where
   pub edge : edge_like kind c (met pairs) ≡ Some b
   pub below : Pairs

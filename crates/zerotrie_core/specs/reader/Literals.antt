@@ -9,6 +9,6 @@ pub record AreCommon (kind : Kind) (bytes key : List ℕ) (n : ℕ) : Type 0 whe
   pub literal : (k : ℕ) → k < n → slice_index bytes k < 128
   pub same : (k : ℕ) → k < n → fold_byte kind (slice_index bytes k) ≡ fold_byte kind (slice_index key k)
 
--- of so many bytes, those from one place to another are literals and the bytes of the key
+-- of this many bytes, those from one place to another are literals and the bytes of the key
 abbrev pub AreSame : List ℕ → List ℕ → ℕ → ℕ → ℕ → Type 0
 AreSame bytes key end from to = (k : ℕ) → k < end → from ≤ k → k < to → (slice_index bytes k < 128) × (slice_index bytes k ≡ slice_index key k)

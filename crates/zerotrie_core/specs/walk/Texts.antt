@@ -29,7 +29,7 @@ visit place depth above by bytes node =
     record { part = record { place = place; depth = depth; above = above; edge = by; bytes = bytes }; node = node }
 
 abbrev mutual
-  -- the nodes of a text that stands at this place, behind so many branches, after this node and behind this edge
+  -- the nodes of a text that stands at this place, below this many branches, after this node and after this edge
   pub text_visits : {kind : Kind} {bytes : List ℕ} {pairs : Pairs} → Lists kind bytes pairs → ℕ → ℕ → Option ℕ → Option ℕ → List Visit
   text_visits nothing place depth above by = []
   text_visits (value {v = v} {spelling = spelling} {rest = rest} s n text) place depth above by =
@@ -41,7 +41,7 @@ abbrev mutual
   text_visits (branch {bytes = bytes} b each) place depth above by =
       visit place depth above by bytes (branch_read b) ∷ target_visits each (place + front_size b) (depth + 1) place
 
-  -- the nodes of targets, of which the first stands at this place, behind the edges of a branch at the place above
+  -- the nodes of targets, of which the first stands at this place, after the edges of a branch at the place above
   pub target_visits : {kind : Kind} {edges : List ℕ} {targets : List (List ℕ)} {pairs : Pairs} → ListEach kind edges targets pairs → ℕ → ℕ → ℕ → List Visit
   target_visits no_edge place depth above = []
   target_visits (edge {e = e} {target = target} n text each) place depth above =

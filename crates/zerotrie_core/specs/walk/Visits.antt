@@ -7,7 +7,7 @@ use Rattle.zerotrie_core.specs.Nodes.Shape.{value, literal, span, branch}
 use Rattle.zerotrie_core.specs.count.Row.{row_behind}
 use Rattle.zerotrie_core.specs.listing.Listed.{node_of, is_in_order, target_of}
 
--- A part of a text from some place on: how many bytes stand before it, how many branches it lies behind, at which place the node
+-- A part of a text from some place on: how many bytes stand before it, how many branches stand above it, at which place the node
 -- stands that it follows, and, in front of a target, the byte of its edge.
 pub record Part : Type 0 where
   pub place : ℕ

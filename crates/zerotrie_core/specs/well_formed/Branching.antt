@@ -15,7 +15,7 @@ AreBytes bytes = (i : ℕ) → slice_index bytes i < 256
 abbrev pub extent : ℕ → ℕ → List ℕ → ℕ → ℕ
 extent n w behind i = end_of n w behind i - begin_of n w behind i
 
--- the first so many targets are not empty, and end within the branch
+-- the first `count` targets are not empty, and end within the branch
 abbrev pub InOrder : ℕ → ℕ → List ℕ → ℕ → Type 0
 InOrder n w behind count =
     (i : ℕ) → i < count → (begin_of n w behind i < end_of n w behind i) × (end_of n w behind i ≤ length (targets_behind n w behind))
@@ -28,7 +28,7 @@ AnswersEach table edges = (i : ℕ) → i < length edges → number_of table (sl
 abbrev pub HasTable : Kind → List ℕ → List ℕ → Type 0
 HasTable kind edges table = IsTable kind edges table × All (λ b. b < edge_limit kind) edges
 
--- Among the first so many targets, the one at the place is the longest, and of equal ones the first.
+-- Among the first `count` targets, the one at the place is the longest, and of equal ones the first.
 pub record IsLongest (n w : ℕ) (behind : List ℕ) (count place : ℕ) : Type 0 where
   pub inside : place < count
   pub most : (i : ℕ) → i < count → extent n w behind i ≤ extent n w behind place

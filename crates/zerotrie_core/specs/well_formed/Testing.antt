@@ -47,7 +47,7 @@ AlwaysNoText kind node = (bytes : List ℕ) → Begins kind bytes node → IsTex
 abbrev pub AlwaysAllowed : Kind → Shape → Expected → Type 0
 AlwaysAllowed kind node expected = (bytes : List ℕ) → Begins kind bytes node → IsAllowed expected bytes
 
--- What a node comes to, where so much was expected.
+-- What a node comes to if this was expected.
 abbrev pub Steps : Kind → Shape → Expected → Step → Type 0
 Steps kind node expected Wrong = (bytes : List ℕ) → Begins kind bytes node → IsAllowed expected bytes → IsText kind bytes → ⊥
 Steps kind node expected Literals =

@@ -7,7 +7,7 @@ ghost use Rattle.std.specs.Prelude.{◌≡◌, ◌+◌, ◌<◌, ◌≤◌, ◌^
 pub struct Part<'a> {
     /// How many bytes stand before it.
     pub place: usize,
-    /// How many branches it lies behind.
+    /// How many branches stand above it.
     pub depth: usize,
     /// The place of the node that it follows. `None` if it is all of the bytes.
     pub above: Option<usize>,

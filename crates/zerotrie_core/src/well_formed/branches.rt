@@ -31,7 +31,7 @@ fn rises<K: ZeroTrieWithOptions>(edges: &[u8]) -> bool
     true
 }
 
-/// Whether the first bytes, so many, rise by their folds.
+/// Whether the first `count` bytes rise by their folds.
 ///
 /// Up to sixteen are held against one another at once, in the kinds that keep case, if there are 17 bytes.
 #[inline(always)]

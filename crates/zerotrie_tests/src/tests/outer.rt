@@ -228,7 +228,7 @@ fn json_is_written(rt: HostRuntime) -> Result<(), Fail> {
     Ok(())
 }
 
-/// Keys of any bytes: text where all are UTF-8, else lists.
+/// Keys of any bytes: text if all are UTF-8, else lists.
 #[test]
 fn json_of_any_keys(rt: HostRuntime) -> Result<(), Fail> {
     let text = ZeroTriePerfectHash::try_from_iter(rt.alloc(), [("ø", 2), ("å", 1)])?;

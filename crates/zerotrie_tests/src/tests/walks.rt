@@ -164,7 +164,7 @@ fn walks_over_all_bytes(rt: HostRuntime) -> Result<(), Fail> {
     Ok(())
 }
 
-/// No answer is promised on such bytes, but there is one, also where a width is claimed that no branch has.
+/// No answer is promised on such bytes, but there is one, also if a width is claimed that no branch has.
 #[test]
 fn walks_return_on_any_bytes(rt: HostRuntime) -> Result<(), Fail> {
     let table: [&[u8]; 11] = [

@@ -26,7 +26,7 @@ HasStateIfAny None (Some s) = ⊥
 HasStateIfAny (Some session) None = ⊥
 HasStateIfAny (Some session) (Some s) = HasState session s
 
--- A command was done, from what was held: it printed what the output has behind the old one.
+-- A command was done, from what was held: it printed what the output has after the old one.
 pub record Performed (command : Command) (held : Option State) (after : Option Session) (old new : List ℕ) (least : ℕ) : Type 0 where
   pub printed : List ℕ
   pub state : Option State
