@@ -7,14 +7,13 @@ use Rattle.std.proofs.lemmas.List.{append-nil, take-append-le, take-append-drop,
 use Rattle.std.proofs.Math.Seq.{take-append-add}
 use Rattle.zerotrie_core.specs.Kind.{Kind}
 use Rattle.zerotrie_core.specs.Maps.{Pairs, with_front, with_run}
-use Rattle.zerotrie_core.specs.Nodes.{Shape, Begins, BeginsBranch, targets_behind, begin_of, end_of, IsTargetResult}
+use Rattle.zerotrie_core.specs.Nodes.{Shape, Begins, targets_behind, begin_of, end_of, IsTargetResult}
 use Rattle.zerotrie_core.specs.Nodes as shapes
 use Rattle.zerotrie_core.specs.Branches.{before_edges}
 use Rattle.zerotrie_core.specs.listing.Listed.{listed, of_node, of_targets, node_of, is_in_order, target_of}
 use Rattle.zerotrie_core.specs.listing.Opened.{pairs_behind, pairs_open, pairs_left, IsOpen, Nested, Stands, work_open, work_left}
 use Rattle.zerotrie_core.specs.listing.Runs.{EndsWith, MovesLiterals}
 use Rattle.zerotrie_core.specs.declared.stream.opened.OpenBranch.{OpenBranch}
-use Rattle.zerotrie_core.proofs.MapLemmas.Spans.{with_run-none}
 use Rattle.zerotrie_core.proofs.ListingLemmas.Nodes.{listed_node, listed_read, order_is, is_order, next_begin}
 use Rattle.zerotrie_core.proofs.NodeLemmas.Read.{InSome, Within, node_within, node_begun}
 

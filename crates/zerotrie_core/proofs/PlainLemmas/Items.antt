@@ -5,9 +5,8 @@ use Rattle.std.specs.Cmp.Lexicographic.{slice_cmp, slice_partial_cmp}
 use Rattle.std.proofs.lemmas.Nat.{pow-add}
 use Rattle.std.proofs.lemmas.Bool.{cases_lt}
 use Rattle.std.proofs.lemmas.List.{take_more, map-append}
-use Rattle.std.proofs.Math.Nat.{pow-suc, pow-le-pow_right}
-use Rattle.std.proofs.Common.{lit<}
-use Rattle.zerotrie_core.specs.Branches.{blocks, IsWidth}
+use Rattle.std.proofs.Math.Nat.{pow-suc}
+use Rattle.zerotrie_core.specs.Branches.{blocks}
 use Rattle.zerotrie_core.specs.Maps.{Ascends}
 use Rattle.zerotrie_core.specs.Items.{Items, pairs_of}
 use Rattle.zerotrie_core.specs.plain.Encoding.{BeginsAll}
