@@ -6,7 +6,7 @@ use Rattle.std.specs.Str.{is_utf8}
 use Rattle.serde_json.specs.View.{items_of}
 use Rattle.serde_json.specs.Written.{compact_text, comma_if, items_text, members_text}
 use Rattle.zerotrie_core.specs.Maps.{Pairs}
-use Rattle.zerotrie_any.specs.Json.{json_of, are_text, members, pair_list}
+use Rattle.zerotrie_any.specs.Json.{are_text, members, pair_list}
 use Rattle.zerotrie_commands.specs.Json.{json_line, item_text, item_texts, opening, closing}
 
 -- an item with its comma goes before the rest

@@ -1,7 +1,7 @@
-use Rattle.std.proofs.Common.{rules, ◌≡◌, ◌∙◌, Ok, true, false, sym}
+use Rattle.std.proofs.Common.{rules, ◌≡◌, ◌∙◌, Ok, true}
 use Rattle.std.specs.Str.{is_utf8}
 use Rattle.zerotrie_commands.proofs.WriteLemmas.{listed_first}
-use Rattle.zerotrie_commands.proofs.JsonLemmas.{text_more, not_text}
+use Rattle.zerotrie_commands.proofs.JsonLemmas.{text_more}
 use Rattle.zerotrie_commands.proofs.json_listing.are_text.Goals as goal
 
 pub loop-pairs-preserved : goal.loop-pairs-preserved
