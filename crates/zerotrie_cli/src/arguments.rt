@@ -9,7 +9,7 @@ static KINDS: [&str; 4] = ["simple", "ignore", "hash", "ext"];
 
 static LANGUAGES: [&str; 3] = ["rust", "c", "rattle"];
 
-static STYLES: [&str; 3] = ["tsv", "keys", "values"];
+static FORMS: [&str; 4] = ["tsv", "keys", "values", "json"];
 
 const GET_HELP: &str = "Example: zerotrie get names.trie amp lt\nIn memory: the file and the keys.";
 
@@ -104,7 +104,7 @@ fn longest_command<'a>(alloc: Global) -> Result<Command<'a>, AllocError> {
 
 fn list_command<'a>(alloc: Global) -> Result<Command<'a>, AllocError> {
     let format = option(alloc, "format", "How pairs are printed")
-        .value_parser(STYLES.as_slice())
+        .value_parser(FORMS.as_slice())
         .default_value("tsv");
     let command = reader(alloc, "list", "Prints the pairs")?
         .arg(option(alloc, "prefix", "Only keys that begin so").value_name("P"))?

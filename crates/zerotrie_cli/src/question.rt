@@ -4,7 +4,7 @@ use crate::arguments::place_in;
 use clap::ArgMatches;
 use std::alloc::{AllocError, Global};
 use zerotrie_code::Language;
-use zerotrie_commands::Style;
+use zerotrie_commands::{Form, Style};
 use zerotrie_queries::TrieKind;
 use zerotrie_run::{Keys, Question, TrieFile};
 use zerotrie_views::View;
@@ -43,11 +43,12 @@ fn keys_of<'w, 'a: 'w>(words: &'w Option<Vec<&'a [u8]>>) -> Keys<'w> {
 }
 
 /// How pairs are to be printed.
-fn style_in(matches: &ArgMatches<'_>) -> Style {
+fn form_in(matches: &ArgMatches<'_>) -> Form {
     match matches.get_str("format") {
-        Some("keys") => Style::Keys,
-        Some("values") => Style::Values,
-        _ => Style::Tsv,
+        Some("keys") => Form::Lines(Style::Keys),
+        Some("values") => Form::Lines(Style::Values),
+        Some("json") => Form::Json,
+        _ => Form::Lines(Style::Tsv),
     }
 }
 
@@ -78,7 +79,7 @@ pub fn question_in<'w, 'a: 'w>(
         }
         _ => {
             let prefix = matches.get_str("prefix").unwrap_or("").as_bytes();
-            Some(Question::List(style_in(matches), prefix))
+            Some(Question::List(form_in(matches), prefix))
         }
     }
 }

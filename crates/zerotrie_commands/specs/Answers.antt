@@ -7,7 +7,7 @@ use Rattle.zerotrie_core.specs.Prefixes.{IsLongestPrefix}
 use Rattle.zerotrie_queries.specs.Kinds.{kind_of}
 use Rattle.zerotrie_queries.specs.Files.{Holds, Explains}
 use Rattle.zerotrie_queries.specs.declared.kind.TrieKind.{TrieKind}
-use Rattle.zerotrie_commands.specs.Printed.{value_lines, found_lines, pair_lines, are_found, status_of}
+use Rattle.zerotrie_commands.specs.Printed.{value_lines, found_lines, listed, are_found, status_of}
 use Rattle.zerotrie_commands.specs.declared.requests.Request.{Request}
 use Rattle.zerotrie_commands.specs.declared.requests.Request.TheVariants as asks
 use Rattle.zerotrie_commands.specs.declared.requests.AnswerError.{AnswerError}
@@ -34,7 +34,7 @@ Belongs kind m pairs (asks.Get keys) output status =
     (output ≡ value_lines answers) × (status ≡ status_of (are_found answers))
 Belongs kind m pairs (asks.Longest texts) output status =
     (all : Bool) × LongestLines kind m (map (λ t. t.now) texts.now) output all × (status ≡ status_of all)
-Belongs kind m pairs (asks.List style prefix) output status = (output ≡ pair_lines style (beginning kind prefix.now pairs)) × (status ≡ 0)
+Belongs kind m pairs (asks.List form prefix) output status = (output ≡ listed form (beginning kind prefix.now pairs)) × (status ≡ 0)
 
 -- The output and the status that belong to a request to a file, whose kind was named or has its number in front.
 pub record Answers (named : Option TrieKind) (file : List ℕ) (request : Request) (output : List ℕ) (status : ℕ) : Type 0 where

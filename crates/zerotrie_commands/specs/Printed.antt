@@ -2,8 +2,11 @@
 use Rattle.std.specs.Prelude.{ℕ, List, [], ◌∷◌, ◌++◌, ◌&&◌, Bool, true, codes, decimal, take, Option, Some, None, is_some, if◌then◌else◌}
 use Rattle.zerotrie_core.specs.Maps.{Pairs}
 use Rattle.zerotrie_lines.specs.Lines.{tsv_line}
+use Rattle.zerotrie_commands.specs.Json.{json_line}
 use Rattle.zerotrie_commands.specs.declared.print.Style.{Style}
 use Rattle.zerotrie_commands.specs.declared.print.Style.TheVariants.{Tsv, Keys, Values}
+use Rattle.zerotrie_commands.specs.declared.print.Form.{Form}
+use Rattle.zerotrie_commands.specs.declared.print.Form.TheVariants.{Lines, Json}
 
 -- the line of an answer
 abbrev pub value_line : Option ℕ → List ℕ
@@ -39,6 +42,11 @@ pair_line Values e = decimal e.1 ++ 10 ∷ []
 abbrev pub pair_lines : Style → Pairs → List ℕ
 pair_lines style [] = []
 pair_lines style (e ∷ pairs) = pair_line style e ++ pair_lines style pairs
+
+-- pairs as they are printed
+abbrev pub listed : Form → Pairs → List ℕ
+listed (Lines style) pairs = pair_lines style pairs
+listed Json pairs = json_line pairs
 
 -- 0 if all was found, and 1 if something was not
 abbrev pub status_of : Bool → ℕ

@@ -2,10 +2,11 @@
 //! begin with, and the pairs.
 #![tactic(auto)]
 
+mod json_listing;
 mod listing;
 mod lookups;
 mod print;
 mod requests;
 
-pub use print::Style;
+pub use print::{Form, Style};
 pub use requests::{AnswerError, Request, answer, answer_trie};

@@ -5,9 +5,10 @@ ghost use Rattle.std.specs.Io.KnownBytes.{Appends};
 ghost use Rattle.zerotrie_core.specs.Maps.{Pairs, beginning};
 ghost use Rattle.zerotrie_core.specs.Texts.{Lists};
 ghost use Rattle.zerotrie_queries.specs.Kinds.{kind_of};
-ghost use Rattle.zerotrie_commands.specs.Printed.{pair_lines};
+ghost use Rattle.zerotrie_commands.specs.Printed.{pair_lines, listed};
 
-use crate::print::{Style, add_pair};
+use crate::json_listing::write_json;
+use crate::print::{Form, Style, add_pair};
 use std::alloc::Global;
 use std::io;
 use std::io::Write;
@@ -35,8 +36,8 @@ fn write_stream<W: Write>(
     }
 }
 
-/// Writes the pairs whose keys begin with a prefix, in the order of the trie. A pair takes no memory of its own.
-pub fn write_list<W: Write>(
+/// Writes the lines of the pairs whose keys begin with a prefix.
+fn write_lines<W: Write>(
     alloc: Global,
     trie: &Trie<'_>,
     style: Style,
@@ -49,4 +50,22 @@ pub fn write_list<W: Write>(
 {
     let mut pairs = trie.stream_prefix(alloc, prefix)?;
     write_stream(alloc, &mut pairs, style, output)
+}
+
+/// Writes the pairs whose keys begin with a prefix, in the order of the trie. A pair takes no memory of its own.
+pub fn write_list<W: Write>(
+    alloc: Global,
+    trie: &Trie<'_>,
+    form: Form,
+    prefix: &[u8],
+    output: &mut W,
+) -> io::Result<()>
+    ensures { OnOk result ((pairs : Pairs) → Lists (kind_of trie.now.kind) trie.now.bytes.now pairs
+        → Appends (W.contents output.old) (W.contents output.new)
+        (listed form (beginning (kind_of trie.now.kind) prefix.now pairs))) }
+{
+    match form {
+        Form::Lines(style) => write_lines(alloc, trie, style, prefix, output),
+        Form::Json => write_json(alloc, trie, prefix, output),
+    }
 }

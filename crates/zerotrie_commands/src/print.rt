@@ -6,7 +6,7 @@ ghost use Rattle.zerotrie_commands.specs.Printed.{value_line, found_line, pair_l
 use std::alloc::AllocError;
 use zerotrie_lines::{write_number, write_pair};
 
-/// How pairs are printed.
+/// What the line of a pair is.
 #[derive(Clone, Copy, PartialEq, Eq, Debug)]
 pub enum Style {
     /// A key with escapes, a tab and its value.
@@ -15,6 +15,16 @@ pub enum Style {
     Keys,
     /// A value.
     Values,
+}
+
+/// How pairs are printed.
+#[derive(Clone, Copy, PartialEq, Eq, Debug)]
+pub enum Form {
+    /// A line a pair.
+    Lines(Style),
+    /// One JSON value: an object from key to value if all of the keys are UTF-8, and else a list of lists of two, the
+    /// bytes of a key and its value.
+    Json,
 }
 
 /// Adds the line of an answer: the value, or `none`.

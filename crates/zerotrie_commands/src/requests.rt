@@ -11,7 +11,7 @@ ghost use Rattle.zerotrie_commands.specs.declared.requests.AnswerError.TheVarian
 
 use crate::listing::write_list;
 use crate::lookups::{write_longest, write_values};
-use crate::print::Style;
+use crate::print::Form;
 use std::alloc::Global;
 use std::io;
 use std::io::Write;
@@ -25,7 +25,7 @@ pub enum Request<'a> {
     /// The longest key that each of these texts begins with.
     Longest(&'a [&'a [u8]]),
     /// The pairs whose keys begin with a prefix.
-    List(Style, &'a [u8]),
+    List(Form, &'a [u8]),
 }
 
 /// Why there is no answer.
@@ -79,8 +79,8 @@ pub fn answer_trie<W: Write>(
     match request {
         Request::Get(keys) => Ok(write_values(alloc, trie, keys, output)?),
         Request::Longest(texts) => Ok(write_longest(alloc, trie, texts, output)?),
-        Request::List(style, prefix) => {
-            write_list(alloc, trie, style, prefix, output)?;
+        Request::List(form, prefix) => {
+            write_list(alloc, trie, form, prefix, output)?;
             Ok(true)
         }
     }

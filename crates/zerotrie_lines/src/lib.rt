@@ -11,6 +11,7 @@ mod lines;
 mod numbers;
 mod reading;
 mod records;
+mod strings;
 mod table;
 
 pub use escapes::{hex_digit, unescape, write_escaped};
@@ -18,4 +19,5 @@ pub use fault::{BadLine, ReadError};
 pub use lines::{read_lines, take_line, write_pair};
 pub use numbers::{parse_number, write_number};
 pub use reading::{Format, read_pairs};
+pub use strings::write_quoted;
 pub use table::Table;

@@ -77,7 +77,7 @@ are_lines Lines = true
 abbrev pub of_lines : Question → Bool
 of_lines (Get keys) = are_lines keys
 of_lines (Longest texts) = are_lines texts
-of_lines (Listing style prefix) = false
+of_lines (Listing form prefix) = false
 of_lines (Code language) = false
 of_lines Report = false
 of_lines (View view) = false
@@ -95,7 +95,7 @@ IsAnswered kind bytes request old new all = (m : Map) (means : Means (kind_of ki
 abbrev pub Answers : Question → (input : Option (List ℕ)) → TrieKind → List ℕ → (old new : Option (List ℕ)) → Bool → Type 0
 Answers (Get keys) input kind bytes old new all = (ks : Bor (List (Bor (List ℕ)))) × AreKeys keys input ks.now × IsAnswered kind bytes (asks.Get ks) old new all
 Answers (Longest texts) input kind bytes old new all = (ts : Bor (List (Bor (List ℕ)))) × AreKeys texts input ts.now × IsAnswered kind bytes (asks.Longest ts) old new all
-Answers (Listing style prefix) input kind bytes old new all = IsAnswered kind bytes (asks.List style prefix) old new all
+Answers (Listing form prefix) input kind bytes old new all = IsAnswered kind bytes (asks.List form prefix) old new all
 Answers (Code language) input kind bytes old new all = (all ≡ true) × Appends old new (code language kind bytes)
 Answers Report input kind bytes old new all = (all ≡ true) × Appends old new (report_lines (report_of kind bytes))
 Answers (View view) input kind bytes old new all = (all ≡ true) × Appends old new (shown view kind bytes)

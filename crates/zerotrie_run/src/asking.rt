@@ -131,8 +131,8 @@ fn write_answer<W: Write>(
             let texts = keys_in(alloc, texts, typed)?;
             Ok(answer_trie(alloc, trie, Request::Longest(texts.as_slice()), output)?)
         }
-        Question::List(style, prefix) => {
-            Ok(answer_trie(alloc, trie, Request::List(style, prefix), output)?)
+        Question::List(form, prefix) => {
+            Ok(answer_trie(alloc, trie, Request::List(form, prefix), output)?)
         }
         Question::Code(language) => {
             write_trie_code(trie, language, output)?;

@@ -1,7 +1,7 @@
 //! What the program can be asked to do.
 
 use zerotrie_code::Language;
-use zerotrie_commands::Style;
+use zerotrie_commands::Form;
 use zerotrie_making::Plan;
 use zerotrie_queries::TrieKind;
 use zerotrie_views::View;
@@ -51,7 +51,7 @@ pub enum Question<'a> {
     /// The longest key that each of these texts begins with.
     Longest(Keys<'a>),
     /// The pairs whose keys begin with a prefix.
-    List(Style, &'a [u8]),
+    List(Form, &'a [u8]),
     /// The trie as source code.
     Code(Language),
     /// What the trie is made of.

@@ -75,36 +75,41 @@ fn unit_of(source: Source) -> &'static str {
 }
 
 /// Adds why keys are refused together.
-fn add_shown(text: &mut Vec<u8>, unit: &str, shown: &Shown) -> io::Result<()> {
+fn add_reason(text: &mut Vec<u8>, unit: &str, shown: &Shown) -> io::Result<()> {
     let first = shown.first.number;
     let second = shown.second.number;
     match &shown.error {
         ZeroTrieBuildError::DuplicateKey => {
-            write!(text, "{unit}s {first} and {second} have the same key: ")?;
-            write_escaped(text, shown.first.key.as_slice())?;
+            write!(text, "{unit}s {first} and {second} have the same key: ")
         }
-        ZeroTrieBuildError::Unsorted => {
-            write!(
-                text,
-                "{unit} {second}: its key is not above that of {unit} {first}; sort the input by the bytes of its keys, or leave out --sorted: "
-            )?;
-            write_escaped(text, shown.second.key.as_slice())?;
+        ZeroTrieBuildError::Unsorted => write!(
+            text,
+            "{unit} {second}: its key is not above that of {unit} {first}; sort the input by the bytes of its keys, or leave out --sorted: "
+        ),
+        ZeroTrieBuildError::NonAsciiError => write!(
+            text,
+            "{unit} {first}: its key is not ASCII; take --kind hash or --kind ext: "
+        ),
+        _ => write!(
+            text,
+            "{unit}s {first} and {second}: their keys begin alike but for the case of a letter; --lower-case brings all keys into lower case: "
+        ),
+    }
+}
+
+/// Adds the keys that show it.
+fn add_keys(text: &mut Vec<u8>, shown: &Shown) -> io::Result<()> {
+    let first = shown.first.key.as_slice();
+    let second = shown.second.key.as_slice();
+    match &shown.error {
+        ZeroTrieBuildError::DuplicateKey | ZeroTrieBuildError::NonAsciiError => {
+            write_escaped(text, first)?;
         }
-        ZeroTrieBuildError::NonAsciiError => {
-            write!(
-                text,
-                "{unit} {first}: its key is not ASCII; take --kind hash or --kind ext: "
-            )?;
-            write_escaped(text, shown.first.key.as_slice())?;
-        }
+        ZeroTrieBuildError::Unsorted => write_escaped(text, second)?,
         _ => {
-            write!(
-                text,
-                "{unit}s {first} and {second}: their keys begin alike but for the case of a letter; --lower-case brings all keys into lower case: "
-            )?;
-            write_escaped(text, shown.first.key.as_slice())?;
+            write_escaped(text, first)?;
             write!(text, " and ")?;
-            write_escaped(text, shown.second.key.as_slice())?;
+            write_escaped(text, second)?;
         }
     }
     Ok(())
@@ -123,7 +128,10 @@ fn refusal(alloc: Global, path: &str, unit: &str, error: &MakeError) -> io::Resu
             text,
             "no object from keys to numbers, and no list of pairs of a key and a number"
         )?,
-        MakeError::Keys(shown) => add_shown(&mut text, unit, shown)?,
+        MakeError::Keys(shown) => {
+            add_reason(&mut text, unit, shown)?;
+            add_keys(&mut text, shown)?;
+        }
         MakeError::Refused(error) => write!(text, "{error}")?,
         MakeError::OutOfMemory => write!(text, "out of memory")?,
     }

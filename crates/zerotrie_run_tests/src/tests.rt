@@ -4,7 +4,7 @@ use fake::Fake;
 use std::process::Abort;
 use std::test::Fail;
 use zerotrie_code::Language;
-use zerotrie_commands::Style;
+use zerotrie_commands::{Form, Style};
 use zerotrie_files::Store;
 use zerotrie_lines::Format;
 use zerotrie_making::{Plan, Source};
@@ -116,7 +116,7 @@ fn a_file_is_made_and_asked(rt: HostRuntime) -> Result<(), Fail> {
 #[test]
 fn a_trie_is_shown(rt: HostRuntime) -> Result<(), Fail> {
     let mut files = Fake::with(rt.alloc(), "a.trie", b"\x00a\x85")?;
-    let list = Question::List(Style::Tsv, b"a");
+    let list = Question::List(Form::Lines(Style::Tsv), b"a");
     prints(
         &rt,
         &mut files,
@@ -124,7 +124,7 @@ fn a_trie_is_shown(rt: HostRuntime) -> Result<(), Fail> {
         Status::Done,
         b"a\t5\n",
     )?;
-    let none = Question::List(Style::Tsv, b"b");
+    let none = Question::List(Form::Lines(Style::Tsv), b"b");
     prints(&rt, &mut files, ask("a.trie", none), Status::Done, b"")?;
     let dump = b"0\t0\t\tliteral a\t61\n1\t0\t\tvalue 5\t85\n";
     prints(

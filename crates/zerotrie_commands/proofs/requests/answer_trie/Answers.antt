@@ -1,7 +1,7 @@
 use Rattle.std.proofs.Common.{refl, ap, map}
 use Rattle.zerotrie_core.specs.Maps.{look, beginning}
 use Rattle.zerotrie_queries.specs.Kinds.{kind_of}
-use Rattle.zerotrie_commands.specs.Printed.{value_lines, pair_lines, status_of}
+use Rattle.zerotrie_commands.specs.Printed.{value_lines, listed, status_of}
 use Rattle.zerotrie_commands.proofs.requests.answer_trie.Goals as goal
 
 pub returns-in_ok-write_values-in-Get : goal.returns-in_ok-write_values-in-Get
@@ -23,7 +23,7 @@ returns-in_ok-write_longest-in-Longest g c m means =
 
 pub returns-in_ok-write_list-in-List : goal.returns-in_ok-write_list-in-List
 returns-in_ok-write_list-in-List g c m means = (
-  pair_lines c.in-List.style (beginning (kind_of c.args.trie.now.kind) c.in-List.prefix.now means.pairs),
+  listed c.in-List.form (beginning (kind_of c.args.trie.now.kind) c.in-List.prefix.now means.pairs),
   rw c.in-List.is (refl, refl),
   c.in_ok-write_list-in-List.ensures means.pairs means.lists,
 )

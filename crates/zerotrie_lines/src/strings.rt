@@ -1,0 +1,44 @@
+//! Texts as JSON has them.
+
+ghost use Rattle.std.specs.Prelude.{◌≡◌, ◌++◌, OnOk};
+ghost use Rattle.json.specs.Print.{escape_byte, quoted};
+
+use crate::escapes::hex_digit;
+use std::alloc::AllocError;
+
+/// Adds a byte of a text as it stands in a JSON string.
+#[tactic(auto, unfolding(json::specs::Print::escape_byte))]
+fn write_text_byte(output: &mut Vec<u8>, byte: u8) -> Result<(), AllocError>
+    ensures { OnOk result (output.new.items ≡ output.old.items ++ escape_byte byte) }
+{
+    match byte {
+        b'"' => output.extend_from_slice(b"\\\""),
+        b'\\' => output.extend_from_slice(b"\\\\"),
+        b'\x08' => output.extend_from_slice(b"\\b"),
+        b'\x0c' => output.extend_from_slice(b"\\f"),
+        b'\n' => output.extend_from_slice(b"\\n"),
+        b'\r' => output.extend_from_slice(b"\\r"),
+        b'\t' => output.extend_from_slice(b"\\t"),
+        0..=31 => {
+            let high = hex_digit(byte / 16);
+            let low = hex_digit(byte % 16);
+            output.extend_from_slice(&[b'\\', b'u', b'0', b'0', high, low])
+        }
+        _ => {
+            output.push(byte)?;
+            Ok(())
+        }
+    }
+}
+
+/// Writes a text as a JSON string: in quotes, with an escape for a quote, a backslash and a control byte.
+pub fn write_quoted(output: &mut Vec<u8>, text: &[u8]) -> Result<(), AllocError>
+    ensures { OnOk result (output.new.items ≡ output.old.items ++ quoted text.now) }
+{
+    output.push(b'"')?;
+    for byte in text {
+        write_text_byte(output, *byte)?;
+    }
+    output.push(b'"')?;
+    Ok(())
+}
