@@ -67,9 +67,9 @@ fn words<'a>(alloc: Global, name: &'a str, help: &'a str) -> Arg<'a> {
 
 /// A command that tests and reads a trie.
 fn tester<'a>(alloc: Global, name: &'a str, about: &'a str) -> Result<Command<'a>, AllocError> {
-    let kind = option(alloc, "kind", "The file is bare bytes of this kind").value_parser(
-        KINDS.as_slice(),
-    );
+    let kind = option(alloc, "kind", "The file is bare bytes of this kind")
+        .value_name("K")
+        .value_parser(KINDS.as_slice());
     Command::new(alloc, name)
         .about(about)
         .arg(place(alloc, "FILE", "A trie, or - for standard input"))?
@@ -104,6 +104,7 @@ fn longest_command<'a>(alloc: Global) -> Result<Command<'a>, AllocError> {
 
 fn list_command<'a>(alloc: Global) -> Result<Command<'a>, AllocError> {
     let format = option(alloc, "format", "How pairs are printed")
+        .value_name("F")
         .value_parser(FORMS.as_slice())
         .default_value("tsv");
     let command = reader(alloc, "list", "Prints the pairs")?
@@ -123,7 +124,7 @@ fn dump_command<'a>(alloc: Global) -> Result<Command<'a>, AllocError> {
 }
 
 fn dot_command<'a>(alloc: Global) -> Result<Command<'a>, AllocError> {
-    let most = option(alloc, "most", "At most so many nodes")
+    let most = option(alloc, "most", "At most this many nodes")
         .value_name("N")
         .default_value("100");
     let about = "Prints a drawing of the first nodes, for Graphviz";
@@ -133,6 +134,7 @@ fn dot_command<'a>(alloc: Global) -> Result<Command<'a>, AllocError> {
 
 fn code_command<'a>(alloc: Global) -> Result<Command<'a>, AllocError> {
     let language = option(alloc, "lang", "The language")
+        .value_name("L")
         .value_parser(LANGUAGES.as_slice())
         .required(true);
     let about = "Prints the bytes as a constant of a program, with the call that reads it";

@@ -26,9 +26,11 @@ pub fn build_command<'a>(alloc: Global) -> Result<Command<'a>, AllocError> {
     .value_name("OUT")
     .required(true);
     let kind = option(alloc, "kind", "The kind of the trie")
+        .value_name("K")
         .value_parser(KINDS.as_slice())
         .default_value("auto");
     let format = option(alloc, "format", "How the input is pairs")
+        .value_name("F")
         .value_parser(FORMATS.as_slice())
         .default_value("tsv");
     Command::new(alloc, "build")

@@ -12,9 +12,9 @@ table_text edges table = if nat_lt edges (length table) then codes "hashed" else
 abbrev pub edges_text : ℕ → List ℕ → List ℕ
 edges_text edges table = codes "branch of " ++ (decimal edges ++ (codes " edges, " ++ table_text edges table))
 
--- how many bytes its offsets have, and its edges
+-- the width of its offsets, and its edges
 abbrev pub offsets_text : ℕ → List ℕ → List ℕ
-offsets_text width edges = codes ", offsets of " ++ (decimal width ++ (codes " bytes: " ++ escaped edges))
+offsets_text width edges = codes ", offsets of width " ++ (decimal width ++ (codes ": " ++ escaped edges))
 
 -- what a node means
 abbrev pub meaning : Shape → List ℕ

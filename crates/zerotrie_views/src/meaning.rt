@@ -48,13 +48,13 @@ fn add_edges(line: &mut Vec<u8>, branch: &Branch<'_>) -> Result<(), AllocError>
     add_text(line, table_text(branch))
 }
 
-/// Adds how many bytes the offsets of a branch have, and its edges.
+/// Adds the width of the offsets of a branch, and its edges.
 fn add_offsets(line: &mut Vec<u8>, width: usize, edges: &[u8]) -> Result<(), AllocError>
     ensures { OnOk result (line.new.items ≡ line.old.items ++ offsets_text width edges.now) }
 {
-    add_text(line, ", offsets of ")?;
+    add_text(line, ", offsets of width ")?;
     write_number(line, width)?;
-    add_text(line, " bytes: ")?;
+    add_text(line, ": ")?;
     write_escaped(line, edges)
 }
 
