@@ -50,6 +50,11 @@ pub fn build_command<'a>(alloc: Global) -> Result<Command<'a>, AllocError> {
             alloc,
             "lower-case",
             "Brings the ASCII letters of the keys into lower case first",
+        ))?
+        .arg(flag(
+            alloc,
+            "progress",
+            "Tells each step on standard error, as without it if that is a terminal",
         ))
 }
 
@@ -69,11 +74,12 @@ fn plan_in(matches: &ArgMatches<'_>) -> Plan {
     }
 }
 
-/// The build that is asked for.
-pub fn build_in<'a>(matches: &ArgMatches<'a>) -> Build<'a> {
+/// The build that is asked for. Its steps are told if that was asked for, or if messages go to a terminal.
+pub fn build_in<'a>(matches: &ArgMatches<'a>, to_terminal: bool) -> Build<'a> {
     Build {
         from: place_in(matches, "IN"),
         to: place_in(matches, "output"),
         plan: plan_in(matches),
+        progress: to_terminal || matches.get_flag("progress"),
     }
 }

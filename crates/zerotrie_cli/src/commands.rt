@@ -4,7 +4,7 @@ use crate::arguments::command;
 use crate::build::build_in;
 use crate::question::{file_in, question_in, words_in};
 use clap::ArgMatches;
-use std::io::{BufWriter, ErrorKind};
+use std::io::{BufWriter, ErrorKind, IsTerminal};
 use std::{env, io};
 use zerotrie_files::SystemStore;
 use zerotrie_run::{Command, Status, run};
@@ -60,7 +60,10 @@ fn obey(rt: &HostRuntime, words: &[String]) -> Status {
     };
     match known.try_get_matches_from(words) {
         Ok(matches) => match matches.subcommand() {
-            Some(("build", matches)) => run_here(rt, Command::Build(build_in(matches))),
+            Some(("build", matches)) => {
+                let to_terminal = rt.stderr().is_terminal();
+                run_here(rt, Command::Build(build_in(matches, to_terminal)))
+            }
             Some((name, matches)) => run_question(rt, matches, name),
             None => Status::BadUsage,
         },

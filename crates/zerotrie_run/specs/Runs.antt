@@ -177,6 +177,11 @@ build_status (build.Unread e) = Fault
 build_status (build.NotMade e) = made_status e
 build_status (build.Unwritten e) = Fault
 
+-- whether the steps of a command are told
+abbrev pub tells_steps : Command → Bool
+tells_steps (commands.Build build) = build.progress
+tells_steps (commands.Ask file question) = false
+
 -- how a command ends, what it printed, and what it left in files
 abbrev pub Runs : Command → Option (List ℕ) → World → World → Status → Type 0
 Runs (commands.Build build) input before after status = RunsBuild build input before after status

@@ -1,9 +1,10 @@
 //! A trie file that is made.
 
-ghost use Rattle.std.specs.Prelude.{◌≡◌, IfErr, OnOk};
+ghost use Rattle.std.specs.Prelude.{◌≡◌, false, IfErr, OnOk};
 ghost use Rattle.zerotrie_run.specs.Runs.{World, IsMade, RunsBuild, build_status};
 
 use crate::command::Build;
+use crate::messages::{tell_made, tell_read, tell_written};
 use crate::reading::{read_place, write_place};
 use crate::status::Status;
 use std::alloc::Global;
@@ -35,13 +36,14 @@ impl BuildError {
     }
 }
 
-/// Makes a trie file, and puts it in its place.
-pub fn build<F: Store, R: Read, W: Write>(
+/// Makes a trie file, and puts it in its place. Each step is told as it ends, if that was asked for.
+pub fn build<F: Store, R: Read, W: Write, M: Write>(
     alloc: Global,
     build: Build<'_>,
     files: &mut F,
     input: &mut R,
     output: &mut W,
+    messages: &mut M,
 ) -> Result<(), BuildError>
     ensures ok { OnOk result (IsMade build.entry (R.remaining input.old)
         (record { files = F.files files.old; printed = W.contents output.old })
@@ -49,17 +51,23 @@ pub fn build<F: Store, R: Read, W: Write>(
     ensures err { IfErr result (λ e. RunsBuild build.entry (R.remaining input.old)
         (record { files = F.files files.old; printed = W.contents output.old })
         (record { files = F.files files.new; printed = W.contents output.new }) (build_status e)) }
+    ensures quiet { build.entry.progress ≡ false → messages.new ≡ messages.old }
 {
     let held = match read_place(alloc, build.from, files, input) {
         Ok(held) => held,
         Err(error) => return Err(BuildError::Unread(error)),
     };
+    tell_read(messages, build, held.len());
     let file = match make(alloc, build.plan, held) {
         Ok(file) => file,
         Err(error) => return Err(BuildError::NotMade(error)),
     };
+    tell_made(messages, build, file.len());
     match write_place(build.to, file.as_slice(), files, output) {
-        Ok(()) => Ok(()),
+        Ok(()) => {
+            tell_written(messages, build, file.len());
+            Ok(())
+        }
         Err(error) => Err(BuildError::Unwritten(error)),
     }
 }

@@ -76,6 +76,8 @@ pub struct Build<'a> {
     pub from: Place<'a>,
     pub to: Place<'a>,
     pub plan: Plan,
+    /// Whether each step is told as it ends.
+    pub progress: bool,
 }
 
 /// What the program is asked to do.

@@ -1,5 +1,7 @@
 //! What is told on standard error. If it can't be told, the status tells it alone.
 
+ghost use Rattle.std.specs.Prelude.{◌≡◌, false};
+
 use crate::asking::AskError;
 use crate::building::BuildError;
 use crate::command::{Build, Place};
@@ -19,6 +21,11 @@ const STANDARD_OUTPUT: &str = "standard output";
 /// How messages name the place that bytes come from.
 fn source_name(place: Place<'_>) -> &str {
     place.name(STANDARD_INPUT)
+}
+
+/// How messages name the place that bytes go to.
+fn target_name(place: Place<'_>) -> &str {
+    place.name(STANDARD_OUTPUT)
 }
 
 /// Tells why a file has no trie, and where its first fault is.
@@ -139,6 +146,48 @@ fn refusal(alloc: Global, path: &str, unit: &str, error: &MakeError) -> io::Resu
     Ok(text)
 }
 
+/// Tells that a step of a build has ended, and how many bytes it read, made or wrote, if steps are told.
+fn tell_step<M: Write>(messages: &mut M, is_told: bool, place: &str, step: &str, len: usize)
+    ensures { is_told ≡ false → messages.new ≡ messages.old }
+{
+    if is_told {
+        let _ = writeln!(messages, "zerotrie: {place}: {step} {len} bytes");
+    }
+}
+
+/// Tells that the input of a build was read, if its steps are told.
+pub fn tell_read<M: Write>(messages: &mut M, build: Build<'_>, len: usize)
+    ensures { build.entry.progress ≡ false → messages.new ≡ messages.old }
+{
+    tell_step(
+        messages,
+        build.progress,
+        source_name(build.from),
+        "read",
+        len,
+    );
+}
+
+/// Tells that the file of a build was made, and is now written, if its steps are told.
+pub fn tell_made<M: Write>(messages: &mut M, build: Build<'_>, len: usize)
+    ensures { build.entry.progress ≡ false → messages.new ≡ messages.old }
+{
+    tell_step(messages, build.progress, target_name(build.to), "made", len);
+}
+
+/// Tells that the file of a build was written, if its steps are told.
+pub fn tell_written<M: Write>(messages: &mut M, build: Build<'_>, len: usize)
+    ensures { build.entry.progress ≡ false → messages.new ≡ messages.old }
+{
+    tell_step(
+        messages,
+        build.progress,
+        target_name(build.to),
+        "wrote",
+        len,
+    );
+}
+
 /// Tells why no file is made.
 pub fn tell_build<M: Write>(
     alloc: Global,
@@ -154,7 +203,7 @@ pub fn tell_build<M: Write>(
             messages.write_all(text.as_slice())
         }
         BuildError::Unwritten(error) => {
-            let to = build.to.name(STANDARD_OUTPUT);
+            let to = target_name(build.to);
             writeln!(messages, "zerotrie: {to}: {error}")
         }
     }

@@ -1,7 +1,7 @@
 //! The program over files and streams.
 
-ghost use Rattle.std.specs.Prelude.{◌≡◌, ◌⊎◌};
-ghost use Rattle.zerotrie_run.specs.Runs.{World, Runs};
+ghost use Rattle.std.specs.Prelude.{◌≡◌, ◌⊎◌, false};
+ghost use Rattle.zerotrie_run.specs.Runs.{World, Runs, tells_steps};
 ghost use Rattle.zerotrie_run.specs.declared.status.Status.TheVariants.{Done, Absent};
 
 use crate::asking::ask;
@@ -16,7 +16,8 @@ use zerotrie_files::Store;
 /// Does what a command asks, and tells how it ended. What is wrong is told by a message.
 ///
 /// What is printed is that of the command, the files and the input, and what is left in files too; see `Runs`. A message
-/// that can't be written is lost, and the status tells alone.
+/// that can't be written is lost, and the status tells alone. If all went well, there is none but the steps of a build,
+/// if they were asked for.
 pub fn run<F: Store, R: Read, W: Write, M: Write>(
     alloc: Global,
     command: Command<'_>,
@@ -28,10 +29,11 @@ pub fn run<F: Store, R: Read, W: Write, M: Write>(
     ensures runs { Runs command.entry (R.remaining input.old)
         (record { files = F.files files.old; printed = W.contents output.old })
         (record { files = F.files files.new; printed = W.contents output.new }) result }
-    ensures quiet { (result ≡ Done) ⊎ (result ≡ Absent) → messages.new ≡ messages.old }
+    ensures quiet { tells_steps command.entry ≡ false
+        → (result ≡ Done) ⊎ (result ≡ Absent) → messages.new ≡ messages.old }
 {
     match command {
-        Command::Build(plan) => match build(alloc, plan, files, input, output) {
+        Command::Build(plan) => match build(alloc, plan, files, input, output, messages) {
             Ok(()) => Status::Done,
             Err(error) => {
                 let _ = tell_build(alloc, messages, plan, &error);

@@ -32,6 +32,7 @@ fn build<'a>(from: &'a str, to: &'a str) -> Command<'a> {
         from: Place::named(from),
         to: Place::named(to),
         plan: PLAN,
+        progress: false,
     })
 }
 
@@ -111,6 +112,33 @@ fn a_file_is_made_and_asked(rt: HostRuntime) -> Result<(), Fail> {
         Status::Done,
         b"bar\t2\nfoo\t1\n",
     )
+}
+
+#[test]
+fn steps_are_told(rt: HostRuntime) -> Result<(), Fail> {
+    let mut files = Fake::with(rt.alloc(), "names.tsv", NAMES)?;
+    let command = Command::Build(Build {
+        from: Place::named("names.tsv"),
+        to: Place::named("names.trie"),
+        plan: PLAN,
+        progress: true,
+    });
+    let mut output = Vec::new(rt.alloc());
+    let mut messages = Vec::new(rt.alloc());
+    let mut input: &[u8] = b"";
+    let ended = run(
+        rt.alloc(),
+        command,
+        &mut files,
+        &mut input,
+        &mut output,
+        &mut messages,
+    );
+    let told = b"zerotrie: names.tsv: read 21 bytes\nzerotrie: names.trie: made 18 bytes\n\
+        zerotrie: names.trie: wrote 18 bytes\n";
+    assert!(rt; ended == Status::Done);
+    assert!(rt; messages.as_slice() == told);
+    Ok(())
 }
 
 #[test]
