@@ -137,7 +137,7 @@ fn steps_are_told(rt: HostRuntime) -> Result<(), Fail> {
     let told = b"zerotrie: names.tsv: read 21 bytes\nzerotrie: names.trie: made 18 bytes\n\
         zerotrie: names.trie: wrote 18 bytes\n";
     assert!(rt; ended == Status::Done);
-    assert!(rt; messages.as_slice() == told);
+    assert!(rt; messages.as_slice() == told.as_slice());
     Ok(())
 }
 
