@@ -12,7 +12,7 @@ ghost use Rattle.zerotrie_core.specs.Nodes.Shape.{value, span};
 ghost use Rattle.zerotrie_core.specs.Shapes.{shape, branch_shape};
 ghost use Rattle.zerotrie_core.specs.WellFormed.{IsWellFormed, IsShallow, deep};
 ghost use Rattle.zerotrie_core.specs.listing.Runs.{EndsWith};
-ghost use Rattle.zerotrie_core.specs.well_formed.Testing.{Steps, IsAllowed, ReducesTo, IsFirstLonger, AlwaysReducesTo, AlwaysNoText};
+ghost use Rattle.zerotrie_core.specs.well_formed.Testing.{Steps, IsAllowed, IsPastValue, ReducesTo, IsFirstLonger, AlwaysReducesTo, AlwaysNoText};
 
 pub(crate) mod branches;
 
@@ -126,6 +126,20 @@ fn next_step<'a, K: ZeroTrieWithOptions>(node: Node<'a>, expected: Expected) -> 
     }
 }
 
+/// After a value, as far as sixteen bytes tell of one, and what may stand there.
+#[inline(always)]
+fn past_value(here: Here<'_>) -> (Here<'_>, Expected)
+    ensures { IsPastValue here.entry.rest.now result.0.rest.now result.1 }
+{
+    let len = here.value_len();
+    let expected = if len > 0 {
+        Expected::NoValue
+    } else {
+        Expected::Something
+    };
+    (here.after(len), expected)
+}
+
 /// After literals and a value, as far as sixteen bytes of each tell, and what may stand there, in bytes that are not empty.
 ///
 /// No jump in it depends on how many literals there are, on how long the value is, or on whether there is one.
@@ -135,14 +149,21 @@ fn pass(here: Here<'_>) -> (Here<'_>, Expected)
     ensures reduces { here.entry.rest.now ≢ [] → (kind : Kind)
         → ReducesTo kind here.entry.rest.now result.0.rest.now result.1 1 }
 {
-    let value = here.after(here.literals());
-    let len = value.value_len();
-    let expected = if len > 0 {
-        Expected::NoValue
-    } else {
-        Expected::Something
-    };
-    (value.after(len), expected)
+    past_value(here.after(here.literals()))
+}
+
+/// The same, twice if literals go on after the first value, as they do after a word that longer words begin with.
+#[inline(always)]
+fn pass_twice(here: Here<'_>) -> (Here<'_>, Expected)
+    ensures shorter { length result.0.rest.now ≤ length here.entry.rest.now }
+    ensures reduces { here.entry.rest.now ≢ [] → (kind : Kind)
+        → ReducesTo kind here.entry.rest.now result.0.rest.now result.1 1 }
+{
+    let (at, expected) = pass(here);
+    match at.rest.first() {
+        Some(byte) if *byte < 128 => pass(at),
+        _ => (at, expected),
+    }
 }
 
 /// Two targets, the longer one last, or the first if none is longer.
@@ -208,7 +229,7 @@ fn is_target_counted<K: ZeroTrieWithOptions>(target: Here<'_>) -> (bool, u32)
         → result.1 ≡ deep means.lists }
     ensures shallow { IsShallow target.entry.rest.now result.1 }
 {
-    let (at, expected) = pass(target);
+    let (at, expected) = pass_twice(target);
     if at.rest.is_empty() {
         return (expected.takes_end(), 1);
     }
@@ -231,8 +252,7 @@ fn is_text_counted<K: ZeroTrieWithOptions>(here: Here<'_>, expected: Expected) -
         match next_step::<K>(node, next) {
             Step::Wrong => return (false, most),
             Step::Literals => {
-                at = at.after(at.literals().max(1));
-                next = Expected::Something;
+                (at, next) = past_value(at.after(at.literals().max(1)));
             }
             Step::Over(after, following) => {
                 at = at.behind(after);

@@ -1,5 +1,5 @@
 -- What a node comes to in the test of bytes.
-use Rattle.std.proofs.Common.{◌≡◌, ℕ, zero, suc, ◌+◌, ◌*◌, ◌%◌, ◌<◌, ◌≤◌, List, [], ◌∷◌, ◌++◌, length, drop, slice_index, refl, sym, subst, arith}
+use Rattle.std.proofs.Common.{◌≡◌, ℕ, zero, suc, ◌+◌, ◌*◌, ◌%◌, ◌<◌, ◌≤◌, List, [], ◌∷◌, ◌++◌, length, drop, slice_index, get_or, refl, sym, subst, ap, arith, inl, inr}
 use Rattle.std.specs.Prelude.{max}
 use Rattle.zerotrie_core.specs.Kind.{Kind}
 use Rattle.zerotrie_core.specs.Maps.{Pairs, with_front, with_run}
@@ -9,10 +9,10 @@ use Rattle.zerotrie_core.specs.Texts.Lists.{nothing, value, literal, span, branc
 use Rattle.zerotrie_core.specs.Nodes.{Shape, Begins, BeginsSpan, BeginsBranch}
 use Rattle.zerotrie_core.specs.Nodes as shapes
 use Rattle.zerotrie_core.specs.WellFormed.{deep}
-use Rattle.zerotrie_core.specs.well_formed.Testing.{IsText, IsAllowed, HasRest, ReducesTo, AlwaysReducesTo, AlwaysAllowed, BeginsValue}
+use Rattle.zerotrie_core.specs.well_formed.Testing.{IsText, IsAllowed, HasRest, ReducesTo, AlwaysReducesTo, AlwaysAllowed, BeginsValue, IsPastValue}
 use Rattle.zerotrie_core.specs.declared.well_formed.Expected.{Expected}
 use Rattle.zerotrie_core.specs.declared.well_formed.Expected.TheVariants.{Anything, NoValue, NoSpan, Something}
-use Rattle.zerotrie_core.proofs.NumberLemmas.Numbers.{some_bytes, one_reading, cons_parts}
+use Rattle.zerotrie_core.proofs.NumberLemmas.Numbers.{some_bytes, one_reading, cons_parts, after_shorter}
 use Rattle.zerotrie_core.proofs.NodeLemmas.Nodes.{value_begins, span_begins, branch_begins, value_no_branch, value_no_span, span_no_branch}
 use Rattle.zerotrie_core.proofs.NodeLemmas.Opened.{body_of, head_begins, same_parts}
 use Rattle.zerotrie_core.proofs.WellFormedLemmas.Depth.{deep_some}
@@ -175,3 +175,20 @@ literals_passed kind (suc n) bytes some within low = literals_reduces kind (suc 
 pub value_passed : (kind : Kind) (n : ℕ) (bytes after : List ℕ) → (bytes ≡ [] → ⊥) → n ≤ length bytes → ((k : ℕ) → k < n → slice_index bytes k < 128) → BeginsValue (drop n bytes) after → ReducesTo kind bytes after NoValue 1
 value_passed kind n bytes after some within low b =
     reduces_more (literals_passed kind n bytes some within low) (λ none. some_bytes 16 4 b.0 after (subst (λ x. BeginsWith 16 4 b.0 x after) none b.1)) (value_reduces kind b.0 after (drop n bytes) b.1)
+
+-- literals, if there are some, and a value, if there is one
+pub past_reduces : (kind : Kind) (n : ℕ) (bytes after : List ℕ) (expected : Expected) → (bytes ≡ [] → ⊥) → n ≤ length bytes → ((k : ℕ) → k < n → slice_index bytes k < 128)
+    → IsPastValue (drop n bytes) after expected → ReducesTo kind bytes after expected 1
+past_reduces kind n bytes after expected some within low (inl told) = subst (λ e. ReducesTo kind bytes after e 1) (sym told.1) (value_passed kind n bytes after some within low told.0)
+past_reduces kind n bytes after expected some within low (inr same) =
+    subst (λ e. ReducesTo kind bytes after e 1) (sym same.1) (subst (λ x. ReducesTo kind bytes x Something 1) (sym same.0) (literals_passed kind n bytes some within low))
+
+-- what is past a value is no longer than what was there
+pub past_within : (bytes after : List ℕ) (expected : Expected) → IsPastValue bytes after expected → length after ≤ length bytes
+past_within bytes after expected (inl told) = let less = after_shorter 16 4 told.0.0 bytes after told.0.1 in omega arith
+past_within bytes after expected (inr same) = let is = ap length same.0 in omega arith
+
+-- a literal may stand anywhere
+pub low_first : (kind : Kind) (bytes : List ℕ) (b : ℕ) (expected : Expected) → 0 < length bytes → b ≡ get_or bytes 0 b → b < 128 → (bytes ≡ [] → ⊥) × IsAllowed expected bytes
+low_first kind [] b expected some is low = absurd (omega arith)
+low_first kind (c ∷ rest) b expected some is low = (λ none. cc, literal_allowed kind c rest expected (c ∷ rest) (omega arith, refl))

@@ -62,6 +62,10 @@ Steps kind node expected (Behind b) = (node ≡ branch_shape b) × AlwaysAllowed
 abbrev pub BeginsValue : List ℕ → List ℕ → Type 0
 BeginsValue bytes after = (v : ℕ) × BeginsWith 16 4 v bytes after
 
+-- After a value in front of the bytes, or where they begin, and what may stand there.
+abbrev pub IsPastValue : List ℕ → List ℕ → Expected → Type 0
+IsPastValue bytes rest expected = (BeginsValue bytes rest × (expected ≡ NoValue)) ⊎ ((rest ≡ bytes) × (expected ≡ Something))
+
 -- the longer one of two is last, or the first if none is longer
 abbrev pub IsFirstLonger : List ℕ → List ℕ → List ℕ → List ℕ → Type 0
 IsFirstLonger first next shorter longer =

@@ -10,11 +10,11 @@ use Rattle.zerotrie_core.specs.Shapes.{branch_shape}
 use Rattle.zerotrie_core.specs.declared.well_formed.Expected.TheVariants.{Something}
 use Rattle.zerotrie_core.specs.WellFormed.{IsWellFormed, IsShallow}
 use Rattle.zerotrie_core.specs.listing.Runs.{EndsWith}
-use Rattle.zerotrie_core.specs.well_formed.Testing.{IsText, IsAllowed, ReducesTo}
+use Rattle.zerotrie_core.specs.well_formed.Testing.{IsText, IsAllowed, IsPastValue, ReducesTo}
 use Rattle.zerotrie_core.proofs.WellFormedLemmas.Depth.{shallow_one, shallow_max, shallow_longer, deep_no_node, deep_some}
 use Rattle.zerotrie_core.proofs.NodeLemmas.Nodes.{branch_shorter}
 use Rattle.zerotrie_core.proofs.ListingLemmas.Left.{branch_end, ends_drop}
-use Rattle.zerotrie_core.proofs.WellFormedLemmas.Steps.{reduces_at, reduces_more, literals_reduces, no_bytes}
+use Rattle.zerotrie_core.proofs.WellFormedLemmas.Steps.{reduces_at, reduces_more, past_reduces, past_within, no_bytes}
 use Rattle.zerotrie_core.proofs.WellFormedLemmas.Targets.{Passed, passed_first, passed_more, passed_all, shorter_there, no_target, target_some, both_some, next_begin, text_well, well_text, text_means}
 use Rattle.zerotrie_core.proofs.well_formed.+tested.Goals as goal
 
@@ -122,9 +122,9 @@ module _ (kind : Kind) (bytes rest : List ℕ) (expected : Expected) (way : Redu
 pub is_target_counted-returns-then-is_empty-clause-yes : goal.is_target_counted-returns-then-is_empty-clause-yes
 is_target_counted-returns-then-is_empty-clause-yes g t c =
     let kind = g.K.ZeroTrieWithOptions.kind in
-    let rest = c.pass-expected.result.0.rest.now in
-    let expected = c.pass-expected.result.1 in
-    let way = c.pass-expected.ensures.reduces c.requires kind in
+    let rest = c.pass_twice-expected.result.0.rest.now in
+    let expected = c.pass_twice-expected.result.1 in
+    let way = c.pass_twice-expected.ensures.reduces c.requires kind in
     let none : rest ≡ [] = nil_from_length rest (eqb-true _ _ (sym c.is_empty.ensures ∙ c.if-is_empty.true)) in (
       λ e. text_well (omega arith) (way.back (subst (IsAllowed expected) (sym none) (c.takes_end.ensures.0 e)) (subst (IsText kind) (sym none) ([], nothing))),
       λ well. (let text = well_text well in let leads = way.there text.0 text.1 in c.takes_end.ensures.1 (subst (IsAllowed expected) none leads.allowed)),
@@ -133,9 +133,9 @@ is_target_counted-returns-then-is_empty-clause-yes g t c =
 pub is_target_counted-returns-then-is_empty-clause-count : goal.is_target_counted-returns-then-is_empty-clause-count
 is_target_counted-returns-then-is_empty-clause-count g t c m means =
     let kind = g.K.ZeroTrieWithOptions.kind in
-    let rest = c.pass-expected.result.0.rest.now in
+    let rest = c.pass_twice-expected.result.0.rest.now in
     let none : rest ≡ [] = nil_from_length rest (eqb-true _ _ (sym c.is_empty.ensures ∙ c.if-is_empty.true)) in
-    let leads = (c.pass-expected.ensures.reduces c.requires kind).there means.pairs means.lists in
+    let leads = (c.pass_twice-expected.ensures.reduces c.requires kind).there means.pairs means.lists in
     let end = (deep_no_node leads.inner (λ s b. no_bytes kind s (subst (λ x. Begins kind x s) none b))).1 in
     let counts = leads.counts in
     omega arith
@@ -146,25 +146,25 @@ is_target_counted-returns-then-is_empty-clause-shallow g t c = shallow_one c.arg
 pub is_target_counted-returns-clause-yes : goal.is_target_counted-returns-clause-yes
 is_target_counted-returns-clause-yes g t c =
     let kind = g.K.ZeroTrieWithOptions.kind in
-    let way = c.pass-expected.ensures.reduces c.requires kind in
-    let within = c.pass-expected.ensures.shorter in
+    let way = c.pass_twice-expected.ensures.reduces c.requires kind in
+    let within = c.pass_twice-expected.ensures.shorter in
     let r = c.is_text_counted.ensures.yes in (
-      λ e. passed_well kind c.args.target.rest.now c.pass-expected.result.0.rest.now c.pass-expected.result.1 way within (omega arith) (r.0 e).0 (r.0 e).1,
-      λ well. r.1 (well_passed kind c.args.target.rest.now c.pass-expected.result.0.rest.now c.pass-expected.result.1 way within (omega arith) well),
+      λ e. passed_well kind c.args.target.rest.now c.pass_twice-expected.result.0.rest.now c.pass_twice-expected.result.1 way within (omega arith) (r.0 e).0 (r.0 e).1,
+      λ well. r.1 (well_passed kind c.args.target.rest.now c.pass_twice-expected.result.0.rest.now c.pass_twice-expected.result.1 way within (omega arith) well),
     )
 
 pub is_target_counted-returns-clause-count : goal.is_target_counted-returns-clause-count
 is_target_counted-returns-clause-count g t c m means =
     let kind = g.K.ZeroTrieWithOptions.kind in
-    let within = c.pass-expected.ensures.shorter in
-    let leads = (c.pass-expected.ensures.reduces c.requires kind).there means.pairs means.lists in
+    let within = c.pass_twice-expected.ensures.shorter in
+    let leads = (c.pass_twice-expected.ensures.reduces c.requires kind).there means.pairs means.lists in
     let is = c.is_text_counted.ensures.count leads.allowed _ (text_means (omega arith) leads.inner) in
     let some = deep_some leads.inner in
     let counts = leads.counts in
     omega arith
 
 pub is_target_counted-returns-clause-shallow : goal.is_target_counted-returns-clause-shallow
-is_target_counted-returns-clause-shallow g t c = shallow_longer c.pass-expected.result.0.rest.now c.args.target.rest.now c.is_text_counted.result.1 c.pass-expected.ensures.shorter c.is_text_counted.ensures.shallow
+is_target_counted-returns-clause-shallow g t c = shallow_longer c.pass_twice-expected.result.0.rest.now c.args.target.rest.now c.is_text_counted.result.1 c.pass_twice-expected.ensures.shorter c.is_text_counted.ensures.shallow
 
 pub is_text_counted-loop-node-init : goal.is_text_counted-loop-node-init
 is_text_counted-loop-node-init g t c = record {
@@ -215,20 +215,20 @@ is_text_counted-loop-node-preserved-in-Literals g t c =
     let step = c.in-Literals.ensures in
     let first = step.0 rest begins in
     let n = c.max.result in
-    let some : 0 < n = omega arith in
     let inside : n ≤ length rest = (let h = first.0 in let within = c.literals.ensures.within in omega arith) in
     let one = so_far.shallow.0 in
     let same : max c.loop-node.most 1 ≡ c.loop-node.most = omega arith in
-    let is = c.after-at.ensures in
-    let way = literals_reduces kind n rest some inside (low_at rest c.literals.result n (omega arith) first.1 c.literals.ensures.literals) in
-    let there = ap length is in
+    let after = c.past_value.result.0.rest.now in
+    let next = c.past_value.result.1 in
+    let past = subst (λ x. IsPastValue x after next) c.after.ensures c.past_value.ensures in
+    let way = past_reduces kind n rest after next (λ none. (let is = ap length none in let h = first.0 in omega arith)) inside (low_at rest c.literals.result n (omega arith) first.1 c.literals.ensures.literals) past in
+    let there = past_within (drop n rest) after next past in
     let gone = length-drop n rest in
     record {
       within = omega (arith, so_far.within, there, gone);
       shallow = so_far.shallow;
-      reduces = λ allowed. subst (λ x. ReducesTo kind c.args.here.rest.now x Something c.loop-node.most) (sym is)
-          (subst (λ m. ReducesTo kind c.args.here.rest.now (drop n rest) Something m) same (reduces_more (so_far.reduces allowed) (step.1 rest begins) way));
-      begins = λ allowed text. so_far.begins (step.1 rest begins) (way.back (subst (IsAllowed Something) is allowed) (subst (IsText kind) is text));
+      reduces = λ allowed. subst (λ m. ReducesTo kind c.args.here.rest.now after next m) same (reduces_more (so_far.reduces allowed) (step.1 rest begins) way);
+      begins = λ allowed text. so_far.begins (step.1 rest begins) (way.back allowed text);
     }
   where
     low_at : (bytes : List ℕ) (m n : ℕ) → (0 < m → n ≤ m) × (m ≡ 0 → n ≡ 1) → slice_index bytes 0 < 128 → ((k : ℕ) → k < m → slice_index bytes k < 128) → (k : ℕ) → k < n → slice_index bytes k < 128

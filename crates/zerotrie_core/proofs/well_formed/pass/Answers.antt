@@ -1,26 +1,19 @@
-use Rattle.std.proofs.Common.{◌≡◌, ◌∙◌, drop, arith, sym, subst, ap}
-use Rattle.zerotrie_core.specs.declared.well_formed.Expected.TheVariants.{NoValue, Something}
-use Rattle.zerotrie_core.specs.well_formed.Testing.{BeginsValue, ReducesTo}
-use Rattle.zerotrie_core.proofs.WellFormedLemmas.Steps.{literals_passed, value_passed}
+use Rattle.std.proofs.Common.{length, drop, subst, ap, arith}
+use Rattle.std.proofs.lemmas.List.{length-drop}
+use Rattle.zerotrie_core.specs.well_formed.Testing.{IsPastValue}
+use Rattle.zerotrie_core.proofs.WellFormedLemmas.Steps.{past_reduces, past_within}
 use Rattle.zerotrie_core.proofs.well_formed.pass.Goals as goal
-use Rattle.zerotrie_core.proofs.well_formed.pass.Goals.{then-len-gt0, else-len-gt0}
 
 pub returns-clause-reduces : goal.returns-clause-reduces
 returns-clause-reduces c = λ some kind. (
-    let bytes = c.args.here.rest.now in
-    let n = c.literals.result in
-    let len = c.value_len-len.result in
-    let rest = c.after-value.result.rest.now in
-    let after = c.after.result.rest.now in
-    elim c.if-len-gt0.branch [
-      | then-len-gt0 w ↦
-          let told = subst (λ x. BeginsValue x (drop len rest)) c.after-value.ensures (c.value_len-len.ensures.value w.if-len-gt0.true) in
-          let way = value_passed kind n bytes (drop len rest) some c.literals.ensures.within c.literals.ensures.literals told in
-          subst (λ e. ReducesTo kind bytes after e 1) (sym w.expected-is) (subst (λ x. ReducesTo kind bytes x NoValue 1) (sym c.after.ensures) way)
-      | else-len-gt0 w ↦
-          let none : len ≡ 0 = (let h = w.if-len-gt0.false in omega arith) in
-          let there : after ≡ drop n bytes = c.after.ensures ∙ ap (λ k. drop k rest) none ∙ c.after-value.ensures in
-          let way = literals_passed kind n bytes some c.literals.ensures.within c.literals.ensures.literals in
-          subst (λ e. ReducesTo kind bytes after e 1) (sym w.expected-is) (subst (λ x. ReducesTo kind bytes x Something 1) (sym there) way)
-    ]
+    let after = c.past_value.result.0.rest.now in
+    let next = c.past_value.result.1 in
+    past_reduces kind c.literals.result c.args.here.rest.now after next some c.literals.ensures.within c.literals.ensures.literals (subst (λ x. IsPastValue x after next) c.after.ensures c.past_value.ensures)
     )
+
+pub returns-clause-shorter : goal.returns-clause-shorter
+returns-clause-shorter c =
+    let within = past_within c.after.result.rest.now c.past_value.result.0.rest.now c.past_value.result.1 c.past_value.ensures in
+    let gone = length-drop c.literals.result c.args.here.rest.now in
+    let is = ap length c.after.ensures in
+    omega arith
