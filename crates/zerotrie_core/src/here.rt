@@ -30,6 +30,16 @@ impl<'a> Here<'a> {
         }
     }
 
+    /// In front of the first bytes of these, of which the text has more.
+    #[inline(always)]
+    pub fn first_of(tail: &'a [u8], len: usize) -> Self
+        requires { len ≤ length tail.now }
+        ensures { result.rest.now ≡ take len tail.now }
+    {
+        let (rest, _) = tail.split_at(len);
+        Here { rest, tail }
+    }
+
     /// Where nothing is to be gone over.
     #[inline(always)]
     pub fn nowhere() -> Self
@@ -38,14 +48,16 @@ impl<'a> Here<'a> {
         Here::at(&[])
     }
 
-    /// In front of these bytes, with which the rest ends.
+    /// In front of these bytes, with which the rest ends. Both parts are cut from one, so a register is enough for where they
+    /// begin.
     #[inline(always)]
     pub fn behind(self, after: &'a [u8]) -> Self
         requires { EndsWith self.rest.now after.now }
         ensures { result.rest.now ≡ after.now }
     {
         let (_, tail) = self.tail.split_at(self.rest.len() - after.len());
-        Here { rest: after, tail }
+        let (rest, _) = tail.split_at(after.len());
+        Here { rest, tail }
     }
 
     /// How many literals the rest begins with, as far as sixteen bytes tell; none if the text has fewer left.

@@ -4,7 +4,7 @@
 //! those that is more than a leaf has a call of its own, and with the longest one the call itself goes on. A shorter target
 //! has less than half of the bytes, so few calls are open at once, and no memory is taken.
 
-ghost use Rattle.std.specs.Prelude.{◌≡◌, ◌≢◌, ◌↔◌, ℕ, ◌<◌, ◌≤◌, IsTrue, IfSome, IfNone, List, [], length};
+ghost use Rattle.std.specs.Prelude.{◌≡◌, ◌≢◌, ◌↔◌, ℕ, ◌<◌, ◌≤◌, IsTrue, IfSome, IfNone, List, [], length, take};
 ghost use Rattle.zerotrie_core.specs.Kind.{Kind};
 ghost use Rattle.zerotrie_core.specs.Maps.{Map};
 ghost use Rattle.zerotrie_core.specs.Texts.{AreHigh, Means};
@@ -233,19 +233,24 @@ fn is_target_counted<K: ZeroTrieWithOptions>(target: Here<'_>) -> (bool, u32)
     if at.rest.is_empty() {
         return (expected.takes_end(), 1);
     }
-    is_text_counted::<K>(at, expected)
+    is_text_counted::<K>(at.tail, at.rest.len(), expected)
 }
 
-/// Whether the bytes that are to be gone over are a trie of the kind and begin as they may, and the depth of the trie.
+/// Whether the first `len` of these bytes are a trie of the kind and begin as they may, and the depth of the trie.
 #[cycle(tested)]
-fn is_text_counted<K: ZeroTrieWithOptions>(here: Here<'_>, expected: Expected) -> (bool, u32)
+fn is_text_counted<K: ZeroTrieWithOptions>(
+    tail: &[u8],
+    len: usize,
+    expected: Expected,
+) -> (bool, u32)
+    requires { len ≤ length tail.now }
     ensures yes { IsTrue result.0
-        ↔ (IsAllowed expected here.entry.rest.now × IsWellFormed K.kind here.entry.rest.now) }
-    ensures count { IsAllowed expected here.entry.rest.now → (m : Map)
-        (means : Means K.kind here.entry.rest.now m) → result.1 ≡ deep means.lists }
-    ensures shallow { IsShallow here.entry.rest.now result.1 }
+        ↔ (IsAllowed expected (take len tail.now) × IsWellFormed K.kind (take len tail.now)) }
+    ensures count { IsAllowed expected (take len tail.now) → (m : Map)
+        (means : Means K.kind (take len tail.now) m) → result.1 ≡ deep means.lists }
+    ensures shallow { IsShallow (take len tail.now) result.1 }
 {
-    let mut at = here;
+    let mut at = Here::first_of(tail, len);
     let mut next = expected;
     let mut most: u32 = 1;
     while let Some(node) = first_node::<K>(at.rest) {
@@ -288,7 +293,7 @@ pub fn is_well_formed_counted<K: ZeroTrieWithOptions>(bytes: &[u8]) -> (bool, u3
     ensures count { (m : Map) (means : Means K.kind bytes.now m) → result.1 ≡ deep means.lists }
     ensures shallow { IsShallow bytes.now result.1 }
 {
-    is_text_counted::<K>(Here::at(bytes), Expected::Anything)
+    is_text_counted::<K>(bytes, bytes.len(), Expected::Anything)
 }
 
 /// Whether the bytes are a trie of the kind, every rule of the format kept.

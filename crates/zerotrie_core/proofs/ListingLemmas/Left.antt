@@ -333,6 +333,10 @@ lies_behind tail rest after lies e =
     ∙ drop-take (length e.0) (length after) tail
     ∙ ap (λ n. take (length after) (drop n tail)) (sym passed)
 
+-- what is cut from the tail is what comes after
+pub cut_behind : (tail rest after back head : List ℕ) → rest ≡ take (length rest) tail → EndsWith rest after → back ≡ drop (length rest - length after) tail → head ≡ take (length after) back → head ≡ after
+cut_behind tail rest after back head lies e is cut = cut ∙ ap (take (length after)) is ∙ sym (lies_behind tail rest after lies e)
+
 pub lies_len : (tail rest : List ℕ) → rest ≡ take (length rest) tail → length rest ≤ length tail
 lies_len tail rest lies = let n : length rest ≡ _ = ap length lies ∙ length-take (length rest) tail in omega arith
 

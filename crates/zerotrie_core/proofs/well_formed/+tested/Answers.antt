@@ -1,6 +1,6 @@
-use Rattle.std.proofs.Common.{◌≡◌, ℕ, zero, suc, ◌+◌, ◌-◌, ◌*◌, ◌^◌, ◌<◌, ◌≤◌, List, [], length, drop, slice_index, arith, rules, refl, sym, subst, ◌∙◌, ap, inl, inr}
-use Rattle.std.specs.Prelude.{max}
-use Rattle.std.proofs.lemmas.List.{nil_from_length, length-drop}
+use Rattle.std.proofs.Common.{◌≡◌, ℕ, zero, suc, ◌+◌, ◌-◌, ◌*◌, ◌^◌, ◌<◌, ◌≤◌, List, [], length, take, drop, slice_index, arith, rules, refl, sym, subst, ◌∙◌, ap, inl, inr}
+use Rattle.std.specs.Prelude.{max, ◌↔◌, IsTrue}
+use Rattle.std.proofs.lemmas.List.{nil_from_length, length-drop, length-take-le}
 use Rattle.std.proofs.lemmas.Bool.{eqb-true, eqb-false, cases_lt}
 use Rattle.zerotrie_core.specs.Kind.{Kind}
 use Rattle.zerotrie_core.specs.Texts.Lists.{nothing}
@@ -8,7 +8,9 @@ use Rattle.zerotrie_core.specs.declared.well_formed.Expected.{Expected}
 use Rattle.zerotrie_core.specs.Nodes.{Begins, begin_of}
 use Rattle.zerotrie_core.specs.Shapes.{branch_shape}
 use Rattle.zerotrie_core.specs.declared.well_formed.Expected.TheVariants.{Something}
-use Rattle.zerotrie_core.specs.WellFormed.{IsWellFormed, IsShallow}
+use Rattle.zerotrie_core.specs.Maps.{Map}
+use Rattle.zerotrie_core.specs.Texts.{Means}
+use Rattle.zerotrie_core.specs.WellFormed.{IsWellFormed, IsShallow, deep}
 use Rattle.zerotrie_core.specs.listing.Runs.{EndsWith}
 use Rattle.zerotrie_core.specs.well_formed.Testing.{IsText, IsAllowed, IsPastValue, ReducesTo}
 use Rattle.zerotrie_core.proofs.WellFormedLemmas.Depth.{shallow_one, shallow_max, shallow_longer, deep_no_node, deep_some}
@@ -146,36 +148,50 @@ is_target_counted-returns-then-is_empty-clause-shallow g t c = shallow_one c.arg
 pub is_target_counted-returns-clause-yes : goal.is_target_counted-returns-clause-yes
 is_target_counted-returns-clause-yes g t c =
     let kind = g.K.ZeroTrieWithOptions.kind in
+    let at = c.pass_twice-expected.result.0 in
+    let expected = c.pass_twice-expected.result.1 in
     let way = c.pass_twice-expected.ensures.reduces c.requires kind in
     let within = c.pass_twice-expected.ensures.shorter in
-    let r = c.is_text_counted.ensures.yes in (
-      λ e. passed_well kind c.args.target.rest.now c.pass_twice-expected.result.0.rest.now c.pass_twice-expected.result.1 way within (omega arith) (r.0 e).0 (r.0 e).1,
-      λ well. r.1 (well_passed kind c.args.target.rest.now c.pass_twice-expected.result.0.rest.now c.pass_twice-expected.result.1 way within (omega arith) well),
+    let r = subst (λ x. IsTrue c.is_text_counted.result.0 ↔ (IsAllowed expected x × IsWellFormed kind x)) (sym at.lies) c.is_text_counted.ensures.yes in (
+      λ e. passed_well kind c.args.target.rest.now at.rest.now expected way within (omega arith) (r.0 e).0 (r.0 e).1,
+      λ well. r.1 (well_passed kind c.args.target.rest.now at.rest.now expected way within (omega arith) well),
     )
 
 pub is_target_counted-returns-clause-count : goal.is_target_counted-returns-clause-count
 is_target_counted-returns-clause-count g t c m means =
     let kind = g.K.ZeroTrieWithOptions.kind in
+    let at = c.pass_twice-expected.result.0 in
     let within = c.pass_twice-expected.ensures.shorter in
     let leads = (c.pass_twice-expected.ensures.reduces c.requires kind).there means.pairs means.lists in
-    let is = c.is_text_counted.ensures.count leads.allowed _ (text_means (omega arith) leads.inner) in
+    let counts_at = subst (λ x. IsAllowed c.pass_twice-expected.result.1 x → (m : Map) (means : Means kind x m) → c.is_text_counted.result.1 ≡ deep means.lists) (sym at.lies) c.is_text_counted.ensures.count in
+    let is = counts_at leads.allowed _ (text_means (omega arith) leads.inner) in
     let some = deep_some leads.inner in
     let counts = leads.counts in
     omega arith
 
 pub is_target_counted-returns-clause-shallow : goal.is_target_counted-returns-clause-shallow
-is_target_counted-returns-clause-shallow g t c = shallow_longer c.pass_twice-expected.result.0.rest.now c.args.target.rest.now c.is_text_counted.result.1 c.pass_twice-expected.ensures.shorter c.is_text_counted.ensures.shallow
+is_target_counted-returns-clause-shallow g t c =
+    let at = c.pass_twice-expected.result.0 in
+    let shallow = subst (λ x. IsShallow x c.is_text_counted.result.1) (sym at.lies) c.is_text_counted.ensures.shallow in
+    shallow_longer at.rest.now c.args.target.rest.now c.is_text_counted.result.1 c.pass_twice-expected.ensures.shorter shallow
 
 pub is_text_counted-loop-node-init : goal.is_text_counted-loop-node-init
-is_text_counted-loop-node-init g t c = record {
-  within = omega arith;
-  shallow = shallow_one c.args.here.rest.now;
-  reduces = λ allowed. reduces_at g.K.ZeroTrieWithOptions.kind c.args.here.rest.now c.args.expected allowed;
-  begins = λ allowed text. allowed;
-}
+is_text_counted-loop-node-init g t c =
+    let kind = g.K.ZeroTrieWithOptions.kind in
+    let bytes = take c.args.len c.args.tail.now in
+    let at = c.first_of-at.result.rest.now in
+    let is : bytes ≡ at = sym c.first_of-at.ensures in
+    let len = length-take-le c.args.len c.args.tail.now c.requires in
+    let same = ap length c.first_of-at.ensures in
+    record {
+      within = omega arith;
+      shallow = shallow_one bytes;
+      reduces = λ allowed. subst (λ x. ReducesTo kind bytes x c.args.expected 1) is (reduces_at kind bytes c.args.expected allowed);
+      begins = λ allowed text. subst (IsAllowed c.args.expected) c.first_of-at.ensures allowed;
+    }
 
 -- what comes next may not stand there
-wrong : (g : _) (t : _) (c : goal.is_text_counted-In-Wrong g t) → IsAllowed c.args.expected c.args.here.rest.now → IsText g.K.ZeroTrieWithOptions.kind c.args.here.rest.now → ⊥
+wrong : (g : _) (t : _) (c : goal.is_text_counted-In-Wrong g t) → IsAllowed c.args.expected (take c.args.len c.args.tail.now) → IsText g.K.ZeroTrieWithOptions.kind (take c.args.len c.args.tail.now) → ⊥
 wrong g t c allowed text =
     let leads = (c.loop-node.invariant.reduces allowed).there text.0 text.1 in
     c.in-Wrong.ensures c.loop-node.at.rest.now c.in-Some.ensures.some leads.allowed (leads.below, leads.inner)
@@ -200,8 +216,8 @@ is_text_counted-loop-node-preserved-in-Over g t c =
     record {
       within = omega (arith, so_far.within, shorter, there);
       shallow = so_far.shallow;
-      reduces = λ allowed. subst (λ x. ReducesTo kind c.args.here.rest.now x c.in-Over.following c.loop-node.most) (sym c.behind-at.ensures)
-          (subst (λ m. ReducesTo kind c.args.here.rest.now c.in-Over.after.now c.in-Over.following m) same (reduces_more (so_far.reduces allowed) (step.1 rest begins) (step.2 rest begins)));
+      reduces = λ allowed. subst (λ x. ReducesTo kind (take c.args.len c.args.tail.now) x c.in-Over.following c.loop-node.most) (sym c.behind-at.ensures)
+          (subst (λ m. ReducesTo kind (take c.args.len c.args.tail.now) c.in-Over.after.now c.in-Over.following m) same (reduces_more (so_far.reduces allowed) (step.1 rest begins) (step.2 rest begins)));
       begins = λ allowed text. so_far.begins (step.1 rest begins)
           ((step.2 rest begins).back (subst (IsAllowed c.in-Over.following) c.behind-at.ensures allowed) (subst (IsText kind) c.behind-at.ensures text));
     }
@@ -227,7 +243,7 @@ is_text_counted-loop-node-preserved-in-Literals g t c =
     record {
       within = omega (arith, so_far.within, there, gone);
       shallow = so_far.shallow;
-      reduces = λ allowed. subst (λ m. ReducesTo kind c.args.here.rest.now after next m) same (reduces_more (so_far.reduces allowed) (step.1 rest begins) way);
+      reduces = λ allowed. subst (λ m. ReducesTo kind (take c.args.len c.args.tail.now) after next m) same (reduces_more (so_far.reduces allowed) (step.1 rest begins) way);
       begins = λ allowed text. so_far.begins (step.1 rest begins) (way.back allowed text);
     }
   where
@@ -246,7 +262,7 @@ is_text_counted-go_behind-requires g t c =
     let begins : Begins kind rest (branch_shape b) = subst (Begins kind rest) c.in-Behind.ensures.0 c.in-Some.ensures.some in
     let shorter = branch_shorter kind b.edges b.width b.table.now b.behind.now rest begins in
     let within = c.loop-node.invariant.within in
-    let falls : length b.behind.now < length c.args.here.rest.now = omega arith in
+    let falls : length b.behind.now < c.args.len = omega arith in
     let ends : EndsWith rest b.behind.now = branch_end kind rest b.edges b.width b.table.now b.behind.now begins in
     search rules
 
@@ -263,18 +279,19 @@ is_text_counted-loop-node-preserved g t c =
     let behind = branch_shorter kind b.edges b.width b.table.now b.behind.now rest begins in
     let within = so_far.within in
     let m = c.max-most.ensures in
+    let len = length-take-le c.args.len c.args.tail.now c.requires in
     let way = c.in-Some-go_behind.ensures.some rest begins in
     let allowed_here = c.in-Behind.ensures.1 rest c.in-Some.ensures.some in
     record {
       within = omega arith;
-      shallow = subst (λ n. IsShallow c.args.here.rest.now n) (sym m)
-          (shallow_max c.args.here.rest.now c.loop-node.most count so_far.shallow (shallow_longer b.behind.now c.args.here.rest.now count (omega arith) c.in-Some-go_behind.ensures.shallow));
-      reduces = λ allowed. subst (λ n. ReducesTo kind c.args.here.rest.now longest Something n) (sym m) (reduces_more (so_far.reduces allowed) allowed_here way);
+      shallow = subst (λ n. IsShallow (take c.args.len c.args.tail.now) n) (sym m)
+          (shallow_max (take c.args.len c.args.tail.now) c.loop-node.most count so_far.shallow (shallow_longer b.behind.now (take c.args.len c.args.tail.now) count (omega arith) c.in-Some-go_behind.ensures.shallow));
+      reduces = λ allowed. subst (λ n. ReducesTo kind (take c.args.len c.args.tail.now) longest Something n) (sym m) (reduces_more (so_far.reduces allowed) allowed_here way);
       begins = λ allowed text. so_far.begins allowed_here (way.back allowed text);
     }
 
 -- the branch that comes next is no text
-no_branch : (g : _) (t : _) (c : goal.is_text_counted-In-None g t) → IsAllowed c.args.expected c.args.here.rest.now → IsText g.K.ZeroTrieWithOptions.kind c.args.here.rest.now → ⊥
+no_branch : (g : _) (t : _) (c : goal.is_text_counted-In-None g t) → IsAllowed c.args.expected (take c.args.len c.args.tail.now) → IsText g.K.ZeroTrieWithOptions.kind (take c.args.len c.args.tail.now) → ⊥
 no_branch g t c allowed text =
     let kind = g.K.ZeroTrieWithOptions.kind in
     let rest = c.loop-node.at.rest.now in
@@ -293,6 +310,7 @@ is_text_counted-returns-then-is_empty-clause-yes g t c =
     let kind = g.K.ZeroTrieWithOptions.kind in
     let rest = c.loop-node.at.rest.now in
     let next = c.loop-node.next in
+    let len = length-take-le c.args.len c.args.tail.now c.requires in
     let so_far = c.loop-node.invariant in
     let none : rest ≡ [] = nil_from_length rest (eqb-true _ _ (sym c.is_empty.ensures ∙ c.if-is_empty.true)) in
     let end : IsText kind rest = subst (IsText kind) (sym none) ([], nothing) in (
@@ -314,7 +332,7 @@ is_text_counted-returns-then-is_empty-clause-count g t c = λ allowed m means. (
     )
 
 -- bytes are left, of which no node begins
-left : (g : _) (t : _) (c : goal.is_text_counted-Else-is_empty g t) → IsAllowed c.args.expected c.args.here.rest.now → IsText g.K.ZeroTrieWithOptions.kind c.args.here.rest.now → ⊥
+left : (g : _) (t : _) (c : goal.is_text_counted-Else-is_empty g t) → IsAllowed c.args.expected (take c.args.len c.args.tail.now) → IsText g.K.ZeroTrieWithOptions.kind (take c.args.len c.args.tail.now) → ⊥
 left g t c allowed text =
     let leads = (c.loop-node.invariant.reduces allowed).there text.0 text.1 in
     let end = deep_no_node leads.inner c.in_default.ensures.none in

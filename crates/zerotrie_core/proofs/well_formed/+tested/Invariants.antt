@@ -1,4 +1,4 @@
-use Rattle.std.proofs.Common.{◌≡◌, ◌≤◌, ◌<◌, ◌+◌, ◌*◌, [], length}
+use Rattle.std.proofs.Common.{◌≡◌, ◌≤◌, ◌<◌, ◌+◌, ◌*◌, [], length, take}
 use Rattle.std.specs.Prelude.{◌≢◌}
 use Rattle.zerotrie_core.specs.Nodes.{begin_of}
 use Rattle.zerotrie_core.specs.WellFormed.{IsShallow}
@@ -7,7 +7,7 @@ use Rattle.zerotrie_core.proofs.WellFormedLemmas.Targets.{Passed}
 use Rattle.zerotrie_core.proofs.well_formed.+tested.Given as goal
 
 abbrev pub decreases-is_text_counted : goal.decreases-is_text_counted
-decreases-is_text_counted g l = 2 * length l.here.rest.now
+decreases-is_text_counted g l = 2 * l.len
 
 abbrev pub decreases-is_target_counted : goal.decreases-is_target_counted
 decreases-is_target_counted g l = 2 * length l.target.rest.now + 1
@@ -17,10 +17,10 @@ decreases-go_behind g l = 2 * length l.branch.behind.now
 
 abbrev pub invariant-is_text_counted-loop-node : goal.invariant-is_text_counted-loop-node
 invariant-is_text_counted-loop-node g l = record {
-  within : length l.at.rest.now ≤ length l.here.rest.now;
-  shallow : IsShallow l.here.rest.now l.most;
-  reduces : IsAllowed l.fn.expected l.here.rest.now → ReducesTo g.K.ZeroTrieWithOptions.kind l.here.rest.now l.at.rest.now l.next l.most;
-  begins : IsAllowed l.next l.at.rest.now → IsText g.K.ZeroTrieWithOptions.kind l.at.rest.now → IsAllowed l.fn.expected l.here.rest.now;
+  within : length l.at.rest.now ≤ l.len;
+  shallow : IsShallow (take l.len l.tail) l.most;
+  reduces : IsAllowed l.fn.expected (take l.len l.tail) → ReducesTo g.K.ZeroTrieWithOptions.kind (take l.len l.tail) l.at.rest.now l.next l.most;
+  begins : IsAllowed l.next l.at.rest.now → IsText g.K.ZeroTrieWithOptions.kind l.at.rest.now → IsAllowed l.fn.expected (take l.len l.tail);
 }
 
 abbrev pub decreases-is_text_counted-loop-node : goal.decreases-is_text_counted-loop-node

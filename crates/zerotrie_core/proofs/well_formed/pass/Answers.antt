@@ -1,4 +1,4 @@
-use Rattle.std.proofs.Common.{length, drop, subst, ap, arith}
+use Rattle.std.proofs.Common.{length, subst, ap, arith}
 use Rattle.std.proofs.lemmas.List.{length-drop}
 use Rattle.zerotrie_core.specs.well_formed.Testing.{IsPastValue}
 use Rattle.zerotrie_core.proofs.WellFormedLemmas.Steps.{past_reduces, past_within}
