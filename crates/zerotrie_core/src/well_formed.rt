@@ -191,6 +191,7 @@ fn go_behind<'a, K: ZeroTrieWithOptions>(
 ) -> Option<(Here<'a>, u32)>
     requires { EndsWith here.rest.now branch.behind.now }
     ensures shorter { IfSome result (λ r. length r.0.rest.now < length branch.entry.behind.now) }
+    ensures left { IfSome result (λ r. r.0.rest.now ≢ []) }
     ensures shallow { IfSome result (λ r. IsShallow branch.entry.behind.now r.1) }
     ensures some { IfSome result (λ r.
         AlwaysReducesTo K.kind (branch_shape branch.entry) r.0.rest.now Expected.Something r.1) }
@@ -266,8 +267,7 @@ fn is_text_counted<K: ZeroTrieWithOptions>(
             Step::Behind(branch) => match go_behind::<K>(at, branch) {
                 None => return (false, most),
                 Some((longest, count)) => {
-                    at = longest;
-                    next = Expected::Something;
+                    (at, next) = pass(longest);
                     most = most.max(count);
                 }
             },

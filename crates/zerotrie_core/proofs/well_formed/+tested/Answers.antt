@@ -1,5 +1,5 @@
 use Rattle.std.proofs.Common.{◌≡◌, ℕ, zero, suc, ◌+◌, ◌-◌, ◌*◌, ◌^◌, ◌<◌, ◌≤◌, List, [], length, take, drop, slice_index, arith, rules, refl, sym, subst, ◌∙◌, ap, inl, inr}
-use Rattle.std.specs.Prelude.{max, ◌↔◌, IsTrue}
+use Rattle.std.specs.Prelude.{max, ◌≢◌, ◌↔◌, IsTrue}
 use Rattle.std.proofs.lemmas.List.{nil_from_length, length-drop, length-take-le}
 use Rattle.std.proofs.lemmas.Bool.{eqb-true, eqb-false, cases_lt}
 use Rattle.zerotrie_core.specs.Kind.{Kind}
@@ -7,7 +7,6 @@ use Rattle.zerotrie_core.specs.Texts.Lists.{nothing}
 use Rattle.zerotrie_core.specs.declared.well_formed.Expected.{Expected}
 use Rattle.zerotrie_core.specs.Nodes.{Begins, begin_of}
 use Rattle.zerotrie_core.specs.Shapes.{branch_shape}
-use Rattle.zerotrie_core.specs.declared.well_formed.Expected.TheVariants.{Something}
 use Rattle.zerotrie_core.specs.Maps.{Map}
 use Rattle.zerotrie_core.specs.Texts.{Means}
 use Rattle.zerotrie_core.specs.WellFormed.{IsWellFormed, IsShallow, deep}
@@ -280,14 +279,21 @@ is_text_counted-loop-node-preserved g t c =
     let within = so_far.within in
     let m = c.max-most.ensures in
     let len = length-take-le c.args.len c.args.tail.now c.requires in
+    let passed = c.pass.result.0.rest.now in
+    let next = c.pass.result.1 in
     let way = c.in-Some-go_behind.ensures.some rest begins in
+    let on = c.pass.ensures.reduces c.in-Some-go_behind.ensures.left kind in
+    let further = c.pass.ensures.shorter in
+    let one = so_far.shallow.0 in
+    let same : max (max c.loop-node.most count) 1 ≡ c.max-most.result = omega arith in
+    let left : longest ≢ [] = c.in-Some-go_behind.ensures.left in
     let allowed_here = c.in-Behind.ensures.1 rest c.in-Some.ensures.some in
     record {
       within = omega arith;
       shallow = subst (λ n. IsShallow (take c.args.len c.args.tail.now) n) (sym m)
           (shallow_max (take c.args.len c.args.tail.now) c.loop-node.most count so_far.shallow (shallow_longer b.behind.now (take c.args.len c.args.tail.now) count (omega arith) c.in-Some-go_behind.ensures.shallow));
-      reduces = λ allowed. subst (λ n. ReducesTo kind (take c.args.len c.args.tail.now) longest Something n) (sym m) (reduces_more (so_far.reduces allowed) allowed_here way);
-      begins = λ allowed text. so_far.begins allowed_here (way.back allowed text);
+      reduces = λ allowed. subst (λ n. ReducesTo kind (take c.args.len c.args.tail.now) passed next n) same (reduces_more (reduces_more (so_far.reduces allowed) allowed_here way) left on);
+      begins = λ allowed text. so_far.begins allowed_here (way.back left (on.back allowed text));
     }
 
 -- the branch that comes next is no text
