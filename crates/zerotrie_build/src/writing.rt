@@ -135,7 +135,7 @@ impl<S: TrieBuilderStore + Drop> Writing<S> {
         self.put_large(bits, latent, number);
     }
 
-    /// Writes a number that has three bytes or more. As a rule it has three, and these are written as they are found.
+    /// Writes a number that has three bytes or more. Three are written as they are found.
     #[inline(always)]
     fn put_large(&mut self, bits: u8, latent: u8, number: usize)
         requires form { IsLead bits latent }
@@ -150,6 +150,29 @@ impl<S: TrieBuilderStore + Drop> Writing<S> {
         if high < 128 * least {
             self.put(bits + latent + (high / 128) as u8);
             self.put(128 + (high % 128) as u8);
+            self.put((low % 128) as u8);
+            return;
+        }
+        self.put_larger(bits, latent, number);
+    }
+
+    /// Writes a number that has four bytes or more. The numbers of lines of a long file have four.
+    #[inline(always)]
+    fn put_larger(&mut self, bits: u8, latent: u8, number: usize)
+        requires form { IsLead bits latent }
+        requires larger { latent + 128 * (latent + 128 * latent) ≤ number }
+        requires room { self.old.at + length (spelled_with_bits bits latent number)
+            ≤ length (S.list self.old.data) }
+        ensures { WritesNext S.list self.old self.new (spelled_with_bits bits latent number) }
+    {
+        let least = latent as usize;
+        let low = number - least;
+        let middle = low / 128 - least;
+        let top = middle / 128 - least;
+        if top < 128 * least {
+            self.put(bits + latent + (top / 128) as u8);
+            self.put(128 + (top % 128) as u8);
+            self.put(128 + (middle % 128) as u8);
             self.put((low % 128) as u8);
             return;
         }
