@@ -1,6 +1,6 @@
 -- No key comes twice in the primary of a table.
 use Rattle.std.proofs.Common.{◌≡◌, ℕ, ◌+◌, ◌<◌, List, [], ◌∷◌, ◌++◌, refl, sym, ap, subst, ◌∙◌, arith, Bool, true, false, cond, inl, inr, Option, Some, None, length, get_or, map, zero, suc}
-use Rattle.std.specs.Prelude.{◌&&◌, filter, is_some, not}
+use Rattle.std.specs.Prelude.{◌&&◌, is_some, not}
 use Rattle.zerotrie_core.specs.Kind.{simple_ascii}
 use Rattle.zerotrie_core.specs.Maps.{Pairs, Ascends, RepeatsKey}
 use Rattle.zerotrie_core.proofs.CallerLemmas.{exact_itself, same_equiv}

@@ -1,6 +1,6 @@
 //! The search tables of branches, and the order that they give the targets.
 
-ghost use Rattle.std.specs.Prelude.{◌≡◌, ◌≢◌, ℕ, List, [], ◌∷◌, ◌+◌, ◌-◌, ◌^◌, ◌<◌, ◌≤◌, ◌++◌, length, map, reverse, slice_index_or, All, OnOk, IfErr};
+ghost use Rattle.std.specs.Prelude.{◌≡◌, ◌≢◌, ℕ, List, [], ◌∷◌, ◌+◌, ◌-◌, ◌^◌, ◌<◌, ◌≤◌, ◌++◌, length, map, reverse, slice_index_or, All, IfOk, OnOk, IfErr};
 ghost use Rattle.std.specs.List.{range_with_len};
 ghost use Rattle.std.specs.List.Sorted.{IsPermutation, IsStrictlyIncreasing};
 ghost use Rattle.zerotrie_base.specs.Refusals.{IsTableRefusal};
@@ -11,7 +11,7 @@ ghost use Rattle.zerotrie_build.specs.passes.Measured.{TargetWindows};
 ghost use Rattle.zerotrie_build.specs.passes.Writing.{window_at, edge_no, place_in, position_at, text_of, placed_next, next_of, IsHashedLayout, IsLayout, HasSlots};
 
 use crate::indexed::IndexedItems;
-use crate::measuring::is_hashed;
+use crate::measuring::{Measured, is_hashed};
 use crate::windows::{Window, edge_at, group_end, group_end_near};
 use std::alloc::{AllocError, Allocator, Global};
 use zerotrie_core::{PerfectByteHashMapCacheOwned, ZeroTrieBuildError, ZeroTrieWithOptions};
@@ -52,6 +52,20 @@ pub(crate) struct WriteInput<'a> {
     pub(crate) ascii: bool,
 }
 
+impl<'a> WriteInput<'a> {
+    /// What the first pass found. If `ascii` is true, all keys are ASCII.
+    pub(crate) fn new<A: Allocator>(measured: &'a Measured<A>, ascii: bool) -> Self
+        ensures slots { result.slots.now ≡ measured.now.slots.items }
+        ensures ascii { result.ascii ≡ ascii }
+    {
+        WriteInput {
+            slots: measured.slots.as_slice(),
+            counts: measured.counts.as_slice(),
+            ascii,
+        }
+    }
+}
+
 /// The layout of a branch. Its memory serves one branch after another. Hashed tables have memory of their own.
 #[derive(Drop)]
 pub(crate) struct Layout<A: Allocator> {
@@ -68,18 +82,21 @@ pub(crate) struct Layout<A: Allocator> {
 }
 
 impl<A: Allocator + Copy> Layout<A> {
-    /// No branch.
-    pub(crate) fn new(alloc: Global, spare: A) -> Self
-        ensures { result.pending.items ≡ [] }
+    /// No branch. The window of all items is to be written, of which there are so many.
+    pub(crate) fn new(alloc: Global, spare: A, items: usize) -> Result<Self, AllocError>
+        ensures { IfOk result (λ layout. layout.pending.items
+            ≡ Next.Text (record { to = items; depth = 0 }) ∷ []) }
     {
-        Layout {
+        let mut pending = Vec::new(spare);
+        pending.push(text_of(Window::new(0, items, 0)))?;
+        Ok(Layout {
             alloc,
             cache: PerfectByteHashMapCacheOwned::new_empty(alloc),
             windows: Vec::new(spare),
             table: Vec::new(spare),
             numbers: Vec::new(spare),
-            pending: Vec::new(spare),
-        }
+            pending,
+        })
     }
 
     /// No branch, as at first.

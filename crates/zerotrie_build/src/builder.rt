@@ -10,13 +10,14 @@ ghost use Rattle.zerotrie_core.specs.Routes.{ascending, any_order, IsRefusal, Is
 ghost use Rattle.zerotrie_build.specs.Items.{pairs};
 ghost use Rattle.zerotrie_build.specs.Order.{Ordered, AreKeys, AreValues};
 
+use crate::branch_layout::{Layout, WriteInput};
 use crate::indexed::IndexedItems;
 use crate::measuring::measure_all;
 use crate::order::{are_ascii, are_in_order, are_keys, is_ordered, repeats_next};
 use crate::slice_indices::ByteSliceWithIndices;
 use crate::sort::sorted_by_fold;
 use crate::store::TrieBuilderStore;
-use crate::writing::write;
+use crate::writing::Writing;
 use std::alloc::{AllocError, Allocator, Global};
 use zerotrie_core::{
     Ext, Hash, Ignore, Simple, TrieKey, ZeroTrieBuildError, ZeroTrieBuilderOptions,
@@ -50,7 +51,7 @@ fn in_order<K: ZeroTrieWithOptions, Key: TrieKey, A: Allocator + Copy>(
     Ok(items)
 }
 
-/// The bytes of the trie of items in the order of the kind.
+/// The bytes of the trie of items in the order of the kind. The store and hashed tables take their memory from `alloc`.
 fn build_ordered<
     'a,
     K: ZeroTrieWithOptions,
@@ -66,7 +67,10 @@ fn build_ordered<
     laws::meant_fits();
     let ascii = are_ascii::<K, I>(items);
     let measured = measure_all::<K, I, A>(spare, items, ascii)?;
-    write::<K, I, S, A>(alloc, spare, items, &measured, ascii)
+    let mut writing: Writing<S> = Writing::new(alloc, measured.len)?;
+    let mut layout = Layout::new(alloc, spare, items.len())?;
+    writing.put_pending::<K, I, A>(items, WriteInput::new(&measured, ascii), &mut layout)?;
+    Ok(writing.into_data())
 }
 
 /// The bytes of the trie of items in any order, which are put in the order of the kind.

@@ -17,7 +17,7 @@ ghost use Rattle.zerotrie_build.specs.passes.Writing.{IsLead, spelled_with_bits,
 use crate::branch_layout::{Layout, Next, PendingWindow, Position, WriteInput};
 use crate::indexed::IndexedItems;
 use crate::leaf::ascii_leaf;
-use crate::measuring::{Measured, width_of};
+use crate::measuring::width_of;
 use crate::store::TrieBuilderStore;
 use crate::windows::{Step, Window, first_step, literals_end};
 use std::alloc::{AllocError, Allocator, Global};
@@ -43,7 +43,7 @@ pub(crate) struct Writing<S> {
 
 impl<S: TrieBuilderStore + Drop> Writing<S> {
     /// A store of this many zeros.
-    fn new(alloc: Global, len: usize) -> Result<Self, AllocError>
+    pub(crate) fn new(alloc: Global, len: usize) -> Result<Self, AllocError>
         ensures zeros { IfOk result (λ w. S.list w.data ≡ replicate len 0) }
         ensures at { IfOk result (λ w. w.at ≡ 0) }
     {
@@ -53,7 +53,7 @@ impl<S: TrieBuilderStore + Drop> Writing<S> {
     }
 
     /// The store.
-    fn into_data(self) -> S
+    pub(crate) fn into_data(self) -> S
         ensures is { S.list result ≡ S.list self.data }
         ensures room { length (S.list result) < 2 ^ 64 }
     {
@@ -135,7 +135,7 @@ impl<S: TrieBuilderStore + Drop> Writing<S> {
         self.put_large(bits, latent, number);
     }
 
-    /// Writes a number that has three bytes or more. As a rule it has three, and these are written as they are found.
+    /// Writes a number that has three bytes or more. Three are written as they are found.
     #[inline(always)]
     fn put_large(&mut self, bits: u8, latent: u8, number: usize)
         requires form { IsLead bits latent }
@@ -150,6 +150,29 @@ impl<S: TrieBuilderStore + Drop> Writing<S> {
         if high < 128 * least {
             self.put(bits + latent + (high / 128) as u8);
             self.put(128 + (high % 128) as u8);
+            self.put((low % 128) as u8);
+            return;
+        }
+        self.put_larger(bits, latent, number);
+    }
+
+    /// Writes a number that has four bytes or more. The numbers of lines of a long file have four.
+    #[inline(always)]
+    fn put_larger(&mut self, bits: u8, latent: u8, number: usize)
+        requires form { IsLead bits latent }
+        requires larger { latent + 128 * (latent + 128 * latent) ≤ number }
+        requires room { self.old.at + length (spelled_with_bits bits latent number)
+            ≤ length (S.list self.old.data) }
+        ensures { WritesNext S.list self.old self.new (spelled_with_bits bits latent number) }
+    {
+        let least = latent as usize;
+        let low = number - least;
+        let middle = low / 128 - least;
+        let top = middle / 128 - least;
+        if top < 128 * least {
+            self.put(bits + latent + (top / 128) as u8);
+            self.put(128 + (top % 128) as u8);
+            self.put(128 + (middle % 128) as u8);
             self.put((low % 128) as u8);
             return;
         }
@@ -330,7 +353,7 @@ impl<S: TrieBuilderStore + Drop> Writing<S> {
     }
 
     /// Writes all that is pending, if the first window begins at the first item and the first slot.
-    fn put_pending<'a, K: ZeroTrieWithOptions, I: IndexedItems<'a>, A: Allocator + Copy>(
+    pub(crate) fn put_pending<'a, K: ZeroTrieWithOptions, I: IndexedItems<'a>, A: Allocator + Copy>(
         &mut self,
         items: I,
         input: WriteInput<'_>,
@@ -375,41 +398,4 @@ fn total(lens: &[usize], numbers: &[usize]) -> usize
         total += lens[*number];
     }
     total
-}
-
-/// Writes the text of the items. The store and hashed tables take their memory from `alloc`.
-pub(crate) fn write<
-    'a,
-    K: ZeroTrieWithOptions,
-    I: IndexedItems<'a>,
-    S: TrieBuilderStore + Drop,
-    A: Allocator + Copy,
->(
-    alloc: Global,
-    spare: A,
-    items: I,
-    measured: &Measured<A>,
-    ascii: bool,
-) -> Result<S, ZeroTrieBuildError>
-    requires measured { IsMeasured K.kind (I.pairs items) measured.now.slots.items
-        measured.now.len }
-    requires ascii { IsTrue ascii → AreAsciiKeys (I.pairs items) }
-    ensures means { IfOk result (λ store. Means K.kind (S.list store) (map_of (I.pairs items))) }
-    ensures refused { IfErr result (λ e. e ≢ ZeroTrieBuildError.OutOfMemory
-        → (e ≡ ZeroTrieBuildError.CouldNotSolvePerfectHash) × Cause K.kind (I.pairs items) e) }
-{
-    let mut writing: Writing<S> = Writing::new(alloc, measured.len)?;
-    let mut layout = Layout::new(alloc, spare);
-    let to = items.len();
-    layout
-        .pending
-        .push(Next::Text(PendingWindow { to, depth: 0 }))?;
-    let slots = measured.slots.as_slice();
-    let input = WriteInput {
-        slots,
-        counts: measured.counts.as_slice(),
-        ascii,
-    };
-    writing.put_pending::<K, I, A>(items, input, &mut layout)?;
-    Ok(writing.into_data())
 }

@@ -6,7 +6,6 @@ ghost use Rattle.zerotrie_core.specs.Canonical.{size_of};
 ghost use Rattle.zerotrie_core.specs.Items.{pairs_of};
 ghost use Rattle.zerotrie_core.specs.Kind.{simple_ascii};
 ghost use Rattle.zerotrie_core.specs.Maps.{Ascends, value_at};
-ghost use Rattle.zerotrie_core.specs.Routes.{ascending, IsLength};
 ghost use Rattle.zerotrie.specs.dense.Layout.{laid, is_dense};
 ghost use Rattle.zerotrie.specs.dense.RowFaults.{AreAsciiTexts, IsRowRefusal, SomeWideWindow};
 ghost use Rattle.zerotrie.specs.dense.Views.{row_shown, pairs_in, rows_in};
@@ -84,14 +83,6 @@ fn has_empty_outside(entries: &BTreeMap<&str, usize>, start: usize) -> bool
     }
 }
 
-/// How long the trie of pairs would be, whose suffixes ascend.
-fn trie_len(alloc: Global, pairs: &[(&str, usize)]) -> Result<usize, ZeroTrieBuildError>
-    ensures { IsLength ascending simple_ascii (pairs_of pairs.now) result }
-{
-    let items = ByteSliceWithIndices::from_str_slice(pairs);
-    encoded_len(alloc, items, ZeroTrieBuilderOptions::of::<Simple>())
-}
-
 /// How long the trie of the window of a row would be.
 fn window_len(
     alloc: Global,
@@ -106,7 +97,8 @@ fn window_len(
     ensures refused { IfErr result (IsRowRefusal (pairs_in entries.now.entries)) }
 {
     let pairs = pairs_inside(alloc, entries, start)?;
-    let len = trie_len(alloc, pairs.as_slice())?;
+    let items = ByteSliceWithIndices::from_str_slice(pairs.as_slice());
+    let len = encoded_len(alloc, items, ZeroTrieBuilderOptions::of::<Simple>())?;
     Ok(len)
 }
 

@@ -1,4 +1,4 @@
--- The spellings of one, two and three bytes.
+-- The spellings of one byte to four.
 use Rattle.std.proofs.Common.{◌≡◌, ℕ, ◌+◌, ◌-◌, ◌*◌, ◌/◌, ◌%◌, ◌^◌, ◌<◌, ◌≤◌, ◌⊎◌, inl, inr, List, [], ◌∷◌, length, refl, ap, arith}
 use Rattle.zerotrie_core.specs.Numbers.{Spells}
 use Rattle.zerotrie_core.proofs.CallerLemmas.{spelling_is}
@@ -44,6 +44,25 @@ three_bytes bits L v is below long longer short =
       below = below;
       digit_below = omega arith;
       is_trail = (omega arith, omega arith, omega arith);
+      bytes_are = ap (λ x. x ∷ trail) (omega arith);
+      value = omega arith;
+    })
+
+pub four_bytes : (bits L v : ℕ) → IsLead bits L → v < 2 ^ 64 → L + 128 * (L + 128 * L) ≤ v → ((v - L) / 128 - L) / 128 - L < 128 * L
+    → (bits + L + (((v - L) / 128 - L) / 128 - L) / 128) ∷ (128 + (((v - L) / 128 - L) / 128 - L) % 128) ∷ (128 + ((v - L) / 128 - L) % 128) ∷ (v - L) % 128 ∷ [] ≡ spelled_with_bits bits L v
+four_bytes bits L v is below long short =
+    let b = bits_are bits L is in
+    let low = v - L in
+    let middle = low / 128 - L in
+    let top = middle / 128 - L in
+    let trail = (128 + top % 128) ∷ (128 + middle % 128) ∷ low % 128 ∷ [] in
+    spelling_is (record { latent_value = L; metadata = bits / (2 * L) }) v ((bits + L + top / 128) ∷ trail) (known bits L is)
+    (record {
+      digit = top / 128;
+      trail = trail;
+      below = below;
+      digit_below = omega arith;
+      is_trail = (omega arith, omega arith, (omega arith, omega arith, omega arith));
       bytes_are = ap (λ x. x ∷ trail) (omega arith);
       value = omega arith;
     })

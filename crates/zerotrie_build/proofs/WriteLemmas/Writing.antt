@@ -9,7 +9,6 @@ use Rattle.zerotrie_core.specs.Branches.{total}
 use Rattle.zerotrie_core.specs.Canonical.{size_of}
 use Rattle.zerotrie_core.specs.Texts.{Means}
 use Rattle.zerotrie_core.proofs.CallerLemmas.{same-map}
-use Rattle.zerotrie_build.specs.Order.{Ordered}
 use Rattle.zerotrie_build.specs.declared.windows.Window.{Window}
 use Rattle.zerotrie_build.specs.declared.branch_layout.Position.{Position}
 use Rattle.zerotrie_build.specs.declared.branch_layout.PendingWindow.{PendingWindow}
@@ -20,7 +19,7 @@ use Rattle.zerotrie_build.specs.passes.Measured.{IsMeasured, sizes_of, whole_win
 use Rattle.zerotrie_build.specs.passes.Writing.{Listed, Texts, position_at, text_of, HasSlotsTo, IsPending, NodesWritten, WrittenTo}
 use Rattle.zerotrie_build.specs.passes.Writing.IsPending.{done, go as to_go, text as to_text}
 use Rattle.zerotrie_build.proofs.WriteLemmas.Puts.{total_append}
-use Rattle.zerotrie_build.proofs.WriteLemmas.Slots.{window_same, opened}
+use Rattle.zerotrie_build.proofs.WriteLemmas.Slots.{window_same}
 use Rattle.zerotrie_build.proofs.WindowLemmas.Windows.{cut_whole}
 
 record Split (kind : Kind) (all : Pairs) (xs ys : List Window) (texts : List (List ℕ)) : Type 0 where
@@ -47,15 +46,11 @@ length-replicate (suc n) x = ap suc (length-replicate n x)
 measured_to : {kind : Kind} {all : Pairs} {slots : List ℕ} {len : ℕ} → IsMeasured kind all slots len → HasSlotsTo kind all slots 0 (length slots) (whole_window all)
 measured_to {slots = slots} m = record { below = slots; more = []; kept = m.slots_are; slots_are = sym (append-nil slots); end_is = omega arith }
 
-pub measured_ordered : {kind : Kind} {all : Pairs} {slots : List ℕ} {len : ℕ} → IsMeasured kind all slots len → Ordered kind all
-measured_ordered {kind = kind} {all = all} m = subst (Ordered kind) (cut_whole all) (opened (measured_to m)).known.ordered
-
 pub leads_start : {kind : Kind} {all : Pairs} {slots : List ℕ} {len : ℕ} → IsMeasured kind all slots len → IsPending kind all slots (position_at 0 0) (text_of (whole_window all) ∷ []) (whole_window all ∷ [])
 leads_start m = to_text (measured_to m) done
 
-pub first_pushed : (all : Pairs) (none one : List Next) (to : ℕ) → none ≡ [] → one ≡ none ++ Text (record { to = to; depth = 0 }) ∷ [] → to ≡ length all → text_of (whole_window all) ∷ [] ≡ reverse one
-first_pushed all none one to empty pushed is =
-    sym (ap reverse (pushed ∙ ap (λ x. x ++ Text (record { to = to; depth = 0 }) ∷ []) empty) ∙ ap (λ n. Text (record { to = n; depth = 0 }) ∷ []) is)
+pub first_pushed : (all : Pairs) (one : List Next) (to : ℕ) → one ≡ Text (record { to = to; depth = 0 }) ∷ [] → to ≡ length all → text_of (whole_window all) ∷ [] ≡ reverse one
+first_pushed all one to pushed is = sym (ap reverse pushed ∙ ap (λ n. Text (record { to = n; depth = 0 }) ∷ []) is)
 
 pub only_zeros : (empty list : List ℕ) (len : ℕ) → empty ≡ [] → list ≡ replicate len 0 ++ empty → list ≡ replicate len 0
 only_zeros empty list len none is = is ∙ ap (λ x. replicate len 0 ++ x) none ∙ append-nil (replicate len 0)

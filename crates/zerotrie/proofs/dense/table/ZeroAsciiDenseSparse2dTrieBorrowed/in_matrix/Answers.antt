@@ -1,4 +1,4 @@
-use Rattle.std.proofs.Common.{◌≡◌, ◌*◌, ◌+◌, ◌<◌, ◌^◌, SomeIff, arith, ◌∙◌, sym, ap, subst, Some, None}
+use Rattle.std.proofs.Common.{◌≡◌, ◌*◌, ◌+◌, ◌<◌, ◌^◌, SomeIff, arith, ◌∙◌, sym, ap, subst, None}
 use Rattle.zerotrie.specs.dense.Views.{parts_of}
 use Rattle.zerotrie.proofs.CellLemmas.{at_cell, at_least, cell_none, cell_read, value_full, value_sum}
 use Rattle.zerotrie.proofs.dense.table.ZeroAsciiDenseSparse2dTrieBorrowed.in_matrix.Goals as goal

@@ -5,7 +5,7 @@ use Rattle.zerotrie_core.specs.Items.{pairs_of, keyed}
 use Rattle.zerotrie_core.specs.Kind.{simple_ascii}
 use Rattle.zerotrie_core.specs.Maps.{Ascends}
 use Rattle.zerotrie_core.specs.Routes.{ascending, any_order, IsRefusal}
-use Rattle.zerotrie.specs.dense.Layout.{laid, laid_rows, laid_pairs, dense_cells, primary_pairs, matrix}
+use Rattle.zerotrie.specs.dense.Layout.{laid_rows, laid_pairs, dense_cells, primary_pairs, matrix}
 use Rattle.zerotrie.specs.dense.Views.{row_shown, rows_in}
 use Rattle.zerotrie.specs.dense.Records.{matrix_bytes}
 use Rattle.zerotrie.specs.dense.Rows.{placed, suffixes}
