@@ -15,7 +15,7 @@ use crate::command::{Choice, Request, parse};
 use crate::reply::{write_bad, write_number, write_ok, write_refused, write_walk};
 use crate::trie::Trie;
 use std::alloc::{AllocError, Global};
-use zerotrie::{CursorOp, ZeroTrieBuildError};
+use zerotrie::CursorOp;
 
 /// What is printed for an input, the status that the run ends with, and after a bad line its number and what is
 /// bad in it.
@@ -60,26 +60,15 @@ impl<'a> Session<'a> {
         Ok(())
     }
 
-    /// Builds the trie. After an error it is empty.
-    fn build(&mut self, alloc: Global) -> Result<(), ZeroTrieBuildError>
-        ensures answer { (s : State) → HasState self.old s → let kind = kind_of s.choice s.pairs in
-            IsBuild any_order kind (λ _. trie_bytes self.new.trie) s.pairs result }
-        ensures built { OnOk result ((s : State) → HasState self.old s →
-            HasState self.new (with_trie s.choice s.pairs (trie_bytes self.new.trie))) }
-        ensures emptied { OnErr result ((s : State) → HasState self.old s →
-            HasState self.new (without_trie s.choice s.pairs)) }
-    {
-        self.trie = Trie::empty(alloc, self.choice);
-        self.trie = Trie::build(alloc, self.choice, self.pairs.as_slice())?;
-        Ok(())
-    }
-
+    /// Builds the trie. If the build is refused, it is empty.
     fn answer_build(&mut self, alloc: Global, output: &mut String) -> Result<Outcome, AllocError>
         ensures { IfOk result (AfterRequest build self.old self.new
             (string_bytes output.old) (string_bytes output.new)) }
     {
-        match self.build(alloc) {
-            Ok(()) => {
+        self.trie = Trie::empty(alloc, self.choice);
+        match Trie::build(alloc, self.choice, self.pairs.as_slice()) {
+            Ok(trie) => {
+                self.trie = trie;
                 write_ok(output, self.trie.as_bytes())?;
                 Ok(Outcome::Done)
             }

@@ -5,8 +5,6 @@ ghost use Rattle.zerotrie.specs.Items.{pairs_of};
 ghost use Rattle.zerotrie.specs.Maps.{Map, Pairs, look};
 ghost use Rattle.zerotrie.specs.Texts.{Lists, Means};
 ghost use Rattle.zerotrie.specs.Routes.{any_order, IsBuild};
-ghost use Rattle.zerotrie.specs.Auto.{auto_kind};
-ghost use Rattle.zerotrie.specs.Flavors.{flavor_kind};
 ghost use Rattle.zerotrie.specs.Walks.{IsWalk};
 ghost use Rattle.zerotrie_tool.specs.Commands.{kind_of};
 ghost use Rattle.zerotrie_tool.specs.Answers.{in_order};
@@ -18,8 +16,8 @@ use crate::command::Choice;
 use crate::listing::{write_pairs, write_sorted};
 use std::alloc::{AllocError, Global};
 use zerotrie::{
-    AsciiKind, AsciiTrie, CursorAnswer, CursorOp, Ext, Hash, HashedKind, HashedTrie, Ignore,
-    Simple, ZeroAsciiIgnoreCaseTrie, ZeroTrie, ZeroTrieBuildError, ZeroTrieExtendedCapacity,
+    AsciiTrie, CursorAnswer, CursorOp, Ext, Hash, HashedTrie, Ignore, Simple,
+    ZeroAsciiIgnoreCaseTrie, ZeroTrie, ZeroTrieBuildError, ZeroTrieExtendedCapacity,
     ZeroTriePerfectHash, ZeroTrieSimpleAscii,
 };
 
@@ -31,38 +29,6 @@ pub enum Trie {
     Hash(ZeroTriePerfectHash<Vec<u8>>),
     Ext(ZeroTrieExtendedCapacity<Vec<u8>>),
     Auto(ZeroTrie<Vec<u8>>),
-}
-
-/// The trie over ASCII keys of the pairs.
-fn build_ascii<K: AsciiKind>(
-    alloc: Global,
-    pairs: &[(&[u8], usize)],
-) -> Result<AsciiTrie<K, Vec<u8>>, ZeroTrieBuildError>
-    ensures { IsBuild any_order K.kind (λ trie. trie.store.items) (pairs_of pairs.now) result }
-{
-    AsciiTrie::try_from_iter(alloc, pairs.iter().copied())
-}
-
-/// The trie over keys of any bytes of the pairs.
-fn build_hashed<K: HashedKind>(
-    alloc: Global,
-    pairs: &[(&[u8], usize)],
-) -> Result<HashedTrie<K, Vec<u8>>, ZeroTrieBuildError>
-    ensures { IsBuild any_order K.kind (λ trie. trie.store.items) (pairs_of pairs.now) result }
-{
-    HashedTrie::try_from_iter(alloc, pairs.iter().copied())
-}
-
-/// The trie of the pairs, of the kind that is taken for them.
-fn build_auto(
-    alloc: Global,
-    pairs: &[(&[u8], usize)],
-) -> Result<ZeroTrie<Vec<u8>>, ZeroTrieBuildError>
-    ensures kind { IfOk result (λ trie. flavor_kind trie.flavor ≡ auto_kind (pairs_of pairs.now)) }
-    ensures build { let added = pairs_of pairs.now in
-        IsBuild any_order (auto_kind added) (λ trie. trie.store.items) added result }
-{
-    ZeroTrie::try_from_iter(alloc, pairs.iter().copied())
 }
 
 impl Trie {
@@ -93,12 +59,13 @@ impl Trie {
         ensures build { let added = pairs_of pairs.now in
             IsBuild any_order (kind_of choice added) trie_bytes added result }
     {
+        let pairs = pairs.iter().copied();
         match choice {
-            Choice::Simple => build_ascii(alloc, pairs).map(Trie::Simple),
-            Choice::Ignore => build_ascii(alloc, pairs).map(Trie::Ignore),
-            Choice::Hash => build_hashed(alloc, pairs).map(Trie::Hash),
-            Choice::Ext => build_hashed(alloc, pairs).map(Trie::Ext),
-            Choice::Auto => build_auto(alloc, pairs).map(Trie::Auto),
+            Choice::Simple => AsciiTrie::try_from_iter(alloc, pairs).map(Trie::Simple),
+            Choice::Ignore => AsciiTrie::try_from_iter(alloc, pairs).map(Trie::Ignore),
+            Choice::Hash => HashedTrie::try_from_iter(alloc, pairs).map(Trie::Hash),
+            Choice::Ext => HashedTrie::try_from_iter(alloc, pairs).map(Trie::Ext),
+            Choice::Auto => ZeroTrie::try_from_iter(alloc, pairs).map(Trie::Auto),
         }
     }
 
