@@ -44,11 +44,7 @@ pub fn place_in<K: ZeroTrieWithOptions>(table: &[u8], byte: u8) -> Option<usize>
         base += half_passed(half, middle, sought);
         left -= half;
     }
-    if folded::<K>(table[base]) == sought {
-        Some(base)
-    } else {
-        None
-    }
+    (folded::<K>(table[base]) == sought).then_some(base)
 }
 
 /// The place, if it lies before the end.

@@ -1,5 +1,9 @@
-use Rattle.std.proofs.Common.{◌+◌, ◌/◌, ◌∙◌, sym, arith, inl, inr}
-use Rattle.std.proofs.lemmas.Bool.{cases_lt}
+use Rattle.std.proofs.Common.{◌≡◌, ◌+◌, ◌/◌, ◌∙◌, ap, get_or, sym, arith, inl, inr}
+use Rattle.std.proofs.lemmas.Bool.{cases_lt, eqb-false}
+use Rattle.std.specs.Prelude.{IfNone, length}
+use Rattle.zerotrie_core.specs.Kind.{fold_byte}
+use Rattle.zerotrie_core.specs.reader.Reading.{AlwaysRises, HasNoPlace}
+use Rattle.zerotrie_core.proofs.Chosen.{chosen}
 use Rattle.zerotrie_core.proofs.NodeLemmas.Places.{bounded_place, below_middle, above_middle}
 use Rattle.zerotrie_core.proofs.edge_search.place_in.Goals as goal
 use Rattle.zerotrie_core.proofs.edge_search.place_in.Goals.{then-sought-first-via-then-sought-first, then-sought-first-via-else-sought-first+then-last-sought}
@@ -53,3 +57,15 @@ loop-left-preserved g c =
             within = λ up k h is. (let w = c.loop-left.invariant.within up k h is in let b = above_middle g.K.ZeroTrieWithOptions.kind c.args.table.now c.folded-sought.result mid k up (omega arith) is (omega arith) in (omega arith, omega arith));
           }
     ]
+
+pub returns-clause-none : goal.returns-clause-none
+returns-clause-none g c =
+    let kind = g.K.ZeroTrieWithOptions.kind in
+    let bytes = c.args.table.now in
+    chosen (λ r. IfNone r (AlwaysRises kind bytes → HasNoPlace kind (length bytes) bytes c.args.byte)) _ _ c.then_some.result c.then_some.ensures
+    (λ yes. tt)
+    (λ no up k h is. (
+        let w = c.loop-left.invariant.within up k h (is ∙ sym c.folded-sought.ensures) in
+        let at : c.loop-left.base ≡ k = omega arith in
+        absurd (eqb-false _ _ no (c.folded.ensures ∙ ap (λ i. fold_byte kind (get_or bytes i 0)) at ∙ is ∙ sym c.folded-sought.ensures))
+        ))
