@@ -65,7 +65,7 @@ returns-clause-none g c =
     chosen (λ r. IfNone r (AlwaysRises kind bytes → HasNoPlace kind (length bytes) bytes c.args.byte)) _ _ c.then_some.result c.then_some.ensures
     (λ yes. tt)
     (λ no up k h is. (
-        let w = c.loop-left.invariant.within up k h (is ∙ sym c.folded-sought.ensures) in
-        let at : c.loop-left.base ≡ k = omega arith in
-        absurd (eqb-false _ _ no (c.folded.ensures ∙ ap (λ i. fold_byte kind (get_or bytes i 0)) at ∙ is ∙ sym c.folded-sought.ensures))
-        ))
+    let w = c.loop-left.invariant.within up k h (is ∙ sym c.folded-sought.ensures) in
+    let at : c.loop-left.base ≡ k = omega arith in
+    absurd (eqb-false _ _ no (c.folded.ensures ∙ ap (λ i. fold_byte kind (get_or bytes i 0)) at ∙ is ∙ sym c.folded-sought.ensures))
+    ))

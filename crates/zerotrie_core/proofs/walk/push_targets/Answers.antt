@@ -1,4 +1,4 @@
-use Rattle.std.proofs.Common.{◌≡◌, ◌+◌, ◌++◌, ◌∷◌, [], ◌∙◌, length, map, refl, sym, ap, rules, arith}
+use Rattle.std.proofs.Common.{◌+◌, ◌++◌, ◌∷◌, [], ◌∙◌, length, map, refl, sym, ap, arith}
 use Rattle.std.proofs.lemmas.List.{append-nil, map-append}
 use Rattle.zerotrie_core.specs.walk.Visits.{target_part}
 use Rattle.zerotrie_core.specs.walk.Seen.{part_of}
