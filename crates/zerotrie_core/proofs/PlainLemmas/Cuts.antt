@@ -3,7 +3,7 @@ use Rattle.std.proofs.Common.{◌≡◌, ℕ, zero, suc, ◌+◌, ◌*◌, ◌<�
 use Rattle.std.proofs.lemmas.Bool.{cases_lt, eqb-true, eq-eqb}
 use Rattle.std.specs.Prelude.{◌==◌}
 use Rattle.std.proofs.Common.{true, false}
-use Rattle.std.proofs.lemmas.List.{drop_all, take-append-drop, append-nil, nil_from_length}
+use Rattle.std.proofs.lemmas.List.{drop_all, append-nil, nil_from_length}
 use Rattle.std.proofs.Math.Seq.{drop-cons}
 use Rattle.zerotrie_core.specs.Numbers.{Spells, extender}
 use Rattle.zerotrie_core.specs.Maps.{Pairs, with_front, Ascends, FirstAbove}
@@ -104,9 +104,6 @@ none_first : (depth b : ℕ) (items : Items) → 0 < length items → BeginsNone
 none_first depth b [] h none = absurd (omega arith)
 none_first depth b (x ∷ items) h none = none
 
-pub first_at : (at : ℕ) (items : Items) → at < length items → key_at (drop at items) 0 ≡ key_at items at
-first_at at items h = ap (λ x. key_at x 0) (drop_here items at h)
-
 Deep-parts : (depth : ℕ) (xs ys : Items) → Deep depth (xs ++ ys) → Deep depth xs × Deep depth ys
 Deep-parts depth [] ys h = (tt, h)
 Deep-parts depth (x ∷ xs) ys h = let r = Deep-parts depth xs ys h.1 in ((h.0, r.0), r.1)
@@ -114,12 +111,6 @@ Deep-parts depth (x ∷ xs) ys h = let r = Deep-parts depth xs ys h.1 in ((h.0, 
 pairs_from-append : (depth : ℕ) (xs ys : Items) → pairs_from depth (xs ++ ys) ≡ pairs_from depth xs ++ pairs_from depth ys
 pairs_from-append depth [] ys = refl
 pairs_from-append depth (x ∷ xs) ys = ap (λ p. (drop depth x.0.now, x.1) ∷ p) (pairs_from-append depth xs ys)
-
-pub deep_drop : (depth at : ℕ) (items : Items) → Deep depth items → Deep depth (drop at items)
-deep_drop depth at items deep = (Deep-parts depth (take at items) (drop at items) (subst (Deep depth) (sym (take-append-drop at items)) deep)).1
-
-pub deep_take : (depth n : ℕ) (items : Items) → Deep depth items → Deep depth (take n items)
-deep_take depth n items deep = (Deep-parts depth (take n items) (drop n items) (subst (Deep depth) (sym (take-append-drop n items)) deep)).0
 
 first_other : (depth byte : ℕ) (others : Items) → Deep (depth + 1) others → BeginsNone depth byte others → FirstOther byte (pairs_from depth others)
 first_other depth byte [] deep other = tt
