@@ -120,8 +120,7 @@ impl<'a> Branch<'a> {
         requires index { index < 2 }
         ensures { IsTargetResult 2 self.now.width self.now.behind.now index result }
     {
-        let (_, body) = self.behind.split_at(2);
-        let (table, targets) = body.split_at(self.width);
+        let (table, targets) = offsets_and_targets(self.behind, 2, self.width);
         let middle = offset_at(table, 0, 1, self.width);
         let begin = if index == 0 { 0 } else { middle };
         let end = if index == 0 { middle } else { targets.len() };
