@@ -68,11 +68,26 @@ impl<'a> Branch<'a> {
         (folded::<K>(self.behind[place]) == sought).then_some(place)
     }
 
+    /// The place of the edge that is the byte to the kind, as the search table tells it: one of more bytes than edges
+    /// is hashed, in the kinds that have hashed tables, and any other is halved.
+    #[inline(always)]
+    fn place_by_table<K: ZeroTrieWithOptions>(&self, byte: u8) -> Option<usize>
+        ensures some { IfSome result (IsPlace K.kind self.now.edges self.now.behind.now byte) }
+        ensures none { IfNone result
+            (IsTable K.kind (take self.now.edges self.now.behind.now) self.now.table.now
+            → HasNoPlace K.kind self.now.edges self.now.behind.now byte) }
+    {
+        if K::USE_PHF && self.table.len() > self.edges {
+            return PerfectByteHashMap::from_bytes(self.table).get(byte);
+        }
+        let (edges, _) = self.behind.split_at(self.edges);
+        place_in::<K>(edges, byte)
+    }
+
     /// The place of the edge that is the byte to the kind.
     ///
     /// Two edges are each held against the byte. Up to 64 are looked at all at once, whatever their order, with
-    /// what bytes follow them. If there are more, or too few bytes are left, a table of more bytes than
-    /// edges is hashed, in the kinds that have hashed tables, and any other is halved.
+    /// what bytes follow them. If there are more, or too few bytes are left, the search table is asked.
     #[inline(always)]
     pub fn place_of<K: ZeroTrieWithOptions>(&self, byte: u8) -> Option<usize>
         ensures some { IfSome result (IsPlace K.kind self.now.edges self.now.behind.now byte) }
@@ -93,11 +108,7 @@ impl<'a> Branch<'a> {
         if self.edges <= 64 && self.behind.len() >= 64 {
             return before_end(first_in_64(self.behind, low, high), self.edges);
         }
-        if K::USE_PHF && self.table.len() > self.edges {
-            return PerfectByteHashMap::from_bytes(self.table).get(byte);
-        }
-        let (edges, _) = self.behind.split_at(self.edges);
-        place_in::<K>(edges, byte)
+        self.place_by_table::<K>(byte)
     }
 
     /// The target of one of two edges, which lies before or after the one offset, if it does.
@@ -109,8 +120,7 @@ impl<'a> Branch<'a> {
         requires index { index < 2 }
         ensures { IsTargetResult 2 self.now.width self.now.behind.now index result }
     {
-        let (_, body) = self.behind.split_at(2);
-        let (table, targets) = body.split_at(self.width);
+        let (table, targets) = offsets_and_targets(self.behind, 2, self.width);
         let middle = offset_at(table, 0, 1, self.width);
         let begin = if index == 0 { 0 } else { middle };
         let end = if index == 0 { middle } else { targets.len() };
@@ -138,6 +148,22 @@ impl<'a> Branch<'a> {
         (before, next)
     }
 
+    /// Like `short_offsets`, for offsets of more bytes. Where there is no offset, that of the nearest edge is answered.
+    #[inline(always)]
+    fn long_offsets(&self, index: usize) -> (usize, usize)
+        requires index { index < self.now.edges }
+        ensures before { 0 < index
+            → result.0 ≡ offset_in self.now.edges self.now.width self.now.behind.now (index - 1) }
+        ensures next { index < self.now.edges - 1
+            → result.1 ≡ offset_in self.now.edges self.now.width self.now.behind.now index }
+    {
+        let count = self.edges - 1;
+        let (table, _) = offsets_and_targets(self.behind, self.edges, self.width);
+        let before = offset_at(table, index.saturating_sub(1), count, self.width);
+        let next = offset_at(table, index.min(count - 1), count, self.width);
+        (before, next)
+    }
+
     /// Like `short_offsets`, for offsets of any number of bytes.
     #[inline(always)]
     fn offsets_at(&self, index: usize) -> (usize, usize)
@@ -148,17 +174,11 @@ impl<'a> Branch<'a> {
             → result.1 ≡ offset_in self.now.edges self.now.width self.now.behind.now index }
     {
         match self.width {
-            1 => return self.short_offsets(index, 1),
-            2 => return self.short_offsets(index, 2),
-            3 => return self.short_offsets(index, 3),
-            _ => {}
+            1 => self.short_offsets(index, 1),
+            2 => self.short_offsets(index, 2),
+            3 => self.short_offsets(index, 3),
+            _ => self.long_offsets(index),
         }
-        let count = self.edges - 1;
-        let (_, body) = self.behind.split_at(self.edges);
-        let (table, _) = body.split_at(self.width * count);
-        let before = offset_at(table, index.saturating_sub(1), count, self.width);
-        let next = offset_at(table, index.min(count - 1), count, self.width);
-        (before, next)
     }
 
     /// The target of an edge, which lies between two offsets, if it does.
@@ -173,12 +193,14 @@ impl<'a> Branch<'a> {
         if self.edges == 2 {
             return self.target_of_two(index);
         }
-        let count = self.edges - 1;
-        let (_, body) = self.behind.split_at(self.edges);
-        let (_, targets) = body.split_at(self.width * count);
+        let targets = self.targets();
         let (before, next) = self.offsets_at(index);
         let from = if index == 0 { 0 } else { before };
-        let to = if index == count { targets.len() } else { next };
+        let to = if index == self.edges - 1 {
+            targets.len()
+        } else {
+            next
+        };
         targets.get(from..to)
     }
 

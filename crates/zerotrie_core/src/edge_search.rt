@@ -1,6 +1,7 @@
 //! The place of a byte among sorted edges.
 
-ghost use Rattle.std.specs.Prelude.{◌≡◌, ◌<◌, ◌≤◌, length, IfSome, IfNone};
+ghost use Rattle.std.specs.Prelude.{◌≡◌, ℕ, ◌+◌, ◌<◌, ◌≤◌, length, slice_index, IfSome, IfNone};
+ghost use Rattle.zerotrie_core.specs.Kind.{fold_byte};
 ghost use Rattle.zerotrie_core.specs.reader.Reading.{AlwaysRises, IsPlace, HasNoPlace};
 
 use crate::fold::folded;
@@ -13,6 +14,32 @@ fn half_passed(half: usize, middle: u8, byte: u8) -> usize
     ensures stayed { byte < middle → result ≡ 0 }
 {
     half * ((256 + byte as usize - middle as usize) / 256)
+}
+
+/// Where a folded byte must be if it stands in this window of a table whose bytes rise when they are folded: the window is
+/// halved until one place is left.
+#[inline(always)]
+fn place_in_window<K: ZeroTrieWithOptions>(
+    table: &[u8],
+    first: usize,
+    count: usize,
+    sought: u8,
+) -> usize
+    requires some { 0 < count }
+    requires inside { first + count ≤ length table.now }
+    ensures inside { result < length table.now }
+    ensures only { (k : ℕ) → AlwaysRises K.kind table.now → fold_byte K.kind (slice_index table.now k) ≡ sought
+        → first ≤ k → k < first + count → k ≡ result }
+{
+    let mut base = first;
+    let mut left = count;
+    while left > 1 {
+        let half = left / 2;
+        let middle = folded::<K>(table[base + half]);
+        base += half_passed(half, middle, sought);
+        left -= half;
+    }
+    base
 }
 
 /// The place of a byte in a table whose bytes rise when they are folded.
@@ -33,22 +60,13 @@ pub fn place_in<K: ZeroTrieWithOptions>(table: &[u8], byte: u8) -> Option<usize>
     if sought < first || last < sought {
         return None;
     }
-    let mut base = end.saturating_sub((last - sought) as usize);
-    let mut left = (end.min((sought - first) as usize) + 1).saturating_sub(base);
+    let base = end.saturating_sub((last - sought) as usize);
+    let left = (end.min((sought - first) as usize) + 1).saturating_sub(base);
     if left == 0 {
         return None;
     }
-    while left > 1 {
-        let half = left / 2;
-        let middle = folded::<K>(table[base + half]);
-        base += half_passed(half, middle, sought);
-        left -= half;
-    }
-    if folded::<K>(table[base]) == sought {
-        Some(base)
-    } else {
-        None
-    }
+    let place = place_in_window::<K>(table, base, left, sought);
+    (folded::<K>(table[place]) == sought).then_some(place)
 }
 
 /// The place, if it lies before the end.

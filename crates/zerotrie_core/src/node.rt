@@ -50,6 +50,39 @@ fn greatest_width<K: ZeroTrieWithOptions>() -> usize
     if K::EXTENDED { 7 } else { 3 }
 }
 
+/// Splits off a hashed table: the parameters of the perfect hash, and the edges. Returns it and all bytes from the first
+/// edge on; `None` if the bytes are shorter than the table and `more`.
+#[inline(always)]
+fn hashed_table_in(edges: usize, more: usize, body: &[u8]) -> Option<(&[u8], &[u8])>
+    requires { (edges ≤ 256) × (more ≤ 2048) }
+    ensures some { IfSome result (λ r. (2 * edges + 1 + more ≤ length body.now)
+        × (r.0.now ≡ take (2 * edges + 1) body.now) × (r.1.now ≡ drop (edges + 1) body.now)) }
+    ensures none { IfNone result (length body.now < 2 * edges + 1 + more) }
+{
+    if body.len() < 2 * edges + 1 + more {
+        return None;
+    }
+    let (table, _) = body.split_at(2 * edges + 1);
+    let (_, behind) = body.split_at(edges + 1);
+    Some((table, behind))
+}
+
+/// Splits off a sorted table, which is the edges. Returns it and all bytes from the first edge on; `None` if the bytes
+/// are shorter than the table and `more`.
+#[inline(always)]
+fn sorted_table_in(edges: usize, more: usize, body: &[u8]) -> Option<(&[u8], &[u8])>
+    requires { (edges ≤ 256) × (more ≤ 2048) }
+    ensures some { IfSome result (λ r. (edges + more ≤ length body.now)
+        × (r.0.now ≡ take edges body.now) × (r.1.now ≡ body.now)) }
+    ensures none { IfNone result (length body.now < edges + more) }
+{
+    if body.len() < edges + more {
+        return None;
+    }
+    let (table, _) = body.split_at(edges);
+    Some((table, body))
+}
+
 /// Splits off the search table of a branch. Returns it and all bytes from the first edge on; `None` if the bytes are
 /// shorter than the table and `more`.
 ///
@@ -70,18 +103,9 @@ fn table_in<K: ZeroTrieWithOptions>(
     ensures none { IfNone result (length body.now < table_size K.kind edges + more) }
 {
     if K::USE_PHF && edges >= 16 {
-        if body.len() < 2 * edges + 1 + more {
-            return None;
-        }
-        let (table, _) = body.split_at(2 * edges + 1);
-        let (_, behind) = body.split_at(edges + 1);
-        Some((table, behind))
+        hashed_table_in(edges, more, body)
     } else {
-        if body.len() < edges + more {
-            return None;
-        }
-        let (table, _) = body.split_at(edges);
-        Some((table, body))
+        sorted_table_in(edges, more, body)
     }
 }
 

@@ -1,6 +1,6 @@
 //! The plain encoder of SimpleAscii tries.
 
-ghost use Rattle.std.specs.Prelude.{◌≡◌, ◌+◌, ◌^◌, ◌<◌, ◌≤◌, ◌↔◌, length, take, drop, nat_lt, IsTrue, IfOk, OnOk, IfErr};
+ghost use Rattle.std.specs.Prelude.{◌≡◌, ◌+◌, ◌^◌, ◌<◌, ◌≤◌, ◌↔◌, ◌++◌, length, take, drop, nat_lt, IsTrue, IfOk, OnOk, IfErr};
 ghost use Rattle.std.specs.List.{list_all};
 ghost use Rattle.std.specs.Ordering.{nat_cmp};
 ghost use Rattle.std.specs.Cmp.Lexicographic.{slice_cmp};
@@ -66,6 +66,24 @@ fn group_len(items: &[(&[u8], usize)], depth: usize, byte: u8) -> usize
     items.len()
 }
 
+/// The byte that the first key has at the place, the items in front of the first key that has another, and those from it on.
+fn first_group<'a, 'k>(
+    items: &'a [(&'k [u8], usize)],
+    depth: usize,
+) -> (u8, &'a [(&'k [u8], usize)], &'a [(&'k [u8], usize)])
+    requires some { 0 < length items.now }
+    requires deep { Deep (depth + 1) items.now }
+    ensures parts { items.now ≡ result.1.now ++ result.2.now }
+    ensures some { 0 < length result.1.now }
+    ensures same { BeginsAll depth result.0 result.1.now }
+    ensures other { BeginsNone depth result.0 result.2.now }
+{
+    let (key, _) = items[0];
+    let byte = key[depth];
+    let (group, others) = items.split_at(group_len(items, depth, byte));
+    (byte, group, others)
+}
+
 /// Writes the value nodes and literals in front of the first branch. Answers how many items end
 /// there, and where the keys of the others go on.
 fn push_run(
@@ -94,9 +112,9 @@ fn push_run(
             push_value(out, value)?;
             at += 1;
         } else {
-            let byte = key[depth];
             let (_, rest) = items.split_at(at);
-            if group_len(rest, depth, byte) < rest.len() {
+            let (byte, _, others) = first_group(rest, depth);
+            if !others.is_empty() {
                 return Ok((at, depth));
             }
             out.push(byte)?;
@@ -120,23 +138,19 @@ fn encode(
     ensures err { IfErr result (CannotWrite (pairs_from depth items.now)) }
 {
     let (ended, depth) = push_run(out, items, depth)?;
-    let (_, items) = items.split_at(ended);
-    if items.is_empty() {
+    let (_, mut rest) = items.split_at(ended);
+    if rest.is_empty() {
         return Ok(());
     }
     let mut edges = Vec::new(alloc);
     let mut starts = Vec::new(alloc);
     let mut targets = Vec::new(alloc);
-    let mut at = 0;
-    while at < items.len() {
-        let (key, _) = items[at];
-        let byte = key[depth];
-        let (_, rest) = items.split_at(at);
-        let (group, _) = rest.split_at(group_len(rest, depth, byte));
+    while !rest.is_empty() {
+        let (byte, group, others) = first_group(rest, depth);
         edges.push(byte)?;
         starts.push(targets.len())?;
         encode(alloc, &mut targets, group, depth + 1)?;
-        at += group.len();
+        rest = others;
     }
     let (_, offsets) = starts.split_at(1);
     push_branch(out, &edges, offsets, &targets)

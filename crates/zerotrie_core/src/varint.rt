@@ -10,7 +10,7 @@
 //! | `meta3` | 3 bits | 4 | values, lengths of spans |
 //! | `meta2` | 2 bits | 5 | heads of branches |
 
-ghost use Rattle.std.specs.Prelude.{◌≡◌, ◌≢◌, ℕ, ◌+◌, ◌*◌, ◌/◌, ◌%◌, ◌^◌, ◌<◌, ◌≤◌, ◌⊎◌, List, ◌∷◌, ◌++◌, IfSome, IfNone};
+ghost use Rattle.std.specs.Prelude.{◌≡◌, ◌≢◌, ℕ, ◌+◌, ◌*◌, ◌/◌, ◌%◌, ◌^◌, ◌<◌, ◌≤◌, ◌⊎◌, List, ◌∷◌, ◌++◌, reverse, IfSome, IfNone};
 ghost use Rattle.zerotrie_core.specs.Numbers.{Spells, BeginsWith};
 
 use arrayvec::ArrayVec;
@@ -72,10 +72,10 @@ pub fn read_varint_meta2(start: u8, rest: &[u8]) -> Option<(usize, &[u8])>
     read_number(32, start, rest)
 }
 
-/// Writes a number in the form whose shortest number of two bytes is `latent`.
-fn write_number(latent: u8, v: usize) -> ArrayVec<u8, 10>
+/// The bytes of a number, from the last to the lead, in the form whose shortest number of two bytes is `latent`.
+fn bytes_backward(latent: u8, v: usize) -> ArrayVec<u8, 10>
     requires { (latent ≡ 16) ⊎ (latent ≡ 32) }
-    ensures { Spells latent 0 v result.items }
+    ensures { Spells latent 0 v (reverse result.items) }
 {
     let mut out = ArrayVec::new();
     let mut value = v;
@@ -88,6 +88,15 @@ fn write_number(latent: u8, v: usize) -> ArrayVec<u8, 10>
     }
     let extender = if extended == 0 { 0 } else { latent };
     out.push(value as u8 + extender);
+    out
+}
+
+/// Writes a number in the form whose shortest number of two bytes is `latent`.
+fn write_number(latent: u8, v: usize) -> ArrayVec<u8, 10>
+    requires { (latent ≡ 16) ⊎ (latent ≡ 32) }
+    ensures { Spells latent 0 v result.items }
+{
+    let mut out = bytes_backward(latent, v);
     out.as_mut_slice().reverse();
     out
 }

@@ -77,21 +77,13 @@ fn push_targets<'a, A: Allocator>(
         ++ target_parts (part_of at.entry) branch.entry.edges branch.entry.width branch.entry.behind.now
         branch.entry.edges) }
 {
-    let (_, body) = branch.behind.split_at(branch.edges);
-    let (_, targets) = body.split_at(branch.width * (branch.edges - 1));
-    let first = at.place + (at.bytes.len() - targets.len());
+    let first = at.place + (at.bytes.len() - branch.targets().len());
     let mut begin = 0;
     for index in 0..branch.edges {
         let Some(target) = branch.target_at(index) else {
             break;
         };
-        parts.push(Part {
-            place: first + begin,
-            depth: at.depth + 1,
-            above: Some(at.place),
-            edge: Some(branch.edge_at(index)),
-            bytes: target,
-        })?;
+        parts.push(at.below_edge(first + begin, branch.edge_at(index), target))?;
         begin += target.len();
     }
     Ok(())

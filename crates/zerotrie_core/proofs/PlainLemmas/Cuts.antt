@@ -3,7 +3,7 @@ use Rattle.std.proofs.Common.{◌≡◌, ℕ, zero, suc, ◌+◌, ◌*◌, ◌<�
 use Rattle.std.proofs.lemmas.Bool.{cases_lt, eqb-true, eq-eqb}
 use Rattle.std.specs.Prelude.{◌==◌}
 use Rattle.std.proofs.Common.{true, false}
-use Rattle.std.proofs.lemmas.List.{drop_all, take_all, take-append-drop, drop-drop, length-take-le}
+use Rattle.std.proofs.lemmas.List.{drop_all, append-nil, nil_from_length}
 use Rattle.std.proofs.Math.Seq.{drop-cons}
 use Rattle.zerotrie_core.specs.Numbers.{Spells, extender}
 use Rattle.zerotrie_core.specs.Maps.{Pairs, with_front, Ascends, FirstAbove}
@@ -63,10 +63,6 @@ group_pairs : (depth byte : ℕ) (group : Items) → BeginsAll depth byte group 
 group_pairs depth byte [] h = refl
 group_pairs depth byte (x ∷ group) h = cons_pair (drop depth x.0.now) (byte ∷ drop (depth + 1) x.0.now) x.1 _ _ (key_cut x.0.now depth byte h.0 h.1) (group_pairs depth byte group h.2)
 
--- all keys have the byte
-pub shared : (depth byte n : ℕ) (rest : Items) → length rest ≤ n → BeginsAll depth byte (take n rest) → pairs_from depth rest ≡ with_front byte (pairs_from (depth + 1) rest)
-shared depth byte n rest h same = group_pairs depth byte rest (subst (BeginsAll depth byte) (take_all n rest h) same)
-
 some_pairs : (depth : ℕ) (items : Items) → 0 < length items → pairs_from depth items ≡ [] → ⊥
 some_pairs depth [] h e = omega arith
 some_pairs depth (x ∷ items) h e = absurd (cc)
@@ -96,10 +92,9 @@ all_begin depth b (x ∷ rest) (f ∷ behind) deep e =
     let inside : depth < length x.0.now = omega (arith, deep.0) in
     (inside, same_head (get_or x.0.now depth 0) b (drop (depth + 1) x.0.now) f.0 (sym (key_cut x.0.now depth (get_or x.0.now depth 0) inside refl) ∙ same.0), all_begin depth b rest behind deep.1 same.1)
 
-BeginsAll-drop : (depth b n : ℕ) (rest : Items) → BeginsAll depth b rest → BeginsAll depth b (drop n rest)
-BeginsAll-drop depth b zero rest h = h
-BeginsAll-drop depth b (suc n) [] h = tt
-BeginsAll-drop depth b (suc n) (x ∷ rest) h = BeginsAll-drop depth b n rest h.2
+BeginsAll-parts : (depth b : ℕ) (xs ys : Items) → BeginsAll depth b (xs ++ ys) → BeginsAll depth b xs × BeginsAll depth b ys
+BeginsAll-parts depth b [] ys h = (tt, h)
+BeginsAll-parts depth b (x ∷ xs) ys h = let r = BeginsAll-parts depth b xs ys h.2 in ((h.0, h.1, r.0), r.1)
 
 begins_first : (depth b : ℕ) (items : Items) → 0 < length items → BeginsAll depth b items → (get_or (key_at items 0) depth 0 ≡ b) × (depth < length (key_at items 0))
 begins_first depth b [] h all = absurd (omega arith)
@@ -109,18 +104,6 @@ none_first : (depth b : ℕ) (items : Items) → 0 < length items → BeginsNone
 none_first depth b [] h none = absurd (omega arith)
 none_first depth b (x ∷ items) h none = none
 
--- some key has another byte than the first
-pub branches : (depth byte n : ℕ) (rest : Items) → Deep (depth + 1) rest → get_or (key_at rest 0) depth 0 ≡ byte → n < length rest → BeginsNone depth byte (drop n rest) → IsBranching (pairs_from depth rest)
-branches depth byte n rest deep is h other b behind e =
-    let all = all_begin depth b rest behind deep e in
-    let first = begins_first depth b rest (omega arith) all in
-    let left : 0 < length (drop n rest) = (let l = length-drop n rest in omega arith) in
-    let there = begins_first depth b (drop n rest) left (BeginsAll-drop depth b n rest all) in
-    none_first depth byte (drop n rest) left other there.1 (there.0 ∙ sym first.0 ∙ is)
-
-pub first_at : (at : ℕ) (items : Items) → at < length items → key_at (drop at items) 0 ≡ key_at items at
-first_at at items h = ap (λ x. key_at x 0) (drop_here items at h)
-
 Deep-parts : (depth : ℕ) (xs ys : Items) → Deep depth (xs ++ ys) → Deep depth xs × Deep depth ys
 Deep-parts depth [] ys h = (tt, h)
 Deep-parts depth (x ∷ xs) ys h = let r = Deep-parts depth xs ys h.1 in ((h.0, r.0), r.1)
@@ -129,31 +112,16 @@ pairs_from-append : (depth : ℕ) (xs ys : Items) → pairs_from depth (xs ++ ys
 pairs_from-append depth [] ys = refl
 pairs_from-append depth (x ∷ xs) ys = ap (λ p. (drop depth x.0.now, x.1) ∷ p) (pairs_from-append depth xs ys)
 
-pub deep_drop : (depth at : ℕ) (items : Items) → Deep depth items → Deep depth (drop at items)
-deep_drop depth at items deep = (Deep-parts depth (take at items) (drop at items) (subst (Deep depth) (sym (take-append-drop at items)) deep)).1
-
-pub deep_take : (depth n : ℕ) (items : Items) → Deep depth items → Deep depth (take n items)
-deep_take depth n items deep = (Deep-parts depth (take n items) (drop n items) (subst (Deep depth) (sym (take-append-drop n items)) deep)).0
-
 first_other : (depth byte : ℕ) (others : Items) → Deep (depth + 1) others → BeginsNone depth byte others → FirstOther byte (pairs_from depth others)
 first_other depth byte [] deep other = tt
 first_other depth byte (y ∷ others) deep other =
     let inside : depth < length y.0.now = omega (arith, deep.0) in
     subst (λ k. FirstOther byte ((k, y.1) ∷ pairs_from depth others)) (sym (key_cut y.0.now depth (get_or y.0.now depth 0) inside refl)) (other inside)
 
-some_group : (depth byte n : ℕ) (rest : Items) → 0 < length rest → Deep (depth + 1) rest → get_or (key_at rest 0) depth 0 ≡ byte → BeginsNone depth byte (drop n rest) → 0 < length (take n rest)
+pub some_group : (depth byte n : ℕ) (rest : Items) → 0 < length rest → Deep (depth + 1) rest → get_or (key_at rest 0) depth 0 ≡ byte → BeginsNone depth byte (drop n rest) → 0 < length (take n rest)
 some_group depth byte n [] h deep is other = absurd (omega arith)
 some_group depth byte zero (x ∷ rest) h deep is other = absurd (other (omega (arith, deep.0)) is)
 some_group depth byte (suc n) (x ∷ rest) h deep is other = omega arith
-
--- the first keys with the byte are a group
-pub group_here : (depth byte n : ℕ) (rest : Items) → 0 < length rest → Deep (depth + 1) rest → get_or (key_at rest 0) depth 0 ≡ byte → BeginsAll depth byte (take n rest) → BeginsNone depth byte (drop n rest)
-    → Group byte (pairs_from (depth + 1) (take n rest)) (pairs_from depth (drop n rest)) (pairs_from depth rest)
-group_here depth byte n rest h deep is same other = record {
-  pairs = ap (pairs_from depth) (sym (take-append-drop n rest)) ∙ pairs_from-append depth (take n rest) (drop n rest) ∙ ap (λ p. p ++ pairs_from depth (drop n rest)) (group_pairs depth byte (take n rest) same);
-  some = some_pairs (depth + 1) (take n rest) (some_group depth byte n rest h deep is other);
-  other = first_other depth byte (drop n rest) (deep_drop (depth + 1) n rest deep) other;
-}
 
 pub none_ends : (depth : ℕ) (items : Items) → Deep (depth + 1) items → NoneEnds (pairs_from depth items)
 none_ends depth [] deep = tt
@@ -187,39 +155,37 @@ literal_lighter b depth at items h e =
     let n = some_long (pairs_from (depth + 1) (drop at items)) (some_rest (depth + 1) at items h) in
     omega arith
 
--- a group of the items from a place on
-pub record Cut (depth at byte : ℕ) (items group : Items) : Type 0 where
-  pub is_group : Group byte (pairs_from (depth + 1) group) (pairs_from depth (drop (at + length group) items)) (pairs_from depth (drop at items))
-  pub deep : Deep (depth + 1) group
-  pub some : 0 < length group
-  pub within : at + length group ≤ length items
+-- items of which the first have the byte, and the first of the others has not
+module _ (depth byte : ℕ) (items group others : Items) (parts : items ≡ group ++ others) (deep : Deep (depth + 1) items) (some : 0 < length group) (same : BeginsAll depth byte group) (other : BeginsNone depth byte others) where
+  deep_parts : Deep (depth + 1) group × Deep (depth + 1) others
+  deep_parts = Deep-parts (depth + 1) group others (subst (Deep (depth + 1)) parts deep)
 
-pub cut_at : (depth at n byte : ℕ) (items rest group : Items) → rest ≡ drop at items → group ≡ take n rest → at < length items → n ≤ length rest → Deep (depth + 1) items → get_or (key_at items at) depth 0 ≡ byte
-    → BeginsAll depth byte (take n rest) → BeginsNone depth byte (drop n rest) → Cut depth at byte items group
-cut_at depth at n byte items rest group rest_is group_is inside fit deep is same other =
-    let whole = drop at items in
-    let long = length-drop at items in
-    let fit' : n ≤ length whole = subst (λ r. n ≤ length r) rest_is fit in
-    let group' : group ≡ take n whole = group_is ∙ ap (take n) rest_is in
-    let count : length group ≡ n = ap length group' ∙ length-take-le n whole fit' in
-    let deeper' = deep_drop (depth + 1) at items deep in
-    let first : get_or (key_at whole 0) depth 0 ≡ byte = ap (λ k. get_or k depth 0) (first_at at items inside) ∙ is in
-    let some_whole : 0 < length whole = omega arith in
-    let other' = subst (λ r. BeginsNone depth byte (drop n r)) rest_is other in
-    let g = group_here depth byte n whole some_whole deeper' first (subst (λ r. BeginsAll depth byte (take n r)) rest_is same) other' in
-    let after : drop n whole ≡ drop (at + length group) items = drop-drop n at items ∙ ap (λ k. drop k items) (let e : at + n ≡ at + length group = omega arith in e) in
-    let some = some_group depth byte n whole some_whole deeper' first other' in
-    let len = ap length group' in
-    record {
-      is_group = subst (λ x. Group byte (pairs_from (depth + 1) group) (pairs_from depth x) (pairs_from depth whole)) after
-          (subst (λ x. Group byte (pairs_from (depth + 1) x) (pairs_from depth (drop n whole)) (pairs_from depth whole)) (sym group') g);
-      deep = subst (Deep (depth + 1)) (sym group') (deep_take (depth + 1) n whole deeper');
-      some = omega arith;
-      within = omega arith;
-    }
+  pub deep_group : Deep (depth + 1) group
+  deep_group = deep_parts.0
 
-pub none_left : (depth at : ℕ) (items : Items) → length items ≤ at → pairs_from depth (drop at items) ≡ []
-none_left depth at items h = ap (pairs_from depth) (drop_all at items h)
+  pub deep_others : Deep (depth + 1) others
+  deep_others = deep_parts.1
+
+  -- they are a group
+  pub is_group : Group byte (pairs_from (depth + 1) group) (pairs_from depth others) (pairs_from depth items)
+  is_group = record {
+    pairs = ap (pairs_from depth) parts ∙ pairs_from-append depth group others ∙ ap (λ p. p ++ pairs_from depth others) (group_pairs depth byte group same);
+    some = some_pairs (depth + 1) group some;
+    other = first_other depth byte others deep_others other;
+  }
+
+  -- all have the byte
+  pub shared : length others ≡ 0 → pairs_from depth items ≡ with_front byte (pairs_from (depth + 1) items)
+  shared none = group_pairs depth byte items (subst (BeginsAll depth byte) (sym (parts ∙ ap (λ o. group ++ o) (nil_from_length others none) ∙ append-nil group)) same)
+
+  -- some key has another byte than the first
+  pub branches : 0 < length others → IsBranching (pairs_from depth items)
+  branches more b behind e =
+      let all = BeginsAll-parts depth b group others (subst (BeginsAll depth b) parts (all_begin depth b items behind deep e)) in
+      let first = begins_first depth b group some all.0 in
+      let here = begins_first depth byte group some same in
+      let there = begins_first depth b others more all.1 in
+      none_first depth byte others more other there.1 (there.0 ∙ sym first.0 ∙ here.0)
 
 pub no_pairs : (depth : ℕ) (items : Items) → length items ≡ 0 → pairs_from depth items ≡ []
 no_pairs depth [] h = refl
@@ -241,9 +207,6 @@ deep_rest depth at items rest e = subst (Deep depth) (sym e)
 pub leads_rest : (before out : List ℕ) (all : Pairs) (depth at : ℕ) (items rest : Items) → rest ≡ drop at items → WritesFront before all out (pairs_from depth (drop at items)) → WritesFront before all out (pairs_from depth rest)
 leads_rest before out all depth at items rest e = subst (λ x. WritesFront before all out (pairs_from depth x)) (sym e)
 
-pub branching_rest : (depth at : ℕ) (items rest : Items) → rest ≡ drop at items → IsBranching (pairs_from depth (drop at items)) → IsBranching (pairs_from depth rest)
-branching_rest depth at items rest e = subst (λ x. IsBranching (pairs_from depth x)) (sym e)
-
 -- no group is left
-pub grown_end : (all : Pairs) (edge_bytes starts target_bytes : List ℕ) (depth at : ℕ) (items : Items) → length items ≤ at → Grown all edge_bytes starts target_bytes (pairs_from depth (drop at items)) → Grown all edge_bytes starts target_bytes []
-grown_end all edge_bytes starts target_bytes depth at items h = subst (Grown all edge_bytes starts target_bytes) (none_left depth at items h)
+pub grown_end : (all : Pairs) (edge_bytes starts target_bytes : List ℕ) (depth : ℕ) (rest : Items) → length rest ≡ 0 → Grown all edge_bytes starts target_bytes (pairs_from depth rest) → Grown all edge_bytes starts target_bytes []
+grown_end all edge_bytes starts target_bytes depth rest h = subst (Grown all edge_bytes starts target_bytes) (no_pairs depth rest h)

@@ -7,7 +7,7 @@ use Rattle.zerotrie_core.specs.Kind.{Kind}
 use Rattle.zerotrie_core.specs.Nodes.{Shape, targets_behind, begin_of, end_of, IsTargetResult}
 use Rattle.zerotrie_core.specs.Nodes as shapes
 use Rattle.zerotrie_core.specs.listing.Listed.{node_of, is_in_order, target_of}
-use Rattle.zerotrie_core.specs.walk.Visits.{Part, Visit, visits, visits_to, of_first, of_parts, parts_behind, after_node, target_parts, target_part, targets_place}
+use Rattle.zerotrie_core.specs.walk.Visits.{Part, Visit, visits, visits_to, of_first, of_parts, parts_behind, after_node, target_parts, below_edge, target_part, targets_place}
 use Rattle.zerotrie_core.specs.walk.Seen.{part_of, visits_left}
 use Rattle.zerotrie_core.specs.declared.walk.part.Part as parts
 use Rattle.zerotrie_core.proofs.NodeLemmas.Read.{InSome, Within, node_within, by_test}
@@ -178,14 +178,11 @@ part_added old new first more all p is added same =
     ap (λ x. x ++ more) added ∙ append_assoc old (p ∷ []) more ∙ ap (λ x. old ++ x) (sym is) ∙ same
 
 -- a target, by its place, its edge and its bytes
-abbrev pub made : Part → ℕ → ℕ → List ℕ → Part
-made at place edge bytes = record { place = place; depth = at.depth + 1; above = Some at.place; edge = Some edge; bytes = bytes }
-
 pub part_is : (at : Part) (n w : ℕ) (behind : List ℕ) (i place edge : ℕ) (bytes : List ℕ) → place ≡ targets_place at n w behind + begin_of n w behind i → edge ≡ slice_index behind i → bytes ≡ target_of n w behind i
-    → made at place edge bytes ≡ target_part at n w behind i
+    → below_edge at place edge bytes ≡ target_part at n w behind i
 part_is at n w behind i place edge bytes p e b =
-    ap (λ x. made at x edge bytes) p ∙ ap (λ x. made at (targets_place at n w behind + begin_of n w behind i) x bytes) e
-    ∙ ap (λ x. made at (targets_place at n w behind + begin_of n w behind i) (slice_index behind i) x) b
+    ap (λ x. below_edge at x edge bytes) p ∙ ap (λ x. below_edge at (targets_place at n w behind + begin_of n w behind i) x bytes) e
+    ∙ ap (λ x. below_edge at (targets_place at n w behind + begin_of n w behind i) (slice_index behind i) x) b
 
 -- Of n bytes at most n nodes.
 module _ (f : Part → List Visit) (most : (p : Part) → length (f p) ≤ length p.bytes) (at : Part) (n w : ℕ) (behind : List ℕ) where

@@ -33,15 +33,13 @@ after_node at rest = record { place = at.place + (length at.bytes - length rest)
 abbrev pub targets_place : Part → ℕ → ℕ → List ℕ → ℕ
 targets_place at n w behind = at.place + (length at.bytes - length (targets_behind n w behind))
 
+-- the target of an edge, at its place
+abbrev pub below_edge : Part → ℕ → ℕ → List ℕ → Part
+below_edge at place edge bytes = record { place = place; depth = at.depth + 1; above = Some at.place; edge = Some edge; bytes = bytes }
+
 -- target number i of a branch
 abbrev pub target_part : Part → ℕ → ℕ → List ℕ → ℕ → Part
-target_part at n w behind i = record {
-  place = targets_place at n w behind + begin_of n w behind i;
-  depth = at.depth + 1;
-  above = Some at.place;
-  edge = Some (slice_index behind i);
-  bytes = target_of n w behind i;
-}
+target_part at n w behind i = below_edge at (targets_place at n w behind + begin_of n w behind i) (slice_index behind i) (target_of n w behind i)
 
 -- the last k of n targets, up to the first whose offsets fall
 abbrev pub target_parts : Part → ℕ → ℕ → List ℕ → ℕ → List Part

@@ -20,7 +20,7 @@ pub struct Part<'a> {
 }
 
 impl<'a> Part<'a> {
-    ghost use Rattle.zerotrie_core.specs.walk.Visits.{whole, after_node};
+    ghost use Rattle.zerotrie_core.specs.walk.Visits.{whole, after_node, below_edge};
     ghost use Rattle.zerotrie_core.specs.walk.Seen.{part_of};
 
     /// All of these bytes.
@@ -47,6 +47,20 @@ impl<'a> Part<'a> {
             above: Some(self.place),
             edge: None,
             bytes: rest,
+        }
+    }
+
+    /// The target of an edge, if the part begins with the branch: what stands at that place.
+    pub(crate) fn below_edge(self, place: usize, edge: u8, bytes: &'a [u8]) -> Self
+        requires { (self.place < place) × (place + length bytes.now < 2 ^ 64) }
+        ensures { part_of result ≡ below_edge (part_of self.entry) place edge bytes.now }
+    {
+        Part {
+            place,
+            depth: self.depth + 1,
+            above: Some(self.place),
+            edge: Some(edge),
+            bytes,
         }
     }
 }

@@ -1,9 +1,9 @@
-use Rattle.std.proofs.Common.{◌≡◌, ◌+◌, ◌<◌, ◌≤◌, length, arith, drop, take, get_or, sym, ◌∙◌, ap, subst}
+use Rattle.std.proofs.Common.{◌≡◌, ◌+◌, ◌≤◌, length, arith, drop, sym, ◌∙◌, ap, subst}
 use Rattle.zerotrie_core.specs.Maps.{with_front}
-use Rattle.zerotrie_core.specs.plain.Encoding.{pairs_from, WritesFront, weight, BeginsAll, BeginsNone}
+use Rattle.zerotrie_core.specs.plain.Encoding.{pairs_from, Deep, IsBranching, WritesFront, weight}
 use Rattle.zerotrie_core.proofs.PlainLemmas.Items.{key_at}
 use Rattle.zerotrie_core.proofs.PlainLemmas.Groups.{leads_value, leads_literal}
-use Rattle.zerotrie_core.proofs.PlainLemmas.Cuts.{ended, deep_next, deep_here, deeper, shared, some_rest, branches, first_at, literal_lighter}
+use Rattle.zerotrie_core.proofs.PlainLemmas.Cuts.{ended, deep_next, deep_here, deeper, shared, some_rest, branches, is_some, is_none, literal_lighter}
 use Rattle.zerotrie_core.proofs.plain.push_run.Goals as goal
 
 pub loop-at-preserved-then-key_len-depth : goal.loop-at-preserved-then-key_len-depth
@@ -22,17 +22,21 @@ loop-at-smaller-then-key_len-depth c =
     let is = ap weight (ended c.loop-at.depth c.loop-at.at c.args.items.now c.loop-at-test.true (sym c.key_len.ensures ∙ c.if-key_len-depth.true)) in
     omega arith
 
-pub returns-then-group_len-rest-clause-deep : goal.returns-then-group_len-rest-clause-deep
-returns-then-group_len-rest-clause-deep c = deeper c.loop-at.depth c.loop-at.at c.args.items.now c.loop-at-test.true (λ e. c.if-key_len-depth.false (c.key_len.ensures ∙ e)) c.loop-at.invariant.deep c.loop-at.invariant.leads.ascends
+pub first_group-byte-requires-clause-deep : goal.first_group-byte-requires-clause-deep
+first_group-byte-requires-clause-deep c =
+    subst (Deep (c.loop-at.depth + 1)) (sym c.split_at.ensures.back) (deeper c.loop-at.depth c.loop-at.at c.args.items.now c.loop-at-test.true (λ e. c.if-key_len-depth.false (c.key_len.ensures ∙ e)) c.loop-at.invariant.deep c.loop-at.invariant.leads.ascends)
 
-pub returns-then-group_len-rest-clause-branching : goal.returns-then-group_len-rest-clause-branching
-returns-then-group_len-rest-clause-branching c =
+pub returns-then-not-is_empty-clause-deep : goal.returns-then-not-is_empty-clause-deep
+returns-then-not-is_empty-clause-deep c = deeper c.loop-at.depth c.loop-at.at c.args.items.now c.loop-at-test.true (λ e. c.if-key_len-depth.false (c.key_len.ensures ∙ e)) c.loop-at.invariant.deep c.loop-at.invariant.leads.ascends
+
+pub returns-then-not-is_empty-clause-branching : goal.returns-then-not-is_empty-clause-branching
+returns-then-not-is_empty-clause-branching c h =
     let s = c.split_at.ensures.back in
     let deep = deeper c.loop-at.depth c.loop-at.at c.args.items.now c.loop-at-test.true (λ e. c.if-key_len-depth.false (c.key_len.ensures ∙ e)) c.loop-at.invariant.deep c.loop-at.invariant.leads.ascends in
-    λ h. branches c.loop-at.depth (get_or (key_at c.args.items.now c.loop-at.at) c.loop-at.depth 0) c.group_len.result (drop c.loop-at.at c.args.items.now) deep
-    (ap (λ k. get_or k c.loop-at.depth 0) (first_at c.loop-at.at c.args.items.now c.loop-at-test.true))
-    (subst (λ r. c.group_len.result < length r) s c.if-group_len-rest.true)
-    (subst (λ r. BeginsNone c.loop-at.depth (get_or (key_at c.args.items.now c.loop-at.at) c.loop-at.depth 0) (drop c.group_len.result r)) s c.group_len.ensures.other)
+    let more = is_some (length c.first_group-byte.result.2.now) (sym c.if-not-is_empty.true ∙ c.is_empty.ensures) in
+    subst (λ r. IsBranching (pairs_from c.loop-at.depth r)) s
+    (branches c.loop-at.depth c.first_group-byte.result.0 c.split_at.result.1.now c.first_group-byte.result.1.now c.first_group-byte.result.2.now c.first_group-byte.ensures.parts (subst (Deep (c.loop-at.depth + 1)) (sym s) deep)
+    c.first_group-byte.ensures.some c.first_group-byte.ensures.same c.first_group-byte.ensures.other more)
 
 pub overflow_add-depth : goal.overflow_add-depth
 overflow_add-depth c =
@@ -41,12 +45,14 @@ overflow_add-depth c =
     let k : c.loop-at.depth + 1 ≤ length (key_at c.args.items.now c.loop-at.at) = omega arith in
     omega arith
 
-same : (c : goal.In_ok-push) → pairs_from c.loop-at.depth (drop c.loop-at.at c.args.items.now) ≡ with_front (get_or (key_at c.args.items.now c.loop-at.at) c.loop-at.depth 0) (pairs_from (c.loop-at.depth + 1) (drop c.loop-at.at c.args.items.now))
+same : (c : goal.In_ok-push) → pairs_from c.loop-at.depth (drop c.loop-at.at c.args.items.now) ≡ with_front c.first_group-byte.result.0 (pairs_from (c.loop-at.depth + 1) (drop c.loop-at.at c.args.items.now))
 same c =
     let s = c.split_at.ensures.back in
-    shared c.loop-at.depth (get_or (key_at c.args.items.now c.loop-at.at) c.loop-at.depth 0) c.group_len.result (drop c.loop-at.at c.args.items.now)
-    (subst (λ r. length r ≤ c.group_len.result) s c.if-group_len-rest.false)
-    (subst (λ r. BeginsAll c.loop-at.depth (get_or (key_at c.args.items.now c.loop-at.at) c.loop-at.depth 0) (take c.group_len.result r)) s c.group_len.ensures.same)
+    let deep = deeper c.loop-at.depth c.loop-at.at c.args.items.now c.loop-at-test.true (λ e. c.if-key_len-depth.false (c.key_len.ensures ∙ e)) c.loop-at.invariant.deep c.loop-at.invariant.leads.ascends in
+    let none = is_none (length c.first_group-byte.result.2.now) (sym c.if-not-is_empty.false ∙ c.is_empty.ensures) in
+    subst (λ r. pairs_from c.loop-at.depth r ≡ with_front c.first_group-byte.result.0 (pairs_from (c.loop-at.depth + 1) r)) s
+    (shared c.loop-at.depth c.first_group-byte.result.0 c.split_at.result.1.now c.first_group-byte.result.1.now c.first_group-byte.result.2.now c.first_group-byte.ensures.parts (subst (Deep (c.loop-at.depth + 1)) (sym s) deep)
+    c.first_group-byte.ensures.some c.first_group-byte.ensures.same c.first_group-byte.ensures.other none)
 
 pub loop-at-smaller : goal.loop-at-smaller
 loop-at-smaller c = literal_lighter _ c.loop-at.depth c.loop-at.at c.args.items.now c.loop-at-test.true (same c)
@@ -58,8 +64,8 @@ loop-at-preserved c = record {
   leads = leads_literal _ _ _ _ _ _ (subst (WritesFront c.args.out.now.items (pairs_from c.args.depth c.args.items.now) c.loop-at.out.items) (same c) c.loop-at.invariant.leads) (some_rest (c.loop-at.depth + 1) c.loop-at.at c.args.items.now c.loop-at-test.true) c.in_ok-push.ensures.items;
 }
 
-pub returns-then-group_len-rest-clause-room : goal.returns-then-group_len-rest-clause-room
-returns-then-group_len-rest-clause-room c =
+pub returns-then-not-is_empty-clause-room : goal.returns-then-not-is_empty-clause-room
+returns-then-not-is_empty-clause-room c =
     let n = c.key_len.ensures in
     let fits = c.key_len.type_inv in
     let h = deep_here c.loop-at.depth c.loop-at.at c.args.items.now c.loop-at-test.true c.loop-at.invariant.deep in

@@ -1,6 +1,5 @@
-use Rattle.std.proofs.Common.{◌≡◌, ◌+◌, ◌++◌, ◌∷◌, [], ◌∙◌, length, map, refl, sym, ap, rules, arith}
+use Rattle.std.proofs.Common.{◌+◌, ◌++◌, ◌∷◌, [], ◌∙◌, length, map, refl, sym, ap, arith}
 use Rattle.std.proofs.lemmas.List.{append-nil, map-append}
-use Rattle.zerotrie_core.specs.Nodes.{targets_behind}
 use Rattle.zerotrie_core.specs.walk.Visits.{target_part}
 use Rattle.zerotrie_core.specs.walk.Seen.{part_of}
 use Rattle.zerotrie_core.proofs.WalkLemmas.Visits.{target_read, next_target, part_added, part_is, parts_fall}
@@ -14,10 +13,9 @@ loop-index-preserved g c =
     let t = c.in-Some.target in
     let read = target_read at b.edges b.width b.behind.now i t c.loop-index-test.true c.in-Some.ensures in
     let begins = c.loop-index.invariant.begins c.loop-index-test.true in
-    let targets : c.split_at-2.result.1.now ≡ targets_behind b.edges b.width b.behind.now = search rules in
-    let len = ap (λ l. length l) targets in
+    let len = ap (λ l. length l) c.targets.ensures in
     let added = ap (λ ps. map part_of ps) c.in_ok-push.ensures.items ∙ map-append part_of c.loop-index.parts.items _
-    ∙ ap (λ p. map part_of c.loop-index.parts.items ++ p ∷ []) (part_is at b.edges b.width b.behind.now i _ _ t.now (omega arith) c.edge_at.ensures read.is) in
+    ∙ ap (λ p. map part_of c.loop-index.parts.items ++ p ∷ []) (c.below_edge.ensures ∙ part_is at b.edges b.width b.behind.now i _ _ t.now (omega arith) c.edge_at.ensures read.is) in
     record {
       within = omega (arith, read.within, begins);
       begins = λ h. next_target b.edges b.width b.behind.now i (i + 1) c.loop-index.begin _ refl h begins read.ends;

@@ -4,8 +4,8 @@ use Rattle.zerotrie_base.specs.Hashes.{number_of}
 use Rattle.zerotrie_core.specs.Kind.{is_hashed}
 use Rattle.zerotrie_core.proofs.MapLemmas.Kinds.{hashed_by}
 use Rattle.zerotrie_core.proofs.NodeLemmas.Places.{none_sorted, hashed_some, hashed_none}
-use Rattle.zerotrie_core.proofs.branch.Branch.place_of.Goals as goal
-use Rattle.zerotrie_core.proofs.branch.Branch.place_of.Goals.{else-USE_PHF-via-then-USE_PHF+else-self, else-USE_PHF-via-else-USE_PHF}
+use Rattle.zerotrie_core.proofs.branch.Branch.place_by_table.Goals as goal
+use Rattle.zerotrie_core.proofs.branch.Branch.place_by_table.Goals.{else-USE_PHF-via-then-USE_PHF+else-self, else-USE_PHF-via-else-USE_PHF}
 
 pub returns-then-self-clause-some : goal.returns-then-self-clause-some
 returns-then-self-clause-some g c =

@@ -2,7 +2,7 @@ use Rattle.std.proofs.Common.{◌≡◌, ◌+◌, ◌*◌, ◌-◌, ◌%◌, [],
 use Rattle.std.proofs.lemmas.List.{reverse-append}
 use Rattle.zerotrie_core.specs.Numbers.{extender}
 use Rattle.zerotrie_core.proofs.NumberLemmas.Written.{completes_more}
-use Rattle.zerotrie_core.proofs.varint.write_number.Goals as goal
+use Rattle.zerotrie_core.proofs.varint.bytes_backward.Goals as goal
 
 pub loop-value-preserved : goal.loop-value-preserved
 loop-value-preserved c =

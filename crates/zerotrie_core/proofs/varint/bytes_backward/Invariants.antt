@@ -1,5 +1,5 @@
 use Rattle.std.proofs.Common.{◌≡◌, ◌*◌, reverse}
-use Rattle.zerotrie_core.proofs.varint.write_number.Given as goal
+use Rattle.zerotrie_core.proofs.varint.bytes_backward.Given as goal
 use Rattle.zerotrie_core.specs.Numbers.{extender}
 use Rattle.zerotrie_core.proofs.NumberLemmas.Written.{Completes}
 
