@@ -56,17 +56,6 @@ fn further<'a, K: ZeroTrieWithOptions>(
     }
 }
 
-/// Whether a look-up is not at its end: there are bytes, and the key has some left or no value comes.
-///
-/// The first of the bytes is read whatever is left of the key, so that it is near when its turn comes.
-#[inline(always)]
-fn is_open(bytes: &[u8], key: &[u8]) -> bool {
-    match bytes.first() {
-        Some(lead) => !key.is_empty() | (*lead / 32 != 4),
-        None => false,
-    }
-}
-
 impl<'a, K: ZeroTrieWithOptions> LookUp<'a, K> {
     /// In front of all nodes.
     #[inline(always)]
@@ -82,17 +71,26 @@ impl<'a, K: ZeroTrieWithOptions> LookUp<'a, K> {
         }
     }
 
-    /// Goes on by one node, and tells whether it is not at its end.
+    /// Goes on by one node, unless the look-up ends there.
     #[inline(always)]
-    fn go_on(&mut self) -> bool
+    fn go_on(&mut self)
         ensures { self.new ≡ self.old }
     {
-        let Some((rest, left)) = further::<K>(self.rest, self.left) else {
-            return false;
-        };
-        self.rest = rest;
-        self.left = left;
-        is_open(rest, left)
+        if let Some((rest, left)) = further::<K>(self.rest, self.left) {
+            self.rest = rest;
+            self.left = left;
+        }
+    }
+
+    /// Whether the look-up is not at its end: there are bytes, and the key has some left or no value comes.
+    ///
+    /// The first of the bytes is read whatever is left of the key, so that it is near when its turn comes.
+    #[inline(always)]
+    fn is_open(&self) -> bool {
+        match self.rest.first() {
+            Some(lead) => !self.left.is_empty() | (*lead / 32 != 4),
+            None => false,
+        }
     }
 
     /// The value of the key.
@@ -104,13 +102,20 @@ impl<'a, K: ZeroTrieWithOptions> LookUp<'a, K> {
     }
 }
 
-/// Gives each look-up a turn, and tells whether some are not at their end.
-fn take_turns<K: ZeroTrieWithOptions>(look_ups: &mut [LookUp<'_, K>]) -> bool
+/// Gives each look-up a turn.
+fn take_turns<K: ZeroTrieWithOptions>(look_ups: &mut [LookUp<'_, K>])
     ensures { look_ups.new ≡ look_ups.old }
 {
-    let mut open = false;
     for look_up in look_ups.iter_mut() {
-        open |= look_up.go_on();
+        look_up.go_on();
+    }
+}
+
+/// Whether some are not at their end. It asks all of them, so that where each goes on is waited for at once.
+fn are_open<K: ZeroTrieWithOptions>(look_ups: &[LookUp<'_, K>]) -> bool {
+    let mut open = false;
+    for look_up in look_ups {
+        open |= look_up.is_open();
     }
     open
 }
@@ -120,7 +125,8 @@ fn go_on<K: ZeroTrieWithOptions>(look_ups: &mut [LookUp<'_, K>])
     ensures { look_ups.new ≡ look_ups.old }
 {
     for _ in 0..TURNS {
-        if !take_turns(look_ups) {
+        take_turns(look_ups);
+        if !are_open(look_ups) {
             return;
         }
     }
