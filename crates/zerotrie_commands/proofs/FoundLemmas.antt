@@ -1,6 +1,7 @@
 -- Keys and texts that are looked up one after another.
-use Rattle.std.proofs.Common.{◌≡◌, ℕ, List, [], ◌∷◌, ◌++◌, map, Option, Bool, true, false, refl, sym, ◌∙◌, ap, append_assoc, append-nil}
+use Rattle.std.proofs.Common.{◌≡◌, ℕ, ◌+◌, List, [], ◌∷◌, ◌++◌, map, take, drop, length, Option, Bool, true, false, refl, sym, ◌∙◌, ap, append_assoc, append-nil}
 use Rattle.std.specs.Prelude.{◌&&◌, is_some}
+use Rattle.std.proofs.lemmas.List.{map-append, take-append-drop, drop-drop}
 use Rattle.std.specs.Borrow.{Bor}
 use Rattle.std.specs.Io.KnownBytes.{Appends}
 use Rattle.std.proofs.KnownBytes.{Appends-trans}
@@ -22,11 +23,6 @@ nows texts = map (λ t. t.now) texts
 abbrev pub no_key : Bor (List ℕ)
 no_key = record { ref_ptr = (0, 0); now = [] }
 
-pub value_first : (f : List ℕ → Option ℕ) (keys rest : List (Bor (List ℕ))) (key : Bor (List ℕ)) (answer : Option ℕ) (line : List ℕ) → keys ≡ key ∷ rest → answer ≡ f key.now
-    → line ≡ value_line answer → value_lines (answers_of f keys) ≡ line ++ value_lines (answers_of f rest)
-value_first f keys rest key answer line is given writes =
-    ap (λ ks. value_lines (answers_of f ks)) is ∙ ap (λ l. l ++ value_lines (answers_of f rest)) (sym (writes ∙ ap value_line given))
-
 pub and_assoc : (a b c : Bool) → ((a && b) && c) ≡ (a && (b && c))
 and_assoc true b c = refl
 and_assoc false b c = refl
@@ -35,12 +31,33 @@ pub and_true : (b : Bool) → (b && true) ≡ b
 and_true true = refl
 and_true false = refl
 
-pub found_first : (f : List ℕ → Option ℕ) (keys rest : List (Bor (List ℕ))) (key : Bor (List ℕ)) (answer : Option ℕ) (old next all : Bool) → keys ≡ key ∷ rest → answer ≡ f key.now
-    → next ≡ (old && is_some answer) → (old && are_found (answers_of f keys)) ≡ all → (next && are_found (answers_of f rest)) ≡ all
-found_first f keys rest key answer old next all is given flag was =
-    ap (λ b. b && are_found (answers_of f rest)) (flag ∙ ap (λ a. old && is_some a) given)
-    ∙ and_assoc old (is_some (f key.now)) (are_found (answers_of f rest))
-    ∙ ap (λ ks. old && are_found (answers_of f ks)) (sym is)
+-- keys from one place on are the next of them, and those from a later place on
+pub cut_at : {A : Type 0} (keys left block : List A) (begin n : ℕ) → left ≡ drop begin keys → block ≡ take n left → length block ≡ n → drop begin keys ≡ block ++ drop (begin + length block) keys
+cut_at keys left block begin n l b len =
+    sym l
+    ∙ sym (take-append-drop n left)
+    ∙ ap (λ x. x ++ drop n left) (sym b)
+    ∙ ap (λ x. block ++ x) (ap (drop n) l ∙ drop-drop n begin keys ∙ ap (λ k. drop (begin + k) keys) (sym len))
+
+-- answers one after another
+value_lines-append : (a b : List (Option ℕ)) → value_lines (a ++ b) ≡ value_lines a ++ value_lines b
+value_lines-append [] b = refl
+value_lines-append (x ∷ a) b = ap (λ l. value_line x ++ l) (value_lines-append a b) ∙ sym (append_assoc (value_line x) (value_lines a) (value_lines b))
+
+are_found-append : (a b : List (Option ℕ)) → are_found (a ++ b) ≡ (are_found a && are_found b)
+are_found-append [] b = refl
+are_found-append (x ∷ a) b = ap (λ f. is_some x && f) (are_found-append a b) ∙ sym (and_assoc (is_some x) (are_found a) (are_found b))
+
+-- the answers to keys are those to the first of them, and then those to the others
+pub lines_cut : (f : List ℕ → Option ℕ) (keys block rest : List (Bor (List ℕ))) → keys ≡ block ++ rest → value_lines (answers_of f keys) ≡ value_lines (answers_of f block) ++ value_lines (answers_of f rest)
+lines_cut f keys block rest e = ap (λ ks. value_lines (answers_of f ks)) e ∙ ap value_lines (map-append (λ key. f key.now) block rest) ∙ value_lines-append (answers_of f block) (answers_of f rest)
+
+pub found_cut : (f : List ℕ → Option ℕ) (keys block rest : List (Bor (List ℕ))) (old now all : Bool) → keys ≡ block ++ rest → now ≡ (old && are_found (answers_of f block))
+    → (old && are_found (answers_of f keys)) ≡ all → (now && are_found (answers_of f rest)) ≡ all
+found_cut f keys block rest old now all e is was =
+    ap (λ b. b && are_found (answers_of f rest)) is
+    ∙ and_assoc old (are_found (answers_of f block)) (are_found (answers_of f rest))
+    ∙ ap (λ b. old && b) (sym (ap (λ ks. are_found (answers_of f ks)) e ∙ ap are_found (map-append (λ key. f key.now) block rest) ∙ are_found-append (answers_of f block) (answers_of f rest)))
     ∙ was
 
 -- What was written for the texts before the rest, and that it goes on with what is found for the rest.

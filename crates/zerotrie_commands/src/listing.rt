@@ -1,6 +1,6 @@
 //! The pairs of a trie, printed as they come.
 
-ghost use Rattle.std.specs.Prelude.{◌≡◌, OnOk};
+ghost use Rattle.std.specs.Prelude.{◌≡◌, ◌++◌, ◌<◌, [], length, true, false, IfOk, OnOk};
 ghost use Rattle.std.specs.Io.KnownBytes.{Appends};
 ghost use Rattle.zerotrie_core.specs.Maps.{Pairs, beginning};
 ghost use Rattle.zerotrie_core.specs.Texts.{Lists};
@@ -9,13 +9,38 @@ ghost use Rattle.zerotrie_commands.specs.Printed.{pair_lines, listed};
 
 use crate::json_listing::write_json;
 use crate::print::{Form, Style, add_pair};
-use std::alloc::Global;
+use std::alloc::{AllocError, Global};
 use std::io;
 use std::io::Write;
 use zerotrie_core::ZeroTrieStream;
 use zerotrie_queries::Trie;
 
-/// Writes the pairs that a stream still has.
+/// How many bytes of lines are written at once.
+const BLOCK: usize = 1 << 16;
+
+/// Adds the lines of the next pairs to lines that are empty, until they are a block, and tells whether more may come.
+fn add_block(
+    lines: &mut Vec<u8>,
+    pairs: &mut ZeroTrieStream<'_>,
+    style: Style,
+) -> Result<bool, AllocError>
+    requires { lines.old.items ≡ [] }
+    ensures lines { IfOk result (λ _. lines.new.items ++ pair_lines style pairs.new.left.pairs
+        ≡ pair_lines style pairs.old.left.pairs) }
+    ensures more { IfOk result (λ more. more ≡ true
+        → length pairs.new.left.pairs < length pairs.old.left.pairs) }
+    ensures all { IfOk result (λ more. more ≡ false → pairs.new.left.pairs ≡ []) }
+{
+    while lines.len() < BLOCK {
+        if !pairs.advance()? {
+            return Ok(false);
+        }
+        add_pair(lines, style, pairs.key(), pairs.value())?;
+    }
+    Ok(true)
+}
+
+/// Writes the pairs that a stream still has, many lines at once.
 fn write_stream<W: Write>(
     alloc: Global,
     pairs: &mut ZeroTrieStream<'_>,
@@ -25,14 +50,14 @@ fn write_stream<W: Write>(
     ensures { OnOk result (Appends (W.contents output.old) (W.contents output.new)
         (pair_lines style pairs.old.left.pairs)) }
 {
-    let mut line = Vec::new(alloc);
+    let mut lines = Vec::new(alloc);
     loop {
-        if !pairs.advance()? {
+        let more = add_block(&mut lines, pairs, style)?;
+        output.write_all(lines.as_slice())?;
+        if !more {
             return Ok(());
         }
-        line.clear();
-        add_pair(&mut line, style, pairs.key(), pairs.value())?;
-        output.write_all(line.as_slice())?;
+        lines.clear();
     }
 }
 

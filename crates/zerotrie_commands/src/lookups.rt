@@ -1,6 +1,6 @@
 //! Keys and texts that are looked up, one after another.
 
-ghost use Rattle.std.specs.Prelude.{◌≡◌, List, ℕ, map, IfOk};
+ghost use Rattle.std.specs.Prelude.{◌≡◌, ◌++◌, List, ℕ, map, IfOk};
 ghost use Rattle.std.specs.Io.KnownBytes.{Appends};
 ghost use Rattle.zerotrie_core.specs.Maps.{Map, look};
 ghost use Rattle.zerotrie_core.specs.Texts.{Means};
@@ -9,12 +9,28 @@ ghost use Rattle.zerotrie_commands.specs.Printed.{value_lines, are_found};
 ghost use Rattle.zerotrie_commands.specs.Answers.{LongestLines};
 
 use crate::print::{add_found, add_value};
-use std::alloc::Global;
+use std::alloc::{AllocError, Global};
 use std::io;
 use std::io::Write;
 use zerotrie_queries::Trie;
 
-/// Writes a line for each key, its value or `none`, and tells whether all are there.
+/// How many keys are looked up before their lines are written.
+const BLOCK: usize = 4096;
+
+/// Adds a line for each answer, a value or `none`, and tells whether all are there.
+fn add_values(lines: &mut Vec<u8>, values: &[Option<usize>]) -> Result<bool, AllocError>
+    ensures { IfOk result (λ all. (lines.new.items ≡ lines.old.items ++ value_lines values.now)
+        × (all ≡ are_found values.now)) }
+{
+    let mut all = true;
+    for value in values {
+        all &= value.is_some();
+        add_value(lines, *value)?;
+    }
+    Ok(all)
+}
+
+/// Writes a line for each key, its value or `none`, and tells whether all are there. Lines are written many at once.
 pub fn write_values<W: Write>(
     alloc: Global,
     trie: &Trie<'_>,
@@ -26,14 +42,19 @@ pub fn write_values<W: Write>(
         Appends (W.contents output.old) (W.contents output.new) (value_lines answers)
         × (all ≡ are_found answers)) }
 {
-    let mut line = Vec::new(alloc);
+    let mut values = Vec::new(alloc);
+    let mut lines = Vec::new(alloc);
     let mut all = true;
-    for key in keys {
-        let value = trie.get(key);
-        all &= value.is_some();
-        line.clear();
-        add_value(&mut line, value)?;
-        output.write_all(line.as_slice())?;
+    let mut begin = 0;
+    while begin < keys.len() {
+        let (_, left) = keys.split_at(begin);
+        let (block, _) = left.split_at(left.len().min(BLOCK));
+        values.clear();
+        trie.get_each(alloc, block, &mut values)?;
+        lines.clear();
+        all &= add_values(&mut lines, values.as_slice())?;
+        output.write_all(lines.as_slice())?;
+        begin += block.len();
     }
     Ok(all)
 }

@@ -6,3 +6,4 @@ pub mod Literals
 pub mod LookUps
 pub mod LowerCase
 pub mod Starts
+pub mod Turns

@@ -4,3 +4,4 @@ pub mod Reading
 pub mod Descending
 pub mod Literals
 pub mod Starts
+pub mod Turns

@@ -1,17 +1,15 @@
-use Rattle.std.proofs.Common.{rules, ◌≡◌, ◌++◌, ◌∙◌, Ok, true, ap, sym}
-use Rattle.zerotrie_commands.specs.Printed.{pair_line, pair_lines}
-use Rattle.zerotrie_commands.proofs.WriteLemmas.{wrote_more, listed_first}
+use Rattle.std.proofs.Common.{◌≡◌, ◌++◌, ◌∙◌, ap, sym}
+use Rattle.zerotrie_commands.specs.Printed.{pair_lines}
+use Rattle.zerotrie_commands.proofs.WriteLemmas.{wrote_more}
 use Rattle.zerotrie_commands.proofs.listing.write_stream.Goals as goal
 
-pub loop-line-preserved : goal.loop-line-preserved
-loop-line-preserved g c =
+pub loop-lines-preserved : goal.loop-lines-preserved
+loop-lines-preserved g c =
     let contents = g.W.Write.contents in
-    let left = c.advance.new.self.left.pairs in
-    let line : c.as_slice.result.now ≡ pair_line c.args.style (c.advance.new.self.key, c.advance.new.self.value) = search rules in
-    let more : c.advance.result ≡ Ok true = search rules in
-    let first = listed_first c.loop-line.pairs.left c.advance.result c.advance.new.self more c.advance.ensures in
-    let one : pair_lines c.args.style c.loop-line.pairs.left.pairs ≡ c.as_slice.result.now ++ pair_lines c.args.style left =
-    ap (pair_lines c.args.style) first ∙ ap (λ l. l ++ pair_lines c.args.style left) (sym line) in
-    wrote_more (contents c.args.output.now) (contents c.loop-line.output) (contents c.write_all.new.self) c.as_slice.result.now
-    (pair_lines c.args.style c.loop-line.pairs.left.pairs) (pair_lines c.args.style left) (pair_lines c.args.style c.args.pairs.now.left.pairs)
-    c.loop-line.invariant c.in_ok-write_all.ensures.bytes one
+    let before = pair_lines c.args.style c.loop-lines.pairs.left.pairs in
+    let left = pair_lines c.args.style c.add_block.new.pairs.left.pairs in
+    let is = sym c.in_ok-more.ensures.lines ∙ ap (λ l. l ++ left) (sym c.as_slice.ensures.value) in (
+      wrote_more (contents c.args.output.now) (contents c.loop-lines.output) (contents c.write_all.new.self) c.as_slice.result.now before left
+          (pair_lines c.args.style c.args.pairs.now.left.pairs) c.loop-lines.invariant.0 c.in_ok-write_all.ensures.bytes is,
+      c.clear.ensures.items,
+    )

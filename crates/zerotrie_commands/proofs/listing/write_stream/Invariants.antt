@@ -1,11 +1,12 @@
-use Rattle.std.proofs.Common.{length}
+use Rattle.std.proofs.Common.{◌≡◌, [], length}
 use Rattle.zerotrie_commands.specs.Printed.{pair_lines}
 use Rattle.zerotrie_commands.proofs.WriteLemmas.{Wrote}
 use Rattle.zerotrie_commands.proofs.listing.write_stream.Given as goal
 
-abbrev pub invariant-loop-line : goal.invariant-loop-line
-invariant-loop-line g l = Wrote (g.W.Write.contents l.initial.output) (g.W.Write.contents l.output)
+abbrev pub invariant-loop-lines : goal.invariant-loop-lines
+invariant-loop-lines g l = Wrote (g.W.Write.contents l.initial.output) (g.W.Write.contents l.output)
     (pair_lines l.style l.pairs.left.pairs) (pair_lines l.style l.initial.pairs.left.pairs)
+    × (l.lines.items ≡ [])
 
-abbrev pub decreases-loop-line : goal.decreases-loop-line
-decreases-loop-line g l = length l.pairs.left.pairs
+abbrev pub decreases-loop-lines : goal.decreases-loop-lines
+decreases-loop-lines g l = length l.pairs.left.pairs

@@ -1,29 +1,31 @@
-use Rattle.std.proofs.Common.{rules, ◌≡◌, ◌+◌, [], drop, get_or, sym, ◌∙◌, ap, arith}
+use Rattle.std.proofs.Common.{◌≡◌, ◌+◌, ◌++◌, [], drop, length, sym, ◌∙◌, ap, arith}
 use Rattle.std.specs.Prelude.{◌&&◌}
-use Rattle.std.proofs.lemmas.List.{drop_more}
 use Rattle.std.proofs.Math.ListN.{drop_of_length-le}
 use Rattle.zerotrie_core.specs.Maps.{look}
 use Rattle.zerotrie_queries.specs.Kinds.{kind_of}
-use Rattle.zerotrie_commands.specs.Printed.{value_line, value_lines, are_found}
+use Rattle.zerotrie_commands.specs.Printed.{value_lines, are_found}
 use Rattle.zerotrie_commands.proofs.WriteLemmas.{wrote_more, wrote_all}
-use Rattle.zerotrie_commands.proofs.FoundLemmas.{answers_of, value_first, found_first, and_true, no_key}
+use Rattle.zerotrie_commands.proofs.FoundLemmas.{answers_of, cut_at, lines_cut, found_cut, and_true}
 use Rattle.zerotrie_commands.proofs.lookups.write_values.Goals as goal
 
-pub loop-key-preserved : goal.loop-key-preserved
-loop-key-preserved g c m means =
+pub loop-begin-preserved : goal.loop-begin-preserved
+loop-begin-preserved g c m means =
     let contents = g.W.Write.contents in
     let f = look (kind_of c.args.trie.now.kind) m in
     let keys = c.args.keys.now in
-    let i = c.loop-key.key-index in
-    let old = c.loop-key.invariant m means in
-    let given = c.get-value.ensures m means in
-    let is = drop_more keys i no_key (omega arith) in
-    let line : c.as_slice.result.now ≡ value_line c.get-value.result = search rules in (
-      wrote_more (contents c.args.output.now) (contents c.loop-key.output) (contents c.write_all.new.self) c.as_slice.result.now
-          (value_lines (answers_of f (drop i keys))) (value_lines (answers_of f (drop (i + 1) keys))) (value_lines (answers_of f keys))
-          old.0 c.in_ok-write_all.ensures.bytes (value_first f (drop i keys) (drop (i + 1) keys) (get_or keys i no_key) c.get-value.result c.as_slice.result.now is given line),
-      found_first f (drop i keys) (drop (i + 1) keys) (get_or keys i no_key) c.get-value.result c.loop-key.all (c.loop-key.all && c.is_some-all.result) (are_found (answers_of f keys))
-          is given (ap (λ b. c.loop-key.all && b) c.is_some-all.ensures) old.1,
+    let block = c.split_at-in-loop-begin.result.0.now in
+    let rest = drop (c.loop-begin.begin + length block) keys in
+    let old = c.loop-begin.invariant m means in
+    let cut = cut_at keys c.split_at.result.1.now block c.loop-begin.begin c.min.result c.split_at.ensures.back c.split_at-in-loop-begin.ensures.front c.split_at-in-loop-begin.ensures.front_len in
+    let given = c.as_slice.ensures.value ∙ c.in_ok-get_each.ensures m means ∙ ap (λ v. v ++ answers_of f block) c.clear.ensures.items in
+    let added = c.in_ok-all.ensures in
+    let lines = c.as_slice-in-loop-begin.ensures.value ∙ added.0 ∙ ap (λ l. l ++ value_lines c.as_slice.result.now) c.clear-in-loop-begin.ensures.items ∙ ap value_lines given in
+    let flag = added.1 ∙ ap are_found given in (
+      wrote_more (contents c.args.output.now) (contents c.loop-begin.output) (contents c.write_all.new.self) c.as_slice-in-loop-begin.result.now
+          (value_lines (answers_of f (drop c.loop-begin.begin keys))) (value_lines (answers_of f rest)) (value_lines (answers_of f keys))
+          old.0 c.in_ok-write_all.ensures.bytes (lines_cut f (drop c.loop-begin.begin keys) block rest cut ∙ ap (λ l. l ++ value_lines (answers_of f rest)) (sym lines)),
+      found_cut f (drop c.loop-begin.begin keys) block rest c.loop-begin.all (c.loop-begin.all && c.in_ok-all.field-0) (are_found (answers_of f keys))
+          cut (ap (λ b. c.loop-begin.all && b) flag) old.1,
     )
 
 pub returns : goal.returns
@@ -31,9 +33,9 @@ returns g c m means =
     let contents = g.W.Write.contents in
     let f = look (kind_of c.args.trie.now.kind) m in
     let keys = c.args.keys.now in
-    let old = c.loop-key.invariant m means in
-    let none : drop c.loop-key.key-index keys ≡ [] = drop_of_length-le keys (omega arith) in (
-      wrote_all (contents c.args.output.now) (contents c.loop-key.output) (value_lines (answers_of f (drop c.loop-key.key-index keys))) (value_lines (answers_of f keys))
+    let old = c.loop-begin.invariant m means in
+    let none : drop c.loop-begin.begin keys ≡ [] = drop_of_length-le keys (omega arith) in (
+      wrote_all (contents c.args.output.now) (contents c.loop-begin.output) (value_lines (answers_of f (drop c.loop-begin.begin keys))) (value_lines (answers_of f keys))
           (ap (λ ks. value_lines (answers_of f ks)) none) old.0,
-      sym (and_true c.loop-key.all) ∙ ap (λ ks. c.loop-key.all && are_found (answers_of f ks)) (sym none) ∙ old.1,
+      sym (and_true c.loop-begin.all) ∙ ap (λ ks. c.loop-begin.all && are_found (answers_of f ks)) (sym none) ∙ old.1,
     )

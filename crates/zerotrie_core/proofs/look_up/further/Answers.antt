@@ -1,0 +1,6 @@
+use Rattle.zerotrie_core.proofs.look_up.further.Goals as goal
+
+pub returns-in-Down : goal.returns-in-Down
+returns-in-Down g c pairs lists =
+    let down = c.in-Down.ensures c.args.bytes.now c.in_ok-first_node.ensures.some in
+    let came = down.2 pairs lists in (came.below, came.inner, came.answers)

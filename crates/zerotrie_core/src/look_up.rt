@@ -1,0 +1,209 @@
+//! Look-ups of many keys that go on in turns.
+//!
+//! In a large trie a look-up waits most of the time for memory, at each node anew. If many look-ups go on by one node
+//! each, in turns, they wait for it together: where the next node of one begins is read while the others go on.
+
+ghost use Rattle.std.specs.Prelude.{◌≡◌, ◌++◌, map, IfSome, IfOk, OnOk};
+ghost use Rattle.zerotrie_core.specs.Maps.{Map, look};
+ghost use Rattle.zerotrie_core.specs.Texts.{Means};
+ghost use Rattle.zerotrie_core.specs.reader.Starts.{AnswersAs};
+ghost use Rattle.zerotrie_core.specs.reader.Turns.{asked_of, AreAnswered};
+
+use crate::node::first_node;
+use crate::options::ZeroTrieWithOptions;
+use crate::reader::{Descent, descend, get_counted};
+use std::alloc::{AllocError, Allocator};
+use std::marker::{Model, PhantomData};
+
+/// How many look-ups take turns. They fit into the nearest memory.
+const TOGETHER: usize = 64;
+
+/// How many turns each has before it is brought to its end alone.
+const TURNS: usize = 16;
+
+/// A look-up under way: the bytes and the key that it is of, and where it has come to.
+#[derive(Drop)]
+struct LookUp<'a, K: ZeroTrieWithOptions> {
+    bytes: &'a [u8],
+    key: &'a [u8],
+    rest: &'a [u8],
+    left: &'a [u8],
+    kind: PhantomData<K>,
+}
+
+impl<'a, K: ZeroTrieWithOptions> Model for LookUp<'a, K> {
+    ghost use Rattle.std.specs.Prelude.{List, ℕ};
+    ghost use Rattle.zerotrie_core.specs.reader.Starts.{AnswersAs};
+
+    ghost Value = { List ℕ × List ℕ };
+
+    ghost view = { λ s. (s.bytes.now, s.key.now) };
+
+    ghost invariant = { λ s. AnswersAs K.kind s.bytes.now s.key.now s.rest.now s.left.now };
+}
+
+/// The bytes and the rest of the key after one node. `None` if the look-up ends there.
+#[inline(always)]
+fn further<'a, K: ZeroTrieWithOptions>(
+    bytes: &'a [u8],
+    key: &'a [u8],
+) -> Option<(&'a [u8], &'a [u8])>
+    ensures { IfSome result (λ r. AnswersAs K.kind bytes.now key.now r.0.now r.1.now) }
+{
+    match descend::<K>(first_node::<K>(bytes)?, key) {
+        Descent::Down(rest, left, _nodes) => Some((rest, left)),
+        Descent::Answer(_) => None,
+    }
+}
+
+impl<'a, K: ZeroTrieWithOptions> LookUp<'a, K> {
+    /// In front of all nodes.
+    #[inline(always)]
+    fn new(bytes: &'a [u8], key: &'a [u8]) -> Self
+        ensures { result ≡ (bytes.now, key.now) }
+    {
+        LookUp {
+            bytes,
+            key,
+            rest: bytes,
+            left: key,
+            kind: PhantomData,
+        }
+    }
+
+    /// Goes on by one node, unless the look-up ends there.
+    #[inline(always)]
+    fn go_on(&mut self)
+        ensures { self.new ≡ self.old }
+    {
+        if let Some((rest, left)) = further::<K>(self.rest, self.left) {
+            self.rest = rest;
+            self.left = left;
+        }
+    }
+
+    /// Whether the look-up is not at its end: there are bytes, and the key has some left or no value comes.
+    ///
+    /// The first of the bytes is read whatever is left of the key, so that it is near when its turn comes.
+    #[inline(always)]
+    fn is_open(&self) -> bool {
+        match self.rest.first() {
+            Some(lead) => !self.left.is_empty() | (*lead / 32 != 4),
+            None => false,
+        }
+    }
+
+    /// The value of the key.
+    #[inline(always)]
+    fn value(&self) -> Option<usize>
+        ensures { (m : Map) → Means K.kind self.now.0 m → result ≡ look K.kind m self.now.1 }
+    {
+        get_counted::<K>(self.rest, self.left).0
+    }
+}
+
+/// Gives each look-up a turn.
+fn take_turns<K: ZeroTrieWithOptions>(look_ups: &mut [LookUp<'_, K>])
+    ensures { look_ups.new ≡ look_ups.old }
+{
+    for look_up in look_ups.iter_mut() {
+        look_up.go_on();
+    }
+}
+
+/// Whether some are not at their end. It asks all of them, so that where each goes on is waited for at once.
+fn are_open<K: ZeroTrieWithOptions>(look_ups: &[LookUp<'_, K>]) -> bool {
+    let mut open = false;
+    for look_up in look_ups {
+        open |= look_up.is_open();
+    }
+    open
+}
+
+/// Goes on with all look-ups in turns.
+fn go_on<K: ZeroTrieWithOptions>(look_ups: &mut [LookUp<'_, K>])
+    ensures { look_ups.new ≡ look_ups.old }
+{
+    for _ in 0..TURNS {
+        take_turns(look_ups);
+        if !are_open(look_ups) {
+            return;
+        }
+    }
+}
+
+/// Look-ups of the keys.
+fn look_ups_of<'a, K: ZeroTrieWithOptions, A: Allocator>(
+    alloc: A,
+    bytes: &'a [u8],
+    keys: &[&'a [u8]],
+) -> Result<Vec<LookUp<'a, K>, A>, AllocError>
+    ensures { IfOk result (λ look_ups. look_ups.items ≡ map (asked_of bytes.now) keys.now) }
+{
+    let mut look_ups = Vec::with_capacity(alloc, keys.len())?;
+    for key in keys {
+        look_ups.push(LookUp::new(bytes, key))?;
+    }
+    Ok(look_ups)
+}
+
+/// Adds what look-ups answer.
+fn add_answers<K: ZeroTrieWithOptions, A: Allocator>(
+    look_ups: &[LookUp<'_, K>],
+    values: &mut Vec<Option<usize>, A>,
+) -> Result<(), AllocError>
+    ensures { OnOk result (AreAnswered K.kind look_ups.now values.old.items values.new.items) }
+{
+    for look_up in look_ups {
+        values.push(look_up.value())?;
+    }
+    Ok(())
+}
+
+/// Adds the value of each of a few keys, whose look-ups go on in turns.
+fn add_values<'a, K: ZeroTrieWithOptions, A: Allocator + Copy>(
+    alloc: A,
+    bytes: &'a [u8],
+    keys: &[&'a [u8]],
+    values: &mut Vec<Option<usize>, A>,
+) -> Result<(), AllocError>
+    ensures { OnOk result ((m : Map) → Means K.kind bytes.now m → values.new.items
+        ≡ values.old.items ++ map (λ key. look K.kind m key.now) keys.now) }
+{
+    let mut look_ups = look_ups_of::<K, A>(alloc, bytes, keys)?;
+    go_on(look_ups.as_mut_slice());
+    add_answers(look_ups.as_slice(), values)?;
+    Ok(())
+}
+
+/// Adds the value of each key, `None` for one that the trie hasn't, in the order of the keys.
+///
+/// ```
+/// let bytes = b"\xC2ab\x01\x81c\x82";          // the keys "a" with value 1 and "bc" with value 2
+/// let mut values = Vec::new(rt.alloc());
+/// let keys = [b"bc".as_slice(), b"b".as_slice(), b"a".as_slice()];
+/// get_each::<Simple, _>(rt.alloc(), bytes, &keys, &mut values)?;
+/// assert_eq!(rt; values.as_slice(), [Some(2), None, Some(1)].as_slice());
+/// ```
+///
+/// It answers more quickly than `get_counted` if the trie is larger than what a processor has at hand, and the keys are many
+/// and in no order. It returns on any bytes. Besides the values it takes a few kilobytes of memory; the only error is that
+/// memory was refused.
+pub fn get_each<'a, K: ZeroTrieWithOptions, A: Allocator + Copy>(
+    alloc: A,
+    bytes: &'a [u8],
+    keys: &[&'a [u8]],
+    values: &mut Vec<Option<usize>, A>,
+) -> Result<(), AllocError>
+    ensures { OnOk result ((m : Map) → Means K.kind bytes.now m → values.new.items
+        ≡ values.old.items ++ map (λ key. look K.kind m key.now) keys.now) }
+{
+    let mut begin = 0;
+    while begin < keys.len() {
+        let (_, left) = keys.split_at(begin);
+        let (few, _) = left.split_at(left.len().min(TOGETHER));
+        add_values::<K, A>(alloc, bytes, few, values)?;
+        begin += few.len();
+    }
+    Ok(())
+}
