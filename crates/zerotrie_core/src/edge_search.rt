@@ -48,7 +48,7 @@ fn place_in_window<K: ZeroTrieWithOptions>(
 /// edges lie close together. What is left is halved, with no branch on what it holds: which edge a key
 /// takes can't be predicted. Only the bytes that are looked at are folded.
 #[inline(always)]
-pub fn place_in<K: ZeroTrieWithOptions>(table: &[u8], byte: u8) -> Option<usize>
+pub(crate) fn place_in<K: ZeroTrieWithOptions>(table: &[u8], byte: u8) -> Option<usize>
     ensures some { IfSome result (IsPlace K.kind (length table.now) table.now byte) }
     ensures none { IfNone result (AlwaysRises K.kind table.now
         → HasNoPlace K.kind (length table.now) table.now byte) }
@@ -71,7 +71,7 @@ pub fn place_in<K: ZeroTrieWithOptions>(table: &[u8], byte: u8) -> Option<usize>
 
 /// The place, if it lies before the end.
 #[inline(always)]
-pub fn before_end(place: usize, end: usize) -> Option<usize>
+pub(crate) fn before_end(place: usize, end: usize) -> Option<usize>
     ensures some { IfSome result (λ r. (r < end) × (r ≡ place)) }
     ensures none { IfNone result (end ≤ place) }
 {

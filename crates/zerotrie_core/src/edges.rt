@@ -19,7 +19,7 @@ use crate::options::ZeroTrieWithOptions;
 
 /// An edge, and what follows it: the rest of a run of bytes that all keys go on with, and a trie.
 #[derive(Clone, Copy)]
-pub struct Along<'a> {
+pub(crate) struct Along<'a> {
     pub edge: u8,
     pub run: &'a [u8],
     pub trie: &'a [u8],
@@ -40,7 +40,7 @@ impl<'a> Along<'a> {
 
 /// The next byte of a run, if it is the byte to the kind.
 #[inline(always)]
-pub fn run_edge_like<'a, K: ZeroTrieWithOptions>(
+pub(crate) fn run_edge_like<'a, K: ZeroTrieWithOptions>(
     run: &'a [u8],
     trie: &'a [u8],
     byte: u8,
@@ -75,7 +75,7 @@ fn branch_edge_like<K: ZeroTrieWithOptions>(branch: Branch<'_>, byte: u8) -> Opt
 
 /// The edge that is the byte to the kind, past a value in front.
 #[inline(always)]
-pub fn edge_like<K: ZeroTrieWithOptions>(bytes: &[u8], byte: u8) -> Option<Along<'_>>
+pub(crate) fn edge_like<K: ZeroTrieWithOptions>(bytes: &[u8], byte: u8) -> Option<Along<'_>>
     ensures step { IsStep K.kind (Lists K.kind bytes.now) byte
         (option_map (λ a. a.edge) result) (ListsAt K.kind (place_along result)) }
     ensures run { IfSome result (λ a. FollowsRun K.kind
@@ -96,7 +96,7 @@ pub fn edge_like<K: ZeroTrieWithOptions>(bytes: &[u8], byte: u8) -> Option<Along
 
 /// The next byte of a run, which is edge number 0 of one.
 #[inline(always)]
-pub fn run_edge_numbered<'a>(
+pub(crate) fn run_edge_numbered<'a>(
     run: &'a [u8],
     trie: &'a [u8],
     index: usize,
@@ -139,7 +139,7 @@ fn branch_edge_numbered(branch: Branch<'_>, index: usize) -> Option<(Along<'_>, 
 
 /// The edge of this number, and how many edges there are, past a value in front.
 #[inline(always)]
-pub fn edge_numbered<K: ZeroTrieWithOptions>(
+pub(crate) fn edge_numbered<K: ZeroTrieWithOptions>(
     bytes: &[u8],
     index: usize,
 ) -> Option<(Along<'_>, usize)>

@@ -33,7 +33,7 @@ fn lower(byte: u8) -> u8
 
 /// The byte as the kind compares it: an ASCII letter in lower case if case is ignored, and else itself.
 #[inline(always)]
-pub fn folded<K: ZeroTrieWithOptions>(byte: u8) -> u8
+pub(crate) fn folded<K: ZeroTrieWithOptions>(byte: u8) -> u8
     ensures { result ≡ fold_byte K.kind byte }
 {
     if K::IGNORE_CASE { lower(byte) } else { byte }
@@ -42,7 +42,7 @@ pub fn folded<K: ZeroTrieWithOptions>(byte: u8) -> u8
 /// The bytes that are this byte to the kind: a letter in either case if case is ignored, and else itself
 /// alone.
 #[inline(always)]
-pub fn both_cases<K: ZeroTrieWithOptions>(byte: u8) -> (u8, u8)
+pub(crate) fn both_cases<K: ZeroTrieWithOptions>(byte: u8) -> (u8, u8)
     ensures { (b : ℕ) → (fold_byte K.kind b ≡ fold_byte K.kind byte)
         ↔ ((b ≡ result.0) ⊎ (b ≡ result.1)) }
 {

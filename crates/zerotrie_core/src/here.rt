@@ -12,7 +12,7 @@ use crate::lanes::{first_other_in_16, highs_in_16};
 ///
 /// Sixteen bytes are looked at at once as long as there are sixteen in the text, also past the end of a target.
 #[derive(Clone, Copy, Debug)]
-pub struct Here<'a> {
+pub(crate) struct Here<'a> {
     pub rest: &'a [u8],
     pub tail: &'a [u8],
     ghost lies: { rest.now ≡ take (length rest.now) tail.now },
@@ -21,7 +21,7 @@ pub struct Here<'a> {
 impl<'a> Here<'a> {
     /// In front of these bytes.
     #[inline(always)]
-    pub fn at(bytes: &'a [u8]) -> Self
+    pub(crate) fn at(bytes: &'a [u8]) -> Self
         ensures { result.rest.now ≡ bytes.now }
     {
         Here {
@@ -32,7 +32,7 @@ impl<'a> Here<'a> {
 
     /// In front of the first bytes of these, of which the text has more.
     #[inline(always)]
-    pub fn first_of(tail: &'a [u8], len: usize) -> Self
+    pub(crate) fn first_of(tail: &'a [u8], len: usize) -> Self
         requires { len ≤ length tail.now }
         ensures { result.rest.now ≡ take len tail.now }
     {
@@ -42,7 +42,7 @@ impl<'a> Here<'a> {
 
     /// Where nothing is to be gone over.
     #[inline(always)]
-    pub fn nowhere() -> Self
+    pub(crate) fn nowhere() -> Self
         ensures { result.rest.now ≡ [] }
     {
         Here::at(&[])
@@ -51,7 +51,7 @@ impl<'a> Here<'a> {
     /// In front of these bytes, with which the rest ends. Both parts are cut from one, so a register is enough for where they
     /// begin.
     #[inline(always)]
-    pub fn behind(self, after: &'a [u8]) -> Self
+    pub(crate) fn behind(self, after: &'a [u8]) -> Self
         requires { EndsWith self.rest.now after.now }
         ensures { result.rest.now ≡ after.now }
     {
@@ -62,7 +62,7 @@ impl<'a> Here<'a> {
 
     /// How many literals the rest begins with, as far as sixteen bytes tell; none if the text has fewer left.
     #[inline(always)]
-    pub fn literals(&self) -> usize
+    pub(crate) fn literals(&self) -> usize
         ensures within { result ≤ length self.now.rest.now }
         ensures most { result ≤ 16 }
         ensures literals { (k : ℕ) → k < result → slice_index self.now.rest.now k < 128 }
@@ -78,7 +78,7 @@ impl<'a> Here<'a> {
 
     /// After this many bytes of the rest.
     #[inline(always)]
-    pub fn after(self, count: usize) -> Self
+    pub(crate) fn after(self, count: usize) -> Self
         requires { count ≤ length self.rest.now }
         ensures { result.rest.now ≡ drop count self.entry.rest.now }
     {
@@ -91,7 +91,7 @@ impl<'a> Here<'a> {
     /// The lead says whether bytes follow it, and of these all but the last are 128 or more, so nothing is read byte by
     /// byte. A value of ten bytes is not told, since it might be too large.
     #[inline(always)]
-    pub fn value_len(&self) -> usize
+    pub(crate) fn value_len(&self) -> usize
         ensures within { result ≤ length self.now.rest.now }
         ensures value { 0 < result → BeginsValue self.now.rest.now
             (drop result self.now.rest.now) }
@@ -111,7 +111,7 @@ impl<'a> Here<'a> {
 
     /// The bytes of the rest from one place to another, if these are in order and in it.
     #[inline(always)]
-    pub fn part(self, begin: usize, end: usize) -> Option<Here<'a>>
+    pub(crate) fn part(self, begin: usize, end: usize) -> Option<Here<'a>>
         ensures { IsGetRangeResult self.entry.rest.now begin end
             (option_map (λ here. here.rest) result) }
     {

@@ -7,7 +7,7 @@ use std::simd::prelude::*;
 
 /// The first place among sixteen where one of two bytes stands, or 64.
 #[inline(always)]
-pub fn first_in_16(bytes: &[u8], one: u8, other: u8) -> usize
+pub(crate) fn first_in_16(bytes: &[u8], one: u8, other: u8) -> usize
     requires { 16 ≤ length bytes.now }
     ensures hit { result < 16 → (slice_index bytes.now result ≡ one)
         ⊎ (slice_index bytes.now result ≡ other) }
@@ -22,7 +22,7 @@ pub fn first_in_16(bytes: &[u8], one: u8, other: u8) -> usize
 
 /// The first place among 32 where one of two bytes stands, or 64.
 #[inline(always)]
-pub fn first_in_32(bytes: &[u8], one: u8, other: u8) -> usize
+pub(crate) fn first_in_32(bytes: &[u8], one: u8, other: u8) -> usize
     requires { 32 ≤ length bytes.now }
     ensures hit { result < 32 → (slice_index bytes.now result ≡ one)
         ⊎ (slice_index bytes.now result ≡ other) }
@@ -37,7 +37,7 @@ pub fn first_in_32(bytes: &[u8], one: u8, other: u8) -> usize
 
 /// The first place among 64 where one of two bytes stands, or 64.
 #[inline(always)]
-pub fn first_in_64(bytes: &[u8], one: u8, other: u8) -> usize
+pub(crate) fn first_in_64(bytes: &[u8], one: u8, other: u8) -> usize
     requires { 64 ≤ length bytes.now }
     ensures hit { result < 64 → (slice_index bytes.now result ≡ one)
         ⊎ (slice_index bytes.now result ≡ other) }
@@ -52,7 +52,7 @@ pub fn first_in_64(bytes: &[u8], one: u8, other: u8) -> usize
 
 /// The first place among sixteen where a byte is no literal, or not the other byte there, or 64.
 #[inline(always)]
-pub fn first_other_in_16(bytes: &[u8], others: &[u8]) -> usize
+pub(crate) fn first_other_in_16(bytes: &[u8], others: &[u8]) -> usize
     requires bytes { 16 ≤ length bytes.now }
     requires others { 16 ≤ length others.now }
     ensures { (k : ℕ) → k < 16 → k < result → (slice_index bytes.now k < 128)
@@ -66,7 +66,7 @@ pub fn first_other_in_16(bytes: &[u8], others: &[u8]) -> usize
 
 /// Whether sixteen bytes are literals, and each the other byte there.
 #[inline(always)]
-pub fn are_same_in_16(bytes: &[u8], others: &[u8]) -> bool
+pub(crate) fn are_same_in_16(bytes: &[u8], others: &[u8]) -> bool
     requires bytes { 16 ≤ length bytes.now }
     requires others { 16 ≤ length others.now }
     ensures { IsTrue result → (k : ℕ) → k < 16 → (slice_index bytes.now k < 128)
@@ -77,7 +77,7 @@ pub fn are_same_in_16(bytes: &[u8], others: &[u8]) -> bool
 
 /// How many of the first sixteen bytes are below the one after them, from the first on; 64 if all are.
 #[inline(always)]
-pub fn rising_in_17(bytes: &[u8]) -> usize
+pub(crate) fn rising_in_17(bytes: &[u8]) -> usize
     requires { 17 ≤ length bytes.now }
     ensures rises { (k : ℕ) → k < 16 → k < result
         → slice_index bytes.now k < slice_index bytes.now (k + 1) }
@@ -92,7 +92,7 @@ pub fn rising_in_17(bytes: &[u8]) -> usize
 
 /// How many of the first sixteen bytes are 128 or more, from the first on; 64 if all are.
 #[inline(always)]
-pub fn highs_in_16(bytes: &[u8]) -> usize
+pub(crate) fn highs_in_16(bytes: &[u8]) -> usize
     requires { 16 ≤ length bytes.now }
     ensures highs { (k : ℕ) → k < 16 → k < result → 128 ≤ slice_index bytes.now k }
     ensures stops { result < 16 → slice_index bytes.now result < 128 }

@@ -137,7 +137,7 @@ fn common_one_by_one<K: ZeroTrieWithOptions>(bytes: &[u8], key: &[u8]) -> usize
 /// If both are long, so is as a rule the run, and it is compared sixteen at a time. As this tells letters of either
 /// case apart, if case is ignored and the first ones differ so, they are compared one by one.
 #[inline(always)]
-pub fn common_literals<K: ZeroTrieWithOptions>(bytes: &[u8], key: &[u8]) -> usize
+pub(crate) fn common_literals<K: ZeroTrieWithOptions>(bytes: &[u8], key: &[u8]) -> usize
     ensures { AreCommon K.kind bytes.now key.now result }
 {
     if bytes.len() >= 16 && key.len() >= 16 {

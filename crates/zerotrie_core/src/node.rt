@@ -191,7 +191,7 @@ fn span_at(lead: u8, rest: &[u8]) -> Option<(&[u8], &[u8])>
 
 /// The first node of the bytes. `None` exactly if no node of the kind begins.
 #[inline(always)]
-pub fn first_node<K: ZeroTrieWithOptions>(bytes: &[u8]) -> Option<Node<'_>>
+pub(crate) fn first_node<K: ZeroTrieWithOptions>(bytes: &[u8]) -> Option<Node<'_>>
     ensures some { IfSome result (λ node. Begins K.kind bytes.now (shape node)) }
     ensures none { IfNone result ((s : Shape) → Begins K.kind bytes.now s → ⊥) }
 {

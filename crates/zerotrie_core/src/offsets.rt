@@ -6,7 +6,7 @@ ghost use Rattle.zerotrie_core.specs.Nodes.{number_from, targets_behind, begin_o
 
 /// The number whose bytes stand at one place of each of up to three blocks, the highest first.
 #[inline(always)]
-pub fn short_offset_at(table: &[u8], place: usize, count: usize, width: usize) -> usize
+pub(crate) fn short_offset_at(table: &[u8], place: usize, count: usize, width: usize) -> usize
     requires place { place + (width - 1) * count < length table.now }
     requires width { (1 ≤ width) × (width ≤ 3) }
     ensures { result ≡ number_from 0 width count place table.now }
@@ -43,7 +43,7 @@ fn long_offset_at(table: &[u8], place: usize, count: usize, width: usize) -> usi
 
 /// The number whose bytes stand at one place of each block, the highest first.
 #[inline(always)]
-pub fn offset_at(table: &[u8], place: usize, count: usize, width: usize) -> usize
+pub(crate) fn offset_at(table: &[u8], place: usize, count: usize, width: usize) -> usize
     requires place { place < count }
     requires width { (1 ≤ width) × (width ≤ 8) }
     requires len { length table.now ≡ width * count }
@@ -58,7 +58,7 @@ pub fn offset_at(table: &[u8], place: usize, count: usize, width: usize) -> usiz
 
 /// The offsets of a branch and its targets, out of all bytes from its edges on.
 #[inline(always)]
-pub fn offsets_and_targets(behind: &[u8], edges: usize, width: usize) -> (&[u8], &[u8])
+pub(crate) fn offsets_and_targets(behind: &[u8], edges: usize, width: usize) -> (&[u8], &[u8])
     requires some { 1 ≤ edges }
     requires whole { edges + width * (edges - 1) ≤ length behind.now }
     ensures offsets { result.0.now ≡ take (width * (edges - 1)) (drop edges behind.now) }
@@ -71,7 +71,7 @@ pub fn offsets_and_targets(behind: &[u8], edges: usize, width: usize) -> (&[u8],
 
 /// Where the target of an edge begins among the targets, as the offset in front of it says.
 #[inline(always)]
-pub fn begin_at(behind: &[u8], edges: usize, width: usize, index: usize) -> usize
+pub(crate) fn begin_at(behind: &[u8], edges: usize, width: usize, index: usize) -> usize
     requires index { index < edges }
     requires width { (1 ≤ width) × (width ≤ 8) }
     requires whole { edges + width * (edges - 1) ≤ length behind.now }
@@ -86,7 +86,7 @@ pub fn begin_at(behind: &[u8], edges: usize, width: usize, index: usize) -> usiz
 
 /// Where it ends, as the next offset says. After the last target there is none.
 #[inline(always)]
-pub fn end_at(behind: &[u8], edges: usize, width: usize, index: usize) -> usize
+pub(crate) fn end_at(behind: &[u8], edges: usize, width: usize, index: usize) -> usize
     requires index { index < edges }
     requires width { (1 ≤ width) × (width ≤ 8) }
     requires whole { edges + width * (edges - 1) ≤ length behind.now }
@@ -100,7 +100,7 @@ pub fn end_at(behind: &[u8], edges: usize, width: usize, index: usize) -> usize
 }
 
 /// The least width field of a branch whose targets have this number of bytes together.
-pub fn least_width(total: usize) -> usize
+pub(crate) fn least_width(total: usize) -> usize
     ensures width { IsWidth total result }
     ensures small { result ≤ 7 }
 {

@@ -21,7 +21,7 @@ use crate::node::{Node, first_node};
 use crate::options::ZeroTrieWithOptions;
 
 /// What reading one node comes to.
-pub enum Descent<'a> {
+pub(crate) enum Descent<'a> {
     /// The look-up ends with this answer.
     Answer(Option<usize>),
     /// The look-up goes on in these bytes, with this rest of the key, after this number of nodes.
@@ -74,7 +74,7 @@ fn into_target<'a, K: ZeroTrieWithOptions>(branch: Branch<'a>, key: &'a [u8]) ->
 
 /// Goes on after one node.
 #[inline(always)]
-pub fn descend<'a, K: ZeroTrieWithOptions>(node: Node<'a>, key: &'a [u8]) -> Descent<'a>
+pub(crate) fn descend<'a, K: ZeroTrieWithOptions>(node: Node<'a>, key: &'a [u8]) -> Descent<'a>
     ensures { Descends K.kind (shape node.entry) key.now result }
 {
     match node {

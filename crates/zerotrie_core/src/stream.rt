@@ -568,7 +568,7 @@ fn open<'a, A: Allocator>(
 
 /// The first node of the bytes.
 #[inline(always)]
-pub fn node_at<K: ZeroTrieWithOptions>(bytes: &[u8]) -> Option<Node<'_>>
+pub(crate) fn node_at<K: ZeroTrieWithOptions>(bytes: &[u8]) -> Option<Node<'_>>
     ensures node { node_of K.kind bytes.now ≡ option_map shape result }
     ensures begins { IfSome result (λ node. Begins K.kind bytes.now (shape node)) }
 {

@@ -32,7 +32,7 @@ fn quotient(n: u8) -> u16
 
 /// The remainder of the byte by `n`. A product has their quotient in its upper bits.
 #[inline]
-pub fn remainder(byte: u8, n: u8) -> u8
+pub(crate) fn remainder(byte: u8, n: u8) -> u8
     requires { 0 < n }
     ensures { result ≡ byte % n }
 {

@@ -8,7 +8,7 @@ use std::marker::Model;
 
 /// The remainders of all bytes by a number, so that each is worked out once.
 #[derive(Drop)]
-pub struct Remainders {
+pub(crate) struct Remainders {
     n: u8,
     of: [u8; 256],
 }
@@ -23,7 +23,7 @@ impl Model for Remainders {
 
 impl Remainders {
     /// The remainders by `n`, or the bytes themselves if that is 0.
-    pub fn by(n: u8) -> Self
+    pub(crate) fn by(n: u8) -> Self
         ensures { result ≡ n }
     {
         let mut of = [0; 256];
@@ -35,7 +35,7 @@ impl Remainders {
 
     /// As [`f1`].
     #[inline]
-    pub fn bucket(&self, byte: u8, p: u8) -> u8
+    pub(crate) fn bucket(&self, byte: u8, p: u8) -> u8
         ensures { result ≡ f1 byte p self.now }
     {
         if self.n == 0 {
@@ -47,7 +47,7 @@ impl Remainders {
 
     /// As [`super::f2`].
     #[inline]
-    pub fn place(&self, byte: u8, q: u8) -> u8
+    pub(crate) fn place(&self, byte: u8, q: u8) -> u8
         ensures { result ≡ f2 byte q self.now }
     {
         if self.n == 0 {

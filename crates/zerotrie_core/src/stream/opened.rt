@@ -12,7 +12,7 @@ use crate::offsets::{begin_at, end_at, offsets_and_targets};
 /// A branch with targets to come: all its bytes from the edges on, all of the text from its first target on, its edge
 /// of the next target and where this one begins, and how much of the prefix stands in front of it.
 #[derive(Clone, Copy, Debug)]
-pub struct OpenBranch<'a> {
+pub(crate) struct OpenBranch<'a> {
     pub behind: &'a [u8],
     pub tail: &'a [u8],
     pub edges: usize,
@@ -28,7 +28,7 @@ pub struct OpenBranch<'a> {
 
 impl<'a> OpenBranch<'a> {
     /// No branch.
-    pub fn closed() -> Self
+    pub(crate) fn closed() -> Self
         ensures edges { result.edges ≡ 0 }
         ensures next { result.next ≡ 0 }
         ensures depth { result.depth ≡ 0 }
@@ -46,7 +46,7 @@ impl<'a> OpenBranch<'a> {
 
     /// A branch with which the rest begins, in front of its first target.
     #[inline(always)]
-    pub fn new(here: Here<'a>, branch: Branch<'a>, depth: usize) -> Self
+    pub(crate) fn new(here: Here<'a>, branch: Branch<'a>, depth: usize) -> Self
         requires { EndsWith here.rest.now branch.behind.now }
         ensures edges { result.edges ≡ branch.entry.edges }
         ensures width { result.width ≡ branch.entry.width }
@@ -67,7 +67,7 @@ impl<'a> OpenBranch<'a> {
     }
 
     /// The same branch in front of the target of this number.
-    pub fn at_edge(self, place: usize) -> Self
+    pub(crate) fn at_edge(self, place: usize) -> Self
         requires { place < self.edges }
         ensures edges { result.edges ≡ self.entry.edges }
         ensures width { result.width ≡ self.entry.width }
@@ -84,7 +84,7 @@ impl<'a> OpenBranch<'a> {
 
     /// Whether targets are left.
     #[inline(always)]
-    pub fn has_next(&self) -> bool
+    pub(crate) fn has_next(&self) -> bool
         ensures { IsTrue result ↔ (self.now.next < self.now.edges) }
     {
         self.next < self.edges
@@ -92,7 +92,7 @@ impl<'a> OpenBranch<'a> {
 
     /// The next target, if its offsets don't fall.
     #[inline(always)]
-    pub fn target(&self) -> Option<Here<'a>>
+    pub(crate) fn target(&self) -> Option<Here<'a>>
         requires some { self.now.next < self.now.edges }
         requires begins { self.now.begin ≡ begin_of self.now.edges self.now.width self.now.behind.now self.now.next }
         ensures { IsTargetResult self.now.edges self.now.width self.now.behind.now self.now.next

@@ -3,7 +3,7 @@ use Rattle.std.specs.Borrow.{Bor}
 use Rattle.zerotrie_core.specs.Maps.{Map, look}
 use Rattle.zerotrie_core.specs.Texts.{Means}
 use Rattle.zerotrie_core.specs.reader.Turns.{asked_of}
-use Rattle.zerotrie_core.proofs.look_up.add_answers.Given as goal
+use Rattle.zerotrie_core.proofs.turns.add_answers.Given as goal
 
 abbrev pub invariant-loop-look_up : goal.invariant-loop-look_up
 invariant-loop-look_up g l = (m : Map) (bytes : List ℕ) (keys : List (Bor (List ℕ))) → Means g.K.ZeroTrieWithOptions.kind bytes m → l.look_ups ≡ map (asked_of bytes) keys

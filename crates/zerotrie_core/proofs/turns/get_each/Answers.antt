@@ -1,7 +1,7 @@
 use Rattle.std.proofs.Common.{◌≡◌, ◌++◌, [], map, drop, sym, ◌∙◌, ap, append-nil, arith}
 use Rattle.std.proofs.Math.ListN.{drop_of_length-le}
 use Rattle.zerotrie_core.specs.Maps.{look}
-use Rattle.zerotrie_core.proofs.look_up.get_each.Goals as goal
+use Rattle.zerotrie_core.proofs.turns.get_each.Goals as goal
 
 pub returns : goal.returns
 returns g c m means =

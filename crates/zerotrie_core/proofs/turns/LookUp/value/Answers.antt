@@ -1,6 +1,6 @@
 use Rattle.std.proofs.Common.{◌<◌, ◌^◌, length, arith}
 use Rattle.zerotrie_core.proofs.ReaderLemmas.Starts.{value_from}
-use Rattle.zerotrie_core.proofs.look_up.LookUp.value.Goals as goal
+use Rattle.zerotrie_core.proofs.turns.LookUp.value.Goals as goal
 
 pub returns : goal.returns
 returns g c =

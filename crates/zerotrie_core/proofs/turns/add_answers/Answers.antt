@@ -1,6 +1,6 @@
 use Rattle.std.proofs.Common.{arith}
 use Rattle.zerotrie_core.proofs.ReaderLemmas.Turns.{answered_more, answered_all}
-use Rattle.zerotrie_core.proofs.look_up.add_answers.Goals as goal
+use Rattle.zerotrie_core.proofs.turns.add_answers.Goals as goal
 
 pub loop-look_up-preserved : goal.loop-look_up-preserved
 loop-look_up-preserved g c m bytes keys means are =

@@ -1,4 +1,4 @@
-use Rattle.zerotrie_core.proofs.look_up.further.Goals as goal
+use Rattle.zerotrie_core.proofs.turns.further.Goals as goal
 
 pub returns-in-Down : goal.returns-in-Down
 returns-in-Down g c pairs lists =

@@ -1,7 +1,7 @@
 use Rattle.std.proofs.Common.{◌≡◌, ◌-◌, ◌++◌, map, drop, length}
 use Rattle.zerotrie_core.specs.Maps.{Map, look}
 use Rattle.zerotrie_core.specs.Texts.{Means}
-use Rattle.zerotrie_core.proofs.look_up.get_each.Given as goal
+use Rattle.zerotrie_core.proofs.turns.get_each.Given as goal
 
 abbrev pub invariant-loop-begin : goal.invariant-loop-begin
 invariant-loop-begin g l = (m : Map) → Means g.K.ZeroTrieWithOptions.kind l.bytes m

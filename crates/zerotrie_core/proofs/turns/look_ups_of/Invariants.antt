@@ -1,6 +1,6 @@
 use Rattle.std.proofs.Common.{◌≡◌, ◌++◌, map, drop}
 use Rattle.zerotrie_core.specs.reader.Turns.{asked_of}
-use Rattle.zerotrie_core.proofs.look_up.look_ups_of.Given as goal
+use Rattle.zerotrie_core.proofs.turns.look_ups_of.Given as goal
 
 abbrev pub invariant-loop-key : goal.invariant-loop-key
 invariant-loop-key g l = l.look_ups.items ++ map (asked_of l.bytes) (drop l.key-index l.keys) ≡ map (asked_of l.bytes) l.keys

@@ -1,7 +1,7 @@
 use Rattle.std.proofs.Common.{rules, ◌≡◌, ◌∙◌, map, drop, length, ap}
 use Rattle.std.proofs.lemmas.List.{take_at}
 use Rattle.zerotrie_core.specs.reader.Turns.{asked_of}
-use Rattle.zerotrie_core.proofs.look_up.add_values.Goals as goal
+use Rattle.zerotrie_core.proofs.turns.add_values.Goals as goal
 
 pub returns : goal.returns
 returns g c m means =
