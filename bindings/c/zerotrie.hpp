@@ -115,9 +115,10 @@ public:
     Items(Kind kind, std::string_view bytes, std::string_view prefix) {
         const auto trie = detail::of(bytes), front = detail::of(prefix);
         uint32_t status = ZEROTRIE_BUFFER_TOO_SMALL;
-        // a part at a time, each with twice the room of the one before
-        for (size_t room = 4096; status == ZEROTRIE_BUFFER_TOO_SMALL; room *= 2) {
-            const size_t from = keys_.size(), at = size(), places = room / 8;
+        // a part at a time, each with twice the room of the one before, up to a megabyte, and places for keys as long as those so far
+        for (size_t room = 4096; status == ZEROTRIE_BUFFER_TOO_SMALL;) {
+            const size_t from = keys_.size(), at = size();
+            const size_t places = room / std::max<size_t>(at == 0 ? 0 : from / at, 4) + 1;
             const std::string last(at == 0 ? std::string_view() : (*this)[at - 1].first);
             size_t count = 0, next_len = 0;
             keys_.resize(from + room), ends_.resize(at + places), values_.resize(at + places);
@@ -127,7 +128,7 @@ public:
             for (size_t i = at; i < at + count; i++) ends_[i] += from;
             ends_.resize(at + count), values_.resize(at + count);
             keys_.resize(empty() ? 0 : ends_.back());
-            room = std::max(room, next_len);
+            room = std::max(std::min<size_t>(2 * room, 1 << 20), next_len);
         }
         detail::check(status);
     }

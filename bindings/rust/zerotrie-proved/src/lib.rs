@@ -361,10 +361,11 @@ impl<'a> ZeroTrie<'a> {
     pub fn prefix(&self, prefix: impl AsRef<[u8]>) -> Result<Items, Error> {
         let prefix = prefix.as_ref();
         let mut items = Items { keys: vec![], ends: vec![], values: vec![], next: 0 };
-        // a part at a time, each with twice the room of the one before
+        // a part at a time, each with twice the room of the one before, up to a megabyte, and places for keys as long as those so far
         let mut room = 4096;
         loop {
-            let (from, at, places) = (items.keys.len(), items.ends.len(), room / 8);
+            let (from, at) = (items.keys.len(), items.ends.len());
+            let places = room / (from / at.max(1)).max(4) + 1;
             let last_from = if at < 2 { 0 } else { items.ends[at - 2] };
             items.keys.resize(from + room, 0);
             items.ends.resize(at + places, 0);
@@ -401,7 +402,7 @@ impl<'a> ZeroTrie<'a> {
             items.keys.truncate(items.ends.last().copied().unwrap_or(0));
             match status {
                 0 => return Ok(items),
-                8 => room = (2 * room).max(next_len),
+                8 => room = (2 * room).min(1 << 20).max(next_len),
                 other => return Err(Error::of(other)),
             }
         }
