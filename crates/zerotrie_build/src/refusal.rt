@@ -15,11 +15,11 @@ ghost use Rattle.zerotrie_build.specs.passes.OtherCase.{BeginsThen, NoneBeginsTh
 ghost use Rattle.zerotrie_build.specs.Refused.{key_at, DifferInCase, AreShown, IsWhyRefused};
 
 use crate::indexed::item_at;
-use crate::order::{common_front_len, first_foreign, first_unordered, folded};
+use crate::order::{common_front_len, first_foreign, first_unordered};
 use crate::sort::{KeyPrefix, items_at, sorted_prefixes};
 use std::alloc::{AllocError, Global};
 use std::fmt;
-use zerotrie_core::{Simple, TrieKey, ZeroTrieBuildError, ZeroTrieWithOptions};
+use zerotrie_core::{Simple, TrieKey, ZeroTrieBuildError, ZeroTrieWithOptions, folded};
 
 /// Which keys show why a build is refused, by their numbers, counted from 0 in the order in which they are given.
 ///

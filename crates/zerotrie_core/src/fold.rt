@@ -32,8 +32,13 @@ fn lower(byte: u8) -> u8
 }
 
 /// The byte as the kind compares it: an ASCII letter in lower case if case is ignored, and else itself.
+///
+/// ```
+/// assert_eq!(rt; folded::<Ignore>(b'A'), b'a');
+/// assert_eq!(rt; folded::<Simple>(b'A'), b'A');
+/// ```
 #[inline(always)]
-pub(crate) fn folded<K: ZeroTrieWithOptions>(byte: u8) -> u8
+pub fn folded<K: ZeroTrieWithOptions>(byte: u8) -> u8
     ensures { result ≡ fold_byte K.kind byte }
 {
     if K::IGNORE_CASE { lower(byte) } else { byte }

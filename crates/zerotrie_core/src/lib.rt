@@ -32,6 +32,7 @@ pub use branch::Branch;
 pub use count::count_pairs;
 pub use cursor::{AsciiProbeResult, probe, step, take_value};
 pub use faults::{Fault, FaultCause, first_fault};
+pub use fold::folded;
 pub use listing::{ListError, ZeroTrieIterator};
 pub use look_ups::LookUps;
 pub use node::Node;

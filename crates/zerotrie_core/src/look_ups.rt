@@ -69,6 +69,13 @@ impl<'a, K: ZeroTrieWithOptions> LookUps<'a, K> {
         }
     }
 
+    /// The bytes of the trie.
+    pub(crate) fn bytes(&self) -> &'a [u8]
+        ensures { result.now ≡ self.now }
+    {
+        self.bytes
+    }
+
     /// The trie after a first byte, which is kept unless it is empty.
     #[inline(always)]
     fn target(&mut self, byte: u8) -> Option<&'a [u8]>
@@ -86,7 +93,7 @@ impl<'a, K: ZeroTrieWithOptions> LookUps<'a, K> {
 
     /// The bytes in which the look-up of a key begins, and what is left of the key there.
     #[inline(always)]
-    fn start<'k>(&mut self, key: &'k [u8]) -> (&'a [u8], &'k [u8])
+    pub(crate) fn start<'k>(&mut self, key: &'k [u8]) -> (&'a [u8], &'k [u8])
         ensures start { AnswersAs K.kind self.old key.now result.0.now result.1.now }
         ensures kept { self.new ≡ self.old }
     {

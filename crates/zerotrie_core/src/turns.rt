@@ -9,6 +9,7 @@ ghost use Rattle.zerotrie_core.specs.Texts.{Means};
 ghost use Rattle.zerotrie_core.specs.reader.Starts.{AnswersAs};
 ghost use Rattle.zerotrie_core.specs.reader.Turns.{asked_of, AreAnswered};
 
+use crate::look_ups::LookUps;
 use crate::node::first_node;
 use crate::options::ZeroTrieWithOptions;
 use crate::reader::{Descent, descend, get_counted};
@@ -57,16 +58,18 @@ fn further<'a, K: ZeroTrieWithOptions>(
 }
 
 impl<'a, K: ZeroTrieWithOptions> LookUp<'a, K> {
-    /// In front of all nodes.
+    /// In front of all nodes, or after the first if it is known where the key's first byte leads.
     #[inline(always)]
-    fn new(bytes: &'a [u8], key: &'a [u8]) -> Self
-        ensures { result ≡ (bytes.now, key.now) }
+    fn new(trie: &mut LookUps<'a, K>, key: &'a [u8]) -> Self
+        ensures asked { result ≡ (trie.old, key.now) }
+        ensures kept { trie.new ≡ trie.old }
     {
+        let (rest, left) = trie.start(key);
         LookUp {
-            bytes,
+            bytes: trie.bytes(),
             key,
-            rest: bytes,
-            left: key,
+            rest,
+            left,
             kind: PhantomData,
         }
     }
@@ -135,14 +138,15 @@ fn go_on<K: ZeroTrieWithOptions>(look_ups: &mut [LookUp<'_, K>])
 /// Look-ups of the keys.
 fn look_ups_of<'a, K: ZeroTrieWithOptions, A: Allocator>(
     alloc: A,
-    bytes: &'a [u8],
+    trie: &mut LookUps<'a, K>,
     keys: &[&'a [u8]],
 ) -> Result<Vec<LookUp<'a, K>, A>, AllocError>
-    ensures { IfOk result (λ look_ups. look_ups.items ≡ map (asked_of bytes.now) keys.now) }
+    ensures asked { IfOk result (λ look_ups. look_ups.items ≡ map (asked_of trie.old) keys.now) }
+    ensures kept { trie.new ≡ trie.old }
 {
     let mut look_ups = Vec::with_capacity(alloc, keys.len())?;
     for key in keys {
-        look_ups.push(LookUp::new(bytes, key))?;
+        look_ups.push(LookUp::new(trie, key))?;
     }
     Ok(look_ups)
 }
@@ -161,16 +165,17 @@ fn add_answers<K: ZeroTrieWithOptions, A: Allocator>(
 }
 
 /// Adds the value of each of a few keys, whose look-ups go on in turns.
-fn add_values<'a, K: ZeroTrieWithOptions, A: Allocator + Copy>(
+fn add_values<'a, K: ZeroTrieWithOptions, A: Allocator>(
     alloc: A,
-    bytes: &'a [u8],
+    trie: &mut LookUps<'a, K>,
     keys: &[&'a [u8]],
     values: &mut Vec<Option<usize>, A>,
 ) -> Result<(), AllocError>
-    ensures { OnOk result ((m : Map) → Means K.kind bytes.now m → values.new.items
+    ensures values { OnOk result ((m : Map) → Means K.kind trie.old m → values.new.items
         ≡ values.old.items ++ map (λ key. look K.kind m key.now) keys.now) }
+    ensures kept { trie.new ≡ trie.old }
 {
-    let mut look_ups = look_ups_of::<K, A>(alloc, bytes, keys)?;
+    let mut look_ups = look_ups_of::<K, A>(alloc, trie, keys)?;
     go_on(look_ups.as_mut_slice());
     add_answers(look_ups.as_slice(), values)?;
     Ok(())
@@ -198,11 +203,12 @@ pub fn get_each<'a, K: ZeroTrieWithOptions, A: Allocator + Copy>(
     ensures { OnOk result ((m : Map) → Means K.kind bytes.now m → values.new.items
         ≡ values.old.items ++ map (λ key. look K.kind m key.now) keys.now) }
 {
+    let mut trie = LookUps::<K>::new(bytes);
     let mut begin = 0;
     while begin < keys.len() {
         let (_, left) = keys.split_at(begin);
         let (few, _) = left.split_at(left.len().min(TOGETHER));
-        add_values::<K, A>(alloc, bytes, few, values)?;
+        add_values::<K, A>(alloc, &mut trie, few, values)?;
         begin += few.len();
     }
     Ok(())

@@ -8,4 +8,4 @@ returns g c m means =
     let none : drop c.loop-begin.begin c.args.keys.now ≡ [] = drop_of_length-le c.args.keys.now (omega arith) in
     sym (append-nil c.loop-begin.values.items)
     ∙ ap (λ ks. c.loop-begin.values.items ++ map (λ key. look g.K.ZeroTrieWithOptions.kind m key.now) ks) (sym none)
-    ∙ c.loop-begin.invariant m means
+    ∙ c.loop-begin.invariant.1 m means
