@@ -26,11 +26,27 @@ fn same<T: Debug + PartialEq + Drop, H: Abort>(rt: &H, left: T, right: T) {
     assert_eq!(rt; left, right);
 }
 
-/// Whether a build is refused for this reason.
-fn is_refused<T: Drop>(build: Result<T, ZeroTrieBuildError>, error: &ZeroTrieBuildError) -> bool {
-    match build {
+/// Whether a call was refused for this reason.
+fn is_refused<T: Drop, E: PartialEq + Drop>(call: Result<T, E>, error: &E) -> bool {
+    match call {
         Ok(_) => false,
         Err(why) => why == *error,
+    }
+}
+
+/// Whether a call gave these bytes.
+fn is_bytes<E: Drop>(call: Result<Vec<u8>, E>, bytes: &[u8]) -> bool {
+    match call {
+        Ok(given) => given.as_slice() == bytes,
+        Err(_) => false,
+    }
+}
+
+/// Whether a call gave this text.
+fn is_text<E: Drop>(call: Result<String, E>, text: &str) -> bool {
+    match call {
+        Ok(given) => given.as_str() == text,
+        Err(_) => false,
     }
 }
 

@@ -1,5 +1,7 @@
 //! Tries in arrays.
 
+ghost use Rattle.std.specs.Prelude.{◌<◌, ◌^◌};
+
 use super::*;
 
 /// Keys, of which the second and the third part after the first byte.
@@ -17,55 +19,67 @@ const LITERALS_TEXT: &[u8] = b"\x8Bad\x90\x06\xC2eg\x03f\x90\x11hk\x90\x1C";
 /// A trie in an array, or the error.
 type Built<const N: usize> = Result<ZeroTrieSimpleAscii<[u8; N]>, ZeroTrieBuildError>;
 
-#[test]
-fn no_keys_fill_no_array(rt: HostRuntime) -> Result<(), Fail> {
-    let none: Built<0> = ZeroTrieSimpleAscii::from_sorted_u8_tuples(&[]);
-    assert!(rt; none?.is_empty());
-    let none: Built<0> = ZeroTrieSimpleAscii::from_sorted_u8_tuples_with_stack::<0>(&[]);
-    assert!(rt; none?.is_empty());
-    let larger: Built<1> = ZeroTrieSimpleAscii::from_sorted_u8_tuples(&[]);
-    assert!(rt; is_refused(larger, &ZeroTrieBuildError::BufferTooLarge(0)));
-    Ok(())
+fn of_bytes<const N: usize>(items: &[(&[u8], usize)]) -> Built<N> {
+    ZeroTrieSimpleAscii::from_sorted_u8_tuples(items)
+}
+
+fn of_bytes_with_stack<const N: usize, const K: usize>(items: &[(&[u8], usize)]) -> Built<N>
+    requires { K < 2 ^ 58 }
+{
+    ZeroTrieSimpleAscii::from_sorted_u8_tuples_with_stack::<K>(items)
+}
+
+fn of_texts<const N: usize>(items: &[(&str, usize)]) -> Built<N> {
+    ZeroTrieSimpleAscii::from_sorted_str_tuples(items)
+}
+
+fn of_texts_with_stack<const N: usize, const K: usize>(items: &[(&str, usize)]) -> Built<N>
+    requires { K < 2 ^ 58 }
+{
+    ZeroTrieSimpleAscii::from_sorted_str_tuples_with_stack::<K>(items)
+}
+
+/// Whether the array is filled with this text.
+fn is_full<const N: usize>(built: Built<N>, text: &[u8]) -> bool {
+    match built {
+        Ok(trie) => trie.as_bytes() == text && trie.is_empty() == text.is_empty(),
+        Err(_) => false,
+    }
 }
 
 #[test]
-fn arrays_are_filled(rt: HostRuntime) -> Result<(), Fail> {
-    let full: Built<17> = ZeroTrieSimpleAscii::from_sorted_str_tuples(&BAZ);
-    same(&rt, full?.as_bytes(), BAZ_TEXT);
-    let smaller: Built<15> = ZeroTrieSimpleAscii::from_sorted_str_tuples(&BAZ);
-    assert!(rt; is_refused(smaller, &ZeroTrieBuildError::BufferTooSmall));
-    let larger: Built<20> = ZeroTrieSimpleAscii::from_sorted_str_tuples(&BAZ);
-    assert!(rt; is_refused(larger, &ZeroTrieBuildError::BufferTooLarge(17)));
-    Ok(())
+fn no_keys_fill_no_array(rt: HostRuntime) {
+    assert!(rt; is_full::<0>(of_bytes(&[]), b""));
+    assert!(rt; is_full(of_bytes_with_stack::<0, 0>(&[]), b""));
+    assert!(rt; is_refused(of_bytes::<1>(&[]), &ZeroTrieBuildError::BufferTooLarge(0)));
+}
+
+#[test]
+fn arrays_are_filled(rt: HostRuntime) {
+    assert!(rt; is_full::<17>(of_texts(&BAZ), BAZ_TEXT));
+    assert!(rt; is_refused(of_texts::<15>(&BAZ), &ZeroTrieBuildError::BufferTooSmall));
+    assert!(rt;
+        is_refused(
+            of_texts::<20>(&BAZ),
+            &ZeroTrieBuildError::BufferTooLarge(17)
+        )
+    );
 }
 
 #[test]
 fn keys_are_refused(rt: HostRuntime) {
-    let unsorted: Built<17> = ZeroTrieSimpleAscii::from_sorted_str_tuples(&[
-        ("foo", 1),
-        ("bar", 2),
-        ("bazzoo", 3),
-    ]);
-    assert!(rt; is_refused(unsorted, &ZeroTrieBuildError::Unsorted));
-    let high: Built<100> = ZeroTrieSimpleAscii::from_sorted_str_tuples(&[
-        ("bazzoo", 3),
-        ("bár", 2),
-        ("foo", 1),
-    ]);
-    assert!(rt; is_refused(high, &ZeroTrieBuildError::NonAsciiError));
+    let unsorted = [("foo", 1), ("bar", 2), ("bazzoo", 3)];
+    assert!(rt; is_refused(of_texts::<17>(&unsorted), &ZeroTrieBuildError::Unsorted));
+    let high = [("bazzoo", 3), ("bár", 2), ("foo", 1)];
+    assert!(rt; is_refused(of_texts::<100>(&high), &ZeroTrieBuildError::NonAsciiError));
 }
 
 #[test]
-fn stacks_are_large_enough(rt: HostRuntime) -> Result<(), Fail> {
-    let enough: Built<17> = ZeroTrieSimpleAscii::from_sorted_str_tuples_with_stack::<3>(&BAZ);
-    same(&rt, enough?.as_bytes(), BAZ_TEXT);
-    let small: Built<17> = ZeroTrieSimpleAscii::from_sorted_str_tuples_with_stack::<2>(&BAZ);
+fn stacks_are_large_enough(rt: HostRuntime) {
+    assert!(rt; is_full(of_texts_with_stack::<17, 3>(&BAZ), BAZ_TEXT));
+    let small = of_texts_with_stack::<17, 2>(&BAZ);
     assert!(rt; is_refused(small, &ZeroTrieBuildError::StackExceeded));
-    let alone: Built<4> = ZeroTrieSimpleAscii::from_sorted_str_tuples_with_stack::<0>(&[(
-        "abc", 0,
-    )]);
-    same(&rt, alone?.as_bytes(), b"abc\x80".as_slice());
-    Ok(())
+    assert!(rt; is_full(of_texts_with_stack::<4, 0>(&[("abc", 0)]), b"abc\x80"));
 }
 
 /// The bytes from 0 to 100.
@@ -77,13 +91,25 @@ fn bytes_up_to_100() -> [u8; 101] {
     bytes
 }
 
+/// Whether an array is filled with the text that is built in memory, too, and begins with these bytes.
+fn is_grown<const N: usize>(
+    alloc: Global,
+    built: Built<N>,
+    items: &[(&[u8], usize)],
+    front: &[u8],
+) -> bool {
+    match ZeroTrieSimpleAscii::try_from_sorted_slice(alloc, items) {
+        Ok(grown) => grown.as_bytes().starts_with(front) && is_full(built, grown.as_bytes()),
+        Err(_) => false,
+    }
+}
+
 #[test]
 fn a_hundred_edges(rt: HostRuntime) -> Result<(), Fail> {
     let bytes = bytes_up_to_100();
-    let items = keys_of(rt.alloc(), &bytes)?;
-    let (_, first) = items.as_slice().split_last().ok_or("empty")?;
-    let hundred: Built<301> = ZeroTrieSimpleAscii::from_sorted_u8_tuples(first);
-    assert!(rt; hundred?.as_bytes().starts_with(b"\xE0\x44"));
+    let items = keys_of(rt.alloc(), &bytes[..100])?;
+    let hundred = of_bytes::<301>(&items);
+    assert!(rt; is_grown(rt.alloc(), hundred, &items, b"\xE0\x44"));
     Ok(())
 }
 
@@ -91,41 +117,52 @@ fn a_hundred_edges(rt: HostRuntime) -> Result<(), Fail> {
 fn a_hundred_edges_and_one(rt: HostRuntime) -> Result<(), Fail> {
     let bytes = bytes_up_to_100();
     let items = keys_of(rt.alloc(), &bytes)?;
-    let all = items.as_slice();
-    let more: Built<304> = ZeroTrieSimpleAscii::from_sorted_u8_tuples(all);
+    let more = of_bytes::<304>(&items);
     assert!(rt; is_refused(more, &ZeroTrieBuildError::StackExceeded));
-    let more: Built<304> = ZeroTrieSimpleAscii::from_sorted_u8_tuples_with_stack::<100>(all);
+    let more = of_bytes_with_stack::<304, 100>(&items);
     assert!(rt; is_refused(more, &ZeroTrieBuildError::StackExceeded));
-    let more: Built<304> = ZeroTrieSimpleAscii::from_sorted_u8_tuples_with_stack::<101>(all);
-    let grown = ZeroTrieSimpleAscii::try_from_sorted_slice(rt.alloc(), all)?;
-    assert!(rt; grown.as_bytes().starts_with(b"\xE0\x45"));
-    same(&rt, more?.as_bytes(), grown.as_bytes());
+    let more = of_bytes_with_stack::<304, 101>(&items);
+    assert!(rt; is_grown(rt.alloc(), more, &items, b"\xE0\x45"));
     Ok(())
 }
 
+/// A trie that was built in an array and copied from there, or the error.
+type Copied = Result<ZeroTrieSimpleAscii<Vec<u8>>, ZeroTrieBuildError>;
+
+fn copied(alloc: Global, items: &[(&[u8], usize)]) -> Copied {
+    ZeroTrieSimpleAscii::try_from_sorted_slice_with_const_builder(alloc, items)
+}
+
+fn copied_from<const N: usize, const K: usize>(alloc: Global, items: &[(&[u8], usize)]) -> Copied
+    requires { K < 2 ^ 58 }
+{
+    ZeroTrieSimpleAscii::try_from_sorted_slice_sized::<N, K>(alloc, items)
+}
+
+fn is_copy(copied: Copied, text: &[u8]) -> bool {
+    match copied {
+        Ok(trie) => trie.as_bytes() == text && trie.byte_len() == text.len(),
+        Err(_) => false,
+    }
+}
+
 #[test]
-fn arrays_are_copied(rt: HostRuntime) -> Result<(), Fail> {
+fn arrays_are_copied(rt: HostRuntime) {
     let alloc = rt.alloc();
-    let copied = ZeroTrieSimpleAscii::try_from_sorted_slice_with_const_builder(alloc, &LITERALS)?;
-    same(&rt, copied.as_bytes(), LITERALS_TEXT);
-    let copied = ZeroTrieSimpleAscii::try_from_sorted_slice_sized::<20, 2>(alloc, &LITERALS)?;
-    same(&rt, copied.as_bytes(), LITERALS_TEXT);
-    let small = ZeroTrieSimpleAscii::try_from_sorted_slice_sized::<15, 2>(alloc, &LITERALS);
+    assert!(rt; is_copy(copied(alloc, &LITERALS), LITERALS_TEXT));
+    assert!(rt; is_copy(copied_from::<20, 2>(alloc, &LITERALS), LITERALS_TEXT));
+    let small = copied_from::<15, 2>(alloc, &LITERALS);
     assert!(rt; is_refused(small, &ZeroTrieBuildError::BufferTooSmall));
-    let shallow = ZeroTrieSimpleAscii::try_from_sorted_slice_sized::<16, 1>(alloc, &LITERALS);
+    let shallow = copied_from::<16, 1>(alloc, &LITERALS);
     assert!(rt; is_refused(shallow, &ZeroTrieBuildError::StackExceeded));
-    Ok(())
 }
 
 #[test]
-fn long_keys_are_copied(rt: HostRuntime) -> Result<(), Fail> {
-    let alloc = rt.alloc();
-    let key = vec![in alloc; b'a'; 10000]?;
-    let short: [(&[u8], usize); 1] = [(&key.as_slice()[1..], 0)];
-    let copied = ZeroTrieSimpleAscii::try_from_sorted_slice_with_const_builder(alloc, &short)?;
-    same(&rt, copied.byte_len(), 10000);
-    let long: [(&[u8], usize); 1] = [(key.as_slice(), 0)];
-    let small = ZeroTrieSimpleAscii::try_from_sorted_slice_with_const_builder(alloc, &long);
-    assert!(rt; is_refused(small, &ZeroTrieBuildError::BufferTooSmall));
-    Ok(())
+fn long_keys_are_copied(rt: HostRuntime) {
+    let mut text = [b'a'; 10000];
+    let long = copied(rt.alloc(), &[(&text, 0)]);
+    assert!(rt; is_refused(long, &ZeroTrieBuildError::BufferTooSmall));
+    let short = copied(rt.alloc(), &[(&text[1..], 0)]);
+    text[9999] = 0x80;
+    assert!(rt; is_copy(short, &text));
 }
