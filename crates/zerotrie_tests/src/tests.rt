@@ -12,10 +12,12 @@ mod views;
 mod walks;
 mod well_formed;
 
-use std::alloc::Global;
+ghost use Rattle.std.specs.Prelude.{◌<◌};
+
+use std::alloc::{AllocError, Global};
 use std::borrow::CowSlice;
 use std::collections::BTreeMap;
-use std::fmt::Debug;
+use std::fmt::{Debug, Display};
 use std::process::Abort;
 use std::test::Fail;
 use zerotrie::*;
@@ -24,6 +26,25 @@ use zerotrie::*;
 /// it writes is long, and made anew wherever it stands.
 fn same<T: Debug + PartialEq + Drop, H: Abort>(rt: &H, left: T, right: T) {
     assert_eq!(rt; left, right);
+}
+
+/// The trie of items in any order.
+fn ascii_of<K: AsciiKind>(
+    alloc: Global,
+    items: &[(&str, usize)],
+) -> Result<AsciiTrie<K, Vec<u8>>, ZeroTrieBuildError> {
+    AsciiTrie::try_from_iter(alloc, items.iter().copied())
+}
+
+fn hashed_of<K: HashedKind>(
+    alloc: Global,
+    items: &[(&str, usize)],
+) -> Result<HashedTrie<K, Vec<u8>>, ZeroTrieBuildError> {
+    HashedTrie::try_from_iter(alloc, items.iter().copied())
+}
+
+fn any_of(alloc: Global, items: &[(&str, usize)]) -> Result<ZeroTrie<Vec<u8>>, ZeroTrieBuildError> {
+    ZeroTrie::try_from_iter(alloc, items.iter().copied())
 }
 
 /// Whether a call was refused for this reason.
@@ -50,11 +71,56 @@ fn is_text<E: Drop>(call: Result<String, E>, text: &str) -> bool {
     }
 }
 
-/// The keys of one byte each, with value 0.
-fn keys_of(alloc: Global, bytes: &[u8]) -> Result<Vec<(&[u8], usize)>, Fail> {
+/// Whether `{}` writes this of a value.
+fn is_written<T: Display>(alloc: Global, value: &T, text: &str) -> bool {
+    is_text(format!(in alloc; "{value}"), text)
+}
+
+/// The first item of a listing.
+fn first<I: Iterator + Drop>(items: I) -> Option<I::Item> {
+    let mut items = items;
+    items.next()
+}
+
+/// Whether an item of a listing is this pair.
+fn is_pair(item: Option<Result<(Vec<u8>, usize), ListError>>, key: &[u8], value: usize) -> bool {
+    match item {
+        Some(Ok((bytes, number))) => bytes.as_slice() == key && number == value,
+        _ => false,
+    }
+}
+
+/// Whether an item of a listing of texts is this pair.
+fn is_text_pair(item: Option<Result<(String, usize), ListError>>, key: &str, value: usize) -> bool {
+    match item {
+        Some(Ok((text, number))) => text.as_str() == key && number == value,
+        _ => false,
+    }
+}
+
+/// The map of items.
+fn text_map<'a>(
+    alloc: Global,
+    items: &[(&'a str, usize)],
+) -> Result<BTreeMap<&'a str, usize>, ZeroTrieBuildError> {
+    let mut map = BTreeMap::new(alloc);
+    for (key, value) in items {
+        map.insert(*key, *value)?;
+    }
+    Ok(map)
+}
+
+/// The bytes in keys of this length, each with value 0.
+fn keys_of(
+    alloc: Global,
+    bytes: &[u8],
+    len: usize,
+) -> Result<Vec<(&[u8], usize)>, ZeroTrieBuildError>
+    requires { 0 < len }
+{
     let mut items: Vec<(&[u8], usize)> = Vec::new(alloc);
-    for byte in bytes.chunks(1) {
-        items.push((byte, 0))?;
+    for key in bytes.chunks(len) {
+        items.push((key, 0))?;
     }
     Ok(items)
 }
@@ -79,9 +145,23 @@ const LETTERS: [(&str, usize); 16] = [
     ("p", 15),
 ];
 
-/// Their trie, in a hashed kind.
-fn letters<K: HashedKind>(alloc: Global) -> Result<HashedTrie<K, Vec<u8>>, ZeroTrieBuildError> {
-    HashedTrie::try_from_iter(alloc, LETTERS)
+/// Their text in a hashed kind.
+const LETTERS_TEXT: &[u8; 65] = b"\xD0\0\0\0\0\0\0\0\0\0\0\0\0\0\0\0\0\0pabcdefghijklmno\
+    \x01\x02\x03\x04\x05\x06\x07\x08\x09\x0A\x0B\x0C\x0D\x0E\x0F\
+    \x8F\x80\x81\x82\x83\x84\x85\x86\x87\x88\x89\x8A\x8B\x8C\x8D\x8E";
+
+/// The text of all keys of one byte, each with value 0, in a hashed kind: their number is 0 in the head, and the offsets
+/// have two bytes.
+fn text_of_all_bytes() -> [u8; 1281] {
+    let mut text = [0; 1281];
+    text[0] = 0xE1;
+    text[1] = 0x60;
+    for byte in 0..256 {
+        text[259 + byte] = byte as u8;
+        text[769 + byte] = byte as u8;
+        text[1025 + byte] = 0x80;
+    }
+    text
 }
 
 /// Keys without case: where they part they part by their lower case, too.
@@ -94,6 +174,9 @@ const MIXED: [(&str, usize); 6] = [
     ("aBcghi", 5),
 ];
 
+/// Their text.
+const MIXED_TEXT: &[u8] = b"\x80aBc\x81\xC4DeFg\x01\x02\x03\x82\x83\x84hi\x85";
+
 /// Names whose spellings part in case alone, put in lower case, and their text.
 const LOWERED: (&[(&str, usize)], &[u8]) = (
     &[
@@ -102,8 +185,10 @@ const LOWERED: (&[(&str, usize)], &[u8]) = (
         ("date", 4),
         ("dav", 3),
     ],
-    b"\xC2ad\x0Fccept-ch\x81arset\x82a\xC2tv\x02e\x84\x83",
+    LOWERED_TEXT,
 );
+
+const LOWERED_TEXT: &[u8] = b"\xC2ad\x0Fccept-ch\x81arset\x82a\xC2tv\x02e\x84\x83";
 
 /// Fourteen locales, which take 71 bytes.
 const LOCALES: [(&str, usize); 14] = [

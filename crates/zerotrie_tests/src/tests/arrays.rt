@@ -107,7 +107,7 @@ fn is_grown<const N: usize>(
 #[test]
 fn a_hundred_edges(rt: HostRuntime) -> Result<(), Fail> {
     let bytes = bytes_up_to_100();
-    let items = keys_of(rt.alloc(), &bytes[..100])?;
+    let items = keys_of(rt.alloc(), &bytes[..100], 1)?;
     let hundred = of_bytes::<301>(&items);
     assert!(rt; is_grown(rt.alloc(), hundred, &items, b"\xE0\x44"));
     Ok(())
@@ -116,7 +116,7 @@ fn a_hundred_edges(rt: HostRuntime) -> Result<(), Fail> {
 #[test]
 fn a_hundred_edges_and_one(rt: HostRuntime) -> Result<(), Fail> {
     let bytes = bytes_up_to_100();
-    let items = keys_of(rt.alloc(), &bytes)?;
+    let items = keys_of(rt.alloc(), &bytes, 1)?;
     let more = of_bytes::<304>(&items);
     assert!(rt; is_refused(more, &ZeroTrieBuildError::StackExceeded));
     let more = of_bytes_with_stack::<304, 100>(&items);

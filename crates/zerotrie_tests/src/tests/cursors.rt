@@ -3,7 +3,7 @@
 use super::*;
 use std::fmt;
 use std::fmt::Write;
-use zerotrie::cursor::{AsciiProbeResult, ByteProbeResult, HashedCursor};
+use zerotrie::cursor::{AsciiCursor, AsciiProbeResult, ByteProbeResult, HashedCursor};
 
 /// Two keys of which one goes on from the other.
 const NESTED: &[u8] = b"abc\x80def\x81";
@@ -11,43 +11,68 @@ const NESTED: &[u8] = b"abc\x80def\x81";
 /// The keys "foo", "bår" and "båzzøø" with values 1, 2 and 3, in a hashed kind.
 const SPANS: &[u8] = b"\xC2bf\x0F\xA2\xC3\xA5\xC2rz\x01\x82zz\xA4\xC3\xB8\xC3\xB8\x83oo\x81";
 
+/// Steps over bytes, whether they are there or not.
+fn go_down(cursor: &mut AsciiCursor<'_, Simple>, bytes: &[u8]) {
+    for byte in bytes {
+        cursor.step(*byte);
+    }
+}
+
+/// Whether a cursor takes the value 0 once, is at a key's byte after a step to "d", and nowhere after one to "x".
+fn takes_once(cursor: AsciiCursor<'_, Simple>) -> bool {
+    let mut cursor = cursor;
+    let is_taken = cursor.take_value() == Some(0) && cursor.take_value().is_none();
+    cursor.step(b'd');
+    let is_there = !cursor.is_empty();
+    cursor.step(b'x');
+    is_taken && is_there && cursor.is_empty()
+}
+
+/// The value of a key in the trie of what comes after some steps.
+fn value_after(cursor: AsciiCursor<'_, Simple>, steps: &[u8], key: &[u8]) -> Option<usize> {
+    let mut cursor = cursor;
+    go_down(&mut cursor, steps);
+    cursor.into_suffix_trie().get(key)
+}
+
+/// Whether a cursor finds no edge of this number, and is nowhere then.
+fn is_lost_by_probe(cursor: AsciiCursor<'_, Simple>, index: usize) -> bool {
+    let mut cursor = cursor;
+    cursor.probe(index).is_none() && cursor.is_empty()
+}
+
 #[test]
 fn ascii_cursors(rt: HostRuntime) -> Result<(), Fail> {
     let trie = ZeroTrieSimpleAscii::from_bytes(NESTED);
     same(&rt, trie.byte_len(), 8);
     let mut cursor = trie.cursor();
-    for byte in b"abc" {
-        cursor.step(*byte);
-    }
-    let mut again = cursor.clone()?;
-    same(&rt, cursor.take_value(), Some(0));
-    same(&rt, cursor.take_value(), None);
-    cursor.step(b'd');
-    assert!(rt; !cursor.is_empty());
-    cursor.step(b'x');
-    assert!(rt; cursor.is_empty());
+    go_down(&mut cursor, b"abc");
+    let again = cursor.clone()?;
+    assert!(rt; takes_once(cursor));
     // The copy is a place of its own, and a step passes over its value.
-    again.step(b'd');
-    same(&rt, again.into_suffix_trie().get(b"ef"), Some(1));
-    let mut cursor = trie.cursor();
-    same(&rt, cursor.probe(1), None);
-    assert!(rt; cursor.is_empty());
+    same(&rt, value_after(again, b"d", b"ef"), Some(1));
+    assert!(rt; is_lost_by_probe(trie.cursor(), 1));
     Ok(())
+}
+
+#[test]
+fn suffix_tries(rt: HostRuntime) {
+    let trie = ZeroTrieSimpleAscii::from_bytes(NESTED);
+    same(&rt, value_after(trie.cursor(), b"ab", b"c"), Some(0));
+    same(
+        &rt,
+        value_after(trie.into_cursor(), b"ab", b"cdef"),
+        Some(1),
+    );
 }
 
 /// A suffix trie may outlive its cursor, and not its store.
 #[test]
-fn suffix_tries(rt: HostRuntime) -> Result<(), Fail> {
-    let mut cursor = ZeroTrieSimpleAscii::from_bytes(NESTED).into_cursor();
-    cursor.step(b'a');
-    cursor.step(b'b');
-    let suffixes = cursor.into_suffix_trie();
-    same(&rt, suffixes.get(b"c"), Some(0));
-    same(&rt, suffixes.get(b"cdef"), Some(1));
+fn suffix_tries_outlive_cursors(rt: HostRuntime) -> Result<(), Fail> {
     let store = Vec::from_slice(rt.alloc(), NESTED)?;
     let suffixes = {
         let mut inner = ZeroTrieSimpleAscii::from_bytes(store.as_slice()).into_cursor();
-        inner.step(b'a');
+        go_down(&mut inner, b"a");
         inner.into_suffix_trie()
     };
     same(&rt, suffixes.get(b"bc"), Some(0));
@@ -133,108 +158,161 @@ fn careless_closures(rt: HostRuntime) {
     same(&rt, value_of(b"ab\x87", "ab", b""), None);
 }
 
-/// Steps over bytes that are there.
-fn goes_down<K: HashedKind, H: Abort>(rt: &H, cursor: &mut HashedCursor<'_, K>, bytes: &[u8]) {
+/// Whether a cursor steps over bytes that are there.
+fn goes_down<K: HashedKind>(cursor: &mut HashedCursor<'_, K>, bytes: &[u8]) -> bool {
     for byte in bytes {
-        same(rt, cursor.step(*byte), Some(*byte));
+        if cursor.step(*byte) != Some(*byte) {
+            return false;
+        }
     }
+    true
+}
+
+/// What a copy of a cursor finds at the edge of this number.
+fn edge_at<K: HashedKind>(cursor: &HashedCursor<'_, K>, index: usize) -> Option<ByteProbeResult> {
+    let mut copy = cursor.clone().ok()?;
+    copy.probe(index)
+}
+
+/// The value of a key in the trie of what comes after a cursor, unless it is inside a span.
+fn value_behind<K: HashedKind>(cursor: HashedCursor<'_, K>, key: &[u8]) -> Option<Option<usize>> {
+    Some(cursor.into_suffix_trie()?.get(key))
 }
 
 #[test]
-fn hashed_cursors(rt: HostRuntime) -> Result<(), Fail> {
+fn hashed_cursors(rt: HostRuntime) {
     let trie = ZeroTriePerfectHash::from_bytes(SPANS);
     let mut cursor = trie.cursor();
-    goes_down(&rt, &mut cursor, b"b\xC3");
-    // Inside a span nothing has a value, and no trie of its own.
-    same(&rt, cursor.take_value(), None);
-    assert!(rt; cursor.clone()?.into_suffix_trie().is_none());
-    goes_down(&rt, &mut cursor, b"\xA5");
+    assert!(rt; goes_down(&mut cursor, b"b\xC3\xA5"));
     let edge = ByteProbeResult {
         byte: b'z',
         total_siblings: 2,
     };
-    same(&rt, cursor.clone()?.probe(1), Some(edge));
-    let suffixes = cursor.into_suffix_trie().ok_or("a span")?;
-    same(&rt, suffixes.get(b"r"), Some(2));
-    Ok(())
+    same(&rt, edge_at(&cursor, 1), Some(edge));
+    same(&rt, value_behind(cursor, b"r"), Some(Some(2)));
+}
+
+/// Inside a span nothing has a value, and no trie of its own.
+#[test]
+fn hashed_cursors_inside_spans(rt: HostRuntime) {
+    let trie = ZeroTriePerfectHash::from_bytes(SPANS);
+    let mut cursor = trie.cursor();
+    assert!(rt; goes_down(&mut cursor, b"b\xC3"));
+    same(&rt, cursor.take_value(), None);
+    same(&rt, value_behind(cursor, b""), None);
 }
 
 #[test]
-fn extended_cursors(rt: HostRuntime) -> Result<(), Fail> {
+fn extended_cursors(rt: HostRuntime) {
     let trie = ZeroTrieExtendedCapacity::from_bytes(b"\xA1\xC3\xC2\xA5\xB8\x01\x81\x82");
     let mut cursor = trie.into_cursor();
-    goes_down(&rt, &mut cursor, b"\xC3");
-    let suffixes = cursor.into_suffix_trie().ok_or("a span")?;
-    same(&rt, suffixes.get(b"\xA5"), Some(1));
-    Ok(())
+    assert!(rt; goes_down(&mut cursor, b"\xC3"));
+    same(&rt, value_behind(cursor, b"\xA5"), Some(Some(1)));
 }
 
-/// What a trie of each type over these bytes answers a walk: simple, without case, hashed, extended.
-fn answers_of(
+/// Whether a walk gave these answers.
+fn is_walk<E: Drop>(walk: Result<Vec<CursorAnswer>, E>, answers: &[CursorAnswer]) -> bool {
+    match walk {
+        Ok(given) => given.as_slice() == answers,
+        Err(_) => false,
+    }
+}
+
+fn ascii_walk<K: AsciiKind>(
     alloc: Global,
     bytes: &[u8],
     ops: &[CursorOp],
-) -> Result<[Vec<CursorAnswer>; 4], Fail> {
-    Ok([
-        ZeroTrieSimpleAscii::from_bytes(bytes).walk(alloc, ops)?,
-        ZeroAsciiIgnoreCaseTrie::from_bytes(bytes).walk(alloc, ops)?,
-        ZeroTriePerfectHash::from_bytes(bytes).walk(alloc, ops)?,
-        ZeroTrieExtendedCapacity::from_bytes(bytes).walk(alloc, ops)?,
-    ])
+    answers: &[CursorAnswer],
+) -> bool {
+    is_walk(
+        AsciiTrie::<K, &[u8]>::from_bytes(bytes).walk(alloc, ops),
+        answers,
+    )
 }
+
+fn hashed_walk<K: HashedKind>(
+    alloc: Global,
+    bytes: &[u8],
+    ops: &[CursorOp],
+    answers: &[CursorAnswer],
+) -> bool {
+    is_walk(
+        HashedTrie::<K, &[u8]>::from_bytes(bytes).walk(alloc, ops),
+        answers,
+    )
+}
+
+const OPS: &[CursorOp] = &[CursorOp::Step(b'A'), CursorOp::Step(b'B'), CursorOp::Take];
+
+const MISSED: &[CursorAnswer] = &[
+    CursorAnswer::Stepped(None),
+    CursorAnswer::Stepped(None),
+    CursorAnswer::Taken(None),
+];
+
+const MET: &[CursorAnswer] = &[
+    CursorAnswer::Stepped(Some(b'a')),
+    CursorAnswer::Stepped(Some(b'B')),
+    CursorAnswer::Taken(Some(5)),
+];
 
 /// Each type hands its own bytes and kind to a walk.
 #[test]
-fn walks(rt: HostRuntime) -> Result<(), Fail> {
-    let ops = [CursorOp::Step(b'A'), CursorOp::Step(b'B'), CursorOp::Take];
-    let missed = [
-        CursorAnswer::Stepped(None),
-        CursorAnswer::Stepped(None),
-        CursorAnswer::Taken(None),
-    ];
-    let met = [
-        CursorAnswer::Stepped(Some(b'a')),
-        CursorAnswer::Stepped(Some(b'B')),
-        CursorAnswer::Taken(Some(5)),
-    ];
-    let [simple, ignore, hash, ext] = answers_of(rt.alloc(), b"aB\x85", &ops)?;
-    same(&rt, ignore.as_slice(), met.as_slice());
-    same(&rt, simple.as_slice(), missed.as_slice());
-    same(&rt, hash.as_slice(), missed.as_slice());
-    same(&rt, ext.as_slice(), missed.as_slice());
-    Ok(())
+fn walks(rt: HostRuntime) {
+    assert!(rt; ascii_walk::<Ignore>(rt.alloc(), b"aB\x85", OPS, MET));
+    assert!(rt; ascii_walk::<Simple>(rt.alloc(), b"aB\x85", OPS, MISSED));
+    assert!(rt; hashed_walk::<Hash>(rt.alloc(), b"aB\x85", OPS, MISSED));
+    assert!(rt; hashed_walk::<Ext>(rt.alloc(), b"aB\x85", OPS, MISSED));
+}
+
+/// Bytes that mean no map.
+const WRONG: &[&[u8]] = &[
+    b"a",
+    b"\xC0a",
+    b"\xE1\xDF\xDF\xDF\xDF\xDF\xDF\xDF\xDF\x5F",
+    b"\x80\x80",
+    b"\xC1a\x81",
+    b"\xC2ba\x01\x80\x80",
+    b"\xE1bab\x00\x01\x80\x81",
+    b"\x90",
+    b"\xA1\xC3\xA1\xA5\x81",
+];
+
+fn move_simple(bytes: &[u8]) {
+    let simple = ZeroTrieSimpleAscii::from_bytes(bytes);
+    let mut cursor = simple.cursor();
+    let _ = cursor.write_str("ab");
+    cursor.take_value();
+    cursor.probe(0);
+}
+
+fn move_caseless(bytes: &[u8]) {
+    let ignore = ZeroAsciiIgnoreCaseTrie::from_bytes(bytes);
+    ignore.cursor().step(b'A');
+}
+
+fn move_hashed(bytes: &[u8]) {
+    let hash = ZeroTriePerfectHash::from_bytes(bytes);
+    let mut cursor = hash.cursor();
+    cursor.step(0xC3);
+    cursor.probe(0);
+    let _ = cursor.into_suffix_trie();
+}
+
+fn move_extended(bytes: &[u8]) {
+    let mut cursor = ZeroTrieExtendedCapacity::from_bytes(bytes).into_cursor();
+    cursor.probe(1);
+    cursor.take_value();
+    cursor.probe(0);
 }
 
 /// Every call returns on bytes that mean no map.
 #[test]
 fn ill_formed() {
-    let rows: [&[u8]; 9] = [
-        b"a",
-        b"\xC0a",
-        b"\xE1\xDF\xDF\xDF\xDF\xDF\xDF\xDF\xDF\x5F",
-        b"\x80\x80",
-        b"\xC1a\x81",
-        b"\xC2ba\x01\x80\x80",
-        b"\xE1bab\x00\x01\x80\x81",
-        b"\x90",
-        b"\xA1\xC3\xA1\xA5\x81",
-    ];
-    for bytes in rows {
-        let simple = ZeroTrieSimpleAscii::from_bytes(bytes);
-        let mut cursor = simple.cursor();
-        let _ = cursor.write_str("ab");
-        cursor.take_value();
-        cursor.probe(0);
-        let ignore = ZeroAsciiIgnoreCaseTrie::from_bytes(bytes);
-        ignore.cursor().step(b'A');
-        let hash = ZeroTriePerfectHash::from_bytes(bytes);
-        let mut cursor = hash.cursor();
-        cursor.step(0xC3);
-        cursor.probe(0);
-        let _ = cursor.into_suffix_trie();
-        let mut cursor = ZeroTrieExtendedCapacity::from_bytes(bytes).into_cursor();
-        cursor.probe(1);
-        cursor.take_value();
-        cursor.probe(0);
+    for bytes in WRONG {
+        move_simple(bytes);
+        move_caseless(bytes);
+        move_hashed(bytes);
+        move_extended(bytes);
     }
 }

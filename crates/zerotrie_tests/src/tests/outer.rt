@@ -25,10 +25,10 @@ fn find_tagged(
 }
 
 #[test]
-fn what_was_written_reads_back(rt: HostRuntime) -> Result<(), Fail> {
+fn what_was_written_reads_back(rt: HostRuntime) {
     let pairs: [(&[u8], usize); 2] = [(b"ad", 22), (b"adef", 33)];
-    same(&rt, find_tagged(rt.alloc(), &pairs, b"adef")?, Some(33));
-    Ok(())
+    let found = find_tagged(rt.alloc(), &pairs, b"adef");
+    same(&rt, found.ok(), Some(Some(33)));
 }
 
 /// The items of a trie that has 18 bytes, and its text.
@@ -36,60 +36,70 @@ const FEW: [(&str, usize); 3] = [("abc", 11), ("xyz", 22), ("axyb", 33)];
 
 const FEW_TEXT: &[u8] = b"\xC2ax\x0A\xC2bx\x02c\x8Byb\x90\x11yz\x90\x06";
 
-fn ascii_tagged<K: AsciiKind>(
-    alloc: Global,
-    items: &[(&str, usize)],
-) -> Result<Vec<u8>, ZeroTrieBuildError> {
-    let trie: AsciiTrie<K, Vec<u8>> = AsciiTrie::try_from_iter(alloc, items.iter().copied())?;
+fn ascii_tagged<K: AsciiKind>(alloc: Global) -> Result<Vec<u8>, ZeroTrieBuildError> {
+    let trie = ascii_of::<K>(alloc, &FEW)?;
     Ok(trie.to_tagged_bytes(alloc)?)
 }
 
-fn hashed_tagged<K: HashedKind>(
-    alloc: Global,
-    items: &[(&str, usize)],
-) -> Result<Vec<u8>, ZeroTrieBuildError> {
-    let trie: HashedTrie<K, Vec<u8>> = HashedTrie::try_from_iter(alloc, items.iter().copied())?;
+fn hashed_tagged<K: HashedKind>(alloc: Global) -> Result<Vec<u8>, ZeroTrieBuildError> {
+    let trie = hashed_of::<K>(alloc, &FEW)?;
     Ok(trie.to_tagged_bytes(alloc)?)
 }
 
-fn any_tagged(alloc: Global, items: &[(&str, usize)]) -> Result<Vec<u8>, ZeroTrieBuildError> {
-    let trie = ZeroTrie::try_from_iter(alloc, items.iter().copied())?;
+fn any_tagged(alloc: Global) -> Result<Vec<u8>, ZeroTrieBuildError> {
+    let trie = any_of(alloc, &FEW)?;
     Ok(trie.to_tagged_bytes(alloc)?)
 }
 
-/// The tagged bytes are this tag, and then the text.
-fn has_tag<H: Abort>(
-    rt: &H,
-    tagged: Result<Vec<u8>, ZeroTrieBuildError>,
-    tag: u8,
-) -> Result<(), Fail> {
-    assert!(rt; tagged?.split_first() == Some((&tag, FEW_TEXT)));
-    Ok(())
+/// Whether the tagged bytes are this tag, and then the text.
+fn has_tag(tagged: Result<Vec<u8>, ZeroTrieBuildError>, tag: u8) -> bool {
+    match tagged {
+        Ok(bytes) => bytes.as_slice().split_first() == Some((&tag, FEW_TEXT)),
+        Err(_) => false,
+    }
 }
 
 #[test]
-fn tags_stand_in_front(rt: HostRuntime) -> Result<(), Fail> {
-    let alloc = rt.alloc();
-    has_tag(&rt, ascii_tagged::<Simple>(alloc, &FEW), 0)?;
-    has_tag(&rt, ascii_tagged::<Ignore>(alloc, &FEW), 8)?;
-    has_tag(&rt, hashed_tagged::<Hash>(alloc, &FEW), 3)?;
-    has_tag(&rt, hashed_tagged::<Ext>(alloc, &FEW), 7)?;
-    has_tag(&rt, any_tagged(alloc, &FEW), 0)
+fn tags_stand_in_front(rt: HostRuntime) {
+    assert!(rt; has_tag(ascii_tagged::<Simple>(rt.alloc()), 0));
+    assert!(rt; has_tag(ascii_tagged::<Ignore>(rt.alloc()), 8));
+    assert!(rt; has_tag(hashed_tagged::<Hash>(rt.alloc()), 3));
+    assert!(rt; has_tag(hashed_tagged::<Ext>(rt.alloc()), 7));
+    assert!(rt; has_tag(any_tagged(rt.alloc()), 0));
+}
+
+fn read_as_ascii<K: AsciiKind>(tagged: &[u8], key: &[u8]) -> Result<Option<usize>, TagError> {
+    Ok(AsciiTrie::<K, &[u8]>::try_from_tagged_bytes(tagged)?.get(key))
+}
+
+fn read_as_hashed<K: HashedKind>(tagged: &[u8], key: &[u8]) -> Result<Option<usize>, TagError> {
+    Ok(HashedTrie::<K, &[u8]>::try_from_tagged_bytes(tagged)?.get(key))
+}
+
+fn read_as_any(tagged: &[u8], key: &[u8]) -> Result<(ZeroTrieFlavor, Option<usize>), TagError> {
+    let trie = ZeroTrie::try_from_tagged_bytes(tagged)?;
+    Ok((trie.flavor, trie.get(key)))
 }
 
 #[test]
-fn tagged_bytes_are_read(rt: HostRuntime) -> Result<(), Fail> {
-    let simple = ZeroTrieSimpleAscii::try_from_tagged_bytes(b"\0a\x85")?;
-    same(&rt, simple.get(b"a"), Some(5));
-    let mixed = ZeroAsciiIgnoreCaseTrie::try_from_tagged_bytes(b"\x08a\x85")?;
-    same(&rt, mixed.get(b"A"), Some(5));
-    let hashed = ZeroTriePerfectHash::try_from_tagged_bytes(b"\x03\xA1\xFF\x81")?;
-    same(&rt, hashed.get(b"\xFF"), Some(1));
-    let extended = ZeroTrie::try_from_tagged_bytes(b"\x07\x81")?;
-    assert!(rt;
-        extended.flavor == ZeroTrieFlavor::ExtendedCapacity && extended.get(b"") == Some(1)
+fn tagged_bytes_are_read(rt: HostRuntime) {
+    same(
+        &rt,
+        read_as_ascii::<Simple>(b"\0a\x85", b"a").ok(),
+        Some(Some(5)),
     );
-    Ok(())
+    same(
+        &rt,
+        read_as_ascii::<Ignore>(b"\x08a\x85", b"A").ok(),
+        Some(Some(5)),
+    );
+    same(
+        &rt,
+        read_as_hashed::<Hash>(b"\x03\xA1\xFF\x81", b"\xFF").ok(),
+        Some(Some(1)),
+    );
+    let extended = Some((ZeroTrieFlavor::ExtendedCapacity, Some(1)));
+    same(&rt, read_as_any(b"\x07\x81", b"").ok(), extended);
 }
 
 /// Why each type refuses tagged bytes: simple, without case, hashed, extended, of unknown kind.
@@ -112,18 +122,22 @@ fn refusal(is_read: bool) -> Option<TagError> {
     }
 }
 
-/// Each kind reads its own tag alone, and `ZeroTrie` all but the one without case.
+/// Why each type should refuse bytes with this tag: each kind reads its own tag alone, and `ZeroTrie` all but the one
+/// without case.
+fn refusals_by_tag(tag: u8) -> [Option<TagError>; 5] {
+    [
+        refusal(tag == 0),
+        refusal(tag == 8),
+        refusal(tag == 3),
+        refusal(tag == 7),
+        refusal(tag == 0 || tag == 3 || tag == 7),
+    ]
+}
+
 #[test]
 fn other_tags_are_refused(rt: HostRuntime) {
     for tag in 0..=255 {
-        let refusals = [
-            refusal(tag == 0),
-            refusal(tag == 8),
-            refusal(tag == 3),
-            refusal(tag == 7),
-            refusal(tag == 0 || tag == 3 || tag == 7),
-        ];
-        same(&rt, refusals_of(&[tag, 0x81]), refusals);
+        same(&rt, refusals_of(&[tag, 0x81]), refusals_by_tag(tag));
     }
     for why in refusals_of(b"") {
         same(&rt, why, Some(TagError::Empty));
@@ -144,45 +158,65 @@ fn hashed_from_json<K: HashedKind>(alloc: Global, value: &Value) -> Result<Vec<u
     Ok(trie.into_store())
 }
 
-fn has_bytes<H: Abort>(rt: &H, read: Result<Vec<u8>, JsonError>, bytes: &[u8]) -> Result<(), Fail> {
-    same(rt, read?.as_slice(), bytes);
-    Ok(())
+/// Whether a `ZeroTrie` of ASCII keys is read, whose bytes are these.
+fn is_any_from_json(alloc: Global, value: &Value, bytes: &[u8]) -> bool {
+    match ZeroTrie::try_from_json_value(alloc, value) {
+        Ok(any) => any.flavor == ZeroTrieFlavor::SimpleAscii && any.as_bytes() == bytes,
+        Err(_) => false,
+    }
 }
 
-/// Each kind reads the JSON value as this text.
-fn is_read_as<H: AllocGlobal + Abort>(rt: &H, value: &Value, bytes: &[u8]) -> Result<(), Fail> {
-    let alloc = rt.alloc();
-    has_bytes(rt, ascii_from_json::<Simple>(alloc, value), bytes)?;
-    has_bytes(rt, ascii_from_json::<Ignore>(alloc, value), bytes)?;
-    has_bytes(rt, hashed_from_json::<Hash>(alloc, value), bytes)?;
-    has_bytes(rt, hashed_from_json::<Ext>(alloc, value), bytes)?;
-    let any = ZeroTrie::try_from_json_value(alloc, value)?;
-    assert!(rt; any.flavor == ZeroTrieFlavor::SimpleAscii && any.store.as_slice() == bytes);
-    Ok(())
+/// Whether each kind reads the JSON value as this text.
+fn is_read_as(alloc: Global, value: &Value, bytes: &[u8]) -> bool {
+    is_bytes(ascii_from_json::<Simple>(alloc, value), bytes)
+        && is_bytes(ascii_from_json::<Ignore>(alloc, value), bytes)
+        && is_bytes(hashed_from_json::<Hash>(alloc, value), bytes)
+        && is_bytes(hashed_from_json::<Ext>(alloc, value), bytes)
+        && is_any_from_json(alloc, value, bytes)
 }
+
+fn reads(alloc: Global, json: &str, bytes: &[u8]) -> bool {
+    match value_of(alloc, json) {
+        Ok(value) => is_read_as(alloc, &value, bytes),
+        Err(_) => false,
+    }
+}
+
+const READ: &[(&str, &[u8])] = &[
+    ("[]", b""),
+    ("{}", b""),
+    // Of a key that an object has twice the last number stays.
+    (r#"{"abc":7,"abcdef":1,"abc":0}"#, b"abc\x80def\x81"),
+    (r#"[["adef",33],["ad",22]]"#, b"ad\x90\x06ef\x90\x11"),
+    (r#"[[[97,100],22]]"#, b"ad\x90\x06"),
+    (r#"[[[],1]]"#, b"\x81"),
+    (
+        r#"{"":18446744073709551615}"#,
+        b"\x91\xEF\xEF\xEF\xEF\xEF\xEF\xEF\xEF\x6F",
+    ),
+];
 
 #[test]
-fn json_is_read(rt: HostRuntime) -> Result<(), Fail> {
-    let rows: [(&str, &[u8]); 7] = [
-        ("[]", b""),
-        ("{}", b""),
-        // Of a key that an object has twice the last number stays.
-        (r#"{"abc":7,"abcdef":1,"abc":0}"#, b"abc\x80def\x81"),
-        (r#"[["adef",33],["ad",22]]"#, b"ad\x90\x06ef\x90\x11"),
-        (r#"[[[97,100],22]]"#, b"ad\x90\x06"),
-        (r#"[[[],1]]"#, b"\x81"),
-        (
-            r#"{"":18446744073709551615}"#,
-            b"\x91\xEF\xEF\xEF\xEF\xEF\xEF\xEF\xEF\x6F",
-        ),
-    ];
-    for (text, bytes) in rows {
-        is_read_as(&rt, &value_of(rt.alloc(), text)?, bytes)?;
+fn json_is_read(rt: HostRuntime) {
+    for (json, bytes) in READ {
+        assert!(rt; reads(rt.alloc(), json, bytes));
     }
-    let high = value_of(rt.alloc(), "[[[255],3]]")?;
-    let any = ZeroTrie::try_from_json_value(rt.alloc(), &high)?;
-    assert!(rt; any.flavor == ZeroTrieFlavor::PerfectHash && any.get(b"\xFF") == Some(3));
-    Ok(())
+}
+
+/// The kind of the `ZeroTrie` that is read, and the value of a key.
+fn value_in_json(alloc: Global, json: &str, key: &[u8]) -> Option<(ZeroTrieFlavor, Option<usize>)> {
+    let value = value_of(alloc, json).ok()?;
+    match ZeroTrie::try_from_json_value(alloc, &value) {
+        Ok(any) => Some((any.flavor, any.get(key))),
+        Err(_) => None,
+    }
+}
+
+/// Keys that are not ASCII make a trie of a hashed kind.
+#[test]
+fn json_of_high_keys_is_read(rt: HostRuntime) {
+    let found = value_in_json(rt.alloc(), "[[[255],3]]", b"\xFF");
+    same(&rt, found, Some((ZeroTrieFlavor::PerfectHash, Some(3))));
 }
 
 fn ascii_json<K: AsciiKind>(alloc: Global, bytes: &[u8]) -> Result<String, JsonError> {
@@ -200,110 +234,107 @@ fn any_json(alloc: Global, bytes: &[u8]) -> Result<String, JsonError> {
     Ok(trie.to_json_value(alloc)?.to_string(alloc)?)
 }
 
-fn is_written_as<H: Abort>(
-    rt: &H,
-    json: Result<String, JsonError>,
-    text: &str,
-) -> Result<(), Fail> {
-    same(rt, json?.as_str(), text);
-    Ok(())
-}
-
 /// Texts of all kinds, and their JSON.
+const WRITTEN: &[(&[u8], &str)] = &[
+    (b"", "{}"),
+    (b"\x8B", r#"{"":11}"#),
+    (b"abc\x80def\x81", r#"{"abc":0,"abcdef":1}"#),
+    (FEW_TEXT, r#"{"abc":11,"axyb":33,"xyz":22}"#),
+];
+
 #[test]
-fn json_is_written(rt: HostRuntime) -> Result<(), Fail> {
-    let rows: [(&[u8], &str); 4] = [
-        (b"", "{}"),
-        (b"\x8B", r#"{"":11}"#),
-        (b"abc\x80def\x81", r#"{"abc":0,"abcdef":1}"#),
-        (FEW_TEXT, r#"{"abc":11,"axyb":33,"xyz":22}"#),
-    ];
-    for (bytes, text) in rows {
-        is_written_as(&rt, any_json(rt.alloc(), bytes), text)?;
-        is_written_as(&rt, ascii_json::<Simple>(rt.alloc(), bytes), text)?;
-        is_written_as(&rt, ascii_json::<Ignore>(rt.alloc(), bytes), text)?;
-        is_written_as(&rt, hashed_json::<Hash>(rt.alloc(), bytes), text)?;
-        is_written_as(&rt, hashed_json::<Ext>(rt.alloc(), bytes), text)?;
+fn json_is_written(rt: HostRuntime) {
+    for (bytes, json) in WRITTEN {
+        assert!(rt; is_text(any_json(rt.alloc(), bytes), json));
+        assert!(rt; is_text(ascii_json::<Simple>(rt.alloc(), bytes), json));
+        assert!(rt; is_text(ascii_json::<Ignore>(rt.alloc(), bytes), json));
+        assert!(rt; is_text(hashed_json::<Hash>(rt.alloc(), bytes), json));
+        assert!(rt; is_text(hashed_json::<Ext>(rt.alloc(), bytes), json));
     }
-    Ok(())
 }
 
 /// Keys of any bytes: text if all are UTF-8, else lists.
 #[test]
 fn json_of_any_keys(rt: HostRuntime) -> Result<(), Fail> {
-    let text = ZeroTriePerfectHash::try_from_iter(rt.alloc(), [("ø", 2), ("å", 1)])?;
-    same(
-        &rt,
-        hashed_json::<Hash>(rt.alloc(), text.as_bytes())?.as_str(),
-        r#"{"å":1,"ø":2}"#,
-    );
+    let trie = hashed_of::<Hash>(rt.alloc(), &[("ø", 2), ("å", 1)])?;
+    let json = hashed_json::<Hash>(rt.alloc(), trie.as_bytes());
+    assert!(rt; is_text(json, r#"{"å":1,"ø":2}"#));
     Ok(())
 }
 
+fn json_of_pairs(alloc: Global, pairs: &[(&[u8], usize)]) -> Result<String, JsonError> {
+    let trie = ZeroTriePerfectHash::try_from_sorted_slice(alloc, pairs)?;
+    hashed_json::<Hash>(alloc, trie.as_bytes())
+}
+
 #[test]
-fn json_of_keys_that_are_no_text(rt: HostRuntime) -> Result<(), Fail> {
+fn json_of_keys_that_are_no_text(rt: HostRuntime) {
     let pairs: [(&[u8], usize); 2] = [(b"a", 1), (b"\xFF", 3)];
-    let rows = [
-        (&pairs[..], "[[[97],1],[[255],3]]"),
-        (&pairs[1..], "[[[255],3]]"),
-    ];
-    for (pairs, json) in rows {
-        let trie = ZeroTriePerfectHash::try_from_sorted_slice(rt.alloc(), pairs)?;
-        let written = hashed_json::<Hash>(rt.alloc(), trie.as_bytes())?;
-        same(&rt, written.as_str(), json);
+    assert!(rt; is_text(json_of_pairs(rt.alloc(), &pairs), "[[[97],1],[[255],3]]"));
+    assert!(rt; is_text(json_of_pairs(rt.alloc(), &pairs[1..]), "[[[255],3]]"));
+}
+
+/// Whether a text begins and ends so.
+fn is_text_from_to<E: Drop>(call: Result<String, E>, front: &str, end: &str) -> bool {
+    match call {
+        Ok(text) => text.as_str().starts_with(front) && text.as_str().ends_with(end),
+        Err(_) => false,
     }
-    Ok(())
 }
 
 /// A hashed branch lists its edges in another order than JSON has them.
 #[test]
-fn json_of_a_hashed_branch(rt: HostRuntime) -> Result<(), Fail> {
-    let text = letters::<Ext>(rt.alloc())?.into_store();
-    let json = hashed_json::<Ext>(rt.alloc(), text.as_slice())?;
-    assert!(rt;
-        json.as_str().starts_with(r#"{"a":0,"b":1,"#) && json.as_str().ends_with(r#""p":15}"#)
-    );
-    Ok(())
+fn json_of_a_hashed_branch(rt: HostRuntime) {
+    let json = hashed_json::<Ext>(rt.alloc(), LETTERS_TEXT);
+    assert!(rt; is_text_from_to(json, r#"{"a":0,"b":1,"#, r#""p":15}"#));
 }
+
+/// Whether a trie over ASCII keys refuses a JSON value so.
+fn is_json_refused<K: AsciiKind>(alloc: Global, json: &str, error: &JsonError) -> bool {
+    match value_of(alloc, json) {
+        Ok(value) => is_refused(ascii_from_json::<K>(alloc, &value), error),
+        Err(_) => false,
+    }
+}
+
+const REFUSED: &[(&str, JsonError)] = &[
+    (r#"{"a":1.5}"#, JsonError::Shape),
+    (r#"{"a":-0}"#, JsonError::Shape),
+    (r#"{"a":18446744073709551616}"#, JsonError::Shape),
+    (r#"[["a"]]"#, JsonError::Shape),
+    (r#"[["a",1,2]]"#, JsonError::Shape),
+    (r#"[[[256],1]]"#, JsonError::Shape),
+    (r#"[{"a":1}]"#, JsonError::Shape),
+    (r#""a""#, JsonError::Shape),
+    ("null", JsonError::Shape),
+    (
+        r#"[["a",1],[[97],2]]"#,
+        JsonError::Build(ZeroTrieBuildError::DuplicateKey),
+    ),
+    (
+        r#"{"å":1}"#,
+        JsonError::Build(ZeroTrieBuildError::NonAsciiError),
+    ),
+];
 
 #[test]
-fn json_is_refused(rt: HostRuntime) -> Result<(), Fail> {
-    let rows = [
-        (r#"{"a":1.5}"#, JsonError::Shape),
-        (r#"{"a":-0}"#, JsonError::Shape),
-        (r#"{"a":18446744073709551616}"#, JsonError::Shape),
-        (r#"[["a"]]"#, JsonError::Shape),
-        (r#"[["a",1,2]]"#, JsonError::Shape),
-        (r#"[[[256],1]]"#, JsonError::Shape),
-        (r#"[{"a":1}]"#, JsonError::Shape),
-        (r#""a""#, JsonError::Shape),
-        ("null", JsonError::Shape),
-        (
-            r#"[["a",1],[[97],2]]"#,
-            JsonError::Build(ZeroTrieBuildError::DuplicateKey),
-        ),
-        (
-            r#"{"å":1}"#,
-            JsonError::Build(ZeroTrieBuildError::NonAsciiError),
-        ),
-    ];
-    for (text, error) in rows {
-        let value = value_of(rt.alloc(), text)?;
-        assert!(rt;
-            ZeroTrieSimpleAscii::try_from_json_value(rt.alloc(), &value).err() == Some(error)
-        );
+fn json_is_refused(rt: HostRuntime) {
+    for (json, error) in REFUSED {
+        assert!(rt; is_json_refused::<Simple>(rt.alloc(), json, error));
     }
-    let mixed = value_of(rt.alloc(), r#"{"A":1,"a":2}"#)?;
-    let refused = ZeroAsciiIgnoreCaseTrie::try_from_json_value(rt.alloc(), &mixed).err();
-    assert!(rt; refused == Some(JsonError::Build(ZeroTrieBuildError::MixedCase)));
-    Ok(())
+    let mixed = JsonError::Build(ZeroTrieBuildError::MixedCase);
+    assert!(rt; is_json_refused::<Ignore>(rt.alloc(), r#"{"A":1,"a":2}"#, &mixed));
 }
 
-/// What a program does that keeps a trie, with one error for all of its calls.
-fn shipped(alloc: Global) -> Result<usize, Error> {
-    let trie = ZeroTrieSimpleAscii::try_from_iter(alloc, [("bar", 2), ("foo", 1)])?;
-    let bytes = trie.to_tagged_bytes(alloc)?;
-    let loaded = ZeroTrieSimpleAscii::load(bytes.as_slice())?;
+/// What a program does that writes a trie, with one error for all of its calls.
+fn written(alloc: Global) -> Result<Vec<u8>, Error> {
+    let trie = ascii_of::<Simple>(alloc, &[("bar", 2), ("foo", 1)])?;
+    Ok(trie.to_tagged_bytes(alloc)?)
+}
+
+/// What a program does that reads it again, with one error for all of its calls.
+fn read_again(alloc: Global, tagged: &[u8]) -> Result<usize, Error> {
+    let loaded = ZeroTrieSimpleAscii::load(tagged)?;
     let value = loaded.to_json_value(alloc)?;
     let again = ZeroTrieSimpleAscii::try_from_json_value(alloc, &value)?;
     Ok(again.to_btreemap(alloc)?.len())
@@ -311,48 +342,36 @@ fn shipped(alloc: Global) -> Result<usize, Error> {
 
 #[test]
 fn tagged_bytes_are_loaded(rt: HostRuntime) -> Result<(), Fail> {
-    same(&rt, shipped(rt.alloc())?, 2);
-    let damaged = ZeroTrieSimpleAscii::load(b"\x00a").err();
-    assert!(rt; damaged == Some(LoadError::NotWellFormed));
-    let foreign = ZeroTriePerfectHash::load(b"\x00a\x85").err();
-    assert!(rt; foreign == Some(LoadError::Tag(TagError::InvalidTag)));
+    let tagged = written(rt.alloc())?;
+    same(&rt, read_again(rt.alloc(), &tagged)?, 2);
+    Ok(())
+}
+
+#[test]
+fn other_bytes_are_not_loaded(rt: HostRuntime) {
+    let damaged = ZeroTrieSimpleAscii::load(b"\x00a");
+    assert!(rt; is_refused(damaged, &LoadError::NotWellFormed));
+    let foreign = ZeroTriePerfectHash::load(b"\x00a\x85");
+    assert!(rt; is_refused(foreign, &LoadError::Tag(TagError::InvalidTag)));
     assert!(rt; ZeroTrie::load(b"\x07a\x85").is_ok());
-    Ok(())
 }
 
 #[test]
-fn texts_of_errors(rt: HostRuntime) -> Result<(), Fail> {
-    let rows = [
-        (
-            TagError::Empty,
-            "there are no bytes, and so no tag: give all of the tagged bytes",
-        ),
-        (
-            TagError::InvalidTag,
-            "the first byte is no tag of the kind that is read: read the bytes as the kind that wrote them",
-        ),
-    ];
-    for (error, text) in rows {
-        same(&rt, format!(in rt.alloc(); "{error}")?.as_str(), text);
-    }
-    Ok(())
+fn texts_of_errors(rt: HostRuntime) {
+    let text = "there are no bytes, and so no tag: give all of the tagged bytes";
+    assert!(rt; is_written(rt.alloc(), &TagError::Empty, text));
+    let text =
+        "the first byte is no tag of the kind that is read: read the bytes as the kind that wrote them";
+    assert!(rt; is_written(rt.alloc(), &TagError::InvalidTag, text));
 }
 
 #[test]
-fn texts_of_json_errors(rt: HostRuntime) -> Result<(), Fail> {
-    let rows = [
-        (
-            JsonError::Shape,
-            "the value has no pairs: give an object from text to number, or a list of pairs of a key and a number",
-        ),
-        (
-            JsonError::Build(ZeroTrieBuildError::DuplicateKey),
-            "the pairs in the value make no trie: a key was given twice: give each key once",
-        ),
-        (JsonError::OutOfMemory, "out of memory"),
-    ];
-    for (error, text) in rows {
-        same(&rt, format!(in rt.alloc(); "{error}")?.as_str(), text);
-    }
-    Ok(())
+fn texts_of_json_errors(rt: HostRuntime) {
+    let text =
+        "the value has no pairs: give an object from text to number, or a list of pairs of a key and a number";
+    assert!(rt; is_written(rt.alloc(), &JsonError::Shape, text));
+    let twice = JsonError::Build(ZeroTrieBuildError::DuplicateKey);
+    let text = "the pairs in the value make no trie: a key was given twice: give each key once";
+    assert!(rt; is_written(rt.alloc(), &twice, text));
+    assert!(rt; is_written(rt.alloc(), &JsonError::OutOfMemory, "out of memory"));
 }

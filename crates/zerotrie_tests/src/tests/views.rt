@@ -3,161 +3,158 @@
 use super::*;
 
 /// Bytes, a key, and what a look-up of it answers.
-type Row<'a> = (&'a [u8], &'a [u8], Option<usize>);
+type Row = (&'static [u8], &'static [u8], Option<usize>);
 
-#[test]
-fn simple_look_ups(rt: HostRuntime) {
-    let rows: [Row<'_>; 6] = [
-        (b"", b"", None),
-        (b"abc\x85", b"abc", Some(5)),
-        (b"abc\x85", b"ab", None),
-        (b"aBc\x85", b"Abc", None),
-        (b"aBc\x85", b"aB\xFF", None),
-        (b"in\x83to\x84", b"into", Some(4)),
-    ];
-    for (bytes, key, value) in rows {
-        same(&rt, ZeroTrieSimpleAscii::from_bytes(bytes).get(key), value);
-    }
-}
+const SIMPLE: &[Row] = &[
+    (b"", b"", None),
+    (b"abc\x85", b"abc", Some(5)),
+    (b"abc\x85", b"ab", None),
+    (b"aBc\x85", b"Abc", None),
+    (b"aBc\x85", b"aB\xFF", None),
+    (b"in\x83to\x84", b"into", Some(4)),
+];
 
-#[test]
-fn look_ups_without_case(rt: HostRuntime) {
-    let mixed = b"\x80aBc\x81\xC4DeFg\x01\x02\x03\x82\x83\x84hi\x85".as_slice();
-    let names = b"\xC2Bf\x0Aa\xC2rz\x01\x82zoo\x83oo\x81".as_slice();
-    let names_in_lower_case = LOWERED.1;
-    let rows: [Row<'_>; 13] = [
-        (names_in_lower_case, b"Accept-CH", Some(1)),
-        (names_in_lower_case, b"DATE", Some(4)),
-        (b"", b"", None),
-        (b"aBc\x85", b"abc", Some(5)),
-        (b"aBc\x85", b"ABC", Some(5)),
-        (b"aBc\x85", b"Abc", Some(5)),
-        (b"aBc\x85", b"ab", None),
-        (b"aBc\x85", b"aB\xFF", None),
-        (mixed, b"ABCF", Some(4)),
-        (mixed, b"abcGHI", Some(5)),
-        (mixed, b"aB", None),
-        (names, b"BAR", Some(2)),
-        (names, b"fOO", Some(1)),
-    ];
-    for (bytes, key, value) in rows {
-        same(
-            &rt,
-            ZeroAsciiIgnoreCaseTrie::from_bytes(bytes).get(key),
-            value,
-        );
-    }
-}
+const NAMES: &[u8] = b"\xC2Bf\x0Aa\xC2rz\x01\x82zoo\x83oo\x81";
+
+const CASELESS: &[Row] = &[
+    (LOWERED_TEXT, b"Accept-CH", Some(1)),
+    (LOWERED_TEXT, b"DATE", Some(4)),
+    (b"", b"", None),
+    (b"aBc\x85", b"abc", Some(5)),
+    (b"aBc\x85", b"ABC", Some(5)),
+    (b"aBc\x85", b"Abc", Some(5)),
+    (b"aBc\x85", b"ab", None),
+    (b"aBc\x85", b"aB\xFF", None),
+    (MIXED_TEXT, b"ABCF", Some(4)),
+    (MIXED_TEXT, b"abcGHI", Some(5)),
+    (MIXED_TEXT, b"aB", None),
+    (NAMES, b"BAR", Some(2)),
+    (NAMES, b"fOO", Some(1)),
+];
 
 /// Look-ups that pass over values and spans, and one that ends in front of a span.
-fn hashed_look_ups<K: HashedKind, H: Abort>(rt: &H) {
-    let trie: HashedTrie<K, &[u8]> = HashedTrie::from_bytes(b"a\x8Ab\xA3\x81\x91\xA1\x84");
-    let any = trie.into_zerotrie();
-    let rows = [
-        (b"a".as_slice(), Some(10)),
-        (b"ab\x81\x91\xA1", Some(4)),
-        (b"ab", None),
-        (b"b", None),
-    ];
-    for (key, value) in rows {
-        assert!(rt; trie.get(key) == value && any.get(key) == value);
+const HASHED: &[Row] = &[
+    (b"a\x8Ab\xA3\x81\x91\xA1\x84", b"a", Some(10)),
+    (b"a\x8Ab\xA3\x81\x91\xA1\x84", b"ab\x81\x91\xA1", Some(4)),
+    (b"a\x8Ab\xA3\x81\x91\xA1\x84", b"ab", None),
+    (b"a\x8Ab\xA3\x81\x91\xA1\x84", b"b", None),
+];
+
+fn ascii_value<K: AsciiKind>(bytes: &[u8], key: &[u8]) -> Option<usize> {
+    AsciiTrie::<K, &[u8]>::from_bytes(bytes).get(key)
+}
+
+/// What a trie of a hashed kind answers, and what a `ZeroTrie` of the same kind.
+fn hashed_values<K: HashedKind>(bytes: &[u8], key: &[u8]) -> [Option<usize>; 2] {
+    let trie: HashedTrie<K, &[u8]> = HashedTrie::from_bytes(bytes);
+    [trie.get(key), trie.into_zerotrie().get(key)]
+}
+
+#[test]
+fn look_ups(rt: HostRuntime) {
+    for (bytes, key, value) in SIMPLE {
+        same(&rt, ascii_value::<Simple>(bytes, key), *value);
+    }
+    for (bytes, key, value) in CASELESS {
+        same(&rt, ascii_value::<Ignore>(bytes, key), *value);
+    }
+    for (bytes, key, value) in HASHED {
+        same(&rt, hashed_values::<Hash>(bytes, key), [*value; 2]);
+        same(&rt, hashed_values::<Ext>(bytes, key), [*value; 2]);
     }
 }
 
-#[test]
-fn look_ups_with_any_bytes(rt: HostRuntime) {
-    hashed_look_ups::<Hash, HostRuntime>(&rt);
-    hashed_look_ups::<Ext, HostRuntime>(&rt);
+/// Whether a trie that owns its bytes or borrows them is this one.
+fn is_ascii_over_cow<K: AsciiKind>(
+    cow: &AsciiTrie<K, CowSlice<'_, u8>>,
+    borrowed: AsciiTrie<K, &[u8]>,
+) -> bool {
+    cow.get(b"aBc") == Some(5) && cow.as_borrowed() == borrowed
 }
 
-/// The same bytes in memory of their own are one trie of the kind over ASCII.
-fn ascii_over_vectors<K: AsciiKind, H: AllocGlobal + Abort>(rt: &H) -> Result<(), Fail> {
+/// Whether the same bytes in memory of their own are one trie of the kind over ASCII.
+fn is_ascii_over_vectors<K: AsciiKind>(alloc: Global) -> bool {
     let borrowed: AsciiTrie<K, &[u8]> = AsciiTrie::from_bytes(b"aBc\x85");
-    let cow: AsciiTrie<K, CowSlice<'_, u8>> = borrowed.to_owned(rt.alloc())?.convert_store();
-    same(rt, cow.get(b"aBc"), Some(5));
-    assert!(rt; cow.as_borrowed() == borrowed);
-    Ok(())
+    match borrowed.to_owned(alloc) {
+        Ok(owned) => is_ascii_over_cow(&owned.convert_store(), borrowed),
+        Err(_) => false,
+    }
 }
 
-fn hashed_over_vectors<K: HashedKind, H: AllocGlobal + Abort>(rt: &H) -> Result<(), Fail> {
+fn is_hashed_over_cow<K: HashedKind>(
+    cow: &HashedTrie<K, CowSlice<'_, u8>>,
+    borrowed: HashedTrie<K, &[u8]>,
+) -> bool {
+    cow.get(b"aBc") == Some(5) && cow.as_borrowed() == borrowed
+}
+
+fn is_hashed_over_vectors<K: HashedKind>(alloc: Global) -> bool {
     let borrowed: HashedTrie<K, &[u8]> = HashedTrie::from_bytes(b"aBc\x85");
-    let cow: HashedTrie<K, CowSlice<'_, u8>> = borrowed.to_owned(rt.alloc())?.convert_store();
-    same(rt, cow.get(b"aBc"), Some(5));
-    assert!(rt; cow.as_borrowed() == borrowed);
-    Ok(())
+    match borrowed.to_owned(alloc) {
+        Ok(owned) => is_hashed_over_cow(&owned.convert_store(), borrowed),
+        Err(_) => false,
+    }
 }
 
-/// Views that take no memory, and other bytes.
-fn ascii_over_arrays<K: AsciiKind, H: Abort>(rt: &H) {
+/// Whether views that take no memory are one trie, and other bytes another.
+fn is_ascii_over_arrays<K: AsciiKind>() -> bool {
     let borrowed: AsciiTrie<K, &[u8]> = AsciiTrie::from_bytes(b"aBc\x85");
     let array: AsciiTrie<K, [u8; 4]> = AsciiTrie::from_store([0x61, 0x42, 0x63, 0x86]);
-    assert!(rt;
-        borrowed
-            .clone()
-            .is_ok_and(|copy| copy.as_borrowed_slice() == borrowed)
-    );
-    assert!(rt; array.as_borrowed() != borrowed);
-    same(rt, array.into_store(), [0x61, 0x42, 0x63, 0x86]);
+    let is_copied = borrowed
+        .clone()
+        .is_ok_and(|copy| copy.as_borrowed_slice() == borrowed);
+    let is_other = array.as_borrowed() != borrowed;
+    is_copied && is_other && array.into_store() == [0x61, 0x42, 0x63, 0x86]
 }
 
-/// A trie of unknown kind is equal to one of its kind alone.
-fn hashed_as_zerotries<K: HashedKind, H: Abort>(rt: &H) {
+/// Whether a trie of unknown kind is equal to one of its kind alone.
+fn is_hashed_as_zerotrie<K: HashedKind>() -> bool {
     let borrowed: HashedTrie<K, &[u8]> = HashedTrie::from_bytes(b"aBc\x85");
     let any: ZeroTrie<CowSlice<'_, u8>> = borrowed.into_zerotrie().convert_store();
-    assert!(rt; any.as_borrowed_slice() == borrowed.into_zerotrie() && !any.is_empty());
-    assert!(rt; any.as_borrowed_slice() != ZeroTrie::of_kind::<Simple>(borrowed.into_store()));
+    let simple = ZeroTrie::of_kind::<Simple>(borrowed.into_store());
+    any.as_borrowed_slice() == borrowed.into_zerotrie()
+        && any.as_borrowed_slice() != simple
+        && !any.is_empty()
 }
 
 #[test]
-fn bytes_are_one_trie_over_every_store(rt: HostRuntime) -> Result<(), Fail> {
-    ascii_over_arrays::<Simple, HostRuntime>(&rt);
-    ascii_over_arrays::<Ignore, HostRuntime>(&rt);
-    hashed_as_zerotries::<Hash, HostRuntime>(&rt);
-    hashed_as_zerotries::<Ext, HostRuntime>(&rt);
-    ascii_over_vectors::<Simple, HostRuntime>(&rt)?;
-    ascii_over_vectors::<Ignore, HostRuntime>(&rt)?;
-    hashed_over_vectors::<Hash, HostRuntime>(&rt)?;
-    hashed_over_vectors::<Ext, HostRuntime>(&rt)
+fn bytes_are_one_trie_over_every_store(rt: HostRuntime) {
+    assert!(rt; is_ascii_over_arrays::<Simple>());
+    assert!(rt; is_ascii_over_arrays::<Ignore>());
+    assert!(rt; is_hashed_as_zerotrie::<Hash>());
+    assert!(rt; is_hashed_as_zerotrie::<Ext>());
+    assert!(rt; is_ascii_over_vectors::<Simple>(rt.alloc()));
+    assert!(rt; is_ascii_over_vectors::<Ignore>(rt.alloc()));
+    assert!(rt; is_hashed_over_vectors::<Hash>(rt.alloc()));
+    assert!(rt; is_hashed_over_vectors::<Ext>(rt.alloc()));
 }
 
 #[test]
 fn kinds_have_their_tags(rt: HostRuntime) {
     let tags = [
-        (<ZeroTrieSimpleAscii<&[u8]> as ZeroTrieWithOptions>::TAG, 0),
-        (<ZeroTriePerfectHash<&[u8]> as ZeroTrieWithOptions>::TAG, 3),
-        (
-            <ZeroTrieExtendedCapacity<&[u8]> as ZeroTrieWithOptions>::TAG,
-            7,
-        ),
-        (
-            <ZeroAsciiIgnoreCaseTrie<&[u8]> as ZeroTrieWithOptions>::TAG,
-            8,
-        ),
+        <ZeroTrieSimpleAscii<&[u8]> as ZeroTrieWithOptions>::TAG,
+        <ZeroTriePerfectHash<&[u8]> as ZeroTrieWithOptions>::TAG,
+        <ZeroTrieExtendedCapacity<&[u8]> as ZeroTrieWithOptions>::TAG,
+        <ZeroAsciiIgnoreCaseTrie<&[u8]> as ZeroTrieWithOptions>::TAG,
     ];
-    for (tag, number) in tags {
-        same(&rt, tag, number);
-    }
+    same(&rt, tags, [0, 3, 7, 8]);
 }
 
-/// What `{:?}` writes of a value.
-fn shows<T: Debug, H: AllocGlobal + Abort>(rt: &H, value: &T, text: &str) -> Result<(), Fail> {
-    same(rt, format!(in rt.alloc(); "{value:?}")?.as_str(), text);
-    Ok(())
+/// Whether `{:?}` writes this of a value.
+fn is_shown<T: Debug>(alloc: Global, value: &T, text: &str) -> bool {
+    is_text(format!(in alloc; "{value:?}"), text)
 }
 
 #[test]
-fn tries_show_their_names(rt: HostRuntime) -> Result<(), Fail> {
+fn tries_show_their_names(rt: HostRuntime) {
     let simple = ZeroTrieSimpleAscii::from_bytes(b"a\x85");
-    shows(&rt, &simple, "ZeroTrieSimpleAscii(2 bytes)")?;
+    assert!(rt; is_shown(rt.alloc(), &simple, "ZeroTrieSimpleAscii(2 bytes)"));
     let ignore = ZeroAsciiIgnoreCaseTrie::from_bytes(b"");
-    shows(&rt, &ignore, "ZeroAsciiIgnoreCaseTrie(0 bytes)")?;
+    assert!(rt; is_shown(rt.alloc(), &ignore, "ZeroAsciiIgnoreCaseTrie(0 bytes)"));
     let hash = ZeroTriePerfectHash::from_bytes(b"a\x85");
-    shows(&rt, &hash, "ZeroTriePerfectHash(2 bytes)")?;
+    assert!(rt; is_shown(rt.alloc(), &hash, "ZeroTriePerfectHash(2 bytes)"));
     let ext = ZeroTrieExtendedCapacity::from_bytes(b"a\x85");
-    shows(&rt, &ext, "ZeroTrieExtendedCapacity(2 bytes)")?;
-    shows(
-        &rt,
-        &ext.into_zerotrie(),
-        "ZeroTrie(ExtendedCapacity, 2 bytes)",
-    )
+    assert!(rt; is_shown(rt.alloc(), &ext, "ZeroTrieExtendedCapacity(2 bytes)"));
+    let any = ext.into_zerotrie();
+    assert!(rt; is_shown(rt.alloc(), &any, "ZeroTrie(ExtendedCapacity, 2 bytes)"));
 }

@@ -5,187 +5,198 @@ use zerotrie::CursorAnswer::{Probed, Stepped, Taken};
 use zerotrie::CursorOp::{Probe, Step, Take};
 use zerotrie::bytes::walk;
 
-/// A walk, and what it answers.
-type Row<'a> = (&'a [u8], &'a [CursorOp], &'a [CursorAnswer]);
+/// Bytes, a walk over them, and what it answers.
+type Row = (&'static [u8], &'static [CursorOp], &'static [CursorAnswer]);
 
-#[test]
-fn walks_over_ascii_keys(rt: HostRuntime) -> Result<(), Fail> {
-    let long = b"a\xC2bf\x0E\x90\x5F\xC2cd\x05xyz\x90\x06e\x92\x3Dg\x90\x1C".as_slice();
-    let mixed = b"\x80aBc\x81\xC4DeFg\x01\x02\x03\x82\x83\x84hi\x85".as_slice();
-    let (steps, stepped) = (
-        [Step(b'A'), Step(b'b'), Step(b'C'), Take, Step(b'd')],
-        [
-            Stepped(Some(b'a')),
-            Stepped(Some(b'B')),
-            Stepped(Some(b'c')),
-            Taken(Some(1)),
-            Stepped(Some(b'D')),
-        ],
-    );
-    let answers = walk::<Ignore>(rt.alloc(), mixed, &steps)?;
-    same(&rt, answers.as_slice(), stepped.as_slice());
-    let nowhere = [
-        Stepped(None),
-        Stepped(None),
-        Stepped(None),
-        Taken(None),
-        Stepped(None),
-    ];
-    let answers = walk::<Simple>(rt.alloc(), mixed, &steps)?;
-    same(&rt, answers.as_slice(), nowhere.as_slice());
-    let probes = [
-        Probe(0),
-        Probe(0),
-        Take,
-        Probe(1),
-        Probe(0),
-        Take,
-        Take,
-        Probe(0),
-    ];
-    let probed = [
-        Probed(Some((b'a', 1))),
-        Probed(Some((b'b', 2))),
-        Taken(Some(111)),
-        Probed(Some((b'd', 2))),
-        Probed(Some((b'e', 1))),
-        Taken(Some(333)),
-        Taken(None),
-        Probed(None),
-    ];
-    let answers = walk::<Simple>(rt.alloc(), long, &probes)?;
-    same(&rt, answers.as_slice(), probed.as_slice());
-    Ok(())
+/// Whether a walk over the bytes gives the answers.
+fn is_walk<K: ZeroTrieWithOptions>(alloc: Global, row: &Row) -> bool {
+    let (bytes, ops, answers) = *row;
+    match walk::<K>(alloc, bytes, ops) {
+        Ok(given) => given.as_slice() == answers,
+        Err(_) => false,
+    }
 }
 
+const STEPS: &[CursorOp] = &[Step(b'A'), Step(b'b'), Step(b'C'), Take, Step(b'd')];
+
+const CASELESS: Row = (
+    MIXED_TEXT,
+    STEPS,
+    &[
+        Stepped(Some(b'a')),
+        Stepped(Some(b'B')),
+        Stepped(Some(b'c')),
+        Taken(Some(1)),
+        Stepped(Some(b'D')),
+    ],
+);
+
+const SIMPLE: &[Row] = &[
+    (
+        MIXED_TEXT,
+        STEPS,
+        &[
+            Stepped(None),
+            Stepped(None),
+            Stepped(None),
+            Taken(None),
+            Stepped(None),
+        ],
+    ),
+    (
+        b"a\xC2bf\x0E\x90\x5F\xC2cd\x05xyz\x90\x06e\x92\x3Dg\x90\x1C",
+        &[
+            Probe(0),
+            Probe(0),
+            Take,
+            Probe(1),
+            Probe(0),
+            Take,
+            Take,
+            Probe(0),
+        ],
+        &[
+            Probed(Some((b'a', 1))),
+            Probed(Some((b'b', 2))),
+            Taken(Some(111)),
+            Probed(Some((b'd', 2))),
+            Probed(Some((b'e', 1))),
+            Taken(Some(333)),
+            Taken(None),
+            Probed(None),
+        ],
+    ),
+];
+
 #[test]
-fn walks_through_spans(rt: HostRuntime) -> Result<(), Fail> {
-    let words = b"\xC2bf\x0F\xA2\xC3\xA5\xC2rz\x01\x82z\xA4\xC3\xB8\xC3\xB8\x83oo\x81".as_slice();
-    let rows: [Row<'_>; 2] = [
-        (
-            words,
-            &[
-                Step(b'b'),
-                Step(0xC3),
-                Take,
-                Step(0xA5),
-                Probe(1),
-                Step(b'z'),
-                Probe(0),
-                Probe(0),
-                Probe(0),
-                Probe(0),
-                Take,
-            ],
-            &[
-                Stepped(Some(b'b')),
-                Stepped(Some(0xC3)),
-                Taken(None),
-                Stepped(Some(0xA5)),
-                Probed(Some((b'z', 2))),
-                Stepped(Some(b'z')),
-                Probed(Some((0xC3, 1))),
-                Probed(Some((0xB8, 1))),
-                Probed(Some((0xC3, 1))),
-                Probed(Some((0xB8, 1))),
-                Taken(Some(3)),
-            ],
-        ),
-        (
-            words,
-            &[Step(b'b'), Probe(0), Probe(1), Take],
-            &[
-                Stepped(Some(b'b')),
-                Probed(Some((0xC3, 1))),
-                Probed(None),
-                Taken(None),
-            ],
-        ),
-    ];
-    for (bytes, ops, answers) in rows {
-        same(
-            &rt,
-            walk::<Hash>(rt.alloc(), bytes, ops)?.as_slice(),
-            answers,
-        );
-        same(
-            &rt,
-            walk::<Ext>(rt.alloc(), bytes, ops)?.as_slice(),
-            answers,
-        );
+fn walks_over_ascii_keys(rt: HostRuntime) {
+    assert!(rt; is_walk::<Ignore>(rt.alloc(), &CASELESS));
+    for row in SIMPLE {
+        assert!(rt; is_walk::<Simple>(rt.alloc(), row));
     }
-    Ok(())
+}
+
+const WORDS: &[u8] = b"\xC2bf\x0F\xA2\xC3\xA5\xC2rz\x01\x82z\xA4\xC3\xB8\xC3\xB8\x83oo\x81";
+
+const SPANS: &[Row] = &[
+    (
+        WORDS,
+        &[
+            Step(b'b'),
+            Step(0xC3),
+            Take,
+            Step(0xA5),
+            Probe(1),
+            Step(b'z'),
+            Probe(0),
+            Probe(0),
+            Probe(0),
+            Probe(0),
+            Take,
+        ],
+        &[
+            Stepped(Some(b'b')),
+            Stepped(Some(0xC3)),
+            Taken(None),
+            Stepped(Some(0xA5)),
+            Probed(Some((b'z', 2))),
+            Stepped(Some(b'z')),
+            Probed(Some((0xC3, 1))),
+            Probed(Some((0xB8, 1))),
+            Probed(Some((0xC3, 1))),
+            Probed(Some((0xB8, 1))),
+            Taken(Some(3)),
+        ],
+    ),
+    (
+        WORDS,
+        &[Step(b'b'), Probe(0), Probe(1), Take],
+        &[
+            Stepped(Some(b'b')),
+            Probed(Some((0xC3, 1))),
+            Probed(None),
+            Taken(None),
+        ],
+    ),
+];
+
+#[test]
+fn walks_through_spans(rt: HostRuntime) {
+    for row in SPANS {
+        assert!(rt; is_walk::<Hash>(rt.alloc(), row));
+        assert!(rt; is_walk::<Ext>(rt.alloc(), row));
+    }
 }
 
 /// Edges of a hashed branch are numbered as its table has them.
-#[test]
-fn walks_in_the_order_of_a_table(rt: HostRuntime) -> Result<(), Fail> {
-    let text = letters::<Hash>(rt.alloc())?.into_store();
-    let rows = [
-        (0, Some((b'p', 16)), Some(15)),
-        (15, Some((b'o', 16)), Some(14)),
-        (16, None, None),
-    ];
-    for (index, edge, value) in rows {
-        let answers = walk::<Hash>(rt.alloc(), text.as_slice(), &[Probe(index), Take])?;
-        same(
-            &rt,
-            answers.as_slice(),
-            [Probed(edge), Taken(value)].as_slice(),
-        );
-    }
-    Ok(())
-}
-
-/// The text of all keys of one byte, each with value 0, in a hashed kind.
-fn text_of_all_bytes(alloc: Global) -> Result<Vec<u8>, Fail> {
-    let mut bytes = Vec::from_array(alloc, [0xE1, 0x60])?;
-    bytes.resize(259, 0)?;
-    for byte in 0..=255 {
-        bytes.push(byte)?;
-    }
-    bytes.resize(770, 0)?;
-    for byte in 1..=255 {
-        bytes.push(byte)?;
-    }
-    bytes.resize(1281, 0x80)?;
-    Ok(bytes)
-}
+const TABLE: &[Row] = &[
+    (
+        LETTERS_TEXT,
+        &[Probe(0), Take],
+        &[Probed(Some((b'p', 16))), Taken(Some(15))],
+    ),
+    (
+        LETTERS_TEXT,
+        &[Probe(15), Take],
+        &[Probed(Some((b'o', 16))), Taken(Some(14))],
+    ),
+    (
+        LETTERS_TEXT,
+        &[Probe(16), Take],
+        &[Probed(None), Taken(None)],
+    ),
+];
 
 #[test]
-fn walks_over_all_bytes(rt: HostRuntime) -> Result<(), Fail> {
-    let bytes = text_of_all_bytes(rt.alloc())?;
-    let answers = walk::<Hash>(rt.alloc(), bytes.as_slice(), &[Probe(255), Take])?;
-    same(
-        &rt,
-        answers.as_slice(),
-        [Probed(Some((255, 256))), Taken(Some(0))].as_slice(),
-    );
-    Ok(())
+fn walks_in_the_order_of_a_table(rt: HostRuntime) {
+    for row in TABLE {
+        assert!(rt; is_walk::<Hash>(rt.alloc(), row));
+    }
+}
+
+/// Whether the last edge of a branch of 256 edges is found, and its value taken.
+fn finds_the_last_edge(alloc: Global, bytes: &[u8]) -> bool {
+    match walk::<Hash>(alloc, bytes, &[Probe(255), Take]) {
+        Ok(answers) => answers.as_slice() == [Probed(Some((255, 256))), Taken(Some(0))].as_slice(),
+        Err(_) => false,
+    }
+}
+
+#[test]
+fn walks_over_all_bytes(rt: HostRuntime) {
+    assert!(rt; finds_the_last_edge(rt.alloc(), &text_of_all_bytes()));
 }
 
 /// No answer is promised on such bytes, but there is one, also if a width is claimed that no branch has.
-#[test]
-fn walks_return_on_any_bytes(rt: HostRuntime) -> Result<(), Fail> {
-    let table: [&[u8]; 11] = [
-        b"a",
-        b"\x80\x80",
-        b"\xC1a\x81",
-        b"\xC2ba\x01\x80\x80",
-        b"\xE1\x62ab\x00\x01\x80\x81",
-        b"\x90",
-        b"\xA1\xC3\xA1\xA5\x81",
-        b"\xA1\xC3",
-        b"\xE1\xDF\xDF\xDF\xDF\xDF\xDF\xDF\xDF\x5F",
-        b"\xBF\xFF\xFF\xFF\xFF\xFF\xFF\xFF\xFF\x7Fa",
-        b"\xF0\x70\0\0\0\0\0\0\0\0\0\0\0\0\0\0\0\0\0a",
-    ];
+const WRONG: &[&[u8]] = &[
+    b"a",
+    b"\x80\x80",
+    b"\xC1a\x81",
+    b"\xC2ba\x01\x80\x80",
+    b"\xE1\x62ab\x00\x01\x80\x81",
+    b"\x90",
+    b"\xA1\xC3\xA1\xA5\x81",
+    b"\xA1\xC3",
+    b"\xE1\xDF\xDF\xDF\xDF\xDF\xDF\xDF\xDF\x5F",
+    b"\xBF\xFF\xFF\xFF\xFF\xFF\xFF\xFF\xFF\x7Fa",
+    b"\xF0\x70\0\0\0\0\0\0\0\0\0\0\0\0\0\0\0\0\0a",
+];
+
+/// How many answers a walk of seven calls gives.
+fn answers_on<K: ZeroTrieWithOptions>(alloc: Global, bytes: &[u8]) -> Option<usize> {
     let ops = [Take, Probe(0), Take, Step(b'a'), Probe(1), Step(0xA1), Take];
-    for bytes in table {
-        same(&rt, walk::<Simple>(rt.alloc(), bytes, &ops)?.len(), 7);
-        same(&rt, walk::<Ignore>(rt.alloc(), bytes, &ops)?.len(), 7);
-        same(&rt, walk::<Hash>(rt.alloc(), bytes, &ops)?.len(), 7);
-        same(&rt, walk::<Ext>(rt.alloc(), bytes, &ops)?.len(), 7);
+    match walk::<K>(alloc, bytes, &ops) {
+        Ok(answers) => Some(answers.len()),
+        Err(_) => None,
     }
-    Ok(())
+}
+
+#[test]
+fn walks_return_on_any_bytes(rt: HostRuntime) {
+    for bytes in WRONG {
+        same(&rt, answers_on::<Simple>(rt.alloc(), bytes), Some(7));
+        same(&rt, answers_on::<Ignore>(rt.alloc(), bytes), Some(7));
+        same(&rt, answers_on::<Hash>(rt.alloc(), bytes), Some(7));
+        same(&rt, answers_on::<Ext>(rt.alloc(), bytes), Some(7));
+    }
 }
