@@ -28,6 +28,11 @@ fn same<T: Debug + PartialEq + Drop, H: Abort>(rt: &H, left: T, right: T) {
     assert_eq!(rt; left, right);
 }
 
+/// Ends the test if what it tests does not hold: `assert!` in a function of its own, for the same reason.
+fn holds<H: Abort>(rt: &H, it: bool) {
+    assert!(rt; it);
+}
+
 /// The trie of items in any order.
 fn ascii_of<K: AsciiKind>(
     alloc: Global,
@@ -77,7 +82,9 @@ fn is_written<T: Display>(alloc: Global, value: &T, text: &str) -> bool {
 }
 
 /// The first item of a listing.
-fn first<I: Iterator + Drop>(items: I) -> Option<I::Item> {
+fn first<I: Iterator + Drop>(items: I) -> Option<I::Item>
+    requires { I.can_next items }
+{
     let mut items = items;
     items.next()
 }
@@ -108,6 +115,21 @@ fn text_map<'a>(
         map.insert(*key, *value)?;
     }
     Ok(map)
+}
+
+/// A prefix, and its suffixes with their values.
+type Entries<'a> = (&'a str, &'a [(&'a str, usize)]);
+
+/// The rows of a table, in any order.
+fn rows_of<'a>(
+    alloc: Global,
+    table: &[Entries<'a>],
+) -> Result<BTreeMap<&'a str, BTreeMap<&'a str, usize>>, ZeroTrieBuildError> {
+    let mut rows = BTreeMap::new(alloc);
+    for (prefix, row) in table {
+        rows.insert(*prefix, text_map(alloc, *row)?)?;
+    }
+    Ok(rows)
 }
 
 /// The bytes in keys of this length, each with value 0.

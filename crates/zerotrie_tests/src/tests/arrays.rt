@@ -47,39 +47,51 @@ fn is_full<const N: usize>(built: Built<N>, text: &[u8]) -> bool {
     }
 }
 
-#[test]
-fn no_keys_fill_no_array(rt: HostRuntime) {
-    assert!(rt; is_full::<0>(of_bytes(&[]), b""));
-    assert!(rt; is_full(of_bytes_with_stack::<0, 0>(&[]), b""));
-    assert!(rt; is_refused(of_bytes::<1>(&[]), &ZeroTrieBuildError::BufferTooLarge(0)));
-}
+const ALONE: [(&str, usize); 1] = [("abc", 0)];
+
+const UNSORTED: [(&str, usize); 3] = [("foo", 1), ("bar", 2), ("bazzoo", 3)];
+
+const HIGH: [(&str, usize); 3] = [("bazzoo", 3), ("bár", 2), ("foo", 1)];
 
 #[test]
 fn arrays_are_filled(rt: HostRuntime) {
-    assert!(rt; is_full::<17>(of_texts(&BAZ), BAZ_TEXT));
-    assert!(rt; is_refused(of_texts::<15>(&BAZ), &ZeroTrieBuildError::BufferTooSmall));
-    assert!(rt;
-        is_refused(
-            of_texts::<20>(&BAZ),
-            &ZeroTrieBuildError::BufferTooLarge(17)
-        )
+    holds(&rt, is_full::<0>(of_bytes(&[]), b""));
+    holds(&rt, is_full(of_bytes_with_stack::<0, 0>(&[]), b""));
+    holds(&rt, is_full::<17>(of_texts(&BAZ), BAZ_TEXT));
+    holds(&rt, is_full(of_texts_with_stack::<17, 3>(&BAZ), BAZ_TEXT));
+    holds(
+        &rt,
+        is_full(of_texts_with_stack::<4, 0>(&ALONE), b"abc\x80"),
     );
 }
 
 #[test]
-fn keys_are_refused(rt: HostRuntime) {
-    let unsorted = [("foo", 1), ("bar", 2), ("bazzoo", 3)];
-    assert!(rt; is_refused(of_texts::<17>(&unsorted), &ZeroTrieBuildError::Unsorted));
-    let high = [("bazzoo", 3), ("bár", 2), ("foo", 1)];
-    assert!(rt; is_refused(of_texts::<100>(&high), &ZeroTrieBuildError::NonAsciiError));
-}
-
-#[test]
-fn stacks_are_large_enough(rt: HostRuntime) {
-    assert!(rt; is_full(of_texts_with_stack::<17, 3>(&BAZ), BAZ_TEXT));
+fn other_arrays_and_keys_are_refused(rt: HostRuntime) {
+    holds(
+        &rt,
+        is_refused(of_bytes::<1>(&[]), &ZeroTrieBuildError::BufferTooLarge(0)),
+    );
+    holds(
+        &rt,
+        is_refused(of_texts::<15>(&BAZ), &ZeroTrieBuildError::BufferTooSmall),
+    );
+    holds(
+        &rt,
+        is_refused(
+            of_texts::<20>(&BAZ),
+            &ZeroTrieBuildError::BufferTooLarge(17),
+        ),
+    );
+    holds(
+        &rt,
+        is_refused(of_texts::<17>(&UNSORTED), &ZeroTrieBuildError::Unsorted),
+    );
+    holds(
+        &rt,
+        is_refused(of_texts::<100>(&HIGH), &ZeroTrieBuildError::NonAsciiError),
+    );
     let small = of_texts_with_stack::<17, 2>(&BAZ);
-    assert!(rt; is_refused(small, &ZeroTrieBuildError::StackExceeded));
-    assert!(rt; is_full(of_texts_with_stack::<4, 0>(&[("abc", 0)]), b"abc\x80"));
+    holds(&rt, is_refused(small, &ZeroTrieBuildError::StackExceeded));
 }
 
 /// The bytes from 0 to 100.
@@ -105,24 +117,21 @@ fn is_grown<const N: usize>(
 }
 
 #[test]
-fn a_hundred_edges(rt: HostRuntime) -> Result<(), Fail> {
-    let bytes = bytes_up_to_100();
-    let items = keys_of(rt.alloc(), &bytes[..100], 1)?;
-    let hundred = of_bytes::<301>(&items);
-    assert!(rt; is_grown(rt.alloc(), hundred, &items, b"\xE0\x44"));
-    Ok(())
-}
-
-#[test]
 fn a_hundred_edges_and_one(rt: HostRuntime) -> Result<(), Fail> {
+    let alloc = rt.alloc();
     let bytes = bytes_up_to_100();
-    let items = keys_of(rt.alloc(), &bytes, 1)?;
-    let more = of_bytes::<304>(&items);
-    assert!(rt; is_refused(more, &ZeroTrieBuildError::StackExceeded));
-    let more = of_bytes_with_stack::<304, 100>(&items);
-    assert!(rt; is_refused(more, &ZeroTrieBuildError::StackExceeded));
-    let more = of_bytes_with_stack::<304, 101>(&items);
-    assert!(rt; is_grown(rt.alloc(), more, &items, b"\xE0\x45"));
+    let all = keys_of(alloc, &bytes, 1)?;
+    let (_, hundred) = all.as_slice().split_last().ok_or("empty")?;
+    holds(
+        &rt,
+        is_grown(alloc, of_bytes::<301>(hundred), hundred, b"\xE0\x44"),
+    );
+    let more = of_bytes::<304>(&all);
+    holds(&rt, is_refused(more, &ZeroTrieBuildError::StackExceeded));
+    let more = of_bytes_with_stack::<304, 100>(&all);
+    holds(&rt, is_refused(more, &ZeroTrieBuildError::StackExceeded));
+    let more = of_bytes_with_stack::<304, 101>(&all);
+    holds(&rt, is_grown(alloc, more, &all, b"\xE0\x45"));
     Ok(())
 }
 
@@ -149,20 +158,24 @@ fn is_copy(copied: Copied, text: &[u8]) -> bool {
 #[test]
 fn arrays_are_copied(rt: HostRuntime) {
     let alloc = rt.alloc();
-    assert!(rt; is_copy(copied(alloc, &LITERALS), LITERALS_TEXT));
-    assert!(rt; is_copy(copied_from::<20, 2>(alloc, &LITERALS), LITERALS_TEXT));
+    holds(&rt, is_copy(copied(alloc, &LITERALS), LITERALS_TEXT));
+    holds(
+        &rt,
+        is_copy(copied_from::<20, 2>(alloc, &LITERALS), LITERALS_TEXT),
+    );
     let small = copied_from::<15, 2>(alloc, &LITERALS);
-    assert!(rt; is_refused(small, &ZeroTrieBuildError::BufferTooSmall));
+    holds(&rt, is_refused(small, &ZeroTrieBuildError::BufferTooSmall));
     let shallow = copied_from::<16, 1>(alloc, &LITERALS);
-    assert!(rt; is_refused(shallow, &ZeroTrieBuildError::StackExceeded));
+    holds(&rt, is_refused(shallow, &ZeroTrieBuildError::StackExceeded));
 }
 
 #[test]
 fn long_keys_are_copied(rt: HostRuntime) {
+    let alloc = rt.alloc();
     let mut text = [b'a'; 10000];
-    let long = copied(rt.alloc(), &[(&text, 0)]);
-    assert!(rt; is_refused(long, &ZeroTrieBuildError::BufferTooSmall));
-    let short = copied(rt.alloc(), &[(&text[1..], 0)]);
+    let long = copied(alloc, &[(&text, 0)]);
+    holds(&rt, is_refused(long, &ZeroTrieBuildError::BufferTooSmall));
+    let short = copied(alloc, &[(&text[1..], 0)]);
     text[9999] = 0x80;
-    assert!(rt; is_copy(short, &text));
+    holds(&rt, is_copy(short, &text));
 }

@@ -40,7 +40,10 @@ fn texts_keys_and_counts(rt: HostRuntime) {
     let of_hashed = ([Some(2); 2], [true, false], [3, 3, 0]);
     same(&rt, hashed_answers::<Hash>(), of_hashed);
     same(&rt, hashed_answers::<Ext>(), of_hashed);
-    assert!(rt; ZeroTrie::empty() == Default::default() && ZeroTrie::empty().is_empty());
+    holds(
+        &rt,
+        ZeroTrie::empty() == Default::default() && ZeroTrie::empty().is_empty(),
+    );
 }
 
 /// Values at the front, after literals and spans, and in branches below branches count.
@@ -77,13 +80,16 @@ fn is_first(found: Result<Option<Vec<u8>>, ListError>, key: Option<&[u8]>) -> bo
 #[test]
 fn first_keys_of_values(rt: HostRuntime) {
     let alloc = rt.alloc();
-    assert!(rt; is_first(first_key_of::<Hash>(alloc, FEW, 2), Some(b"abcd")));
+    holds(
+        &rt,
+        is_first(first_key_of::<Hash>(alloc, FEW, 2), Some(b"abcd")),
+    );
     let simple = ZeroTrieSimpleAscii::from_bytes(FEW);
-    assert!(rt; is_first(simple.first_key_of(alloc, 1), Some(b"ab")));
+    holds(&rt, is_first(simple.first_key_of(alloc, 1), Some(b"ab")));
     let hashed = ZeroTriePerfectHash::from_bytes(FEW);
-    assert!(rt; is_first(hashed.first_key_of(alloc, 3), None));
+    holds(&rt, is_first(hashed.first_key_of(alloc, 3), None));
     let any = ZeroTrie::of_kind::<Ext>(FEW);
-    assert!(rt; is_first(any.first_key_of(alloc, 3), None));
+    holds(&rt, is_first(any.first_key_of(alloc, 3), None));
 }
 
 /// Whether the first key of a trie and its first value are these.
@@ -107,8 +113,9 @@ fn hashed_begins(alloc: Global, bytes: &[u8], key: &[u8], value: usize) -> bool 
 
 #[test]
 fn keys_and_values(rt: HostRuntime) {
-    assert!(rt; ascii_begins(rt.alloc(), b"ab\x81", "ab", 1));
-    assert!(rt; hashed_begins(rt.alloc(), b"ab\x81", b"ab", 1));
+    let alloc = rt.alloc();
+    holds(&rt, ascii_begins(alloc, b"ab\x81", "ab", 1));
+    holds(&rt, hashed_begins(alloc, b"ab\x81", b"ab", 1));
 }
 
 /// Whether a cursor steps over bytes that are there.
@@ -147,9 +154,15 @@ fn any_cursor<K: HasFlavor>(bytes: &[u8], steps: &[u8]) -> bool {
 
 #[test]
 fn cursors_of_any_kind(rt: HostRuntime) {
-    assert!(rt; any_cursor::<Simple>(b"a\xC2ab\x01\x81\x82", b"a"));
-    assert!(rt; any_cursor::<Hash>(b"\xA2\xC3\xA5\xC2ab\x01\x81\x82", b"\xC3\xA5"));
-    assert!(rt; any_cursor::<Ext>(b"\xA2\xC3\xA5\xC2ab\x01\x81\x82", b"\xC3\xA5"));
+    holds(&rt, any_cursor::<Simple>(b"a\xC2ab\x01\x81\x82", b"a"));
+    holds(
+        &rt,
+        any_cursor::<Hash>(b"\xA2\xC3\xA5\xC2ab\x01\x81\x82", b"\xC3\xA5"),
+    );
+    holds(
+        &rt,
+        any_cursor::<Ext>(b"\xA2\xC3\xA5\xC2ab\x01\x81\x82", b"\xC3\xA5"),
+    );
 }
 
 /// The value of a key after a byte, if the trie of that is there.
@@ -192,11 +205,12 @@ fn any_walk_ends(alloc: Global, bytes: &[u8], ops: &[CursorOp], answer: &CursorA
 
 #[test]
 fn a_zerotrie_is_owned_and_listed(rt: HostRuntime) {
-    assert!(rt; is_owned(rt.alloc(), b"a\x85"));
-    assert!(rt; any_begins(rt.alloc(), b"a\x85", b"a", 5));
+    let alloc = rt.alloc();
+    holds(&rt, is_owned(alloc, b"a\x85"));
+    holds(&rt, any_begins(alloc, b"a\x85", b"a", 5));
     let ops = [CursorOp::Step(b'a'), CursorOp::Take];
     let taken = CursorAnswer::Taken(Some(5));
-    assert!(rt; any_walk_ends(rt.alloc(), b"a\x85", &ops, &taken));
+    holds(&rt, any_walk_ends(alloc, b"a\x85", &ops, &taken));
 }
 
 /// How many bytes are written to the end of a buffer, and what a look-up there answers, with the nodes that it reads.
@@ -246,7 +260,7 @@ fn prefixes_without_case(rt: HostRuntime) {
     let trie = ZeroAsciiIgnoreCaseTrie::from_bytes(CASELESS);
     same(&rt, trie.longest_prefix(b"ABCD"), Some((3, 2)));
     same(&rt, first(trie.common_prefixes(b"abcd")), Some((2, 1)));
-    assert!(rt; lists_after(rt.alloc(), CASELESS, b"ABC", "aBc", 2));
+    holds(&rt, lists_after(rt.alloc(), CASELESS, b"ABC", "aBc", 2));
 }
 
 /// Whether this key is the first that a trie has after the prefix.
@@ -270,11 +284,12 @@ fn any_has_none(alloc: Global, bytes: &[u8], prefix: &[u8]) -> bool {
 /// A prefix may end inside a span.
 #[test]
 fn prefixes_of_any_bytes(rt: HostRuntime) {
+    let alloc = rt.alloc();
     let bytes = b"a\xA2\xC3\xA9\x83".as_slice();
     let hashed = ZeroTriePerfectHash::from_bytes(bytes);
     same(&rt, hashed.longest_prefix(b"a\xC3\xA9"), Some((3, 3)));
     let any = hashed.into_zerotrie();
     same(&rt, any.longest_prefix(b"a\xC3\xA9b"), Some((3, 3)));
-    assert!(rt; streams(rt.alloc(), bytes, b"a\xC3", b"a\xC3\xA9"));
-    assert!(rt; any_has_none(rt.alloc(), bytes, b"a\xA9"));
+    holds(&rt, streams(alloc, bytes, b"a\xC3", b"a\xC3\xA9"));
+    holds(&rt, any_has_none(alloc, bytes, b"a\xA9"));
 }

@@ -48,10 +48,10 @@ fn ascii_cursors(rt: HostRuntime) -> Result<(), Fail> {
     let mut cursor = trie.cursor();
     go_down(&mut cursor, b"abc");
     let again = cursor.clone()?;
-    assert!(rt; takes_once(cursor));
+    holds(&rt, takes_once(cursor));
     // The copy is a place of its own, and a step passes over its value.
     same(&rt, value_after(again, b"d", b"ef"), Some(1));
-    assert!(rt; is_lost_by_probe(trie.cursor(), 1));
+    holds(&rt, is_lost_by_probe(trie.cursor(), 1));
     Ok(())
 }
 
@@ -183,7 +183,7 @@ fn value_behind<K: HashedKind>(cursor: HashedCursor<'_, K>, key: &[u8]) -> Optio
 fn hashed_cursors(rt: HostRuntime) {
     let trie = ZeroTriePerfectHash::from_bytes(SPANS);
     let mut cursor = trie.cursor();
-    assert!(rt; goes_down(&mut cursor, b"b\xC3\xA5"));
+    holds(&rt, goes_down(&mut cursor, b"b\xC3\xA5"));
     let edge = ByteProbeResult {
         byte: b'z',
         total_siblings: 2,
@@ -197,7 +197,7 @@ fn hashed_cursors(rt: HostRuntime) {
 fn hashed_cursors_inside_spans(rt: HostRuntime) {
     let trie = ZeroTriePerfectHash::from_bytes(SPANS);
     let mut cursor = trie.cursor();
-    assert!(rt; goes_down(&mut cursor, b"b\xC3"));
+    holds(&rt, goes_down(&mut cursor, b"b\xC3"));
     same(&rt, cursor.take_value(), None);
     same(&rt, value_behind(cursor, b""), None);
 }
@@ -206,7 +206,7 @@ fn hashed_cursors_inside_spans(rt: HostRuntime) {
 fn extended_cursors(rt: HostRuntime) {
     let trie = ZeroTrieExtendedCapacity::from_bytes(b"\xA1\xC3\xC2\xA5\xB8\x01\x81\x82");
     let mut cursor = trie.into_cursor();
-    assert!(rt; goes_down(&mut cursor, b"\xC3"));
+    holds(&rt, goes_down(&mut cursor, b"\xC3"));
     same(&rt, value_behind(cursor, b"\xA5"), Some(Some(1)));
 }
 
@@ -259,10 +259,11 @@ const MET: &[CursorAnswer] = &[
 /// Each type hands its own bytes and kind to a walk.
 #[test]
 fn walks(rt: HostRuntime) {
-    assert!(rt; ascii_walk::<Ignore>(rt.alloc(), b"aB\x85", OPS, MET));
-    assert!(rt; ascii_walk::<Simple>(rt.alloc(), b"aB\x85", OPS, MISSED));
-    assert!(rt; hashed_walk::<Hash>(rt.alloc(), b"aB\x85", OPS, MISSED));
-    assert!(rt; hashed_walk::<Ext>(rt.alloc(), b"aB\x85", OPS, MISSED));
+    let alloc = rt.alloc();
+    holds(&rt, ascii_walk::<Ignore>(alloc, b"aB\x85", OPS, MET));
+    holds(&rt, ascii_walk::<Simple>(alloc, b"aB\x85", OPS, MISSED));
+    holds(&rt, hashed_walk::<Hash>(alloc, b"aB\x85", OPS, MISSED));
+    holds(&rt, hashed_walk::<Ext>(alloc, b"aB\x85", OPS, MISSED));
 }
 
 /// Bytes that mean no map.

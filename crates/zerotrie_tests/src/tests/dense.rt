@@ -5,21 +5,6 @@ use zerotrie::dense::{
     RecordError, ZeroAsciiDenseSparse2dTrieBorrowed, ZeroAsciiDenseSparse2dTrieOwned,
 };
 
-/// A prefix, and its suffixes with their values.
-type Entries<'a> = (&'a str, &'a [(&'a str, usize)]);
-
-/// The rows of a table, in any order.
-fn rows_of<'a>(
-    alloc: Global,
-    table: &[Entries<'a>],
-) -> Result<BTreeMap<&'a str, BTreeMap<&'a str, usize>>, ZeroTrieBuildError> {
-    let mut rows = BTreeMap::new(alloc);
-    for (prefix, row) in table {
-        rows.insert(*prefix, text_map(alloc, *row)?)?;
-    }
-    Ok(rows)
-}
-
 /// A table, or why there is none.
 type Built = Result<ZeroAsciiDenseSparse2dTrieOwned, ZeroTrieBuildError>;
 
@@ -213,7 +198,7 @@ const TABLES: &[Row<'static>] = &[
 #[test]
 fn tables_have_their_parts(rt: HostRuntime) {
     for row in TABLES {
-        assert!(rt; is_table_of(rt.alloc(), row));
+        holds(&rt, is_table_of(rt.alloc(), row));
     }
 }
 
@@ -252,12 +237,13 @@ const EMPTY_SUFFIX: &[(&[Entries<'static>], usize)] = &[
 #[test]
 fn the_empty_suffix_is_found(rt: HostRuntime) {
     for (entries, cells) in EMPTY_SUFFIX {
-        assert!(rt; is_table_with_cells(rt.alloc(), entries, *cells));
+        holds(&rt, is_table_with_cells(rt.alloc(), entries, *cells));
     }
 }
 
 #[test]
 fn a_row_without_suffixes_adds_nothing(rt: HostRuntime) -> Result<(), Fail> {
+    let alloc = rt.alloc();
     let row: Row<'_> = (
         &[("aaa", &[]), ("bbb", &[("X", 1)])],
         b"bbb/X\x81",
@@ -265,9 +251,9 @@ fn a_row_without_suffixes_adds_nothing(rt: HostRuntime) -> Result<(), Fail> {
         1,
         &[],
     );
-    let record = record_of(rt.alloc(), row.0)?;
+    let record = record_of(alloc, row.0)?;
     same(&rt, record.len(), 35);
-    assert!(rt; is_bytes(record_with(rt.alloc(), &row), &record));
+    holds(&rt, is_bytes(record_with(alloc, &row), &record));
     Ok(())
 }
 
@@ -309,7 +295,10 @@ const REFUSED: &[(&[Entries<'static>], u8, ZeroTrieBuildError)] = &[
 #[test]
 fn texts_and_delimiters_are_tested(rt: HostRuntime) {
     for (entries, delimiter, error) in REFUSED {
-        assert!(rt; is_refused(table_by(rt.alloc(), entries, *delimiter), error));
+        holds(
+            &rt,
+            is_refused(table_by(rt.alloc(), entries, *delimiter), error),
+        );
     }
 }
 
@@ -322,22 +311,32 @@ fn numbers_up_to(alloc: Global, end: usize) -> Result<Vec<String>, Fail> {
     Ok(texts)
 }
 
-/// A table of one row with these suffixes, each with value 0.
-fn table_of_row(alloc: Global, suffixes: &[String]) -> Built {
-    let mut row: BTreeMap<&str, usize> = BTreeMap::new(alloc);
-    for suffix in suffixes {
-        row.insert(suffix.as_str(), 0)?;
+/// Texts as suffixes, each with value 0.
+fn suffixes_of<'a>(
+    alloc: Global,
+    texts: &'a [String],
+) -> Result<Vec<(&'a str, usize)>, ZeroTrieBuildError> {
+    let mut suffixes = Vec::new(alloc);
+    for text in texts {
+        suffixes.push((text.as_str(), 0))?;
     }
-    let mut rows = BTreeMap::new(alloc);
-    rows.insert("p", row)?;
-    ZeroAsciiDenseSparse2dTrieOwned::try_from_btree_map_str(alloc, &rows, b'/')
+    Ok(suffixes)
+}
+
+/// Whether a table of one row with these suffixes is refused so.
+fn is_row_refused(alloc: Global, suffixes: &[(&str, usize)], error: &ZeroTrieBuildError) -> bool {
+    is_refused(table_by(alloc, &[("p", suffixes)], b'/'), error)
 }
 
 #[test]
 fn too_many_suffixes_are_refused(rt: HostRuntime) -> Result<(), Fail> {
-    let texts = numbers_up_to(rt.alloc(), 65_536)?;
-    let refused = table_of_row(rt.alloc(), &texts);
-    assert!(rt; is_refused(refused, &ZeroTrieBuildError::CapacityExceeded));
+    let alloc = rt.alloc();
+    let texts = numbers_up_to(alloc, 65_536)?;
+    let suffixes = suffixes_of(alloc, &texts)?;
+    holds(
+        &rt,
+        is_row_refused(alloc, &suffixes, &ZeroTrieBuildError::CapacityExceeded),
+    );
     Ok(())
 }
 
@@ -358,7 +357,7 @@ fn records_have_their_length(rt: HostRuntime) -> Result<(), Fail> {
         ("ddd", &[("BBB", 3), ("EEE", 4)]),
     ];
     let mut record = record_of(rt.alloc(), &entries)?;
-    assert!(rt; is_refused_if_cut(&record));
+    holds(&rt, is_refused_if_cut(&record));
     record.push(0)?;
     same(&rt, refusal_of(&record), Some(RecordError::TrailingBytes));
     Ok(())

@@ -43,21 +43,25 @@ fn lists_texts<K: AsciiKind>(alloc: Global, bytes: &[u8], pairs: &[(&str, usize)
     is_map && gives_texts(trie.iter(alloc), pairs)
 }
 
+const NESTED: &[(&str, usize)] = &[("abc", 0), ("abcdef", 1)];
+
+/// Keys without case, as they are listed.
+const MIXED_LISTED: &[(&str, usize)] = &[
+    ("", 0),
+    ("aBc", 1),
+    ("aBcD", 2),
+    ("aBce", 3),
+    ("aBcF", 4),
+    ("aBcghi", 5),
+];
+
 #[test]
 fn texts_in_order(rt: HostRuntime) {
     let alloc = rt.alloc();
-    assert!(rt; lists_texts::<Simple>(alloc, b"", &[]));
-    assert!(rt; lists_texts::<Simple>(alloc, b"abc\x80def\x81", &[("abc", 0), ("abcdef", 1)]));
-    assert!(rt; lists_texts::<Simple>(alloc, LOCALES_TEXT, &LOCALES));
-    let mixed = [
-        ("", 0),
-        ("aBc", 1),
-        ("aBcD", 2),
-        ("aBce", 3),
-        ("aBcF", 4),
-        ("aBcghi", 5),
-    ];
-    assert!(rt; lists_texts::<Ignore>(alloc, MIXED_TEXT, &mixed));
+    holds(&rt, lists_texts::<Simple>(alloc, b"", &[]));
+    holds(&rt, lists_texts::<Simple>(alloc, b"abc\x80def\x81", NESTED));
+    holds(&rt, lists_texts::<Simple>(alloc, LOCALES_TEXT, &LOCALES));
+    holds(&rt, lists_texts::<Ignore>(alloc, MIXED_TEXT, MIXED_LISTED));
 }
 
 /// Whether a map has the letters with their numbers, and nothing else.
@@ -77,26 +81,36 @@ fn are_letters(map: Result<BTreeMap<Vec<u8>, usize>, ListError>) -> bool {
     }
 }
 
+/// The first letters in the order of their table.
+const FIRST_LETTERS: &[(&[u8], usize)] = &[(b"p", 15), (b"a", 0), (b"b", 1)];
+
 /// A hashed table has its parameters in front of its edges, and its edges in an order of its own.
 fn lists_letters<K: HashedKind>(alloc: Global) -> bool {
     let trie: HashedTrie<K, &[u8]> = HashedTrie::from_bytes(LETTERS_TEXT);
     are_letters(trie.to_btreemap(alloc))
         && are_letters(trie.into_zerotrie().to_btreemap(alloc))
-        && begins(&mut trie.iter(alloc), &[(b"p", 15), (b"a", 0), (b"b", 1)])
+        && begins(&mut trie.iter(alloc), FIRST_LETTERS)
 }
 
 #[test]
 fn letters_in_the_order_of_the_table(rt: HostRuntime) {
-    assert!(rt; lists_letters::<Hash>(rt.alloc()));
-    assert!(rt; lists_letters::<Ext>(rt.alloc()));
+    let alloc = rt.alloc();
+    holds(&rt, lists_letters::<Hash>(alloc));
+    holds(&rt, lists_letters::<Ext>(alloc));
+}
+
+const SPANS: &[(&[u8], usize)] = &[(b"a", 10), (b"ab\x81\x91\xA1", 4)];
+
+/// Whether these bytes list a value before a span and one after it, and then end.
+fn lists_spans(alloc: Global, bytes: &[u8]) -> bool {
+    let trie = ZeroTriePerfectHash::from_bytes(bytes);
+    let mut items = trie.iter(alloc);
+    begins(&mut items, SPANS) && items.next().is_none()
 }
 
 #[test]
 fn spans_and_values_on_the_way(rt: HostRuntime) {
-    let trie = ZeroTriePerfectHash::from_bytes(b"a\x8Ab\xA3\x81\x91\xA1\x84");
-    let mut items = trie.iter(rt.alloc());
-    assert!(rt; begins(&mut items, &[(b"a", 10), (b"ab\x81\x91\xA1", 4)]));
-    assert!(rt; items.next().is_none());
+    holds(&rt, lists_spans(rt.alloc(), b"a\x8Ab\xA3\x81\x91\xA1\x84"));
 }
 
 /// How many keys the map of these items has, as a `ZeroTrie` lists it.
@@ -108,10 +122,11 @@ fn keys_listed(alloc: Global, items: &[(&str, usize)]) -> Option<usize> {
     }
 }
 
+const WORDS: &[(&str, usize)] = &[("foo", 1), ("bår", 2), ("båzzøø", 3)];
+
 #[test]
 fn words_beyond_ascii(rt: HostRuntime) {
-    let words = [("foo", 1), ("bår", 2), ("båzzøø", 3)];
-    same(&rt, keys_listed(rt.alloc(), &words), Some(3));
+    same(&rt, keys_listed(rt.alloc(), WORDS), Some(3));
 }
 
 /// How many pairs come if the listing is taken to its end.
@@ -139,16 +154,23 @@ const COUNTED: &[(&[u8], usize)] = &[
     (b"\xC3abc\x01\x09\x80\x81\x82", 1),
 ];
 
+const SPAN: &[u8] = b"\xA1\xC3\xA1\xA5\x81";
+
+/// Whether so many pairs come.
+fn is_counted<K: ZeroTrieWithOptions>(alloc: Global, row: &(&[u8], usize)) -> bool {
+    count::<K>(alloc, row.0) == Some(row.1)
+}
+
 #[test]
 fn listings_of_no_trie_end(rt: HostRuntime) {
-    for (bytes, pairs) in COUNTED {
-        same(&rt, count::<Simple>(rt.alloc(), bytes), Some(*pairs));
-        same(&rt, count::<Ignore>(rt.alloc(), bytes), Some(*pairs));
-        same(&rt, count::<Hash>(rt.alloc(), bytes), Some(*pairs));
+    let alloc = rt.alloc();
+    for row in COUNTED {
+        holds(&rt, is_counted::<Simple>(alloc, row));
+        holds(&rt, is_counted::<Ignore>(alloc, row));
+        holds(&rt, is_counted::<Hash>(alloc, row));
     }
-    let span = b"\xA1\xC3\xA1\xA5\x81".as_slice();
-    same(&rt, count::<Hash>(rt.alloc(), span), Some(1));
-    same(&rt, count::<Simple>(rt.alloc(), span), Some(0));
+    holds(&rt, is_counted::<Hash>(alloc, &(SPAN, 1)));
+    holds(&rt, is_counted::<Simple>(alloc, &(SPAN, 0)));
 }
 
 /// Whether a listing gives a pair, then the error of a key that is no text, and then ends.
@@ -161,14 +183,22 @@ fn stops_at_no_text(items: ZeroTrieStringIterator<'_>) -> bool {
 
 #[test]
 fn a_key_that_is_no_text(rt: HostRuntime) {
+    let alloc = rt.alloc();
     let trie = ZeroTrieSimpleAscii::from_bytes(b"\x80\xC2\xC3\xC4\x01\x81\x82");
-    assert!(rt; stops_at_no_text(trie.iter(rt.alloc())));
-    assert!(rt; is_refused(trie.to_btreemap(rt.alloc()), &ListError::NotText));
+    holds(&rt, stops_at_no_text(trie.iter(alloc)));
+    holds(
+        &rt,
+        is_refused(trie.to_btreemap(alloc), &ListError::NotText),
+    );
 }
 
 #[test]
 fn texts_of_errors(rt: HostRuntime) {
-    assert!(rt; is_written(rt.alloc(), &ListError::OutOfMemory, "out of memory"));
+    let alloc = rt.alloc();
+    holds(
+        &rt,
+        is_written(alloc, &ListError::OutOfMemory, "out of memory"),
+    );
     let text = "a key is not text: the bytes are no trie, so ask is_well_formed of them first";
-    assert!(rt; is_written(rt.alloc(), &ListError::NotText, text));
+    holds(&rt, is_written(alloc, &ListError::NotText, text));
 }

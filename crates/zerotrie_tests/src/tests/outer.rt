@@ -36,70 +36,81 @@ const FEW: [(&str, usize); 3] = [("abc", 11), ("xyz", 22), ("axyb", 33)];
 
 const FEW_TEXT: &[u8] = b"\xC2ax\x0A\xC2bx\x02c\x8Byb\x90\x11yz\x90\x06";
 
-fn ascii_tagged<K: AsciiKind>(alloc: Global) -> Result<Vec<u8>, ZeroTrieBuildError> {
-    let trie = ascii_of::<K>(alloc, &FEW)?;
-    Ok(trie.to_tagged_bytes(alloc)?)
-}
-
-fn hashed_tagged<K: HashedKind>(alloc: Global) -> Result<Vec<u8>, ZeroTrieBuildError> {
-    let trie = hashed_of::<K>(alloc, &FEW)?;
-    Ok(trie.to_tagged_bytes(alloc)?)
-}
-
-fn any_tagged(alloc: Global) -> Result<Vec<u8>, ZeroTrieBuildError> {
-    let trie = any_of(alloc, &FEW)?;
-    Ok(trie.to_tagged_bytes(alloc)?)
-}
-
-/// Whether the tagged bytes are this tag, and then the text.
-fn has_tag(tagged: Result<Vec<u8>, ZeroTrieBuildError>, tag: u8) -> bool {
+/// Whether tagged bytes are this tag, and then the text.
+fn has_tag<E: Drop>(tagged: Result<Vec<u8>, E>, tag: u8) -> bool {
     match tagged {
         Ok(bytes) => bytes.as_slice().split_first() == Some((&tag, FEW_TEXT)),
         Err(_) => false,
     }
 }
 
+fn ascii_has_tag<K: AsciiKind>(alloc: Global, tag: u8) -> bool {
+    match ascii_of::<K>(alloc, &FEW) {
+        Ok(trie) => has_tag(trie.to_tagged_bytes(alloc), tag),
+        Err(_) => false,
+    }
+}
+
+fn hashed_has_tag<K: HashedKind>(alloc: Global, tag: u8) -> bool {
+    match hashed_of::<K>(alloc, &FEW) {
+        Ok(trie) => has_tag(trie.to_tagged_bytes(alloc), tag),
+        Err(_) => false,
+    }
+}
+
+fn any_has_tag(alloc: Global, tag: u8) -> bool {
+    match any_of(alloc, &FEW) {
+        Ok(trie) => has_tag(trie.to_tagged_bytes(alloc), tag),
+        Err(_) => false,
+    }
+}
+
 #[test]
 fn tags_stand_in_front(rt: HostRuntime) {
-    assert!(rt; has_tag(ascii_tagged::<Simple>(rt.alloc()), 0));
-    assert!(rt; has_tag(ascii_tagged::<Ignore>(rt.alloc()), 8));
-    assert!(rt; has_tag(hashed_tagged::<Hash>(rt.alloc()), 3));
-    assert!(rt; has_tag(hashed_tagged::<Ext>(rt.alloc()), 7));
-    assert!(rt; has_tag(any_tagged(rt.alloc()), 0));
+    let alloc = rt.alloc();
+    holds(&rt, ascii_has_tag::<Simple>(alloc, 0));
+    holds(&rt, ascii_has_tag::<Ignore>(alloc, 8));
+    holds(&rt, hashed_has_tag::<Hash>(alloc, 3));
+    holds(&rt, hashed_has_tag::<Ext>(alloc, 7));
+    holds(&rt, any_has_tag(alloc, 0));
 }
 
-fn read_as_ascii<K: AsciiKind>(tagged: &[u8], key: &[u8]) -> Result<Option<usize>, TagError> {
-    Ok(AsciiTrie::<K, &[u8]>::try_from_tagged_bytes(tagged)?.get(key))
+/// What a look-up in tagged bytes answers, if they are read.
+fn value_in_ascii<K: AsciiKind>(tagged: &[u8], key: &[u8]) -> Option<Option<usize>> {
+    let trie: AsciiTrie<K, &[u8]> = AsciiTrie::try_from_tagged_bytes(tagged).ok()?;
+    Some(trie.get(key))
 }
 
-fn read_as_hashed<K: HashedKind>(tagged: &[u8], key: &[u8]) -> Result<Option<usize>, TagError> {
-    Ok(HashedTrie::<K, &[u8]>::try_from_tagged_bytes(tagged)?.get(key))
+fn value_in_hashed<K: HashedKind>(tagged: &[u8], key: &[u8]) -> Option<Option<usize>> {
+    let trie: HashedTrie<K, &[u8]> = HashedTrie::try_from_tagged_bytes(tagged).ok()?;
+    Some(trie.get(key))
 }
 
-fn read_as_any(tagged: &[u8], key: &[u8]) -> Result<(ZeroTrieFlavor, Option<usize>), TagError> {
-    let trie = ZeroTrie::try_from_tagged_bytes(tagged)?;
-    Ok((trie.flavor, trie.get(key)))
+/// The kind of a `ZeroTrie`, too.
+fn value_in_any(tagged: &[u8], key: &[u8]) -> Option<(ZeroTrieFlavor, Option<usize>)> {
+    let trie = ZeroTrie::try_from_tagged_bytes(tagged).ok()?;
+    Some((trie.flavor, trie.get(key)))
 }
 
 #[test]
 fn tagged_bytes_are_read(rt: HostRuntime) {
     same(
         &rt,
-        read_as_ascii::<Simple>(b"\0a\x85", b"a").ok(),
+        value_in_ascii::<Simple>(b"\0a\x85", b"a"),
         Some(Some(5)),
     );
     same(
         &rt,
-        read_as_ascii::<Ignore>(b"\x08a\x85", b"A").ok(),
+        value_in_ascii::<Ignore>(b"\x08a\x85", b"A"),
         Some(Some(5)),
     );
     same(
         &rt,
-        read_as_hashed::<Hash>(b"\x03\xA1\xFF\x81", b"\xFF").ok(),
+        value_in_hashed::<Hash>(b"\x03\xA1\xFF\x81", b"\xFF"),
         Some(Some(1)),
     );
     let extended = Some((ZeroTrieFlavor::ExtendedCapacity, Some(1)));
-    same(&rt, read_as_any(b"\x07\x81", b"").ok(), extended);
+    same(&rt, value_in_any(b"\x07\x81", b""), extended);
 }
 
 /// Why each type refuses tagged bytes: simple, without case, hashed, extended, of unknown kind.
@@ -168,16 +179,19 @@ fn is_any_from_json(alloc: Global, value: &Value, bytes: &[u8]) -> bool {
 
 /// Whether each kind reads the JSON value as this text.
 fn is_read_as(alloc: Global, value: &Value, bytes: &[u8]) -> bool {
-    is_bytes(ascii_from_json::<Simple>(alloc, value), bytes)
-        && is_bytes(ascii_from_json::<Ignore>(alloc, value), bytes)
-        && is_bytes(hashed_from_json::<Hash>(alloc, value), bytes)
-        && is_bytes(hashed_from_json::<Ext>(alloc, value), bytes)
-        && is_any_from_json(alloc, value, bytes)
+    let kinds = [
+        is_bytes(ascii_from_json::<Simple>(alloc, value), bytes),
+        is_bytes(ascii_from_json::<Ignore>(alloc, value), bytes),
+        is_bytes(hashed_from_json::<Hash>(alloc, value), bytes),
+        is_bytes(hashed_from_json::<Ext>(alloc, value), bytes),
+        is_any_from_json(alloc, value, bytes),
+    ];
+    kinds == [true; 5]
 }
 
-fn reads(alloc: Global, json: &str, bytes: &[u8]) -> bool {
-    match value_of(alloc, json) {
-        Ok(value) => is_read_as(alloc, &value, bytes),
+fn reads(alloc: Global, row: &(&str, &[u8])) -> bool {
+    match value_of(alloc, row.0) {
+        Ok(value) => is_read_as(alloc, &value, row.1),
         Err(_) => false,
     }
 }
@@ -198,8 +212,8 @@ const READ: &[(&str, &[u8])] = &[
 
 #[test]
 fn json_is_read(rt: HostRuntime) {
-    for (json, bytes) in READ {
-        assert!(rt; reads(rt.alloc(), json, bytes));
+    for row in READ {
+        holds(&rt, reads(rt.alloc(), row));
     }
 }
 
@@ -242,24 +256,31 @@ const WRITTEN: &[(&[u8], &str)] = &[
     (FEW_TEXT, r#"{"abc":11,"axyb":33,"xyz":22}"#),
 ];
 
+/// Whether each kind writes the bytes as this JSON.
+fn writes(alloc: Global, row: &(&[u8], &str)) -> bool {
+    let (bytes, json) = *row;
+    let kinds = [
+        is_text(any_json(alloc, bytes), json),
+        is_text(ascii_json::<Simple>(alloc, bytes), json),
+        is_text(ascii_json::<Ignore>(alloc, bytes), json),
+        is_text(hashed_json::<Hash>(alloc, bytes), json),
+        is_text(hashed_json::<Ext>(alloc, bytes), json),
+    ];
+    kinds == [true; 5]
+}
+
 #[test]
 fn json_is_written(rt: HostRuntime) {
-    for (bytes, json) in WRITTEN {
-        assert!(rt; is_text(any_json(rt.alloc(), bytes), json));
-        assert!(rt; is_text(ascii_json::<Simple>(rt.alloc(), bytes), json));
-        assert!(rt; is_text(ascii_json::<Ignore>(rt.alloc(), bytes), json));
-        assert!(rt; is_text(hashed_json::<Hash>(rt.alloc(), bytes), json));
-        assert!(rt; is_text(hashed_json::<Ext>(rt.alloc(), bytes), json));
+    for row in WRITTEN {
+        holds(&rt, writes(rt.alloc(), row));
     }
 }
 
 /// Keys of any bytes: text if all are UTF-8, else lists.
 #[test]
-fn json_of_any_keys(rt: HostRuntime) -> Result<(), Fail> {
-    let trie = hashed_of::<Hash>(rt.alloc(), &[("ø", 2), ("å", 1)])?;
-    let json = hashed_json::<Hash>(rt.alloc(), trie.as_bytes());
-    assert!(rt; is_text(json, r#"{"å":1,"ø":2}"#));
-    Ok(())
+fn json_of_any_keys(rt: HostRuntime) {
+    let json = hashed_json::<Hash>(rt.alloc(), b"\xA1\xC3\xC2\xA5\xB8\x01\x81\x82");
+    holds(&rt, is_text(json, r#"{"å":1,"ø":2}"#));
 }
 
 fn json_of_pairs(alloc: Global, pairs: &[(&[u8], usize)]) -> Result<String, JsonError> {
@@ -267,11 +288,19 @@ fn json_of_pairs(alloc: Global, pairs: &[(&[u8], usize)]) -> Result<String, Json
     hashed_json::<Hash>(alloc, trie.as_bytes())
 }
 
+const HIGH: &[(&[u8], usize)] = &[(b"a", 1), (b"\xFF", 3)];
+
 #[test]
 fn json_of_keys_that_are_no_text(rt: HostRuntime) {
-    let pairs: [(&[u8], usize); 2] = [(b"a", 1), (b"\xFF", 3)];
-    assert!(rt; is_text(json_of_pairs(rt.alloc(), &pairs), "[[[97],1],[[255],3]]"));
-    assert!(rt; is_text(json_of_pairs(rt.alloc(), &pairs[1..]), "[[[255],3]]"));
+    let alloc = rt.alloc();
+    holds(
+        &rt,
+        is_text(json_of_pairs(alloc, HIGH), "[[[97],1],[[255],3]]"),
+    );
+    holds(
+        &rt,
+        is_text(json_of_pairs(alloc, &HIGH[1..]), "[[[255],3]]"),
+    );
 }
 
 /// Whether a text begins and ends so.
@@ -286,13 +315,13 @@ fn is_text_from_to<E: Drop>(call: Result<String, E>, front: &str, end: &str) -> 
 #[test]
 fn json_of_a_hashed_branch(rt: HostRuntime) {
     let json = hashed_json::<Ext>(rt.alloc(), LETTERS_TEXT);
-    assert!(rt; is_text_from_to(json, r#"{"a":0,"b":1,"#, r#""p":15}"#));
+    holds(&rt, is_text_from_to(json, r#"{"a":0,"b":1,"#, r#""p":15}"#));
 }
 
 /// Whether a trie over ASCII keys refuses a JSON value so.
-fn is_json_refused<K: AsciiKind>(alloc: Global, json: &str, error: &JsonError) -> bool {
-    match value_of(alloc, json) {
-        Ok(value) => is_refused(ascii_from_json::<K>(alloc, &value), error),
+fn is_json_refused<K: AsciiKind>(alloc: Global, row: &(&str, JsonError)) -> bool {
+    match value_of(alloc, row.0) {
+        Ok(value) => is_refused(ascii_from_json::<K>(alloc, &value), &row.1),
         Err(_) => false,
     }
 }
@@ -317,13 +346,18 @@ const REFUSED: &[(&str, JsonError)] = &[
     ),
 ];
 
+const REFUSED_WITHOUT_CASE: (&str, JsonError) = (
+    r#"{"A":1,"a":2}"#,
+    JsonError::Build(ZeroTrieBuildError::MixedCase),
+);
+
 #[test]
 fn json_is_refused(rt: HostRuntime) {
-    for (json, error) in REFUSED {
-        assert!(rt; is_json_refused::<Simple>(rt.alloc(), json, error));
+    let alloc = rt.alloc();
+    for row in REFUSED {
+        holds(&rt, is_json_refused::<Simple>(alloc, row));
     }
-    let mixed = JsonError::Build(ZeroTrieBuildError::MixedCase);
-    assert!(rt; is_json_refused::<Ignore>(rt.alloc(), r#"{"A":1,"a":2}"#, &mixed));
+    holds(&rt, is_json_refused::<Ignore>(alloc, &REFUSED_WITHOUT_CASE));
 }
 
 /// What a program does that writes a trie, with one error for all of its calls.
@@ -342,36 +376,45 @@ fn read_again(alloc: Global, tagged: &[u8]) -> Result<usize, Error> {
 
 #[test]
 fn tagged_bytes_are_loaded(rt: HostRuntime) -> Result<(), Fail> {
-    let tagged = written(rt.alloc())?;
-    same(&rt, read_again(rt.alloc(), &tagged)?, 2);
+    let alloc = rt.alloc();
+    let tagged = written(alloc)?;
+    same(&rt, read_again(alloc, &tagged)?, 2);
     Ok(())
 }
 
 #[test]
 fn other_bytes_are_not_loaded(rt: HostRuntime) {
     let damaged = ZeroTrieSimpleAscii::load(b"\x00a");
-    assert!(rt; is_refused(damaged, &LoadError::NotWellFormed));
+    holds(&rt, is_refused(damaged, &LoadError::NotWellFormed));
     let foreign = ZeroTriePerfectHash::load(b"\x00a\x85");
-    assert!(rt; is_refused(foreign, &LoadError::Tag(TagError::InvalidTag)));
-    assert!(rt; ZeroTrie::load(b"\x07a\x85").is_ok());
+    holds(
+        &rt,
+        is_refused(foreign, &LoadError::Tag(TagError::InvalidTag)),
+    );
+    holds(&rt, ZeroTrie::load(b"\x07a\x85").is_ok());
 }
 
 #[test]
 fn texts_of_errors(rt: HostRuntime) {
+    let alloc = rt.alloc();
     let text = "there are no bytes, and so no tag: give all of the tagged bytes";
-    assert!(rt; is_written(rt.alloc(), &TagError::Empty, text));
+    holds(&rt, is_written(alloc, &TagError::Empty, text));
     let text =
         "the first byte is no tag of the kind that is read: read the bytes as the kind that wrote them";
-    assert!(rt; is_written(rt.alloc(), &TagError::InvalidTag, text));
+    holds(&rt, is_written(alloc, &TagError::InvalidTag, text));
 }
 
 #[test]
 fn texts_of_json_errors(rt: HostRuntime) {
+    let alloc = rt.alloc();
     let text =
         "the value has no pairs: give an object from text to number, or a list of pairs of a key and a number";
-    assert!(rt; is_written(rt.alloc(), &JsonError::Shape, text));
+    holds(&rt, is_written(alloc, &JsonError::Shape, text));
     let twice = JsonError::Build(ZeroTrieBuildError::DuplicateKey);
     let text = "the pairs in the value make no trie: a key was given twice: give each key once";
-    assert!(rt; is_written(rt.alloc(), &twice, text));
-    assert!(rt; is_written(rt.alloc(), &JsonError::OutOfMemory, "out of memory"));
+    holds(&rt, is_written(alloc, &twice, text));
+    holds(
+        &rt,
+        is_written(alloc, &JsonError::OutOfMemory, "out of memory"),
+    );
 }

@@ -3,7 +3,7 @@
 use super::*;
 
 /// Items, and why a build of them is refused.
-type Row = (&'static [(&'static [u8], usize)], ZeroTrieBuildError);
+type Row<'a> = (&'a [(&'a [u8], usize)], ZeroTrieBuildError);
 
 /// A key that comes twice.
 const TWICE: &[(&[u8], usize)] = &[(b"a", 1), (b"b", 2), (b"b", 3)];
@@ -11,34 +11,26 @@ const TWICE: &[(&[u8], usize)] = &[(b"a", 1), (b"b", 2), (b"b", 3)];
 /// A key that is not ASCII.
 const HIGH: &[(&[u8], usize)] = &[(b"a", 1), (b"\xE5", 2)];
 
-/// Whether a build of items in any order is refused so.
-fn is_refused_in_any_order<K: AsciiKind>(
-    alloc: Global,
-    items: &[(&[u8], usize)],
-    error: &ZeroTrieBuildError,
-) -> bool {
-    let items = items.iter().copied();
-    is_refused(AsciiTrie::<K, Vec<u8>>::try_from_iter(alloc, items), error)
+/// Whether a build of the items in any order is refused so.
+fn is_refused_in_any_order<K: AsciiKind>(alloc: Global, row: &Row<'_>) -> bool {
+    let items = row.0.iter().copied();
+    is_refused(AsciiTrie::<K, Vec<u8>>::try_from_iter(alloc, items), &row.1)
 }
 
-/// Whether a build of items that ascend is refused so.
-fn is_refused_as_slice<K: AsciiKind>(
-    alloc: Global,
-    items: &[(&[u8], usize)],
-    error: &ZeroTrieBuildError,
-) -> bool {
+/// Whether a build of the items as a slice that ascends is refused so.
+fn is_refused_as_slice<K: AsciiKind>(alloc: Global, row: &Row<'_>) -> bool {
     is_refused(
-        AsciiTrie::<K, Vec<u8>>::try_from_sorted_slice(alloc, items),
-        error,
+        AsciiTrie::<K, Vec<u8>>::try_from_sorted_slice(alloc, row.0),
+        &row.1,
     )
 }
 
-const SIMPLE: &[Row] = &[
+const SIMPLE: &[Row<'static>] = &[
     (TWICE, ZeroTrieBuildError::DuplicateKey),
     (HIGH, ZeroTrieBuildError::NonAsciiError),
 ];
 
-const SIMPLE_SLICES: &[Row] = &[
+const SIMPLE_SLICES: &[Row<'static>] = &[
     (TWICE, ZeroTrieBuildError::Unsorted),
     (
         &[(b"foo", 1), (b"bar", 2), (b"bazzoo", 3)],
@@ -49,15 +41,16 @@ const SIMPLE_SLICES: &[Row] = &[
 
 #[test]
 fn refused_with_case(rt: HostRuntime) {
-    for (items, error) in SIMPLE {
-        assert!(rt; is_refused_in_any_order::<Simple>(rt.alloc(), items, error));
+    let alloc = rt.alloc();
+    for row in SIMPLE {
+        holds(&rt, is_refused_in_any_order::<Simple>(alloc, row));
     }
-    for (items, error) in SIMPLE_SLICES {
-        assert!(rt; is_refused_as_slice::<Simple>(rt.alloc(), items, error));
+    for row in SIMPLE_SLICES {
+        holds(&rt, is_refused_as_slice::<Simple>(alloc, row));
     }
 }
 
-const CASELESS: &[Row] = &[
+const CASELESS: &[Row<'static>] = &[
     (
         &[(b"bar", 1), (b"baZ", 2), (b"baR", 2)],
         ZeroTrieBuildError::MixedCase,
@@ -82,7 +75,7 @@ const CASELESS: &[Row] = &[
 ];
 
 /// The keys of a slice ascend by their bytes.
-const CASELESS_SLICES: &[Row] = &[
+const CASELESS_SLICES: &[Row<'static>] = &[
     (&[(b"bar", 1), (b"baZ", 2)], ZeroTrieBuildError::Unsorted),
     (
         &[(b"Ac", 2), (b"Ad", 3), (b"ab", 1), (b"ae", 4)],
@@ -92,11 +85,12 @@ const CASELESS_SLICES: &[Row] = &[
 
 #[test]
 fn refused_without_case(rt: HostRuntime) {
-    for (items, error) in CASELESS {
-        assert!(rt; is_refused_in_any_order::<Ignore>(rt.alloc(), items, error));
+    let alloc = rt.alloc();
+    for row in CASELESS {
+        holds(&rt, is_refused_in_any_order::<Ignore>(alloc, row));
     }
-    for (items, error) in CASELESS_SLICES {
-        assert!(rt; is_refused_as_slice::<Ignore>(rt.alloc(), items, error));
+    for row in CASELESS_SLICES {
+        holds(&rt, is_refused_as_slice::<Ignore>(alloc, row));
     }
 }
 
@@ -111,7 +105,7 @@ fn is_refused_beside_mixed(alloc: Global, key: &[u8]) -> bool {
         (b"aBce", 3),
         (b"aBcghi", 5),
     ];
-    is_refused_in_any_order::<Ignore>(alloc, &items, &ZeroTrieBuildError::MixedCase)
+    is_refused_in_any_order::<Ignore>(alloc, &(&items, ZeroTrieBuildError::MixedCase))
 }
 
 /// Keys that agree with another in front up to case alone.
@@ -120,25 +114,24 @@ const BESIDE_MIXED: &[&[u8]] = &[b"A", b"ab", b"abc", b"aBcd", b"aBcgHi"];
 #[test]
 fn refused_beside_mixed_keys(rt: HostRuntime) {
     for key in BESIDE_MIXED {
-        assert!(rt; is_refused_beside_mixed(rt.alloc(), key));
+        holds(&rt, is_refused_beside_mixed(rt.alloc(), key));
     }
 }
 
-/// Whether tries of hashed and of unknown kind refuse a key that comes twice in items of any order.
-fn are_refused_in_any_order(alloc: Global, error: &ZeroTrieBuildError) -> bool {
-    let hashed = ZeroTriePerfectHash::try_from_iter(alloc, TWICE.iter().copied());
-    let any = ZeroTrie::try_from_iter(alloc, TWICE.iter().copied());
-    is_refused(hashed, error) && is_refused(any, error)
-}
-
-fn are_refused_as_slices(alloc: Global, error: &ZeroTrieBuildError) -> bool {
-    let hashed = ZeroTriePerfectHash::try_from_sorted_slice(alloc, TWICE);
-    let any = ZeroTrie::try_from_sorted_slice(alloc, TWICE);
-    is_refused(hashed, error) && is_refused(any, error)
-}
+const TEXT_TWICE: &[(&str, usize)] = &[("a", 1), ("b", 2), ("b", 3)];
 
 #[test]
 fn refused_with_any_bytes(rt: HostRuntime) {
-    assert!(rt; are_refused_in_any_order(rt.alloc(), &ZeroTrieBuildError::DuplicateKey));
-    assert!(rt; are_refused_as_slices(rt.alloc(), &ZeroTrieBuildError::Unsorted));
+    let alloc = rt.alloc();
+    let error = ZeroTrieBuildError::DuplicateKey;
+    holds(
+        &rt,
+        is_refused(hashed_of::<Hash>(alloc, TEXT_TWICE), &error),
+    );
+    holds(&rt, is_refused(any_of(alloc, TEXT_TWICE), &error));
+    let error = ZeroTrieBuildError::Unsorted;
+    let hashed = ZeroTriePerfectHash::try_from_sorted_slice(alloc, TWICE);
+    holds(&rt, is_refused(hashed, &error));
+    let any = ZeroTrie::try_from_sorted_slice(alloc, TWICE);
+    holds(&rt, is_refused(any, &error));
 }

@@ -32,6 +32,15 @@ fn as_bytes<'a>(
     Ok(ByteSliceWithIndices::from_str_slice(items).to_vec_u8(alloc)?)
 }
 
+fn reversed<'a>(
+    alloc: Global,
+    items: &[(&'a str, usize)],
+) -> Result<Vec<(&'a str, usize)>, ZeroTrieBuildError> {
+    let mut reversed = Vec::from_slice(alloc, items)?;
+    reversed.reverse();
+    Ok(reversed)
+}
+
 /// Items that ascend, and their text.
 type Row = (&'static [(&'static str, usize)], &'static [u8]);
 
@@ -42,6 +51,7 @@ struct Inputs<'a> {
     strings: BTreeMap<String, usize>,
     bytes: BTreeMap<Vec<u8>, usize>,
     slice: Vec<(&'a [u8], usize)>,
+    reversed: Vec<(&'a str, usize)>,
 }
 
 fn inputs_of<'a>(
@@ -53,6 +63,7 @@ fn inputs_of<'a>(
         strings: string_map(alloc, items)?,
         bytes: bytes_map(alloc, items)?,
         slice: as_bytes(alloc, items)?,
+        reversed: reversed(alloc, items)?,
     })
 }
 
@@ -97,21 +108,17 @@ fn ascii_from_slice<K: AsciiKind>(alloc: Global, items: &[(&[u8], usize)], row: 
     is_ascii::<K>(AsciiTrie::try_from_sorted_slice(alloc, items), row)
 }
 
-fn ascii_from_reversed<K: AsciiKind>(alloc: Global, row: &Row) -> bool {
-    is_ascii::<K>(
-        AsciiTrie::try_from_iter(alloc, row.0.iter().rev().copied()),
-        row,
-    )
-}
-
 /// Whether every route over ASCII keys builds the text.
 fn is_built_as_ascii<K: AsciiKind>(alloc: Global, inputs: &Inputs<'_>, row: &Row) -> bool {
-    ascii_from_texts::<K, &str>(alloc, &inputs.texts, row)
-        && ascii_from_texts::<K, String>(alloc, &inputs.strings, row)
-        && ascii_from_keys::<K, &str>(alloc, &inputs.texts, row)
-        && ascii_from_keys::<K, Vec<u8>>(alloc, &inputs.bytes, row)
-        && ascii_from_slice::<K>(alloc, &inputs.slice, row)
-        && ascii_from_reversed::<K>(alloc, row)
+    let routes = [
+        ascii_from_texts::<K, &str>(alloc, &inputs.texts, row),
+        ascii_from_texts::<K, String>(alloc, &inputs.strings, row),
+        ascii_from_keys::<K, &str>(alloc, &inputs.texts, row),
+        ascii_from_keys::<K, Vec<u8>>(alloc, &inputs.bytes, row),
+        ascii_from_slice::<K>(alloc, &inputs.slice, row),
+        is_ascii(ascii_of::<K>(alloc, &inputs.reversed), row),
+    ];
+    routes == [true; 6]
 }
 
 fn is_ascii_text<K: AsciiKind>(alloc: Global, row: &Row) -> bool {
@@ -157,22 +164,20 @@ fn hashed_from_slice<K: HashedKind>(alloc: Global, items: &[(&[u8], usize)], row
     is_hashed::<K>(HashedTrie::try_from_sorted_slice(alloc, items), row)
 }
 
-fn hashed_from_reversed<K: HashedKind>(alloc: Global, row: &Row) -> bool {
-    is_hashed::<K>(
-        HashedTrie::try_from_iter(alloc, row.0.iter().rev().copied()),
-        row,
-    )
+/// Whether every route over keys of any bytes builds the text.
+fn is_built_as_hashed<K: HashedKind>(alloc: Global, inputs: &Inputs<'_>, row: &Row) -> bool {
+    let routes = [
+        hashed_from_texts::<K>(alloc, &inputs.texts, row),
+        hashed_from_keys::<K>(alloc, &inputs.bytes, row),
+        hashed_from_slice::<K>(alloc, &inputs.slice, row),
+        is_hashed(hashed_of::<K>(alloc, &inputs.reversed), row),
+    ];
+    routes == [true; 4]
 }
 
-/// Whether every route over keys of any bytes builds the text.
 fn is_hashed_text<K: HashedKind>(alloc: Global, row: &Row) -> bool {
     match inputs_of(alloc, row.0) {
-        Ok(inputs) => {
-            hashed_from_texts::<K>(alloc, &inputs.texts, row)
-                && hashed_from_keys::<K>(alloc, &inputs.bytes, row)
-                && hashed_from_slice::<K>(alloc, &inputs.slice, row)
-                && hashed_from_reversed::<K>(alloc, row)
-        }
+        Ok(inputs) => is_built_as_hashed::<K>(alloc, &inputs, row),
         Err(_) => false,
     }
 }
@@ -220,22 +225,20 @@ fn auto_from_slice(
     ZeroTrie::try_from_sorted_slice(alloc, items)
 }
 
-fn auto_from_reversed(
-    alloc: Global,
-    items: &[(&str, usize)],
-) -> Result<ZeroTrie<Vec<u8>>, ZeroTrieBuildError> {
-    ZeroTrie::try_from_iter(alloc, items.iter().rev().copied())
+/// Whether every route that takes a kind for the items takes this one, and builds the text.
+fn is_built_as_auto(alloc: Global, inputs: &Inputs<'_>, flavor: ZeroTrieFlavor, row: &Row) -> bool {
+    let routes = [
+        is_auto(auto_from_texts(alloc, &inputs.texts), flavor, row),
+        is_auto(auto_from_keys(alloc, &inputs.bytes), flavor, row),
+        is_auto(auto_from_slice(alloc, &inputs.slice), flavor, row),
+        is_auto(any_of(alloc, &inputs.reversed), flavor, row),
+    ];
+    routes == [true; 4]
 }
 
-/// Whether every route that takes a kind for the items takes this one, and builds the text.
 fn is_auto_text(alloc: Global, flavor: ZeroTrieFlavor, row: &Row) -> bool {
     match inputs_of(alloc, row.0) {
-        Ok(inputs) => {
-            is_auto(auto_from_texts(alloc, &inputs.texts), flavor, row)
-                && is_auto(auto_from_keys(alloc, &inputs.bytes), flavor, row)
-                && is_auto(auto_from_slice(alloc, &inputs.slice), flavor, row)
-                && is_auto(auto_from_reversed(alloc, row.0), flavor, row)
-        }
+        Ok(inputs) => is_built_as_auto(alloc, &inputs, flavor, row),
         Err(_) => false,
     }
 }
@@ -302,9 +305,10 @@ const SIMPLE: &[Row] = &[
 
 #[test]
 fn simple_texts(rt: HostRuntime) {
+    let alloc = rt.alloc();
     for row in SIMPLE {
-        assert!(rt; is_ascii_text::<Simple>(rt.alloc(), row));
-        assert!(rt; is_plain_text(rt.alloc(), row));
+        holds(&rt, is_ascii_text::<Simple>(alloc, row));
+        holds(&rt, is_plain_text(alloc, row));
     }
 }
 
@@ -344,7 +348,7 @@ const CASELESS: &[Row] = &[
 #[test]
 fn texts_without_case(rt: HostRuntime) {
     for row in CASELESS {
-        assert!(rt; is_ascii_text::<Ignore>(rt.alloc(), row));
+        holds(&rt, is_ascii_text::<Ignore>(rt.alloc(), row));
     }
 }
 
@@ -392,9 +396,10 @@ const HASHED: &[Row] = &[
 
 #[test]
 fn hashed_texts_of_both_kinds(rt: HostRuntime) {
+    let alloc = rt.alloc();
     for row in HASHED {
-        assert!(rt; is_hashed_text::<Hash>(rt.alloc(), row));
-        assert!(rt; is_hashed_text::<Ext>(rt.alloc(), row));
+        holds(&rt, is_hashed_text::<Hash>(alloc, row));
+        holds(&rt, is_hashed_text::<Ext>(alloc, row));
     }
 }
 
@@ -409,11 +414,12 @@ fn is_span(alloc: Global, key: &[u8], text: &[u8]) -> bool {
 /// A span of 15 bytes has a head of one byte, and of 16 two.
 #[test]
 fn long_spans(rt: HostRuntime) {
+    let alloc = rt.alloc();
     let run = [0xC3u8; 16];
     let text = b"\xAF\xC3\xC3\xC3\xC3\xC3\xC3\xC3\xC3\xC3\xC3\xC3\xC3\xC3\xC3\xC3\x81";
-    assert!(rt; is_span(rt.alloc(), &run[..15], text));
+    holds(&rt, is_span(alloc, &run[..15], text));
     let text = b"\xB0\0\xC3\xC3\xC3\xC3\xC3\xC3\xC3\xC3\xC3\xC3\xC3\xC3\xC3\xC3\xC3\xC3\x81";
-    assert!(rt; is_span(rt.alloc(), &run, text));
+    holds(&rt, is_span(alloc, &run, text));
 }
 
 fn is_built_of_keys(alloc: Global, keys: Vec<(&[u8], usize)>, text: &[u8]) -> bool {
@@ -426,9 +432,10 @@ fn is_built_of_keys(alloc: Global, keys: Vec<(&[u8], usize)>, text: &[u8]) -> bo
 /// All 256 edges: their number is 0 in the head, and the offsets have two bytes.
 #[test]
 fn all_bytes_are_edges(rt: HostRuntime) -> Result<(), Fail> {
+    let alloc = rt.alloc();
     let text = text_of_all_bytes();
-    let keys = keys_of(rt.alloc(), &text[259..515], 1)?;
-    assert!(rt; is_built_of_keys(rt.alloc(), keys, &text));
+    let keys = keys_of(alloc, &text[259..515], 1)?;
+    holds(&rt, is_built_of_keys(alloc, keys, &text));
     Ok(())
 }
 
@@ -451,24 +458,30 @@ const AUTO_HASHED: Row = (&[("å", 1), ("ø", 2)], b"\xA1\xC3\xC2\xA5\xB8\x01\x8
 
 #[test]
 fn auto_texts(rt: HostRuntime) {
+    let alloc = rt.alloc();
     for row in AUTO_SIMPLE {
-        assert!(rt; is_auto_text(rt.alloc(), ZeroTrieFlavor::SimpleAscii, row));
+        holds(&rt, is_auto_text(alloc, ZeroTrieFlavor::SimpleAscii, row));
     }
-    assert!(rt; is_auto_text(rt.alloc(), ZeroTrieFlavor::PerfectHash, &AUTO_HASHED));
+    holds(
+        &rt,
+        is_auto_text(alloc, ZeroTrieFlavor::PerfectHash, &AUTO_HASHED),
+    );
 }
 
-/// Whether the trie of keys from "k000" on is of this kind, and its tagged bytes begin with this tag.
-fn is_auto_of_keys(
-    alloc: Global,
-    keys: Vec<(&[u8], usize)>,
-    flavor: ZeroTrieFlavor,
-    tag: u8,
-) -> bool {
+fn has_kind(alloc: Global, keys: Vec<(&[u8], usize)>, flavor: ZeroTrieFlavor, tag: u8) -> bool {
     match ZeroTrie::try_from_iter(alloc, keys) {
         Ok(trie) => {
             let is_kind = trie.flavor == flavor && trie.get(b"k510") == Some(0);
             is_kind && begins_with(trie.to_tagged_bytes(alloc), tag)
         }
+        Err(_) => false,
+    }
+}
+
+/// Whether the trie of keys from "k000" on is of this kind, and its tagged bytes begin with this tag.
+fn is_kind_of(alloc: Global, keys: &[u8], flavor: ZeroTrieFlavor, tag: u8) -> bool {
+    match keys_of(alloc, keys, 4) {
+        Ok(keys) => has_kind(alloc, keys, flavor, tag),
         Err(_) => false,
     }
 }
@@ -482,13 +495,17 @@ fn begins_with<E: Drop>(call: Result<Vec<u8>, E>, first: u8) -> bool {
 
 /// Up to 511 keys are few: they make a trie of the kind whose tag is 0, and one more makes one of tag 3.
 #[test]
-fn many_keys_are_hashed(rt: HostRuntime) -> Result<(), Fail> {
+fn many_keys_are_hashed(rt: HostRuntime) {
+    let alloc = rt.alloc();
     let keys = many_keys();
-    let few = keys_of(rt.alloc(), &keys[..2044], 4)?;
-    assert!(rt; is_auto_of_keys(rt.alloc(), few, ZeroTrieFlavor::SimpleAscii, 0));
-    let many = keys_of(rt.alloc(), &keys, 4)?;
-    assert!(rt; is_auto_of_keys(rt.alloc(), many, ZeroTrieFlavor::PerfectHash, 3));
-    Ok(())
+    holds(
+        &rt,
+        is_kind_of(alloc, &keys[0..2044], ZeroTrieFlavor::SimpleAscii, 0),
+    );
+    holds(
+        &rt,
+        is_kind_of(alloc, &keys, ZeroTrieFlavor::PerfectHash, 3),
+    );
 }
 
 /// Whether a key and "b" have a text of this length, which begins so and which the plain encoder writes, too.
@@ -507,10 +524,11 @@ fn is_wide(alloc: Global, key: &[u8], length: usize, front: &[u8]) -> bool {
 /// Targets of 255 bytes together have offsets of one byte, and of 256 bytes two.
 #[test]
 fn a_wide_branch_has_wide_offsets(rt: HostRuntime) {
+    let alloc = rt.alloc();
     let mut long = [b'x'; 255];
     long[0] = b'a';
     let narrow = [0xC2, 0x61, 0x62, 0xFE, 0x78];
-    assert!(rt; is_wide(rt.alloc(), &long[..254], 259, &narrow));
+    holds(&rt, is_wide(alloc, &long[..254], 259, &narrow));
     let wide = [0xE1, 0x62, 0x61, 0x62, 0x00, 0xFF, 0x78];
-    assert!(rt; is_wide(rt.alloc(), &long, 262, &wide));
+    holds(&rt, is_wide(alloc, &long, 262, &wide));
 }

@@ -17,23 +17,32 @@ fn is_value<T: PartialEq + Drop, E: Drop>(call: Result<Option<T>, E>, value: Opt
 }
 
 #[test]
-fn headers_are_found(rt: HostRuntime) {
-    assert!(rt; is_value(find_header(rt.alloc(), &PAIRS, b"ACCEPT"), Some(1)));
-    assert!(rt; is_value(find_header(rt.alloc(), &PAIRS, b"Content"), None));
-}
-
-#[test]
-fn keywords_are_found(rt: HostRuntime) {
-    assert!(rt; is_value(find_keyword(rt.alloc(), &PAIRS, b"Accept"), Some(1)));
-    assert!(rt; is_value(find_keyword(rt.alloc(), &PAIRS, b"ACCEPT"), None));
-    assert!(rt; is_value(second_of_three(rt.alloc()), Some(2)));
+fn keys_are_found(rt: HostRuntime) {
+    let alloc = rt.alloc();
+    holds(
+        &rt,
+        is_value(find_header(alloc, &PAIRS, b"ACCEPT"), Some(1)),
+    );
+    holds(&rt, is_value(find_header(alloc, &PAIRS, b"Content"), None));
+    holds(
+        &rt,
+        is_value(find_keyword(alloc, &PAIRS, b"Accept"), Some(1)),
+    );
+    holds(&rt, is_value(find_keyword(alloc, &PAIRS, b"ACCEPT"), None));
+    holds(&rt, is_value(second_of_three(alloc), Some(2)));
 }
 
 #[test]
 fn keywords_are_recognised(rt: HostRuntime) {
     let keywords: [(&[u8], usize); 3] = [(b"else", 2), (b"if", 0), (b"let", 1)];
-    assert!(rt; is_value(record_of(&keywords, &[10, 20, 30], b"let"), Some(20)));
-    assert!(rt; is_value(record_of(&keywords, &[10, 20, 30], b"le"), None));
+    holds(
+        &rt,
+        is_value(record_of(&keywords, &[10, 20, 30], b"let"), Some(20)),
+    );
+    holds(
+        &rt,
+        is_value(record_of(&keywords, &[10, 20, 30], b"le"), None),
+    );
 }
 
 /// Words of any bytes.
@@ -41,15 +50,26 @@ const WORDS: [(&[u8], usize); 2] = [(b"a", 1), (b"\xFF", 3)];
 
 #[test]
 fn what_was_written_is_read_again(rt: HostRuntime) {
-    assert!(rt; is_value(find_in_json(rt.alloc(), &PAIRS, b"Accept"), Some(1)));
-    assert!(rt; is_value(find_in_json_of_any(rt.alloc(), &WORDS, b"\xFF"), Some(3)));
-    assert!(rt; is_value(find_word(rt.alloc(), &WORDS, b"\xFF"), Some(3)));
+    let alloc = rt.alloc();
+    holds(
+        &rt,
+        is_value(find_in_json(alloc, &PAIRS, b"Accept"), Some(1)),
+    );
+    holds(
+        &rt,
+        is_value(find_in_json_of_any(alloc, &WORDS, b"\xFF"), Some(3)),
+    );
+    holds(&rt, is_value(find_word(alloc, &WORDS, b"\xFF"), Some(3)));
 }
 
 #[test]
 fn pairs_are_given_away(rt: HostRuntime) -> Result<(), Fail> {
-    let owned = vec![in rt.alloc(); (String::from_str(rt.alloc(), "å")?, 7)]?;
-    assert!(rt; is_value(find_owned(rt.alloc(), owned, "å".as_bytes()), Some(7)));
+    let alloc = rt.alloc();
+    let owned = vec![in alloc; (String::from_str(alloc, "å")?, 7)]?;
+    holds(
+        &rt,
+        is_value(find_owned(alloc, owned, "å".as_bytes()), Some(7)),
+    );
     Ok(())
 }
 
@@ -71,34 +91,31 @@ fn is_walk(alloc: Global, calls: &[CursorOp], answers: &[CursorAnswer]) -> bool 
 
 #[test]
 fn pairs_are_listed(rt: HostRuntime) {
-    assert!(rt; lists(rt.alloc(), "Content-Type", 2));
+    let alloc = rt.alloc();
+    holds(&rt, lists(alloc, "Content-Type", 2));
     let calls = [Probe(1), Step(b'o'), Take];
     let answers = [Probed(Some((b'C', 2))), Stepped(Some(b'o')), Taken(None)];
-    assert!(rt; is_walk(rt.alloc(), &calls, &answers));
-}
-
-/// The rows of one entry.
-fn rows_of_one(
-    alloc: Global,
-) -> Result<BTreeMap<&'static str, BTreeMap<&'static str, usize>>, Fail> {
-    let mut row = BTreeMap::new(alloc);
-    row.insert("US", 8)?;
-    let mut rows = BTreeMap::new(alloc);
-    rows.insert("en", row)?;
-    Ok(rows)
+    holds(&rt, is_walk(alloc, &calls, &answers));
 }
 
 #[test]
 fn a_record_is_asked(rt: HostRuntime) -> Result<(), Fail> {
-    let rows = rows_of_one(rt.alloc())?;
-    assert!(rt; is_value(entry_in_record(rt.alloc(), &rows, "en", "US"), Some(8)));
+    let alloc = rt.alloc();
+    let rows = rows_of(alloc, &[("en", &[("US", 8)])])?;
+    holds(
+        &rt,
+        is_value(entry_in_record(alloc, &rows, "en", "US"), Some(8)),
+    );
     Ok(())
 }
 
 #[test]
 fn bytes_are_asked(rt: HostRuntime) {
-    assert!(rt; is_value(find_in_bytes(b"in\x83to\x84", b"into"), Some(4)));
-    assert!(rt; find_in_bytes(b"into", b"into").is_err());
+    holds(
+        &rt,
+        is_value(find_in_bytes(b"in\x83to\x84", b"into"), Some(4)),
+    );
+    holds(&rt, find_in_bytes(b"into", b"into").is_err());
     let trie = ZeroTrieSimpleAscii::from_bytes(b"in\x83to\x84");
     same(&rt, find_written(&trie, "into"), Some(4));
     same(&rt, find_written(&trie, "intø"), None);

@@ -119,14 +119,15 @@ fn is_hashed_as_zerotrie<K: HashedKind>() -> bool {
 
 #[test]
 fn bytes_are_one_trie_over_every_store(rt: HostRuntime) {
-    assert!(rt; is_ascii_over_arrays::<Simple>());
-    assert!(rt; is_ascii_over_arrays::<Ignore>());
-    assert!(rt; is_hashed_as_zerotrie::<Hash>());
-    assert!(rt; is_hashed_as_zerotrie::<Ext>());
-    assert!(rt; is_ascii_over_vectors::<Simple>(rt.alloc()));
-    assert!(rt; is_ascii_over_vectors::<Ignore>(rt.alloc()));
-    assert!(rt; is_hashed_over_vectors::<Hash>(rt.alloc()));
-    assert!(rt; is_hashed_over_vectors::<Ext>(rt.alloc()));
+    let alloc = rt.alloc();
+    holds(&rt, is_ascii_over_arrays::<Simple>());
+    holds(&rt, is_ascii_over_arrays::<Ignore>());
+    holds(&rt, is_hashed_as_zerotrie::<Hash>());
+    holds(&rt, is_hashed_as_zerotrie::<Ext>());
+    holds(&rt, is_ascii_over_vectors::<Simple>(alloc));
+    holds(&rt, is_ascii_over_vectors::<Ignore>(alloc));
+    holds(&rt, is_hashed_over_vectors::<Hash>(alloc));
+    holds(&rt, is_hashed_over_vectors::<Ext>(alloc));
 }
 
 #[test]
@@ -147,14 +148,27 @@ fn is_shown<T: Debug>(alloc: Global, value: &T, text: &str) -> bool {
 
 #[test]
 fn tries_show_their_names(rt: HostRuntime) {
+    let alloc = rt.alloc();
     let simple = ZeroTrieSimpleAscii::from_bytes(b"a\x85");
-    assert!(rt; is_shown(rt.alloc(), &simple, "ZeroTrieSimpleAscii(2 bytes)"));
+    holds(
+        &rt,
+        is_shown(alloc, &simple, "ZeroTrieSimpleAscii(2 bytes)"),
+    );
     let ignore = ZeroAsciiIgnoreCaseTrie::from_bytes(b"");
-    assert!(rt; is_shown(rt.alloc(), &ignore, "ZeroAsciiIgnoreCaseTrie(0 bytes)"));
+    holds(
+        &rt,
+        is_shown(alloc, &ignore, "ZeroAsciiIgnoreCaseTrie(0 bytes)"),
+    );
     let hash = ZeroTriePerfectHash::from_bytes(b"a\x85");
-    assert!(rt; is_shown(rt.alloc(), &hash, "ZeroTriePerfectHash(2 bytes)"));
+    holds(&rt, is_shown(alloc, &hash, "ZeroTriePerfectHash(2 bytes)"));
     let ext = ZeroTrieExtendedCapacity::from_bytes(b"a\x85");
-    assert!(rt; is_shown(rt.alloc(), &ext, "ZeroTrieExtendedCapacity(2 bytes)"));
+    holds(
+        &rt,
+        is_shown(alloc, &ext, "ZeroTrieExtendedCapacity(2 bytes)"),
+    );
     let any = ext.into_zerotrie();
-    assert!(rt; is_shown(rt.alloc(), &any, "ZeroTrie(ExtendedCapacity, 2 bytes)"));
+    holds(
+        &rt,
+        is_shown(alloc, &any, "ZeroTrie(ExtendedCapacity, 2 bytes)"),
+    );
 }

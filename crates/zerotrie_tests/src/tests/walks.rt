@@ -70,9 +70,10 @@ const SIMPLE: &[Row] = &[
 
 #[test]
 fn walks_over_ascii_keys(rt: HostRuntime) {
-    assert!(rt; is_walk::<Ignore>(rt.alloc(), &CASELESS));
+    let alloc = rt.alloc();
+    holds(&rt, is_walk::<Ignore>(alloc, &CASELESS));
     for row in SIMPLE {
-        assert!(rt; is_walk::<Simple>(rt.alloc(), row));
+        holds(&rt, is_walk::<Simple>(alloc, row));
     }
 }
 
@@ -122,9 +123,10 @@ const SPANS: &[Row] = &[
 
 #[test]
 fn walks_through_spans(rt: HostRuntime) {
+    let alloc = rt.alloc();
     for row in SPANS {
-        assert!(rt; is_walk::<Hash>(rt.alloc(), row));
-        assert!(rt; is_walk::<Ext>(rt.alloc(), row));
+        holds(&rt, is_walk::<Hash>(alloc, row));
+        holds(&rt, is_walk::<Ext>(alloc, row));
     }
 }
 
@@ -150,7 +152,7 @@ const TABLE: &[Row] = &[
 #[test]
 fn walks_in_the_order_of_a_table(rt: HostRuntime) {
     for row in TABLE {
-        assert!(rt; is_walk::<Hash>(rt.alloc(), row));
+        holds(&rt, is_walk::<Hash>(rt.alloc(), row));
     }
 }
 
@@ -164,7 +166,7 @@ fn finds_the_last_edge(alloc: Global, bytes: &[u8]) -> bool {
 
 #[test]
 fn walks_over_all_bytes(rt: HostRuntime) {
-    assert!(rt; finds_the_last_edge(rt.alloc(), &text_of_all_bytes()));
+    holds(&rt, finds_the_last_edge(rt.alloc(), &text_of_all_bytes()));
 }
 
 /// No answer is promised on such bytes, but there is one, also if a width is claimed that no branch has.
@@ -193,10 +195,11 @@ fn answers_on<K: ZeroTrieWithOptions>(alloc: Global, bytes: &[u8]) -> Option<usi
 
 #[test]
 fn walks_return_on_any_bytes(rt: HostRuntime) {
+    let alloc = rt.alloc();
     for bytes in WRONG {
-        same(&rt, answers_on::<Simple>(rt.alloc(), bytes), Some(7));
-        same(&rt, answers_on::<Ignore>(rt.alloc(), bytes), Some(7));
-        same(&rt, answers_on::<Hash>(rt.alloc(), bytes), Some(7));
-        same(&rt, answers_on::<Ext>(rt.alloc(), bytes), Some(7));
+        same(&rt, answers_on::<Simple>(alloc, bytes), Some(7));
+        same(&rt, answers_on::<Ignore>(alloc, bytes), Some(7));
+        same(&rt, answers_on::<Hash>(alloc, bytes), Some(7));
+        same(&rt, answers_on::<Ext>(alloc, bytes), Some(7));
     }
 }

@@ -92,43 +92,43 @@ fn hashed_tables_with_any_perfect_parameters(rt: HostRuntime) {
     are_judged(&rt, &bytes, [false; 4]);
 }
 
-fn taken_as_ascii<K: AsciiKind>(bytes: &[u8], key: &[u8]) -> Result<Option<usize>, NotWellFormed> {
-    Ok(AsciiTrie::<K, &[u8]>::try_from_bytes(bytes)?.get(key))
+/// What a look-up answers in bytes that are tested, if they are taken.
+fn value_in_ascii<K: AsciiKind>(bytes: &[u8], key: &[u8]) -> Option<Option<usize>> {
+    let trie: AsciiTrie<K, &[u8]> = AsciiTrie::try_from_bytes(bytes).ok()?;
+    Some(trie.get(key))
 }
 
-fn taken_as_hashed<K: HashedKind>(
-    bytes: &[u8],
-    key: &[u8],
-) -> Result<Option<usize>, NotWellFormed> {
-    Ok(HashedTrie::<K, &[u8]>::try_from_bytes(bytes)?.get(key))
+fn value_in_hashed<K: HashedKind>(bytes: &[u8], key: &[u8]) -> Option<Option<usize>> {
+    let trie: HashedTrie<K, &[u8]> = HashedTrie::try_from_bytes(bytes).ok()?;
+    Some(trie.get(key))
 }
 
-fn taken_as_any<K: HasFlavor>(bytes: &[u8], key: &[u8]) -> Result<Option<usize>, NotWellFormed> {
-    Ok(ZeroTrie::try_from_bytes::<K>(bytes)?.get(key))
+fn value_in_any<K: HasFlavor>(bytes: &[u8], key: &[u8]) -> Option<Option<usize>> {
+    let trie = ZeroTrie::try_from_bytes::<K>(bytes).ok()?;
+    Some(trie.get(key))
 }
 
 #[test]
 fn bytes_are_taken_or_refused(rt: HostRuntime) {
-    let bytes = b"abc\x85".as_slice();
     same(
         &rt,
-        taken_as_ascii::<Simple>(bytes, b"abc").ok(),
+        value_in_ascii::<Simple>(b"abc\x85", b"abc"),
         Some(Some(5)),
     );
     same(
         &rt,
-        taken_as_hashed::<Ext>(bytes, b"abc").ok(),
+        value_in_hashed::<Ext>(b"abc\x85", b"abc"),
         Some(Some(5)),
     );
-    same(&rt, taken_as_any::<Hash>(bytes, b"abc").ok(), Some(Some(5)));
+    same(&rt, value_in_any::<Hash>(b"abc\x85", b"abc"), Some(Some(5)));
     for wrong in WRONG {
-        assert!(rt; taken_as_ascii::<Ignore>(wrong, b"").is_err());
-        assert!(rt; taken_as_hashed::<Hash>(wrong, b"").is_err());
-        assert!(rt; taken_as_any::<Ext>(wrong, b"").is_err());
+        same(&rt, value_in_ascii::<Ignore>(wrong, b""), None);
+        same(&rt, value_in_hashed::<Hash>(wrong, b""), None);
+        same(&rt, value_in_any::<Ext>(wrong, b""), None);
     }
     let text =
         "the bytes are no trie of the kind: they were changed, cut or written as another kind";
-    assert!(rt; is_written(rt.alloc(), &NotWellFormed, text));
+    holds(&rt, is_written(rt.alloc(), &NotWellFormed, text));
 }
 
 /// The greatest answer of the kinds for a key.
@@ -151,6 +151,6 @@ fn look_ups_return_on_any_bytes(rt: HostRuntime) {
                 most = most.max(greatest_answer(bytes, &[first, second]));
             }
         }
-        assert!(rt; most <= Some(usize::MAX));
+        holds(&rt, most <= Some(usize::MAX));
     }
 }
