@@ -439,6 +439,38 @@ fn all_bytes_are_edges(rt: HostRuntime) -> Result<(), Fail> {
     Ok(())
 }
 
+fn is_built_of_vectors(alloc: Global, pairs: Vec<(Vec<u8>, usize)>, text: &[u8]) -> bool {
+    match ZeroTrieSimpleAscii::try_from_iter(alloc, pairs) {
+        Ok(trie) => trie.as_bytes() == text,
+        Err(_) => false,
+    }
+}
+
+fn is_built_as_they_come(alloc: Global, keys: &[u8], text: &[u8]) -> bool {
+    match ZeroTrieSimpleAscii::try_from_iter(alloc, keys.chunks(1).map(|key| (key, 3))) {
+        Ok(trie) => trie.as_bytes() == text,
+        Err(_) => false,
+    }
+}
+
+/// An iterator may own its keys, and make its pairs as they are asked for.
+#[test]
+fn pairs_of_other_iterators(rt: HostRuntime) -> Result<(), Fail> {
+    let alloc = rt.alloc();
+    let mut pairs = Vec::new(alloc);
+    pairs.push((Vec::from_slice(alloc, b"b")?, 2))?;
+    pairs.push((Vec::from_slice(alloc, b"a")?, 1))?;
+    holds(
+        &rt,
+        is_built_of_vectors(alloc, pairs, b"\xC2ab\x01\x81\x82"),
+    );
+    holds(
+        &rt,
+        is_built_as_they_come(alloc, b"ba", b"\xC2ab\x01\x83\x83"),
+    );
+    Ok(())
+}
+
 /// Keys of ASCII alone make a trie without spans and hashes.
 const AUTO_SIMPLE: &[Row] = &[
     (&[], &[]),
