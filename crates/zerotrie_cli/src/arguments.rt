@@ -65,15 +65,38 @@ fn words<'a>(alloc: Global, name: &'a str, help: &'a str) -> Arg<'a> {
         .help(help)
 }
 
+fn kind_option<'a>(alloc: Global) -> Arg<'a> {
+    option(alloc, "kind", "The file is bare bytes of this kind")
+        .value_name("K")
+        .value_parser(KINDS.as_slice())
+}
+
+fn format_option<'a>(alloc: Global) -> Arg<'a> {
+    option(alloc, "format", "How pairs are printed")
+        .value_name("F")
+        .value_parser(FORMS.as_slice())
+        .default_value("tsv")
+}
+
+fn most_option<'a>(alloc: Global) -> Arg<'a> {
+    option(alloc, "most", "At most this many nodes")
+        .value_name("N")
+        .default_value("100")
+}
+
+fn language_option<'a>(alloc: Global) -> Arg<'a> {
+    option(alloc, "lang", "The language")
+        .value_name("L")
+        .value_parser(LANGUAGES.as_slice())
+        .required(true)
+}
+
 /// A command that tests and reads a trie.
 fn tester<'a>(alloc: Global, name: &'a str, about: &'a str) -> Result<Command<'a>, AllocError> {
-    let kind = option(alloc, "kind", "The file is bare bytes of this kind")
-        .value_name("K")
-        .value_parser(KINDS.as_slice());
     Command::new(alloc, name)
         .about(about)
         .arg(place(alloc, "FILE", "A trie, or - for standard input"))?
-        .arg(kind)
+        .arg(kind_option(alloc))
 }
 
 /// A command that reads a trie, and may leave the test out.
@@ -82,35 +105,25 @@ fn reader<'a>(alloc: Global, name: &'a str, about: &'a str) -> Result<Command<'a
 }
 
 fn get_command<'a>(alloc: Global) -> Result<Command<'a>, AllocError> {
-    let keys = words(
-        alloc,
-        "KEY",
-        "Keys; with none they are the lines of standard input",
-    );
-    let command = reader(alloc, "get", "Prints the values of keys")?.arg(keys)?;
-    Ok(command.after_help(GET_HELP))
+    let help = "Keys; with none they are the lines of standard input";
+    let command = reader(alloc, "get", "Prints the values of keys")?;
+    command.after_help(GET_HELP).arg(words(alloc, "KEY", help))
 }
 
 fn longest_command<'a>(alloc: Global) -> Result<Command<'a>, AllocError> {
-    let texts = words(
-        alloc,
-        "TEXT",
-        "Texts; with none they are the lines of standard input",
-    );
+    let help = "Texts; with none they are the lines of standard input";
     let about = "Prints the longest key that each text begins with, and its value";
-    let command = reader(alloc, "longest", about)?.arg(texts)?;
-    Ok(command.after_help(LONGEST_HELP))
+    let command = reader(alloc, "longest", about)?;
+    command
+        .after_help(LONGEST_HELP)
+        .arg(words(alloc, "TEXT", help))
 }
 
 fn list_command<'a>(alloc: Global) -> Result<Command<'a>, AllocError> {
-    let format = option(alloc, "format", "How pairs are printed")
-        .value_name("F")
-        .value_parser(FORMS.as_slice())
-        .default_value("tsv");
-    let command = reader(alloc, "list", "Prints the pairs")?
+    reader(alloc, "list", "Prints the pairs")?
+        .after_help(LIST_HELP)
         .arg(option(alloc, "prefix", "Only keys that begin so").value_name("P"))?
-        .arg(format)?;
-    Ok(command.after_help(LIST_HELP))
+        .arg(format_option(alloc))
 }
 
 fn check_command<'a>(alloc: Global) -> Result<Command<'a>, AllocError> {
@@ -124,39 +137,43 @@ fn dump_command<'a>(alloc: Global) -> Result<Command<'a>, AllocError> {
 }
 
 fn dot_command<'a>(alloc: Global) -> Result<Command<'a>, AllocError> {
-    let most = option(alloc, "most", "At most this many nodes")
-        .value_name("N")
-        .default_value("100");
     let about = "Prints a drawing of the first nodes, for Graphviz";
-    let command = reader(alloc, "dot", about)?.arg(most)?;
-    Ok(command.after_help(DOT_HELP))
+    let command = reader(alloc, "dot", about)?;
+    command.after_help(DOT_HELP).arg(most_option(alloc))
 }
 
 fn code_command<'a>(alloc: Global) -> Result<Command<'a>, AllocError> {
-    let language = option(alloc, "lang", "The language")
-        .value_name("L")
-        .value_parser(LANGUAGES.as_slice())
-        .required(true);
     let about = "Prints the bytes as a constant of a program, with the call that reads it";
-    let command = reader(alloc, "code", about)?.arg(language)?;
-    Ok(command.after_help(CODE_HELP))
+    let command = reader(alloc, "code", about)?;
+    command.after_help(CODE_HELP).arg(language_option(alloc))
+}
+
+/// The program with the commands that ask a trie.
+fn with_questions<'a>(alloc: Global, program: Command<'a>) -> Result<Command<'a>, AllocError> {
+    program
+        .subcommand(get_command(alloc)?)?
+        .subcommand(longest_command(alloc)?)?
+        .subcommand(list_command(alloc)?)?
+        .subcommand(check_command(alloc)?)
+}
+
+/// The program with the commands that show what a trie is made of.
+fn with_views<'a>(alloc: Global, program: Command<'a>) -> Result<Command<'a>, AllocError> {
+    program
+        .subcommand(dump_command(alloc)?)?
+        .subcommand(dot_command(alloc)?)?
+        .subcommand(code_command(alloc)?)
 }
 
 /// What the command line may be.
 pub fn command<'a>(alloc: Global) -> Result<Command<'a>, AllocError> {
-    Command::new(alloc, "zerotrie")
+    let program = Command::new(alloc, "zerotrie")
         .version("0.2.5-1")
         .about("Makes tries in files and reads them")
         .subcommand_required(true)
         .arg_required_else_help(true)
-        .subcommand(build_command(alloc)?)?
-        .subcommand(get_command(alloc)?)?
-        .subcommand(longest_command(alloc)?)?
-        .subcommand(list_command(alloc)?)?
-        .subcommand(check_command(alloc)?)?
-        .subcommand(dump_command(alloc)?)?
-        .subcommand(dot_command(alloc)?)?
-        .subcommand(code_command(alloc)?)
+        .subcommand(build_command(alloc)?)?;
+    with_views(alloc, with_questions(alloc, program)?)
 }
 
 /// The place that an argument names.

@@ -1,7 +1,7 @@
 //! The command that makes a trie file.
 
 use crate::arguments::{flag, option, place, place_in};
-use clap::{ArgMatches, Command};
+use clap::{Arg, ArgMatches, Command};
 use std::alloc::{AllocError, Global};
 use zerotrie_lines::Format;
 use zerotrie_making::{Plan, Source};
@@ -15,47 +15,67 @@ const BUILD_HELP: &str = "Example: zerotrie build names.tsv -o names.trie\nIn me
 
 static FORMATS: [&str; 4] = ["tsv", "csv", "lines", "json"];
 
-/// The command that makes a trie file.
-pub fn build_command<'a>(alloc: Global) -> Result<Command<'a>, AllocError> {
-    let output = option(
+/// The options without a word, and what they are for.
+static FLAGS: [(&str, &str); 4] = [
+    (
+        "sorted",
+        "The keys have to ascend by their bytes, each once",
+    ),
+    ("bare", "Leaves out the number of the kind in front"),
+    (
+        "lower-case",
+        "Brings the ASCII letters of the keys into lower case first",
+    ),
+    (
+        "progress",
+        "Tells each step on standard error, as without it if that is a terminal",
+    ),
+];
+
+fn output_option<'a>(alloc: Global) -> Arg<'a> {
+    option(
         alloc,
         "output",
         "The file to make, or - for standard output",
     )
     .short('o')
     .value_name("OUT")
-    .required(true);
-    let kind = option(alloc, "kind", "The kind of the trie")
+    .required(true)
+}
+
+fn kind_option<'a>(alloc: Global) -> Arg<'a> {
+    option(alloc, "kind", "The kind of the trie")
         .value_name("K")
         .value_parser(KINDS.as_slice())
-        .default_value("auto");
-    let format = option(alloc, "format", "How the input is pairs")
+        .default_value("auto")
+}
+
+fn format_option<'a>(alloc: Global) -> Arg<'a> {
+    option(alloc, "format", "How the input is pairs")
         .value_name("F")
         .value_parser(FORMATS.as_slice())
-        .default_value("tsv");
-    Command::new(alloc, "build")
+        .default_value("tsv")
+}
+
+/// The command with its options without a word.
+fn with_flags<'a>(alloc: Global, command: Command<'a>) -> Result<Command<'a>, AllocError> {
+    let mut command = command;
+    for (name, help) in &FLAGS {
+        command = command.arg(flag(alloc, name, help))?;
+    }
+    Ok(command)
+}
+
+/// The command that makes a trie file.
+pub fn build_command<'a>(alloc: Global) -> Result<Command<'a>, AllocError> {
+    let command = Command::new(alloc, "build")
         .about("Makes a trie of a file of pairs")
         .after_help(BUILD_HELP)
         .arg(place(alloc, "IN", "A file of pairs, or - for standard input"))?
-        .arg(output)?
-        .arg(kind)?
-        .arg(format)?
-        .arg(flag(
-            alloc,
-            "sorted",
-            "The keys have to ascend by their bytes, each once",
-        ))?
-        .arg(flag(alloc, "bare", "Leaves out the number of the kind in front"))?
-        .arg(flag(
-            alloc,
-            "lower-case",
-            "Brings the ASCII letters of the keys into lower case first",
-        ))?
-        .arg(flag(
-            alloc,
-            "progress",
-            "Tells each step on standard error, as without it if that is a terminal",
-        ))
+        .arg(output_option(alloc))?
+        .arg(kind_option(alloc))?
+        .arg(format_option(alloc))?;
+    with_flags(alloc, command)
 }
 
 /// How the file is to be made.
