@@ -13,7 +13,7 @@ ghost use Rattle.zerotrie_core.specs.Maps.{Map, look};
 ghost use Rattle.zerotrie_core.specs.Texts.{Means};
 ghost use Rattle.zerotrie_core.specs.Items.{pairs_of, keyed};
 ghost use Rattle.zerotrie_core.specs.Routes.{ascending, in_order, any_order, IsBuild, HoldsOfItsPairs};
-ghost use Rattle.zerotrie_any.specs.Auto.{auto_kind, is_simple, is_ascii, are_ascii, IsAutoBuildOfAll};
+ghost use Rattle.zerotrie_any.specs.Auto.{auto_kind, is_simple, are_ascii, IsAutoBuildOfAll};
 ghost use Rattle.zerotrie_any.specs.Flavors.{flavor_kind};
 ghost use Rattle.zerotrie_any.specs.Order.{IsByBytes};
 
@@ -234,18 +234,11 @@ impl<'a> ZeroTrie<&'a [u8]> {
     }
 }
 
-/// Whether all bytes of a key are below 128.
-fn is_ascii(key: &[u8]) -> bool
-    ensures { result ≡ is_ascii key.now }
-{
-    key.iter().all(|b| b.is_ascii())
-}
-
 /// Whether all keys are ASCII.
 fn are_ascii<Key: TrieKey>(items: &[(Key, usize)]) -> bool
     ensures { result ≡ are_ascii (keyed Key.key items.now) }
 {
-    items.iter().all(|(key, _)| is_ascii(key.key_bytes()))
+    items.iter().all(|(key, _)| key.key_bytes().is_ascii())
 }
 
 /// Whether all keys are ASCII and there are fewer than 512.

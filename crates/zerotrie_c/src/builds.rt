@@ -4,7 +4,7 @@ ghost use Rattle.std.specs.Prelude.{◌≡◌, IfOk, IfSome, IfNone};
 ghost use Rattle.zerotrie_core.specs.Kind.{tag};
 ghost use Rattle.zerotrie_core.specs.Items.{pairs_of};
 ghost use Rattle.zerotrie_core.specs.Routes.{ascending, any_order, IsBuild, IsLength};
-ghost use Rattle.zerotrie_any.specs.Auto.{is_ascii, are_ascii, auto_kind};
+ghost use Rattle.zerotrie_any.specs.Auto.{are_ascii, auto_kind};
 ghost use Rattle.zerotrie_c.specs.Numbers.{kind_of};
 ghost use Rattle.zerotrie_c.specs.Statuses.{unknown_kind};
 ghost use Rattle.zerotrie_c.specs.Builds.{given, IsHandedOut, IsBuildTold, IsLengthTold};
@@ -208,18 +208,11 @@ pub extern "C" fn zerotrie_encoded_len(
     }
 }
 
-/// Whether all bytes of a key are below 128.
-fn is_ascii(key: &[u8]) -> bool
-    ensures { result ≡ is_ascii key.now }
-{
-    key.iter().all(|b| b.is_ascii())
-}
-
 /// Whether all keys are ASCII.
 fn are_ascii(pairs: &[Pair<'_>]) -> bool
     ensures { result ≡ are_ascii (given pairs.now) }
 {
-    pairs.iter().all(|pair| is_ascii(pair.key))
+    pairs.iter().all(|pair| pair.key.is_ascii())
 }
 
 /// The number of the kind that is taken for the pairs if none is named: 0 if all keys are ASCII and there are fewer than

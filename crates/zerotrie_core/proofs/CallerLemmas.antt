@@ -4,6 +4,7 @@
 pub use Rattle.zerotrie_core.proofs.MapLemmas.Kinds.{edge_limit_is, greatest_width_is}
 pub use Rattle.zerotrie_core.proofs.CanonicalLemmas.Encoded.{compare_first}
 pub use Rattle.zerotrie_core.proofs.PlainLemmas.Refusals.{ascends_apart}
+pub use Rattle.zerotrie_core.proofs.PlainLemmas.Items.{ascii_told}
 pub use Rattle.zerotrie_core.proofs.CanonicalLemmas.Order.{entries-map_of}
 pub use Rattle.zerotrie_core.proofs.CanonicalLemmas.Fitting.{consistent_entries}
 -- pairs that answer alike

@@ -10,9 +10,8 @@ ghost use Rattle.zerotrie_core.specs.Texts.{Lists, Means};
 ghost use Rattle.zerotrie_core.specs.Shapes.{shape};
 ghost use Rattle.zerotrie_core.specs.count.Row.{row_behind, values_in};
 
-use crate::node::Node;
+use crate::node::{Node, first_node};
 use crate::options::ZeroTrieWithOptions;
-use crate::stream::node_at;
 
 /// What stands after a node in the row: of a branch its targets, one after another.
 pub(crate) fn row_behind<'a>(node: Node<'a>) -> &'a [u8]
@@ -49,7 +48,7 @@ pub fn count_pairs<K: ZeroTrieWithOptions>(bytes: &[u8]) -> usize
 {
     let mut rest = bytes;
     let mut count = 0;
-    while let Some(node) = node_at::<K>(rest) {
+    while let Some(node) = first_node::<K>(rest) {
         count += values_in(&node);
         rest = row_behind(node);
     }

@@ -18,9 +18,8 @@ ghost use Rattle.zerotrie_core.specs.declared.well_formed.Expected.{Expected};
 ghost use Rattle.zerotrie_core.specs.fault_search.Rules.{before_of, AlwaysFails, Keeps, KeepsFirst, parts_next, expected_next};
 
 use crate::branch::Branch;
-use crate::node::Node;
+use crate::node::{Node, first_node};
 use crate::options::ZeroTrieWithOptions;
-use crate::stream::node_at;
 use crate::walk::{Part, push_behind};
 use crate::well_formed::branches::{has_table, has_width};
 use crate::well_formed::{Expected, is_run};
@@ -243,7 +242,7 @@ pub fn first_fault<K: ZeroTrieWithOptions, A: Allocator>(
     parts.push(Part::whole(bytes))?;
     let mut expected = Expected::Anything;
     while let Some(part) = parts.pop() {
-        let node = node_at::<K>(part.bytes);
+        let node = first_node::<K>(part.bytes);
         if let Some(cause) = front_fault::<K>(expected, part.bytes, node) {
             let place = part.place;
             return Ok(Some(Fault { place, cause }));

@@ -1,10 +1,12 @@
 //! The first node of a text, as a value.
 
 ghost use Rattle.std.specs.Prelude.{◌≡◌, ℕ, ◌+◌, ◌-◌, ◌*◌, ◌/◌, ◌%◌, ◌<◌, ◌≤◌, List, length, take, drop, IfSome, IfNone, ◌∷◌};
+ghost use Rattle.std.specs.Option.{option_map};
 ghost use Rattle.zerotrie_core.specs.Kind.{greatest_width};
 ghost use Rattle.zerotrie_core.specs.Branches.{before_edges, table_size};
 ghost use Rattle.zerotrie_core.specs.Numbers.{BeginsWith};
 ghost use Rattle.zerotrie_core.specs.Nodes.{Shape, Begins, BeginsSpan, BeginsBranch};
+ghost use Rattle.zerotrie_core.specs.listing.Listed.{node_of};
 ghost use Rattle.zerotrie_core.specs.Shapes.{shape, branch_shape};
 
 use crate::branch::Branch;
@@ -192,8 +194,8 @@ fn span_at(lead: u8, rest: &[u8]) -> Option<(&[u8], &[u8])>
 /// The first node of the bytes. `None` exactly if no node of the kind begins.
 #[inline(always)]
 pub(crate) fn first_node<K: ZeroTrieWithOptions>(bytes: &[u8]) -> Option<Node<'_>>
-    ensures some { IfSome result (λ node. Begins K.kind bytes.now (shape node)) }
-    ensures none { IfNone result ((s : Shape) → Begins K.kind bytes.now s → ⊥) }
+    ensures node { node_of K.kind bytes.now ≡ option_map shape result }
+    ensures begins { IfSome result (λ node. Begins K.kind bytes.now (shape node)) }
 {
     let (lead, rest) = bytes.split_first()?;
     let lead = *lead;

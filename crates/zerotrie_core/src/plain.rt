@@ -31,18 +31,11 @@ fn is_ascending(items: &[(&[u8], usize)]) -> bool
     true
 }
 
-/// Whether each byte of the key is ASCII.
-fn is_ascii_key(key: &[u8]) -> bool
-    ensures { result ≡ list_all (λ b. nat_lt b 128) key.now }
-{
-    key.iter().all(|byte| *byte < 128)
-}
-
 /// Whether each byte of each key is ASCII.
-fn is_ascii(items: &[(&[u8], usize)]) -> bool
+fn are_ascii(items: &[(&[u8], usize)]) -> bool
     ensures { result ≡ list_all (λ e. list_all (λ b. nat_lt b 128) e.0.now) items.now }
 {
-    items.iter().all(|(key, _)| is_ascii_key(key))
+    items.iter().all(|(key, _)| key.is_ascii())
 }
 
 /// How many bytes the key has. A caller's proof learns here that they are fewer than 2^64.
@@ -186,7 +179,7 @@ pub fn plain_encode(alloc: Global, items: &[(&[u8], usize)]) -> Result<Vec<u8>, 
     if !is_ascending(items) {
         return Err(ZeroTrieBuildError::Unsorted);
     }
-    if !is_ascii(items) {
+    if !are_ascii(items) {
         return Err(ZeroTrieBuildError::NonAsciiError);
     }
     let mut text = Vec::new(alloc);

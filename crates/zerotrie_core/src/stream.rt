@@ -11,7 +11,6 @@ ghost use Rattle.zerotrie_core.specs.Maps.{Pairs, with_run, beginning};
 ghost use Rattle.zerotrie_core.specs.Texts.{Lists};
 ghost use Rattle.zerotrie_core.specs.Places.{ListsAt};
 ghost use Rattle.zerotrie_core.specs.Shapes.{shape, branch_shape};
-ghost use Rattle.zerotrie_core.specs.listing.Listed.{node_of};
 ghost use Rattle.zerotrie_core.specs.Nodes.{Begins};
 ghost use Rattle.zerotrie_core.specs.Nodes.Shape.{literal, span};
 ghost use Rattle.zerotrie_core.specs.declared.stream.opened.OpenBranch.{OpenBranch};
@@ -248,7 +247,7 @@ impl<'a, A: Allocator + Copy> ZeroTrieStream<'a, A> {
         let mut top = OpenBranch::closed();
         let mut branches = Vec::new(*front.allocator());
         let mut key = front;
-        while let Some(node) = node_at::<K>(at.rest) {
+        while let Some(node) = first_node::<K>(at.rest) {
             let passed = match node {
                 Node::Value(value, after) => {
                     at = at.behind(after);
@@ -566,15 +565,6 @@ fn open<'a, A: Allocator>(
     Ok(())
 }
 
-/// The first node of the bytes.
-#[inline(always)]
-pub(crate) fn node_at<K: ZeroTrieWithOptions>(bytes: &[u8]) -> Option<Node<'_>>
-    ensures node { node_of K.kind bytes.now ≡ option_map shape result }
-    ensures begins { IfSome result (λ node. Begins K.kind bytes.now (shape node)) }
-{
-    first_node::<K>(bytes)
-}
-
 /// Goes on to the next value, and answers it, or `None` at the end. What stands in front of it is its key.
 fn next_value<'a, K: ZeroTrieWithOptions, A: Allocator>(
     here: &mut Here<'a>,
@@ -590,7 +580,7 @@ fn next_value<'a, K: ZeroTrieWithOptions, A: Allocator>(
 {
     let mut at = *here;
     loop {
-        match node_at::<K>(at.rest) {
+        match first_node::<K>(at.rest) {
             None => {
                 if !has_target(top, branches) {
                     *here = Here::nowhere();

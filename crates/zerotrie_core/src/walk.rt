@@ -19,9 +19,8 @@ mod part;
 
 use crate::branch::Branch;
 use crate::count::row_behind;
-use crate::node::Node;
+use crate::node::{Node, first_node};
 use crate::options::{Ext, Hash, Ignore, Simple, ZeroTrieBuilderOptions, ZeroTrieWithOptions};
-use crate::stream::node_at;
 pub use part::Part;
 use std::alloc::{AllocError, Allocator, Global};
 use std::marker::Model;
@@ -55,13 +54,13 @@ fn read_node(options: ZeroTrieBuilderOptions, bytes: &[u8]) -> Option<Node<'_>>
     ensures { node_of (kind_with options) bytes.now ≡ option_map shape result }
 {
     if options.ignore_case() {
-        node_at::<Ignore>(bytes)
+        first_node::<Ignore>(bytes)
     } else if options.extended() {
-        node_at::<Ext>(bytes)
+        first_node::<Ext>(bytes)
     } else if options.use_phf() {
-        node_at::<Hash>(bytes)
+        first_node::<Hash>(bytes)
     } else {
-        node_at::<Simple>(bytes)
+        first_node::<Simple>(bytes)
     }
 }
 

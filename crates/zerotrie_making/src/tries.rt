@@ -3,7 +3,7 @@
 ghost use Rattle.std.specs.Prelude.{◌≡◌, IfOk, IfSome};
 ghost use Rattle.zerotrie_core.specs.Items.{pairs_of};
 ghost use Rattle.zerotrie_core.specs.Routes.{any_order, IsBuild};
-ghost use Rattle.zerotrie_any.specs.Auto.{is_ascii, are_ascii};
+ghost use Rattle.zerotrie_any.specs.Auto.{are_ascii};
 ghost use Rattle.zerotrie_build.specs.Refused.{IsWhyRefused};
 ghost use Rattle.zerotrie_queries.specs.Kinds.{kind_of};
 ghost use Rattle.zerotrie_making.specs.Plans.{kind_for, route_of};
@@ -14,18 +14,11 @@ use zerotrie_build::{Refusal, why_iter_refused, why_slice_refused};
 use zerotrie_core::{Ext, Hash, Ignore, Simple, ZeroTrieBuildError, ZeroTrieWithOptions};
 use zerotrie_queries::TrieKind;
 
-/// Whether all bytes of a key are below 128.
-fn is_ascii(key: &[u8]) -> bool
-    ensures { result ≡ is_ascii key.now }
-{
-    key.iter().all(|b| b.is_ascii())
-}
-
 /// Whether all keys are ASCII.
 fn are_ascii(items: &[(&[u8], usize)]) -> bool
     ensures { result ≡ are_ascii (pairs_of items.now) }
 {
-    items.iter().all(|(key, _)| is_ascii(key))
+    items.iter().all(|(key, _)| key.is_ascii())
 }
 
 /// The kind of a trie of the pairs: the one that is named, or the one that `ZeroTrie` takes for them.

@@ -1,6 +1,6 @@
 -- Which node bytes begin with.
-use Rattle.std.proofs.Common.{◌≡◌, ℕ, zero, suc, ◌+◌, ◌-◌, ◌*◌, ◌%◌, ◌<◌, ◌≤◌, List, [], ◌∷◌, ◌++◌, length, sym, ◌∙◌, ap, subst, arith, drop, IfNone, Option, Some, None, length-append}
-use Rattle.zerotrie_core.specs.Kind.{Kind}
+use Rattle.std.proofs.Common.{◌≡◌, ℕ, zero, suc, ◌+◌, ◌-◌, ◌*◌, ◌%◌, ◌<◌, ◌≤◌, List, [], ◌∷◌, ◌++◌, length, sym, ◌∙◌, ap, subst, arith, drop, IfNone, Option, Some, None, true, length-append}
+use Rattle.zerotrie_core.specs.Kind.{Kind, has_spans}
 use Rattle.zerotrie_core.specs.Branches.{before_edges}
 use Rattle.zerotrie_core.specs.Numbers.{BeginsWith, extender}
 use Rattle.zerotrie_core.specs.Nodes.{Shape, Begins, BeginsSpan, BeginsBranch}
@@ -48,6 +48,17 @@ none_empty kind bytes e (value v rest) b = some_bytes 16 4 v rest (subst (λ x. 
 none_empty kind bytes e (literal c rest) b = let is = sym e ∙ b.1 in cc
 none_empty kind bytes e (span run rest) b = some_bytes 16 5 (length run) (run ++ rest) (subst (λ x. BeginsSpan x run rest) e b.1)
 none_empty kind bytes e (branch edges width table behind) b = some_bytes 32 3 _ b.body (subst (λ x. BeginsWith 32 3 (256 * (width - 1) + edges % 256) x b.body) e b.begins)
+
+-- by its lead it can only be a value or a span
+pub only_number : (kind : Kind) (lead : ℕ) (rest bytes : List ℕ) → bytes ≡ lead ∷ rest → 128 ≤ lead → lead < 192
+    → ((v : ℕ) (after : List ℕ) → BeginsWith 16 4 v (lead ∷ rest) after → ⊥) → ((run after : List ℕ) → has_spans kind ≡ true → BeginsSpan (lead ∷ rest) run after → ⊥)
+    → (s : Shape) → Begins kind bytes s → ⊥
+only_number kind lead rest bytes e some low value_not span_not (value v after) b = value_not v after (subst (λ x. BeginsWith 16 4 v x after) e b)
+only_number kind lead rest bytes e some low value_not span_not (literal c after) b = let is = (cons_parts lead c rest after (sym e ∙ b.1)).0 in let below = b.0 in omega arith
+only_number kind lead rest bytes e some low value_not span_not (span run after) b = span_not run after b.0 (subst (λ x. BeginsSpan x run after) e b.1)
+only_number kind lead rest bytes e some low value_not span_not (branch edges width table behind) b =
+    let high = branch_begins _ lead rest b.body (subst (λ x. BeginsWith 32 3 (256 * (width - 1) + edges % 256) x b.body) e b.begins) in
+    omega arith
 
 -- by its lead it can only be a branch
 pub only_branch : (kind : Kind) (lead : ℕ) (rest bytes : List ℕ) → bytes ≡ lead ∷ rest → 192 ≤ lead

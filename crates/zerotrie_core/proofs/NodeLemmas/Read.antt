@@ -1,7 +1,6 @@
 -- The node that bytes begin with, as a function.
 use Rattle.std.proofs.Common.{◌≡◌, ℕ, suc, ◌+◌, ◌-◌, ◌*◌, ◌/◌, ◌%◌, ◌^◌, ◌<◌, ◌≤◌, List, [], ◌∷◌, ◌++◌, length, refl, sym, ◌∙◌, ap, subst, arith, Option, Some, None, cond, ltb, Bool, true, false, take, drop, inl, inr, length-append}
-use Rattle.std.specs.Prelude.{◌&&◌, nat_lt, nat_le, ◌==◌, if◌then◌else◌, IfSome, IfNone}
-use Rattle.std.specs.Option.{option_map}
+use Rattle.std.specs.Prelude.{◌&&◌, nat_lt, nat_le, ◌==◌, if◌then◌else◌}
 use Rattle.std.proofs.lemmas.List.{take_at, drop_at, length-drop, length-take-le, take-append-drop}
 use Rattle.std.proofs.lemmas.Bool.{ltb-true, ltb-false, lt-ltb, le-ltb, le-leb, leb-true, eq-eqb, ne_eqb, cases_lt, cases_eq}
 use Rattle.zerotrie_core.specs.Kind.{Kind, has_spans, greatest_width}
@@ -9,8 +8,6 @@ use Rattle.zerotrie_core.specs.Numbers.{BeginsWith}
 use Rattle.zerotrie_core.specs.Branches.{table_size, before_edges}
 use Rattle.zerotrie_core.specs.Nodes.{Shape, Begins, targets_behind}
 use Rattle.zerotrie_core.specs.Nodes.Shape.{value, literal, span, branch}
-use Rattle.zerotrie_core.specs.Shapes.{shape}
-use Rattle.zerotrie_core.specs.declared.node.Node.{Node}
 use Rattle.zerotrie_core.specs.listing.Listed.{trail_read, number_read, as_value, as_span, as_branch, is_whole, node_of}
 use Rattle.zerotrie_core.proofs.NumberLemmas.Numbers.{IsBytes, read_from, read, read_alone, read_on, read_is, is_read, some_bytes, cons_parts}
 use Rattle.zerotrie_core.proofs.MapLemmas.Kinds.{greatest_width_most}
@@ -267,8 +264,6 @@ node_within kind (lead ∷ rest) =
     (λ _. by_test Fact (has_spans kind) _ _ (λ _. span_within n (number_read 16 lead rest) (number_shorter 16 lead rest)) (λ _. tt))
     (λ _. branch_within kind n (number_read 32 lead rest) (number_shorter 32 lead rest))))
 
--- what was read of bytes is their node
-pub node_read : (kind : Kind) (bytes : List ℕ) (r : Option Node) → IsBytes bytes → IfSome r (λ node. Begins kind bytes (shape node)) → IfNone r ((s : Shape) → Begins kind bytes s → ⊥)
-    → node_of kind bytes ≡ option_map shape r
-node_read kind bytes None is some none = none_begun kind bytes is none
-node_read kind bytes (Some node) is some none = node_begun kind bytes (shape node) some
+-- if bytes have no node, none begins
+pub nothing_begins : (kind : Kind) (bytes : List ℕ) → node_of kind bytes ≡ None → (s : Shape) → Begins kind bytes s → ⊥
+nothing_begins kind bytes none s b = let is = node_begun kind bytes s b in cc

@@ -1,10 +1,15 @@
 -- Items and the pairs that they are.
-use Rattle.std.proofs.Common.{◌≡◌, ℕ, zero, suc, ◌+◌, ◌-◌, ◌<◌, ◌≤◌, List, [], ◌∷◌, ◌++◌, length, refl, sym, ◌∙◌, ap, subst, arith, get_or, take, Bor, map, inl, inr, append_assoc, Less, Equal, Greater, Ordering, Some, Bool, IsTrue, ◌*◌, ◌/◌, ◌%◌, ◌^◌}
+use Rattle.std.proofs.Common.{◌≡◌, ℕ, zero, suc, ◌+◌, ◌-◌, ◌<◌, ◌≤◌, List, [], ◌∷◌, ◌++◌, length, refl, sym, ◌∙◌, ap, subst, arith, get_or, take, Bor, map, inl, inr, append_assoc, Less, Equal, Greater, Ordering, Some, Bool, true, false, IsTrue, nat_lt, ◌*◌, ◌/◌, ◌%◌, ◌^◌}
 use Rattle.std.specs.Ordering.{nat_cmp, ordering_then, partial_ordering_then, is_some_and, is_lt}
 use Rattle.std.specs.Cmp.Lexicographic.{slice_cmp, slice_partial_cmp}
 use Rattle.std.proofs.lemmas.Nat.{pow-add}
-use Rattle.std.proofs.lemmas.Bool.{cases_lt}
-use Rattle.std.proofs.lemmas.List.{take_more, map-append}
+use Rattle.std.specs.Str.{IsAscii, IsNotAscii}
+use Rattle.std.specs.Bool.{MatchBool}
+use Rattle.std.specs.List.{list_all}
+use Rattle.std.proofs.lemmas.Bool.{cases_lt, lt-ltb, le-ltb}
+use Rattle.std.proofs.lemmas.List.Sums.{list_all-from_AllPass}
+use Rattle.std.proofs.lemmas.List.Folds.{list_all_at}
+use Rattle.std.proofs.lemmas.List.{take_more, map-append, get_or_default, get_or_past}
 use Rattle.std.proofs.Math.Nat.{pow-suc}
 use Rattle.zerotrie_core.specs.Branches.{blocks}
 use Rattle.zerotrie_core.specs.Maps.{Ascends}
@@ -97,3 +102,11 @@ ascends_more items n one h here i l =
 pub ascends_not : (items : Items) (n : ℕ) → 1 ≤ n → n < length items → (slice_cmp nat_cmp (key_at items (n - 1)) (key_at items n) ≡ Less → ⊥) → Ascends (pairs_of items) → ⊥
 ascends_not items zero one h wrong up = absurd (omega arith)
 ascends_not items (suc n) one h wrong up = let e : suc n - 1 ≡ n = omega arith in wrong (subst (λ k. slice_cmp nat_cmp (key_at items k) (key_at items (suc n)) ≡ Less) (sym e) (ascends_at items up n h))
+
+-- what a test of bytes for ASCII answers
+pub ascii_told : (r : Bool) (key : List ℕ) → MatchBool r (IsAscii key) (IsNotAscii key) → r ≡ list_all (λ b. nat_lt b 128) key
+ascii_told true key h = sym (list_all-from_AllPass (λ b. nat_lt b 128) key (λ k d below. rw (get_or_default key k d 0 below) (lt-ltb _ 128 (h k))))
+ascii_told false key h = elim (cases_lt h.0 (length key)) [
+  | inl within ↦ sym (list_all_at (λ b. nat_lt b 128) key h.0 0 within (le-ltb (get_or key h.0 0) 128 h.1))
+  | inr past ↦ absurd (let zero_there = get_or_past key h.0 0 past in let high = h.1 in omega arith)
+]

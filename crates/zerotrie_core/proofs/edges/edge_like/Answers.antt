@@ -3,6 +3,7 @@ use Rattle.std.specs.Option.{option_map}
 use Rattle.zerotrie_core.specs.Texts.{Lists}
 use Rattle.zerotrie_core.specs.Places.{ListsAt}
 use Rattle.zerotrie_core.specs.cursor.Edges.{place_along}
+use Rattle.zerotrie_core.proofs.NodeLemmas.Read.{nothing_begins}
 use Rattle.zerotrie_core.proofs.CursorLemmas.Calls.{edges_past, step_over, nothing_steps, span_steps}
 use Rattle.std.proofs.lemmas.Option.{IfSome_then}
 use Rattle.zerotrie_core.proofs.CursorLemmas.Runs.{same_span, same_after, literal_meets, branch_meets, follows_plain, follows_span}
@@ -10,7 +11,7 @@ use Rattle.zerotrie_core.proofs.edges.edge_like.Goals as goal
 
 pub loop-node-preserved : goal.loop-node-preserved
 loop-node-preserved g c =
-    let begins = rw c.in-Value.is at c.in-Some.ensures.some in
+    let begins = rw c.in-Value.is at c.in-Some.ensures.begins in
     let kind = g.K.ZeroTrieWithOptions.kind in
     let old = c.loop-node.invariant in
     record {
@@ -26,7 +27,7 @@ loop-node-init g c = record {
 
 pub returns-in-Literal-clause-step : goal.returns-in-Literal-clause-step
 returns-in-Literal-clause-step g c =
-    let begins = rw c.in-Literal.is at c.in-Some.ensures.some in
+    let begins = rw c.in-Literal.is at c.in-Some.ensures.begins in
     let found = c.literal_like.result in
     step_over g.K.ZeroTrieWithOptions.kind c.args.bytes.now c.loop-node.rest.now c.args.byte (option_map (λ a. a.edge) found) (ListsAt g.K.ZeroTrieWithOptions.kind (place_along found)) c.loop-node.invariant.edges
     (c.literal_like.ensures.step c.loop-node.rest.now begins)
@@ -34,14 +35,14 @@ returns-in-Literal-clause-step g c =
 pub returns-in-Span-clause-step : goal.returns-in-Span-clause-step
 returns-in-Span-clause-step g c =
     let kind = g.K.ZeroTrieWithOptions.kind in
-    let begins = rw c.in-Span.is at c.in-Some.ensures.some in
+    let begins = rw c.in-Span.is at c.in-Some.ensures.begins in
     let answer = option_map (λ a. a.edge) c.run_edge_like.result in
     step_over kind c.args.bytes.now c.loop-node.rest.now c.args.byte answer (ListsAt kind (place_along c.run_edge_like.result)) c.loop-node.invariant.edges
     (span_steps kind c.loop-node.rest.now c.in-Span.run'.now c.in-Span.trie.now c.args.byte answer (ListsAt kind (place_along c.run_edge_like.result)) begins c.run_edge_like.ensures.step)
 
 pub returns-in-Branch-clause-step : goal.returns-in-Branch-clause-step
 returns-in-Branch-clause-step g c =
-    let begins = rw c.in-Branch.is at c.in-Some.ensures.some in
+    let begins = rw c.in-Branch.is at c.in-Some.ensures.begins in
     let found = c.branch_edge_like.result in
     step_over g.K.ZeroTrieWithOptions.kind c.args.bytes.now c.loop-node.rest.now c.args.byte (option_map (λ a. a.edge) found) (ListsAt g.K.ZeroTrieWithOptions.kind (place_along found)) c.loop-node.invariant.edges
     (c.branch_edge_like.ensures.step c.loop-node.rest.now begins)
@@ -50,12 +51,12 @@ pub returns-clause-step : goal.returns-clause-step
 returns-clause-step g c =
     let kind = g.K.ZeroTrieWithOptions.kind in
     step_over kind c.args.bytes.now c.loop-node.rest.now c.args.byte None (Lists kind []) c.loop-node.invariant.edges
-    (nothing_steps kind c.loop-node.rest.now c.args.byte c.in_default.ensures.none)
+    (nothing_steps kind c.loop-node.rest.now c.args.byte (nothing_begins g.K.ZeroTrieWithOptions.kind c.loop-node.rest.now c.in_default.ensures.node))
 
 pub returns-in-Literal-clause-run : goal.returns-in-Literal-clause-run
 returns-in-Literal-clause-run g c =
     let kind = g.K.ZeroTrieWithOptions.kind in
-    let begins = rw c.in-Literal.is at c.in-Some.ensures.some in
+    let begins = rw c.in-Literal.is at c.in-Some.ensures.begins in
     IfSome_then c.literal_like.result c.literal_like.ensures.run
     (λ a none. follows_plain kind c.args.bytes.now c.loop-node.rest.now a.edge a.run.now a.trie.now none c.loop-node.invariant.span
     (λ r t. literal_meets kind c.loop-node.rest.now c.in-Literal.edge c.in-Literal.trie.now r t begins))
@@ -63,14 +64,14 @@ returns-in-Literal-clause-run g c =
 pub returns-in-Span-clause-run : goal.returns-in-Span-clause-run
 returns-in-Span-clause-run g c =
     let kind = g.K.ZeroTrieWithOptions.kind in
-    let begins = rw c.in-Span.is at c.in-Some.ensures.some in
+    let begins = rw c.in-Span.is at c.in-Some.ensures.begins in
     IfSome_then c.run_edge_like.result c.run_edge_like.ensures.run
     (λ a h. follows_span kind c.args.bytes.now c.loop-node.rest.now c.in-Span.run'.now c.in-Span.trie.now a.edge a.run.now a.trie.now c.loop-node.invariant.span begins h.0 h.1)
 
 pub returns-in-Branch-clause-run : goal.returns-in-Branch-clause-run
 returns-in-Branch-clause-run g c =
     let kind = g.K.ZeroTrieWithOptions.kind in
-    let begins = rw c.in-Branch.is at c.in-Some.ensures.some in
+    let begins = rw c.in-Branch.is at c.in-Some.ensures.begins in
     let b = c.in-Branch.branch in
     IfSome_then c.branch_edge_like.result c.branch_edge_like.ensures.run
     (λ a none. follows_plain kind c.args.bytes.now c.loop-node.rest.now a.edge a.run.now a.trie.now none c.loop-node.invariant.span

@@ -3,6 +3,7 @@ use Rattle.std.specs.Option.{option_map}
 use Rattle.zerotrie_core.specs.Texts.{Lists}
 use Rattle.zerotrie_core.specs.Places.{ListsAt}
 use Rattle.zerotrie_core.specs.cursor.Edges.{place_along}
+use Rattle.zerotrie_core.proofs.NodeLemmas.Read.{nothing_begins}
 use Rattle.zerotrie_core.proofs.CursorLemmas.Calls.{edges_past, probe_over, nothing_probes, span_probes}
 use Rattle.std.proofs.lemmas.Option.{IfSome_then}
 use Rattle.zerotrie_core.proofs.CursorLemmas.Runs.{same_span, same_after, literal_meets, branch_meets, follows_plain, follows_span}
@@ -10,7 +11,7 @@ use Rattle.zerotrie_core.proofs.edges.edge_numbered.Goals as goal
 
 pub loop-node-preserved : goal.loop-node-preserved
 loop-node-preserved g c =
-    let begins = rw c.in-Value.is at c.in-Some.ensures.some in
+    let begins = rw c.in-Value.is at c.in-Some.ensures.begins in
     let kind = g.K.ZeroTrieWithOptions.kind in
     let old = c.loop-node.invariant in
     record {
@@ -27,7 +28,7 @@ loop-node-init g c = record {
 pub returns-in-Literal-clause-probe : goal.returns-in-Literal-clause-probe
 returns-in-Literal-clause-probe g c =
     let kind = g.K.ZeroTrieWithOptions.kind in
-    let begins = rw c.in-Literal.is at c.in-Some.ensures.some in
+    let begins = rw c.in-Literal.is at c.in-Some.ensures.begins in
     let found = c.literal_numbered.result in
     probe_over kind c.args.bytes.now c.loop-node.rest.now c.args.index (option_map {U = ℕ × ℕ} (λ r. (r.0.edge, r.1)) found) (ListsAt kind (place_along (option_map (λ r. r.0) found))) c.loop-node.invariant.edges
     (c.literal_numbered.ensures.probe kind c.loop-node.rest.now begins)
@@ -35,7 +36,7 @@ returns-in-Literal-clause-probe g c =
 pub returns-in-Span-clause-probe : goal.returns-in-Span-clause-probe
 returns-in-Span-clause-probe g c =
     let kind = g.K.ZeroTrieWithOptions.kind in
-    let begins = rw c.in-Span.is at c.in-Some.ensures.some in
+    let begins = rw c.in-Span.is at c.in-Some.ensures.begins in
     let answer = option_map {U = ℕ × ℕ} (λ r. (r.0.edge, r.1)) c.run_edge_numbered.result in
     let place = place_along (option_map (λ r. r.0) c.run_edge_numbered.result) in
     probe_over kind c.args.bytes.now c.loop-node.rest.now c.args.index answer (ListsAt kind place) c.loop-node.invariant.edges
@@ -44,7 +45,7 @@ returns-in-Span-clause-probe g c =
 pub returns-in-Branch-clause-probe : goal.returns-in-Branch-clause-probe
 returns-in-Branch-clause-probe g c =
     let kind = g.K.ZeroTrieWithOptions.kind in
-    let begins = rw c.in-Branch.is at c.in-Some.ensures.some in
+    let begins = rw c.in-Branch.is at c.in-Some.ensures.begins in
     let found = c.branch_edge_numbered.result in
     probe_over kind c.args.bytes.now c.loop-node.rest.now c.args.index (option_map {U = ℕ × ℕ} (λ r. (r.0.edge, r.1)) found) (ListsAt kind (place_along (option_map (λ r. r.0) found))) c.loop-node.invariant.edges
     (c.branch_edge_numbered.ensures.probe kind c.loop-node.rest.now begins)
@@ -53,12 +54,12 @@ pub returns-clause-probe : goal.returns-clause-probe
 returns-clause-probe g c =
     let kind = g.K.ZeroTrieWithOptions.kind in
     probe_over kind c.args.bytes.now c.loop-node.rest.now c.args.index None (Lists kind []) c.loop-node.invariant.edges
-    (nothing_probes kind c.loop-node.rest.now c.args.index c.in_default.ensures.none)
+    (nothing_probes kind c.loop-node.rest.now c.args.index (nothing_begins g.K.ZeroTrieWithOptions.kind c.loop-node.rest.now c.in_default.ensures.node))
 
 pub returns-in-Literal-clause-run : goal.returns-in-Literal-clause-run
 returns-in-Literal-clause-run g c =
     let kind = g.K.ZeroTrieWithOptions.kind in
-    let begins = rw c.in-Literal.is at c.in-Some.ensures.some in
+    let begins = rw c.in-Literal.is at c.in-Some.ensures.begins in
     IfSome_then c.literal_numbered.result c.literal_numbered.ensures.run
     (λ r none. follows_plain kind c.args.bytes.now c.loop-node.rest.now r.0.edge r.0.run.now r.0.trie.now none c.loop-node.invariant.span
     (λ run t. literal_meets kind c.loop-node.rest.now c.in-Literal.edge c.in-Literal.trie.now run t begins))
@@ -66,14 +67,14 @@ returns-in-Literal-clause-run g c =
 pub returns-in-Span-clause-run : goal.returns-in-Span-clause-run
 returns-in-Span-clause-run g c =
     let kind = g.K.ZeroTrieWithOptions.kind in
-    let begins = rw c.in-Span.is at c.in-Some.ensures.some in
+    let begins = rw c.in-Span.is at c.in-Some.ensures.begins in
     IfSome_then c.run_edge_numbered.result c.run_edge_numbered.ensures.run
     (λ r h. follows_span kind c.args.bytes.now c.loop-node.rest.now c.in-Span.run'.now c.in-Span.trie.now r.0.edge r.0.run.now r.0.trie.now c.loop-node.invariant.span begins h.0 h.1)
 
 pub returns-in-Branch-clause-run : goal.returns-in-Branch-clause-run
 returns-in-Branch-clause-run g c =
     let kind = g.K.ZeroTrieWithOptions.kind in
-    let begins = rw c.in-Branch.is at c.in-Some.ensures.some in
+    let begins = rw c.in-Branch.is at c.in-Some.ensures.begins in
     let b = c.in-Branch.branch in
     IfSome_then c.branch_edge_numbered.result c.branch_edge_numbered.ensures.run
     (λ r none. follows_plain kind c.args.bytes.now c.loop-node.rest.now r.0.edge r.0.run.now r.0.trie.now none c.loop-node.invariant.span

@@ -35,11 +35,11 @@ pub loop-part-smaller : goal.loop-part-smaller
 loop-part-smaller g c =
     let kind = g.K.ZeroTrieWithOptions.kind in
     let at = part_of c.in-Some.part in
-    let node = option_map shape c.node_at-node.result in
+    let node = option_map shape c.first_node-node.result in
     let rest = map part_of (reverse c.pop.new.self.items) in
     let before = ap work (popped c.loop-part.parts.items c.pop.new.self.items c.in-Some.part c.in-Some.ensures.items) in
     let now = ap work c.in_ok-push_next.ensures in
-    let less = next_less kind c.loop-part.expected at node rest c.node_at-node.ensures.node c.in_default-front_fault.ensures.none in
+    let less = next_less kind c.loop-part.expected at node rest c.first_node-node.ensures.node c.in_default-front_fault.ensures.none in
     omega arith
 
 pub loop-part-preserved : goal.loop-part-preserved
@@ -48,10 +48,10 @@ loop-part-preserved g c =
     let bytes = c.args.bytes.now in
     let e = c.loop-part.expected in
     let at = part_of c.in-Some.part in
-    let node = option_map shape c.node_at-node.result in
+    let node = option_map shape c.first_node-node.result in
     let rest = c.pop.new.self.items in
     let so_far = subst (Searched kind bytes e) (popped c.loop-part.parts.items rest c.in-Some.part c.in-Some.ensures.items) c.loop-part.invariant in
-    let next = searched_next kind bytes e at node (map part_of (reverse rest)) so_far c.node_at-node.ensures.node (read_begins kind at.bytes c.node_at-node.result c.node_at-node.ensures.begins) c.in_default-front_fault.ensures.none in
+    let next = searched_next kind bytes e at node (map part_of (reverse rest)) so_far c.first_node-node.ensures.node (read_begins kind at.bytes c.first_node-node.result c.first_node-node.ensures.begins) c.in_default-front_fault.ensures.none in
     subst (λ x. Searched kind bytes x (map part_of (reverse c.push_next.new.parts.items))) (sym c.expected_next-expected.ensures)
     (subst (Searched kind bytes (expected_next node)) (sym c.in_ok-push_next.ensures) next)
 

@@ -5,14 +5,14 @@ use Rattle.zerotrie_core.specs.plain.Encoding.{Writes}
 use Rattle.zerotrie_core.proofs.PlainLemmas.Refusals.{deep_none, ascii_keys, some_high, refusal_cause, written_built}
 use Rattle.zerotrie_core.proofs.plain.plain_encode.Goals as goal
 
-pub returns-then-not-is_ascii : goal.returns-then-not-is_ascii
-returns-then-not-is_ascii c = inr (λ same. absurd (cc), some_high c.args.items.now (sym c.is_ascii.ensures ∙ c.if-not-is_ascii.true))
+pub returns-then-not-are_ascii : goal.returns-then-not-are_ascii
+returns-then-not-are_ascii c = inr (λ same. absurd (cc), some_high c.args.items.now (sym c.are_ascii.ensures ∙ c.if-not-are_ascii.true))
 
 pub encode-requires-clause-deep : goal.encode-requires-clause-deep
 encode-requires-clause-deep c = deep_none c.args.items.now
 
 pub encode-requires-clause-ascii : goal.encode-requires-clause-ascii
-encode-requires-clause-ascii c = ascii_keys c.args.items.now (sym c.is_ascii.ensures ∙ c.if-not-is_ascii.false)
+encode-requires-clause-ascii c = ascii_keys c.args.items.now (sym c.are_ascii.ensures ∙ c.if-not-are_ascii.false)
 
 pub returns-in_err-encode : goal.returns-in_err-encode
 returns-in_err-encode c =

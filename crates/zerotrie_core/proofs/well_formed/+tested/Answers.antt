@@ -12,6 +12,7 @@ use Rattle.zerotrie_core.specs.Texts.{Means}
 use Rattle.zerotrie_core.specs.WellFormed.{IsWellFormed, IsShallow, deep}
 use Rattle.zerotrie_core.specs.listing.Runs.{EndsWith}
 use Rattle.zerotrie_core.specs.well_formed.Testing.{IsText, IsAllowed, IsPastValue, ReducesTo}
+use Rattle.zerotrie_core.proofs.NodeLemmas.Read.{nothing_begins}
 use Rattle.zerotrie_core.proofs.WellFormedLemmas.Depth.{shallow_one, shallow_max, shallow_longer, deep_no_node, deep_some}
 use Rattle.zerotrie_core.proofs.NodeLemmas.Nodes.{branch_shorter}
 use Rattle.zerotrie_core.proofs.ListingLemmas.Left.{branch_end, ends_drop}
@@ -193,7 +194,7 @@ is_text_counted-loop-node-init g t c =
 wrong : (g : _) (t : _) (c : goal.is_text_counted-In-Wrong g t) → IsAllowed c.args.expected (take c.args.len c.args.tail.now) → IsText g.K.ZeroTrieWithOptions.kind (take c.args.len c.args.tail.now) → ⊥
 wrong g t c allowed text =
     let leads = (c.loop-node.invariant.reduces allowed).there text.0 text.1 in
-    c.in-Wrong.ensures c.loop-node.at.rest.now c.in-Some.ensures.some leads.allowed (leads.below, leads.inner)
+    c.in-Wrong.ensures c.loop-node.at.rest.now c.in-Some.ensures.begins leads.allowed (leads.below, leads.inner)
 
 pub is_text_counted-returns-in-Wrong-clause-yes : goal.is_text_counted-returns-in-Wrong-clause-yes
 is_text_counted-returns-in-Wrong-clause-yes g t c = (λ e. absurd (cc), λ well. absurd (wrong g t c well.0 (well_text well.1)))
@@ -206,7 +207,7 @@ is_text_counted-loop-node-preserved-in-Over g t c =
     let kind = g.K.ZeroTrieWithOptions.kind in
     let so_far = c.loop-node.invariant in
     let rest = c.loop-node.at.rest.now in
-    let begins = c.in-Some.ensures.some in
+    let begins = c.in-Some.ensures.begins in
     let step = c.in-Over.ensures in
     let shorter = (step.0 rest begins).0 in
     let one = so_far.shallow.0 in
@@ -226,7 +227,7 @@ is_text_counted-loop-node-preserved-in-Literals g t c =
     let kind = g.K.ZeroTrieWithOptions.kind in
     let so_far = c.loop-node.invariant in
     let rest = c.loop-node.at.rest.now in
-    let begins = c.in-Some.ensures.some in
+    let begins = c.in-Some.ensures.begins in
     let step = c.in-Literals.ensures in
     let first = step.0 rest begins in
     let n = c.max.result in
@@ -258,7 +259,7 @@ is_text_counted-go_behind-requires g t c =
     let kind = g.K.ZeroTrieWithOptions.kind in
     let b = c.in-Behind.branch in
     let rest = c.loop-node.at.rest.now in
-    let begins : Begins kind rest (branch_shape b) = subst (Begins kind rest) c.in-Behind.ensures.0 c.in-Some.ensures.some in
+    let begins : Begins kind rest (branch_shape b) = subst (Begins kind rest) c.in-Behind.ensures.0 c.in-Some.ensures.begins in
     let shorter = branch_shorter kind b.edges b.width b.table.now b.behind.now rest begins in
     let within = c.loop-node.invariant.within in
     let falls : length b.behind.now < c.args.len = omega arith in
@@ -271,7 +272,7 @@ is_text_counted-loop-node-preserved g t c =
     let b = c.in-Behind.branch in
     let so_far = c.loop-node.invariant in
     let rest = c.loop-node.at.rest.now in
-    let begins : Begins kind rest (branch_shape b) = subst (Begins kind rest) c.in-Behind.ensures.0 c.in-Some.ensures.some in
+    let begins : Begins kind rest (branch_shape b) = subst (Begins kind rest) c.in-Behind.ensures.0 c.in-Some.ensures.begins in
     let longest = c.in-Some-go_behind.longest.rest.now in
     let count = c.in-Some-go_behind.count in
     let shorter = c.in-Some-go_behind.ensures.shorter in
@@ -287,7 +288,7 @@ is_text_counted-loop-node-preserved g t c =
     let one = so_far.shallow.0 in
     let same : max (max c.loop-node.most count) 1 ≡ c.max-most.result = omega arith in
     let left : longest ≢ [] = c.in-Some-go_behind.ensures.left in
-    let allowed_here = c.in-Behind.ensures.1 rest c.in-Some.ensures.some in
+    let allowed_here = c.in-Behind.ensures.1 rest c.in-Some.ensures.begins in
     record {
       within = omega arith;
       shallow = subst (λ n. IsShallow (take c.args.len c.args.tail.now) n) (sym m)
@@ -302,7 +303,7 @@ no_branch g t c allowed text =
     let kind = g.K.ZeroTrieWithOptions.kind in
     let rest = c.loop-node.at.rest.now in
     let leads = (c.loop-node.invariant.reduces allowed).there text.0 text.1 in
-    let begins : Begins kind rest (branch_shape c.in-Behind.branch) = subst (Begins kind rest) c.in-Behind.ensures.0 c.in-Some.ensures.some in
+    let begins : Begins kind rest (branch_shape c.in-Behind.branch) = subst (Begins kind rest) c.in-Behind.ensures.0 c.in-Some.ensures.begins in
     c.in-None.ensures.none rest begins (leads.below, leads.inner)
 
 pub is_text_counted-returns-in-None-clause-yes : goal.is_text_counted-returns-in-None-clause-yes
@@ -330,7 +331,7 @@ is_text_counted-returns-then-is_empty-clause-yes g t c =
 pub is_text_counted-returns-then-is_empty-clause-count : goal.is_text_counted-returns-then-is_empty-clause-count
 is_text_counted-returns-then-is_empty-clause-count g t c = λ allowed m means. (
     let leads = (c.loop-node.invariant.reduces allowed).there means.pairs means.lists in
-    let end = deep_no_node leads.inner c.in_default.ensures.none in
+    let end = deep_no_node leads.inner (nothing_begins g.K.ZeroTrieWithOptions.kind c.loop-node.at.rest.now c.in_default.ensures.node) in
     let counts = leads.counts in
     let deep_is = end.1 in
     let one = c.loop-node.invariant.shallow.0 in
@@ -341,7 +342,7 @@ is_text_counted-returns-then-is_empty-clause-count g t c = λ allowed m means. (
 left : (g : _) (t : _) (c : goal.is_text_counted-Else-is_empty g t) → IsAllowed c.args.expected (take c.args.len c.args.tail.now) → IsText g.K.ZeroTrieWithOptions.kind (take c.args.len c.args.tail.now) → ⊥
 left g t c allowed text =
     let leads = (c.loop-node.invariant.reduces allowed).there text.0 text.1 in
-    let end = deep_no_node leads.inner c.in_default.ensures.none in
+    let end = deep_no_node leads.inner (nothing_begins g.K.ZeroTrieWithOptions.kind c.loop-node.at.rest.now c.in_default.ensures.node) in
     let some : length c.loop-node.at.rest.now ≡ 0 → ⊥ = eqb-false _ _ (sym c.is_empty.ensures ∙ c.if-is_empty.false) in
     some (ap length end.0)
 

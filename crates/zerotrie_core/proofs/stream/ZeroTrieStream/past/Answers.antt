@@ -29,7 +29,7 @@ loop-node-init g c =
 
 pub returns-then-is_empty : goal.returns-then-is_empty
 returns-then-is_empty g c pairs text =
-    let begins = rw c.in-Value.is at c.in-Some-node_at.ensures.begins in
+    let begins = rw c.in-Value.is at c.in-Some-first_node.ensures.begins in
     let none : c.loop-node.left.now ≡ [] = nil_from_length c.loop-node.left.now (eqb-true _ _ (sym c.is_empty.ensures ∙ c.if-is_empty.true)) in
     rw (c.standing.ensures, c.behind-at.ensures) (refl, pass_found c.loop-node.invariant.passing c.in-Value.value c.in-Value.after.now begins none pairs text)
 
@@ -70,7 +70,7 @@ loop-node-smaller g c =
     let more = c.in-Some-passed.more in
     elim c.match-node.branch [
       | in-Value+else-is_empty w ↦ (
-          let begins = rw w.in-Value.is at c.in-Some-node_at.ensures.begins in
+          let begins = rw w.in-Value.is at c.in-Some-first_node.ensures.begins in
           let shorter : length w.behind-at.result.rest.now < length l.at.rest.now = rw w.behind-at.ensures (after_shorter 16 4 w.in-Value.value l.at.rest.now w.in-Value.after.now begins) in
           less (length l.at.rest.now) (Some (w.behind-at.result, l.left)) next more (sym w.passed-is ∙ c.in-Some-passed.is) shorter
           )
@@ -89,7 +89,7 @@ loop-node-preserved g c =
     let branches = l.top ∷ outer in
     elim c.match-node.branch [
       | in-Value+else-is_empty w ↦ (
-          let begins = rw w.in-Value.is at c.in-Some-node_at.ensures.begins in
+          let begins = rw w.in-Value.is at c.in-Some-first_node.ensures.begins in
           let gone : Option (Here × Bor (List ℕ)) = Some (w.behind-at.result, l.left) in
           let is : gone ≡ Some (next, more) = sym w.passed-is ∙ c.in-Some-passed.is in
           let some = eqb-false _ _ (sym w.is_empty.ensures ∙ w.if-is_empty.false) in
@@ -124,4 +124,4 @@ loop-node-preserved g c =
     ]
 
 pub returns : goal.returns
-returns g c pairs text = pass_nowhere c.loop-node.invariant.passing c.in_default-node_at.ensures.node pairs text
+returns g c pairs text = pass_nowhere c.loop-node.invariant.passing c.in_default-first_node.ensures.node pairs text
