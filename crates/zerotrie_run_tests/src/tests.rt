@@ -1,6 +1,8 @@
 mod fake;
 
 use fake::Fake;
+use std::alloc::Global;
+use std::io;
 use std::process::Abort;
 use std::test::Fail;
 use zerotrie_code::Language;
@@ -10,6 +12,20 @@ use zerotrie_lines::Format;
 use zerotrie_making::{Plan, Source};
 use zerotrie_run::{Build, Command, Keys, Place, Question, Status, TrieFile, run};
 use zerotrie_views::View;
+
+/// A run of the program: the files that are there, the words that are typed in, and what is to come of it.
+struct Row {
+    files: &'static [(&'static str, &'static [u8])],
+    command: Command<'static>,
+    status: Status,
+    printed: &'static [u8],
+    told: &'static [u8],
+    /// A file, and what it holds at the end.
+    left: (&'static str, &'static [u8]),
+}
+
+/// What is typed in.
+const TYPED: &[u8] = b"barn\nfoo\n";
 
 /// Three pairs, as lines.
 const NAMES: &[u8] = b"foo\t1\nbar\t2\nbazzoo\t3\n";
@@ -26,209 +42,259 @@ const PLAN: Plan = Plan {
     bare: false,
 };
 
-/// A build of one file from another.
-fn build<'a>(from: &'a str, to: &'a str) -> Command<'a> {
-    Command::Build(Build {
-        from: Place::named(from),
-        to: Place::named(to),
-        plan: PLAN,
-        progress: false,
-    })
-}
+/// A build of the file `names.trie`, without a word on its steps.
+const BUILD: Build<'static> = Build {
+    from: Place::File("names.tsv"),
+    to: Place::File("names.trie"),
+    plan: PLAN,
+    progress: false,
+};
 
-/// A question to the trie of a file.
-fn ask<'a>(path: &'a str, question: Question<'a>) -> Command<'a> {
-    let place = Place::named(path);
-    Command::Ask(
-        TrieFile {
-            place,
-            kind: None,
-            trust: false,
-        },
-        question,
-    )
-}
+/// Builds of that file, told and untold, and on standard output.
+const BUILDS: &[Row] = &[
+    Row {
+        files: &[("names.tsv", NAMES)],
+        command: Command::Build(BUILD),
+        status: Status::Done,
+        printed: b"",
+        told: b"",
+        left: ("names.trie", TRIE),
+    },
+    Row {
+        files: &[("names.tsv", NAMES)],
+        command: Command::Build(Build {
+            to: Place::Stream,
+            ..BUILD
+        }),
+        status: Status::Done,
+        printed: TRIE,
+        told: b"",
+        left: ("names.tsv", NAMES),
+    },
+    Row {
+        files: &[("names.tsv", NAMES)],
+        command: Command::Build(Build {
+            progress: true,
+            ..BUILD
+        }),
+        status: Status::Done,
+        printed: b"",
+        told: b"zerotrie: names.tsv: read 21 bytes\nzerotrie: names.trie: made 18 bytes\n\
+            zerotrie: names.trie: wrote 18 bytes\n",
+        left: ("names.trie", TRIE),
+    },
+];
 
-/// Runs a command, and holds its status and what it prints against what they are to be.
-fn prints<H: Abort>(
-    rt: &H,
-    files: &mut Fake,
-    command: Command<'_>,
-    status: Status,
-    printed: &[u8],
-) -> Result<(), Fail> {
-    let mut output = Vec::new(files.alloc());
-    let mut messages = Vec::new(files.alloc());
-    let mut input: &[u8] = b"barn\nfoo\n";
-    let ended = run(
-        files.alloc(),
-        command,
-        files,
+/// Builds that are refused, and leave the file that was there.
+const REFUSED: &[Row] = &[
+    Row {
+        files: &[("names.tsv", b"a\t1\na\t2\n"), ("names.trie", TRIE)],
+        command: Command::Build(BUILD),
+        status: Status::Refused,
+        printed: b"",
+        told: b"zerotrie: names.tsv: lines 1 and 2 have the same key: a\n",
+        left: ("names.trie", TRIE),
+    },
+    Row {
+        files: &[("names.tsv", b"a\t1\nb\n"), ("names.trie", TRIE)],
+        command: Command::Build(BUILD),
+        status: Status::BadInput,
+        printed: b"",
+        told: b"zerotrie: names.tsv: line 2: no tab between a key and its value\n",
+        left: ("names.trie", TRIE),
+    },
+    Row {
+        files: &[("names.trie", TRIE)],
+        command: Command::Build(BUILD),
+        status: Status::Fault,
+        printed: b"",
+        told: b"zerotrie: names.tsv: entity not found\n",
+        left: ("names.trie", TRIE),
+    },
+    Row {
+        files: &[("names.tsv", NAMES)],
+        command: Command::Build(Build {
+            to: Place::File("full"),
+            ..BUILD
+        }),
+        status: Status::Fault,
+        printed: b"",
+        told: b"zerotrie: full: no storage space\n",
+        left: ("names.tsv", NAMES),
+    },
+];
+
+/// The file of the names as a trie.
+const FILE: TrieFile<'static> = TrieFile {
+    place: Place::File("names.trie"),
+    kind: None,
+    trust: false,
+};
+
+const THERE: &[&[u8]] = &[b"bar"];
+
+const ABSENT: &[&[u8]] = &[b"bar", b"unknown"];
+
+/// Questions to that file.
+const QUESTIONS: &[Row] = &[
+    Row {
+        files: &[("names.trie", TRIE)],
+        command: Command::Ask(FILE, Question::Get(Keys::Words(THERE))),
+        status: Status::Done,
+        printed: b"2\n",
+        told: b"",
+        left: ("names.trie", TRIE),
+    },
+    Row {
+        files: &[("names.trie", TRIE)],
+        command: Command::Ask(FILE, Question::Get(Keys::Words(ABSENT))),
+        status: Status::Absent,
+        printed: b"2\nnone\n",
+        told: b"",
+        left: ("names.trie", TRIE),
+    },
+    Row {
+        files: &[("names.trie", TRIE)],
+        command: Command::Ask(FILE, Question::Longest(Keys::Lines)),
+        status: Status::Done,
+        printed: b"bar\t2\nfoo\t1\n",
+        told: b"",
+        left: ("names.trie", TRIE),
+    },
+];
+
+/// A trie of one pair, which is shown.
+const SHOWN: &[Row] = &[
+    Row {
+        files: &[("names.trie", b"\x00a\x85")],
+        command: Command::Ask(FILE, Question::List(Form::Lines(Style::Tsv), b"a")),
+        status: Status::Done,
+        printed: b"a\t5\n",
+        told: b"",
+        left: ("names.trie", b"\x00a\x85"),
+    },
+    Row {
+        files: &[("names.trie", b"\x00a\x85")],
+        command: Command::Ask(FILE, Question::List(Form::Lines(Style::Tsv), b"b")),
+        status: Status::Done,
+        printed: b"",
+        told: b"",
+        left: ("names.trie", b"\x00a\x85"),
+    },
+    Row {
+        files: &[("names.trie", b"\x00a\x85")],
+        command: Command::Ask(FILE, Question::View(View::Dump)),
+        status: Status::Done,
+        printed: b"0\t0\t\tliteral a\t61\n1\t0\t\tvalue 5\t85\n",
+        told: b"",
+        left: ("names.trie", b"\x00a\x85"),
+    },
+    Row {
+        files: &[("names.trie", b"\x00a\x85")],
+        command: Command::Ask(FILE, Question::Report),
+        status: Status::Done,
+        printed: b"kind\tsimple\nbytes\t2\npairs\t1\ngreatest value\t5\nbytes a key\t2.00\n\
+            depth\t0\nnodes\t2\nliterals\t1\nspans\t0\nbranches\t0\n",
+        told: b"",
+        left: ("names.trie", b"\x00a\x85"),
+    },
+];
+
+/// Questions without an answer: the file has no trie, is the keys too, or is not there.
+const UNANSWERED: &[Row] = &[
+    Row {
+        files: &[("names.trie", b"\x00a")],
+        command: Command::Ask(FILE, Question::Report),
+        status: Status::BadInput,
+        printed: b"",
+        told: b"zerotrie: names.trie: no trie of kind simple: the bytes end where a key has to go on, at byte 1\n",
+        left: ("names.trie", b"\x00a"),
+    },
+    Row {
+        files: &[("names.trie", b"\x00a")],
+        command: Command::Ask(FILE, Question::Code(Language::C)),
+        status: Status::BadInput,
+        printed: b"",
+        told: b"zerotrie: names.trie: no trie of kind simple: the bytes end where a key has to go on, at byte 1\n",
+        left: ("names.trie", b"\x00a"),
+    },
+    Row {
+        files: &[("names.trie", TRIE)],
+        command: Command::Ask(
+            TrieFile {
+                place: Place::Stream,
+                ..FILE
+            },
+            Question::Get(Keys::Lines),
+        ),
+        status: Status::BadUsage,
+        printed: b"",
+        told: b"zerotrie: standard input can't be the file and the keys\n",
+        left: ("names.trie", TRIE),
+    },
+    Row {
+        files: &[("names.tsv", NAMES)],
+        command: Command::Ask(FILE, Question::Get(Keys::Lines)),
+        status: Status::Fault,
+        printed: b"",
+        told: b"zerotrie: names.trie: entity not found\n",
+        left: ("names.tsv", NAMES),
+    },
+];
+
+/// Whether a run prints, tells, leaves and ends as it is to.
+fn is_run(alloc: Global, row: &Row) -> io::Result<bool> {
+    let mut files = Fake::with(alloc, row.files)?;
+    let mut output = Vec::new(alloc);
+    let mut messages = Vec::new(alloc);
+    let mut input = TYPED;
+    let status = run(
+        alloc,
+        row.command,
+        &mut files,
         &mut input,
         &mut output,
         &mut messages,
     );
-    assert!(rt; ended == status);
-    assert!(rt; output.as_slice() == printed);
-    let is_quiet = messages.is_empty();
-    assert!(rt; is_quiet == (status == Status::Done || status == Status::Absent));
-    Ok(())
-}
-
-#[test]
-fn a_file_is_made_and_asked(rt: HostRuntime) -> Result<(), Fail> {
-    let mut files = Fake::with(rt.alloc(), "names.tsv", NAMES)?;
-    prints(
-        &rt,
-        &mut files,
-        build("names.tsv", "names.trie"),
-        Status::Done,
-        b"",
-    )?;
-    assert!(rt; files.read("names.trie")?.as_slice() == TRIE);
-    prints(&rt, &mut files, build("names.tsv", "-"), Status::Done, TRIE)?;
-    let keys: [&[u8]; 2] = [b"bar", b"unknown"];
-    let there = Question::Get(Keys::Words(&keys[..1]));
-    prints(
-        &rt,
-        &mut files,
-        ask("names.trie", there),
-        Status::Done,
-        b"2\n",
-    )?;
-    let absent = Question::Get(Keys::Words(&keys));
-    prints(
-        &rt,
-        &mut files,
-        ask("names.trie", absent),
-        Status::Absent,
-        b"2\nnone\n",
-    )?;
-    let typed = Question::Longest(Keys::Lines);
-    prints(
-        &rt,
-        &mut files,
-        ask("names.trie", typed),
-        Status::Done,
-        b"bar\t2\nfoo\t1\n",
+    let (path, bytes) = row.left;
+    let left = files.read(path)?;
+    Ok(
+        status == row.status
+            && output.as_slice() == row.printed
+            && messages.as_slice() == row.told
+            && left.as_slice() == bytes,
     )
 }
 
-#[test]
-fn steps_are_told(rt: HostRuntime) -> Result<(), Fail> {
-    let mut files = Fake::with(rt.alloc(), "names.tsv", NAMES)?;
-    let command = Command::Build(Build {
-        from: Place::named("names.tsv"),
-        to: Place::named("names.trie"),
-        plan: PLAN,
-        progress: true,
-    });
-    let mut output = Vec::new(rt.alloc());
-    let mut messages = Vec::new(rt.alloc());
-    let mut input: &[u8] = b"";
-    let ended = run(
-        rt.alloc(),
-        command,
-        &mut files,
-        &mut input,
-        &mut output,
-        &mut messages,
-    );
-    let told = b"zerotrie: names.tsv: read 21 bytes\nzerotrie: names.trie: made 18 bytes\n\
-        zerotrie: names.trie: wrote 18 bytes\n";
-    assert!(rt; ended == Status::Done);
-    assert!(rt; messages.as_slice() == told.as_slice());
+/// Ends the test if a run is not as its row says.
+fn are_run<H: Abort>(rt: &H, alloc: Global, rows: &[Row]) -> Result<(), Fail> {
+    for row in rows {
+        assert!(rt; is_run(alloc, row)?);
+    }
     Ok(())
+}
+
+#[test]
+fn a_file_is_made(rt: HostRuntime) -> Result<(), Fail> {
+    are_run(&rt, rt.alloc(), BUILDS)
+}
+
+#[test]
+fn a_refused_build_leaves_files(rt: HostRuntime) -> Result<(), Fail> {
+    are_run(&rt, rt.alloc(), REFUSED)
+}
+
+#[test]
+fn a_file_is_asked(rt: HostRuntime) -> Result<(), Fail> {
+    are_run(&rt, rt.alloc(), QUESTIONS)
 }
 
 #[test]
 fn a_trie_is_shown(rt: HostRuntime) -> Result<(), Fail> {
-    let mut files = Fake::with(rt.alloc(), "a.trie", b"\x00a\x85")?;
-    let list = Question::List(Form::Lines(Style::Tsv), b"a");
-    prints(
-        &rt,
-        &mut files,
-        ask("a.trie", list),
-        Status::Done,
-        b"a\t5\n",
-    )?;
-    let none = Question::List(Form::Lines(Style::Tsv), b"b");
-    prints(&rt, &mut files, ask("a.trie", none), Status::Done, b"")?;
-    let dump = b"0\t0\t\tliteral a\t61\n1\t0\t\tvalue 5\t85\n";
-    prints(
-        &rt,
-        &mut files,
-        ask("a.trie", Question::View(View::Dump)),
-        Status::Done,
-        dump,
-    )?;
-    let report =
-        b"kind\tsimple\nbytes\t2\npairs\t1\ngreatest value\t5\nbytes a key\t2.00\ndepth\t0\nnodes\t2\nliterals\t1\nspans\t0\nbranches\t0\n";
-    prints(
-        &rt,
-        &mut files,
-        ask("a.trie", Question::Report),
-        Status::Done,
-        report,
-    )
-}
-
-#[test]
-fn what_is_refused_leaves_files(rt: HostRuntime) -> Result<(), Fail> {
-    let mut files = Fake::with(rt.alloc(), "names.trie", TRIE)?;
-    files.put("twice.tsv", b"a\t1\na\t2\n")?;
-    prints(
-        &rt,
-        &mut files,
-        build("twice.tsv", "names.trie"),
-        Status::Refused,
-        b"",
-    )?;
-    files.put("bad.tsv", b"a\t1\nb\n")?;
-    prints(
-        &rt,
-        &mut files,
-        build("bad.tsv", "names.trie"),
-        Status::BadInput,
-        b"",
-    )?;
-    prints(
-        &rt,
-        &mut files,
-        build("missing", "names.trie"),
-        Status::Fault,
-        b"",
-    )?;
-    prints(
-        &rt,
-        &mut files,
-        build("names.tsv", "full"),
-        Status::Fault,
-        b"",
-    )?;
-    assert!(rt; files.read("names.trie")?.as_slice() == TRIE);
-    Ok(())
+    are_run(&rt, rt.alloc(), SHOWN)
 }
 
 #[test]
 fn what_is_no_trie_is_not_asked(rt: HostRuntime) -> Result<(), Fail> {
-    let mut files = Fake::with(rt.alloc(), "cut.trie", b"\x00a")?;
-    prints(
-        &rt,
-        &mut files,
-        ask("cut.trie", Question::Report),
-        Status::BadInput,
-        b"",
-    )?;
-    let code = Question::Code(Language::C);
-    prints(
-        &rt,
-        &mut files,
-        ask("cut.trie", code),
-        Status::BadInput,
-        b"",
-    )?;
-    let typed = Question::Get(Keys::Lines);
-    prints(&rt, &mut files, ask("-", typed), Status::BadUsage, b"")?;
-    prints(&rt, &mut files, ask("missing", typed), Status::Fault, b"")
+    are_run(&rt, rt.alloc(), UNANSWERED)
 }

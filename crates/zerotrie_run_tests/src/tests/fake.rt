@@ -15,23 +15,20 @@ pub struct Fake {
 }
 
 impl Fake {
-    /// One file.
-    pub fn with(alloc: Global, path: &str, bytes: &[u8]) -> Result<Self, AllocError> {
+    /// Files by their paths.
+    pub fn with(alloc: Global, files: &[(&str, &[u8])]) -> Result<Self, AllocError> {
         let mut fake = Fake {
             alloc,
             files: Vec::new(alloc),
         };
-        fake.put(path, bytes)?;
+        for (path, bytes) in files {
+            fake.put(path, bytes)?;
+        }
         Ok(fake)
     }
 
-    /// What takes memory.
-    pub fn alloc(&self) -> Global {
-        self.alloc
-    }
-
     /// Puts a file in place of the one that has its path, if there is one.
-    pub fn put(&mut self, path: &str, bytes: &[u8]) -> Result<(), AllocError> {
+    fn put(&mut self, path: &str, bytes: &[u8]) -> Result<(), AllocError> {
         let copy = Vec::from_slice(self.alloc, bytes)?;
         for (name, held) in &mut self.files {
             if name.as_str() == path {
