@@ -36,8 +36,8 @@
 //! has the definitions that the library's clauses cite. Of the lemmas, `Rattle.zerotrie.proofs.Builds` says
 //! what a build over an iterator is of the list under it, `Rattle.zerotrie.proofs.Lookups` and `Found` what a
 //! look-up answers by the pairs alone, `Cursors` what a cursor finds on its way, `Fallbacks` what the last of
-//! some keys is that a text begins with, `Forms` what was written as JSON and read again, and `Tables` what the record of a dense table keeps. The crate
-//! `zerotrie_uses` has callers to copy.
+//! some keys is that a text begins with, `Forms` what was written as JSON and read again, and `Tables` what the
+//! record of a dense table keeps. The crate `zerotrie_uses` has callers to copy.
 //! `laws` has the laws of texts and maps, and `json_keeps_the_pairs` that of JSON.
 #![tactic(auto)]
 
@@ -74,7 +74,8 @@ pub mod cursor {
 }
 
 /// The same over bare bytes, for any kind: builds into bytes, into a buffer that is lent and by a builder, with the
-/// length beforehand; look-ups, tests, counts and listings of bytes; cursors and walks; tagged bytes and JSON.
+/// length beforehand; look-ups, one or many at once, tests, counts and listings of bytes, their nodes, and the first
+/// fault in them; cursors and walks; tagged bytes and JSON.
 ///
 /// ```
 /// let items = [("ad", 22), ("adef", 33)];
@@ -95,9 +96,10 @@ pub mod bytes {
         bytes_within, encoded_len, fill_from_end,
     };
     pub use zerotrie_core::{
-        SpanCursor, count_pairs, get_counted, is_well_formed, is_well_formed_counted,
-        longest_prefix, plain_encode, probe, read_varint_meta2, read_varint_meta3, step,
-        take_value, write_varint_meta2, write_varint_meta3,
+        Branch, Fault, FaultCause, LookUps, Node, Nodes, Part, SpanCursor, Visit, count_pairs,
+        first_fault, get_counted, get_each, is_well_formed, is_well_formed_counted, longest_prefix,
+        plain_encode, probe, read_varint_meta2, read_varint_meta3, step, take_value,
+        write_varint_meta2, write_varint_meta3,
     };
 }
 
