@@ -5,6 +5,7 @@ mod arguments;
 mod build;
 mod commands;
 mod question;
+mod table;
 
 use std::process::ExitCode;
 

@@ -1,0 +1,178 @@
+//! The commands, as rows.
+
+use crate::arguments::{Argument, Form, Otherwise, Subcommand};
+
+const KINDS: &[&str] = &["simple", "ignore", "hash", "ext"];
+
+const KINDS_OR_AUTO: &[&str] = &["auto", "simple", "ignore", "hash", "ext"];
+
+const INPUTS: &[&str] = &["tsv", "csv", "lines", "json"];
+
+const OUTPUTS: &[&str] = &["tsv", "keys", "values", "json"];
+
+const LANGUAGES: &[&str] = &["rust", "c", "rattle"];
+
+/// The file of a trie.
+const FILE: Argument = Argument {
+    name: "FILE",
+    form: Form::Place,
+    help: "A trie, or - for standard input",
+};
+
+const KIND: Argument = Argument {
+    name: "kind",
+    form: Form::OneOf("K", KINDS, Otherwise::Nothing),
+    help: "The file is bare bytes of this kind",
+};
+
+const TRUST: Argument = Argument {
+    name: "trust",
+    form: Form::Flag,
+    help: "Leaves out the test of the bytes, which reads all of them once; for a file that is known to be a trie",
+};
+
+/// What the program can be asked to do.
+pub const COMMANDS: &[Subcommand] = &[
+    Subcommand {
+        name: "build",
+        about: "Makes a trie of a file of pairs",
+        help: "Example: zerotrie build names.tsv -o names.trie\nIn memory: \
+            the keys, 40 bytes a pair, 40 more if they are to be sorted, and the trie.",
+        arguments: &[
+            Argument {
+                name: "IN",
+                form: Form::Place,
+                help: "A file of pairs, or - for standard input",
+            },
+            Argument {
+                name: "output",
+                form: Form::Text("OUT", Some('o'), Otherwise::Refused),
+                help: "The file to make, or - for standard output",
+            },
+            Argument {
+                name: "kind",
+                form: Form::OneOf("K", KINDS_OR_AUTO, Otherwise::Is("auto")),
+                help: "The kind of the trie",
+            },
+            Argument {
+                name: "format",
+                form: Form::OneOf("F", INPUTS, Otherwise::Is("tsv")),
+                help: "How the input is pairs",
+            },
+            Argument {
+                name: "sorted",
+                form: Form::Flag,
+                help: "The keys have to ascend by their bytes, each once",
+            },
+            Argument {
+                name: "bare",
+                form: Form::Flag,
+                help: "Leaves out the number of the kind in front",
+            },
+            Argument {
+                name: "lower-case",
+                form: Form::Flag,
+                help: "Brings the ASCII letters of the keys into lower case first",
+            },
+            Argument {
+                name: "progress",
+                form: Form::Flag,
+                help: "Tells each step on standard error, as without it if that is a terminal",
+            },
+        ],
+    },
+    Subcommand {
+        name: "get",
+        about: "Prints the values of keys",
+        help: "Example: zerotrie get names.trie amp lt\nIn memory: the file and the keys.",
+        arguments: &[
+            FILE,
+            KIND,
+            TRUST,
+            Argument {
+                name: "KEY",
+                form: Form::Words,
+                help: "Keys; with none they are the lines of standard input",
+            },
+        ],
+    },
+    Subcommand {
+        name: "longest",
+        about: "Prints the longest key that each text begins with, and its value",
+        help: "Example: zerotrie longest names.trie ampersand\nIn memory: the file and the texts.",
+        arguments: &[
+            FILE,
+            KIND,
+            TRUST,
+            Argument {
+                name: "TEXT",
+                form: Form::Words,
+                help: "Texts; with none they are the lines of standard input",
+            },
+        ],
+    },
+    Subcommand {
+        name: "list",
+        about: "Prints the pairs",
+        help: "Example: zerotrie list names.trie --prefix am\nIn memory: the file and the longest key.",
+        arguments: &[
+            FILE,
+            KIND,
+            TRUST,
+            Argument {
+                name: "prefix",
+                form: Form::Text("P", None, Otherwise::Nothing),
+                help: "Only keys that begin so",
+            },
+            Argument {
+                name: "format",
+                form: Form::OneOf("F", OUTPUTS, Otherwise::Is("tsv")),
+                help: "How pairs are printed",
+            },
+        ],
+    },
+    Subcommand {
+        name: "check",
+        about: "Tests the bytes, and prints what the trie is made of, or where it is none and why",
+        help: "Example: zerotrie check names.trie\nIn memory: the file and the open \
+            branches. Places are counted after the number of the kind.",
+        arguments: &[FILE, KIND],
+    },
+    Subcommand {
+        name: "dump",
+        about: "Prints a line for each node: place, depth, edge, meaning and bytes",
+        help: "Example: zerotrie dump names.trie\nIn memory: the file and the open branches.",
+        arguments: &[FILE, KIND, TRUST],
+    },
+    Subcommand {
+        name: "dot",
+        about: "Prints a drawing of the first nodes, for Graphviz",
+        help: "Example: zerotrie dot names.trie --most 40 | dot -Tsvg -o names.svg\n\
+            In memory: the file and the open branches.",
+        arguments: &[
+            FILE,
+            KIND,
+            TRUST,
+            Argument {
+                name: "most",
+                form: Form::Text("N", None, Otherwise::Is("100")),
+                help: "At most this many nodes",
+            },
+        ],
+    },
+    Subcommand {
+        name: "code",
+        about: "Prints the bytes as a constant of a program, with the call that reads it",
+        help: "Example: zerotrie code names.trie --lang c\nIn memory: the file.",
+        arguments: &[
+            FILE,
+            KIND,
+            TRUST,
+            Argument {
+                name: "lang",
+                form: Form::OneOf("L", LANGUAGES, Otherwise::Refused),
+                help: "The language",
+            },
+        ],
+    },
+];
