@@ -10,7 +10,7 @@
  * bindings/make makes libzerotrie.a and libzerotrie.so in bindings/build, for 64-bit Linux on x86-64:
  *
  *     cc -Ibindings/c program.c bindings/build/libzerotrie.a
- *     cc program.c $(PKG_CONFIG_PATH=bindings/build pkg-config --cflags --libs zerotrie)
+ *     cc program.c $(PKG_CONFIG_PATH=bindings/build pkg-config --cflags --libs zerotrie)    (runs with LD_LIBRARY_PATH=bindings/build)
  *
  * Each function below is proved to meet its contract over the map that the bytes mean. What a proof can't see is what a caller does.
  *
