@@ -178,6 +178,20 @@ public:
         return value;
     }
     bool contains(std::string_view key) const { return get(key).has_value(); }
+    // The values of a range of keys, each of which makes a std::string_view, in its order, and `missing` for a key that the trie
+    // hasn't. It copies the keys, and takes less time than one call for each.
+    template <class Keys> std::vector<size_t> get_many(const Keys &keys, size_t missing) const {
+        std::string text;
+        std::vector<size_t> ends;
+        for (const auto &key : keys) text += std::string_view(key), ends.push_back(text.size());
+        std::vector<size_t> values(ends.size());
+        // so that there is a place to point at
+        ends.reserve(1), values.reserve(1);
+        const auto at = detail::of(bytes_), k = detail::of(text);
+        detail::check(zerotrie_get_many(number(), at.ptr, at.len, k.ptr, k.len, ends.data(), ends.size(), missing, values.data(),
+                                        values.size()));
+        return values;
+    }
     // The longest key that the text begins with, as a view into the text, and its value. nullopt: it begins with no key.
     std::optional<std::pair<std::string_view, size_t>> longest_prefix(std::string_view text) const {
         const auto at = detail::of(bytes_), t = detail::of(text);

@@ -55,19 +55,15 @@ static void against_a_map(size_t calls) {
         Map listed;
         for (const auto [key, value] : trie->items()) listed.emplace(key, value);
         CHECK(listed == map);
-        std::string keys;
-        std::vector<size_t> ends, values(200), want;
+        std::vector<std::string> keys;
+        std::vector<size_t> want;
         for (size_t n = 0; n < 200; n++, done += 3) {
             const std::string key = key_of(ascii, letters);
             one(*trie, map, key);
-            keys += key;
-            ends.push_back(keys.size());
+            keys.push_back(key);
             want.push_back(trie->get(key).value_or(12345));
         }
-        CHECK(zerotrie_get_many(static_cast<uint32_t>(kind), reinterpret_cast<const uint8_t *>(bytes.data()), bytes.size(),
-                                reinterpret_cast<const uint8_t *>(keys.data()), keys.size(), ends.data(), ends.size(), 12345,
-                                values.data(), values.size()) == ZEROTRIE_DONE);
-        CHECK(values == want);
+        CHECK(trie->get_many(keys, 12345) == want);
         done++;
     }
 }
@@ -84,6 +80,8 @@ int main(int count, char **arguments) {
     const auto items = trie->items("ba");
     CHECK(items.size() == 2 && (*items.begin()).first == "bar" && items[1].second == 3);
     CHECK(zerotrie::Trie(Kind::SimpleAscii, {}).items().empty());
+    CHECK((trie->get_many(std::vector<const char *>{"bar", "ba", ""}, 0) == std::vector<size_t>{2, 0, 0}));
+    CHECK(trie->get_many(std::vector<std::string>{}, 0).empty());
     try {
         zerotrie::build(Kind::SimpleAscii, std::vector<std::pair<const char *, int>>{{"a", 1}, {"a", 2}});
         CHECK(false);
