@@ -179,7 +179,7 @@ public:
     }
     bool contains(std::string_view key) const { return get(key).has_value(); }
     // The values of a range of keys, each of which makes a std::string_view, in its order, and `missing` for a key that the trie
-    // hasn't. It copies the keys, and takes less time than one call for each.
+    // hasn't. It copies the keys.
     template <class Keys> std::vector<size_t> get_many(const Keys &keys, size_t missing) const {
         std::string text;
         std::vector<size_t> ends;
