@@ -5,6 +5,7 @@ mod TableReads
 mod FillLemmas
 mod OrderLemmas
 mod GroupLemmas
+mod BucketLemmas
 mod ReciprocalLemmas
 mod PlacedLemmas
 mod SolveLemmas
