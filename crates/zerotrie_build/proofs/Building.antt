@@ -1,5 +1,6 @@
 -- What a build answers for its pairs.
 use Rattle.std.proofs.Common.{◌≡◌, ◌≢◌, ℕ, zero, suc, ◌<◌, ◌≤◌, ◌⊎◌, inl, inr, List, [], ◌∷◌, length, refl, sym, ◌∙◌, subst, arith, get_or, All, Result, Ok, Err}
+use Rattle.std.proofs.lemmas.Bool.{cases_lt}
 use Rattle.std.specs.Prelude.{Any, IfOk, IfErr}
 use Rattle.zerotrie_core.specs.Kind.{Kind, IsAscii, edge_limit}
 use Rattle.zerotrie_core.specs.Maps.{Pairs, map_of, Ascends, RepeatsKey}
@@ -12,7 +13,7 @@ use Rattle.zerotrie_core.specs.declared.ZeroTrieBuildError.{ZeroTrieBuildError}
 use Rattle.zerotrie_core.specs.declared.ZeroTrieBuildError.TheVariants.{NonAsciiError, CapacityExceeded, CouldNotSolvePerfectHash, MixedCase, IllegalDelimiter, DuplicateKey, Unsorted, BufferTooSmall, BufferTooLarge, StackExceeded, OutOfMemory}
 use Rattle.zerotrie_core.proofs.CallerLemmas.{ascends_apart}
 use Rattle.zerotrie_build.specs.Order.{AreKeys}
-use Rattle.zerotrie_build.proofs.Items.{below_or_from}
+
 
 module _ {X : Type 0} (P Q : X → Type 0) (decide : (x : X) → P x ⊎ Q x) where
   none_there : (k : ℕ) (d : X) → k < length (let none : List X = [] in none) → P d
@@ -37,7 +38,7 @@ module _ {X : Type 0} (P Q : X → Type 0) (decide : (x : X) → P x ⊎ Q x) wh
 pub some_foreign : (kind : Kind) (pairs : Pairs) → (AreKeys kind pairs → ⊥) → Cause kind pairs NonAsciiError
 some_foreign kind pairs none =
     elim (all_or_any (λ e. All (λ b. b < edge_limit kind) e.0) (λ e. Any (λ b. edge_limit kind ≤ b) e.0)
-    (λ e. all_or_any (λ b. b < edge_limit kind) (λ b. edge_limit kind ≤ b) (λ b. below_or_from b (edge_limit kind)) e.0) pairs) [
+    (λ e. all_or_any (λ b. b < edge_limit kind) (λ b. edge_limit kind ≤ b) (λ b. cases_lt b (edge_limit kind)) e.0) pairs) [
       | inl all ↦ absurd (none all)
       | inr any ↦ any
     ]

@@ -1,4 +1,6 @@
-use Rattle.std.proofs.Common.{◌≡◌, ℕ, zero, suc, ◌+◌, ◌^◌, ◌<◌, ◌≤◌, ◌⊎◌, List, [], ◌∷◌, ◌++◌, length, get_or, take, arith, refl, ap, ◌∙◌, sym, Some, slice_get, All, Bool, true, false, IsTrue, ◌↔◌, Fits, w8, subst, inl, inr, Option, None}
+use Rattle.std.proofs.Common.{◌≡◌, ℕ, zero, suc, ◌+◌, ◌^◌, ◌<◌, ◌≤◌, List, [], ◌∷◌, ◌++◌, length, get_or, take, arith, refl, ap, ◌∙◌, sym, Some, slice_get, All, Bool, true, false, IsTrue, ◌↔◌, Fits, w8, subst, inl, inr, Option, None}
+use Rattle.std.proofs.lemmas.List.{get_or_default, get_or_past}
+use Rattle.std.proofs.lemmas.Bool.{cases_lt}
 use Rattle.std.proofs.lemmas.Option.{slice_get-map, slice_get-get_or, slice_get_within, get_or_from_slice_get}
 use Rattle.std.proofs.lemmas.Grind.{common_steps}
 use Rattle.std.specs.Borrow.{Bor}
@@ -62,11 +64,6 @@ each_ordered kind (e ∷ f ∷ pairs) (suc k) a h = each_ordered kind (f ∷ pai
 pub got : (pairs : Pairs) (i : ℕ) (d a : List ℕ × ℕ) → slice_get pairs i ≡ Some a → get_or pairs i d ≡ a
 got pairs i d a h = get_or_from_slice_get pairs i a d h
 
-pub below_or_from : (n m : ℕ) → (n < m) ⊎ (m ≤ n)
-below_or_from n zero = inr (omega arith)
-below_or_from zero (suc m) = inl (omega arith)
-below_or_from (suc n) (suc m) = elim (below_or_from n m) [ inl h ↦ inl (omega arith) | inr h ↦ inr (omega arith) ]
-
 pub follows_on : (R : List ℕ → List ℕ → Type 0) (pairs : Pairs) (j i : ℕ) (a b : List ℕ × ℕ) → suc j ≡ i → slice_get pairs j ≡ Some a → slice_get pairs i ≡ Some b
     → R a.0 b.0 → ((k : ℕ) → suc k < i → Follows R pairs k) → (k : ℕ) → suc k < i + 1 → Follows R pairs k
 follows_on R pairs j i a b e p q h before k below =
@@ -90,26 +87,16 @@ not_following R pairs j i a b e p q h each =
 abbrev pub AsciiAt : Pairs → ℕ → Type 0
 AsciiAt pairs k = (d : List ℕ × ℕ) → All (λ b. b < 128) (get_or pairs k d).0
 
-pub get_or-any : (xs : List ℕ) (k d e : ℕ) → k < length xs → get_or xs k d ≡ get_or xs k e
-get_or-any [] k d e h = let g : k < 0 = h in absurd (omega arith)
-get_or-any (x ∷ xs) zero d e h = refl
-get_or-any (x ∷ xs) (suc k) d e h = get_or-any xs k d e (let g : suc k < suc (length xs) = h in omega arith)
-
-get_or-past : (xs : List ℕ) (k d : ℕ) → length xs ≤ k → get_or xs k d ≡ d
-get_or-past [] k d h = refl
-get_or-past (x ∷ xs) zero d h = let g : suc (length xs) ≤ 0 = h in absurd (omega arith)
-get_or-past (x ∷ xs) (suc k) d h = get_or-past xs k d (let g : suc (length xs) ≤ suc k = h in omega arith)
-
 pub ascii_here : (pairs : Pairs) (i : ℕ) (a : List ℕ × ℕ) → slice_get pairs i ≡ Some a → IsAscii a.0 → AsciiAt pairs i
-ascii_here pairs i a p h d = rw (got pairs i d a p) (λ k e below. rw (get_or-any a.0 k e 0 below) (h k))
+ascii_here pairs i a p h d = rw (got pairs i d a p) (λ k e below. rw (get_or_default a.0 k e 0 below) (h k))
 
 pub not_ascii : (pairs : Pairs) (i : ℕ) (a : List ℕ × ℕ) → slice_get pairs i ≡ Some a → IsNotAscii a.0
     → All (λ e. All (λ b. b < 128) e.0) pairs → ⊥
 not_ascii pairs i a p h all =
     let here : All (λ b. b < 128) a.0 = subst (λ x. All (λ b. b < 128) x.0) (got pairs i a a p) (all i a (slice_get_within pairs i a p)) in
-    elim (below_or_from h.0 (length a.0)) [
+    elim (cases_lt h.0 (length a.0)) [
       | inl within ↦ let low : get_or a.0 h.0 0 < 128 = here h.0 0 within in let high : 128 ≤ get_or a.0 h.0 0 = h.1 in omega arith
-      | inr past ↦ let zero_there : get_or a.0 h.0 0 ≡ 0 = get_or-past a.0 h.0 0 past in let high : 128 ≤ get_or a.0 h.0 0 = h.1 in omega arith
+      | inr past ↦ let zero_there : get_or a.0 h.0 0 ≡ 0 = get_or_past a.0 h.0 0 past in let high : 128 ≤ get_or a.0 h.0 0 = h.1 in omega arith
     ]
 
 pub ascii_on : (pairs : Pairs) (i : ℕ) → ((k : ℕ) (d : List ℕ × ℕ) → k < i → All (λ b. b < 128) (get_or pairs k d).0) → AsciiAt pairs i
@@ -139,16 +126,16 @@ limit_low extended_capacity h = absurd (cc)
 
 -- bytes that were read
 pub any_byte : (key : List ℕ) → ((i : ℕ) → Fits w8 (get_or key i 0)) → All (λ b. b < 256) key
-any_byte key fits k d below = rw (get_or-any key k d 0 below) (omega (arith, fits k))
+any_byte key fits k d below = rw (get_or_default key k d 0 below) (omega (arith, fits k))
 
 -- what a test for ASCII says of the bytes
 pub ascii_by : (r : Bool) (key : List ℕ) → MatchBool r (IsAscii key) (IsNotAscii key) → IsTrue r ↔ All (λ b. b < 128) key
-ascii_by true key h = (λ t k d below. rw (get_or-any key k d 0 below) (h k), λ all. refl)
+ascii_by true key h = (λ t k d below. rw (get_or_default key k d 0 below) (h k), λ all. refl)
 ascii_by false key h = (
   λ t. cc,
-  λ all. elim (below_or_from h.0 (length key)) [
+  λ all. elim (cases_lt h.0 (length key)) [
     | inl within ↦ let low : get_or key h.0 0 < 128 = all h.0 0 within in let high : 128 ≤ get_or key h.0 0 = h.1 in absurd (omega arith)
-    | inr past ↦ let zero_there : get_or key h.0 0 ≡ 0 = get_or-past key h.0 0 past in let high : 128 ≤ get_or key h.0 0 = h.1 in absurd (omega arith)
+    | inr past ↦ let zero_there : get_or key h.0 0 ≡ 0 = get_or_past key h.0 0 past in let high : 128 ≤ get_or key h.0 0 = h.1 in absurd (omega arith)
   ],
 )
 

@@ -1,5 +1,6 @@
 -- The texts of siblings, and how many of them wait.
 use Rattle.std.proofs.Common.{◌≡◌, ℕ, zero, suc, ◌+◌, ◌^◌, ◌<◌, ◌≤◌, ◌⊎◌, inl, inr, List, [], ◌∷◌, ◌++◌, length, refl, sym, ◌∙◌, ap, subst, arith, map, take, get_or, append_assoc, length-append}
+use Rattle.std.proofs.lemmas.Bool.{cases_lt}
 use Rattle.std.specs.List.{concat}
 use Rattle.zerotrie_core.specs.Kind.{simple_ascii}
 use Rattle.zerotrie_core.specs.Maps.{Pairs, with_front, with_run, behind_all, edges}
@@ -11,7 +12,7 @@ use Rattle.zerotrie_core.proofs.CallerLemmas.{Rises, AllAbove, behind_all-nil, l
 use Rattle.zerotrie_build.specs.declared.konst.text.Sibling.{Sibling}
 use Rattle.zerotrie_build.specs.konst.Texts.{Counts, bytes_of, lens_of}
 use Rattle.zerotrie_build.specs.konst.Growing.{DepthsBelow, NoneAt, AllAt, ComesBefore, Aside, SomeBegins, AreAmong}
-use Rattle.zerotrie_build.proofs.Items.{below_or_from}
+
 use Rattle.zerotrie_build.proofs.Runs.{with_run-push, behind_all-other}
 use Rattle.zerotrie_build.proofs.ArrayLemmas.Text.{total_first}
 use Rattle.zerotrie_build.proofs.ArrayLemmas.Runs.{with_run-append, behind_all-append, among_left, among_right, leads_run, leads_edge, beside, beside_more, beside_within}
@@ -70,9 +71,9 @@ FirstFrom low (s ∷ siblings) = low < s.byte
 pub counts_more : (a b m n : ℕ) → Counts a m → Counts b n → Counts (a + b) (m + n)
 counts_more a b m n p q = record {
   small = λ h. let x = p.small (omega arith) in let y = q.small (omega arith) in omega arith;
-  large = λ h. elim (below_or_from a (2 ^ 32)) [
+  large = λ h. elim (cases_lt a (2 ^ 32)) [
     | inr large ↦ let x = p.large large in omega arith
-    | inl small ↦ elim (below_or_from b (2 ^ 32)) [
+    | inl small ↦ elim (cases_lt b (2 ^ 32)) [
       | inr large ↦ let y = q.large large in omega arith
       | inl too ↦ let x = p.small small in let y = q.small too in omega arith
     ]

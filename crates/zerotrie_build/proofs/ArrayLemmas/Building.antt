@@ -1,5 +1,6 @@
 -- What a build into an array, or into another buffer, answers.
 use Rattle.std.proofs.Common.{◌≡◌, ℕ, ◌+◌, ◌-◌, ◌^◌, ◌<◌, ◌≤◌, inl, inr, List, length, refl, sym, ◌∙◌, ap, subst, arith, All, drop}
+use Rattle.std.proofs.lemmas.Bool.{cases_lt}
 use Rattle.zerotrie_core.specs.Kind.{Kind, IsAscii, simple_ascii}
 use Rattle.zerotrie_core.specs.Maps.{Pairs, map_of, Ascends}
 use Rattle.zerotrie_core.specs.Texts.{Lists, Means}
@@ -11,7 +12,7 @@ use Rattle.zerotrie_core.specs.Causes.{ZeroTrieBuildError, NonAsciiError, Buffer
 use Rattle.zerotrie_core.proofs.CallerLemmas.{ascends_apart, entries-map_of, listed_size}
 use Rattle.zerotrie_build.specs.konst.Texts.{EndsIn}
 use Rattle.zerotrie_build.specs.konst.Growing.{IsRefusedBuild, IsWritten}
-use Rattle.zerotrie_build.proofs.Items.{below_or_from}
+
 use Rattle.zerotrie_build.proofs.Building.{some_foreign}
 
 -- the size and the need of the map of pairs that ascend
@@ -51,7 +52,7 @@ array_built k pairs bytes fits canonical up lists short enough =
 
 -- a count below the greatest number is exact
 counted : (buffer bytes : List ℕ) (len : ℕ) → EndsIn buffer len bytes → len + 1 < 2 ^ 64 → len ≡ length bytes
-counted buffer bytes len ends short = elim (below_or_from (length bytes) (2 ^ 64)) [
+counted buffer bytes len ends short = elim (cases_lt (length bytes) (2 ^ 64)) [
   | inl low ↦ ends.exact low
   | inr high ↦ absurd (let c = ends.capped high in omega arith)
 ]
@@ -79,4 +80,4 @@ filled_whole k pairs first buffer len again fits canonical w v room short =
 -- more bytes were counted than there may be
 pub lost : (n k : ℕ) (pairs : Pairs) (buffer : List ℕ) (len : ℕ) → IsWritten k pairs buffer len → n < len → n < 2 ^ 64 → IsRefusalWithin n k pairs BufferTooSmall
 lost n k pairs buffer len w more short =
-    too_small n k pairs w.bytes w.ascends w.lists (elim (below_or_from (length w.bytes) (2 ^ 64)) [ inl low ↦ let e = w.ends.exact low in omega arith | inr high ↦ omega arith ])
+    too_small n k pairs w.bytes w.ascends w.lists (elim (cases_lt (length w.bytes) (2 ^ 64)) [ inl low ↦ let e = w.ends.exact low in omega arith | inr high ↦ omega arith ])

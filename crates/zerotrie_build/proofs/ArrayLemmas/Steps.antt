@@ -1,5 +1,6 @@
 -- What the steps of the walk do, by the texts and the siblings.
 use Rattle.std.proofs.Common.{◌≡◌, ℕ, suc, ◌+◌, ◌-◌, ◌^◌, ◌<◌, ◌≤◌, ◌⊎◌, inl, inr, List, [], ◌∷◌, ◌++◌, length, refl, sym, ◌∙◌, ap, subst, arith, take, drop, get_or, All, reverse, Result, Ok, Err}
+use Rattle.std.proofs.lemmas.Bool.{cases_lt}
 use Rattle.std.specs.Prelude.{OnOk}
 use Rattle.std.proofs.lemmas.List.{drop_more, take-append-drop, reverse-append, length-reverse, length-drop}
 use Rattle.std.proofs.Math.Seq.{take-length}
@@ -12,7 +13,7 @@ use Rattle.zerotrie_build.specs.declared.konst.text.Text.{Text}
 use Rattle.zerotrie_build.specs.Order.{Before}
 use Rattle.zerotrie_build.specs.konst.Texts.{Counts, EndsIn, Has, Prepends, newest_first, bytes_of, lens_of}
 use Rattle.zerotrie_build.specs.konst.Growing.{NoneAt, AllAt, ReadyFor, IsClosedTo, IsReady, Joins, LevelTooWide, RefusedAt, RefusedFrom, RefusedBefore}
-use Rattle.zerotrie_build.proofs.Items.{below_or_from}
+
 use Rattle.zerotrie_build.proofs.OrderLemmas.Parting.{common}
 use Rattle.zerotrie_build.proofs.ArrayLemmas.Parting.{parted, at_most_front}
 use Rattle.zerotrie_build.proofs.ArrayLemmas.Runs.{among_right}
@@ -45,10 +46,10 @@ pub has_same : (t u : Text) (bytes : List ℕ) → t.buffer.now ≡ u.buffer.now
 has_same t u bytes e f h = subst (λ l. EndsIn u.buffer.now l bytes) f (subst (λ b. EndsIn b t.len bytes) e h)
 
 pub sum_exact : (t r : ℕ) → (t < 2 ^ 64 → r ≡ t) → (2 ^ 64 ≤ t → 2 ^ 32 ≤ r) → r < 2 ^ 32 → r ≡ t
-sum_exact t r exact capped small = elim (below_or_from t (2 ^ 64)) [ inl low ↦ exact low | inr high ↦ absurd (let c = capped high in omega arith) ]
+sum_exact t r exact capped small = elim (cases_lt t (2 ^ 64)) [ inl low ↦ exact low | inr high ↦ absurd (let c = capped high in omega arith) ]
 
 pub sum_wide : (t r : ℕ) → (t < 2 ^ 64 → r ≡ t) → (2 ^ 64 ≤ t → 2 ^ 32 ≤ r) → 2 ^ 32 ≤ r → 2 ^ 32 ≤ t
-sum_wide t r exact capped large = elim (below_or_from t (2 ^ 64)) [ inl low ↦ let e = exact low in omega arith | inr high ↦ omega arith ]
+sum_wide t r exact capped large = elim (cases_lt t (2 ^ 64)) [ inl low ↦ let e = exact low in omega arith | inr high ↦ omega arith ]
 
 -- a branch is made of the siblings after a place
 pub joins_at : (d : ℕ) (old mid new : Text) (ss branch left : List Sibling) (start : ℕ) → branch ≡ drop start ss → left ≡ take start ss → AllAt d (newest_first (drop start ss)) → NoneAt d (newest_first (take start ss))

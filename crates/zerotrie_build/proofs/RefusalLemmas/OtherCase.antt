@@ -1,5 +1,6 @@
 -- Keys that differ in case, among keys that ascend.
 use Rattle.std.proofs.Common.{◌≡◌, ℕ, zero, suc, ◌+◌, ◌<◌, ◌≤◌, ◌⊎◌, inl, inr, List, [], ◌∷◌, length, refl, sym, ◌∙◌, ap, arith, get_or, take, All}
+use Rattle.std.proofs.lemmas.Bool.{cases_lt}
 use Rattle.std.specs.Prelude.{◌==◌, ◌≢◌}
 use Rattle.std.specs.Char.{to_ascii_lowercase}
 use Rattle.std.proofs.lemmas.Bool.{eq-eqb, ne_eqb, cases_eq}
@@ -9,7 +10,7 @@ use Rattle.zerotrie_core.specs.Maps.{Pairs, Ascends, IsCaseConsistent, common_fr
 use Rattle.zerotrie_core.proofs.CallerLemmas.{compare_first}
 use Rattle.zerotrie_build.specs.Refused.{key_at, DifferInCase}
 use Rattle.zerotrie_build.specs.passes.OtherCase.{BeginsThen, HasOtherCase, NoneHasOtherCase}
-use Rattle.zerotrie_build.proofs.Items.{Below, below_or_from}
+use Rattle.zerotrie_build.proofs.Items.{Below}
 use Rattle.zerotrie_build.proofs.OrderLemmas.Below.{below_before, before_below}
 use Rattle.zerotrie_build.proofs.OrderLemmas.Parting.{common}
 use Rattle.zerotrie_build.proofs.OrderLemmas.Sorting.{before_trans}
@@ -17,9 +18,9 @@ use Rattle.zerotrie_build.proofs.OrderLemmas.Sorting.{before_trans}
 -- a letter in upper case folds to its other case, and every other byte to itself
 lower_cases : (a : ℕ) → (to_ascii_lowercase a ≡ a + 32) ⊎ (to_ascii_lowercase a ≡ a)
 lower_cases a =
-    elim (below_or_from a 65) [
+    elim (cases_lt a 65) [
       | inl low ↦ inr ((lowercase_is a).1 low)
-      | inr from ↦ elim (below_or_from a 91) [
+      | inr from ↦ elim (cases_lt a 91) [
         | inl upper ↦ inl ((lowercase_is a).0 (omega arith, omega arith))
         | inr high ↦ inr ((lowercase_is a).2 (omega arith))
       ]

@@ -1,5 +1,6 @@
 -- What stands first in a window, as pairs.
 use Rattle.std.proofs.Common.{inl, inr, ◌≡◌, ℕ, suc, ◌+◌, ◌<◌, ◌≤◌, List, [], ◌∷◌, length, refl, ◌∙◌, ap, arith, drop, Bool, true, false, cond, eqb, leb}
+use Rattle.std.proofs.lemmas.Bool.{cases_lt}
 use Rattle.std.proofs.Common.{Some, slice_get, get_or, subst, sym, ◌-◌}
 use Rattle.std.specs.Prelude.{◌&&◌}
 use Rattle.std.proofs.lemmas.List.{drop_all}
@@ -7,7 +8,7 @@ use Rattle.std.proofs.lemmas.Option.{slice_get_within, slice_get-get_or, get_or_
 use Rattle.zerotrie_core.specs.Maps.{Pairs}
 use Rattle.zerotrie_build.specs.passes.Windows.{byte_of, high_front, HasLiteralAt}
 use Rattle.zerotrie_build.specs.declared.windows.Window.{Window}
-use Rattle.zerotrie_build.proofs.Items.{below_or_from}
+
 
 -- a key that has ended has nothing in common with another
 high_nil : (k : List ℕ) → high_front k [] ≡ 0
@@ -15,8 +16,8 @@ high_nil [] = refl
 high_nil (a ∷ k) = refl
 
 pub high_past : (k l : List ℕ) (n : ℕ) → (n < length k → n < length l → ⊥) → high_front (drop n k) (drop n l) ≡ 0
-high_past k l n ended = elim (below_or_from n (length l)) [
-  | inl less ↦ elim (below_or_from n (length k)) [
+high_past k l n ended = elim (cases_lt n (length l)) [
+  | inl less ↦ elim (cases_lt n (length k)) [
     | inl more ↦ absurd (ended more less)
     | inr past ↦ ap (λ x. high_front x (drop n l)) (drop_all n k past)
   ]

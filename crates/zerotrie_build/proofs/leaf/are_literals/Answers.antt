@@ -1,6 +1,7 @@
 use Rattle.std.proofs.Common.{◌≤◌, inl, inr, arith}
+use Rattle.std.proofs.lemmas.List.{get_or_default}
 use Rattle.std.proofs.Math.Nat.{eq-or-lt_of_le}
-use Rattle.zerotrie_build.proofs.Items.{get_or-any}
+
 use Rattle.zerotrie_build.proofs.leaf.are_literals.Goals as goal
 
 pub loop-byte-init : goal.loop-byte-init
@@ -13,4 +14,4 @@ loop-byte-preserved c = λ k below. let le : k ≤ c.loop-byte.byte-index = omeg
 ]
 
 pub returns : goal.returns
-returns c = λ yes k d below. let past = c.loop-byte-test.false in rw (get_or-any c.args.bytes.now k d 0 below) (c.loop-byte.invariant k (omega arith))
+returns c = λ yes k d below. let past = c.loop-byte-test.false in rw (get_or_default c.args.bytes.now k d 0 below) (c.loop-byte.invariant k (omega arith))

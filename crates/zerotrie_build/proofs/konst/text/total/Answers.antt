@@ -1,6 +1,7 @@
 use Rattle.std.proofs.Common.{arith, inl, inr}
+use Rattle.std.proofs.lemmas.Bool.{cases_lt}
 use Rattle.zerotrie_build.proofs.ArrayLemmas.Text.{lens_take}
-use Rattle.zerotrie_build.proofs.Items.{below_or_from}
+
 use Rattle.zerotrie_build.specs.konst.Texts.{newest_first, lens_of}
 use Rattle.zerotrie_core.specs.Branches.{total as total_of}
 use Rattle.std.proofs.Common.{take, ◌^◌}
@@ -13,7 +14,7 @@ loop-sibling-preserved c =
     let s = c.saturating_add-total.ensures in
     record {
       exact = λ h. let x = v.exact (omega arith) in omega arith;
-      capped = λ h. elim (below_or_from (total_of (lens_of (newest_first (take c.loop-sibling.sibling-index c.args.siblings.now)))) (2 ^ 64)) [
+      capped = λ h. elim (cases_lt (total_of (lens_of (newest_first (take c.loop-sibling.sibling-index c.args.siblings.now)))) (2 ^ 64)) [
         | inl small ↦ let x = v.exact small in omega arith
         | inr large ↦ let x = v.capped large in omega arith
       ];
