@@ -14,7 +14,6 @@ use Rattle.zerotrie_core.specs.declared.ZeroTrieBuildError.TheVariants.{NonAscii
 use Rattle.zerotrie_core.proofs.CallerLemmas.{ascends_apart}
 use Rattle.zerotrie_build.specs.Order.{AreKeys}
 
-
 module _ {X : Type 0} (P Q : X → Type 0) (decide : (x : X) → P x ⊎ Q x) where
   none_there : (k : ℕ) (d : X) → k < length (let none : List X = [] in none) → P d
   none_there k d h = let g : k < 0 = h in absurd (omega arith)

@@ -12,7 +12,6 @@ use Rattle.zerotrie_core.proofs.CallerLemmas.{Rises, AllAbove, behind_all-nil, l
 use Rattle.zerotrie_build.specs.declared.konst.text.Sibling.{Sibling}
 use Rattle.zerotrie_build.specs.konst.Texts.{Counts, bytes_of, lens_of}
 use Rattle.zerotrie_build.specs.konst.Growing.{DepthsBelow, NoneAt, AllAt, ComesBefore, Aside, SomeBegins, AreAmong}
-
 use Rattle.zerotrie_build.proofs.Runs.{with_run-push, behind_all-other}
 use Rattle.zerotrie_build.proofs.ArrayLemmas.Text.{total_first}
 use Rattle.zerotrie_build.proofs.ArrayLemmas.Runs.{with_run-append, behind_all-append, among_left, among_right, leads_run, leads_edge, beside, beside_more, beside_within}

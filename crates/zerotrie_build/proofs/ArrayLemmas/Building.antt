@@ -12,7 +12,6 @@ use Rattle.zerotrie_core.specs.Causes.{ZeroTrieBuildError, NonAsciiError, Buffer
 use Rattle.zerotrie_core.proofs.CallerLemmas.{ascends_apart, entries-map_of, listed_size}
 use Rattle.zerotrie_build.specs.konst.Texts.{EndsIn}
 use Rattle.zerotrie_build.specs.konst.Growing.{IsRefusedBuild, IsWritten}
-
 use Rattle.zerotrie_build.proofs.Building.{some_foreign}
 
 -- the size and the need of the map of pairs that ascend

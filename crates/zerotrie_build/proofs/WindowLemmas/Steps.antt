@@ -9,7 +9,6 @@ use Rattle.zerotrie_core.specs.Maps.{Pairs}
 use Rattle.zerotrie_build.specs.passes.Windows.{byte_of, high_front, HasLiteralAt}
 use Rattle.zerotrie_build.specs.declared.windows.Window.{Window}
 
-
 -- a key that has ended has nothing in common with another
 high_nil : (k : List ℕ) → high_front k [] ≡ 0
 high_nil [] = refl

@@ -1,7 +1,6 @@
 use Rattle.std.proofs.Common.{◌≤◌, inl, inr, arith}
 use Rattle.std.proofs.lemmas.List.{get_or_default}
 use Rattle.std.proofs.Math.Nat.{eq-or-lt_of_le}
-
 use Rattle.zerotrie_build.proofs.leaf.are_literals.Goals as goal
 
 pub loop-byte-init : goal.loop-byte-init
