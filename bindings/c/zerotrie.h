@@ -45,6 +45,13 @@
 #include <stddef.h>
 #include <stdint.h>
 
+/* A function of two lines that stands here whole. C++ wants one of them for all files. */
+#ifdef __cplusplus
+#define ZEROTRIE_INLINE inline
+#else
+#define ZEROTRIE_INLINE static inline
+#endif
+
 #ifdef __cplusplus
 extern "C" {
 #endif
@@ -100,7 +107,7 @@ typedef struct zerotrie_cursor {
 } zerotrie_cursor;
 
 /* Bytes from any pointer; null stands for none. */
-static inline zerotrie_bytes zerotrie_bytes_of(const void *ptr, size_t len) {
+ZEROTRIE_INLINE zerotrie_bytes zerotrie_bytes_of(const void *ptr, size_t len) {
     zerotrie_bytes made;
     made.ptr = ptr ? (const uint8_t *)ptr : (const uint8_t *)"";
     made.len = ptr ? len : 0;
@@ -225,8 +232,9 @@ uint32_t zerotrie_list(uint32_t kind, const uint8_t *bytes, size_t len, const ui
  * one, nothing comes. It may not lie in `keys`, so copy it. *count tells how many pairs were written; the rest of each room
  * stays. ZEROTRIE_DONE: none is left. ZEROTRIE_BUFFER_TOO_SMALL: pairs are left, and the key of the next one takes *next_len
  * bytes; if *count is 0, some room has too few places for even this one. ZEROTRIE_OUT_OF_MEMORY: the pairs that are counted
- * are written all the same. ZEROTRIE_UNKNOWN_KIND: the rooms and *count stay. A call costs a
- * look-up of `last` and what it lists. Takes memory, as much as the longest key and the deepest branches. */
+ * are written all the same. ZEROTRIE_UNKNOWN_KIND: the rooms and *count stay. On bytes that are no trie a key may come twice, and
+ * the parts then come round without end. A call costs a look-up of `last` and what it lists. Takes memory, as much as the
+ * longest key and the deepest branches. */
 uint32_t zerotrie_list_some(uint32_t kind, const uint8_t *bytes, size_t len, const uint8_t *prefix, size_t prefix_len,
                             bool goes_on, const uint8_t *last, size_t last_len, uint8_t *keys, size_t keys_len,
                             size_t *ends, size_t ends_len, size_t *values, size_t values_len, size_t *count,
@@ -238,7 +246,7 @@ uint32_t zerotrie_list_some(uint32_t kind, const uint8_t *bytes, size_t len, con
 void zerotrie_status_bytes(uint32_t status, zerotrie_bytes *text);
 
 /* The text of a status, as "the keys do not ascend: sort them by their bytes, each once". */
-static inline const char *zerotrie_status_text(uint32_t status) {
+ZEROTRIE_INLINE const char *zerotrie_status_text(uint32_t status) {
     zerotrie_bytes text;
     zerotrie_status_bytes(status, &text);
     return (const char *)text.ptr;

@@ -44,7 +44,15 @@ inline zerotrie_bytes of(std::string_view text) { return zerotrie_bytes_of(text.
 inline std::string_view text_of(zerotrie_bytes bytes) { return {reinterpret_cast<const char *>(bytes.ptr), bytes.len}; }
 inline uint8_t *room(std::string &text) { return reinterpret_cast<uint8_t *>(text.data()); }
 // A std::string that nothing else holds: a view of it would be left with nothing.
-template <class T> using Passing = std::enable_if_t<std::is_same_v<T, std::string>>;
+template <class T> using Passing = std::enable_if_t<std::is_same_v<std::remove_const_t<T>, std::string>>;
+// A value as C has it.
+template <class T> size_t number_of(T value) {
+    static_assert(std::is_integral_v<T>, "a value is a whole number");
+    if constexpr (std::is_signed_v<T>) {
+        if (value < 0) throw std::out_of_range("a value is from 0 to 2^64 - 1");
+    }
+    return static_cast<size_t>(value);
+}
 inline void check(uint32_t status) {
     if (status != ZEROTRIE_DONE) throw Error(status);
 }
@@ -99,22 +107,29 @@ public:
         using iterator_category = std::input_iterator_tag;
         using value_type = Items::value_type;
         using difference_type = std::ptrdiff_t;
-        using pointer = const value_type *;
         using reference = value_type;
+        struct pointer {
+            Items::value_type pair;
+            const Items::value_type *operator->() const { return &pair; }
+        };
+        iterator() = default;
         iterator(const Items *items, size_t at) : items_(items), at_(at) {}
         value_type operator*() const { return (*items_)[at_]; }
+        pointer operator->() const { return {**this}; }
         iterator &operator++() { return ++at_, *this; }
         iterator operator++(int) { auto old = *this; return ++at_, old; }
         bool operator==(const iterator &other) const { return at_ == other.at_; }
         bool operator!=(const iterator &other) const { return at_ != other.at_; }
 
     private:
-        const Items *items_;
-        size_t at_;
+        const Items *items_ = nullptr;
+        size_t at_ = 0;
     };
     Items(Kind kind, std::string_view bytes, std::string_view prefix) {
         const auto trie = detail::of(bytes), front = detail::of(prefix);
         uint32_t status = ZEROTRIE_BUFFER_TOO_SMALL;
+        size_t parts = 0;
+        std::string earlier;
         // a part at a time, each with twice the room of the one before, up to a megabyte, and places for keys as long as those so far
         for (size_t room = 4096; status == ZEROTRIE_BUFFER_TOO_SMALL;) {
             const size_t from = keys_.size(), at = size();
@@ -129,6 +144,13 @@ public:
             ends_.resize(at + count), values_.resize(at + count);
             keys_.resize(empty() ? 0 : ends_.back());
             room = std::max(std::min<size_t>(2 * room, 1 << 20), next_len);
+            // No trie has a key twice. On other bytes the parts may come round to a key, and then the listing ends here.
+            if (count > 0 && status == ZEROTRIE_BUFFER_TOO_SMALL) {
+                const std::string_view now = (*this)[size() - 1].first;
+                if (parts > 0 && now == earlier) return;
+                parts++;
+                if ((parts & (parts - 1)) == 0) earlier = now;
+            }
         }
         detail::check(status);
     }
@@ -199,6 +221,8 @@ public:
         if (!zerotrie_longest_prefix(number(), at.ptr, at.len, t.ptr, t.len, &len, &value)) return std::nullopt;
         return std::pair(text.substr(0, len), value);
     }
+    template <class T, class = detail::Passing<T>>
+    std::optional<std::pair<std::string_view, size_t>> longest_prefix(T &&) const = delete;
     // A cursor in front of all keys.
     Cursor cursor() const { return Cursor(kind_, bytes_); }
     // A cursor after a prefix. nullopt: no key begins with it.
@@ -219,8 +243,11 @@ private:
 
 // Pairs as C has them, of any range whose elements have a key, which makes a std::string_view, and a value.
 template <class Pairs> std::vector<zerotrie_pair> pairs_of(const Pairs &pairs) {
+    using Item = decltype(*std::begin(pairs));
+    static_assert(std::is_lvalue_reference_v<Item> || std::is_trivially_destructible_v<Item>,
+                  "the range makes each pair anew, and its key would be gone: put the pairs into a container first");
     std::vector<zerotrie_pair> items;
-    for (const auto &[key, value] : pairs) items.push_back({detail::of(std::string_view(key)), static_cast<size_t>(value)});
+    for (const auto &[key, value] : pairs) items.push_back({detail::of(std::string_view(key)), detail::number_of(value)});
     items.reserve(1);
     return items;
 }
@@ -284,7 +311,7 @@ template <class Rows> std::string build_dense(const Rows &rows, char delimiter) 
         for (const auto &[suffix, value] : row) {
             prefixes += std::string_view(prefix), suffixes += std::string_view(suffix);
             prefix_ends.push_back(prefixes.size()), suffix_ends.push_back(suffixes.size());
-            values.push_back(static_cast<size_t>(value));
+            values.push_back(detail::number_of(value));
         }
     }
     const size_t count = values.size();

@@ -114,7 +114,10 @@ def _load() -> ctypes.CDLL:
     here = os.path.dirname(os.path.abspath(__file__))
     near = [os.path.join(here, "libzerotrie.so"), os.path.join(here, os.pardir, "build", "libzerotrie.so")]
     found = [os.environ.get("ZEROTRIE_SO", ""), *filter(os.path.exists, near), "libzerotrie.so.0"]
-    lib = ctypes.CDLL(next(filter(None, found)))
+    try:
+        lib = ctypes.CDLL(next(filter(None, found)))
+    except OSError as error:
+        raise ImportError(f"{error}: run bindings/make, or name libzerotrie.so in ZEROTRIE_SO") from error
     for name, (result, arguments) in _DECLARED.items():
         function = getattr(lib, name)
         function.restype, function.argtypes = result, arguments
@@ -127,17 +130,23 @@ _lib = _load()
 def _key(key: Key) -> bytes:
     if type(key) is bytes:
         return key
-    return key.encode() if isinstance(key, str) else bytes(key)
+    # a number is no key: bytes() would make as many zeros of it
+    return key.encode() if isinstance(key, str) else bytes(memoryview(key))
+
+
+def _number(number: int, bits: int, what: str) -> int:
+    # ctypes would cut off what is too much
+    if not 0 <= number < 1 << bits:
+        raise OverflowError(f"{what} is from 0 to 2**{bits} - 1")
+    return number
 
 
 def _raw_pairs(pairs: Pairs) -> "ctypes.Array[_Pair]":
     given = list(pairs.items() if isinstance(pairs, Mapping) else pairs)
     raw = (_Pair * max(1, len(given)))()
     for place, (key, value) in zip(raw, given):
-        if not 0 <= value < 1 << 64:
-            raise OverflowError("a value is from 0 to 2**64 - 1")
         text = _key(key)
-        place.key.ptr, place.key.len, place.value = text, len(text), value
+        place.key.ptr, place.key.len, place.value = text, len(text), _number(value, 64, "a value")
     raw.count = len(given)
     return raw
 
@@ -159,8 +168,7 @@ def build(pairs: Pairs, kind: Optional[int] = None) -> bytes:
     zerotrie.ZeroTrieError: a key was given twice: give each key once
     """
     raw = _raw_pairs(pairs)
-    if kind is None:
-        kind = _lib.zerotrie_auto_kind(raw, raw.count)
+    kind = _lib.zerotrie_auto_kind(raw, raw.count) if kind is None else _number(kind, 32, "a kind")
     length = c_size_t(sum(pair.key.len + 4 for pair in raw))
     for _ in range(2):
         room = (c_uint8 * max(1, length.value))()
@@ -180,15 +188,16 @@ def auto_kind(pairs: Pairs) -> int:
 def encoded_len(pairs: Pairs, kind: int) -> int:
     """How many bytes the trie has of pairs whose keys ascend by their bytes; ZeroTrieError if they don't. It builds nothing."""
     raw, length = _raw_pairs(pairs), c_size_t()
-    _check(_lib.zerotrie_encoded_len(kind, raw, raw.count, length))
+    _check(_lib.zerotrie_encoded_len(_number(kind, 32, "a kind"), raw, raw.count, length))
     return length.value
 
 
 def tagged(data: bytes, kind: int) -> bytes:
     """Tagged bytes: the number of the kind, then the bytes. ZeroTrie.open() and from_tagged() read them."""
+    data = bytes(memoryview(data))
     room, length = (c_uint8 * (len(data) + 1))(), c_size_t()
-    lent = ctypes.cast(ctypes.c_char_p(bytes(data)), c_void_p)
-    _check(_lib.zerotrie_tagged(kind, lent, len(data), room, len(room), length))
+    lent = ctypes.cast(ctypes.c_char_p(data), c_void_p)
+    _check(_lib.zerotrie_tagged(_number(kind, 32, "a kind"), lent, len(data), room, len(room), length))
     return bytes(room)
 
 
@@ -209,12 +218,13 @@ class Cursor:
     def step(self, byte: int) -> Optional[int]:
         """Goes along the edge that is the byte to the kind, and answers its byte as it is stored. None: nothing is left."""
         edge = c_uint8()
-        return edge.value if _lib.zerotrie_cursor_step(self._trie.kind, self._raw, byte, edge) else None
+        found = _lib.zerotrie_cursor_step(self._trie.kind, self._raw, _number(byte, 8, "a byte"), edge)
+        return edge.value if found else None
 
     def probe(self, index: int) -> Optional[tuple[int, int]]:
         """Goes along edge number `index`, from 0, and answers its byte and how many edges there are. None: nothing is left."""
         edge, siblings = c_uint8(), c_uint16()
-        found = _lib.zerotrie_cursor_probe(self._trie.kind, self._raw, index, edge, siblings)
+        found = _lib.zerotrie_cursor_probe(self._trie.kind, self._raw, _number(index, 64, "an index"), edge, siblings)
         return (edge.value, siblings.value) if found else None
 
     def take_value(self) -> Optional[int]:
@@ -253,7 +263,7 @@ class ZeroTrie(Mapping[bytes, int]):
     __slots__ = ("kind", "_data", "_view", "_at", "_len", "__weakref__")
 
     def __init__(self, data: Any, kind: int = SIMPLE_ASCII, check: bool = True) -> None:
-        self.kind, self._data = kind, data
+        self.kind, self._data = _number(kind, 32, "a kind"), data
         self._view = memoryview(data).cast("B")
         self._len = len(self._view)
         if not self._len:
@@ -289,7 +299,7 @@ class ZeroTrie(Mapping[bytes, int]):
         """The trie that a file holds, mapped into memory: tagged bytes, as `zerotrie build` writes them, or, with a kind, the trie alone."""
         with open(path, "rb") as file:
             size = os.fstat(file.fileno()).st_size
-            data: Any = mmap.mmap(file.fileno(), 0, access=mmap.ACCESS_READ) if size else b""
+            data: Any = mmap.mmap(file.fileno(), 0, access=mmap.ACCESS_READ) if size else file.read()
         return cls.from_tagged(data, check) if kind is None else cls(data, kind, check)
 
     def is_well_formed(self) -> bool:
@@ -319,7 +329,7 @@ class ZeroTrie(Mapping[bytes, int]):
         values = array.array("Q", bytes(8 * len(texts)))
         sizes = c_size_t * len(texts)
         _check(_lib.zerotrie_get_many(self.kind, self._at, self._len, b"".join(texts), ends[-1], sizes.from_buffer(ends), len(texts),
-                                      missing, sizes.from_buffer(values), len(texts)))
+                                      _number(missing, 64, "missing"), sizes.from_buffer(values), len(texts)))
         return values
 
     def longest_prefix(self, text: Key) -> Optional[tuple[bytes, int]]:
@@ -352,13 +362,16 @@ class ZeroTrie(Mapping[bytes, int]):
         front, last, goes_on = _key(prefix), b"", False
         room, places = min(1 << 16, 8 * self._len + 1), min(1 << 12, self._len + 1)
         count, next_len, status = c_size_t(), c_size_t(), _TOO_SMALL
-        while status == _TOO_SMALL:
+        # bytes list at most as many pairs as they are; if they are no trie, the parts may come round
+        left = self._len + 1
+        while status == _TOO_SMALL and left > 0:
             keys, ends, values = (c_uint8 * room)(), (c_size_t * places)(), (c_size_t * places)()
             status = _lib.zerotrie_list_some(self.kind, self._at, self._len, front, len(front), goes_on, last, len(last),
                                              keys, room, ends, places, values, places, count, next_len)
             if status != _TOO_SMALL:
                 _check(status)
-            text, n = bytes(keys), count.value
+            text, n = bytes(keys), min(count.value, left)
+            left -= n
             yield text, ends, values, n
             if n > 0:
                 last, goes_on = text[ends[n - 2] if n > 1 else 0 : ends[n - 1]], True
@@ -385,7 +398,7 @@ class ZeroTrie(Mapping[bytes, int]):
         return self.keys()
 
     def __len__(self) -> int:
-        """How many pairs there are, counted by listing all."""
+        """How many pairs there are, counted by listing all. list() and sorted() ask for it first, so they list twice."""
         return sum(count for _, _, _, count in self._parts(b""))
 
     def __bool__(self) -> bool:
@@ -401,12 +414,19 @@ class ZeroTrie(Mapping[bytes, int]):
         return tagged(bytes(self._view), self.kind)
 
     def __eq__(self, other: object) -> bool:
-        return isinstance(other, ZeroTrie) and (self.kind, self._view) == (other.kind, other._view)
+        if not isinstance(other, ZeroTrie):
+            return NotImplemented
+        return (self.kind, self._view) == (other.kind, other._view)
 
     def __hash__(self) -> int:
         return hash((self.kind, bytes(self._view)))
 
+    def __reduce__(self) -> "tuple[type, tuple[bytes, int, bool]]":
+        return ZeroTrie, (bytes(self._view), self.kind, False)
+
     def __repr__(self) -> str:
+        if self._len > 64:
+            return f"<ZeroTrie of {self._len} bytes, kind={self.kind}>"
         return f"ZeroTrie({bytes(self._view)!r}, kind={self.kind})"
 
 
@@ -424,10 +444,8 @@ def build_dense(rows: Mapping[Key, Mapping[Key, int]], delimiter: Key = b"/") ->
     prefix_ends, suffix_ends, values = ((c_size_t * max(1, count))() for _ in range(3))
     at = to = 0
     for number, ((prefix, suffix), value) in enumerate(entries):
-        if not 0 <= value < 1 << 64:
-            raise OverflowError("a value is from 0 to 2**64 - 1")
         at, to = at + len(prefix), to + len(suffix)
-        prefix_ends[number], suffix_ends[number], values[number] = at, to, value
+        prefix_ends[number], suffix_ends[number], values[number] = at, to, _number(value, 64, "a value")
     prefixes, suffixes = (b"".join(texts[which] for texts, _ in entries) for which in (0, 1))
     length = c_size_t(64 + at + to + 8 * count)
     for _ in range(2):
@@ -446,8 +464,11 @@ class DenseTable:
     __slots__ = ("_record", "_at")
 
     def __init__(self, record: bytes) -> None:
-        self._record = bytes(record)
+        self._record = record if type(record) is bytes else bytes(memoryview(record))
         self._at = ctypes.cast(c_char_p(self._record), c_void_p)
+
+    def __reduce__(self) -> "tuple[type, tuple[bytes]]":
+        return DenseTable, (self._record,)
 
     def get(self, prefix: Key, suffix: Key, default: Any = None) -> Any:
         """The value of a suffix under a prefix, or `default`. ZeroTrieError if the bytes are no record."""

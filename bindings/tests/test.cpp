@@ -68,6 +68,11 @@ static void against_a_map(size_t calls) {
     }
 }
 
+// Whether longest_prefix takes a string that ends with the statement, into which it would hand out a view.
+template <class T, class = void> struct takes_passing_text : std::false_type {};
+template <class T>
+struct takes_passing_text<T, std::void_t<decltype(std::declval<const T &>().longest_prefix(std::declval<std::string>()))>> : std::true_type {};
+
 int main(int count, char **arguments) {
     const Map map{{"foo", 1}, {"bar", 2}, {"bazzoo", 3}};
     const std::string bytes = zerotrie::build(Kind::SimpleAscii, map);
@@ -78,7 +83,11 @@ int main(int count, char **arguments) {
     const std::string tagged = zerotrie::tagged(Kind::SimpleAscii, bytes);
     CHECK(tagged.size() == 18 && zerotrie::Trie::from_tagged(tagged)->get("foo") == 1 && !zerotrie::Trie::from_tagged("\5"));
     const auto items = trie->items("ba");
-    CHECK(items.size() == 2 && (*items.begin()).first == "bar" && items[1].second == 3);
+    CHECK(items.size() == 2 && (*items.begin()).first == "bar" && items.begin()->second == 2 && items[1].second == 3);
+    CHECK(zerotrie::build(Kind::SimpleAscii, items) == zerotrie::build(Kind::SimpleAscii, Map{{"bar", 2}, {"bazzoo", 3}}));
+    // bytes that are no trie, of which each byte is a value of the empty key: their listing ends
+    const std::string hostile(300000, '\x81');
+    CHECK(!zerotrie::Trie(Kind::SimpleAscii, hostile).items().empty());
     CHECK(zerotrie::Trie(Kind::SimpleAscii, {}).items().empty());
     CHECK((trie->get_many(std::vector<const char *>{"bar", "ba", ""}, 0) == std::vector<size_t>{2, 0, 0}));
     CHECK(trie->get_many(std::vector<std::string>{}, 0).empty());
@@ -87,6 +96,11 @@ int main(int count, char **arguments) {
         CHECK(false);
     } catch (const zerotrie::Error &error) {
         CHECK(error.status == ZEROTRIE_DUPLICATE_KEY && std::string(error.what()) == "a key was given twice: give each key once");
+    }
+    try {
+        zerotrie::build(Kind::SimpleAscii, std::map<std::string, int>{{"a", -1}});
+        CHECK(false);
+    } catch (const std::out_of_range &) {
     }
     const std::map<std::string, Map> rows{{"de", {{"AT", 8}, {"CH", 9}}}, {"en", {{"US", 5}}}};
     const std::string record = zerotrie::build_dense(rows, '/');
@@ -98,7 +112,9 @@ int main(int count, char **arguments) {
     static_assert(std::is_constructible_v<zerotrie::Trie, Kind, const std::string &>);
     static_assert(std::is_constructible_v<zerotrie::Trie, Kind, const char *>);
     static_assert(!std::is_constructible_v<zerotrie::Trie, Kind, std::string>);
+    static_assert(!std::is_constructible_v<zerotrie::Trie, Kind, const std::string>);
     static_assert(!std::is_constructible_v<zerotrie::DenseTable, std::string>);
+    static_assert(!takes_passing_text<zerotrie::Trie>::value);
     try {
         zerotrie::DenseTable(std::string_view(record).substr(1)).get("de", "CH");
         CHECK(false);

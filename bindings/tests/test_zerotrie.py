@@ -1,5 +1,7 @@
 """Calls the library from Python."""
 
+import array
+import copy
 import mmap
 import os
 import pathlib
@@ -8,6 +10,7 @@ import random
 import sys
 import tempfile
 import threading
+import unittest.mock
 
 sys.path.insert(0, str(pathlib.Path(__file__).parent / "../python"))
 import zerotrie  # noqa: E402
@@ -60,6 +63,19 @@ assert refused(ZeroTrieError, build, {}, 9).status == 12
 again = pickle.loads(pickle.dumps(refused(ZeroTrieError, build, [("a", 1), ("a", 2)])))
 assert again.status == 6 and str(again) == "a key was given twice: give each key once"
 assert refused(ZeroTrieError, ZeroTrie.from_tagged, b"\1").status == 14
+# numbers that are no keys, and such as are too large
+for call in (trie.__getitem__, trie.get, trie.__contains__, trie.longest_prefix, lambda key: build([(key, 1)]), zerotrie.DenseTable):
+    refused(TypeError, call, 5)
+for call in (trie.cursor().step, trie.cursor().probe, lambda n: trie.get_many(["x"], n), lambda n: ZeroTrie(b"", n), lambda n: build({}, n)):
+    refused(OverflowError, call, 1 << 64)
+    refused(OverflowError, call, -1)
+assert list(trie.get_many(["foo", "x"], (1 << 64) - 1)) == [1, (1 << 64) - 1]
+numbers = array.array("I", [1, 2, 3])
+assert zerotrie.tagged(numbers, 0) == b"\0" + numbers.tobytes()
+assert pickle.loads(pickle.dumps(trie)) == copy.deepcopy(trie) == trie == unittest.mock.ANY and trie != 5
+assert repr(ZeroTrie(b"a\x85")) == "ZeroTrie(b'a\\x85', kind=0)"
+# bytes that are no trie, of which each byte is a value of the empty key: their listing ends
+assert 5000 <= len(ZeroTrie(b"\x81" * 5000, check=False)) <= 5001
 cursor = trie.cursor()
 assert (cursor.step(ord("f")), cursor.probe(0), cursor.run, bool(cursor)) == (ord("f"), (ord("o"), 1), b"", True)
 assert cursor.step(ord("x")) is None and not cursor
@@ -72,6 +88,7 @@ for p in map(str, range(41)):
     for s in ("", *map(str, range(31)), "/", "å"):
         assert table.get(p, s) == rows.get(p, {}).get(s), (p, s)
 assert table.get("0", "0", 7) == 7
+assert pickle.loads(pickle.dumps(table)).get("1", "0") == table.get("1", "0")
 for status, wrong in ((16, record[:-1]), (16, b""), (17, record + b"?")):
     assert refused(ZeroTrieError, zerotrie.DenseTable(wrong).get, "1", "").status == status
 for status, wrong in ((5, {"a": {"b/c": 1}}), (1, {"a": {"å": 1}}), (1, {b"\xFF": {"b": 1}})):
@@ -83,6 +100,10 @@ with tempfile.TemporaryDirectory() as room:
     path = os.path.join(room, "tagged")
     pathlib.Path(path).write_bytes(trie.to_tagged())
     assert dict(ZeroTrie.open(path)) == dict(trie)
+    pipe = os.pipe()
+    os.write(pipe[1], trie.to_tagged())
+    os.close(pipe[1])
+    assert ZeroTrie.open(f"/dev/fd/{pipe[0]}") == trie
     pathlib.Path(path).write_bytes(bytes(trie))
     assert ZeroTrie.open(path, SIMPLE_ASCII)["foo"] == 1
     with open(path, "r+b") as file:

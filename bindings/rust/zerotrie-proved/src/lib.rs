@@ -19,8 +19,9 @@
 //! safe: it returns on any bytes, and any number of threads may read one trie at once. Bytes from elsewhere are tested by
 //! [`ZeroTrie::try_from_bytes`] or [`ZeroTrie::load`]; on bytes that are no trie each call still gives some answer.
 //!
-//! A package names it by its path, as `zerotrie-proved = { path = "zt/bindings/rust/zerotrie-proved" }`. It is `no_std` with `alloc`. What the library itself takes during a build or a listing comes from the C library's `malloc`, and
-//! [`Error::OutOfMemory`] tells that there was none. `bindings/make` makes the static library that is linked; the variable `ZEROTRIE_LIB`
+//! A package names it by its path, as `zerotrie-proved = { path = "zt/bindings/rust/zerotrie-proved" }`. It is `no_std` with `alloc`.
+//! What the library itself takes during a build or a listing comes from the C library's `malloc`, and [`Error::OutOfMemory`] tells
+//! that there was none. `bindings/make` makes the static library that is linked; the variable `ZEROTRIE_LIB`
 //! names its folder, if it is another.
 #![no_std]
 extern crate alloc;
@@ -363,6 +364,7 @@ impl<'a> ZeroTrie<'a> {
         let mut items = Items { keys: vec![], ends: vec![], values: vec![], next: 0 };
         // a part at a time, each with twice the room of the one before, up to a megabyte, and places for keys as long as those so far
         let mut room = 4096;
+        let (mut parts, mut earlier) = (0usize, 0..0);
         loop {
             let (from, at) = (items.keys.len(), items.ends.len());
             let places = room / (from / at.max(1)).max(4) + 1;
@@ -400,6 +402,17 @@ impl<'a> ZeroTrie<'a> {
                 *end += from;
             }
             items.keys.truncate(items.ends.last().copied().unwrap_or(0));
+            // No trie has a key twice. On other bytes the parts may come round to a key, and then the listing ends here.
+            if status == 8 && count > 0 {
+                let now = (if items.ends.len() < 2 { 0 } else { items.ends[items.ends.len() - 2] })..items.keys.len();
+                if parts > 0 && items.keys[now.clone()] == items.keys[earlier.clone()] {
+                    return Ok(items);
+                }
+                parts += 1;
+                if parts.is_power_of_two() {
+                    earlier = now;
+                }
+            }
             match status {
                 0 => return Ok(items),
                 8 => room = (2 * room).min(1 << 20).max(next_len),

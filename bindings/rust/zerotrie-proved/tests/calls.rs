@@ -33,6 +33,15 @@ fn the_map_that_went_in_comes_out() {
     assert_eq!(Kind::for_pairs(&pairs[..511]), Kind::SimpleAscii);
 }
 
+/// Bytes that are no trie: each of them is a value of the empty key.
+#[test]
+fn a_listing_of_any_bytes_ends() {
+    let bytes = vec![0x81; 300_000];
+    let trie = ZeroTrie::from_bytes(Kind::SimpleAscii, &bytes);
+    assert!(trie.prefix("").unwrap().all(|pair| pair == (vec![], 1)));
+    assert!(trie.iter().count() <= bytes.len());
+}
+
 #[test]
 fn refusals() {
     assert_eq!(build(Kind::SimpleAscii, [("å", 1)]), Err(Error::NonAscii));

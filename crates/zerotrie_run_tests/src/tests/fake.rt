@@ -2,62 +2,61 @@
 
 ghost use Rattle.std.specs.Prelude.{None};
 
-use std::alloc::{AllocError, Global};
+use std::alloc::Global;
 use std::io;
 use std::io::ErrorKind;
 use zerotrie_files::Store;
 
-/// Files in memory. No clause says what they hold.
+/// Files in memory: those that are given, and the last one that was made. No clause says what they hold.
 #[derive(Drop)]
-pub struct Fake {
+pub struct Fake<'a> {
     alloc: Global,
-    files: Vec<(String, Vec<u8>)>,
+    given: &'a [(&'a str, &'a [u8])],
+    made: Option<(String, Vec<u8>)>,
 }
 
-impl Fake {
+impl<'a> Fake<'a> {
     /// Files by their paths.
-    pub fn with(alloc: Global, files: &[(&str, &[u8])]) -> Result<Self, AllocError> {
-        let mut fake = Fake {
+    pub fn with(alloc: Global, given: &'a [(&'a str, &'a [u8])]) -> Self {
+        Fake {
             alloc,
-            files: Vec::new(alloc),
-        };
-        for (path, bytes) in files {
-            fake.put(path, bytes)?;
+            given,
+            made: None,
         }
-        Ok(fake)
     }
 
-    /// Puts a file in place of the one that has its path, if there is one.
-    fn put(&mut self, path: &str, bytes: &[u8]) -> Result<(), AllocError> {
-        let copy = Vec::from_slice(self.alloc, bytes)?;
-        for (name, held) in &mut self.files {
+    /// What the file of a path holds. `None` if there is none.
+    pub fn held(&self, path: &str) -> Option<&[u8]> {
+        if let Some((name, bytes)) = &self.made {
             if name.as_str() == path {
-                *held = copy;
-                return Ok(());
+                return Some(bytes.as_slice());
             }
         }
-        self.files
-            .push((String::from_str(self.alloc, path)?, copy))?;
-        Ok(())
+        for (name, bytes) in self.given {
+            if *name == path {
+                return Some(*bytes);
+            }
+        }
+        None
     }
 }
 
-impl Store for Fake {
+impl Store for Fake<'_> {
     ghost files = { λ _. None };
 
     fn read(&self, path: &str) -> io::Result<Vec<u8>> {
-        for (name, held) in &self.files {
-            if name.as_str() == path {
-                return Ok(Vec::from_slice(self.alloc, held.as_slice())?);
-            }
+        match self.held(path) {
+            Some(bytes) => Ok(Vec::from_slice(self.alloc, bytes)?),
+            None => Err(io::Error::from(ErrorKind::NotFound)),
         }
-        Err(io::Error::from(ErrorKind::NotFound))
     }
 
     fn replace(&mut self, path: &str, bytes: &[u8]) -> io::Result<()> {
         if path == "full" {
             return Err(io::Error::from(ErrorKind::StorageFull));
         }
-        Ok(self.put(path, bytes)?)
+        let name = String::from_str(self.alloc, path)?;
+        self.made = Some((name, Vec::from_slice(self.alloc, bytes)?));
+        Ok(())
     }
 }
