@@ -90,6 +90,7 @@ impl Subcommand {
 /// What the command line may be.
 pub fn command<'a>(alloc: Global) -> Result<Command<'a>, AllocError> {
     let mut program = Command::new(alloc, "zerotrie")
+        .bin_name("zerotrie")?
         .version("0.2.5-1")
         .about("Makes tries in files and reads them")
         .subcommand_required(true)

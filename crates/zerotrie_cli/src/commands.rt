@@ -4,7 +4,8 @@ use crate::arguments::command;
 use crate::build::build_in;
 use crate::question::{file_in, question_in, words_in};
 use clap::ArgMatches;
-use std::io::{BufWriter, ErrorKind, IsTerminal};
+use clap::error::ErrorKind;
+use std::io::{BufWriter, IsTerminal};
 use std::{env, io};
 use zerotrie_files::SystemStore;
 use zerotrie_run::{Command, Status, run};
@@ -52,6 +53,22 @@ fn arguments(rt: &HostRuntime) -> io::Result<Vec<String>> {
     Ok(env::args(rt)?.collect(rt.alloc())?)
 }
 
+/// Shows what clap says of the words: what is wrong with them, or help or the version, which they asked for.
+fn show(rt: &HostRuntime, said: &clap::Error) -> Status {
+    let shown = said.print(rt);
+    match said.kind() {
+        ErrorKind::OutOfMemory => Status::Fault,
+        ErrorKind::DisplayHelp | ErrorKind::DisplayVersion => match shown {
+            Ok(()) => Status::Done,
+            Err(error) => {
+                let _ = eprintln!(rt; "zerotrie: standard output: {error}");
+                Status::Fault
+            }
+        },
+        _ => Status::BadUsage,
+    }
+}
+
 /// Does what the words ask.
 fn obey(rt: &HostRuntime, words: &[String]) -> Status {
     let known = match command(rt.alloc()) {
@@ -67,14 +84,7 @@ fn obey(rt: &HostRuntime, words: &[String]) -> Status {
             Some((name, matches)) => run_question(rt, matches, name),
             None => Status::BadUsage,
         },
-        Err(error) => {
-            let _ = error.print(rt);
-            if error.use_stderr() {
-                Status::BadUsage
-            } else {
-                Status::Done
-            }
-        }
+        Err(error) => show(rt, &error),
     }
 }
 
@@ -84,7 +94,7 @@ pub fn run_words(rt: &HostRuntime) -> Status {
         Ok(words) => obey(rt, words.as_slice()),
         Err(error) => {
             let _ = eprintln!(rt; "zerotrie: the arguments can't be read: {error}");
-            if error.kind() == ErrorKind::InvalidData {
+            if error.kind() == io::ErrorKind::InvalidData {
                 Status::BadUsage
             } else {
                 Status::Fault

@@ -198,6 +198,10 @@ pub fn tell_build<M: Write>(
     let from = source_name(build.from);
     match error {
         BuildError::Unread(error) => writeln!(messages, "zerotrie: {from}: {error}"),
+        // a text of its own would take memory
+        BuildError::NotMade(MakeError::OutOfMemory) => {
+            writeln!(messages, "zerotrie: {from}: out of memory")
+        }
         BuildError::NotMade(error) => {
             let text = refusal(alloc, from, unit_of(build.plan.source), error)?;
             messages.write_all(text.as_slice())
