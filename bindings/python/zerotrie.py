@@ -421,6 +421,10 @@ class ZeroTrie(Mapping[bytes, int]):
     def __hash__(self) -> int:
         return hash((self.kind, bytes(self._view)))
 
+    def __copy__(self) -> ZeroTrie:
+        """Another trie over the same bytes."""
+        return ZeroTrie(self._data, self.kind, check=False)
+
     def __reduce__(self) -> "tuple[type, tuple[bytes, int, bool]]":
         return ZeroTrie, (bytes(self._view), self.kind, False)
 

@@ -73,6 +73,7 @@ assert list(trie.get_many(["foo", "x"], (1 << 64) - 1)) == [1, (1 << 64) - 1]
 numbers = array.array("I", [1, 2, 3])
 assert zerotrie.tagged(numbers, 0) == b"\0" + numbers.tobytes()
 assert pickle.loads(pickle.dumps(trie)) == copy.deepcopy(trie) == trie == unittest.mock.ANY and trie != 5
+assert copy.copy(trie)._data is trie._data and copy.copy(trie) == trie
 assert repr(ZeroTrie(b"a\x85")) == "ZeroTrie(b'a\\x85', kind=0)"
 # bytes that are no trie, of which each byte is a value of the empty key: their listing ends
 assert 5000 <= len(ZeroTrie(b"\x81" * 5000, check=False)) <= 5001
