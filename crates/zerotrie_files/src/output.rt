@@ -8,6 +8,7 @@ use crate::system::SystemDisk;
 use std::alloc::{AllocError, Global};
 use std::fs::{Metadata, OpenOptions, Permissions};
 use std::io::{ErrorKind, Write};
+use std::os::unix::fs::PermissionsExt;
 use std::rt::Files;
 use std::{fs, io};
 
@@ -23,6 +24,10 @@ enum Target {
     Stream,
 }
 
+/// The bits of a mode that say who may read, write and run a file. A file that is replaced keeps them alone, so that new
+/// bytes run as nobody else.
+const MODE_KEPT: u32 = 0o777;
+
 /// What stands at a path, if something does. A symbolic link is followed.
 fn target_there<R: Files + AllocGlobal>(
     rt: &R,
@@ -37,7 +42,8 @@ fn target_there<R: Files + AllocGlobal>(
     }
     OpenOptions::new().write(true).open(rt, path)?;
     let real = fs::canonicalize(rt, path)?;
-    Ok(Target::File(real.into_string(), Some(found.permissions())))
+    let kept = Permissions::from_mode(found.permissions().mode() & MODE_KEPT);
+    Ok(Target::File(real.into_string(), Some(kept)))
 }
 
 /// What stands at a path. A link to what isn't there is an error.
@@ -84,8 +90,8 @@ fn write_file<R: Files + AllocGlobal>(
 /// Writes the bytes to the file of a path, in place of what it held, or makes it. A fault leaves what it held.
 ///
 /// They are written to a new file in the same folder, which then takes the path. A symbolic link stays, and the file
-/// that it leads to is replaced; the file keeps its permissions. A device or a pipe is written to. A folder, a link
-/// that leads nowhere and a file that can't be written are errors.
+/// that it leads to is replaced; the file keeps who may read, write and run it, and no set-id bit. A device or a pipe is
+/// written to. A folder, a link that leads nowhere and a file that can't be written are errors.
 pub fn write_output<R: Files + AllocGlobal>(rt: &R, path: &str, bytes: &[u8]) -> io::Result<()> {
     match target_of(rt, path)? {
         Target::File(real, permissions) => write_file(rt, real.as_str(), permissions, bytes),

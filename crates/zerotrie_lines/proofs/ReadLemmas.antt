@@ -3,9 +3,10 @@ use Rattle.std.proofs.Common.{◌≡◌, ℕ, ◌+◌, inl, inr, List, [], ◌�
 use Rattle.std.proofs.lemmas.List.{append-nil}
 use Rattle.zerotrie_lines.specs.Tables.{Pair, Pairs}
 use Rattle.zerotrie_lines.specs.Lines.{IsPairLine}
-use Rattle.zerotrie_lines.specs.Reads.{IsPairIn, ReadsLines, IsBadLine, IsLineFault}
+use Rattle.zerotrie_lines.specs.Reads.{IsPairIn, ReadsLines, IsBadLine, IsLineFault, HasNoNumber}
 use Rattle.zerotrie_lines.specs.declared.reading.Format.{Format}
 use Rattle.zerotrie_lines.specs.declared.fault.BadLine.{BadLine}
+use Rattle.zerotrie_lines.specs.declared.fault.BadLine.TheVariants as bad
 
 -- The lines are the pairs so far, and then what the rest is, from line n on.
 pub record ReadTo (format : Format) (all : List (List ℕ)) (pairs : Pairs) (n : ℕ) (rest : List (List ℕ)) : Type 0 where
@@ -14,6 +15,14 @@ pub record ReadTo (format : Format) (all : List (List ℕ)) (pairs : Pairs) (n :
 -- A line of the rest that is none is one of all lines.
 pub record GoodTo (all : List (List ℕ)) (n : ℕ) (rest : List (List ℕ)) : Type 0 where
   pub bad : (m : ℕ) (fault : BadLine) → IsBadLine n rest m fault → IsBadLine 1 all m fault
+
+-- what has no number is no pair, for the same fault
+pub line_fault : (line : List ℕ) (fault : BadLine) → HasNoNumber line fault → IsLineFault line fault
+line_fault line bad.NoTab h = absurd h.2
+line_fault line bad.Escape h = absurd h.2
+line_fault line bad.Number h = h
+line_fault line bad.CarriageReturn h = h
+line_fault line bad.Fields h = absurd h.2
 
 pub read_none : (format : Format) (all : List (List ℕ)) → ReadTo format all [] 1 all
 read_none format all = record { join = λ more h. h }

@@ -32,11 +32,28 @@ Reads Lines input pairs = ReadsLines Lines 1 (lines_of input) pairs
 Reads Tsv input pairs = ReadsLines Tsv 1 (lines_of input) pairs
 Reads Csv input pairs = (rows : List Fields) × AreRowsOf input rows × ArePairRecords rows pairs
 
+-- a text ends in a carriage return
+abbrev pub EndsInReturn : List ℕ → Type 0
+EndsInReturn text = (front : List ℕ) × (text ≡ front ++ 13 ∷ [])
+
+-- what is wrong with what stands for a value and is no number: a carriage return at its end, or something else
+abbrev pub IsValueFault : List ℕ → BadLine → Type 0
+IsValueFault digits bad.NoTab = ⊥
+IsValueFault digits bad.Escape = ⊥
+IsValueFault digits bad.Number = EndsInReturn digits → ⊥
+IsValueFault digits bad.CarriageReturn = EndsInReturn digits
+IsValueFault digits bad.Fields = ⊥
+
+-- what stands after the tab of a line is no number, for this fault
+abbrev pub HasNoNumber : List ℕ → BadLine → Type 0
+HasNoNumber line fault = HasTab line × ((value : ℕ) → IsNumber (after_first is_tab line) value → ⊥) × IsValueFault (after_first is_tab line) fault
+
 -- why a line is no pair: it has no tab, what stands before the tab spells no key, or what stands after it is no number
 abbrev pub IsLineFault : List ℕ → BadLine → Type 0
 IsLineFault line bad.NoTab = HasTab line → ⊥
 IsLineFault line bad.Escape = HasTab line × ((key : List ℕ) → Spells (before_first is_tab line) key → ⊥)
-IsLineFault line bad.Number = HasTab line × ((value : ℕ) → IsNumber (after_first is_tab line) value → ⊥)
+IsLineFault line bad.Number = HasNoNumber line bad.Number
+IsLineFault line bad.CarriageReturn = HasNoNumber line bad.CarriageReturn
 IsLineFault line bad.Fields = ⊥
 
 -- why a record is none: it has not two fields, or the second is no number
@@ -44,6 +61,7 @@ abbrev pub IsRecordFault : Fields → BadLine → Type 0
 IsRecordFault row bad.NoTab = ⊥
 IsRecordFault row bad.Escape = ⊥
 IsRecordFault row bad.Number = (key digits : List ℕ) × (row ≡ key ∷ digits ∷ []) × ((value : ℕ) → IsNumber digits value → ⊥)
+IsRecordFault row bad.CarriageReturn = ⊥
 IsRecordFault row bad.Fields = length row ≢ 2
 
 -- of lines, the first with number n, line number m is no pair for this fault, and each before it is a pair

@@ -15,6 +15,8 @@ pub enum BadLine {
     Escape,
     /// Its value is no number of decimal digits below 2^64.
     Number,
+    /// A carriage return stands after the value, as if a line ended in both.
+    CarriageReturn,
     /// The record has not two fields.
     Fields,
 }
@@ -25,6 +27,9 @@ impl fmt::Display for BadLine {
             BadLine::NoTab => "no tab between a key and its value",
             BadLine::Escape => "a backslash that is none of \\t \\n \\r \\\\ \\xHH",
             BadLine::Number => "no value of 1 to 20 decimal digits below 2^64",
+            BadLine::CarriageReturn => {
+                "a carriage return after the value; a line ends in a line feed alone"
+            }
             BadLine::Fields => "not two fields, a key and its value",
         })
     }

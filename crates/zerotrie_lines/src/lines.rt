@@ -5,7 +5,7 @@ ghost use Rattle.std.specs.List.{before_first, after_first};
 ghost use Rattle.zerotrie_lines.specs.Tables.{Pair};
 ghost use Rattle.zerotrie_lines.specs.Escapes.{Spells};
 ghost use Rattle.zerotrie_lines.specs.Lines.{is_feed, lines_of, IsPairLine, tsv_line};
-ghost use Rattle.zerotrie_lines.specs.Reads.{IsLineFault};
+ghost use Rattle.zerotrie_lines.specs.Reads.{IsLineFault, IsValueFault};
 
 use crate::escapes::{unescape, write_escaped};
 use crate::fault::BadLine;
@@ -72,6 +72,16 @@ fn add_spelled(
     }
 }
 
+/// Why what stands for a value is no number: a carriage return at its end, or what else it has.
+fn bad_number(digits: &[u8]) -> BadLine
+    ensures { IsValueFault digits.now result }
+{
+    match digits.last() {
+        Some(b'\r') => BadLine::CarriageReturn,
+        _ => BadLine::Number,
+    }
+}
+
 /// Adds the pair that a line is, or answers why it is none. The key is room for one that has escapes.
 pub fn read_pair(
     line: &[u8],
@@ -85,8 +95,9 @@ pub fn read_pair(
     let Some(place) = memchr(b'\t', line) else {
         return Ok(Some(BadLine::NoTab));
     };
-    let Some(value) = parse_number(&line[place + 1..]) else {
-        return Ok(Some(BadLine::Number));
+    let digits = &line[place + 1..];
+    let Some(value) = parse_number(digits) else {
+        return Ok(Some(bad_number(digits)));
     };
     if add_spelled(&line[..place], value, key, table)? {
         Ok(None)

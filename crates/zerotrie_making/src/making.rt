@@ -16,15 +16,13 @@ use zerotrie_lines::Table;
 use zerotrie_queries::TrieKind;
 
 /// The file of a trie with these bytes. Unless it is bare, the number of the kind stands in front of them.
-fn file_of(alloc: Global, bare: bool, kind: TrieKind, bytes: Vec<u8>) -> Result<Vec<u8>, AllocError>
+fn file_of(bare: bool, kind: TrieKind, bytes: Vec<u8>) -> Result<Vec<u8>, AllocError>
     ensures { IfOk result (λ file. file.items ≡ file_of bare (kind_of kind) bytes.items) }
 {
-    if bare {
-        return Ok(bytes);
+    let mut file = bytes;
+    if !bare {
+        file.insert(0, kind.tag())?;
     }
-    let mut file = Vec::with_capacity(alloc, bytes.len() + 1)?;
-    file.push(kind.tag())?;
-    file.extend_from_slice(bytes.as_slice())?;
     Ok(file)
 }
 
@@ -57,7 +55,7 @@ fn make_of(alloc: Global, plan: Plan, table: &Table) -> Result<Vec<u8>, MakeErro
     let items = table.items(alloc)?;
     let kind = kind_for(plan.kind, items.as_slice());
     match bytes_of(alloc, kind, plan.sorted, items) {
-        Ok(bytes) => Ok(file_of(alloc, plan.bare, kind, bytes)?),
+        Ok(bytes) => Ok(file_of(plan.bare, kind, bytes)?),
         Err(error) => Err(explain(alloc, kind, plan.sorted, table, error)?),
     }
 }

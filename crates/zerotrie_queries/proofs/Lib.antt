@@ -1,0 +1,6 @@
+mod WriteLemmas
+mod FoundLemmas
+mod JsonLemmas
+mod CodeLemmas
+mod CountLemmas
+mod TextLemmas

@@ -1,2 +1,8 @@
 pub mod Kinds
 pub mod Files
+pub mod Json
+pub mod Printed
+pub mod Answers
+pub mod code
+pub mod views
+pub mod reports

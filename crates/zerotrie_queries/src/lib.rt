@@ -1,10 +1,26 @@
-//! Questions to a trie whose kind is known when the program runs.
+//! What a trie in a file is asked, and what is answered: its kind is known when the program runs.
+//!
+//! A file of any bytes is opened, or is told why it has no trie. Then a trie is asked for the values of keys, for the
+//! longest keys that texts begin with, for its pairs, for source code, for what it is made of, and for its nodes.
 #![tactic(auto)]
 
+pub mod code;
 mod file;
+mod json_listing;
 mod kind;
+mod listing;
+mod lookups;
+mod print;
+mod reports;
+mod requests;
 mod trie;
+mod views;
 
+pub use code::{Language, is_name, write_code, write_trie_code};
 pub use file::OpenError;
 pub use kind::TrieKind;
+pub use print::{Form, Style};
+pub use reports::{Branches, Report, write_report, write_trie_report};
+pub use requests::{AnswerError, Request, answer, answer_trie};
 pub use trie::Trie;
+pub use views::{View, write_trie_view, write_view};

@@ -4,12 +4,12 @@ use Rattle.std.specs.Borrow.{Bor}
 use Rattle.std.specs.Io.KnownBytes.{Keeps}
 use Rattle.std.proofs.KnownBytes.{Appends-kept}
 use Rattle.zerotrie_queries.specs.declared.kind.TrieKind.{TrieKind}
-use Rattle.zerotrie_code.specs.Code.{code}
-use Rattle.zerotrie_views.specs.Views.{shown}
-use Rattle.zerotrie_reports.specs.Reports.{report_of}
-use Rattle.zerotrie_reports.specs.Lines.{report_lines}
-use Rattle.zerotrie_commands.specs.declared.requests.Request.{Request}
-use Rattle.zerotrie_commands.specs.declared.requests.Request.TheVariants as asks
+use Rattle.zerotrie_queries.specs.code.Code.{code}
+use Rattle.zerotrie_queries.specs.views.Views.{shown}
+use Rattle.zerotrie_queries.specs.reports.Reports.{report_of}
+use Rattle.zerotrie_queries.specs.reports.Lines.{report_lines}
+use Rattle.zerotrie_queries.specs.declared.requests.Request.{Request}
+use Rattle.zerotrie_queries.specs.declared.requests.Request.TheVariants as asks
 use Rattle.zerotrie_run.specs.Runs.{Answers, IsAnswered, AreKeys, are_lines, of_lines}
 use Rattle.zerotrie_run.specs.declared.command.Place.{Place}
 use Rattle.zerotrie_run.specs.declared.command.Place.TheVariants.{Stream}

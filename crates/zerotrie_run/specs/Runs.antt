@@ -12,14 +12,14 @@ use Rattle.zerotrie_queries.specs.Kinds.{kind_of}
 use Rattle.zerotrie_queries.specs.Files.{Holds, Explains}
 use Rattle.zerotrie_queries.specs.declared.kind.TrieKind.{TrieKind}
 use Rattle.zerotrie_queries.specs.declared.file.OpenError.{OpenError}
-use Rattle.zerotrie_commands.specs.Printed.{status_of}
-use Rattle.zerotrie_commands.specs.Answers.{Belongs}
-use Rattle.zerotrie_commands.specs.declared.requests.Request.{Request}
-use Rattle.zerotrie_commands.specs.declared.requests.Request.TheVariants as asks
-use Rattle.zerotrie_code.specs.Code.{code}
-use Rattle.zerotrie_views.specs.Views.{shown}
-use Rattle.zerotrie_reports.specs.Reports.{report_of}
-use Rattle.zerotrie_reports.specs.Lines.{report_lines}
+use Rattle.zerotrie_queries.specs.Printed.{status_of}
+use Rattle.zerotrie_queries.specs.Answers.{Belongs}
+use Rattle.zerotrie_queries.specs.declared.requests.Request.{Request}
+use Rattle.zerotrie_queries.specs.declared.requests.Request.TheVariants as asks
+use Rattle.zerotrie_queries.specs.code.Code.{code}
+use Rattle.zerotrie_queries.specs.views.Views.{shown}
+use Rattle.zerotrie_queries.specs.reports.Reports.{report_of}
+use Rattle.zerotrie_queries.specs.reports.Lines.{report_lines}
 use Rattle.zerotrie_files.specs.Disks.{Files, SameBeside}
 use Rattle.zerotrie_files.specs.Stores.{FilesKnown, Kept}
 use Rattle.zerotrie_making.specs.Made.{IsFile}

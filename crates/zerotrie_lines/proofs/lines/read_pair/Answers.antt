@@ -3,6 +3,8 @@ use Rattle.zerotrie_lines.specs.Numbers.{IsNumber}
 use Rattle.zerotrie_lines.specs.Escapes.{Spells}
 use Rattle.zerotrie_lines.specs.Lines.{is_tab}
 use Rattle.zerotrie_lines.proofs.LineLemmas.{place_is, no_place, front_is, behind_is}
+use Rattle.zerotrie_lines.specs.Reads.{IsValueFault}
+use Rattle.zerotrie_lines.proofs.ReadLemmas.{line_fault}
 use Rattle.zerotrie_lines.proofs.lines.read_pair.Goals as goal
 
 pub returns-in_default-clause-none : goal.returns-in_default-clause-none
@@ -11,10 +13,12 @@ returns-in_default-clause-none c = λ h. omega (arith, h, no_place is_tab c.args
 pub returns-in_default-parse_number-clause-none : goal.returns-in_default-parse_number-clause-none
 returns-in_default-parse_number-clause-none c =
     let line = c.args.line.now in
-    let found = c.in-Some.ensures in (
+    let found = c.in-Some.ensures in
+    let digits = behind_is is_tab line c.in-Some.place found.0.high found.0.before found.1 in
+    line_fault line c.bad_number.result (
       omega (arith, place_is is_tab line c.in-Some.place found.0.high found.0.before found.1, found.0.high),
-      λ v h. c.in_default-parse_number.ensures.none v
-          (subst (λ d. IsNumber d v) (sym (behind_is is_tab line c.in-Some.place found.0.high found.0.before found.1)) h),
+      λ v h. c.in_default-parse_number.ensures.none v (subst (λ d. IsNumber d v) (sym digits) h),
+      subst (λ d. IsValueFault d c.bad_number.result) digits c.bad_number.ensures,
     )
 
 pub returns-then-branch-clause-pair : goal.returns-then-branch-clause-pair

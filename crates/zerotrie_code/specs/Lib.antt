@@ -1,4 +1,0 @@
-pub mod Texts
-pub mod Items
-pub mod Code
-pub mod Laws

@@ -1,3 +1,0 @@
-pub mod WriteLemmas
-mod FoundLemmas
-mod JsonLemmas

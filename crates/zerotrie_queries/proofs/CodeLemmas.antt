@@ -1,0 +1,129 @@
+-- What is read of source code.
+use Rattle.std.proofs.Common.{rules, inl, inr, ◌≡◌, ℕ, ◌+◌, ◌*◌, ◌/◌, ◌%◌, ◌<◌, Bool, true, false, List, [], ◌∷◌, ◌++◌, refl, sym, ◌∙◌, ap, append_assoc, append-nil, arith}
+use Rattle.std.specs.Prelude.{All, ◌==◌, ◌&&◌, codes, if◌then◌else◌}
+use Rattle.std.proofs.lemmas.Bool.Decides.{nat_tests}
+use Rattle.std.proofs.lemmas.List.Elements.{All-head, All-tail}
+use Rattle.zerotrie_lines.specs.Escapes.{hex_digit}
+use Rattle.zerotrie_queries.specs.declared.kind.TrieKind.{TrieKind}
+use Rattle.zerotrie_queries.specs.declared.kind.TrieKind.TheVariants.{Simple, Ignore, Hash, Ext}
+use Rattle.zerotrie_queries.specs.declared.code.language.Language.{Language}
+use Rattle.zerotrie_queries.specs.declared.code.language.Language.TheVariants as lang
+use Rattle.zerotrie_queries.specs.code.Names.{is_letter, is_in_word, are_in_word, is_name}
+use Rattle.zerotrie_queries.specs.code.Texts.{rust_kind, c_kind, rattle_type, front, behind}
+use Rattle.zerotrie_queries.specs.code.Items.{before_item, item_number, items, Seen, digit_value, seen_after, numbers_after}
+use Rattle.zerotrie_queries.specs.code.Items.Seen.{outside, inside, zero_seen, digit_seen}
+
+-- a digit that is written has its value
+digit_back : (n : ℕ) → n < 16 → digit_value (hex_digit n) ≡ n
+digit_back n below = grind (arith, nat_tests)
+
+-- no number stands in front of an item
+before_read : (first : Bool) (rest : List ℕ) → numbers_after outside ((if first then codes "\n    " else codes " ") ++ rest) ≡ numbers_after outside rest
+before_read true rest = refl
+before_read false rest = refl
+
+-- an item has one number, its byte
+number_read : (b : ℕ) (rest : List ℕ) → b < 256 → numbers_after outside (item_number b ++ rest) ≡ b ∷ numbers_after outside rest
+number_read b rest below = ap (λ n. n ∷ numbers_after outside rest) (bytes_back b below)
+  where
+    bytes_back : (b : ℕ) → b < 256 → 16 * digit_value (hex_digit (b / 16)) + digit_value (hex_digit (b % 16)) ≡ b
+    bytes_back b below = rw (digit_back (b / 16) (omega arith), digit_back (b % 16) (omega arith)) (omega arith)
+
+-- the items of bytes have these numbers
+pub items_read : (i : ℕ) (bytes tail : List ℕ) → All (λ b. b < 256) bytes → numbers_after outside (items i bytes ++ tail) ≡ bytes ++ numbers_after outside tail
+items_read i [] tail all = refl
+items_read i (b ∷ bytes) tail all =
+    ap (numbers_after outside) (append_assoc (before_item i) (item_number b ++ items (i + 1) bytes) tail)
+    ∙ before_read (i % 16 == 0) (item_number b ++ (items (i + 1) bytes ++ tail))
+    ∙ number_read b (items (i + 1) bytes ++ tail) (all_first b bytes all)
+    ∙ ap (λ more. b ∷ more) (items_read (i + 1) bytes tail (all_rest b bytes all))
+  where
+    all_first : (b : ℕ) (bytes : List ℕ) → All (λ b. b < 256) (b ∷ bytes) → b < 256
+    all_first b bytes all = search (rules, All-head)
+
+    all_rest : (b : ℕ) (bytes : List ℕ) → All (λ b. b < 256) (b ∷ bytes) → All (λ b. b < 256) bytes
+    all_rest b bytes all = All-tail (λ b. b < 256) b bytes all
+
+-- two tests that both hold
+first_holds : (a b : Bool) → (a && b) ≡ true → a ≡ true
+first_holds true b e = refl
+first_holds false b e = absurd (cc)
+
+second_holds : (a b : Bool) → (a && b) ≡ true → b ≡ true
+second_holds true b e = e
+second_holds false b e = absurd (cc)
+
+-- a byte of a word is one after which a word goes on
+seen_inside : (c : ℕ) → is_in_word c ≡ true → seen_after c ≡ inside
+seen_inside c is = ap (λ b. if b then inside else outside) is
+
+-- a word goes on through bytes of words
+word_read : (word rest : List ℕ) → are_in_word word ≡ true → numbers_after inside (word ++ rest) ≡ numbers_after inside rest
+word_read [] rest all = refl
+word_read (c ∷ word) rest all =
+    ap (λ s. numbers_after s (word ++ rest)) (seen_inside c (first_holds (is_in_word c) (are_in_word word) all))
+    ∙ word_read word rest (second_holds (is_in_word c) (are_in_word word) all)
+
+-- a letter is no 0
+letter_is_no_zero : (c : ℕ) → is_letter c ≡ true → (c == 48) ≡ false
+letter_is_no_zero c is = grind (arith, nat_tests)
+
+letter_in_word : (c : ℕ) → is_letter c ≡ true → is_in_word c ≡ true
+letter_in_word c is = rw is refl
+
+-- a name has no number
+name_read : (name rest : List ℕ) → is_name name ≡ true → numbers_after outside (name ++ rest) ≡ numbers_after inside rest
+name_read [] rest is = absurd (cc)
+name_read (c ∷ word) rest is =
+    let letter = first_holds (is_letter c) (are_in_word word) is in
+    ap (λ b. numbers_after (if b then zero_seen else seen_after c) (word ++ rest)) (letter_is_no_zero c letter)
+    ∙ ap (λ s. numbers_after s (word ++ rest)) (seen_inside c (letter_in_word c letter))
+    ∙ word_read word rest (second_holds (is_letter c) (are_in_word word) is)
+
+-- nor has a name that stands before another text and a rest
+named : (name text rest : List ℕ) → is_name name ≡ true → numbers_after outside ((name ++ text) ++ rest) ≡ numbers_after inside (text ++ rest)
+named name text rest is = ap (numbers_after outside) (append_assoc name text rest) ∙ name_read name (text ++ rest) is
+
+-- a text that begins with letters alone up to the rest, as a kind does, leaves a word open
+pub rust_kind_read : (kind : TrieKind) (text rest : List ℕ) → numbers_after outside ((rust_kind kind ++ text) ++ rest) ≡ numbers_after inside (text ++ rest)
+rust_kind_read Simple text rest = refl
+rust_kind_read Ignore text rest = refl
+rust_kind_read Hash text rest = refl
+rust_kind_read Ext text rest = refl
+
+c_kind_read : (kind : TrieKind) (text rest : List ℕ) → numbers_after outside ((c_kind kind ++ text) ++ rest) ≡ numbers_after inside (text ++ rest)
+c_kind_read Simple text rest = refl
+c_kind_read Ignore text rest = refl
+c_kind_read Hash text rest = refl
+c_kind_read Ext text rest = refl
+
+rattle_type_read : (kind : TrieKind) (text : List ℕ) → numbers_after outside (rattle_type kind ++ text) ≡ numbers_after inside text
+rattle_type_read Simple text = refl
+rattle_type_read Ignore text = refl
+rattle_type_read Hash text = refl
+rattle_type_read Ext text = refl
+
+-- no number stands in front of the bytes
+pub front_read : (language : Language) (kind : TrieKind) (name rest : List ℕ) → is_name name ≡ true → numbers_after outside (front language kind name ++ rest) ≡ numbers_after outside rest
+front_read lang.Rust kind name rest is =
+    let last = codes ", &[" in
+    let kinds = codes ": zerotrie_proved::ZeroTrie<'static> =\n    zerotrie_proved::ZeroTrie::from_bytes(zerotrie_proved::Kind::" ++ (rust_kind kind ++ last) in
+    let static = codes ".get(key)` is the value of a key.\npub static " ++ (name ++ kinds) in
+    named name static rest is ∙ named name kinds rest is ∙ rust_kind_read kind last rest
+front_read lang.C kind name rest is =
+    let last = codes "_bytes[] = {" in
+    let bytes = codes ";\n\n/* Its bytes, and a zero. */\nstatic const uint8_t " ++ (name ++ last) in
+    let kinds = codes "_kind = " ++ (c_kind kind ++ bytes) in
+    named name kinds rest is ∙ c_kind_read kind bytes rest ∙ named name last rest is
+front_read lang.Rattle kind name rest is = named name (codes "(key: &[u8]) -> Option<usize> {\n    static BYTES: &[u8] = &[") rest is
+
+-- and none after them
+pub behind_read : (language : Language) (kind : TrieKind) (name : List ℕ) → is_name name ≡ true → numbers_after outside (behind language kind name) ≡ []
+behind_read lang.Rust kind name is = refl
+behind_read lang.C kind name is =
+    let last = codes "_bytes - 1, key, key_len, value);\n}\n" in
+    let size = codes "_bytes, sizeof " ++ (name ++ last) in
+    let bytes = codes "_kind, " ++ (name ++ size) in
+    let call = codes "_get(const uint8_t *key, size_t key_len, size_t *value) {\n    return zerotrie_get(" ++ (name ++ bytes) in
+    name_read name call is ∙ name_read name bytes is ∙ name_read name size is ∙ name_read name last is
+behind_read lang.Rattle kind name is = rattle_type_read kind (codes "::from_bytes(BYTES).get(key)\n}\n")

@@ -1,0 +1,15 @@
+use Rattle.std.proofs.Common.{◌≡◌, ◌++◌, ◌∙◌, ap, sym}
+use Rattle.zerotrie_queries.specs.Printed.{pair_lines}
+use Rattle.zerotrie_queries.proofs.WriteLemmas.{wrote_more}
+use Rattle.zerotrie_queries.proofs.listing.write_stream.Goals as goal
+
+pub loop-lines-preserved : goal.loop-lines-preserved
+loop-lines-preserved g c =
+    let contents = g.W.Write.contents in
+    let before = pair_lines c.args.style c.loop-lines.pairs.left.pairs in
+    let left = pair_lines c.args.style c.add_block.new.pairs.left.pairs in
+    let is = sym c.in_ok-more.ensures.lines ∙ ap (λ l. l ++ left) (sym c.as_slice.ensures.value) in (
+      wrote_more (contents c.args.output.now) (contents c.loop-lines.output) (contents c.write_all.new.self) c.as_slice.result.now before left
+          (pair_lines c.args.style c.args.pairs.now.left.pairs) c.loop-lines.invariant.0 c.in_ok-write_all.ensures.bytes is,
+      c.clear.ensures.items,
+    )

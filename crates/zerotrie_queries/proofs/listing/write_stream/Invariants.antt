@@ -1,0 +1,12 @@
+use Rattle.std.proofs.Common.{◌≡◌, [], length}
+use Rattle.zerotrie_queries.specs.Printed.{pair_lines}
+use Rattle.zerotrie_queries.proofs.WriteLemmas.{Wrote}
+use Rattle.zerotrie_queries.proofs.listing.write_stream.Given as goal
+
+abbrev pub invariant-loop-lines : goal.invariant-loop-lines
+invariant-loop-lines g l = Wrote (g.W.Write.contents l.initial.output) (g.W.Write.contents l.output)
+    (pair_lines l.style l.pairs.left.pairs) (pair_lines l.style l.initial.pairs.left.pairs)
+    × (l.lines.items ≡ [])
+
+abbrev pub decreases-loop-lines : goal.decreases-loop-lines
+decreases-loop-lines g l = length l.pairs.left.pairs

@@ -1,0 +1,80 @@
+-- What each language has round the bytes of a trie.
+use Rattle.std.specs.Prelude.{ℕ, List, ◌++◌, codes}
+use Rattle.zerotrie_queries.specs.declared.kind.TrieKind.{TrieKind}
+use Rattle.zerotrie_queries.specs.declared.kind.TrieKind.TheVariants.{Simple, Ignore, Hash, Ext}
+use Rattle.zerotrie_queries.specs.declared.code.language.Language.{Language}
+use Rattle.zerotrie_queries.specs.declared.code.language.Language.TheVariants as lang
+
+-- a variant of the crate's `Kind`
+abbrev pub rust_kind : TrieKind → List ℕ
+rust_kind Simple = codes "SimpleAscii"
+rust_kind Ignore = codes "IgnoreCase"
+rust_kind Hash = codes "PerfectHash"
+rust_kind Ext = codes "ExtendedCapacity"
+
+-- a constant of the header
+abbrev pub c_kind : TrieKind → List ℕ
+c_kind Simple = codes "ZEROTRIE_SIMPLE_ASCII"
+c_kind Ignore = codes "ZEROTRIE_IGNORE_CASE"
+c_kind Hash = codes "ZEROTRIE_PERFECT_HASH"
+c_kind Ext = codes "ZEROTRIE_EXTENDED_CAPACITY"
+
+-- a type of the library
+abbrev pub rattle_type : TrieKind → List ℕ
+rattle_type Simple = codes "ZeroTrieSimpleAscii"
+rattle_type Ignore = codes "ZeroAsciiIgnoreCaseTrie"
+rattle_type Hash = codes "ZeroTriePerfectHash"
+rattle_type Ext = codes "ZeroTrieExtendedCapacity"
+
+-- the name that code has if no other is asked for
+abbrev pub usual_name : Language → List ℕ
+usual_name lang.Rust = codes "TRIE"
+usual_name lang.C = codes "trie"
+usual_name lang.Rattle = codes "get"
+
+-- what Rust has in front of the bytes, for a kind and a name
+abbrev pub rust_front : TrieKind → List ℕ → List ℕ
+rust_front kind name =
+    codes "/// The trie: `" ++ (name
+    ++ (codes ".get(key)` is the value of a key.\npub static " ++ (name
+    ++ (codes ": zerotrie_proved::ZeroTrie<'static> =\n    zerotrie_proved::ZeroTrie::from_bytes(zerotrie_proved::Kind::" ++ (rust_kind kind
+    ++ codes ", &[")))))
+
+-- what C has
+abbrev pub c_front : TrieKind → List ℕ → List ℕ
+c_front kind name =
+    codes "#include \"zerotrie.h\"\n\n/* The kind of the trie. */\nstatic const uint32_t " ++ (name
+    ++ (codes "_kind = " ++ (c_kind kind
+    ++ (codes ";\n\n/* Its bytes, and a zero. */\nstatic const uint8_t " ++ (name
+    ++ codes "_bytes[] = {")))))
+
+-- what Rattle has
+abbrev pub rattle_front : List ℕ → List ℕ
+rattle_front name =
+    codes "/// The value of a key. `None` if the trie has no such key.\npub fn " ++ (name
+    ++ codes "(key: &[u8]) -> Option<usize> {\n    static BYTES: &[u8] = &[")
+
+-- what C has after the bytes
+abbrev pub c_behind : List ℕ → List ℕ
+c_behind name =
+    codes "\n    0\n};\n\n/* Whether the trie has the key. If so, writes its value. */\nstatic inline bool " ++ (name
+    ++ (codes "_get(const uint8_t *key, size_t key_len, size_t *value) {\n    return zerotrie_get(" ++ (name
+    ++ (codes "_kind, " ++ (name
+    ++ (codes "_bytes, sizeof " ++ (name
+    ++ codes "_bytes - 1, key, key_len, value);\n}\n")))))))
+
+-- what Rattle has
+abbrev pub rattle_behind : TrieKind → List ℕ
+rattle_behind kind = codes "\n    ];\n    zerotrie::" ++ (rattle_type kind ++ codes "::from_bytes(BYTES).get(key)\n}\n")
+
+-- what stands in front of the bytes
+abbrev pub front : Language → TrieKind → List ℕ → List ℕ
+front lang.Rust kind name = rust_front kind name
+front lang.C kind name = c_front kind name
+front lang.Rattle kind name = rattle_front name
+
+-- what stands after the bytes
+abbrev pub behind : Language → TrieKind → List ℕ → List ℕ
+behind lang.Rust kind name = codes "\n]);\n"
+behind lang.C kind name = c_behind name
+behind lang.Rattle kind name = rattle_behind kind

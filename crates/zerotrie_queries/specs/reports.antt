@@ -1,0 +1,5 @@
+-- What a trie is made of.
+pub mod Counts
+pub mod Reports
+pub mod Lines
+pub mod counting

@@ -1,0 +1,34 @@
+//! Bytes as the items of a constant.
+
+ghost use Rattle.std.specs.Prelude.{◌≡◌, OnOk};
+ghost use Rattle.std.specs.Io.KnownBytes.{Appends};
+ghost use Rattle.zerotrie_queries.specs.code.Items.{before_item, item_number, items};
+
+use std::io;
+use std::io::Write;
+use zerotrie_lines::hex_digit;
+
+/// What stands in front of an item: a new line in front of each sixteenth.
+fn before_item(index: usize) -> &'static str
+    ensures { result.now ≡ before_item index }
+{
+    if index % 16 == 0 { "\n    " } else { " " }
+}
+
+/// A byte in hexadecimal, and a comma.
+fn item_number(byte: u8) -> [u8; 5]
+    ensures { result ≡ item_number byte }
+{
+    [b'0', b'x', hex_digit(byte / 16), hex_digit(byte % 16), b',']
+}
+
+/// Writes bytes as items, sixteen a line. It takes no memory.
+pub fn write_items<W: Write>(bytes: &[u8], output: &mut W) -> io::Result<()>
+    ensures { OnOk result (Appends (W.contents output.old) (W.contents output.new) (items 0 bytes.now)) }
+{
+    for (index, byte) in bytes.iter().enumerate() {
+        output.write_all(before_item(index).as_bytes())?;
+        output.write_all(&item_number(*byte))?;
+    }
+    Ok(())
+}

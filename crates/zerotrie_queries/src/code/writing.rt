@@ -1,0 +1,171 @@
+//! A trie as source code.
+
+ghost use Rattle.std.specs.Prelude.{◌≡◌, ℕ, List, OnOk, IfOk, IfErr};
+ghost use Rattle.std.specs.Io.KnownBytes.{Appends};
+ghost use Rattle.zerotrie_core.specs.WellFormed.{IsWellFormed};
+ghost use Rattle.zerotrie_queries.specs.Kinds.{kind_of};
+ghost use Rattle.zerotrie_queries.specs.Files.{Holds};
+ghost use Rattle.zerotrie_queries.specs.Answers.{IsRefusal};
+ghost use Rattle.zerotrie_queries.specs.code.Texts.{rust_front, c_front, rattle_front, c_behind, rattle_behind, front, behind};
+ghost use Rattle.zerotrie_queries.specs.code.Code.{code};
+ghost use Rattle.zerotrie_queries.specs.declared.kind.TrieKind.{TrieKind};
+
+use crate::code::items::write_items;
+use crate::code::language::{Language, c_kind, rattle_type, rust_kind};
+use crate::kind::TrieKind;
+use crate::requests::AnswerError;
+use crate::trie::Trie;
+use std::io;
+use std::io::Write;
+
+/// Writes what Rust has in front of the bytes.
+fn write_rust_front<W: Write>(kind: TrieKind, name: &str, output: &mut W) -> io::Result<()>
+    ensures { OnOk result (Appends (W.contents output.old) (W.contents output.new)
+        (rust_front kind name.now)) }
+{
+    let kind = rust_kind(kind);
+    write!(
+        output,
+        "/// The trie: `{name}.get(key)` is the value of a key.
+pub static {name}: zerotrie_proved::ZeroTrie<'static> =
+    zerotrie_proved::ZeroTrie::from_bytes(zerotrie_proved::Kind::{kind}, &["
+    )
+}
+
+/// Writes what C has in front of the bytes.
+fn write_c_front<W: Write>(kind: TrieKind, name: &str, output: &mut W) -> io::Result<()>
+    ensures { OnOk result (Appends (W.contents output.old) (W.contents output.new)
+        (c_front kind name.now)) }
+{
+    let kind = c_kind(kind);
+    write!(
+        output,
+        "#include \"zerotrie.h\"
+
+/* The kind of the trie. */
+static const uint32_t {name}_kind = {kind};
+
+/* Its bytes, and a zero. */
+static const uint8_t {name}_bytes[] = {{"
+    )
+}
+
+/// Writes what C has after the bytes: a zero, since an array there has an item, and the function.
+fn write_c_behind<W: Write>(name: &str, output: &mut W) -> io::Result<()>
+    ensures { OnOk result (Appends (W.contents output.old) (W.contents output.new)
+        (c_behind name.now)) }
+{
+    write!(
+        output,
+        "
+    0
+}};
+
+/* Whether the trie has the key. If so, writes its value. */
+static inline bool {name}_get(const uint8_t *key, size_t key_len, size_t *value) {{
+    return zerotrie_get({name}_kind, {name}_bytes, sizeof {name}_bytes - 1, key, key_len, value);
+}}
+"
+    )
+}
+
+/// Writes what Rattle has in front of the bytes.
+fn write_rattle_front<W: Write>(name: &str, output: &mut W) -> io::Result<()>
+    ensures { OnOk result (Appends (W.contents output.old) (W.contents output.new)
+        (rattle_front name.now)) }
+{
+    write!(
+        output,
+        "/// The value of a key. `None` if the trie has no such key.
+pub fn {name}(key: &[u8]) -> Option<usize> {{
+    static BYTES: &[u8] = &["
+    )
+}
+
+/// Writes what Rattle has after the bytes.
+fn write_rattle_behind<W: Write>(kind: TrieKind, output: &mut W) -> io::Result<()>
+    ensures { OnOk result (Appends (W.contents output.old) (W.contents output.new)
+        (rattle_behind kind)) }
+{
+    let kind = rattle_type(kind);
+    write!(
+        output,
+        "
+    ];
+    zerotrie::{kind}::from_bytes(BYTES).get(key)
+}}
+"
+    )
+}
+
+/// Writes what stands in front of the bytes.
+fn write_front<W: Write>(
+    language: Language,
+    kind: TrieKind,
+    name: &str,
+    output: &mut W,
+) -> io::Result<()>
+    ensures { OnOk result (Appends (W.contents output.old) (W.contents output.new)
+        (front language kind name.now)) }
+{
+    match language {
+        Language::Rust => write_rust_front(kind, name, output),
+        Language::C => write_c_front(kind, name, output),
+        Language::Rattle => write_rattle_front(name, output),
+    }
+}
+
+/// Writes what stands after the bytes.
+fn write_behind<W: Write>(
+    language: Language,
+    kind: TrieKind,
+    name: &str,
+    output: &mut W,
+) -> io::Result<()>
+    ensures { OnOk result (Appends (W.contents output.old) (W.contents output.new)
+        (behind language kind name.now)) }
+{
+    match language {
+        Language::Rust => output.write_all(b"\n]);\n"),
+        Language::C => write_c_behind(name, output),
+        Language::Rattle => write_rattle_behind(kind, output),
+    }
+}
+
+/// Writes the bytes of a trie as source code: a constant, and the call that reads it, by this name. They may be any bytes.
+/// It takes no memory.
+pub fn write_trie_code<W: Write>(
+    trie: &Trie<'_>,
+    language: Language,
+    name: &str,
+    output: &mut W,
+) -> io::Result<()>
+    ensures { OnOk result (Appends (W.contents output.old) (W.contents output.new)
+        (code language trie.now.kind name.now trie.now.bytes.now)) }
+{
+    write_front(language, trie.kind, name, output)?;
+    write_items(trie.bytes, output)?;
+    write_behind(language, trie.kind, name, output)
+}
+
+/// Writes the trie in a file as source code: its bytes as a constant, and the call that reads it, by this name.
+///
+/// With `named` the file is the bare bytes of a trie of that kind. Else its first byte is the number of its kind. The
+/// bytes are tested first, and nothing is written if they are no trie. It takes no memory.
+pub fn write_code<W: Write>(
+    named: Option<TrieKind>,
+    file: &[u8],
+    language: Language,
+    name: &str,
+    output: &mut W,
+) -> Result<(), AnswerError>
+    ensures ok { IfOk result (λ _. (kind : TrieKind) × (bytes : List ℕ)
+        × Holds named file.now kind bytes × IsWellFormed (kind_of kind) bytes
+        × Appends (W.contents output.old) (W.contents output.new)
+        (code language kind name.now bytes)) }
+    ensures err { IfErr result (IsRefusal named file.now (output.new ≡ output.old)) }
+{
+    let trie = Trie::open(named, file)?;
+    write_trie_code(&trie, language, name, output)?;
+    Ok(())
+}

@@ -1,0 +1,85 @@
+//! Keys and texts that are looked up, one after another.
+
+ghost use Rattle.std.specs.Prelude.{◌≡◌, ◌++◌, List, ℕ, map, IfOk};
+ghost use Rattle.std.specs.Io.KnownBytes.{Appends};
+ghost use Rattle.zerotrie_core.specs.Maps.{Map, look};
+ghost use Rattle.zerotrie_core.specs.Texts.{Means};
+ghost use Rattle.zerotrie_queries.specs.Kinds.{kind_of};
+ghost use Rattle.zerotrie_queries.specs.Printed.{value_lines, are_found};
+ghost use Rattle.zerotrie_queries.specs.Answers.{LongestLines};
+
+use crate::print::{add_found, add_value};
+use crate::trie::Trie;
+use std::alloc::{AllocError, Global};
+use std::io;
+use std::io::Write;
+
+/// How many keys are looked up before their lines are written.
+const BLOCK: usize = 4096;
+
+/// Adds a line for each answer, a value or `none`, and tells whether all are there.
+fn add_values(lines: &mut Vec<u8>, values: &[Option<usize>]) -> Result<bool, AllocError>
+    ensures { IfOk result (λ all. (lines.new.items ≡ lines.old.items ++ value_lines values.now)
+        × (all ≡ are_found values.now)) }
+{
+    let mut all = true;
+    for value in values {
+        all &= value.is_some();
+        add_value(lines, *value)?;
+    }
+    Ok(all)
+}
+
+/// Writes a line for each key, its value or `none`, and tells whether all are there. Lines are written many at once.
+pub fn write_values<W: Write>(
+    alloc: Global,
+    trie: &Trie<'_>,
+    keys: &[&[u8]],
+    output: &mut W,
+) -> io::Result<bool>
+    ensures { IfOk result (λ all. (m : Map) → Means (kind_of trie.now.kind) trie.now.bytes.now m
+        → let answers = map (λ key. look (kind_of trie.now.kind) m key.now) keys.now in
+        Appends (W.contents output.old) (W.contents output.new) (value_lines answers)
+        × (all ≡ are_found answers)) }
+{
+    let mut values = Vec::new(alloc);
+    let mut lines = Vec::new(alloc);
+    let mut all = true;
+    let mut begin = 0;
+    while begin < keys.len() {
+        let (_, left) = keys.split_at(begin);
+        let (block, _) = left.split_at(left.len().min(BLOCK));
+        values.clear();
+        trie.get_each(alloc, block, &mut values)?;
+        lines.clear();
+        all &= add_values(&mut lines, values.as_slice())?;
+        output.write_all(lines.as_slice())?;
+        begin += block.len();
+    }
+    Ok(all)
+}
+
+/// Writes a line for each text, the longest key that it begins with and its value or `none`, and tells whether each
+/// begins with a key.
+pub fn write_longest<W: Write>(
+    alloc: Global,
+    trie: &Trie<'_>,
+    texts: &[&[u8]],
+    output: &mut W,
+) -> io::Result<bool>
+    ensures { IfOk result (λ all. (m : Map) → Means (kind_of trie.now.kind) trie.now.bytes.now m
+        → (printed : List ℕ)
+        × LongestLines (kind_of trie.now.kind) m (map (λ t. t.now) texts.now) printed all
+        × Appends (W.contents output.old) (W.contents output.new) printed) }
+{
+    let mut line = Vec::new(alloc);
+    let mut all = true;
+    for text in texts {
+        let found = trie.longest(text);
+        all &= found.is_some();
+        line.clear();
+        add_found(&mut line, text, found)?;
+        output.write_all(line.as_slice())?;
+    }
+    Ok(all)
+}

@@ -1,0 +1,22 @@
+//! The report of the trie of a file.
+
+ghost use Rattle.std.specs.Prelude.{◌≡◌, OnOk};
+ghost use Rattle.std.specs.Io.KnownBytes.{Appends};
+ghost use Rattle.zerotrie_queries.specs.reports.Reports.{report_of};
+ghost use Rattle.zerotrie_queries.specs.reports.Lines.{report_lines};
+
+use crate::reports::counting::Report;
+use crate::reports::lines::write_report;
+use crate::trie::Trie;
+use std::alloc::Global;
+use std::io;
+use std::io::Write;
+
+/// Writes the report of a trie.
+pub fn write_trie_report<W: Write>(alloc: Global, trie: &Trie<'_>, output: &mut W) -> io::Result<()>
+    ensures { OnOk result (Appends (W.contents output.old) (W.contents output.new)
+        (report_lines (report_of trie.now.kind trie.now.bytes.now))) }
+{
+    let report = Report::of(alloc, trie)?;
+    write_report(alloc, &report, output)
+}

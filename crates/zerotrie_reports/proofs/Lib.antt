@@ -1,2 +1,0 @@
-mod CountLemmas
-mod TextLemmas

@@ -1,9 +1,0 @@
-use Rattle.std.proofs.Common.{OnOk, subst}
-use Rattle.std.specs.Io.KnownBytes.{Appends}
-use Rattle.zerotrie_reports.specs.Lines.{report_lines}
-use Rattle.zerotrie_reports.proofs.file.write_trie_report.Goals as goal
-
-pub returns : goal.returns
-returns g c =
-    subst (λ r. OnOk c.write_report.result (Appends (g.W.Write.contents c.args.output.now) (g.W.Write.contents c.write_report.new.output) (report_lines r)))
-    c.in_ok-report.ensures.counts c.write_report.ensures

@@ -1,6 +1,0 @@
-use Rattle.std.proofs.Common.{◌≡◌, ◌++◌, drop}
-use Rattle.zerotrie_reports.specs.Lines.{cell_lines}
-use Rattle.zerotrie_reports.proofs.lines.add_cells.Given as goal
-
-abbrev pub invariant-loop-cell : goal.invariant-loop-cell
-invariant-loop-cell l = l.lines.items ++ cell_lines l.cell (drop l.cell l.cells) ≡ l.initial.lines.items ++ cell_lines 0 l.cells

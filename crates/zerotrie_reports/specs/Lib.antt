@@ -1,4 +1,0 @@
-pub mod Counts
-pub mod Reports
-pub mod Lines
-pub mod counting

@@ -1,6 +1,0 @@
-use Rattle.std.proofs.Common.{◌≡◌, ◌++◌, drop}
-use Rattle.zerotrie_views.specs.Dots.{quoted}
-use Rattle.zerotrie_views.proofs.dot.add_quoted.Given as goal
-
-abbrev pub invariant-loop-byte : goal.invariant-loop-byte
-invariant-loop-byte l = l.line.items ++ quoted (drop l.byte-index l.bytes) ≡ l.initial.line.items ++ quoted l.bytes

@@ -1,4 +1,0 @@
-pub mod Meanings
-pub mod Dumps
-pub mod Dots
-pub mod Views
