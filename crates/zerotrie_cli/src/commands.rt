@@ -40,9 +40,9 @@ fn run_question(rt: &HostRuntime, matches: &ArgMatches<'_>, name: &str) -> Statu
         Err(error) => return tell_fault(rt, &io::Error::from(error)),
     };
     match question_in(matches, name, &words) {
-        Some(question) => run_here(rt, Command::Ask(file_in(matches), question)),
-        None => {
-            let _ = eprintln!(rt; "zerotrie: --most asks for a number");
+        Ok(question) => run_here(rt, Command::Ask(file_in(matches), question)),
+        Err(why) => {
+            let _ = eprintln!(rt; "zerotrie: {why}");
             Status::BadUsage
         }
     }

@@ -3,11 +3,8 @@
 use crate::arguments::place_in;
 use clap::ArgMatches;
 use std::alloc::{AllocError, Global};
-use zerotrie_code::Language;
-use zerotrie_commands::{Form, Style};
-use zerotrie_queries::TrieKind;
+use zerotrie_queries::{Form, Language, Style, TrieKind, View, is_name};
 use zerotrie_run::{Keys, Question, TrieFile};
-use zerotrie_views::View;
 
 /// The file of the trie that is asked.
 pub fn file_in<'a>(matches: &ArgMatches<'a>) -> TrieFile<'a> {
@@ -61,25 +58,41 @@ fn language_in(matches: &ArgMatches<'_>) -> Language {
     }
 }
 
-/// The question of a command of this name. `None` if a number in it is none.
+/// The code that is asked for. Refused, with what is told, if it can't have its name.
+fn code_in<'a>(matches: &ArgMatches<'a>) -> Result<Question<'a>, &'static str> {
+    let language = language_in(matches);
+    let name = matches.get_str("name").unwrap_or(language.usual_name());
+    if is_name(name) {
+        Ok(Question::Code(language, name))
+    } else {
+        Err("--name asks for ASCII letters, digits and _, and no digit in front")
+    }
+}
+
+/// The drawing that is asked for. Refused, with what is told, if its number of nodes is no number.
+fn dot_in<'a>(matches: &ArgMatches<'a>) -> Result<Question<'a>, &'static str> {
+    match matches.get_str("most").unwrap_or("100").parse() {
+        Ok(most) => Ok(Question::View(View::Dot(most))),
+        Err(_) => Err("--most asks for a number"),
+    }
+}
+
+/// The question of a command of this name. Refused, with what is told, if a word of it is none.
 pub fn question_in<'w, 'a: 'w>(
     matches: &ArgMatches<'a>,
     name: &str,
     words: &'w Option<Vec<&'a [u8]>>,
-) -> Option<Question<'w>> {
+) -> Result<Question<'w>, &'static str> {
     match name {
-        "get" => Some(Question::Get(keys_of(words))),
-        "longest" => Some(Question::Longest(keys_of(words))),
-        "code" => Some(Question::Code(language_in(matches))),
-        "check" => Some(Question::Report),
-        "dump" => Some(Question::View(View::Dump)),
-        "dot" => {
-            let most = matches.get_str("most").unwrap_or("100");
-            Some(Question::View(View::Dot(most.parse().ok()?)))
-        }
+        "get" => Ok(Question::Get(keys_of(words))),
+        "longest" => Ok(Question::Longest(keys_of(words))),
+        "code" => code_in(matches),
+        "check" => Ok(Question::Report),
+        "dump" => Ok(Question::View(View::Dump)),
+        "dot" => dot_in(matches),
         _ => {
             let prefix = matches.get_str("prefix").unwrap_or("").as_bytes();
-            Some(Question::List(form_in(matches), prefix))
+            Ok(Question::List(form_in(matches), prefix))
         }
     }
 }

@@ -163,7 +163,7 @@ pub const COMMANDS: &[Subcommand] = &[
     Subcommand {
         name: "code",
         about: "Prints the bytes as a constant of a program, with the call that reads it",
-        help: "Example: zerotrie code names.trie --lang c\nIn memory: the file.",
+        help: "Example: zerotrie code names.trie --lang c --name names\nIn memory: the file.",
         arguments: &[
             FILE,
             KIND,
@@ -172,6 +172,12 @@ pub const COMMANDS: &[Subcommand] = &[
                 name: "lang",
                 form: Form::OneOf("L", LANGUAGES, Otherwise::Refused),
                 help: "The language",
+            },
+            Argument {
+                name: "name",
+                form: Form::Text("NAME", None, Otherwise::Nothing),
+                help: "The name of the static in Rust, of the function in Rattle, and in front of \
+                    those in C; else TRIE, get and trie",
             },
         ],
     },

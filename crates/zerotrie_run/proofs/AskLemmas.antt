@@ -27,7 +27,7 @@ pub kept_answer : (q : Question) (input : Option (List ℕ)) (kind : TrieKind) (
 kept_answer (Get keys) input kind bytes a b c all h k = (h.0, h.1, kept_request kind bytes (asks.Get h.0) a b c all h.2 k)
 kept_answer (Longest texts) input kind bytes a b c all h k = (h.0, h.1, kept_request kind bytes (asks.Longest h.0) a b c all h.2 k)
 kept_answer (Listing form prefix) input kind bytes a b c all h k = kept_request kind bytes (asks.List form prefix) a b c all h k
-kept_answer (Code language) input kind bytes a b c all h k = (h.0, Appends-kept a b c (code language kind bytes) h.1 k)
+kept_answer (Code language name) input kind bytes a b c all h k = (h.0, Appends-kept a b c (code language kind name.now bytes) h.1 k)
 kept_answer Report input kind bytes a b c all h k = (h.0, Appends-kept a b c (report_lines (report_of kind bytes)) h.1 k)
 kept_answer (View view) input kind bytes a b c all h k = (h.0, Appends-kept a b c (shown view kind bytes) h.1 k)
 
@@ -42,7 +42,7 @@ pub other_input : (q : Question) (i j : Option (List ℕ)) (kind : TrieKind) (by
 other_input (Get keys) i j kind bytes a b all apart h = (h.0, other_keys keys i j h.0.now apart h.1, h.2)
 other_input (Longest texts) i j kind bytes a b all apart h = (h.0, other_keys texts i j h.0.now apart h.1, h.2)
 other_input (Listing form prefix) i j kind bytes a b all apart h = h
-other_input (Code language) i j kind bytes a b all apart h = h
+other_input (Code language name) i j kind bytes a b all apart h = h
 other_input Report i j kind bytes a b all apart h = h
 other_input (View view) i j kind bytes a b all apart h = h
 

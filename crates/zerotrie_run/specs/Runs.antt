@@ -78,7 +78,7 @@ abbrev pub of_lines : Question → Bool
 of_lines (Get keys) = are_lines keys
 of_lines (Longest texts) = are_lines texts
 of_lines (Listing form prefix) = false
-of_lines (Code language) = false
+of_lines (Code language name) = false
 of_lines Report = false
 of_lines (View view) = false
 
@@ -96,7 +96,7 @@ abbrev pub Answers : Question → (input : Option (List ℕ)) → TrieKind → L
 Answers (Get keys) input kind bytes old new all = (ks : Bor (List (Bor (List ℕ)))) × AreKeys keys input ks.now × IsAnswered kind bytes (asks.Get ks) old new all
 Answers (Longest texts) input kind bytes old new all = (ts : Bor (List (Bor (List ℕ)))) × AreKeys texts input ts.now × IsAnswered kind bytes (asks.Longest ts) old new all
 Answers (Listing form prefix) input kind bytes old new all = IsAnswered kind bytes (asks.List form prefix) old new all
-Answers (Code language) input kind bytes old new all = (all ≡ true) × Appends old new (code language kind bytes)
+Answers (Code language name) input kind bytes old new all = (all ≡ true) × Appends old new (code language kind name.now bytes)
 Answers Report input kind bytes old new all = (all ≡ true) × Appends old new (report_lines (report_of kind bytes))
 Answers (View view) input kind bytes old new all = (all ≡ true) × Appends old new (shown view kind bytes)
 

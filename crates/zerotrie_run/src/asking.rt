@@ -12,14 +12,12 @@ use crate::status::Status;
 use std::alloc::{AllocError, Global};
 use std::io;
 use std::io::{Read, Write};
-use zerotrie_code::write_trie_code;
-use zerotrie_commands::{Request, answer_trie};
 use zerotrie_core::Fault;
 use zerotrie_files::Store;
 use zerotrie_lines::read_lines;
-use zerotrie_queries::{OpenError, Trie};
-use zerotrie_reports::write_trie_report;
-use zerotrie_views::write_trie_view;
+use zerotrie_queries::{
+    OpenError, Request, Trie, answer_trie, write_trie_code, write_trie_report, write_trie_view,
+};
 
 /// Why a question has no answer.
 #[derive(Debug, Drop)]
@@ -134,8 +132,8 @@ fn write_answer<W: Write>(
         Question::List(form, prefix) => {
             Ok(answer_trie(alloc, trie, Request::List(form, prefix), output)?)
         }
-        Question::Code(language) => {
-            write_trie_code(trie, language, output)?;
+        Question::Code(language, name) => {
+            write_trie_code(trie, language, name, output)?;
             Ok(true)
         }
         Question::Report => {

@@ -1,10 +1,7 @@
 //! What the program can be asked to do.
 
-use zerotrie_code::Language;
-use zerotrie_commands::Form;
 use zerotrie_making::Plan;
-use zerotrie_queries::TrieKind;
-use zerotrie_views::View;
+use zerotrie_queries::{Form, Language, TrieKind, View};
 
 /// Where bytes come from, or go to.
 #[derive(Clone, Copy, PartialEq, Eq, Debug)]
@@ -52,8 +49,8 @@ pub enum Question<'a> {
     Longest(Keys<'a>),
     /// The pairs whose keys begin with a prefix.
     List(Form, &'a [u8]),
-    /// The trie as source code.
-    Code(Language),
+    /// The trie as source code, by a name.
+    Code(Language, &'a str),
     /// What the trie is made of.
     Report,
     /// Its nodes.

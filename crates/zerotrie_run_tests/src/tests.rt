@@ -4,12 +4,10 @@ use fake::Fake;
 use std::alloc::Global;
 use std::process::Abort;
 use std::test::Fail;
-use zerotrie_code::Language;
-use zerotrie_commands::{Form, Style};
 use zerotrie_lines::Format;
 use zerotrie_making::{Plan, Source};
+use zerotrie_queries::{Form, Language, Style, View};
 use zerotrie_run::{Build, Command, Keys, Place, Question, Status, TrieFile, run};
-use zerotrie_views::View;
 
 /// A run of the program: the files that are there, the words that are typed in, and what is to come of it.
 struct Row {
@@ -189,6 +187,17 @@ const SHOWN: &[Row] = &[
     },
     Row {
         files: &[("names.trie", b"\x00a\x85")],
+        command: Command::Ask(FILE, Question::Code(Language::Rust, "NAMES")),
+        status: Status::Done,
+        printed: b"/// The trie: `NAMES.get(key)` is the value of a key.\n\
+            pub static NAMES: zerotrie_proved::ZeroTrie<'static> =\n    \
+            zerotrie_proved::ZeroTrie::from_bytes(zerotrie_proved::Kind::SimpleAscii, &[\n    \
+            0x61, 0x85,\n]);\n",
+        told: b"",
+        left: ("names.trie", b"\x00a\x85"),
+    },
+    Row {
+        files: &[("names.trie", b"\x00a\x85")],
         command: Command::Ask(FILE, Question::Report),
         status: Status::Done,
         printed: b"kind\tsimple\nbytes\t2\npairs\t1\ngreatest value\t5\nbytes a key\t2.00\n\
@@ -210,7 +219,7 @@ const UNANSWERED: &[Row] = &[
     },
     Row {
         files: &[("names.trie", b"\x00a")],
-        command: Command::Ask(FILE, Question::Code(Language::C)),
+        command: Command::Ask(FILE, Question::Code(Language::C, "trie")),
         status: Status::BadInput,
         printed: b"",
         told: b"zerotrie: names.trie: no trie of kind simple: the bytes end where a key has to go on, at byte 1\n",
