@@ -132,8 +132,8 @@ fn write_behind<W: Write>(
     }
 }
 
-/// Writes the bytes of a trie as source code: a constant, and the call that reads it, by this name. They may be any bytes.
-/// It takes no memory.
+/// Writes the bytes of a trie as source code: a constant, and the call that reads it, by this name. They may be any bytes,
+/// and `is_name` says which names are right. It takes no memory.
 pub fn write_trie_code<W: Write>(
     trie: &Trie<'_>,
     language: Language,
@@ -148,7 +148,8 @@ pub fn write_trie_code<W: Write>(
     write_behind(language, trie.kind, name, output)
 }
 
-/// Writes the trie in a file as source code: its bytes as a constant, and the call that reads it, by this name.
+/// Writes the trie in a file as source code: its bytes as a constant, and the call that reads it, by this name, for which
+/// `is_name` has to hold if the code is to be right.
 ///
 /// With `named` the file is the bare bytes of a trie of that kind. Else its first byte is the number of its kind. The
 /// bytes are tested first, and nothing is written if they are no trie. It takes no memory.
