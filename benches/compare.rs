@@ -8,6 +8,7 @@ mod peers;
 mod places;
 mod sets;
 mod table;
+mod walker;
 
 use calls::{Flat, Kind};
 use peers::Peers;
@@ -102,8 +103,10 @@ fn listings(sets: &[Set], rounds: usize) -> Table {
         let turns = turns_of(set);
         for kind in kinds_of(set) {
             let bytes = &calls::built(kind, set.pairs());
+            assert_eq!(walker::listed(kind, bytes), calls::lend_many(kind, bytes, 1), "the walker lists other pairs");
             let mut contestants: Contestants<'_> = vec![
                 ("here, a stream", Box::new(|| calls::lend_many(kind, bytes, turns))),
+                ("a walker by hand", turned(turns, || walker::listed(kind, bytes))),
                 ("here, an iterator", Box::new(|| calls::list_many(kind, bytes, turns))),
                 #[cfg(original)]
                 ("the crate", turned(turns, || calls::original::listed(kind, bytes))),
