@@ -1,20 +1,8 @@
 //! Builds tries from pairs, and looks keys up in them, as the lines of standard input say.
 #![tactic(auto)]
 
-mod answer;
-mod bad_line;
-mod command;
-mod listing;
-mod noted;
-mod reply;
-mod run;
-#[cfg(test)]
-mod tests;
-mod trie;
-
-use noted::Noted;
-use run::run;
 use std::process::ExitCode;
+use zerotrie_session::{Noted, run};
 
 fn main(rt: HostRuntime) -> ExitCode {
     let mut reader = Noted::new(rt.stdin());

@@ -1,0 +1,264 @@
+//! The commands that lines are.
+
+ghost use Rattle.std.specs.Prelude.{◌≡◌, ◌≢◌, ◌==◌, ◌≤◌, ◌+◌, ◌-◌, ◌*◌, ◌^◌, ◌++◌, ℕ, List, map, codes, IfSome, IfNone, IfOk, IfErr, OnErr, IsTrue, ◌↔◌};
+ghost use Rattle.std.specs.List.{before_first, position};
+ghost use Rattle.zerotrie.specs.Machine.{Op};
+ghost use Rattle.zerotrie.specs.Walks.{op_of, ops_of};
+ghost use Rattle.zerotrie_session.specs.Numbers.{IsNumber};
+ghost use Rattle.zerotrie_session.specs.Calls.{IsHexDigit, IsHexByte, IsOp, AreOps, words_of};
+ghost use Rattle.zerotrie_session.specs.Commands.{name_of, add, HasKey, IsCommand};
+ghost use Rattle.zerotrie_session.specs.BadLines.{IsNoNumber, IsNoPair, IsNoCommand, EndsInReturn, IsBadAs};
+ghost use Rattle.zerotrie_session.specs.answer.Parsing.{meaning};
+
+use crate::bad_line::BadLine;
+use std::alloc::{AllocError, Global};
+use zerotrie::CursorOp;
+
+/// A kind of trie, as a `kind` line names it.
+#[derive(Clone, Copy, PartialEq, Eq, Debug)]
+pub enum Choice {
+    /// `simple`: keys are ASCII.
+    Simple,
+    /// `ignore`: keys are ASCII and are looked up without the case of letters.
+    Ignore,
+    /// `hash`: keys are of any bytes.
+    Hash,
+    /// `ext`: keys are of any bytes, and a branch may have targets of any length.
+    Ext,
+    /// `auto`: as `simple` if all keys are ASCII and there are fewer than 512, else as `hash`.
+    Auto,
+}
+
+/// What a line asks for.
+#[derive(PartialEq, Eq, Debug, Drop)]
+pub enum Request<'a> {
+    Kind(Choice),
+    Add { value: usize, key: &'a [u8] },
+    Build,
+    Query(&'a [u8]),
+    List,
+    Walk(Vec<CursorOp>),
+}
+
+/// The number with one more digit after it. `None` if that is 2^64 or more.
+fn with_digit(value: usize, digit: u8) -> Option<usize>
+    requires { (48 ≤ digit) × (digit ≤ 57) }
+    ensures some { IfSome result (λ more. more ≡ 10 * value + (digit - 48)) }
+    ensures none { IfNone result (2 ^ 64 ≤ 10 * value + (digit - 48)) }
+{
+    value.checked_mul(10)?.checked_add((digit - b'0') as usize)
+}
+
+/// The number that 1 to 20 decimal digits spell.
+fn parse_number(digits: &[u8]) -> Result<usize, BadLine>
+    ensures ok { IfOk result (IsNumber digits.now) }
+    ensures err { IfErr result (IsNoNumber digits.now) }
+{
+    if digits.is_empty() {
+        return Err(BadLine::NoValue);
+    }
+    if digits.len() > 20 {
+        return Err(BadLine::TooManyDigits);
+    }
+    let mut value: usize = 0;
+    for digit in digits {
+        if !digit.is_ascii_digit() {
+            return Err(BadLine::NoNumber);
+        }
+        let Some(more) = with_digit(value, *digit) else {
+            return Err(BadLine::TooLarge);
+        };
+        value = more;
+    }
+    Ok(value)
+}
+
+fn first_space(text: &[u8]) -> Option<usize>
+    ensures { result ≡ position (λ b. b == 32) text.now }
+{
+    text.iter().position(|b| *b == b' ')
+}
+
+/// What stands before the first space, and what stands after it.
+fn split_word(text: &[u8]) -> (&[u8], &[u8])
+    ensures word { result.0.now ≡ before_first (λ b. b == 32) text.now }
+    ensures key { HasKey result.0.now result.1.now text.now }
+{
+    match first_space(text) {
+        Some(place) => (&text[..place], &text[place + 1..]),
+        None => (text, &[]),
+    }
+}
+
+/// The key after the words, which is empty if they stand alone.
+fn key_behind<'a>(words: &[u8], line: &'a [u8]) -> Option<&'a [u8]>
+    ensures some { IfSome result (λ key. HasKey words.now key.now line.now) }
+    ensures none { IfNone result ((key : List ℕ) → HasKey words.now key line.now → ⊥) }
+{
+    let rest = line.strip_prefix(words)?;
+    match rest.split_first() {
+        None => Some(rest),
+        Some((first, key)) => { if *first == b' ' { Some(key) } else { None } }
+    }
+}
+
+/// The number of a hexadecimal digit, in either case.
+fn parse_digit(digit: u8) -> Option<u8>
+    ensures some { IfSome result (IsHexDigit digit) }
+    ensures none { IfNone result ((n : ℕ) → IsHexDigit digit n → ⊥) }
+{
+    match digit {
+        b'0'..=b'9' => Some(digit - b'0'),
+        b'a'..=b'f' => Some(digit - b'a' + 10),
+        b'A'..=b'F' => Some(digit - b'A' + 10),
+        _ => None,
+    }
+}
+
+/// The byte that two hexadecimal digits spell.
+fn parse_byte(digits: &[u8]) -> Option<u8>
+    ensures some { IfSome result (IsHexByte digits.now) }
+    ensures none { IfNone result ((b : ℕ) → IsHexByte digits.now b → ⊥) }
+{
+    let [high, low] = digits else {
+        return None;
+    };
+    let high = parse_digit(*high)?;
+    let low = parse_digit(*low)?;
+    Some(16 * high + low)
+}
+
+/// The call of a cursor that a word is.
+fn parse_op(word: &[u8]) -> Option<CursorOp>
+    ensures some { IfSome result (λ op. IsOp word.now (op_of op)) }
+    ensures none { IfNone result ((op : Op) → IsOp word.now op → ⊥) }
+{
+    let (first, digits) = word.split_first()?;
+    match *first {
+        b's' => {
+            let byte = parse_byte(digits)?;
+            Some(CursorOp::Step(byte))
+        }
+        b't' if digits.is_empty() => Some(CursorOp::Take),
+        b'p' => {
+            let index = parse_number(digits).ok()?;
+            Some(CursorOp::Probe(index))
+        }
+        _ => None,
+    }
+}
+
+fn split_words(alloc: Global, text: &[u8]) -> Result<Vec<&[u8]>, AllocError>
+    ensures { IfOk result (λ words. map (λ word. word.now) words.items ≡ words_of text.now) }
+{
+    text.split(|b| *b == b' ').collect(alloc)
+}
+
+/// The calls that the words of a text are; `None` if one of them is none.
+fn parse_ops(alloc: Global, text: &[u8]) -> Result<Option<Vec<CursorOp>>, AllocError>
+    ensures some { IfOk result (λ r.
+        IfSome r (λ ops. AreOps (words_of text.now) (ops_of ops.items))) }
+    ensures none { IfOk result (λ r.
+        IfNone r ((ops : List Op) → AreOps (words_of text.now) ops → ⊥)) }
+{
+    let words = split_words(alloc, text)?;
+    let mut ops = Vec::new(alloc);
+    for word in &words {
+        let Some(op) = parse_op(word) else {
+            return Ok(None);
+        };
+        ops.push(op)?;
+    }
+    Ok(Some(ops))
+}
+
+/// The choice of this name.
+fn choice_named(name: &[u8]) -> Option<Choice>
+    ensures some { IfSome result (λ choice. name.now ≡ name_of choice) }
+    ensures none { IfNone result ((choice : Choice) → name.now ≡ name_of choice → ⊥) }
+{
+    if name == b"simple".as_slice() {
+        Some(Choice::Simple)
+    } else if name == b"ignore".as_slice() {
+        Some(Choice::Ignore)
+    } else if name == b"hash".as_slice() {
+        Some(Choice::Hash)
+    } else if name == b"ext".as_slice() {
+        Some(Choice::Ext)
+    } else if name == b"auto".as_slice() {
+        Some(Choice::Auto)
+    } else {
+        None
+    }
+}
+
+/// The value and the key after the plus sign of a line.
+fn parse_pair(text: &[u8]) -> Result<(usize, &[u8]), BadLine>
+    ensures ok { IfOk result (λ pair. IsCommand (codes "+ " ++ text.now) (add pair.0 pair.1.now)) }
+    ensures err { IfErr result (IsNoPair (codes "+ " ++ text.now)) }
+{
+    let (digits, key) = split_word(text);
+    let value = parse_number(digits)?;
+    Ok((value, key))
+}
+
+/// What a line asks for that is no walk.
+fn parse_plain(line: &[u8]) -> Result<Request<'_>, BadLine>
+    ensures ok { IfOk result (λ request. IsCommand line.now (meaning request)) }
+    ensures err { IfErr result (λ bad. ((text : List ℕ) → line.now ≢ codes "walk " ++ text)
+        → IsBadAs line.now bad) }
+{
+    if let Some(name) = line.strip_prefix(b"kind ") {
+        match choice_named(name) {
+            Some(choice) => Ok(Request::Kind(choice)),
+            None => Err(BadLine::UnknownKind),
+        }
+    } else if let Some(text) = line.strip_prefix(b"+ ") {
+        let (value, key) = parse_pair(text)?;
+        Ok(Request::Add { value, key })
+    } else if line == b"build".as_slice() {
+        Ok(Request::Build)
+    } else if line == b"list".as_slice() {
+        Ok(Request::List)
+    } else if let Some(key) = key_behind(b"?", line) {
+        Ok(Request::Query(key))
+    } else {
+        Err(BadLine::NoCommand)
+    }
+}
+
+/// What a line asks for, if it is a command.
+fn parse_line(alloc: Global, line: &[u8]) -> Result<Result<Request<'_>, BadLine>, AllocError>
+    ensures ok { IfOk result (λ r. IfOk r (λ request. IsCommand line.now (meaning request))) }
+    ensures err { IfOk result (λ r. IfErr r (IsBadAs line.now)) }
+{
+    match line.strip_prefix(b"walk ") {
+        None => Ok(parse_plain(line)),
+        Some(text) => match parse_ops(alloc, text)? {
+            None => Ok(Err(BadLine::NoCall)),
+            Some(ops) => Ok(Ok(Request::Walk(ops))),
+        },
+    }
+}
+
+/// Whether a carriage return stands at the line's end.
+fn ends_in_return(line: &[u8]) -> bool
+    ensures { IsTrue result ↔ EndsInReturn line.now }
+{
+    line.ends_with(b"\r")
+}
+
+/// What a line asks for, or what is bad in it. That is the carriage return at its end, if it has one.
+pub fn parse(alloc: Global, line: &[u8]) -> Result<Result<Request<'_>, BadLine>, AllocError>
+    ensures ok { IfOk result (λ r. IfOk r (λ request. IsCommand line.now (meaning request))) }
+    ensures none { IfOk result (λ r. OnErr r (IsNoCommand line.now)) }
+    ensures why { IfOk result (λ r. IfErr r (IsBadAs line.now)) }
+    ensures named { IfOk result (λ r.
+        IfErr r (λ bad. EndsInReturn line.now → bad ≡ BadLine.CarriageReturn)) }
+{
+    match parse_line(alloc, line)? {
+        Ok(request) => Ok(Ok(request)),
+        Err(_) if ends_in_return(line) => Ok(Err(BadLine::CarriageReturn)),
+        Err(bad) => Ok(Err(bad)),
+    }
+}

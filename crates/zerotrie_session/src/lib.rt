@@ -1,0 +1,14 @@
+//! What the lines of an input are answered: tries are built of their pairs, and keys are looked up in them.
+#![tactic(auto)]
+
+mod answer;
+mod bad_line;
+mod command;
+mod listing;
+mod noted;
+mod reply;
+mod run;
+mod trie;
+
+pub use noted::Noted;
+pub use run::{RunError, run};

@@ -1,0 +1,125 @@
+//! The lines that are printed.
+
+ghost use Rattle.std.specs.Prelude.{◌≡◌, ◌++◌, OnOk, string_bytes};
+ghost use Rattle.zerotrie_session.specs.Replies.{hex, error_name, ok_line, refused_line, number_line, pair_line, answer_word, walk_line, bad_line};
+ghost use Rattle.zerotrie.specs.Walks.{answer_of, answers_of};
+
+use std::alloc::AllocError;
+use zerotrie::{CursorAnswer, ZeroTrieBuildError};
+
+/// Writes bytes in hexadecimal, and for none a dash.
+fn write_hex(output: &mut String, bytes: &[u8]) -> Result<(), AllocError>
+    ensures { OnOk result (string_bytes output.new ≡ string_bytes output.old ++ hex bytes.now) }
+{
+    if bytes.is_empty() {
+        return output.push_str("-");
+    }
+    for byte in bytes {
+        write!(output, "{byte:02x}")?;
+    }
+    Ok(())
+}
+
+/// The variant's name.
+fn name_of(error: &ZeroTrieBuildError) -> &'static str
+    ensures { result.now ≡ error_name error.now }
+{
+    match error {
+        ZeroTrieBuildError::NonAsciiError => "NonAsciiError",
+        ZeroTrieBuildError::CapacityExceeded => "CapacityExceeded",
+        ZeroTrieBuildError::CouldNotSolvePerfectHash => "CouldNotSolvePerfectHash",
+        ZeroTrieBuildError::MixedCase => "MixedCase",
+        ZeroTrieBuildError::IllegalDelimiter => "IllegalDelimiter",
+        ZeroTrieBuildError::DuplicateKey => "DuplicateKey",
+        ZeroTrieBuildError::Unsorted => "Unsorted",
+        ZeroTrieBuildError::BufferTooSmall => "BufferTooSmall",
+        ZeroTrieBuildError::BufferTooLarge(_) => "BufferTooLarge",
+        ZeroTrieBuildError::StackExceeded => "StackExceeded",
+        ZeroTrieBuildError::OutOfMemory => "OutOfMemory",
+    }
+}
+
+/// Writes that a trie was built, with its bytes.
+pub fn write_ok(output: &mut String, text: &[u8]) -> Result<(), AllocError>
+    ensures { OnOk result (string_bytes output.new ≡ string_bytes output.old ++ ok_line text.now) }
+{
+    let length = text.len();
+    write!(output, "ok {length} ")?;
+    write_hex(output, text)?;
+    writeln!(output)
+}
+
+/// Writes why no trie was built.
+pub fn write_refused(output: &mut String, error: &ZeroTrieBuildError) -> Result<(), AllocError>
+    ensures { OnOk result (string_bytes output.new
+        ≡ string_bytes output.old ++ refused_line error.now) }
+{
+    let name = name_of(error);
+    writeln!(output, "refused {name}")
+}
+
+/// Writes the number of a key.
+pub fn write_number(output: &mut String, number: Option<usize>) -> Result<(), AllocError>
+    ensures { OnOk result (string_bytes output.new
+        ≡ string_bytes output.old ++ number_line number) }
+{
+    match number {
+        Some(value) => writeln!(output, "{value}"),
+        None => writeln!(output, "none"),
+    }
+}
+
+/// Writes a pair.
+pub fn write_pair(output: &mut String, key: &[u8], value: usize) -> Result<(), AllocError>
+    ensures { OnOk result (string_bytes output.new
+        ≡ string_bytes output.old ++ pair_line (key.now, value)) }
+{
+    write!(output, "{value} ")?;
+    write_hex(output, key)?;
+    writeln!(output)
+}
+
+/// Writes an answer of a cursor.
+fn write_answer(output: &mut String, answer: &CursorAnswer) -> Result<(), AllocError>
+    ensures { OnOk result (string_bytes output.new
+        ≡ string_bytes output.old ++ answer_word (answer_of answer.now)) }
+{
+    match answer {
+        CursorAnswer::Stepped(None) => output.push_str("s-"),
+        CursorAnswer::Stepped(Some(byte)) => {
+            output.push_str("s")?;
+            write_hex(output, &[*byte])
+        }
+        CursorAnswer::Taken(None) => output.push_str("t-"),
+        CursorAnswer::Taken(Some(value)) => write!(output, "t{value}"),
+        CursorAnswer::Probed(None) => output.push_str("p-"),
+        CursorAnswer::Probed(Some((byte, edges))) => {
+            output.push_str("p")?;
+            write_hex(output, &[*byte])?;
+            write!(output, "/{edges}")
+        }
+    }
+}
+
+/// Writes the answers of a walk.
+pub fn write_walk(output: &mut String, answers: &[CursorAnswer]) -> Result<(), AllocError>
+    ensures { OnOk result (string_bytes output.new
+        ≡ string_bytes output.old ++ walk_line (answers_of answers.now)) }
+{
+    if let Some((first, rest)) = answers.split_first() {
+        write_answer(output, first)?;
+        for answer in rest {
+            output.push_str(" ")?;
+            write_answer(output, answer)?;
+        }
+    }
+    writeln!(output)
+}
+
+/// Writes that the line with this number is no command.
+pub fn write_bad(output: &mut String, line_number: usize) -> Result<(), AllocError>
+    ensures { OnOk result (string_bytes output.new
+        ≡ string_bytes output.old ++ bad_line line_number) }
+{
+    writeln!(output, "bad line {line_number}")
+}

@@ -1,0 +1,120 @@
+//! One run of the program, over a reader and a writer.
+
+ghost use Rattle.std.specs.Prelude.{◌≡◌, ◌≢◌, ◌↔◌, ℕ, List, false, true, Ok, IfOk, IfErr, IfSome, IsErrOf};
+ghost use Rattle.std.specs.Io.KnownBytes.{Appends};
+ghost use Rattle.zerotrie_session.specs.Answers.{Answers};
+ghost use Rattle.zerotrie_session.specs.declared.run.RunError.TheVariants.{OutOfMemory};
+
+use crate::answer::answer_all;
+use crate::noted::Noted;
+use std::alloc::{AllocError, Global};
+use std::io::{Read, Write};
+use thiserror::Error;
+
+/// Why a run has no status.
+#[derive(Clone, PartialEq, Eq, Debug, Drop, Error)]
+pub enum RunError {
+    /// The reader failed.
+    #[error("read failed")]
+    Read,
+    /// The writer failed.
+    #[error("write failed")]
+    Write,
+    /// Memory was refused, outside of a build.
+    #[error("out of memory")]
+    OutOfMemory,
+}
+
+impl RunError {
+    ghost use Rattle.zerotrie_session.specs.Faults.{fault_text};
+
+    /// What the program prints to standard error.
+    pub fn message(&self) -> &'static str
+        ensures { result.now ≡ fault_text self.now }
+    {
+        match self {
+            RunError::Read => "read failed",
+            RunError::Write => "write failed",
+            RunError::OutOfMemory => "out of memory",
+        }
+    }
+}
+
+impl From<AllocError> for RunError {
+    ghost from_gives = { λ _ e. e ≡ OutOfMemory };
+
+    fn from(_: AllocError) -> Self {
+        RunError::OutOfMemory
+    }
+}
+
+/// Reads to the end.
+fn read_all<R: Read>(alloc: Global, reader: &mut Noted<R>) -> Result<Vec<u8>, RunError>
+    requires { reader.old.failed ≡ false }
+    ensures flag { reader.new.failed ≡ true ↔ IsErrOf result RunError.Read }
+    ensures ok { IfOk result (λ input.
+        IfSome (R.remaining reader.old.inner) (λ known. input.items ≡ known)) }
+    ensures err { IfErr result (λ e. e ≢ RunError.Write) }
+{
+    let mut input: Vec<u8> = Vec::new(alloc);
+    let mut chunk = [0u8; 1024];
+    loop {
+        let Ok(count) = reader.read(&mut chunk) else {
+            return Err(RunError::Read);
+        };
+        if count == 0 {
+            return Ok(input);
+        }
+        input.extend_from_slice(&chunk[..count])?;
+    }
+}
+
+/// Reads all input, forms all answers, and then writes them. It answers the status to end with.
+///
+/// ```text
+/// kind simple     chooses a kind of trie: simple, ignore, hash, ext or auto
+/// + 22 ad         adds a pair
+/// build           builds the trie of the pairs, and prints ok 4 61649006: its length and its bytes
+/// ? ad            prints 22, the number of the key, or none
+/// list            prints 22 6164, the value of each pair and its key in hexadecimal
+/// walk s61 p0 t   prints s61 p64/1 t22: a step by a byte, a probe of edge 0 of 1, and the value taken
+/// ```
+///
+/// - An empty line is skipped and counted.
+/// - A second `kind` begins anew: without pairs, and with the empty trie.
+/// - A build takes all pairs since `kind`. A refused one prints its reason, and leaves the empty trie.
+/// - A listing has the order of the trie, or of the bytes of the keys if the kind is `auto`.
+/// - A walk has one or more calls of a cursor with one space between. If the kind is `auto` there is none.
+/// - Any other line is bad, and before the first `kind` every line but an empty one is. `bad line N`
+///   ends the run, and a message says what is bad in it, as `line 2: the value is not below 2^64`.
+/// - The status is 2 after a bad line, even if a build was refused before. Else it is 1 if a
+///   build was refused, and 0 if none was.
+///
+/// An error but `Write` has written nothing. A fault of the writer for messages is ignored.
+pub fn run<R: Read, W: Write, M: Write>(
+    alloc: Global,
+    reader: &mut Noted<R>,
+    writer: &mut Noted<W>,
+    messages: &mut M,
+) -> Result<u8, RunError>
+    requires reader_is_fresh { reader.old.failed ≡ false }
+    requires writer_is_fresh { writer.old.failed ≡ false }
+    ensures read { reader.new.failed ≡ true ↔ IsErrOf result RunError.Read }
+    ensures write { writer.new.failed ≡ true ↔ IsErrOf result RunError.Write }
+    ensures ok { IfOk result (λ status. IfSome (R.remaining reader.old.inner) (λ input.
+        (output : List ℕ) × Answers input output status
+        × Appends (W.contents writer.old.inner) (W.contents writer.new.inner) output)) }
+    ensures unwritten { IfErr result (λ e. e ≢ RunError.Write → writer.new ≡ writer.old) }
+    ensures quiet { result ≢ Ok 2 → messages.new ≡ messages.old }
+{
+    let input = read_all(alloc, reader)?;
+    let answered = answer_all(alloc, input.as_slice())?;
+    if writer.write_all(answered.output.as_bytes()).is_err() || writer.flush().is_err() {
+        return Err(RunError::Write);
+    }
+    if let Some((number, bad)) = answered.bad {
+        // The answer is given, so a fault here changes nothing.
+        let _ = writeln!(messages, "line {number}: {bad}");
+    }
+    Ok(answered.status)
+}
