@@ -1,7 +1,7 @@
 -- Why a run has no status.
 use Rattle.std.specs.Prelude.{ℕ, List, codes}
-use Rattle.zerotrie_session.specs.declared.run.RunError.{RunError}
-use Rattle.zerotrie_session.specs.declared.run.RunError.TheVariants.{Read, Write, OutOfMemory}
+use Rattle.zerotrie_session.specs.declared.running.RunError.{RunError}
+use Rattle.zerotrie_session.specs.declared.running.RunError.TheVariants.{Read, Write, OutOfMemory}
 
 -- what is printed to standard error
 abbrev pub fault_text : RunError → List ℕ

@@ -7,8 +7,8 @@ mod command;
 mod listing;
 mod noted;
 mod reply;
-mod run;
+mod running;
 mod trie;
 
 pub use noted::Noted;
-pub use run::{RunError, run};
+pub use running::{RunError, run};

@@ -3,7 +3,7 @@
 ghost use Rattle.std.specs.Prelude.{◌≡◌, ◌≢◌, ◌↔◌, ℕ, List, false, true, Ok, IfOk, IfErr, IfSome, IsErrOf};
 ghost use Rattle.std.specs.Io.KnownBytes.{Appends};
 ghost use Rattle.zerotrie_session.specs.Answers.{Answers};
-ghost use Rattle.zerotrie_session.specs.declared.run.RunError.TheVariants.{OutOfMemory};
+ghost use Rattle.zerotrie_session.specs.declared.running.RunError.TheVariants.{OutOfMemory};
 
 use crate::answer::answer_all;
 use crate::noted::Noted;
