@@ -84,7 +84,7 @@ pub const COMMANDS: &[Subcommand] = &[
     Subcommand {
         name: "get",
         about: "Prints the values of keys",
-        help: "Example: zerotrie get names.trie amp lt\nIn memory: the file and the keys.",
+        help: "Example: zerotrie get names.trie amp lt\nIn memory: the file and the longest key.",
         arguments: &[
             FILE,
             KIND,
@@ -99,7 +99,7 @@ pub const COMMANDS: &[Subcommand] = &[
     Subcommand {
         name: "longest",
         about: "Prints the longest key that each text begins with, and its value",
-        help: "Example: zerotrie longest names.trie ampersand\nIn memory: the file and the texts.",
+        help: "Example: zerotrie longest names.trie ampersand\nIn memory: the file and the longest text.",
         arguments: &[
             FILE,
             KIND,

@@ -4,6 +4,7 @@
 //! a key alone, whose number is that of its line.
 #![tactic(auto)]
 
+mod blocks;
 mod escapes;
 mod fault;
 pub mod laws;
@@ -14,6 +15,7 @@ mod records;
 mod strings;
 mod table;
 
+pub use blocks::{read_more, whole_lines};
 pub use escapes::{hex_digit, unescape, write_escaped};
 pub use fault::{BadLine, ReadError};
 pub use lines::{read_lines, take_line, write_pair};

@@ -1,5 +1,5 @@
 -- What is read of source code.
-use Rattle.std.proofs.Common.{rules, inl, inr, ◌≡◌, ℕ, ◌+◌, ◌*◌, ◌/◌, ◌%◌, ◌<◌, Bool, true, false, List, [], ◌∷◌, ◌++◌, refl, sym, ◌∙◌, ap, append_assoc, append-nil, arith}
+use Rattle.std.proofs.Common.{rules, ◌≡◌, ℕ, ◌+◌, ◌*◌, ◌/◌, ◌%◌, ◌<◌, Bool, true, false, List, [], ◌∷◌, ◌++◌, refl, ◌∙◌, ap, append_assoc, arith}
 use Rattle.std.specs.Prelude.{All, ◌==◌, ◌&&◌, codes, if◌then◌else◌}
 use Rattle.std.proofs.lemmas.Bool.Decides.{nat_tests}
 use Rattle.std.proofs.lemmas.List.Elements.{All-head, All-tail}
@@ -10,8 +10,8 @@ use Rattle.zerotrie_queries.specs.declared.code.language.Language.{Language}
 use Rattle.zerotrie_queries.specs.declared.code.language.Language.TheVariants as lang
 use Rattle.zerotrie_queries.specs.code.Names.{is_letter, is_in_word, are_in_word, is_name}
 use Rattle.zerotrie_queries.specs.code.Texts.{rust_kind, c_kind, rattle_type, front, behind}
-use Rattle.zerotrie_queries.specs.code.Items.{before_item, item_number, items, Seen, digit_value, seen_after, numbers_after}
-use Rattle.zerotrie_queries.specs.code.Items.Seen.{outside, inside, zero_seen, digit_seen}
+use Rattle.zerotrie_queries.specs.code.Items.{before_item, item_number, items, digit_value, seen_after, numbers_after}
+use Rattle.zerotrie_queries.specs.code.Items.Seen.{outside, inside, zero_seen}
 
 -- a digit that is written has its value
 digit_back : (n : ℕ) → n < 16 → digit_value (hex_digit n) ≡ n

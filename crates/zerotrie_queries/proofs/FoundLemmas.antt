@@ -19,6 +19,11 @@ answers_of f keys = map (λ key. f key.now) keys
 abbrev pub nows : List (Bor (List ℕ)) → List (List ℕ)
 nows texts = map (λ t. t.now) texts
 
+-- keys that lie elsewhere are answered as the keys themselves
+pub answers_are : (f : List ℕ → Option ℕ) (keys : List (Bor (List ℕ))) → answers_of f keys ≡ map f (nows keys)
+answers_are f [] = refl
+answers_are f (key ∷ keys) = ap (λ answers. f key.now ∷ answers) (answers_are f keys)
+
 -- what is read past the end
 abbrev pub no_key : Bor (List ℕ)
 no_key = record { ref_ptr = (0, 0); now = [] }
@@ -40,11 +45,11 @@ cut_at keys left block begin n l b len =
     ∙ ap (λ x. block ++ x) (ap (drop n) l ∙ drop-drop n begin keys ∙ ap (λ k. drop (begin + k) keys) (sym len))
 
 -- answers one after another
-value_lines-append : (a b : List (Option ℕ)) → value_lines (a ++ b) ≡ value_lines a ++ value_lines b
+pub value_lines-append : (a b : List (Option ℕ)) → value_lines (a ++ b) ≡ value_lines a ++ value_lines b
 value_lines-append [] b = refl
 value_lines-append (x ∷ a) b = ap (λ l. value_line x ++ l) (value_lines-append a b) ∙ sym (append_assoc (value_line x) (value_lines a) (value_lines b))
 
-are_found-append : (a b : List (Option ℕ)) → are_found (a ++ b) ≡ (are_found a && are_found b)
+pub are_found-append : {A : Type 0} (a b : List (Option A)) → are_found (a ++ b) ≡ (are_found a && are_found b)
 are_found-append [] b = refl
 are_found-append (x ∷ a) b = ap (λ f. is_some x && f) (are_found-append a b) ∙ sym (and_assoc (is_some x) (are_found a) (are_found b))
 

@@ -1,5 +1,6 @@
 mod WriteLemmas
 mod FoundLemmas
+pub mod AnswerLemmas
 mod JsonLemmas
 mod CodeLemmas
 mod CountLemmas

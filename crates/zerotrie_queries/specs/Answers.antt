@@ -1,17 +1,16 @@
--- Which output and status belong to a file and a request.
+-- What is printed of keys, texts and pairs that a trie is asked for.
 use Rattle.std.specs.Prelude.{◌≡◌, ℕ, List, [], ◌∷◌, map, Option, Bool}
+use Rattle.std.specs.Io.KnownBytes.{Appends}
 use Rattle.zerotrie_core.specs.Kind.{Kind}
 use Rattle.zerotrie_core.specs.Maps.{Map, Pairs, look, beginning}
-use Rattle.zerotrie_core.specs.Texts.{Means}
+use Rattle.zerotrie_core.specs.Texts.{Lists, Means}
 use Rattle.zerotrie_core.specs.Prefixes.{IsLongestPrefix}
 use Rattle.zerotrie_queries.specs.Kinds.{kind_of}
-use Rattle.zerotrie_queries.specs.Files.{Holds, Explains}
 use Rattle.zerotrie_queries.specs.declared.kind.TrieKind.{TrieKind}
-use Rattle.zerotrie_queries.specs.Printed.{value_lines, found_lines, listed, are_found, status_of}
-use Rattle.zerotrie_queries.specs.declared.requests.Request.{Request}
-use Rattle.zerotrie_queries.specs.declared.requests.Request.TheVariants as asks
-use Rattle.zerotrie_queries.specs.declared.requests.AnswerError.{AnswerError}
-use Rattle.zerotrie_queries.specs.declared.requests.AnswerError.TheVariants.{NoTrie, Failed}
+use Rattle.zerotrie_queries.specs.Printed.{value_lines, found_lines, listed, are_found}
+use Rattle.zerotrie_queries.specs.declared.lookups.Asked.{Asked}
+use Rattle.zerotrie_queries.specs.declared.lookups.Asked.TheVariants.{Value, Longest}
+use Rattle.zerotrie_queries.specs.declared.print.Form.{Form}
 
 -- for each text what was found, the longest key of the map that it begins with
 abbrev pub AreLongest : Kind → Map → List (List ℕ) → List (Option (ℕ × ℕ)) → Type 0
@@ -27,25 +26,16 @@ pub record LongestLines (kind : Kind) (m : Map) (texts : List (List ℕ)) (outpu
   pub is : output ≡ found_lines texts found
   pub tells : all ≡ are_found found
 
--- the output and the status that belong to a request to a map whose pairs stand in this order
-abbrev pub Belongs : Kind → Map → Pairs → Request → List ℕ → ℕ → Type 0
-Belongs kind m pairs (asks.Get keys) output status =
-    let answers = map (λ key. look kind m key.now) keys.now in
-    (output ≡ value_lines answers) × (status ≡ status_of (are_found answers))
-Belongs kind m pairs (asks.Longest texts) output status =
-    (all : Bool) × LongestLines kind m (map (λ t. t.now) texts.now) output all × (status ≡ status_of all)
-Belongs kind m pairs (asks.List form prefix) output status = (output ≡ listed form (beginning kind prefix.now pairs)) × (status ≡ 0)
+-- the lines of texts, each with what was asked of it, and whether all was found
+abbrev pub Belongs : Asked → Kind → Map → List (List ℕ) → (output : List ℕ) → (all : Bool) → Type 0
+Belongs Value kind m keys output all = let answers = map (look kind m) keys in (output ≡ value_lines answers) × (all ≡ are_found answers)
+Belongs Longest kind m texts output all = LongestLines kind m texts output all
 
--- The output and the status that belong to a request to a file, whose kind was named or has its number in front.
-pub record Answers (named : Option TrieKind) (file : List ℕ) (request : Request) (output : List ℕ) (status : ℕ) : Type 0 where
-  pub kind : TrieKind
-  pub bytes : List ℕ
-  pub holds : Holds named file kind bytes
-  pub of : Map
-  pub means : Means (kind_of kind) bytes of
-  pub belongs : Belongs (kind_of kind) of means.pairs request output status
+-- what was printed belongs to texts, to what was asked of them, and to the map that the bytes mean, if they mean one
+abbrev pub AreAnswered : Asked → TrieKind → (bytes : List ℕ) → (texts : List (List ℕ)) → (old new : Option (List ℕ)) → (all : Bool) → Type 0
+AreAnswered asked kind bytes texts old new all = (m : Map) → Means (kind_of kind) bytes m
+    → (printed : List ℕ) × Belongs asked (kind_of kind) m texts printed all × Appends old new printed
 
--- why there is no answer: the file has no trie, and then nothing was written; or writing failed, or memory was refused
-abbrev pub IsRefusal : Option TrieKind → List ℕ → Type 0 → AnswerError → Type 0
-IsRefusal named file Unwritten (NoTrie why) = Explains named file why × Unwritten
-IsRefusal named file Unwritten (Failed e) = Unit {0}
+-- the pairs whose keys begin with a prefix were printed, if the bytes list pairs
+abbrev pub AreListed : Form → (prefix : List ℕ) → TrieKind → (bytes : List ℕ) → (old new : Option (List ℕ)) → Type 0
+AreListed form prefix kind bytes old new = (pairs : Pairs) → Lists (kind_of kind) bytes pairs → Appends old new (listed form (beginning (kind_of kind) prefix pairs))

@@ -1,5 +1,5 @@
 -- The lines that are printed, and the status that is answered.
-use Rattle.std.specs.Prelude.{ℕ, List, [], ◌∷◌, ◌++◌, ◌&&◌, Bool, true, codes, decimal, take, Option, Some, None, is_some, if◌then◌else◌}
+use Rattle.std.specs.Prelude.{ℕ, List, [], ◌∷◌, ◌++◌, ◌&&◌, Bool, true, codes, decimal, take, Option, Some, None, is_some}
 use Rattle.zerotrie_core.specs.Maps.{Pairs}
 use Rattle.zerotrie_lines.specs.Lines.{tsv_line}
 use Rattle.zerotrie_queries.specs.Json.{json_line}
@@ -47,7 +47,3 @@ pair_lines style (e ∷ pairs) = pair_line style e ++ pair_lines style pairs
 abbrev pub listed : Form → Pairs → List ℕ
 listed (Lines style) pairs = pair_lines style pairs
 listed Json pairs = json_line pairs
-
--- 0 if all was found, and 1 if something was not
-abbrev pub status_of : Bool → ℕ
-status_of all = if all then 0 else 1

@@ -8,4 +8,4 @@ mod writing;
 
 pub use language::Language;
 pub use name::is_name;
-pub use writing::{write_code, write_trie_code};
+pub use writing::write_trie_code;

@@ -5,7 +5,8 @@ ghost use Rattle.std.specs.Io.KnownBytes.{Appends};
 ghost use Rattle.zerotrie_core.specs.Maps.{Pairs, beginning};
 ghost use Rattle.zerotrie_core.specs.Texts.{Lists};
 ghost use Rattle.zerotrie_queries.specs.Kinds.{kind_of};
-ghost use Rattle.zerotrie_queries.specs.Printed.{pair_lines, listed};
+ghost use Rattle.zerotrie_queries.specs.Answers.{AreListed};
+ghost use Rattle.zerotrie_queries.specs.Printed.{pair_lines};
 
 use crate::json_listing::write_json;
 use crate::print::{Form, Style, add_pair};
@@ -85,9 +86,8 @@ pub fn write_list<W: Write>(
     prefix: &[u8],
     output: &mut W,
 ) -> io::Result<()>
-    ensures { OnOk result ((pairs : Pairs) → Lists (kind_of trie.now.kind) trie.now.bytes.now pairs
-        → Appends (W.contents output.old) (W.contents output.new)
-        (listed form (beginning (kind_of trie.now.kind) prefix.now pairs))) }
+    ensures { OnOk result (AreListed form prefix.now trie.now.kind trie.now.bytes.now
+        (W.contents output.old) (W.contents output.new)) }
 {
     match form {
         Form::Lines(style) => write_lines(alloc, trie, style, prefix, output),

@@ -1,12 +1,9 @@
 //! Keys and texts that are looked up, one after another.
 
-ghost use Rattle.std.specs.Prelude.{◌≡◌, ◌++◌, List, ℕ, map, IfOk};
-ghost use Rattle.std.specs.Io.KnownBytes.{Appends};
-ghost use Rattle.zerotrie_core.specs.Maps.{Map, look};
-ghost use Rattle.zerotrie_core.specs.Texts.{Means};
-ghost use Rattle.zerotrie_queries.specs.Kinds.{kind_of};
+ghost use Rattle.std.specs.Prelude.{◌≡◌, ◌++◌, map, IfOk};
 ghost use Rattle.zerotrie_queries.specs.Printed.{value_lines, are_found};
-ghost use Rattle.zerotrie_queries.specs.Answers.{LongestLines};
+ghost use Rattle.zerotrie_queries.specs.Answers.{AreAnswered};
+ghost use Rattle.zerotrie_queries.specs.declared.lookups.Asked.TheVariants.{Value, Longest};
 
 use crate::print::{add_found, add_value};
 use crate::trie::Trie;
@@ -16,6 +13,15 @@ use std::io::Write;
 
 /// How many keys are looked up before their lines are written.
 const BLOCK: usize = 4096;
+
+/// What a trie is asked of each of some texts.
+#[derive(Clone, Copy, PartialEq, Eq, Debug)]
+pub enum Asked {
+    /// The value of the key that it is.
+    Value,
+    /// The longest key that it begins with, and its value.
+    Longest,
+}
 
 /// Adds a line for each answer, a value or `none`, and tells whether all are there.
 fn add_values(lines: &mut Vec<u8>, values: &[Option<usize>]) -> Result<bool, AllocError>
@@ -31,16 +37,14 @@ fn add_values(lines: &mut Vec<u8>, values: &[Option<usize>]) -> Result<bool, All
 }
 
 /// Writes a line for each key, its value or `none`, and tells whether all are there. Lines are written many at once.
-pub fn write_values<W: Write>(
+fn write_values<W: Write>(
     alloc: Global,
     trie: &Trie<'_>,
     keys: &[&[u8]],
     output: &mut W,
 ) -> io::Result<bool>
-    ensures { IfOk result (λ all. (m : Map) → Means (kind_of trie.now.kind) trie.now.bytes.now m
-        → let answers = map (λ key. look (kind_of trie.now.kind) m key.now) keys.now in
-        Appends (W.contents output.old) (W.contents output.new) (value_lines answers)
-        × (all ≡ are_found answers)) }
+    ensures { IfOk result (AreAnswered Value trie.now.kind trie.now.bytes.now
+        (map (λ key. key.now) keys.now) (W.contents output.old) (W.contents output.new)) }
 {
     let mut values = Vec::new(alloc);
     let mut lines = Vec::new(alloc);
@@ -61,16 +65,14 @@ pub fn write_values<W: Write>(
 
 /// Writes a line for each text, the longest key that it begins with and its value or `none`, and tells whether each
 /// begins with a key.
-pub fn write_longest<W: Write>(
+fn write_longest<W: Write>(
     alloc: Global,
     trie: &Trie<'_>,
     texts: &[&[u8]],
     output: &mut W,
 ) -> io::Result<bool>
-    ensures { IfOk result (λ all. (m : Map) → Means (kind_of trie.now.kind) trie.now.bytes.now m
-        → (printed : List ℕ)
-        × LongestLines (kind_of trie.now.kind) m (map (λ t. t.now) texts.now) printed all
-        × Appends (W.contents output.old) (W.contents output.new) printed) }
+    ensures { IfOk result (AreAnswered Longest trie.now.kind trie.now.bytes.now
+        (map (λ t. t.now) texts.now) (W.contents output.old) (W.contents output.new)) }
 {
     let mut line = Vec::new(alloc);
     let mut all = true;
@@ -82,4 +84,24 @@ pub fn write_longest<W: Write>(
         output.write_all(line.as_slice())?;
     }
     Ok(all)
+}
+
+/// Writes a line for each text, what was asked of it or `none`, and tells whether all was found. Values are written many at
+/// once.
+///
+/// The answers are those of the map that the bytes of the trie mean. If these mean none, it returns too.
+pub fn write_answers<W: Write>(
+    alloc: Global,
+    trie: &Trie<'_>,
+    asked: Asked,
+    texts: &[&[u8]],
+    output: &mut W,
+) -> io::Result<bool>
+    ensures { IfOk result (AreAnswered asked trie.now.kind trie.now.bytes.now
+        (map (λ t. t.now) texts.now) (W.contents output.old) (W.contents output.new)) }
+{
+    match asked {
+        Asked::Value => write_values(alloc, trie, texts, output),
+        Asked::Longest => write_longest(alloc, trie, texts, output),
+    }
 }

@@ -5,4 +5,4 @@ mod dump;
 mod meaning;
 mod view;
 
-pub use view::{View, write_trie_view, write_view};
+pub use view::{View, write_trie_view};

@@ -1,6 +1,5 @@
 -- A question that was answered, and the flush after it.
 use Rattle.std.proofs.Common.{◌≡◌, ◌⊎◌, ℕ, List, Option, Bool, true, false, IsTrue, refl, subst, inl, inr}
-use Rattle.std.specs.Borrow.{Bor}
 use Rattle.std.specs.Io.KnownBytes.{Keeps}
 use Rattle.std.proofs.KnownBytes.{Appends-kept}
 use Rattle.zerotrie_queries.specs.declared.kind.TrieKind.{TrieKind}
@@ -8,9 +7,13 @@ use Rattle.zerotrie_queries.specs.code.Code.{code}
 use Rattle.zerotrie_queries.specs.views.Views.{shown}
 use Rattle.zerotrie_queries.specs.reports.Reports.{report_of}
 use Rattle.zerotrie_queries.specs.reports.Lines.{report_lines}
-use Rattle.zerotrie_queries.specs.declared.requests.Request.{Request}
-use Rattle.zerotrie_queries.specs.declared.requests.Request.TheVariants as asks
-use Rattle.zerotrie_run.specs.Runs.{Answers, IsAnswered, AreKeys, are_lines, of_lines}
+use Rattle.zerotrie_core.specs.Maps.{beginning}
+use Rattle.zerotrie_queries.specs.Kinds.{kind_of}
+use Rattle.zerotrie_queries.specs.Printed.{listed}
+use Rattle.zerotrie_queries.specs.Answers.{AreAnswered}
+use Rattle.zerotrie_queries.specs.declared.lookups.Asked.{Asked}
+use Rattle.zerotrie_queries.specs.declared.lookups.Asked.TheVariants as asked
+use Rattle.zerotrie_run.specs.Runs.{Answers, AreKeys, are_lines, of_lines}
 use Rattle.zerotrie_run.specs.declared.command.Place.{Place}
 use Rattle.zerotrie_run.specs.declared.command.Place.TheVariants.{Stream}
 use Rattle.zerotrie_run.specs.declared.command.Keys.{Keys}
@@ -18,29 +21,31 @@ use Rattle.zerotrie_run.specs.declared.command.Keys.TheVariants.{Words, Lines}
 use Rattle.zerotrie_run.specs.declared.command.Question.{Question}
 use Rattle.zerotrie_run.specs.declared.command.Question.TheVariants.{Get, Longest, List as Listing, Code, Report, View}
 
-kept_request : (kind : TrieKind) (bytes : List ℕ) (request : Request) (a b c : Option (List ℕ)) (all : Bool) → IsAnswered kind bytes request a b all → Keeps b c → IsAnswered kind bytes request a c all
-kept_request kind bytes request a b c all h k m means = let x = h m means in (x.0, x.1, Appends-kept a b c x.0 x.2 k)
+-- a flush leaves what was answered
+pub kept_texts : (of : Asked) (kind : TrieKind) (bytes : List ℕ) (texts : List (List ℕ)) (a b c : Option (List ℕ)) (all : Bool) → AreAnswered of kind bytes texts a b all → Keeps b c
+    → AreAnswered of kind bytes texts a c all
+kept_texts of kind bytes texts a b c all h k m means = let x = h m means in (x.0, x.1, Appends-kept a b c x.0 x.2 k)
 
--- a flush leaves the answer
+-- it leaves the answer to any question
 pub kept_answer : (q : Question) (input : Option (List ℕ)) (kind : TrieKind) (bytes : List ℕ) (a b c : Option (List ℕ)) (all : Bool) → Answers q input kind bytes a b all → Keeps b c
     → Answers q input kind bytes a c all
-kept_answer (Get keys) input kind bytes a b c all h k = (h.0, h.1, kept_request kind bytes (asks.Get h.0) a b c all h.2 k)
-kept_answer (Longest texts) input kind bytes a b c all h k = (h.0, h.1, kept_request kind bytes (asks.Longest h.0) a b c all h.2 k)
-kept_answer (Listing form prefix) input kind bytes a b c all h k = kept_request kind bytes (asks.List form prefix) a b c all h k
+kept_answer (Get keys) input kind bytes a b c all h k = (h.0, h.1, kept_texts asked.Value kind bytes h.0 a b c all h.2 k)
+kept_answer (Longest texts) input kind bytes a b c all h k = (h.0, h.1, kept_texts asked.Longest kind bytes h.0 a b c all h.2 k)
+kept_answer (Listing form prefix) input kind bytes a b c all h k = (h.0, λ pairs lists. Appends-kept a b c (listed form (beginning (kind_of kind) prefix.now pairs)) (h.1 pairs lists) k)
 kept_answer (Code language name) input kind bytes a b c all h k = (h.0, Appends-kept a b c (code language kind name.now bytes) h.1 k)
 kept_answer Report input kind bytes a b c all h k = (h.0, Appends-kept a b c (report_lines (report_of kind bytes)) h.1 k)
 kept_answer (View view) input kind bytes a b c all h k = (h.0, Appends-kept a b c (shown view kind bytes) h.1 k)
 
 -- words are the same keys whatever was typed
-other_keys : (keys : Keys) (i j : Option (List ℕ)) (ks : List (Bor (List ℕ))) → (are_lines keys ≡ true → ⊥) → AreKeys keys i ks → AreKeys keys j ks
+other_keys : (keys : Keys) (i j : Option (List ℕ)) (ks : List (List ℕ)) → (are_lines keys ≡ true → ⊥) → AreKeys keys i ks → AreKeys keys j ks
 other_keys (Words words) i j ks apart h = h
 other_keys Lines i j ks apart h = absurd (apart refl)
 
 -- an answer whose keys are no lines is one whatever was typed
 pub other_input : (q : Question) (i j : Option (List ℕ)) (kind : TrieKind) (bytes : List ℕ) (a b : Option (List ℕ)) (all : Bool) → (of_lines q ≡ true → ⊥) → Answers q i kind bytes a b all
     → Answers q j kind bytes a b all
-other_input (Get keys) i j kind bytes a b all apart h = (h.0, other_keys keys i j h.0.now apart h.1, h.2)
-other_input (Longest texts) i j kind bytes a b all apart h = (h.0, other_keys texts i j h.0.now apart h.1, h.2)
+other_input (Get keys) i j kind bytes a b all apart h = (h.0, other_keys keys i j h.0 apart h.1, h.2)
+other_input (Longest texts) i j kind bytes a b all apart h = (h.0, other_keys texts i j h.0 apart h.1, h.2)
 other_input (Listing form prefix) i j kind bytes a b all apart h = h
 other_input (Code language name) i j kind bytes a b all apart h = h
 other_input Report i j kind bytes a b all apart h = h

@@ -1,1 +1,2 @@
 mod AskLemmas
+mod TypedLemmas

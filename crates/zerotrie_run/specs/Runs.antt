@@ -1,9 +1,6 @@
 -- What each command prints, what it leaves in files, and how it ends.
 use Rattle.std.specs.Prelude.{◌≡◌, ℕ, List, Option, Some, IfSome, Bool, true, false, map}
-use Rattle.std.specs.Borrow.{Bor}
 use Rattle.std.specs.Io.KnownBytes.{Appends}
-use Rattle.zerotrie_core.specs.Maps.{Map}
-use Rattle.zerotrie_core.specs.Texts.{Means}
 use Rattle.zerotrie_core.specs.WellFormed.{IsWellFormed}
 use Rattle.zerotrie_core.specs.Faults.{IsFirstFault}
 use Rattle.zerotrie_core.specs.declared.faults.Fault.{Fault as ByteFault}
@@ -12,10 +9,9 @@ use Rattle.zerotrie_queries.specs.Kinds.{kind_of}
 use Rattle.zerotrie_queries.specs.Files.{Holds, Explains}
 use Rattle.zerotrie_queries.specs.declared.kind.TrieKind.{TrieKind}
 use Rattle.zerotrie_queries.specs.declared.file.OpenError.{OpenError}
-use Rattle.zerotrie_queries.specs.Printed.{status_of}
-use Rattle.zerotrie_queries.specs.Answers.{Belongs}
-use Rattle.zerotrie_queries.specs.declared.requests.Request.{Request}
-use Rattle.zerotrie_queries.specs.declared.requests.Request.TheVariants as asks
+use Rattle.zerotrie_queries.specs.Answers.{AreAnswered, AreListed}
+use Rattle.zerotrie_queries.specs.declared.lookups.Asked.{Asked}
+use Rattle.zerotrie_queries.specs.declared.lookups.Asked.TheVariants as asked
 use Rattle.zerotrie_queries.specs.code.Code.{code}
 use Rattle.zerotrie_queries.specs.views.Views.{shown}
 use Rattle.zerotrie_queries.specs.reports.Reports.{report_of}
@@ -64,9 +60,9 @@ IsWritten (File path) bytes before after = (after.printed ≡ before.printed)
 IsWritten Stream bytes before after = Appends before.printed after.printed bytes × (after.files ≡ before.files)
 
 -- the keys of a question: words, or the lines of standard input
-abbrev pub AreKeys : Keys → Option (List ℕ) → List (Bor (List ℕ)) → Type 0
-AreKeys (Words words) input keys = keys ≡ words.now
-AreKeys Lines input keys = IfSome input (λ known. map (λ key. key.now) keys ≡ lines_of known)
+abbrev pub AreKeys : Keys → Option (List ℕ) → List (List ℕ) → Type 0
+AreKeys (Words words) input keys = keys ≡ map (λ w. w.now) words.now
+AreKeys Lines input keys = IfSome input (λ known. keys ≡ lines_of known)
 
 -- whether keys are the lines of standard input
 abbrev pub are_lines : Keys → Bool
@@ -86,16 +82,15 @@ of_lines (View view) = false
 abbrev pub Opens : TrieFile → List ℕ → TrieKind → List ℕ → Type 0
 Opens file all kind bytes = Holds file.kind all kind bytes × (file.trust ≡ false → IsWellFormed (kind_of kind) bytes)
 
--- what was printed, and whether all was found, belong to the request and to the map that the bytes mean, if they mean one
-abbrev pub IsAnswered : TrieKind → List ℕ → Request → (old new : Option (List ℕ)) → Bool → Type 0
-IsAnswered kind bytes request old new all = (m : Map) (means : Means (kind_of kind) bytes m)
-    → (printed : List ℕ) × Belongs (kind_of kind) m means.pairs request printed (status_of all) × Appends old new printed
+-- what was printed, and whether all was found, belong to the keys and to the map that the bytes mean, if they mean one
+abbrev pub KeysAnswered : Asked → Keys → (input : Option (List ℕ)) → TrieKind → List ℕ → (old new : Option (List ℕ)) → Bool → Type 0
+KeysAnswered of keys input kind bytes old new all = (ks : List (List ℕ)) × AreKeys keys input ks × AreAnswered of kind bytes ks old new all
 
 -- what was printed, and whether all was found, belong to the question and to bytes of this kind
 abbrev pub Answers : Question → (input : Option (List ℕ)) → TrieKind → List ℕ → (old new : Option (List ℕ)) → Bool → Type 0
-Answers (Get keys) input kind bytes old new all = (ks : Bor (List (Bor (List ℕ)))) × AreKeys keys input ks.now × IsAnswered kind bytes (asks.Get ks) old new all
-Answers (Longest texts) input kind bytes old new all = (ts : Bor (List (Bor (List ℕ)))) × AreKeys texts input ts.now × IsAnswered kind bytes (asks.Longest ts) old new all
-Answers (Listing form prefix) input kind bytes old new all = IsAnswered kind bytes (asks.List form prefix) old new all
+Answers (Get keys) input kind bytes old new all = KeysAnswered asked.Value keys input kind bytes old new all
+Answers (Longest texts) input kind bytes old new all = KeysAnswered asked.Longest texts input kind bytes old new all
+Answers (Listing form prefix) input kind bytes old new all = (all ≡ true) × AreListed form prefix.now kind bytes old new
 Answers (Code language name) input kind bytes old new all = (all ≡ true) × Appends old new (code language kind name.now bytes)
 Answers Report input kind bytes old new all = (all ≡ true) × Appends old new (report_lines (report_of kind bytes))
 Answers (View view) input kind bytes old new all = (all ≡ true) × Appends old new (shown view kind bytes)
@@ -122,8 +117,7 @@ abbrev pub IsUnanswered : TrieFile → List ℕ → (old new : Option (List ℕ)
 IsUnanswered file held old new ask.TwoInputs = ⊥
 IsUnanswered file held old new (ask.Unread e) = ⊥
 IsUnanswered file held old new (ask.NoTrie why fault) = Explains file.kind held why × (new ≡ old) × IfSome fault (IsFaultIn file.kind held)
-IsUnanswered file held old new (ask.Untyped e) = Unit {0}
-IsUnanswered file held old new (ask.Failed e) = Unit {0}
+IsUnanswered file held old new (ask.Unanswered e) = Unit {0}
 
 -- How a question to the trie of a file ends. The answer was printed, and all was found or not; the file and the keys are
 -- both standard input; the file has no trie; or a file can't be read, output can't be written, or it is out of memory.
@@ -140,8 +134,7 @@ abbrev pub ask_status : AskError → Status
 ask_status ask.TwoInputs = BadUsage
 ask_status (ask.Unread e) = Fault
 ask_status (ask.NoTrie why fault) = BadInput
-ask_status (ask.Untyped e) = Fault
-ask_status (ask.Failed e) = Fault
+ask_status (ask.Unanswered e) = Fault
 
 -- The file of a trie was made: what was read, and the file that was written.
 pub record IsMade (build : Build) (input : Option (List ℕ)) (before after : World) : Type 0 where

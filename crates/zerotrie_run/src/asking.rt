@@ -1,22 +1,23 @@
 //! A question to the trie of a file.
 
-ghost use Rattle.std.specs.Prelude.{◌≡◌, ◌↔◌, ℕ, List, true, Some, IfOk, IfErr, IfSome, IsTrue};
+ghost use Rattle.std.specs.Prelude.{◌≡◌, ◌↔◌, ℕ, List, true, Ok, IfOk, IfErr, IfSome, IsTrue};
 ghost use Rattle.zerotrie_queries.specs.Files.{Explains};
 ghost use Rattle.zerotrie_queries.specs.declared.kind.TrieKind.{TrieKind};
-ghost use Rattle.zerotrie_run.specs.Runs.{Opens, Answers, IsAsked, RunsAsk, IsUnanswered, IsFaultIn, AreKeys, ask_status, of_lines};
+ghost use Rattle.zerotrie_run.specs.Runs.{Opens, KeysAnswered, Answers, IsAsked, RunsAsk, IsUnanswered, IsFaultIn, ask_status, of_lines};
 ghost use Rattle.zerotrie_run.specs.declared.command.Place.TheVariants.{Stream};
 
 use crate::command::{Keys, Place, Question, TrieFile};
-use crate::reading::{read_all, read_place};
+use crate::reading::read_place;
 use crate::status::Status;
-use std::alloc::{AllocError, Global};
+use crate::typed::{AnswerError, answer_lines};
+use std::alloc::Global;
 use std::io;
 use std::io::{Read, Write};
 use zerotrie_core::Fault;
 use zerotrie_files::Store;
-use zerotrie_lines::read_lines;
 use zerotrie_queries::{
-    OpenError, Request, Trie, answer_trie, write_trie_code, write_trie_report, write_trie_view,
+    Asked, OpenError, Trie, write_answers, write_list, write_trie_code, write_trie_report,
+    write_trie_view,
 };
 
 /// Why a question has no answer.
@@ -28,10 +29,8 @@ pub enum AskError {
     Unread(io::Error),
     /// The file has no trie. If its bytes are of a kind, and it is not out of memory, the first fault in them.
     NoTrie(OpenError, Option<Fault>),
-    /// The keys can't be read.
-    Untyped(io::Error),
-    /// Output can't be written, or it is out of memory.
-    Failed(io::Error),
+    /// It can't be answered, or not to the end.
+    Unanswered(AnswerError),
 }
 
 impl AskError {
@@ -42,7 +41,7 @@ impl AskError {
         match self {
             AskError::TwoInputs => Status::BadUsage,
             AskError::NoTrie(_, _) => Status::BadInput,
-            AskError::Unread(_) | AskError::Untyped(_) | AskError::Failed(_) => Status::Fault,
+            AskError::Unread(_) | AskError::Unanswered(_) => Status::Fault,
         }
     }
 }
@@ -87,50 +86,41 @@ fn fault_in(alloc: Global, file: TrieFile<'_>, held: &[u8]) -> Option<Fault>
     trie.first_fault(alloc).ok()?
 }
 
-/// The input that the keys of a question are lines of. If they are no lines, none is read.
-fn read_typed<R: Read>(alloc: Global, question: Question<'_>, input: &mut R) -> io::Result<Vec<u8>>
-    ensures { IfOk result (λ typed. of_lines question.entry ≡ true
-        → IfSome (R.remaining input.old) (λ known. typed.items ≡ known)) }
-{
-    if reads_lines(question) {
-        read_all(alloc, input)
-    } else {
-        Ok(Vec::new(alloc))
-    }
-}
-
-/// The keys themselves, if this is the input that they may be lines of.
-fn keys_in<'a>(alloc: Global, keys: Keys<'a>, typed: &'a [u8]) -> Result<Vec<&'a [u8]>, AllocError>
-    ensures { IfOk result (λ found. AreKeys keys.entry (Some typed.now) found.items) }
+/// Answers keys or texts: these, or the lines of standard input. Tells whether all was found.
+fn answer_keys<R: Read, W: Write>(
+    alloc: Global,
+    trie: &Trie<'_>,
+    asked: Asked,
+    keys: Keys<'_>,
+    input: &mut R,
+    output: &mut W,
+) -> Result<bool, AnswerError>
+    ensures { IfOk result (KeysAnswered asked keys.entry (R.remaining input.old)
+        trie.now.kind trie.now.bytes.now (W.contents output.old) (W.contents output.new)) }
 {
     match keys {
-        Keys::Words(words) => Vec::from_slice(alloc, words),
-        Keys::Lines => read_lines(alloc, typed),
+        Keys::Words(words) => Ok(write_answers(alloc, trie, asked, words, output)?),
+        Keys::Lines => answer_lines(alloc, trie, asked, input, output),
     }
 }
 
-/// Writes the answer to a question, whose keys may be lines of what was typed, and tells whether all was found.
-fn write_answer<W: Write>(
+/// Answers a question to a trie, whose keys may be the lines of standard input, and tells whether all was found.
+fn answer<R: Read, W: Write>(
     alloc: Global,
     trie: &Trie<'_>,
     question: Question<'_>,
-    typed: &[u8],
+    input: &mut R,
     output: &mut W,
-) -> io::Result<bool>
-    ensures { IfOk result (λ all. Answers question.entry (Some typed.now)
-        trie.now.kind trie.now.bytes.now (W.contents output.old) (W.contents output.new) all) }
+) -> Result<bool, AnswerError>
+    ensures { IfOk result (Answers question.entry (R.remaining input.old)
+        trie.now.kind trie.now.bytes.now (W.contents output.old) (W.contents output.new)) }
 {
     match question {
-        Question::Get(keys) => {
-            let keys = keys_in(alloc, keys, typed)?;
-            Ok(answer_trie(alloc, trie, Request::Get(keys.as_slice()), output)?)
-        }
-        Question::Longest(texts) => {
-            let texts = keys_in(alloc, texts, typed)?;
-            Ok(answer_trie(alloc, trie, Request::Longest(texts.as_slice()), output)?)
-        }
+        Question::Get(keys) => answer_keys(alloc, trie, Asked::Value, keys, input, output),
+        Question::Longest(texts) => answer_keys(alloc, trie, Asked::Longest, texts, input, output),
         Question::List(form, prefix) => {
-            Ok(answer_trie(alloc, trie, Request::List(form, prefix), output)?)
+            write_list(alloc, trie, form, prefix, output)?;
+            Ok(true)
         }
         Question::Code(language, name) => {
             write_trie_code(trie, language, name, output)?;
@@ -147,7 +137,7 @@ fn write_answer<W: Write>(
     }
 }
 
-/// Writes the answer to a question to the trie in what a file holds, and tells whether all was found.
+/// Answers a question to the trie in what a file holds, and tells whether all was found.
 fn answer_held<R: Read, W: Write>(
     alloc: Global,
     file: TrieFile<'_>,
@@ -167,17 +157,13 @@ fn answer_held<R: Read, W: Write>(
         Ok(trie) => trie,
         Err(why) => return Err(AskError::NoTrie(why, fault_in(alloc, file, held))),
     };
-    let typed = match read_typed(alloc, question, input) {
-        Ok(typed) => typed,
-        Err(error) => return Err(AskError::Untyped(error)),
-    };
-    match write_answer(alloc, &trie, question, typed.as_slice(), output) {
+    match answer(alloc, &trie, question, input, output) {
         Ok(all) => Ok(all),
-        Err(error) => Err(AskError::Failed(error)),
+        Err(error) => Err(AskError::Unanswered(error)),
     }
 }
 
-/// Writes the answer to a question to the trie of a file, and tells whether all was found.
+/// Answers a question to the trie of a file, and tells whether all was found.
 pub fn ask<F: Store, R: Read, W: Write>(
     alloc: Global,
     file: TrieFile<'_>,
@@ -201,6 +187,6 @@ pub fn ask<F: Store, R: Read, W: Write>(
     let all = answer_held(alloc, file, held.as_slice(), question, input, output)?;
     match output.flush() {
         Ok(()) => Ok(all),
-        Err(error) => Err(AskError::Failed(error)),
+        Err(error) => Err(AskError::Unanswered(AnswerError::Failed(error))),
     }
 }

@@ -8,6 +8,7 @@ mod messages;
 mod reading;
 mod running;
 mod status;
+mod typed;
 
 pub use command::{Build, Command, Keys, Place, Question, TrieFile};
 pub use running::run;

@@ -5,6 +5,7 @@ ghost use Rattle.std.specs.Prelude.{◌≡◌, false};
 use crate::asking::AskError;
 use crate::building::BuildError;
 use crate::command::{Build, Place};
+use crate::typed::AnswerError;
 use std::alloc::Global;
 use std::io;
 use std::io::Write;
@@ -67,8 +68,12 @@ pub fn tell_ask<M: Write>(messages: &mut M, place: Place<'_>, error: &AskError) 
         ),
         AskError::Unread(error) => writeln!(messages, "zerotrie: {path}: {error}"),
         AskError::NoTrie(why, fault) => tell_no_trie(messages, path, why, fault),
-        AskError::Untyped(error) => writeln!(messages, "zerotrie: standard input: {error}"),
-        AskError::Failed(error) => writeln!(messages, "zerotrie: standard output: {error}"),
+        AskError::Unanswered(AnswerError::Untyped(error)) => {
+            writeln!(messages, "zerotrie: standard input: {error}")
+        }
+        AskError::Unanswered(AnswerError::Failed(error)) => {
+            writeln!(messages, "zerotrie: standard output: {error}")
+        }
     }
 }
 

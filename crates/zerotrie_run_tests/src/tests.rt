@@ -2,6 +2,7 @@ mod fake;
 
 use fake::Fake;
 use std::alloc::Global;
+use std::io::Read;
 use std::process::Abort;
 use std::test::Fail;
 use zerotrie_lines::Format;
@@ -20,8 +21,8 @@ struct Row {
     left: (&'static str, &'static [u8]),
 }
 
-/// What is typed in.
-const TYPED: &[u8] = b"barn\nfoo\n";
+/// What is typed in, as two reads give it. The second line has no line feed.
+const TYPED: (&[u8], &[u8]) = (b"barn\nf", b"oo");
 
 /// Three pairs, as lines.
 const NAMES: &[u8] = b"foo\t1\nbar\t2\nbazzoo\t3\n";
@@ -254,7 +255,8 @@ fn is_run(alloc: Global, row: &Row) -> bool {
     let mut files = Fake::with(alloc, row.files);
     let mut output = Vec::new(alloc);
     let mut messages = Vec::new(alloc);
-    let mut input = TYPED;
+    let (first, second) = TYPED;
+    let mut input = first.chain(second);
     let status = run(
         alloc,
         row.command,

@@ -1,5 +1,5 @@
 -- What a node means, as text.
-use Rattle.std.specs.Prelude.{ℕ, ◌-◌, ◌==◌, nat_lt, List, [], ◌∷◌, ◌++◌, ◌/◌, ◌%◌, length, take, codes, decimal, Option, Some, None, if◌then◌else◌}
+use Rattle.std.specs.Prelude.{ℕ, nat_lt, List, [], ◌∷◌, ◌++◌, ◌/◌, ◌%◌, length, take, codes, decimal, if◌then◌else◌}
 use Rattle.zerotrie_lines.specs.Escapes.{hex_digit, escaped}
 use Rattle.zerotrie_core.specs.Nodes.{Shape}
 use Rattle.zerotrie_core.specs.Nodes.Shape.{value, literal, span, branch}

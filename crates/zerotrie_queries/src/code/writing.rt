@@ -1,19 +1,13 @@
 //! A trie as source code.
 
-ghost use Rattle.std.specs.Prelude.{◌≡◌, ℕ, List, OnOk, IfOk, IfErr};
+ghost use Rattle.std.specs.Prelude.{OnOk};
 ghost use Rattle.std.specs.Io.KnownBytes.{Appends};
-ghost use Rattle.zerotrie_core.specs.WellFormed.{IsWellFormed};
-ghost use Rattle.zerotrie_queries.specs.Kinds.{kind_of};
-ghost use Rattle.zerotrie_queries.specs.Files.{Holds};
-ghost use Rattle.zerotrie_queries.specs.Answers.{IsRefusal};
 ghost use Rattle.zerotrie_queries.specs.code.Texts.{rust_front, c_front, rattle_front, c_behind, rattle_behind, front, behind};
 ghost use Rattle.zerotrie_queries.specs.code.Code.{code};
-ghost use Rattle.zerotrie_queries.specs.declared.kind.TrieKind.{TrieKind};
 
 use crate::code::items::write_items;
 use crate::code::language::{Language, c_kind, rattle_type, rust_kind};
 use crate::kind::TrieKind;
-use crate::requests::AnswerError;
 use crate::trie::Trie;
 use std::io;
 use std::io::Write;
@@ -146,27 +140,4 @@ pub fn write_trie_code<W: Write>(
     write_front(language, trie.kind, name, output)?;
     write_items(trie.bytes, output)?;
     write_behind(language, trie.kind, name, output)
-}
-
-/// Writes the trie in a file as source code: its bytes as a constant, and the call that reads it, by this name, for which
-/// `is_name` has to hold if the code is to be right.
-///
-/// With `named` the file is the bare bytes of a trie of that kind. Else its first byte is the number of its kind. The
-/// bytes are tested first, and nothing is written if they are no trie. It takes no memory.
-pub fn write_code<W: Write>(
-    named: Option<TrieKind>,
-    file: &[u8],
-    language: Language,
-    name: &str,
-    output: &mut W,
-) -> Result<(), AnswerError>
-    ensures ok { IfOk result (λ _. (kind : TrieKind) × (bytes : List ℕ)
-        × Holds named file.now kind bytes × IsWellFormed (kind_of kind) bytes
-        × Appends (W.contents output.old) (W.contents output.new)
-        (code language kind name.now bytes)) }
-    ensures err { IfErr result (IsRefusal named file.now (output.new ≡ output.old)) }
-{
-    let trie = Trie::open(named, file)?;
-    write_trie_code(&trie, language, name, output)?;
-    Ok(())
 }

@@ -1,16 +1,9 @@
 //! A look inside the trie in a file.
 
-ghost use Rattle.std.specs.Prelude.{◌≡◌, ℕ, List, OnOk, IfOk, IfErr};
+ghost use Rattle.std.specs.Prelude.{OnOk};
 ghost use Rattle.std.specs.Io.KnownBytes.{Appends};
-ghost use Rattle.zerotrie_core.specs.WellFormed.{IsWellFormed};
-ghost use Rattle.zerotrie_queries.specs.Kinds.{kind_of};
-ghost use Rattle.zerotrie_queries.specs.Files.{Holds};
-ghost use Rattle.zerotrie_queries.specs.declared.kind.TrieKind.{TrieKind};
-ghost use Rattle.zerotrie_queries.specs.Answers.{IsRefusal};
 ghost use Rattle.zerotrie_queries.specs.views.Views.{shown};
 
-use crate::kind::TrieKind;
-use crate::requests::AnswerError;
 use crate::trie::Trie;
 use crate::views::dot::write_dot;
 use crate::views::dump::write_dump;
@@ -41,25 +34,4 @@ pub fn write_trie_view<W: Write>(
         View::Dump => write_dump(alloc, trie, output),
         View::Dot(most) => write_dot(alloc, trie, most, output),
     }
-}
-
-/// Writes what is shown of the trie in a file.
-///
-/// With `named` the file is the bare bytes of a trie of that kind. Else its first byte is the number of its kind. The
-/// bytes are tested first, and nothing is written if they are no trie.
-pub fn write_view<W: Write>(
-    alloc: Global,
-    named: Option<TrieKind>,
-    file: &[u8],
-    view: View,
-    output: &mut W,
-) -> Result<(), AnswerError>
-    ensures ok { IfOk result (λ _. (kind : TrieKind) × (bytes : List ℕ)
-        × Holds named file.now kind bytes × IsWellFormed (kind_of kind) bytes
-        × Appends (W.contents output.old) (W.contents output.new) (shown view kind bytes)) }
-    ensures err { IfErr result (IsRefusal named file.now (output.new ≡ output.old)) }
-{
-    let trie = Trie::open(named, file)?;
-    write_trie_view(alloc, &trie, view, output)?;
-    Ok(())
 }

@@ -1,4 +1,4 @@
-use Rattle.std.proofs.Common.{◌≡◌, ◌++◌, ◌∙◌, ap, sym}
+use Rattle.std.proofs.Common.{◌++◌, ◌∙◌, ap, sym}
 use Rattle.zerotrie_queries.specs.Printed.{pair_lines}
 use Rattle.zerotrie_queries.proofs.WriteLemmas.{wrote_more}
 use Rattle.zerotrie_queries.proofs.listing.write_stream.Goals as goal

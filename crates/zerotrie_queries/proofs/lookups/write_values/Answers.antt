@@ -5,7 +5,7 @@ use Rattle.zerotrie_core.specs.Maps.{look}
 use Rattle.zerotrie_queries.specs.Kinds.{kind_of}
 use Rattle.zerotrie_queries.specs.Printed.{value_lines, are_found}
 use Rattle.zerotrie_queries.proofs.WriteLemmas.{wrote_more, wrote_all}
-use Rattle.zerotrie_queries.proofs.FoundLemmas.{answers_of, cut_at, lines_cut, found_cut, and_true}
+use Rattle.zerotrie_queries.proofs.FoundLemmas.{answers_of, answers_are, cut_at, lines_cut, found_cut, and_true}
 use Rattle.zerotrie_queries.proofs.lookups.write_values.Goals as goal
 
 pub loop-begin-preserved : goal.loop-begin-preserved
@@ -35,7 +35,11 @@ returns g c m means =
     let keys = c.args.keys.now in
     let old = c.loop-begin.invariant m means in
     let none : drop c.loop-begin.begin keys ≡ [] = drop_of_length-le keys (omega arith) in (
+      value_lines (answers_of f keys),
+      (
+        ap value_lines (answers_are f keys),
+        sym (and_true c.loop-begin.all) ∙ ap (λ ks. c.loop-begin.all && are_found (answers_of f ks)) (sym none) ∙ old.1 ∙ ap are_found (answers_are f keys),
+      ),
       wrote_all (contents c.args.output.now) (contents c.loop-begin.output) (value_lines (answers_of f (drop c.loop-begin.begin keys))) (value_lines (answers_of f keys))
           (ap (λ ks. value_lines (answers_of f ks)) none) old.0,
-      sym (and_true c.loop-begin.all) ∙ ap (λ ks. c.loop-begin.all && are_found (answers_of f ks)) (sym none) ∙ old.1,
     )

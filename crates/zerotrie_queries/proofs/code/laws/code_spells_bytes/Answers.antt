@@ -1,4 +1,4 @@
-use Rattle.std.proofs.Common.{◌≡◌, ℕ, List, ◌++◌, append-nil, ◌∙◌, ap}
+use Rattle.std.proofs.Common.{◌++◌, append-nil, ◌∙◌, ap}
 use Rattle.zerotrie_queries.specs.code.Texts.{behind}
 use Rattle.zerotrie_queries.specs.code.Items.{items}
 use Rattle.zerotrie_queries.proofs.CodeLemmas.{items_read, front_read, behind_read}

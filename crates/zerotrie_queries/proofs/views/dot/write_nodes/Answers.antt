@@ -1,6 +1,6 @@
-use Rattle.std.proofs.Common.{rules, ◌≡◌, ◌-◌, ◌∷◌, ◌++◌, ◌∙◌, [], take, suc, ap, sym, arith}
+use Rattle.std.proofs.Common.{rules, ◌≡◌, ◌-◌, ◌∷◌, ◌++◌, ◌∙◌, take, suc, ap, sym, arith}
 use Rattle.zerotrie_core.specs.walk.Seen.{visit_of}
-use Rattle.zerotrie_queries.proofs.WriteLemmas.{wrote_more, wrote_all}
+use Rattle.zerotrie_queries.proofs.WriteLemmas.{wrote_more}
 use Rattle.zerotrie_queries.specs.views.Dots.{dot_node, dot_nodes}
 use Rattle.zerotrie_queries.proofs.views.dot.write_nodes.Goals as goal
 

@@ -1,6 +1,6 @@
-use Rattle.std.proofs.Common.{rules, ◌≡◌, ◌∷◌, ◌++◌, ◌∙◌, [], ap, sym}
+use Rattle.std.proofs.Common.{rules, ◌≡◌, ◌∷◌, ◌++◌, ◌∙◌, ap, sym}
 use Rattle.zerotrie_core.specs.walk.Seen.{visit_of}
-use Rattle.zerotrie_queries.proofs.WriteLemmas.{wrote_more, wrote_all}
+use Rattle.zerotrie_queries.proofs.WriteLemmas.{wrote_more}
 use Rattle.zerotrie_queries.specs.views.Dumps.{dump_line, dump_lines}
 use Rattle.zerotrie_queries.proofs.views.dump.write_lines.Goals as goal
 

@@ -1,0 +1,105 @@
+//! Lines of standard input, which are answered as they come.
+
+ghost use Rattle.std.specs.Prelude.{◌≡◌, ◌≤◌, length, take, drop, true, false, IfOk};
+ghost use Rattle.zerotrie_lines.specs.Lines.{lines_of};
+ghost use Rattle.zerotrie_lines.specs.Blocks.{AreWhole};
+ghost use Rattle.zerotrie_queries.specs.Answers.{AreAnswered};
+ghost use Rattle.zerotrie_run.specs.Runs.{KeysAnswered};
+ghost use Rattle.zerotrie_run.specs.declared.command.Keys.TheVariants.{Lines};
+ghost use Rattle.zerotrie_run.specs.declared.typed.AnswerError.TheVariants.{Failed};
+
+use std::alloc::Global;
+use std::io;
+use std::io::{ErrorKind, Read, Write};
+use zerotrie_lines::{read_lines, read_more, whole_lines};
+use zerotrie_queries::{Asked, Trie, write_answers};
+
+/// Why there is no answer, or not all of it.
+#[derive(Debug, Drop)]
+pub enum AnswerError {
+    /// Standard input can't be read.
+    Untyped(io::Error),
+    /// Output can't be written, or it is out of memory.
+    Failed(io::Error),
+}
+
+impl From<io::Error> for AnswerError {
+    ghost from_gives = { λ error e. e ≡ Failed error };
+
+    fn from(error: io::Error) -> Self {
+        AnswerError::Failed(error)
+    }
+}
+
+/// How many bytes are read at once.
+const ROOM: usize = 1 << 16;
+
+/// Answers some lines, hands the answers on, and tells whether all was found.
+fn answer_part<W: Write>(
+    alloc: Global,
+    trie: &Trie<'_>,
+    asked: Asked,
+    part: &[u8],
+    output: &mut W,
+) -> io::Result<bool>
+    ensures { IfOk result (AreAnswered asked trie.now.kind trie.now.bytes.now
+        (lines_of part.now) (W.contents output.old) (W.contents output.new)) }
+{
+    let lines = read_lines(alloc, part)?;
+    let all = write_answers(alloc, trie, asked, lines.as_slice(), output)?;
+    output.flush()?;
+    Ok(all)
+}
+
+/// How many of the bytes that are held are answered: as many as are whole lines, or all if no more come.
+fn part_len(held: &[u8], before: usize, ended: bool) -> usize
+    requires { before ≤ length held.now }
+    ensures within { result ≤ length held.now }
+    ensures whole { ended ≡ false → AreWhole (take result held.now) }
+    ensures all { ended ≡ true → result ≡ length held.now }
+{
+    if ended {
+        held.len()
+    } else {
+        whole_lines(held, before)
+    }
+}
+
+/// Drops the first bytes of those that are held.
+fn drop_front(held: &mut Vec<u8>, len: usize)
+    requires { len ≤ length held.old.items }
+    ensures { held.new.items ≡ drop len held.old.items }
+{
+    held.drain(..len);
+}
+
+/// Answers the lines of an input, and tells whether all was found. What one read gives is answered before the next, so a
+/// line is answered as soon as it is there, and memory holds no more than the longest line and some thousand answers.
+pub fn answer_lines<R: Read, W: Write>(
+    alloc: Global,
+    trie: &Trie<'_>,
+    asked: Asked,
+    input: &mut R,
+    output: &mut W,
+) -> Result<bool, AnswerError>
+    ensures { IfOk result (KeysAnswered asked Lines (R.remaining input.old)
+        trie.now.kind trie.now.bytes.now (W.contents output.old) (W.contents output.new)) }
+{
+    let mut room = [0; ROOM];
+    let mut held = Vec::new(alloc);
+    let mut all = true;
+    for _ in 0..u64::MAX {
+        let before = held.len();
+        let ended = match read_more(input, &mut room, &mut held) {
+            Ok(ended) => ended,
+            Err(error) => return Err(AnswerError::Untyped(error)),
+        };
+        let len = part_len(held.as_slice(), before, ended);
+        all &= answer_part(alloc, trie, asked, &held[..len], output)?;
+        drop_front(&mut held, len);
+        if ended {
+            return Ok(all);
+        }
+    }
+    Err(AnswerError::Untyped(io::Error::from(ErrorKind::TimedOut)))
+}
