@@ -31,8 +31,9 @@ impl From<io::Error> for AnswerError {
     }
 }
 
-/// How many bytes are read at once.
-const ROOM: usize = 1 << 16;
+/// How many bytes are read at once. What their lines and answers take is so little that an allocator keeps it from one
+/// part to the next.
+const ROOM: usize = 1 << 14;
 
 /// Answers some lines, hands the answers on, and tells whether all was found.
 fn answer_part<W: Write>(
@@ -88,6 +89,7 @@ pub fn answer_lines<R: Read, W: Write>(
     let mut room = [0; ROOM];
     let mut held = Vec::new(alloc);
     let mut all = true;
+    // each loop has to end: no input has as many parts
     for _ in 0..u64::MAX {
         let before = held.len();
         let ended = match read_more(input, &mut room, &mut held) {
