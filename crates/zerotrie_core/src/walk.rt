@@ -98,6 +98,7 @@ fn reverse_from<T: Drop, A: Allocator>(parts: &mut Vec<T, A>, len: usize)
 }
 
 /// Adds what follows the node with which a part begins. What is to come first is added last.
+#[inline(always)]
 pub(crate) fn push_behind<'a, A: Allocator>(
     parts: &mut Vec<Part<'a>, A>,
     at: Part<'a>,

@@ -1,20 +1,24 @@
 //! Lines of a stream, as many at once as it gives.
 
-ghost use Rattle.std.specs.Prelude.{◌≡◌, ◌≤◌, ◌<◌, length, take, IfOk};
-ghost use Rattle.zerotrie_lines.specs.Blocks.{AreWhole, Gives};
+ghost use Rattle.std.specs.Prelude.{ℕ, ◌≤◌, length, take, IfOk};
+ghost use Rattle.zerotrie_lines.specs.Blocks.{AreWhole, Gives, HasFeed};
 
 use memchr::memrchr;
 use std::io;
 use std::io::{ErrorKind, Read};
 
-/// Adds what one read of a stream gives to the bytes that are held, and tells whether the stream has ended. It is read
-/// into the room, and a read that a signal interrupts gives nothing.
-pub fn read_more<R: Read>(input: &mut R, room: &mut [u8], held: &mut Vec<u8>) -> io::Result<bool>
-    requires { 0 < length room.old }
+/// How many bytes are asked for at once. What their lines and answers take is so little that an allocator keeps it from one
+/// part to the next.
+const ROOM: usize = 1 << 14;
+
+/// Adds what one read of a stream gives to the bytes that are held, and tells whether the stream has ended. A read that a
+/// signal interrupts gives nothing.
+pub fn read_more<R: Read>(input: &mut R, held: &mut Vec<u8>) -> io::Result<bool>
     ensures { IfOk result (Gives (R.remaining input.old) (R.remaining input.new)
         held.old.items held.new.items) }
 {
-    match input.read(room) {
+    let mut room = [0; ROOM];
+    match input.read(&mut room) {
         Ok(count) => {
             held.extend_from_slice(&room[..count])?;
             Ok(count == 0)
@@ -24,14 +28,17 @@ pub fn read_more<R: Read>(input: &mut R, room: &mut [u8], held: &mut Vec<u8>) ->
     }
 }
 
-/// How many of the bytes are whole lines, each with its line feed. Only the bytes from one place on are searched, for those
-/// before it have no line feed.
+/// How many of the bytes are whole lines, each with its line feed, if the last of these feeds stands at `from` or later;
+/// else 0. Only the bytes from there on are searched.
 pub fn whole_lines(bytes: &[u8], from: usize) -> usize
-    requires { from ≤ length bytes.now }
     ensures within { result ≤ length bytes.now }
     ensures whole { AreWhole (take result bytes.now) }
+    ensures last { (k : ℕ) → from ≤ k → result ≤ k → HasFeed bytes.now k → ⊥ }
 {
-    match memrchr(b'\n', &bytes[from..]) {
+    let Some(fresh) = bytes.get(from..) else {
+        return 0;
+    };
+    match memrchr(b'\n', fresh) {
         Some(place) => from + place + 1,
         None => 0,
     }

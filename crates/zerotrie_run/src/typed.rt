@@ -31,10 +31,6 @@ impl From<io::Error> for AnswerError {
     }
 }
 
-/// How many bytes are read at once. What their lines and answers take is so little that an allocator keeps it from one
-/// part to the next.
-const ROOM: usize = 1 << 14;
-
 /// Answers some lines, hands the answers on, and tells whether all was found.
 fn answer_part<W: Write>(
     alloc: Global,
@@ -54,7 +50,6 @@ fn answer_part<W: Write>(
 
 /// How many of the bytes that are held are answered: as many as are whole lines, or all if no more come.
 fn part_len(held: &[u8], before: usize, ended: bool) -> usize
-    requires { before ≤ length held.now }
     ensures within { result ≤ length held.now }
     ensures whole { ended ≡ false → AreWhole (take result held.now) }
     ensures all { ended ≡ true → result ≡ length held.now }
@@ -86,13 +81,12 @@ pub fn answer_lines<R: Read, W: Write>(
     ensures { IfOk result (KeysAnswered asked Lines (R.remaining input.old)
         trie.now.kind trie.now.bytes.now (W.contents output.old) (W.contents output.new)) }
 {
-    let mut room = [0; ROOM];
     let mut held = Vec::new(alloc);
     let mut all = true;
     // each loop has to end: no input has as many parts
     for _ in 0..u64::MAX {
         let before = held.len();
-        let ended = match read_more(input, &mut room, &mut held) {
+        let ended = match read_more(input, &mut held) {
             Ok(ended) => ended,
             Err(error) => return Err(AnswerError::Untyped(error)),
         };
