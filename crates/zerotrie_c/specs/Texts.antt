@@ -6,7 +6,7 @@ abbrev pub texts : List (List ℕ)
 texts =
     codes "Done\0" ∷
     codes "a key has a byte that is not ASCII: take a kind of trie for keys of any bytes\0" ∷
-    codes "the text of the trie would be too long for its kind: take ZeroTrieExtendedCapacity, or fewer pairs\0" ∷
+    codes "the text of the trie would be too long for its kind: take extended capacity, kind 7, or fewer pairs; a dense table has at most 65,535 suffixes\0" ∷
     codes "no perfect hash was found for the edges of a branch: take a kind without hashed tables, or change a key\0" ∷
     codes "two keys begin alike but for the case of a letter: lower-case the keys first\0" ∷
     codes "a text has the delimiter in it: take a delimiter that none has\0" ∷
