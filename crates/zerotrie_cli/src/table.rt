@@ -22,22 +22,22 @@ const FILE: Argument = Argument {
 const KIND: Argument = Argument {
     name: "kind",
     form: Form::OneOf("K", KINDS, Otherwise::Nothing),
-    help: "The file is bare bytes of this kind",
+    help: "Read FILE as bare bytes of this kind, as build --bare writes them; without it the first byte tells the kind",
 };
 
 const TRUST: Argument = Argument {
     name: "trust",
     form: Form::Flag,
-    help: "Leaves out the test of the bytes, which reads all of them once; for a file that is known to be a trie",
+    help: "Skip the check that FILE is a valid trie, which reads all of it once",
 };
 
 /// What the program can be asked to do.
 pub const COMMANDS: &[Subcommand] = &[
     Subcommand {
         name: "build",
-        about: "Makes a trie of a file of pairs",
+        about: "Make a trie from a file of pairs",
         help: "Example: zerotrie build names.tsv -o names.trie\nIn memory: \
-            the keys, 40 bytes a pair, 40 more if they are to be sorted, and the trie.",
+            the keys, 40 bytes a pair, 40 more if they are to be sorted, and the trie; of json the parsed value, too.",
         arguments: &[
             Argument {
                 name: "IN",
@@ -57,33 +57,33 @@ pub const COMMANDS: &[Subcommand] = &[
             Argument {
                 name: "format",
                 form: Form::OneOf("F", INPUTS, Otherwise::Is("tsv")),
-                help: "How the input is pairs",
+                help: "The format of the input",
             },
             Argument {
                 name: "sorted",
                 form: Form::Flag,
-                help: "The keys have to ascend by their bytes, each once",
+                help: "Take the keys as they come: they have to ascend by their bytes, each once",
             },
             Argument {
                 name: "bare",
                 form: Form::Flag,
-                help: "Leaves out the number of the kind in front",
+                help: "Leave out the number of the kind in front; name the kind too, since the file will not tell it",
             },
             Argument {
                 name: "lower-case",
                 form: Form::Flag,
-                help: "Brings the ASCII letters of the keys into lower case first",
+                help: "Bring the ASCII letters of the keys into lower case first",
             },
             Argument {
                 name: "progress",
                 form: Form::Flag,
-                help: "Tells each step on standard error, as without it if that is a terminal",
+                help: "Report each step on standard error, which is done anyway if that is a terminal",
             },
         ],
     },
     Subcommand {
         name: "get",
-        about: "Prints the values of keys",
+        about: "Print the values of keys",
         help: "Example: zerotrie get names.trie amp lt\nIn memory: the file and the longest key.",
         arguments: &[
             FILE,
@@ -98,7 +98,7 @@ pub const COMMANDS: &[Subcommand] = &[
     },
     Subcommand {
         name: "longest",
-        about: "Prints the longest key that each text begins with, and its value",
+        about: "Print the longest key that each text begins with, and its value",
         help: "Example: zerotrie longest names.trie ampersand\nIn memory: the file and the longest text.",
         arguments: &[
             FILE,
@@ -113,7 +113,7 @@ pub const COMMANDS: &[Subcommand] = &[
     },
     Subcommand {
         name: "list",
-        about: "Prints the pairs",
+        about: "Print the pairs",
         help: "Example: zerotrie list names.trie --prefix am\nIn memory: the file and the longest key.",
         arguments: &[
             FILE,
@@ -127,26 +127,26 @@ pub const COMMANDS: &[Subcommand] = &[
             Argument {
                 name: "format",
                 form: Form::OneOf("F", OUTPUTS, Otherwise::Is("tsv")),
-                help: "How pairs are printed",
+                help: "The format of the output",
             },
         ],
     },
     Subcommand {
         name: "check",
-        about: "Tests the bytes, and prints what the trie is made of, or where it is none and why",
+        about: "Test the bytes, and print what the trie is made of, or where and why they are no trie",
         help: "Example: zerotrie check names.trie\nIn memory: the file and the open \
             branches. Places are counted after the number of the kind.",
         arguments: &[FILE, KIND],
     },
     Subcommand {
         name: "dump",
-        about: "Prints a line for each node: place, depth, edge, meaning and bytes",
+        about: "Print a line for each node: place, depth, edge, meaning and bytes",
         help: "Example: zerotrie dump names.trie\nIn memory: the file and the open branches.",
         arguments: &[FILE, KIND, TRUST],
     },
     Subcommand {
         name: "dot",
-        about: "Prints a drawing of the first nodes, for Graphviz",
+        about: "Print a drawing of the first nodes, for Graphviz",
         help: "Example: zerotrie dot names.trie --most 40 | dot -Tsvg -o names.svg\n\
             In memory: the file and the open branches.",
         arguments: &[
@@ -162,7 +162,7 @@ pub const COMMANDS: &[Subcommand] = &[
     },
     Subcommand {
         name: "code",
-        about: "Prints the bytes as a constant of a program, with the call that reads it",
+        about: "Print the bytes as a constant of a program, with the call that reads it",
         help: "Example: zerotrie code names.trie --lang c --name names\nIn memory: the file.",
         arguments: &[
             FILE,
@@ -177,7 +177,7 @@ pub const COMMANDS: &[Subcommand] = &[
                 name: "name",
                 form: Form::Text("NAME", None, Otherwise::Nothing),
                 help: "The name of the static in Rust, of the function in Rattle, and in front of \
-                    those in C; else TRIE, get and trie",
+                    those in C; else TRIE, get and trie. It is not tested whether it is a keyword",
             },
         ],
     },

@@ -1,5 +1,8 @@
 -- A disk from moment to moment, and what the calls that replace a file do to it.
-use Rattle.std.specs.Prelude.{◌≡◌, ◌≢◌, ◌⊎◌, ℕ, List, ◌++◌, All, Option, Some, None, Result, MatchResult, OnOk}
+use Rattle.std.specs.Prelude.{◌≡◌, ◌≢◌, ◌⊎◌, ℕ, List, ◌++◌, All, Option, Some, None, Result, MatchResult}
+use Rattle.std.specs.IoError.{error_kind}
+use Rattle.std.specs.declared.io.Error.{Error}
+use Rattle.std.specs.declared.io.ErrorKind.TheVariants.{AlreadyExists}
 
 -- what the file of each path holds, if there is one
 abbrev pub Files : Type 0
@@ -31,14 +34,21 @@ SameBeside path old new = (other : List ℕ) → other ≢ path → new other �
 abbrev pub Same : Files → Files → Type 0
 Same old new = (path : List ℕ) → new path ≡ old path
 
+-- no file changes at any moment
+abbrev pub Stays : Story → Story → Type 0
+Stays old new = Passes (Same old.now) old new
+
 -- A file has another path, and those of all others are as they were.
 pub record Moved (from to : List ℕ) (old new : Files) : Type 0 where
   pub there : new to ≡ old from
+  pub gone : from ≢ to → new from ≡ None
   pub others : (other : List ℕ) → other ≢ from → other ≢ to → new other ≡ old other
 
--- a new file is written: other files stay at each moment, and if all went well it holds the bytes
-abbrev pub WritesNew : {T E : Type 0} → List ℕ → List ℕ → Result T E → Story → Story → Type 0
-WritesNew path bytes result old new = Passes (SameBeside path old.now) old new × OnOk result (new.now path ≡ Some bytes)
+-- a new file is written: other files stay at each moment; if all went well there was none, and it holds the bytes; if the error
+-- is that there is one, no file changes
+abbrev pub WritesNew : {T : Type 0} → List ℕ → List ℕ → Result T Error → Story → Story → Type 0
+WritesNew path bytes result old new = Passes (SameBeside path old.now) old new
+    × MatchResult result (λ _. (old.now path ≡ None) × (new.now path ≡ Some bytes)) (λ e. error_kind e ≡ AlreadyExists → Stays old new)
 
 -- a file is given another path, with no moment between before and after
 abbrev pub Renames : {T E : Type 0} → List ℕ → List ℕ → Result T E → Story → Story → Type 0
@@ -55,7 +65,13 @@ pub record IsWhole (path beside bytes : List ℕ) (old new : Files) : Type 0 whe
   pub whole : (new path ≡ old path) ⊎ (new path ≡ Some bytes)
   pub others : (other : List ℕ) → other ≢ path → other ≢ beside → new other ≡ old other
 
--- a file is replaced: it is whole at each moment, holds the bytes if all went well, and else what it held
-abbrev pub Replaces : {T E : Type 0} → List ℕ → List ℕ → List ℕ → Result T E → Story → Story → Type 0
+-- if the error is that there is a file at the path beside, and there was one, no file changes
+abbrev pub SparesBeside : List ℕ → Error → Story → Story → Type 0
+SparesBeside beside e old new = error_kind e ≡ AlreadyExists → old.now beside ≢ None → Stays old new
+
+-- a file is replaced: it is whole at each moment; if all went well it holds the bytes, and what was beside it stays; else it holds
+-- what it held
+abbrev pub Replaces : {T : Type 0} → List ℕ → List ℕ → List ℕ → Result T Error → Story → Story → Type 0
 Replaces path beside bytes result old new = Passes (IsWhole path beside bytes old.now) old new
-    × MatchResult result (λ _. new.now path ≡ Some bytes) (λ _. new.now path ≡ old.now path)
+    × MatchResult result (λ _. (new.now path ≡ Some bytes) × (new.now beside ≡ old.now beside))
+    (λ e. (new.now path ≡ old.now path) × SparesBeside beside e old new)

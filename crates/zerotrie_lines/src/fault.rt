@@ -25,8 +25,9 @@ impl fmt::Display for BadLine {
     fn fmt<W: fmt::Write>(&self, f: &mut fmt::Formatter<W>) -> fmt::Result {
         f.write_str(match self {
             BadLine::NoTab => "no tab between a key and its value",
-            BadLine::Escape => "a backslash that is none of \\t \\n \\r \\\\ \\xHH",
-            BadLine::Number => "no value of 1 to 20 decimal digits below 2^64",
+            BadLine::Escape =>
+                "a backslash that begins no escape; the escapes are \\t \\n \\r \\\\ \\xHH",
+            BadLine::Number => "the value is no decimal number below 2^64 of at most 20 digits",
             BadLine::CarriageReturn => {
                 "a carriage return after the value; a line ends in a line feed alone"
             }

@@ -8,7 +8,7 @@ use crate::command::{Build, Place};
 use crate::typed::AnswerError;
 use std::alloc::Global;
 use std::io;
-use std::io::Write;
+use std::io::{ErrorKind, Write};
 use zerotrie_any::TagError;
 use zerotrie_core::{Fault, ZeroTrieBuildError};
 use zerotrie_lines::{Format, write_escaped};
@@ -58,13 +58,26 @@ fn tell_no_trie<M: Write>(
     }
 }
 
+/// Tells that bytes can't be written to a place. If whoever reads them wants no more, nothing is told.
+fn tell_unwritten<M: Write>(messages: &mut M, place: &str, error: &io::Error) -> io::Result<()> {
+    match error.kind() {
+        ErrorKind::BrokenPipe => Ok(()),
+        ErrorKind::OutOfMemory => writeln!(messages, "zerotrie: out of memory"),
+        ErrorKind::AlreadyExists => writeln!(
+            messages,
+            "zerotrie: {place}: builds that were interrupted left {place}.0.tmp to {place}.99.tmp beside it: remove these"
+        ),
+        _ => writeln!(messages, "zerotrie: {place}: {error}"),
+    }
+}
+
 /// Tells why a question has no answer.
 pub fn tell_ask<M: Write>(messages: &mut M, place: Place<'_>, error: &AskError) -> io::Result<()> {
     let path = source_name(place);
     match error {
         AskError::TwoInputs => writeln!(
             messages,
-            "zerotrie: standard input can't be the file and the keys"
+            "zerotrie: standard input can't be both the file and the keys"
         ),
         AskError::Unread(error) => writeln!(messages, "zerotrie: {path}: {error}"),
         AskError::NoTrie(why, fault) => tell_no_trie(messages, path, why, fault),
@@ -72,7 +85,7 @@ pub fn tell_ask<M: Write>(messages: &mut M, place: Place<'_>, error: &AskError) 
             writeln!(messages, "zerotrie: standard input: {error}")
         }
         AskError::Unanswered(AnswerError::Failed(error)) => {
-            writeln!(messages, "zerotrie: standard output: {error}")
+            tell_unwritten(messages, STANDARD_OUTPUT, error)
         }
     }
 }
@@ -86,12 +99,17 @@ fn unit_of(source: Source) -> &'static str {
     }
 }
 
+/// Whether the keys that show why are the same.
+fn are_same(shown: &Shown) -> bool {
+    shown.first.key.as_slice() == shown.second.key.as_slice()
+}
+
 /// Adds why keys are refused together.
 fn add_reason(text: &mut Vec<u8>, unit: &str, shown: &Shown) -> io::Result<()> {
     let first = shown.first.number;
     let second = shown.second.number;
     match &shown.error {
-        ZeroTrieBuildError::DuplicateKey => {
+        ZeroTrieBuildError::DuplicateKey | ZeroTrieBuildError::Unsorted if are_same(shown) => {
             write!(text, "{unit}s {first} and {second} have the same key: ")
         }
         ZeroTrieBuildError::Unsorted => write!(
@@ -144,6 +162,10 @@ fn refusal(alloc: Global, path: &str, unit: &str, error: &MakeError) -> io::Resu
             add_reason(&mut text, unit, shown)?;
             add_keys(&mut text, shown)?;
         }
+        MakeError::Refused(ZeroTrieBuildError::CapacityExceeded) => write!(
+            text,
+            "the trie would be too long for its kind: take --kind ext, or fewer pairs"
+        )?,
         MakeError::Refused(error) => write!(text, "{error}")?,
         MakeError::OutOfMemory => write!(text, "out of memory")?,
     }
@@ -211,9 +233,6 @@ pub fn tell_build<M: Write>(
             let text = refusal(alloc, from, unit_of(build.plan.source), error)?;
             messages.write_all(text.as_slice())
         }
-        BuildError::Unwritten(error) => {
-            let to = target_name(build.to);
-            writeln!(messages, "zerotrie: {to}: {error}")
-        }
+        BuildError::Unwritten(error) => tell_unwritten(messages, target_name(build.to), error),
     }
 }

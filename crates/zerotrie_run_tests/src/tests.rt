@@ -237,7 +237,7 @@ const UNANSWERED: &[Row] = &[
         ),
         status: Status::BadUsage,
         printed: b"",
-        told: b"zerotrie: standard input can't be the file and the keys\n",
+        told: b"zerotrie: standard input can't be both the file and the keys\n",
         left: ("names.trie", TRIE),
     },
     Row {
