@@ -12,14 +12,16 @@
  *     cc -Ibindings/c program.c bindings/build/libzerotrie.a
  *     cc program.c $(PKG_CONFIG_PATH=bindings/build pkg-config --cflags --libs zerotrie)    (runs with LD_LIBRARY_PATH=bindings/build)
  *
+ * bindings/install PREFIX copies them and the headers to PREFIX/lib and PREFIX/include.
+ *
  * Each function below is proved to meet its contract over the map that the bytes mean. What a proof can't see is what a caller does.
  *
  * A caller owes:
  *   - Pointers. A pointer with a length after it leads to that many elements, which can be read and which nothing writes
  *     to during the call. What a function writes to can be written, and overlaps nothing else that the call is given.
  *     A pointer is aligned for its type. A length is at most PTRDIFF_MAX bytes.
- *   - Null. No pointer is null, not even one with the length 0: pass any address of the type then. Of a pointer that may
- *     be null, zerotrie_bytes_of() makes bytes that are not.
+ *   - Null. No pointer may be null, even with length 0: pass any valid address of the type then. zerotrie_bytes_of() turns a
+ *     pointer that may be null into a zerotrie_bytes whose pointer never is.
  *   - Lifetimes. A trie is only your bytes: there is nothing to open, close or free. What a cursor holds, and what
  *     zerotrie_untagged() hands out, points into the bytes that were given. Use it only while they stay where they are and
  *     unchanged. Keys and pairs are needed during the call alone.
@@ -32,11 +34,11 @@
  *   - Threads. There is no state between calls and no lock, so any number of threads may call at once over bytes that none
  *     of them writes. A cursor is for one thread at a time; a copy of it, made by =, is a cursor of its own.
  *
- * What is said of a trie's keys holds of bytes that are a trie of the kind: what a build wrote is one, and of bytes that come
- * from elsewhere zerotrie_is_well_formed() tells it; ask once. On other bytes each function still answers something.
+ * Statements about keys hold for bytes that are a trie of the kind: those that a build wrote, and those from elsewhere that
+ * zerotrie_is_well_formed() accepts; check them once. On any other bytes each function still returns, but its answer means nothing.
  *
- * A function that answers a bool tells whether something was found. One that answers a uint32_t tells a zerotrie_status;
- * zerotrie_auto_kind() tells a zerotrie_kind.
+ * A bool says yes or no: found, or well-formed. A uint32_t is a zerotrie_status, except from zerotrie_auto_kind(), which returns a
+ * zerotrie_kind.
  */
 #ifndef ZEROTRIE_H
 #define ZEROTRIE_H
@@ -45,19 +47,29 @@
 #include <stddef.h>
 #include <stdint.h>
 
-/* A function of two lines that stands here whole. C++ wants one of them for all files. */
+/* What the declarations below say beyond C: that a function stands here whole, that none of its pointers may be null, and that
+ * its answer is worth a look. */
 #ifdef __cplusplus
 #define ZEROTRIE_INLINE inline
+#define ZEROTRIE_POINTER(type, pointer) reinterpret_cast<type>(pointer)
 #else
 #define ZEROTRIE_INLINE static inline
+#define ZEROTRIE_POINTER(type, pointer) ((type)(pointer))
+#endif
+#ifdef __GNUC__
+#define ZEROTRIE_NONNULL __attribute__((nonnull))
+#define ZEROTRIE_ANSWERS __attribute__((nonnull, warn_unused_result))
+#else
+#define ZEROTRIE_NONNULL
+#define ZEROTRIE_ANSWERS
 #endif
 
 #ifdef __cplusplus
 extern "C" {
 #endif
 
-/* The kind of a trie. The number is also that which stands in front of tagged bytes. A function that is given another
- * number answers false or ZEROTRIE_UNKNOWN_KIND. */
+/* The kind of a trie. The same number is the first byte of tagged bytes. A function that is given another number answers
+ * false or ZEROTRIE_UNKNOWN_KIND. */
 typedef enum zerotrie_kind {
     ZEROTRIE_SIMPLE_ASCII = 0,      /* ASCII keys */
     ZEROTRIE_PERFECT_HASH = 3,      /* any bytes; a branch of 16 edges or more is a perfect hash */
@@ -69,7 +81,8 @@ typedef enum zerotrie_kind {
 typedef enum zerotrie_status {
     ZEROTRIE_DONE = 0,
     ZEROTRIE_NON_ASCII = 1,          /* a key holds a byte of 128 or more, and the kind is for ASCII alone */
-    ZEROTRIE_CAPACITY_EXCEEDED = 2,  /* a branch would reach 2^32 bytes (not in EXTENDED_CAPACITY), or the trie 2^64 */
+    ZEROTRIE_CAPACITY_EXCEEDED = 2,  /* a branch would reach 2^32 bytes (not in EXTENDED_CAPACITY), or the trie 2^64;
+                                        zerotrie_dense_build: also more than 65,535 suffixes */
     ZEROTRIE_NO_PERFECT_HASH = 3,    /* no perfect hash was found for the edges of a branch; this is rare */
     ZEROTRIE_MIXED_CASE = 4,         /* IGNORE_CASE: two keys begin alike up to case, but not byte by byte */
     ZEROTRIE_ILLEGAL_DELIMITER = 5,  /* zerotrie_dense_build: a text has the delimiter in it */
@@ -109,56 +122,67 @@ typedef struct zerotrie_cursor {
 /* Bytes from any pointer; null stands for none. */
 ZEROTRIE_INLINE zerotrie_bytes zerotrie_bytes_of(const void *ptr, size_t len) {
     zerotrie_bytes made;
-    made.ptr = ptr ? (const uint8_t *)ptr : (const uint8_t *)"";
+    made.ptr = ZEROTRIE_POINTER(const uint8_t *, ptr ? ptr : "");
     made.len = ptr ? len : 0;
     return made;
 }
 
 /* The bytes of a string literal, without its end, as an initializer. */
-#define ZEROTRIE_TEXT(literal) { (const uint8_t *)("" literal), sizeof("" literal) - 1 }
+#define ZEROTRIE_TEXT(literal) { ZEROTRIE_POINTER(const uint8_t *, "" literal), sizeof("" literal) - 1 }
 
 /* --- Reading: no memory is taken ------------------------------------------------------------------------------------ */
 
 /* Whether the bytes are a trie of the kind, every rule of the format kept. */
+ZEROTRIE_ANSWERS
 bool zerotrie_is_well_formed(uint32_t kind, const uint8_t *bytes, size_t len);
 
 /* Whether the trie has the key. If so its value goes to *value, else *value stays. */
+ZEROTRIE_ANSWERS
 bool zerotrie_get(uint32_t kind, const uint8_t *bytes, size_t len, const uint8_t *key, size_t key_len, size_t *value);
 
 /* Looks up many keys at once, which lie one after another in `keys`: each goes from where the one before it ended up to its
  * own end. Writes the value of each, or `missing` for a key that the trie hasn't. An end beyond keys_len stands for
- * keys_len, and one below the end before it makes an empty key. As many are answered as there are ends and room for
- * values; the rest of the room stays. Answers ZEROTRIE_DONE, or ZEROTRIE_UNKNOWN_KIND and writes nothing. */
+ * keys_len, and one below the end before it makes an empty key. It answers as
+ * many keys as the smaller of ends_len and values_len; the rest of the room stays. Answers ZEROTRIE_DONE, or
+ * ZEROTRIE_UNKNOWN_KIND and writes nothing. */
+ZEROTRIE_NONNULL
 uint32_t zerotrie_get_many(uint32_t kind, const uint8_t *bytes, size_t len, const uint8_t *keys, size_t keys_len,
                            const size_t *ends, size_t ends_len, size_t missing, size_t *values, size_t values_len);
 
 /* Whether the text begins with a key, the empty one too. If so, the length of the longest such key goes to *key_len and
  * its value to *value, else both stay. */
+ZEROTRIE_ANSWERS
 bool zerotrie_longest_prefix(uint32_t kind, const uint8_t *bytes, size_t len, const uint8_t *text, size_t text_len,
                              size_t *key_len, size_t *value);
 
 /* Sets the cursor in front of all keys, of a trie of any kind. The calls below take the same kind each time. */
+ZEROTRIE_NONNULL
 void zerotrie_cursor_new(const uint8_t *bytes, size_t len, zerotrie_cursor *cursor);
 
 /* Sets the cursor after a prefix, where a step by each byte of it leads. Answers whether some key begins with it; if none
  * does, or the kind is unknown, the cursor has nothing left. */
+ZEROTRIE_NONNULL
 bool zerotrie_with_prefix(uint32_t kind, const uint8_t *bytes, size_t len, const uint8_t *prefix, size_t prefix_len,
                           zerotrie_cursor *cursor);
 
 /* Goes along the edge that is this byte to the kind (in IGNORE_CASE a letter in either case). If there is one, its byte as it
  * is stored goes to *edge. If not, nothing is left and *edge stays. */
+ZEROTRIE_NONNULL
 bool zerotrie_cursor_step(uint32_t kind, zerotrie_cursor *cursor, uint8_t byte, uint8_t *edge);
 
 /* Takes the value of the key that ends here: it goes to *value, and the cursor no longer has it. If there is none, nothing
  * changes. Ask before the next step, which goes past the value. */
+ZEROTRIE_NONNULL
 bool zerotrie_cursor_take_value(zerotrie_cursor *cursor, size_t *value);
 
 /* Goes along edge number `index`, from 0; its byte goes to *edge, and how many edges there are to *siblings. If there is no
  * such edge, nothing is left, and *edge and *siblings stay. Edges are numbered in the order of the bytes' listing. */
+ZEROTRIE_NONNULL
 bool zerotrie_cursor_probe(uint32_t kind, zerotrie_cursor *cursor, size_t index, uint8_t *edge, uint16_t *siblings);
 
 /* The kind of tagged bytes goes to *kind, and what stands after the tag, where it lies, to *trie; it is not tested. Or
  * answers ZEROTRIE_NO_TAG or ZEROTRIE_INVALID_TAG and writes nothing. */
+ZEROTRIE_ANSWERS
 uint32_t zerotrie_untagged(const uint8_t *tagged, size_t len, uint32_t *kind, zerotrie_bytes *trie);
 
 /* --- Building ------------------------------------------------------------------------------------------------------- */
@@ -166,21 +190,26 @@ uint32_t zerotrie_untagged(const uint8_t *tagged, size_t len, uint32_t *kind, ze
 /* Builds the trie of pairs in any order. ZEROTRIE_DONE: it is the first *len bytes of `out`, and the rest stays.
  * ZEROTRIE_BUFFER_TOO_SMALL: it has *len bytes, more than out_len, and `out` stays; call again with as many. Otherwise the
  * answer is a reason that is true of the pairs, or ZEROTRIE_OUT_OF_MEMORY, and nothing is written. Takes memory. */
+ZEROTRIE_ANSWERS
 uint32_t zerotrie_build(uint32_t kind, const zerotrie_pair *pairs, size_t count, uint8_t *out, size_t out_len, size_t *len);
 
 /* The same of pairs whose keys ascend strictly by their bytes, as memcmp orders them, in IGNORE_CASE too. Takes memory. */
+ZEROTRIE_ANSWERS
 uint32_t zerotrie_build_sorted(uint32_t kind, const zerotrie_pair *pairs, size_t count, uint8_t *out, size_t out_len,
                                size_t *len);
 
 /* How many bytes zerotrie_build_sorted() of these pairs would write; it builds nothing. Takes memory. */
+ZEROTRIE_ANSWERS
 uint32_t zerotrie_encoded_len(uint32_t kind, const zerotrie_pair *pairs, size_t count, size_t *len);
 
 /* The kind for pairs if you have no wish: SIMPLE_ASCII if all keys are ASCII and there are fewer than 512, else
  * PERFECT_HASH. */
+ZEROTRIE_ANSWERS
 uint32_t zerotrie_auto_kind(const zerotrie_pair *pairs, size_t count);
 
 /* Writes the kind's number and then the bytes to `out`, so that they tell their kind. ZEROTRIE_DONE and
  * ZEROTRIE_BUFFER_TOO_SMALL as in a build. */
+ZEROTRIE_ANSWERS
 uint32_t zerotrie_tagged(uint32_t kind, const uint8_t *bytes, size_t len, uint8_t *out, size_t out_len, size_t *tagged_len);
 
 /* --- Dense tables --------------------------------------------------------------------------------------------------- */
@@ -193,6 +222,7 @@ uint32_t zerotrie_tagged(uint32_t kind, const uint8_t *bytes, size_t len, uint8_
  * none. A record tells its own length: with fewer bytes the answer is ZEROTRIE_RECORD_TRUNCATED, with more
  * ZEROTRIE_TRAILING_BYTES. In all cases but the first *value stays. What zerotrie_dense_build() wrote is a record; on other
  * bytes of a record's length, which are not tested, the function answers something. Takes no memory. */
+ZEROTRIE_ANSWERS
 uint32_t zerotrie_dense_get(const uint8_t *record, size_t len, const uint8_t *prefix, size_t prefix_len,
                             const uint8_t *suffix, size_t suffix_len, size_t *value);
 
@@ -211,6 +241,7 @@ uint32_t zerotrie_dense_get(const uint8_t *record, size_t len, const uint8_t *pr
  * more than out_len, and `out` stays. Otherwise the answer is a reason that is true of the entries, and nothing is written:
  * ZEROTRIE_UNSORTED; ZEROTRIE_NON_ASCII, of a text or the delimiter; ZEROTRIE_ILLEGAL_DELIMITER; ZEROTRIE_CAPACITY_EXCEEDED, of more
  * than 65,535 suffixes too; or ZEROTRIE_OUT_OF_MEMORY. Takes memory. */
+ZEROTRIE_ANSWERS
 uint32_t zerotrie_dense_build(const uint8_t *prefixes, size_t prefixes_len, const size_t *prefix_ends, size_t prefix_count,
                               const uint8_t *suffixes, size_t suffixes_len, const size_t *suffix_ends, size_t suffix_count,
                               const size_t *values, size_t value_count, uint8_t delimiter, uint8_t *out, size_t out_len,
@@ -223,6 +254,7 @@ uint32_t zerotrie_dense_build(const uint8_t *prefixes, size_t prefixes_len, cons
  * `values`; the rest of each room stays. *key_bytes and *count tell how long they are. With ZEROTRIE_BUFFER_TOO_SMALL some room
  * has too few places, and nothing is written to such a one. ZEROTRIE_OUT_OF_MEMORY: the three rooms stay. A trie of n bytes
  * has at most n pairs. Takes memory, as much as it lists. zerotrie_list_some() lists a large trie in parts. */
+ZEROTRIE_ANSWERS
 uint32_t zerotrie_list(uint32_t kind, const uint8_t *bytes, size_t len, const uint8_t *prefix, size_t prefix_len,
                        uint8_t *keys, size_t keys_len, size_t *ends, size_t ends_len, size_t *values, size_t values_len,
                        size_t *key_bytes, size_t *count);
@@ -235,6 +267,7 @@ uint32_t zerotrie_list(uint32_t kind, const uint8_t *bytes, size_t len, const ui
  * are written all the same. ZEROTRIE_UNKNOWN_KIND: the rooms and *count stay. On bytes that are no trie a key may come twice, and
  * the parts then come round without end. A call costs a look-up of `last` and what it lists. Takes memory, as much as the
  * longest key and the deepest branches. */
+ZEROTRIE_ANSWERS
 uint32_t zerotrie_list_some(uint32_t kind, const uint8_t *bytes, size_t len, const uint8_t *prefix, size_t prefix_len,
                             bool goes_on, const uint8_t *last, size_t last_len, uint8_t *keys, size_t keys_len,
                             size_t *ends, size_t ends_len, size_t *values, size_t values_len, size_t *count,
@@ -243,13 +276,14 @@ uint32_t zerotrie_list_some(uint32_t kind, const uint8_t *bytes, size_t len, con
 /* --- Texts ---------------------------------------------------------------------------------------------------------- */
 
 /* Lends the text of a status, in UTF-8: ptr is a string of C, and len counts the zero that ends it. It is never freed. */
+ZEROTRIE_NONNULL
 void zerotrie_status_bytes(uint32_t status, zerotrie_bytes *text);
 
 /* The text of a status, as "the keys do not ascend: sort them by their bytes, each once". */
 ZEROTRIE_INLINE const char *zerotrie_status_text(uint32_t status) {
     zerotrie_bytes text;
     zerotrie_status_bytes(status, &text);
-    return (const char *)text.ptr;
+    return ZEROTRIE_POINTER(const char *, text.ptr);
 }
 
 #ifdef __cplusplus

@@ -1,20 +1,22 @@
-// zerotrie for C++17, over zerotrie.h, whose rules hold here too. Keys are std::string_view, of any bytes.
+// zerotrie for C++17 and later, over zerotrie.h, whose rules hold here too. Keys are std::string_view, of any bytes.
 //
 //     const std::map<std::string, size_t> map{{"foo", 1}, {"bar", 2}, {"bazzoo", 3}};
 //     const std::string bytes = zerotrie::build(zerotrie::Kind::SimpleAscii, map);
 //     const zerotrie::Trie trie(zerotrie::Kind::SimpleAscii, bytes);
 //     trie.get("bar"); // 2
 //
-// Trie, Cursor and DenseTable are views: copying one copies no bytes, and the bytes that it was made of have to outlive it, as
-// those of a std::string_view. A std::string that ends with the statement is refused. Items owns what it lists. What is refused is
-// thrown as Error; no other call throws, but for std::bad_alloc of a container. Many threads may ask one Trie at once; a Cursor is
-// for one thread at a time.
+// Bytes, Trie, Cursor and DenseTable are views: copying one copies no bytes, and the bytes that it was made of have to outlive it,
+// as those of a std::string_view. Items owns what it lists. What is refused is thrown as Error, a value below 0 or from 2^64 on as
+// std::out_of_range, and out of memory as std::bad_alloc; what is noexcept throws nothing. Many threads may ask one Trie at once; a
+// Cursor is for one thread at a time.
 #pragma once
 #include "zerotrie.h"
 
 #include <algorithm>
 #include <cstddef>
+#include <initializer_list>
 #include <iterator>
+#include <new>
 #include <optional>
 #include <stdexcept>
 #include <string>
@@ -22,6 +24,9 @@
 #include <type_traits>
 #include <utility>
 #include <vector>
+#if __cplusplus >= 202002L
+#include <span>
+#endif
 
 namespace zerotrie {
 
@@ -40,128 +45,268 @@ public:
 };
 
 namespace detail {
-inline zerotrie_bytes of(std::string_view text) { return zerotrie_bytes_of(text.data(), text.size()); }
-inline std::string_view text_of(zerotrie_bytes bytes) { return {reinterpret_cast<const char *>(bytes.ptr), bytes.len}; }
-inline uint8_t *room(std::string &text) { return reinterpret_cast<uint8_t *>(text.data()); }
-// A std::string that nothing else holds: a view of it would be left with nothing.
-template <class T> using Passing = std::enable_if_t<std::is_same_v<std::remove_const_t<T>, std::string>>;
+template <class T> using Bare = std::remove_cv_t<std::remove_reference_t<T>>;
+template <class T, class U> constexpr bool is = std::is_same_v<std::remove_cv_t<T>, U>;
+template <class T> constexpr bool is_byte = sizeof(T) == 1 && (std::is_integral_v<T> || is<T, std::byte>);
+// An array of char is mostly a string literal, whose last zero is no byte of a trie.
+template <class T> constexpr bool is_array_of_char = std::is_array_v<T> && is<std::remove_extent_t<T>, char>;
+// What may end before the bytes that it shows.
+template <class T> constexpr bool is_view = false;
+#if __cplusplus >= 202002L
+template <class T, size_t N> constexpr bool is_view<std::span<T, N>> = true;
+#endif
+// Whether a T && can lend the bytes of a trie.
+template <class T, class = void> constexpr bool lends_bytes = false;
+template <class T>
+constexpr bool lends_bytes<T, std::void_t<decltype(std::data(std::declval<T &>())), decltype(std::size(std::declval<T &>()))>> =
+    is_byte<std::remove_pointer_t<decltype(std::data(std::declval<T &>()))>> && !is_array_of_char<Bare<T>> &&
+    !is<Bare<T>, std::string_view> && (std::is_lvalue_reference_v<T> || is_view<Bare<T>>);
+// A text that nothing else holds, such as a std::string that a function returns: a view of it would be left with nothing.
+template <class T>
+using Passing = std::enable_if_t<!std::is_lvalue_reference_v<T> && std::is_convertible_v<T, std::string_view> &&
+                                 !std::is_trivially_destructible_v<Bare<T>>>;
+} // namespace detail
+
+// The bytes of a trie or of a table, which lie elsewhere and have to outlive it. They are made of a std::string_view; of a
+// std::string, a std::vector<uint8_t>, an array of uint8_t or the like that has a name; and of a pointer and a length. No temporary
+// std::string makes them, as it would be gone, and no `const char *`, as it would end at its first zero: write "..."sv.
+class Bytes {
+public:
+    constexpr Bytes() noexcept = default;
+    constexpr Bytes(std::string_view bytes) noexcept : bytes_(bytes) {}
+    Bytes(const void *ptr, size_t len) noexcept : bytes_(static_cast<const char *>(ptr), len) {}
+    template <class T, class = std::enable_if_t<detail::lends_bytes<T>>>
+    Bytes(T &&bytes) noexcept : Bytes(std::data(bytes), std::size(bytes)) {}
+    [[nodiscard]] constexpr std::string_view view() const noexcept { return bytes_; }
+
+private:
+    std::string_view bytes_;
+};
+
+namespace detail {
+inline zerotrie_bytes of(std::string_view text) noexcept { return zerotrie_bytes_of(text.data(), text.size()); }
+inline std::string_view text_of(zerotrie_bytes bytes) noexcept { return {reinterpret_cast<const char *>(bytes.ptr), bytes.len}; }
+inline uint8_t *room(std::string &text) noexcept { return reinterpret_cast<uint8_t *>(text.data()); }
 // A value as C has it.
 template <class T> size_t number_of(T value) {
     static_assert(std::is_integral_v<T>, "a value is a whole number");
-    if constexpr (std::is_signed_v<T>) {
-        if (value < 0) throw std::out_of_range("a value is from 0 to 2^64 - 1");
-    }
-    return static_cast<size_t>(value);
+    const size_t number = static_cast<size_t>(value);
+    bool fits = static_cast<T>(number) == value;
+    if constexpr (std::is_signed_v<T>) fits = fits && value >= 0;
+    if (!fits) throw std::out_of_range("a value is from 0 to 2^64 - 1");
+    return number;
 }
 inline void check(uint32_t status) {
+    if (status == ZEROTRIE_OUT_OF_MEMORY) throw std::bad_alloc();
     if (status != ZEROTRIE_DONE) throw Error(status);
 }
+// What a call writes into a room of this length, or else into one of the length that it asks for.
+template <class Call> std::string written(size_t len, Call call) {
+    std::string out;
+    uint32_t status = ZEROTRIE_BUFFER_TOO_SMALL;
+    for (int turn = 0; turn < 2 && status == ZEROTRIE_BUFFER_TOO_SMALL; turn++) {
+        out.resize(len);
+        status = call(room(out), out.size(), &len);
+    }
+    check(status);
+    out.resize(len);
+    return out;
+}
+
+// Whether what an iterator leads to stays while the range is gone over: it is no object of the iterator's own, nor made as it goes.
+template <class Iterator, class = void> constexpr bool stays = false;
+template <class Iterator>
+constexpr bool stays<Iterator, std::void_t<typename std::iterator_traits<Iterator>::iterator_category>> =
+    std::is_base_of_v<std::forward_iterator_tag, typename std::iterator_traits<Iterator>::iterator_category> &&
+    std::is_lvalue_reference_v<decltype(*std::declval<Iterator &>())>;
+
+// Pairs as C has them, of a range whose elements have a key, which makes a std::string_view, and a value. Keys that would not stay
+// are copied.
+class Pairs {
+public:
+    template <class Range> explicit Pairs(Range &range) {
+        using std::begin;
+        constexpr bool keys_stay = stays<Bare<decltype(begin(range))>>;
+        for (auto &&[key, value] : range) {
+            const std::string_view text(key);
+            if constexpr (!keys_stay) texts_ += text;
+            pairs_.push_back({of(text), number_of(value)});
+        }
+        if constexpr (!keys_stay) lead_to_texts();
+        // so that there is a place to point at
+        pairs_.reserve(1);
+    }
+    Pairs(const Pairs &) = delete;
+    Pairs &operator=(const Pairs &) = delete;
+    const zerotrie_pair *data() const noexcept { return pairs_.data(); }
+    size_t size() const noexcept { return pairs_.size(); }
+    // As many bytes as a build of the pairs takes as a rule.
+    size_t most_bytes() const noexcept {
+        size_t len = 16;
+        for (const auto &pair : pairs_) len += pair.key.len + 4;
+        return len;
+    }
+
+private:
+    void lead_to_texts() noexcept {
+        const uint8_t *at = room(texts_);
+        for (auto &pair : pairs_) pair.key.ptr = at, at += pair.key.len;
+    }
+    std::string texts_;
+    std::vector<zerotrie_pair> pairs_;
+};
+
+// The parts of a listing, one after another. Each has twice the room of the one before, up to a megabyte, and places for keys as
+// long as those so far.
+class Parts {
+public:
+    Parts(Kind kind, Bytes bytes, std::string_view prefix) : kind_(kind), trie_(of(bytes.view())), prefix_(of(prefix)) {}
+    // Goes on to the next part. false: none is left.
+    bool next() {
+        if (status_ != ZEROTRIE_BUFFER_TOO_SMALL) return false;
+        const size_t places = room_ / std::max<size_t>(listed_ == 0 ? 0 : bytes_listed_ / listed_, 4) + 1;
+        keys_.resize(room_), ends_.resize(places), values_.resize(places);
+        const auto last = of(last_);
+        size_t next_len = 0;
+        status_ = zerotrie_list_some(static_cast<uint32_t>(kind_), trie_.ptr, trie_.len, prefix_.ptr, prefix_.len, listed_ > 0,
+                                     last.ptr, last.len, room(keys_), room_, ends_.data(), places, values_.data(), places, &count_,
+                                     &next_len);
+        if (status_ != ZEROTRIE_BUFFER_TOO_SMALL) check(status_);
+        room_ = std::max(std::min<size_t>(2 * room_, 1 << 20), next_len);
+        listed_ += count_, bytes_listed_ += keys().size();
+        if (count_ > 0) go_on_after((*this)[count_ - 1].first);
+        return true;
+    }
+    size_t size() const noexcept { return count_; }
+    std::pair<std::string_view, size_t> operator[](size_t i) const noexcept {
+        const size_t from = i == 0 ? 0 : ends_[i - 1];
+        return {std::string_view(keys_).substr(from, ends_[i] - from), values_[i]};
+    }
+    // All keys of the part, one after another; where each ends; and their values.
+    std::string_view keys() const noexcept { return std::string_view(keys_).substr(0, count_ == 0 ? 0 : ends_[count_ - 1]); }
+    const size_t *ends() const noexcept { return ends_.data(); }
+    const size_t *values() const noexcept { return values_.data(); }
+
+private:
+    // No trie has a key twice. On other bytes the parts may come round to a key, and then the listing ends.
+    void go_on_after(std::string_view key) {
+        last_ = key;
+        if (parts_ > 0 && last_ == earlier_) status_ = ZEROTRIE_DONE;
+        parts_++;
+        if ((parts_ & (parts_ - 1)) == 0) earlier_ = last_;
+    }
+    Kind kind_;
+    zerotrie_bytes trie_, prefix_;
+    uint32_t status_ = ZEROTRIE_BUFFER_TOO_SMALL;
+    size_t room_ = 4096, count_ = 0, listed_ = 0, bytes_listed_ = 0, parts_ = 0;
+    std::string keys_, last_, earlier_;
+    std::vector<size_t> ends_, values_;
+};
 } // namespace detail
 
 // A place in a trie. A copy is a place of its own. The trie's bytes have to outlive it.
 class Cursor {
 public:
-    Cursor(Kind kind, std::string_view bytes) : kind_(kind) {
-        const auto at = detail::of(bytes);
+    Cursor(Kind kind, Bytes bytes) noexcept : kind_(kind) {
+        const auto at = detail::of(bytes.view());
         zerotrie_cursor_new(at.ptr, at.len, &cursor_);
     }
-    template <class T, class = detail::Passing<T>> Cursor(Kind, T &&) = delete;
-    Cursor(Kind kind, zerotrie_cursor cursor) : kind_(kind), cursor_(cursor) {}
     // Goes along the edge that is the byte to the kind, and answers it as it is stored. nullopt: nothing is left.
-    std::optional<uint8_t> step(uint8_t byte) {
+    std::optional<uint8_t> step(uint8_t byte) noexcept {
         uint8_t edge = 0;
         if (!zerotrie_cursor_step(number(), &cursor_, byte, &edge)) return std::nullopt;
         return edge;
     }
     // The same along edge number `index`, from 0; answers its byte and how many edges there are.
-    std::optional<std::pair<uint8_t, uint16_t>> probe(size_t index) {
+    std::optional<std::pair<uint8_t, uint16_t>> probe(size_t index) noexcept {
         uint8_t edge = 0;
         uint16_t siblings = 0;
         if (!zerotrie_cursor_probe(number(), &cursor_, index, &edge, &siblings)) return std::nullopt;
         return std::pair(edge, siblings);
     }
     // Takes the value of the key that ends here. nullopt: no key does, or it was taken.
-    std::optional<size_t> take_value() {
+    std::optional<size_t> take_value() noexcept {
         size_t value = 0;
         if (!zerotrie_cursor_take_value(&cursor_, &value)) return std::nullopt;
         return value;
     }
     // What is left of the span that it stands in: every key goes on with it. Empty outside of spans.
-    std::string_view run() const { return detail::text_of(cursor_.run); }
+    [[nodiscard]] std::string_view run() const noexcept { return detail::text_of(cursor_.run); }
     // Whether no key goes on from here, and none ends here.
-    bool is_empty() const { return cursor_.run.len == 0 && cursor_.trie.len == 0; }
+    [[nodiscard]] bool is_empty() const noexcept { return cursor_.run.len == 0 && cursor_.trie.len == 0; }
 
 private:
-    uint32_t number() const { return static_cast<uint32_t>(kind_); }
+    friend class Trie;
+    Cursor(const zerotrie_cursor &cursor, Kind kind) noexcept : kind_(kind), cursor_(cursor) {}
+    uint32_t number() const noexcept { return static_cast<uint32_t>(kind_); }
     Kind kind_;
     zerotrie_cursor cursor_{};
 };
 
 // The pairs of a trie, in the order of its bytes: a range whose elements are pairs of a std::string_view and a value. All are
-// listed when it is made; the views lie in it.
+// listed when it is made; the views lie in it. Trie::for_each() holds only a part of them at a time.
 class Items {
 public:
     using value_type = std::pair<std::string_view, size_t>;
+    using reference = value_type;
+    using size_type = size_t;
+    using difference_type = std::ptrdiff_t;
     class iterator {
     public:
+        // before C++20 an iterator whose elements are made as it goes is no more
         using iterator_category = std::input_iterator_tag;
+        using iterator_concept = std::random_access_iterator_tag;
         using value_type = Items::value_type;
         using difference_type = std::ptrdiff_t;
         using reference = value_type;
         struct pointer {
             Items::value_type pair;
-            const Items::value_type *operator->() const { return &pair; }
+            const Items::value_type *operator->() const noexcept { return &pair; }
         };
         iterator() = default;
-        iterator(const Items *items, size_t at) : items_(items), at_(at) {}
-        value_type operator*() const { return (*items_)[at_]; }
-        pointer operator->() const { return {**this}; }
-        iterator &operator++() { return ++at_, *this; }
-        iterator operator++(int) { auto old = *this; return ++at_, old; }
-        bool operator==(const iterator &other) const { return at_ == other.at_; }
-        bool operator!=(const iterator &other) const { return at_ != other.at_; }
+        value_type operator*() const noexcept { return (*items_)[static_cast<size_t>(at_)]; }
+        pointer operator->() const noexcept { return {**this}; }
+        value_type operator[](difference_type n) const noexcept { return *(*this + n); }
+        iterator &operator++() noexcept { return ++at_, *this; }
+        iterator &operator--() noexcept { return --at_, *this; }
+        iterator operator++(int) noexcept { return {items_, at_++}; }
+        iterator operator--(int) noexcept { return {items_, at_--}; }
+        iterator &operator+=(difference_type n) noexcept { return at_ += n, *this; }
+        iterator &operator-=(difference_type n) noexcept { return at_ -= n, *this; }
+        friend iterator operator+(iterator it, difference_type n) noexcept { return it += n; }
+        friend iterator operator+(difference_type n, iterator it) noexcept { return it += n; }
+        friend iterator operator-(iterator it, difference_type n) noexcept { return it -= n; }
+        friend difference_type operator-(const iterator &a, const iterator &b) noexcept { return a.at_ - b.at_; }
+        friend bool operator==(const iterator &a, const iterator &b) noexcept { return a.at_ == b.at_; }
+        friend bool operator!=(const iterator &a, const iterator &b) noexcept { return a.at_ != b.at_; }
+        friend bool operator<(const iterator &a, const iterator &b) noexcept { return a.at_ < b.at_; }
+        friend bool operator>(const iterator &a, const iterator &b) noexcept { return a.at_ > b.at_; }
+        friend bool operator<=(const iterator &a, const iterator &b) noexcept { return a.at_ <= b.at_; }
+        friend bool operator>=(const iterator &a, const iterator &b) noexcept { return a.at_ >= b.at_; }
 
     private:
+        friend class Items;
+        iterator(const Items *items, difference_type at) noexcept : items_(items), at_(at) {}
         const Items *items_ = nullptr;
-        size_t at_ = 0;
+        difference_type at_ = 0;
     };
-    Items(Kind kind, std::string_view bytes, std::string_view prefix) {
-        const auto trie = detail::of(bytes), front = detail::of(prefix);
-        uint32_t status = ZEROTRIE_BUFFER_TOO_SMALL;
-        size_t parts = 0;
-        std::string earlier;
-        // a part at a time, each with twice the room of the one before, up to a megabyte, and places for keys as long as those so far
-        for (size_t room = 4096; status == ZEROTRIE_BUFFER_TOO_SMALL;) {
-            const size_t from = keys_.size(), at = size();
-            const size_t places = room / std::max<size_t>(at == 0 ? 0 : from / at, 4) + 1;
-            const std::string last(at == 0 ? std::string_view() : (*this)[at - 1].first);
-            size_t count = 0, next_len = 0;
-            keys_.resize(from + room), ends_.resize(at + places), values_.resize(at + places);
-            status = zerotrie_list_some(static_cast<uint32_t>(kind), trie.ptr, trie.len, front.ptr, front.len, at > 0,
-                                        detail::of(last).ptr, last.size(), detail::room(keys_) + from, room, ends_.data() + at,
-                                        places, values_.data() + at, places, &count, &next_len);
-            for (size_t i = at; i < at + count; i++) ends_[i] += from;
-            ends_.resize(at + count), values_.resize(at + count);
-            keys_.resize(empty() ? 0 : ends_.back());
-            room = std::max(std::min<size_t>(2 * room, 1 << 20), next_len);
-            // No trie has a key twice. On other bytes the parts may come round to a key, and then the listing ends here.
-            if (count > 0 && status == ZEROTRIE_BUFFER_TOO_SMALL) {
-                const std::string_view now = (*this)[size() - 1].first;
-                if (parts > 0 && now == earlier) return;
-                parts++;
-                if ((parts & (parts - 1)) == 0) earlier = now;
-            }
+    using const_iterator = iterator;
+    Items(Kind kind, Bytes bytes, std::string_view prefix = {}) {
+        for (detail::Parts parts(kind, bytes, prefix); parts.next();) {
+            const size_t from = keys_.size();
+            keys_ += parts.keys();
+            for (size_t i = 0; i < parts.size(); i++) ends_.push_back(from + parts.ends()[i]);
+            values_.insert(values_.end(), parts.values(), parts.values() + parts.size());
         }
-        detail::check(status);
     }
-    size_t size() const { return ends_.size(); }
-    bool empty() const { return ends_.empty(); }
-    value_type operator[](size_t i) const {
+    [[nodiscard]] size_t size() const noexcept { return ends_.size(); }
+    [[nodiscard]] bool empty() const noexcept { return ends_.empty(); }
+    [[nodiscard]] value_type operator[](size_t i) const noexcept {
         const size_t from = i == 0 ? 0 : ends_[i - 1];
         return {std::string_view(keys_).substr(from, ends_[i] - from), values_[i]};
     }
-    iterator begin() const { return {this, 0}; }
-    iterator end() const { return {this, size()}; }
+    [[nodiscard]] iterator begin() const noexcept { return {this, 0}; }
+    [[nodiscard]] iterator end() const noexcept { return {this, static_cast<difference_type>(size())}; }
 
 private:
     std::string keys_;
@@ -172,40 +317,38 @@ private:
 class Trie {
 public:
     // The bytes are not tested; if they are no trie of the kind, each call answers something.
-    Trie(Kind kind, std::string_view bytes) : kind_(kind), bytes_(bytes) {}
-    template <class T, class = detail::Passing<T>> Trie(Kind, T &&) = delete;
+    constexpr Trie(Kind kind, Bytes bytes) noexcept : kind_(kind), bytes_(bytes.view()) {}
     // Tests the bytes. nullopt: they are no trie of the kind.
-    static std::optional<Trie> checked(Kind kind, std::string_view bytes) {
-        const auto at = detail::of(bytes);
+    [[nodiscard]] static std::optional<Trie> checked(Kind kind, Bytes bytes) noexcept {
+        const auto at = detail::of(bytes.view());
         if (!zerotrie_is_well_formed(static_cast<uint32_t>(kind), at.ptr, at.len)) return std::nullopt;
         return Trie(kind, bytes);
     }
-    template <class T, class = detail::Passing<T>> static std::optional<Trie> checked(Kind, T &&) = delete;
     // Of tagged bytes, which tell their kind; they are tested. nullopt: they have no tag of a kind, or are no trie of it.
-    static std::optional<Trie> from_tagged(std::string_view tagged) {
-        const auto at = detail::of(tagged);
+    [[nodiscard]] static std::optional<Trie> from_tagged(Bytes tagged) noexcept {
+        const auto at = detail::of(tagged.view());
         uint32_t kind = 0;
         zerotrie_bytes trie{};
         if (zerotrie_untagged(at.ptr, at.len, &kind, &trie) != ZEROTRIE_DONE) return std::nullopt;
         return checked(static_cast<Kind>(kind), detail::text_of(trie));
     }
-    template <class T, class = detail::Passing<T>> static std::optional<Trie> from_tagged(T &&) = delete;
-    Kind kind() const { return kind_; }
-    std::string_view bytes() const { return bytes_; }
+    [[nodiscard]] constexpr Kind kind() const noexcept { return kind_; }
+    [[nodiscard]] constexpr std::string_view bytes() const noexcept { return bytes_; }
     // The value of the key. nullopt: the trie has no such key.
-    std::optional<size_t> get(std::string_view key) const {
+    [[nodiscard]] std::optional<size_t> get(std::string_view key) const noexcept {
         const auto at = detail::of(bytes_), k = detail::of(key);
         size_t value = 0;
         if (!zerotrie_get(number(), at.ptr, at.len, k.ptr, k.len, &value)) return std::nullopt;
         return value;
     }
-    bool contains(std::string_view key) const { return get(key).has_value(); }
+    [[nodiscard]] bool contains(std::string_view key) const noexcept { return get(key).has_value(); }
     // The values of a range of keys, each of which makes a std::string_view, in its order, and `missing` for a key that the trie
     // hasn't. It copies the keys.
-    template <class Keys> std::vector<size_t> get_many(const Keys &keys, size_t missing) const {
+    template <class Keys = std::initializer_list<std::string_view>>
+    [[nodiscard]] std::vector<size_t> get_many(Keys &&keys, size_t missing) const {
         std::string text;
         std::vector<size_t> ends;
-        for (const auto &key : keys) text += std::string_view(key), ends.push_back(text.size());
+        for (auto &&key : keys) text += std::string_view(key), ends.push_back(text.size());
         std::vector<size_t> values(ends.size());
         // so that there is a place to point at
         ends.reserve(1), values.reserve(1);
@@ -215,7 +358,7 @@ public:
         return values;
     }
     // The longest key that the text begins with, as a view into the text, and its value. nullopt: it begins with no key.
-    std::optional<std::pair<std::string_view, size_t>> longest_prefix(std::string_view text) const {
+    [[nodiscard]] std::optional<std::pair<std::string_view, size_t>> longest_prefix(std::string_view text) const noexcept {
         const auto at = detail::of(bytes_), t = detail::of(text);
         size_t len = 0, value = 0;
         if (!zerotrie_longest_prefix(number(), at.ptr, at.len, t.ptr, t.len, &len, &value)) return std::nullopt;
@@ -224,72 +367,84 @@ public:
     template <class T, class = detail::Passing<T>>
     std::optional<std::pair<std::string_view, size_t>> longest_prefix(T &&) const = delete;
     // A cursor in front of all keys.
-    Cursor cursor() const { return Cursor(kind_, bytes_); }
+    [[nodiscard]] Cursor cursor() const noexcept { return Cursor(kind_, bytes_); }
     // A cursor after a prefix. nullopt: no key begins with it.
-    std::optional<Cursor> with_prefix(std::string_view prefix) const {
+    [[nodiscard]] std::optional<Cursor> with_prefix(std::string_view prefix) const noexcept {
         const auto at = detail::of(bytes_), p = detail::of(prefix);
-        zerotrie_cursor cursor;
+        zerotrie_cursor cursor{};
         if (!zerotrie_with_prefix(number(), at.ptr, at.len, p.ptr, p.len, &cursor)) return std::nullopt;
-        return Cursor(kind_, cursor);
+        return Cursor(cursor, kind_);
     }
-    // The pairs, or those whose keys begin with a prefix. Throws Error if the library is out of memory.
-    Items items(std::string_view prefix = {}) const { return Items(kind_, bytes_, prefix); }
+    // The pairs, or those whose keys begin with a prefix.
+    [[nodiscard]] Items items(std::string_view prefix = {}) const { return Items(kind_, bytes_, prefix); }
+    // Calls each(key, value) for these pairs in their order. They are listed a part at a time; a key is a view for the call alone.
+    template <class Each> void for_each(Each each, std::string_view prefix = {}) const {
+        for (detail::Parts parts(kind_, bytes_, prefix); parts.next();) {
+            for (size_t i = 0; i < parts.size(); i++) {
+                const auto [key, value] = parts[i];
+                each(key, value);
+            }
+        }
+    }
+    // Whether kinds and bytes are the same. Well-formed tries of an ASCII kind are so exactly if their pairs are.
+    friend constexpr bool operator==(const Trie &a, const Trie &b) noexcept { return a.kind_ == b.kind_ && a.bytes_ == b.bytes_; }
+    friend constexpr bool operator!=(const Trie &a, const Trie &b) noexcept { return !(a == b); }
 
 private:
-    uint32_t number() const { return static_cast<uint32_t>(kind_); }
+    uint32_t number() const noexcept { return static_cast<uint32_t>(kind_); }
     Kind kind_;
     std::string_view bytes_;
 };
 
-// Pairs as C has them, of any range whose elements have a key, which makes a std::string_view, and a value.
-template <class Pairs> std::vector<zerotrie_pair> pairs_of(const Pairs &pairs) {
-    using Item = decltype(*std::begin(pairs));
-    static_assert(std::is_lvalue_reference_v<Item> || std::is_trivially_destructible_v<Item>,
-                  "the range makes each pair anew, and its key would be gone: put the pairs into a container first");
-    std::vector<zerotrie_pair> items;
-    for (const auto &[key, value] : pairs) items.push_back({detail::of(std::string_view(key)), detail::number_of(value)});
-    items.reserve(1);
-    return items;
+// What a build takes if pairs are written into the call.
+using PairList = std::initializer_list<std::pair<std::string_view, size_t>>;
+
+// The bytes of the trie of pairs in any order: of a map, another range or a list whose elements have a key, which makes a
+// std::string_view, and a value.
+template <class Pairs = PairList> [[nodiscard]] std::string build(Kind kind, Pairs &&pairs) {
+    const detail::Pairs list(pairs);
+    return detail::written(list.most_bytes(), [&](uint8_t *out, size_t room, size_t *len) {
+        return zerotrie_build(static_cast<uint32_t>(kind), list.data(), list.size(), out, room, len);
+    });
 }
 
-// The bytes of the trie of pairs in any order. Throws Error.
-template <class Pairs> std::string build(Kind kind, const Pairs &pairs) {
-    const auto items = pairs_of(pairs);
-    size_t len = 16;
-    for (const auto &item : items) len += item.key.len + 4;
-    std::string out;
-    uint32_t status = ZEROTRIE_BUFFER_TOO_SMALL;
-    for (int turn = 0; turn < 2 && status == ZEROTRIE_BUFFER_TOO_SMALL; turn++) {
-        out.resize(len);
-        status = zerotrie_build(static_cast<uint32_t>(kind), items.data(), items.size(), detail::room(out), out.size(), &len);
-    }
-    detail::check(status);
-    out.resize(len);
-    return out;
+// The same of pairs whose keys already ascend by their bytes, as those of a std::map of std::string: nothing is sorted. Refused if
+// they don't.
+template <class Pairs = PairList> [[nodiscard]] std::string build_sorted(Kind kind, Pairs &&pairs) {
+    const detail::Pairs list(pairs);
+    return detail::written(list.most_bytes(), [&](uint8_t *out, size_t room, size_t *len) {
+        return zerotrie_build_sorted(static_cast<uint32_t>(kind), list.data(), list.size(), out, room, len);
+    });
+}
+
+// How many bytes build_sorted() of these pairs makes. It builds nothing.
+template <class Pairs = PairList> [[nodiscard]] size_t encoded_len(Kind kind, Pairs &&pairs) {
+    const detail::Pairs list(pairs);
+    size_t len = 0;
+    detail::check(zerotrie_encoded_len(static_cast<uint32_t>(kind), list.data(), list.size(), &len));
+    return len;
 }
 
 // The kind for pairs if you have no wish: SimpleAscii if all keys are ASCII and there are fewer than 512, else PerfectHash.
-template <class Pairs> Kind auto_kind(const Pairs &pairs) {
-    const auto items = pairs_of(pairs);
-    return static_cast<Kind>(zerotrie_auto_kind(items.data(), items.size()));
+template <class Pairs = PairList> [[nodiscard]] Kind auto_kind(Pairs &&pairs) {
+    const detail::Pairs list(pairs);
+    return static_cast<Kind>(zerotrie_auto_kind(list.data(), list.size()));
 }
 
 // Tagged bytes: the number of the kind, and then the bytes.
-inline std::string tagged(Kind kind, std::string_view bytes) {
-    const auto at = detail::of(bytes);
-    std::string out(bytes.size() + 1, '\0');
-    size_t len = 0;
-    detail::check(zerotrie_tagged(static_cast<uint32_t>(kind), at.ptr, at.len, detail::room(out), out.size(), &len));
-    return out;
+[[nodiscard]] inline std::string tagged(Kind kind, Bytes bytes) {
+    const auto at = detail::of(bytes.view());
+    return detail::written(at.len + 1, [&](uint8_t *out, size_t room, size_t *len) {
+        return zerotrie_tagged(static_cast<uint32_t>(kind), at.ptr, at.len, out, room, len);
+    });
 }
 
 // A map from two texts to numbers over the record of a dense table, which has to outlive it.
 class DenseTable {
 public:
-    explicit DenseTable(std::string_view record) : record_(record) {}
-    template <class T, class = detail::Passing<T>> explicit DenseTable(T &&) = delete;
+    explicit constexpr DenseTable(Bytes record) noexcept : record_(record.view()) {}
     // The value of a suffix under a prefix. nullopt: there is none. Throws Error if the bytes are no record.
-    std::optional<size_t> get(std::string_view prefix, std::string_view suffix) const {
+    [[nodiscard]] std::optional<size_t> get(std::string_view prefix, std::string_view suffix) const {
         const auto at = detail::of(record_), p = detail::of(prefix), s = detail::of(suffix);
         size_t value = 0;
         const uint32_t status = zerotrie_dense_get(at.ptr, at.len, p.ptr, p.len, s.ptr, s.len, &value);
@@ -303,12 +458,12 @@ private:
 };
 
 // The record of the dense table of rows: a range of prefixes, each with a range of suffixes and values, both ascending, as a
-// std::map of std::maps. Throws Error.
-template <class Rows> std::string build_dense(const Rows &rows, char delimiter) {
+// std::map of std::maps.
+template <class Rows> [[nodiscard]] std::string build_dense(Rows &&rows, char delimiter) {
     std::string prefixes, suffixes;
     std::vector<size_t> prefix_ends, suffix_ends, values;
-    for (const auto &[prefix, row] : rows) {
-        for (const auto &[suffix, value] : row) {
+    for (auto &&[prefix, row] : rows) {
+        for (auto &&[suffix, value] : row) {
             prefixes += std::string_view(prefix), suffixes += std::string_view(suffix);
             prefix_ends.push_back(prefixes.size()), suffix_ends.push_back(suffixes.size());
             values.push_back(detail::number_of(value));
@@ -318,17 +473,10 @@ template <class Rows> std::string build_dense(const Rows &rows, char delimiter) 
     // so that there is a place to point at
     prefix_ends.reserve(1), suffix_ends.reserve(1), values.reserve(1);
     const auto p = detail::of(prefixes), s = detail::of(suffixes);
-    size_t len = 64 + prefixes.size() + suffixes.size() + 8 * count;
-    std::string out;
-    uint32_t status = ZEROTRIE_BUFFER_TOO_SMALL;
-    for (int turn = 0; turn < 2 && status == ZEROTRIE_BUFFER_TOO_SMALL; turn++) {
-        out.resize(len);
-        status = zerotrie_dense_build(p.ptr, p.len, prefix_ends.data(), count, s.ptr, s.len, suffix_ends.data(), count,
-                                      values.data(), count, static_cast<uint8_t>(delimiter), detail::room(out), out.size(), &len);
-    }
-    detail::check(status);
-    out.resize(len);
-    return out;
+    return detail::written(64 + prefixes.size() + suffixes.size() + 8 * count, [&](uint8_t *out, size_t room, size_t *len) {
+        return zerotrie_dense_build(p.ptr, p.len, prefix_ends.data(), count, s.ptr, s.len, suffix_ends.data(), count, values.data(),
+                                    count, static_cast<uint8_t>(delimiter), out, room, len);
+    });
 }
 
 } // namespace zerotrie

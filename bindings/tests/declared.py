@@ -11,6 +11,11 @@ here, library = pathlib.Path(sys.argv[1]), sys.argv[2]
 NUMBERS = {"u8": 1, "u16": 2, "u32": 4, "usize": 8, "bool": "bool", "Bytes": 16, "Cursor": 32, "Pair": 24}
 C_NUMBERS = {"uint8_t": 1, "uint16_t": 2, "uint32_t": 4, "size_t": 8, "bool": "bool", "void": None,
              "zerotrie_bytes": 16, "zerotrie_cursor": 32, "zerotrie_pair": 24}
+#: what the texts of errors say to programs in other languages, in place of what they say to those in Rattle
+IN_OTHER_WORDS = {
+    "take one of this many bytes: {0}": "take a smaller one",
+    "take ZeroTrieExtendedCapacity, or fewer pairs": "take extended capacity, kind 7, or fewer pairs; a dense table has at most 65,535 suffixes",
+}
 
 
 def parts(text):
@@ -84,7 +89,9 @@ def statuses():
     assert len(texts) == len(set(numbers.values()) - {0}) + 1 == 18, (len(texts), numbers)
     errors = re.findall(r'#\[error\("(.*?)"\)\]\n\s+(\w+)', (here / "../crates/zerotrie_base/src/error.rt").read_text())
     for number, (text, name) in enumerate(errors, 1):
-        assert texts[number] == text.replace("take one of this many bytes: {0}", "take a smaller one"), (number, name, text, texts[number])
+        for word, instead in IN_OTHER_WORDS.items():
+            text = text.replace(word, instead)
+        assert texts[number] == text, (number, name, text, texts[number])
     records = dict(zip(("ZEROTRIE_RECORD_TRUNCATED", "ZEROTRIE_TRAILING_BYTES"),
                        re.findall(r'#\[error\("(.*?)"\)\]', (here / "../crates/zerotrie/src/dense/record.rt").read_text())))
     assert len(records) == 2 and all(texts[numbers[name]] == text for name, text in records.items())

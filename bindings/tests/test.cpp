@@ -1,13 +1,21 @@
 // The C++ view, and random calls through C against a std::map. Argument: how many calls (1,000,000 if left out).
 #include "zerotrie.hpp"
 
+#include <array>
 #include <cstdio>
 #include <cstdlib>
+#include <iterator>
 #include <map>
+#include <memory_resource>
 #include <random>
+#include <sstream>
+#if __cplusplus >= 202002L
+#include <ranges>
+#endif
 
 #define CHECK(what) do { if (!(what)) { std::fprintf(stderr, "%s:%d: %s\n", __FILE__, __LINE__, #what); std::exit(1); } } while (0)
 
+using namespace std::literals;
 using zerotrie::Kind;
 using Map = std::map<std::string, size_t>;
 static std::mt19937_64 random_number(7);
@@ -68,6 +76,87 @@ static void against_a_map(size_t calls) {
     }
 }
 
+// A line of text, as an std::istream_iterator has it: the object is the iterator's own.
+struct Row {
+    std::string key;
+    int value = 0;
+};
+static std::istream &operator>>(std::istream &in, Row &row) { return in >> row.key >> row.value; }
+struct Rows {
+    std::istream &in;
+    std::istream_iterator<Row> begin() const { return std::istream_iterator<Row>(in); }
+    std::istream_iterator<Row> end() const { return {}; }
+};
+
+// Keys that would be gone once they were read are copied.
+static void keys_that_go() {
+    const std::string want = zerotrie::build(Kind::SimpleAscii, {{"a key that is longer than most", 1}, {"b", 2}, {"c", 3}});
+    std::istringstream text("b 2 c 3");
+    CHECK(zerotrie::build(Kind::SimpleAscii, Rows{text}) == zerotrie::build(Kind::SimpleAscii, {{"b", 2}, {"c", 3}}));
+    CHECK(zerotrie::build(Kind::SimpleAscii, zerotrie::Trie(Kind::SimpleAscii, want).items()) == want);
+#if __cplusplus >= 202002L
+    const auto made = std::views::iota(0, 3) | std::views::transform([](int n) {
+        return std::pair(n == 0 ? "a key that is longer than most"s : std::string(1, static_cast<char>('a' + n)), n + 1);
+    });
+    CHECK(zerotrie::build(Kind::SimpleAscii, made) == want);
+    const Map map{{"a key that is longer than most", 1}, {"b", 2}, {"c", 3}};
+    CHECK(zerotrie::build(Kind::SimpleAscii, map | std::views::filter([](const auto &) { return true; })) == want);
+    static_assert(std::ranges::random_access_range<const zerotrie::Items>);
+    const auto items = zerotrie::Trie(Kind::SimpleAscii, want).items();
+    CHECK(std::ranges::max_element(items, {}, [](auto pair) { return pair.second; }) == items.end() - 1);
+#endif
+}
+
+// What makes the bytes of a trie, and what does not, since it would be gone or end at its first zero.
+static void bytes_that_stay() {
+    using zerotrie::Trie;
+    static_assert(std::is_constructible_v<Trie, Kind, const std::string &>);
+    static_assert(std::is_constructible_v<Trie, Kind, std::string_view>);
+    static_assert(std::is_constructible_v<Trie, Kind, const std::pmr::string &>);
+    static_assert(std::is_constructible_v<Trie, Kind, std::vector<uint8_t> &>);
+    static_assert(std::is_constructible_v<Trie, Kind, const std::vector<std::byte> &>);
+    static_assert(std::is_constructible_v<Trie, Kind, const std::array<uint8_t, 2> &>);
+    static_assert(std::is_constructible_v<Trie, Kind, const uint8_t (&)[2]>);
+    static_assert(!std::is_constructible_v<Trie, Kind, std::string>);
+    static_assert(!std::is_constructible_v<Trie, Kind, const std::string>);
+    static_assert(!std::is_constructible_v<Trie, Kind, std::pmr::string>);
+    static_assert(!std::is_constructible_v<Trie, Kind, std::vector<uint8_t>>);
+    static_assert(!std::is_constructible_v<Trie, Kind, std::array<uint8_t, 2>>);
+    static_assert(!std::is_constructible_v<Trie, Kind, const char *>);
+    static_assert(!std::is_constructible_v<Trie, Kind, const char (&)[2]>);
+    static_assert(!std::is_constructible_v<Trie, Kind, const std::vector<int> &>);
+    static_assert(!std::is_constructible_v<zerotrie::DenseTable, std::string>);
+#if __cplusplus >= 202002L
+    static_assert(std::is_constructible_v<Trie, Kind, std::span<const uint8_t>>);
+    static_assert(std::is_constructible_v<Trie, Kind, std::span<const std::byte>>);
+#endif
+    // the key "a" with the value 16, whose bytes hold a zero, and tagged bytes, which begin with one
+    static const uint8_t array[] = {'a', 0x90, 0x00};
+    static constexpr Trie trie(Kind::SimpleAscii, "a\x90\x00"sv);
+    static_assert(noexcept(trie.get("a"sv)) && trie == Trie(Kind::SimpleAscii, "a\x90\x00"sv));
+    CHECK(trie.get("a") == 16 && trie == Trie(Kind::SimpleAscii, array) && trie == Trie(Kind::SimpleAscii, {array, sizeof array}));
+    CHECK(trie != Trie(Kind::PerfectHash, array) && trie != Trie(Kind::SimpleAscii, {}));
+    CHECK(zerotrie::Trie::from_tagged("\0a\x90\x00"sv) == trie);
+    CHECK(zerotrie::Cursor(Kind::SimpleAscii, {}).is_empty() && !zerotrie::Cursor(Kind::SimpleAscii, array).is_empty());
+}
+
+// Routes of a build, and values that are too large or too small.
+static void builds(const Map &map, const std::string &bytes) {
+    CHECK(zerotrie::build(Kind::SimpleAscii, {{"foo", 1}, {"bazzoo", 3}, {"bar", 2}}) == bytes);
+    CHECK(zerotrie::build_sorted(Kind::SimpleAscii, map) == bytes && zerotrie::encoded_len(Kind::SimpleAscii, map) == bytes.size());
+    try {
+        CHECK(zerotrie::build_sorted(Kind::SimpleAscii, {{"b", 1}, {"a", 2}}).empty());
+        CHECK(false);
+    } catch (const zerotrie::Error &error) {
+        CHECK(error.status == ZEROTRIE_UNSORTED);
+    }
+    try {
+        CHECK(zerotrie::build(Kind::SimpleAscii, std::map<std::string, int>{{"a", -1}}).empty());
+        CHECK(false);
+    } catch (const std::out_of_range &) {
+    }
+}
+
 // Whether longest_prefix takes a string that ends with the statement, into which it would hand out a view.
 template <class T, class = void> struct takes_passing_text : std::false_type {};
 template <class T>
@@ -78,45 +167,41 @@ int main(int count, char **arguments) {
     const std::string bytes = zerotrie::build(Kind::SimpleAscii, map);
     const auto trie = zerotrie::Trie::checked(Kind::SimpleAscii, bytes);
     CHECK(trie && bytes.size() == 17 && trie->get("bar") == 2 && !trie->contains("ba"));
-    CHECK(!zerotrie::Trie::checked(Kind::SimpleAscii, "into"));
+    CHECK(!zerotrie::Trie::checked(Kind::SimpleAscii, "into"sv));
     CHECK(zerotrie::auto_kind(map) == Kind::SimpleAscii);
     const std::string tagged = zerotrie::tagged(Kind::SimpleAscii, bytes);
-    CHECK(tagged.size() == 18 && zerotrie::Trie::from_tagged(tagged)->get("foo") == 1 && !zerotrie::Trie::from_tagged("\5"));
+    CHECK(tagged.size() == 18 && zerotrie::Trie::from_tagged(tagged)->get("foo") == 1 && !zerotrie::Trie::from_tagged("\5"sv));
     const auto items = trie->items("ba");
     CHECK(items.size() == 2 && (*items.begin()).first == "bar" && items.begin()->second == 2 && items[1].second == 3);
+    CHECK(items.begin()[1].first == "bazzoo" && items.end() - items.begin() == 2 && (items.end() - 1)->second == 3);
+    std::string listed;
+    trie->for_each([&](std::string_view key, size_t value) { listed += std::string(key) + std::to_string(value); }, "ba");
+    CHECK(listed == "bar2bazzoo3");
     CHECK(zerotrie::build(Kind::SimpleAscii, items) == zerotrie::build(Kind::SimpleAscii, Map{{"bar", 2}, {"bazzoo", 3}}));
     // bytes that are no trie, of which each byte is a value of the empty key: their listing ends
     const std::string hostile(300000, '\x81');
     CHECK(!zerotrie::Trie(Kind::SimpleAscii, hostile).items().empty());
     CHECK(zerotrie::Trie(Kind::SimpleAscii, {}).items().empty());
-    CHECK((trie->get_many(std::vector<const char *>{"bar", "ba", ""}, 0) == std::vector<size_t>{2, 0, 0}));
+    CHECK((trie->get_many({"bar", "ba", ""}, 0) == std::vector<size_t>{2, 0, 0}));
     CHECK(trie->get_many(std::vector<std::string>{}, 0).empty());
     try {
-        zerotrie::build(Kind::SimpleAscii, std::vector<std::pair<const char *, int>>{{"a", 1}, {"a", 2}});
+        CHECK(zerotrie::build(Kind::SimpleAscii, std::vector<std::pair<const char *, int>>{{"a", 1}, {"a", 2}}).empty());
         CHECK(false);
     } catch (const zerotrie::Error &error) {
         CHECK(error.status == ZEROTRIE_DUPLICATE_KEY && std::string(error.what()) == "a key was given twice: give each key once");
     }
-    try {
-        zerotrie::build(Kind::SimpleAscii, std::map<std::string, int>{{"a", -1}});
-        CHECK(false);
-    } catch (const std::out_of_range &) {
-    }
+    builds(map, bytes);
+    keys_that_go();
+    bytes_that_stay();
     const std::map<std::string, Map> rows{{"de", {{"AT", 8}, {"CH", 9}}}, {"en", {{"US", 5}}}};
     const std::string record = zerotrie::build_dense(rows, '/');
     const zerotrie::DenseTable table(record);
     CHECK(table.get("de", "CH") == 9 && table.get("en", "US") == 5 && !table.get("en", "AT") && !table.get("CH", "de"));
     const std::string no_rows = zerotrie::build_dense(std::map<std::string, Map>{}, '/');
     CHECK(!zerotrie::DenseTable(no_rows).get("", ""));
-    // a view of a string that ends with the statement is no call
-    static_assert(std::is_constructible_v<zerotrie::Trie, Kind, const std::string &>);
-    static_assert(std::is_constructible_v<zerotrie::Trie, Kind, const char *>);
-    static_assert(!std::is_constructible_v<zerotrie::Trie, Kind, std::string>);
-    static_assert(!std::is_constructible_v<zerotrie::Trie, Kind, const std::string>);
-    static_assert(!std::is_constructible_v<zerotrie::DenseTable, std::string>);
     static_assert(!takes_passing_text<zerotrie::Trie>::value);
     try {
-        zerotrie::DenseTable(std::string_view(record).substr(1)).get("de", "CH");
+        CHECK(!zerotrie::DenseTable(std::string_view(record).substr(1)).get("de", "CH"));
         CHECK(false);
     } catch (const zerotrie::Error &error) {
         CHECK(error.status == ZEROTRIE_RECORD_TRUNCATED || error.status == ZEROTRIE_TRAILING_BYTES);

@@ -67,7 +67,7 @@ impl Kind {
 pub enum Error {
     /// A key holds a byte of 128 or more, and the kind is for ASCII alone.
     NonAscii,
-    /// A branch would reach 2^32 bytes, or the trie 2^64.
+    /// A branch would reach 2^32 bytes, or the trie 2^64; or a dense table would have more than 65,535 suffixes.
     CapacityExceeded,
     /// No perfect hash was found for the edges of a branch.
     NoPerfectHash,
@@ -91,7 +91,7 @@ pub enum Error {
     TrailingBytes,
     /// The bytes are no trie of the kind.
     NotWellFormed,
-    /// A number that this crate doesn't know, as of another library.
+    /// A status that this crate doesn't know, such as one of a newer library.
     Unknown(u32),
 }
 
@@ -591,8 +591,8 @@ pub fn build<K: AsRef<[u8]>>(kind: Kind, pairs: impl IntoIterator<Item = (K, usi
     built(kind, &pairs, ffi::zerotrie_build)
 }
 
-/// The bytes of the trie of pairs whose keys ascend strictly by their bytes, which need not be sorted. `Unsorted` if they
-/// don't ascend.
+/// The bytes of the trie of pairs whose keys already ascend strictly by their bytes, so nothing is sorted. `Unsorted` if they
+/// don't.
 pub fn build_sorted<K: AsRef<[u8]>>(kind: Kind, pairs: &[(K, usize)]) -> Result<Vec<u8>, Error> {
     built(kind, pairs, ffi::zerotrie_build_sorted)
 }

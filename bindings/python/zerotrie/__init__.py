@@ -7,7 +7,7 @@
     {b'bar': 2, b'bazzoo': 3}
 
 A trie is a read-only Mapping from bytes to numbers, which lies in anything that lends bytes: `bytes`, a `memoryview`, an
-`mmap.mmap`. Nothing is copied, so one file can serve many processes:
+`mmap.mmap`. It is read where it lies, so one file can serve many processes:
 
     >>> import pathlib, tempfile
     >>> path = pathlib.Path(tempfile.mkdtemp(), "names.trie")
@@ -16,10 +16,14 @@ A trie is a read-only Mapping from bytes to numbers, which lies in anything that
     >>> ZeroTrie.open(path)["foo"]
     1
 
-Keys are bytes, or text, which stands for its UTF-8; what is listed is bytes. Values are from 0 to 2**64 - 1. Many threads may ask one
-trie at once, and a call lets other threads run; a Cursor is for one thread at a time.
+to_tagged() and pickle copy all bytes of a trie; so do bytes(trie) and copy.deepcopy(), unless it was given `bytes`. No other call
+of a trie does: a look-up copies the key if it isn't `bytes`, get_many() all keys, and a listing what it lists.
 
-The library is found by the variable ZEROTRIE_SO, else beside this file, else where bindings/make leaves it, else by the system's loader.
+Keys are bytes, or text, which stands for its UTF-8; what is listed is bytes. Values are from 0 to 2**64 - 1. Many threads may ask
+one trie at once, and a call lets other threads run; a Cursor is for one thread at a time.
+
+The library is found by the variable ZEROTRIE_SO, else in this folder, else where bindings/make leaves it, else by the system's
+loader.
 """
 
 from __future__ import annotations
@@ -28,24 +32,44 @@ import array
 import ctypes
 import itertools
 import mmap
+import operator
 import os
 from collections.abc import Iterable, Iterator, Mapping
-from ctypes import POINTER, Structure, c_bool, c_char_p, c_size_t, c_uint8, c_uint16, c_uint32, c_void_p
-from typing import Any, Optional, TypeVar, Union, overload
+from copy import deepcopy
+from ctypes import POINTER, Structure, c_bool, c_char_p, c_int, c_size_t, c_uint8, c_uint16, c_uint32, c_void_p, py_object
+from typing import Any, NoReturn, Optional, TypeVar, Union, overload
 
 __all__ = [
     "SIMPLE_ASCII", "PERFECT_HASH", "EXTENDED_CAPACITY", "IGNORE_CASE",
-    "Cursor", "DenseTable", "ZeroTrie", "ZeroTrieError", "auto_kind", "build", "build_dense", "encoded_len", "tagged",
+    "Cursor", "DenseTable", "ZeroTrie", "ZeroTrieError",
+    "auto_kind", "build", "build_dense", "build_sorted", "encoded_len", "tagged",
 ]
 
 Key = Union[str, bytes, bytearray, memoryview]
 Pairs = Union[Mapping[Any, int], Iterable["tuple[Key, int]"]]
 Other = TypeVar("Other")
+Place = TypeVar("Place", bound="Cursor")
+Trie = TypeVar("Trie", bound="ZeroTrie")
 
 #: The kinds of trie, by the numbers of tagged bytes.
-SIMPLE_ASCII, PERFECT_HASH, EXTENDED_CAPACITY, IGNORE_CASE = 0, 3, 7, 8
+SIMPLE_ASCII, PERFECT_HASH, EXTENDED_CAPACITY, IGNORE_CASE = _KINDS = 0, 3, 7, 8
 
-_DONE, _TOO_SMALL, _NO_MEMORY, _NO_ENTRY = 0, 8, 11, 15
+_DONE, _TOO_SMALL, _NO_MEMORY, _UNKNOWN_KIND, _NO_ENTRY = 0, 8, 11, 12, 15
+_HASHED_AT_ONCE = 1 << 16
+
+
+def _remade(cls: type[Other], base: Any, *arguments: Any) -> Other:
+    """What copies and pickles make: an object of the class, set up by `base`, as a subclass may want other arguments."""
+    made = cls.__new__(cls)
+    base.__init__(made, *arguments)
+    return made
+
+
+def _with_attributes(made: Other, of: Other) -> Other:
+    """The object, with the attributes that a subclass gave to the other one."""
+    if hasattr(of, "__dict__"):
+        made.__dict__.update(of.__dict__)
+    return made
 
 
 class ZeroTrieError(ValueError):
@@ -57,8 +81,8 @@ class ZeroTrieError(ValueError):
         super().__init__(ctypes.string_at(text.ptr, text.len - 1).decode())
         self.status = status
 
-    def __reduce__(self) -> tuple[type, tuple[int]]:
-        return ZeroTrieError, (self.status,)
+    def __reduce__(self) -> tuple[Any, ...]:
+        return _remade, (type(self), ZeroTrieError, self.status), self.__dict__
 
 
 class _Bytes(Structure):
@@ -112,19 +136,22 @@ _DECLARED = {
 
 def _load() -> ctypes.CDLL:
     here = os.path.dirname(os.path.abspath(__file__))
-    near = [os.path.join(here, "libzerotrie.so"), os.path.join(here, os.pardir, "build", "libzerotrie.so")]
+    near = [os.path.join(here, "libzerotrie.so"), os.path.join(here, "../../build/libzerotrie.so")]
     found = [os.environ.get("ZEROTRIE_SO", ""), *filter(os.path.exists, near), "libzerotrie.so.0"]
     try:
         lib = ctypes.CDLL(next(filter(None, found)))
     except OSError as error:
         raise ImportError(f"{error}: run bindings/make, or name libzerotrie.so in ZEROTRIE_SO") from error
     for name, (result, arguments) in _DECLARED.items():
-        function = getattr(lib, name)
+        function = getattr(lib, name, None)
+        if function is None:
+            raise ImportError(f"{lib._name} is too old, as it has no function {name}: run bindings/make again")
         function.restype, function.argtypes = result, arguments
     return lib
 
 
 _lib = _load()
+_NOTHING = ctypes.cast(c_char_p(b""), c_void_p)
 
 
 def _key(key: Key) -> bytes:
@@ -139,6 +166,13 @@ def _number(number: int, bits: int, what: str) -> int:
     if not 0 <= number < 1 << bits:
         raise OverflowError(f"{what} is from 0 to 2**{bits} - 1")
     return number
+
+
+def _known(kind: int) -> int:
+    kind = operator.index(_number(kind, 32, "a kind"))
+    if kind not in _KINDS:
+        raise ZeroTrieError(_UNKNOWN_KIND)
+    return kind
 
 
 def _raw_pairs(pairs: Pairs) -> "ctypes.Array[_Pair]":
@@ -158,8 +192,23 @@ def _check(status: int) -> None:
         raise ZeroTrieError(status)
 
 
+def _built(write: Any, pairs: Pairs, kind: Optional[int]) -> tuple[bytes, int]:
+    """What a function of the library builds of the pairs, and the kind, which is that of auto_kind() if it is None."""
+    raw = _raw_pairs(pairs)
+    kind = _lib.zerotrie_auto_kind(raw, raw.count) if kind is None else _number(kind, 32, "a kind")
+    length = c_size_t(sum(pair.key.len + 4 for pair in raw))
+    for _ in range(2):
+        room = (c_uint8 * max(1, length.value))()
+        status = write(kind, raw, raw.count, room, len(room), length)
+        if status != _TOO_SMALL:
+            break
+    _check(status)
+    return bytes(memoryview(room)[: length.value]), kind
+
+
 def build(pairs: Pairs, kind: Optional[int] = None) -> bytes:
-    """The bytes of the trie of pairs in any order, or of a mapping. With no kind it is that of auto_kind().
+    """The bytes of the trie of pairs in any order, or of a mapping. With no kind it is that of auto_kind(). What the library writes
+    is copied once; keys that are `bytes` are not.
 
     ZeroTrieError if a key comes twice or is none of the kind, OverflowError if a value is out of range.
 
@@ -167,16 +216,17 @@ def build(pairs: Pairs, kind: Optional[int] = None) -> bytes:
     Traceback (most recent call last):
     zerotrie.ZeroTrieError: a key was given twice: give each key once
     """
-    raw = _raw_pairs(pairs)
-    kind = _lib.zerotrie_auto_kind(raw, raw.count) if kind is None else _number(kind, 32, "a kind")
-    length = c_size_t(sum(pair.key.len + 4 for pair in raw))
-    for _ in range(2):
-        room = (c_uint8 * max(1, length.value))()
-        status = _lib.zerotrie_build(kind, raw, raw.count, room, len(room), length)
-        if status != _TOO_SMALL:
-            break
-    _check(status)
-    return bytes(memoryview(room)[: length.value])
+    return _built(_lib.zerotrie_build, pairs, kind)[0]
+
+
+def build_sorted(pairs: Pairs, kind: Optional[int] = None) -> bytes:
+    """As build(), but of pairs whose keys ascend by their bytes, which are not sorted; ZeroTrieError if they don't.
+
+    >>> build_sorted([("b", 1), ("a", 2)])
+    Traceback (most recent call last):
+    zerotrie.ZeroTrieError: the keys do not ascend: sort them by their bytes, each once
+    """
+    return _built(_lib.zerotrie_build_sorted, pairs, kind)[0]
 
 
 def auto_kind(pairs: Pairs) -> int:
@@ -192,39 +242,39 @@ def encoded_len(pairs: Pairs, kind: int) -> int:
     return length.value
 
 
-def tagged(data: bytes, kind: int) -> bytes:
-    """Tagged bytes: the number of the kind, then the bytes. ZeroTrie.open() and from_tagged() read them."""
-    data = bytes(memoryview(data))
-    room, length = (c_uint8 * (len(data) + 1))(), c_size_t()
-    lent = ctypes.cast(ctypes.c_char_p(data), c_void_p)
-    _check(_lib.zerotrie_tagged(_number(kind, 32, "a kind"), lent, len(data), room, len(room), length))
-    return bytes(room)
+def tagged(data: Any, kind: int) -> bytes:
+    """Tagged bytes: the number of the kind, then the bytes, which it copies once. ZeroTrie.open() and from_tagged() read them."""
+    view, tag, length = memoryview(data), (c_uint8 * 1)(), c_size_t()
+    # the library writes the tag alone: what else it wrote would be copied once more, into an object
+    _check(_lib.zerotrie_tagged(_number(kind, 32, "a kind"), _NOTHING, 0, tag, len(tag), length))
+    return b"".join((tag, view if view.c_contiguous else bytes(view)))
 
 
 class Cursor:
-    r"""A place in a trie, between two bytes of keys: cursor() of a trie makes one.
+    r"""A place in a trie, between two bytes of keys: cursor() of a trie makes one. It keeps the bytes in use, as the trie does.
 
     >>> cursor = ZeroTrie(b"a\x85b\x86").cursor()
     >>> cursor.step(ord("a")), cursor.take_value(), cursor.probe(0), cursor.take_value()
     (97, 5, (98, 1), 6)
     """
 
-    __slots__ = ("_trie", "_raw")
+    __slots__ = ("_kind", "_view", "_raw")
 
     def __init__(self, trie: ZeroTrie) -> None:
-        self._trie, self._raw = trie, _Cursor()
+        # the view holds the bytes, whatever becomes of the trie
+        self._kind, self._view, self._raw = trie._kind, trie._view, _Cursor()
         _lib.zerotrie_cursor_new(trie._at, trie._len, self._raw)
 
     def step(self, byte: int) -> Optional[int]:
         """Goes along the edge that is the byte to the kind, and answers its byte as it is stored. None: nothing is left."""
         edge = c_uint8()
-        found = _lib.zerotrie_cursor_step(self._trie.kind, self._raw, _number(byte, 8, "a byte"), edge)
+        found = _lib.zerotrie_cursor_step(self._kind, self._raw, _number(byte, 8, "a byte"), edge)
         return edge.value if found else None
 
     def probe(self, index: int) -> Optional[tuple[int, int]]:
         """Goes along edge number `index`, from 0, and answers its byte and how many edges there are. None: nothing is left."""
         edge, siblings = c_uint8(), c_uint16()
-        found = _lib.zerotrie_cursor_probe(self._trie.kind, self._raw, _number(index, 64, "an index"), edge, siblings)
+        found = _lib.zerotrie_cursor_probe(self._kind, self._raw, _number(index, 64, "an index"), edge, siblings)
         return (edge.value, siblings.value) if found else None
 
     def take_value(self) -> Optional[int]:
@@ -237,13 +287,23 @@ class Cursor:
         """What is left of the span that it stands in: each key goes on with it. Empty outside of spans."""
         return ctypes.string_at(self._raw.run.ptr, self._raw.run.len)
 
-    def copy(self) -> Cursor:
-        """A cursor of its own at the same place."""
-        made = Cursor.__new__(Cursor)
-        made._trie, made._raw = self._trie, _Cursor.from_buffer_copy(self._raw)
-        return made
+    def copy(self: Place) -> Place:
+        """A cursor of its own at the same place, over the same bytes."""
+        made = type(self).__new__(type(self))
+        made._kind, made._view, made._raw = self._kind, self._view, _Cursor.from_buffer_copy(self._raw)
+        return _with_attributes(made, self)
 
     __copy__ = copy
+
+    def __deepcopy__(self: Place, memo: dict[int, Any]) -> Place:
+        """What copy() answers: two cursors can share the bytes, as nobody changes them."""
+        memo[id(self)] = made = self.copy()
+        if hasattr(self, "__dict__"):
+            made.__dict__.update(deepcopy(self.__dict__, memo))
+        return made
+
+    def __reduce__(self) -> NoReturn:
+        raise TypeError("a cursor is a place in memory, which no pickle can hold: pickle its trie")
 
     def __bool__(self) -> bool:
         """Whether some key goes on from here, or ends here."""
@@ -253,21 +313,22 @@ class Cursor:
 class ZeroTrie(Mapping[bytes, int]):
     """A read-only map from byte strings to numbers, over bytes that are not copied.
 
-    The bytes are those of build(), or of a file. They stay in use as long as the trie is: don't change them. Unless `check` is false,
-    they are tested first: ValueError if they are no trie of the kind.
+    The bytes are those of build(), or of a file. They stay in use as long as the trie is: don't change them. Unless `check` is
+    false, they are tested first: ValueError if they are no trie of the kind. ZeroTrieError if the number is that of no kind.
 
-    It is a Mapping, whose items(), keys() and values() are iterators, in the order of the bytes. len() lists all pairs. Two tries are
-    equal if their kinds and their bytes are.
+    It is a Mapping, whose items(), keys() and values() are iterators, in the order of the bytes. len() lists all pairs. Two tries
+    are equal if their kinds and their bytes are. The first hash() of a trie reads all bytes, a later one none.
     """
 
-    __slots__ = ("kind", "_data", "_view", "_at", "_len", "__weakref__")
+    __slots__ = ("_kind", "_data", "_view", "_at", "_len", "_hash", "__weakref__")
 
     def __init__(self, data: Any, kind: int = SIMPLE_ASCII, check: bool = True) -> None:
-        self.kind, self._data = _number(kind, 32, "a kind"), data
+        self._kind, self._data = _known(kind), data
         self._view = memoryview(data).cast("B")
         self._len = len(self._view)
+        self._hash: Optional[int] = None
         if not self._len:
-            self._at = ctypes.cast(c_char_p(b""), c_void_p)
+            self._at = _NOTHING
         elif type(data) is bytes:
             self._at = ctypes.cast(c_char_p(data), c_void_p)
         elif self._view.readonly:
@@ -279,32 +340,36 @@ class ZeroTrie(Mapping[bytes, int]):
             raise ValueError("the bytes are no trie of the kind")
 
     @classmethod
-    def build(cls, pairs: Pairs, kind: Optional[int] = None) -> ZeroTrie:
+    def build(cls: type[Trie], pairs: Pairs, kind: Optional[int] = None) -> Trie:
         """The trie of pairs in any order, or of a mapping, as build() makes it."""
-        raw = list(pairs.items() if isinstance(pairs, Mapping) else pairs)
-        kind = auto_kind(raw) if kind is None else kind
-        return cls(build(raw, kind), kind, check=False)
+        data, kind = _built(_lib.zerotrie_build, pairs, kind)
+        return cls(data, kind, check=False)
 
     @classmethod
-    def from_tagged(cls, data: Any, check: bool = True) -> ZeroTrie:
-        """The trie of tagged bytes, which tell their kind. ZeroTrieError if they have no tag of a kind."""
+    def from_tagged(cls: type[Trie], data: Any, check: bool = True) -> Trie:
+        """The trie of tagged bytes, which tell their kind, read where they lie. ZeroTrieError if they have no tag of a kind."""
         view = memoryview(data).cast("B")
         first = bytes(view[:1])
         kind, part = c_uint32(), _Part()
         _check(_lib.zerotrie_untagged(ctypes.cast(c_char_p(first), c_void_p), len(first), kind, part))
-        return cls(data[1:] if type(data) is bytes else view[1:], kind.value, check)
+        return cls(view[1:], kind.value, check)
 
     @classmethod
-    def open(cls, path: Any, kind: Optional[int] = None, check: bool = True) -> ZeroTrie:
-        """The trie that a file holds, mapped into memory: tagged bytes, as `zerotrie build` writes them, or, with a kind, the trie alone."""
+    def open(cls: type[Trie], path: Any, kind: Optional[int] = None, check: bool = True) -> Trie:
+        """The trie of a file, mapped into memory: tagged bytes, as `zerotrie build` writes them, or with a kind the trie alone."""
         with open(path, "rb") as file:
             size = os.fstat(file.fileno()).st_size
             data: Any = mmap.mmap(file.fileno(), 0, access=mmap.ACCESS_READ) if size else file.read()
         return cls.from_tagged(data, check) if kind is None else cls(data, kind, check)
 
+    @property
+    def kind(self) -> int:
+        """The number of the kind."""
+        return self._kind
+
     def is_well_formed(self) -> bool:
         """Whether the bytes are a trie of the kind, every rule of the format kept."""
-        return _lib.zerotrie_is_well_formed(self.kind, self._at, self._len)
+        return _lib.zerotrie_is_well_formed(self._kind, self._at, self._len)
 
     @overload  # type: ignore[override]
     def get(self, key: Key) -> Optional[int]: ...
@@ -313,7 +378,7 @@ class ZeroTrie(Mapping[bytes, int]):
     def get(self, key: Key, default: Any = None) -> Any:
         """The value of the key, or `default`."""
         text, value = _key(key), c_size_t()
-        found = _lib.zerotrie_get(self.kind, self._at, self._len, text, len(text), value)
+        found = _lib.zerotrie_get(self._kind, self._at, self._len, text, len(text), value)
         return value.value if found else default
 
     def get_many(self, keys: Iterable[Key], missing: int = (1 << 64) - 1) -> array.array:
@@ -328,19 +393,19 @@ class ZeroTrie(Mapping[bytes, int]):
         ends = array.array("Q", itertools.accumulate(map(len, texts)))
         values = array.array("Q", bytes(8 * len(texts)))
         sizes = c_size_t * len(texts)
-        _check(_lib.zerotrie_get_many(self.kind, self._at, self._len, b"".join(texts), ends[-1], sizes.from_buffer(ends), len(texts),
-                                      _number(missing, 64, "missing"), sizes.from_buffer(values), len(texts)))
+        _check(_lib.zerotrie_get_many(self._kind, self._at, self._len, b"".join(texts), ends[-1], sizes.from_buffer(ends),
+                                      len(texts), _number(missing, 64, "missing"), sizes.from_buffer(values), len(texts)))
         return values
 
     def longest_prefix(self, text: Key) -> Optional[tuple[bytes, int]]:
         """The longest key that the text begins with, and its value. None: it begins with no key."""
         text, length, value = _key(text), c_size_t(), c_size_t()
-        found = _lib.zerotrie_longest_prefix(self.kind, self._at, self._len, text, len(text), length, value)
+        found = _lib.zerotrie_longest_prefix(self._kind, self._at, self._len, text, len(text), length, value)
         return (text[: length.value], value.value) if found else None
 
     def __getitem__(self, key: Key) -> int:
         text, value = _key(key), c_size_t()
-        if not _lib.zerotrie_get(self.kind, self._at, self._len, text, len(text), value):
+        if not _lib.zerotrie_get(self._kind, self._at, self._len, text, len(text), value):
             raise KeyError(key)
         return value.value
 
@@ -354,7 +419,7 @@ class ZeroTrie(Mapping[bytes, int]):
     def with_prefix(self, prefix: Key) -> Optional[Cursor]:
         """A cursor after a prefix. None if no key begins with it."""
         cursor, text = Cursor(self), _key(prefix)
-        found = _lib.zerotrie_with_prefix(self.kind, self._at, self._len, text, len(text), cursor._raw)
+        found = _lib.zerotrie_with_prefix(self._kind, self._at, self._len, text, len(text), cursor._raw)
         return cursor if found else None
 
     def _parts(self, prefix: Key) -> Iterator[tuple[bytes, Any, Any, int]]:
@@ -366,7 +431,7 @@ class ZeroTrie(Mapping[bytes, int]):
         left = self._len + 1
         while status == _TOO_SMALL and left > 0:
             keys, ends, values = (c_uint8 * room)(), (c_size_t * places)(), (c_size_t * places)()
-            status = _lib.zerotrie_list_some(self.kind, self._at, self._len, front, len(front), goes_on, last, len(last),
+            status = _lib.zerotrie_list_some(self._kind, self._at, self._len, front, len(front), goes_on, last, len(last),
                                              keys, room, ends, places, values, places, count, next_len)
             if status != _TOO_SMALL:
                 _check(status)
@@ -406,35 +471,40 @@ class ZeroTrie(Mapping[bytes, int]):
         return self._len > 0
 
     def __bytes__(self) -> bytes:
-        """The bytes of the trie."""
-        return bytes(self._view)
+        """The bytes of the trie: what was given, if it is `bytes`, and else a copy."""
+        return self._data if type(self._data) is bytes else bytes(self._view)
 
     def to_tagged(self) -> bytes:
-        """Tagged bytes: the number of the kind, then the bytes."""
-        return tagged(bytes(self._view), self.kind)
+        """Tagged bytes: the number of the kind, then the bytes, which it copies once."""
+        return tagged(self._view, self._kind)
 
     def __eq__(self, other: object) -> bool:
         if not isinstance(other, ZeroTrie):
             return NotImplemented
-        return (self.kind, self._view) == (other.kind, other._view)
+        return (self._kind, self._view) == (other._kind, other._view)
 
     def __hash__(self) -> int:
-        return hash((self.kind, bytes(self._view)))
+        """A number of the kind and the bytes, which the trie keeps. The first call reads all bytes, and copies a part at a time."""
+        if self._hash is None:
+            starts = range(0, self._len, _HASHED_AT_ONCE)
+            self._hash = hash((self._kind, *(hash(bytes(self._view[at : at + _HASHED_AT_ONCE])) for at in starts)))
+        return self._hash
 
-    def __copy__(self) -> ZeroTrie:
+    def __copy__(self: Trie) -> Trie:
         """Another trie over the same bytes."""
-        return ZeroTrie(self._data, self.kind, check=False)
+        return _with_attributes(_remade(type(self), ZeroTrie, self._data, self._kind, False), self)
 
-    def __reduce__(self) -> "tuple[type, tuple[bytes, int, bool]]":
-        return ZeroTrie, (bytes(self._view), self.kind, False)
+    def __reduce__(self) -> tuple[Any, ...]:
+        return _remade, (type(self), ZeroTrie, bytes(self), self._kind, False), getattr(self, "__dict__", None)
 
     def __repr__(self) -> str:
+        name = type(self).__name__
         if self._len > 64:
-            return f"<ZeroTrie of {self._len} bytes, kind={self.kind}>"
-        return f"ZeroTrie({bytes(self._view)!r}, kind={self.kind})"
+            return f"<{name} of {self._len} bytes, kind={self._kind}>"
+        return f"{name}({bytes(self._view)!r}, kind={self._kind})"
 
 
-def build_dense(rows: Mapping[Key, Mapping[Key, int]], delimiter: Key = b"/") -> bytes:
+def build_dense(rows: Mapping[Any, Mapping[Any, int]], delimiter: Key = b"/") -> bytes:
     """The record of the dense table of a mapping of mappings, in any order, of texts that are ASCII without the delimiter.
 
     >>> table = DenseTable(build_dense({"de": {"AT": 8, "CH": 9}, "en": {"US": 5}}))
@@ -463,16 +533,16 @@ def build_dense(rows: Mapping[Key, Mapping[Key, int]], delimiter: Key = b"/") ->
 
 
 class DenseTable:
-    """A map from two texts to numbers, over the record of a dense table. Bytes are not copied, anything else is."""
+    """A map from two texts to numbers, over the record of a dense table, which is copied unless it is `bytes`."""
 
     __slots__ = ("_record", "_at")
 
-    def __init__(self, record: bytes) -> None:
+    def __init__(self, record: Any) -> None:
         self._record = record if type(record) is bytes else bytes(memoryview(record))
         self._at = ctypes.cast(c_char_p(self._record), c_void_p)
 
-    def __reduce__(self) -> "tuple[type, tuple[bytes]]":
-        return DenseTable, (self._record,)
+    def __reduce__(self) -> tuple[Any, ...]:
+        return _remade, (type(self), DenseTable, self._record), getattr(self, "__dict__", None)
 
     def get(self, prefix: Key, suffix: Key, default: Any = None) -> Any:
         """The value of a suffix under a prefix, or `default`. ZeroTrieError if the bytes are no record."""
@@ -486,14 +556,19 @@ class DenseTable:
 
 class _Buffer(Structure):
     # the front of CPython's Py_buffer
-    _fields_ = [("buf", c_void_p), ("obj", ctypes.py_object), ("len", ctypes.c_ssize_t), ("rest", c_uint8 * 64)]
+    _fields_ = [("buf", c_void_p), ("obj", py_object), ("len", ctypes.c_ssize_t), ("rest", c_uint8 * 64)]
+
+
+# all modules of a process share the attributes of ctypes.pythonapi, so these are functions of their own
+_get_buffer = ctypes.PYFUNCTYPE(c_int, py_object, POINTER(_Buffer), c_int)(("PyObject_GetBuffer", ctypes.pythonapi))
+_release_buffer = ctypes.PYFUNCTYPE(None, POINTER(_Buffer))(("PyBuffer_Release", ctypes.pythonapi))
 
 
 def _address(view: memoryview) -> int:
     """Where read-only bytes lie. The view is kept by the trie, and keeps them there."""
     got = _Buffer()
-    ctypes.pythonapi.PyObject_GetBuffer(ctypes.py_object(view), ctypes.byref(got), 0)
+    _get_buffer(view, got, 0)
     try:
         return got.buf or 0
     finally:
-        ctypes.pythonapi.PyBuffer_Release(ctypes.byref(got))
+        _release_buffer(got)
