@@ -10,7 +10,7 @@ use Rattle.zerotrie_making.specs.declared.plan.Source.{Source}
 use Rattle.zerotrie_making.specs.declared.plan.Source.TheVariants.{Text, Json}
 use Rattle.zerotrie_making.specs.declared.refused.Shown.{Shown}
 use Rattle.zerotrie_making.specs.declared.refused.MakeError.{MakeError}
-use Rattle.zerotrie_making.specs.declared.refused.MakeError.TheVariants.{Line, NotJson, NotPairs, Keys, Refused, OutOfMemory}
+use Rattle.zerotrie_making.specs.declared.refused.MakeError.TheVariants.{Line, NotJson, NotPairs, NotPair, Keys, Refused, OutOfMemory}
 
 pub of_table : (plan : Plan) (input : List ℕ) (table : Pairs) (Fact : Pairs → Type 0) → (pairs : Pairs) × IsPairs plan.source input pairs × (table ≡ lowered plan.lower_case pairs)
     → Fact table → OfInput plan input Fact
@@ -21,6 +21,7 @@ pub explains_of : (plan : Plan) (input : List ℕ) (table : Pairs) (e : MakeErro
 explains_of plan input table (Line number bad) h fact = absurd fact
 explains_of plan input table (NotJson line column) h fact = absurd fact
 explains_of plan input table NotPairs h fact = absurd fact
+explains_of plan input table (NotPair number) h fact = absurd fact
 explains_of plan input table (Keys s) h fact = of_table plan input table (λ pairs. ExplainsOf plan pairs (Keys s)) h fact
 explains_of plan input table (Refused e) h fact = of_table plan input table (λ pairs. ExplainsOf plan pairs (Refused e)) h fact
 explains_of plan input table OutOfMemory h fact = tt
@@ -39,6 +40,7 @@ pub no_pairs : (plan : Plan) (input : List ℕ) (e : MakeError) → NoPairs plan
 no_pairs plan input (Line number bad) h = h
 no_pairs plan input (NotJson line column) h = h
 no_pairs plan input NotPairs h = h
+no_pairs plan input (NotPair number) h = h
 no_pairs plan input (Keys s) h = absurd (no_keys plan.source input s h)
 no_pairs plan input (Refused e) h = absurd (no_refusal plan.source input e h)
 no_pairs plan input OutOfMemory h = tt

@@ -1,4 +1,5 @@
 pub mod Plans
 pub mod Sources
+pub mod Unread
 pub mod Made
 pub mod Laws

@@ -5,11 +5,12 @@ ghost use Rattle.serde_json.specs.View.{view, items_view, members_view};
 ghost use Rattle.zerotrie_any.specs.Json.{number_in, byte_in, key_in, pair_in, pairs_in, each, member_pairs};
 ghost use Rattle.zerotrie_any.specs.JsonCalls.{IsReading};
 ghost use Rattle.zerotrie_making.specs.Sources.{IsPairs, NoPairs};
+ghost use Rattle.zerotrie_making.specs.Unread.{first_unread, first_member, first_in};
 ghost use Rattle.zerotrie_making.specs.declared.plan.Source.TheVariants.{Json};
 
 use crate::refused::MakeError;
 use serde_json::{Map, Value};
-use std::alloc::Global;
+use std::alloc::{AllocError, Global};
 use zerotrie_any::JsonError;
 use zerotrie_lines::Table;
 
@@ -115,6 +116,45 @@ fn pairs_of(alloc: Global, value: &Value) -> Result<Table, JsonError>
     }
 }
 
+/// The number of the first item that is no pair, from 1 on.
+fn first_item(alloc: Global, items: &[Value]) -> Result<Option<usize>, AllocError>
+    ensures { IfOk result (λ number. number ≡ first_unread pair_in (items_view items.now)) }
+{
+    for (index, item) in items.iter().enumerate() {
+        match pair_of(alloc, item) {
+            Ok(_) => {}
+            Err(JsonError::Shape) => return Ok(Some(index + 1)),
+            Err(_) => return Err(AllocError),
+        }
+    }
+    Ok(None)
+}
+
+/// The number of the first member whose value is no whole number, from 1 on.
+fn first_member(members: &Map<String, Value>) -> Option<usize>
+    ensures { result ≡ first_member (members_view members.now.entries) }
+{
+    for (index, (_key, value)) in members.iter().enumerate() {
+        if number_of(value).is_none() {
+            return Some(index + 1);
+        }
+    }
+    None
+}
+
+/// The number of the first member or item of a value that is no pair, from 1 on. `None` if the value has none.
+fn first_bad(alloc: Global, value: &Value) -> Result<Option<usize>, AllocError>
+    ensures { IfOk result (λ number. number ≡ first_in (view value.now)) }
+{
+    if let Some(members) = value.as_object() {
+        return Ok(first_member(members));
+    }
+    match value.as_array() {
+        Some(items) => first_item(alloc, items.as_slice()),
+        None => Ok(None),
+    }
+}
+
 /// The pairs in the JSON value that an input is.
 pub fn read_json(alloc: Global, input: &[u8]) -> Result<Table, MakeError>
     ensures ok { IfOk result (λ table. IsPairs Json input.now table) }
@@ -131,7 +171,10 @@ pub fn read_json(alloc: Global, input: &[u8]) -> Result<Table, MakeError>
     };
     match pairs_of(alloc, &value) {
         Ok(table) => Ok(table),
-        Err(JsonError::Shape) => Err(MakeError::NotPairs),
+        Err(JsonError::Shape) => Err(match first_bad(alloc, &value)? {
+            Some(number) => MakeError::NotPair(number),
+            None => MakeError::NotPairs,
+        }),
         Err(_) => Err(MakeError::OutOfMemory),
     }
 }

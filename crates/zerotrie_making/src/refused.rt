@@ -35,8 +35,10 @@ pub enum MakeError {
     Line(usize, BadLine),
     /// The input is no JSON value, which shows at this line and column.
     NotJson(usize, usize),
-    /// The input is a JSON value, and there are no pairs in it.
+    /// The input is a JSON value, and neither an object nor a list.
     NotPairs,
+    /// The input is a JSON object or list, and this member, in the order of the keys, or this item is no pair.
+    NotPair(usize),
     /// The build is refused, and these keys show why.
     Keys(Shown),
     /// The build is refused though no key is at fault: `CapacityExceeded` or `CouldNotSolvePerfectHash`.

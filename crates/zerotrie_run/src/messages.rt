@@ -154,9 +154,10 @@ fn refusal(alloc: Global, path: &str, unit: &str, error: &MakeError) -> io::Resu
         MakeError::NotJson(line, column) => {
             write!(text, "line {line}, column {column}: no JSON value")?
         }
-        MakeError::NotPairs => write!(
+        MakeError::NotPairs => write!(text, "neither an object nor a list")?,
+        MakeError::NotPair(number) => write!(
             text,
-            "no object from keys to numbers, and no list of pairs of a key and a number"
+            "{unit} {number}: no key with a whole number below 2^64"
         )?,
         MakeError::Keys(shown) => {
             add_reason(&mut text, unit, shown)?;

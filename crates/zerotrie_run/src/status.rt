@@ -40,9 +40,10 @@ impl Status {
         ensures { result ≡ made_status error.now }
     {
         match error {
-            MakeError::Line(_, _) | MakeError::NotJson(_, _) | MakeError::NotPairs => {
-                Status::BadInput
-            }
+            MakeError::Line(_, _)
+            | MakeError::NotJson(_, _)
+            | MakeError::NotPairs
+            | MakeError::NotPair(_) => Status::BadInput,
             MakeError::Keys(_) | MakeError::Refused(_) => Status::Refused,
             MakeError::OutOfMemory => Status::Fault,
         }
