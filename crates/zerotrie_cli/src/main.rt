@@ -4,6 +4,7 @@
 mod arguments;
 mod build;
 mod commands;
+mod keywords;
 mod question;
 mod table;
 

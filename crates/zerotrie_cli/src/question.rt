@@ -1,6 +1,7 @@
 //! The questions to a trie that the command line asks.
 
 use crate::arguments::place_in;
+use crate::keywords::is_taken;
 use clap::ArgMatches;
 use std::alloc::{AllocError, Global};
 use zerotrie_queries::{Form, Language, Style, TrieKind, View, is_name};
@@ -62,11 +63,15 @@ fn language_in(matches: &ArgMatches<'_>) -> Language {
 fn code_in<'a>(matches: &ArgMatches<'a>) -> Result<Question<'a>, &'static str> {
     let language = language_in(matches);
     let name = matches.get_str("name").unwrap_or(language.usual_name());
-    if is_name(name) {
-        Ok(Question::Code(language, name))
-    } else {
-        Err("--name asks for ASCII letters, digits and _, and no digit in front")
+    if !is_name(name) {
+        return Err("--name asks for ASCII letters, digits and _, and no digit in front");
     }
+    if is_taken(language, name) {
+        return Err(
+            "--name asks for no keyword of the language, and in C for no name of zerotrie.h",
+        );
+    }
+    Ok(Question::Code(language, name))
 }
 
 /// The drawing that is asked for. Refused, with what is told, if its number of nodes is no number.

@@ -177,7 +177,7 @@ pub const COMMANDS: &[Subcommand] = &[
                 name: "name",
                 form: Form::Text("NAME", None, Otherwise::Nothing),
                 help: "The name of the static in Rust, of the function in Rattle, and in front of \
-                    those in C; else TRIE, get and trie. It is not tested whether it is a keyword",
+                    those in C; else TRIE, get and trie.",
             },
         ],
     },
