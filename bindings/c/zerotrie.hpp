@@ -1,4 +1,5 @@
-// zerotrie for C++17 and later, over zerotrie.h, whose rules hold here too. Keys are std::string_view, of any bytes.
+// zerotrie for C++17 and later, over zerotrie.h, whose rules hold here too. Keys are std::string_view, of any bytes; a literal with
+// a zero in it is written "a\0b"sv.
 //
 //     const std::map<std::string, size_t> map{{"foo", 1}, {"bar", 2}, {"bazzoo", 3}};
 //     const std::string bytes = zerotrie::build(zerotrie::Kind::SimpleAscii, map);
@@ -13,6 +14,7 @@
 #include "zerotrie.h"
 
 #include <algorithm>
+#include <array>
 #include <cstddef>
 #include <initializer_list>
 #include <iterator>
@@ -21,6 +23,7 @@
 #include <stdexcept>
 #include <string>
 #include <string_view>
+#include <tuple>
 #include <type_traits>
 #include <utility>
 #include <vector>
@@ -48,8 +51,10 @@ namespace detail {
 template <class T> using Bare = std::remove_cv_t<std::remove_reference_t<T>>;
 template <class T, class U> constexpr bool is = std::is_same_v<std::remove_cv_t<T>, U>;
 template <class T> constexpr bool is_byte = sizeof(T) == 1 && (std::is_integral_v<T> || is<T, std::byte>);
-// An array of char is mostly a string literal, whose last zero is no byte of a trie.
-template <class T> constexpr bool is_array_of_char = std::is_array_v<T> && is<std::remove_extent_t<T>, char>;
+// An array of characters is mostly a string literal, whose last zero is no byte of a trie.
+template <class T>
+constexpr bool is_literal = std::is_array_v<T> && !is<std::remove_extent_t<T>, unsigned char> &&
+                            !is<std::remove_extent_t<T>, std::byte>;
 // What may end before the bytes that it shows.
 template <class T> constexpr bool is_view = false;
 #if __cplusplus >= 202002L
@@ -59,17 +64,18 @@ template <class T, size_t N> constexpr bool is_view<std::span<T, N>> = true;
 template <class T, class = void> constexpr bool lends_bytes = false;
 template <class T>
 constexpr bool lends_bytes<T, std::void_t<decltype(std::data(std::declval<T &>())), decltype(std::size(std::declval<T &>()))>> =
-    is_byte<std::remove_pointer_t<decltype(std::data(std::declval<T &>()))>> && !is_array_of_char<Bare<T>> &&
+    is_byte<std::remove_pointer_t<decltype(std::data(std::declval<T &>()))>> && !is_literal<Bare<T>> &&
     !is<Bare<T>, std::string_view> && (std::is_lvalue_reference_v<T> || is_view<Bare<T>>);
-// A text that nothing else holds, such as a std::string that a function returns: a view of it would be left with nothing.
+// A text that may be gone after the statement, such as a std::string that a function returns.
 template <class T>
 using Passing = std::enable_if_t<!std::is_lvalue_reference_v<T> && std::is_convertible_v<T, std::string_view> &&
-                                 !std::is_trivially_destructible_v<Bare<T>>>;
+                                 std::is_class_v<Bare<T>> && !is<Bare<T>, std::string_view>>;
 } // namespace detail
 
 // The bytes of a trie or of a table, which lie elsewhere and have to outlive it. They are made of a std::string_view; of a
 // std::string, a std::vector<uint8_t>, an array of uint8_t or the like that has a name; and of a pointer and a length. No temporary
-// std::string makes them, as it would be gone, and no `const char *`, as it would end at its first zero: write "..."sv.
+// std::string makes them, in braces neither, as it would be gone, and no `const char *`, as it would end at its first zero: write
+// "..."sv.
 class Bytes {
 public:
     constexpr Bytes() noexcept = default;
@@ -77,6 +83,8 @@ public:
     Bytes(const void *ptr, size_t len) noexcept : bytes_(static_cast<const char *>(ptr), len) {}
     template <class T, class = std::enable_if_t<detail::lends_bytes<T>>>
     Bytes(T &&bytes) noexcept : Bytes(std::data(bytes), std::size(bytes)) {}
+    template <class T, class = detail::Passing<T>, class = void> Bytes(T &&) = delete;
+    Bytes(const char *) = delete;
     [[nodiscard]] constexpr std::string_view view() const noexcept { return bytes_; }
 
 private:
@@ -120,13 +128,20 @@ constexpr bool stays<Iterator, std::void_t<typename std::iterator_traits<Iterato
     std::is_base_of_v<std::forward_iterator_tag, typename std::iterator_traits<Iterator>::iterator_category> &&
     std::is_lvalue_reference_v<decltype(*std::declval<Iterator &>())>;
 
+// Whether a structured binding of an element calls a get() that is not the library's, and so may make the key as it goes.
+template <class T, class = void> constexpr bool makes_key = false;
+template <class T> constexpr bool makes_key<T, std::void_t<decltype(std::tuple_size<T>::value)>> = true;
+template <class A, class B> constexpr bool makes_key<std::pair<A, B>> = false;
+template <class... A> constexpr bool makes_key<std::tuple<A...>> = false;
+template <class T, size_t N> constexpr bool makes_key<std::array<T, N>> = false;
+
 // Pairs as C has them, of a range whose elements have a key, which makes a std::string_view, and a value. Keys that would not stay
 // are copied.
 class Pairs {
 public:
     template <class Range> explicit Pairs(Range &range) {
         using std::begin;
-        constexpr bool keys_stay = stays<Bare<decltype(begin(range))>>;
+        constexpr bool keys_stay = stays<Bare<decltype(begin(range))>> && !makes_key<Bare<decltype(*begin(range))>>;
         for (auto &&[key, value] : range) {
             const std::string_view text(key);
             if constexpr (!keys_stay) texts_ += text;
@@ -174,7 +189,9 @@ public:
         if (status_ != ZEROTRIE_BUFFER_TOO_SMALL) check(status_);
         room_ = std::max(std::min<size_t>(2 * room_, 1 << 20), next_len);
         listed_ += count_, bytes_listed_ += keys().size();
-        if (count_ > 0) go_on_after((*this)[count_ - 1].first);
+        if (count_ > 0) last_ = (*this)[count_ - 1].first;
+        // a trie has no more pairs than bytes: these bytes are none, and their parts may come round
+        if (listed_ > trie_.len) status_ = ZEROTRIE_DONE;
         return true;
     }
     size_t size() const noexcept { return count_; }
@@ -188,18 +205,11 @@ public:
     const size_t *values() const noexcept { return values_.data(); }
 
 private:
-    // No trie has a key twice. On other bytes the parts may come round to a key, and then the listing ends.
-    void go_on_after(std::string_view key) {
-        last_ = key;
-        if (parts_ > 0 && last_ == earlier_) status_ = ZEROTRIE_DONE;
-        parts_++;
-        if ((parts_ & (parts_ - 1)) == 0) earlier_ = last_;
-    }
     Kind kind_;
     zerotrie_bytes trie_, prefix_;
     uint32_t status_ = ZEROTRIE_BUFFER_TOO_SMALL;
-    size_t room_ = 4096, count_ = 0, listed_ = 0, bytes_listed_ = 0, parts_ = 0;
-    std::string keys_, last_, earlier_;
+    size_t room_ = 4096, count_ = 0, listed_ = 0, bytes_listed_ = 0;
+    std::string keys_, last_;
     std::vector<size_t> ends_, values_;
 };
 } // namespace detail
@@ -244,7 +254,8 @@ private:
 };
 
 // The pairs of a trie, in the order of its bytes: a range whose elements are pairs of a std::string_view and a value. All are
-// listed when it is made; the views lie in it. Trie::for_each() holds only a part of them at a time.
+// listed when it is made. The views and the iterators are good as long as it stays where it is: a move ends them. Trie::for_each()
+// holds only a part of the pairs at a time.
 class Items {
 public:
     using value_type = std::pair<std::string_view, size_t>;
@@ -366,6 +377,7 @@ public:
     }
     template <class T, class = detail::Passing<T>>
     std::optional<std::pair<std::string_view, size_t>> longest_prefix(T &&) const = delete;
+    template <class T> std::optional<std::pair<std::string_view, size_t>> longest_prefix(std::initializer_list<T>) const = delete;
     // A cursor in front of all keys.
     [[nodiscard]] Cursor cursor() const noexcept { return Cursor(kind_, bytes_); }
     // A cursor after a prefix. nullopt: no key begins with it.
@@ -396,8 +408,13 @@ private:
     std::string_view bytes_;
 };
 
-// What a build takes if pairs are written into the call.
-using PairList = std::initializer_list<std::pair<std::string_view, size_t>>;
+// A pair that is written into a call, as in build(kind, {{"foo", 1}, {"bar", 2}}).
+struct Pair {
+    template <class Value> Pair(std::string_view k, Value v) : key(k), value(detail::number_of(v)) {}
+    std::string_view key;
+    size_t value;
+};
+using PairList = std::initializer_list<Pair>;
 
 // The bytes of the trie of pairs in any order: of a map, another range or a list whose elements have a key, which makes a
 // std::string_view, and a value.

@@ -59,7 +59,9 @@ def wheel(directory, files):
     files[f"{about}/RECORD"] = "".join([*rows, f"{about}/RECORD,,\n"]).encode()
     with zipfile.ZipFile(pathlib.Path(directory) / f"{NAME}-{TAG}.whl", "w") as packed:
         for name, data in files.items():
-            packed.writestr(name, data)
+            entry = zipfile.ZipInfo(name)
+            entry.external_attr = 0o644 << 16
+            packed.writestr(entry, data)
     return f"{NAME}-{TAG}.whl"
 
 

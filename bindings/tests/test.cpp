@@ -88,8 +88,22 @@ struct Rows {
     std::istream_iterator<Row> end() const { return {}; }
 };
 
+// An element whose get() makes the key.
+struct Made {
+    int number = 0;
+    template <size_t I> auto get() const {
+        if constexpr (I == 0) return "a key that is longer than most, " + std::to_string(number);
+        else return number;
+    }
+};
+template <> struct std::tuple_size<Made> : std::integral_constant<size_t, 2> {};
+template <> struct std::tuple_element<0, Made> { using type = std::string; };
+template <> struct std::tuple_element<1, Made> { using type = int; };
+
 // Keys that would be gone once they were read are copied.
 static void keys_that_go() {
+    const std::string numbered = zerotrie::build(Kind::SimpleAscii, std::vector<Made>{{1}, {2}, {3}});
+    CHECK(zerotrie::Trie(Kind::SimpleAscii, numbered).get("a key that is longer than most, 2") == 2);
     const std::string want = zerotrie::build(Kind::SimpleAscii, {{"a key that is longer than most", 1}, {"b", 2}, {"c", 3}});
     std::istringstream text("b 2 c 3");
     CHECK(zerotrie::build(Kind::SimpleAscii, Rows{text}) == zerotrie::build(Kind::SimpleAscii, {{"b", 2}, {"c", 3}}));
@@ -126,9 +140,14 @@ static void bytes_that_stay() {
     static_assert(!std::is_constructible_v<Trie, Kind, const char (&)[2]>);
     static_assert(!std::is_constructible_v<Trie, Kind, const std::vector<int> &>);
     static_assert(!std::is_constructible_v<zerotrie::DenseTable, std::string>);
+    // what braces would make of them
+    static_assert(!std::is_constructible_v<zerotrie::Bytes, std::string>);
+    static_assert(!std::is_constructible_v<zerotrie::Bytes, const char *>);
+    static_assert(!std::is_constructible_v<zerotrie::Bytes, std::vector<uint8_t>>);
 #if __cplusplus >= 202002L
     static_assert(std::is_constructible_v<Trie, Kind, std::span<const uint8_t>>);
     static_assert(std::is_constructible_v<Trie, Kind, std::span<const std::byte>>);
+    static_assert(!std::is_constructible_v<Trie, Kind, const char8_t (&)[2]>);
 #endif
     // the key "a" with the value 16, whose bytes hold a zero, and tagged bytes, which begin with one
     static const uint8_t array[] = {'a', 0x90, 0x00};
@@ -150,11 +169,18 @@ static void builds(const Map &map, const std::string &bytes) {
     } catch (const zerotrie::Error &error) {
         CHECK(error.status == ZEROTRIE_UNSORTED);
     }
-    try {
-        CHECK(zerotrie::build(Kind::SimpleAscii, std::map<std::string, int>{{"a", -1}}).empty());
-        CHECK(false);
-    } catch (const std::out_of_range &) {
+    const int below_zero = -1;
+    for (const bool listed : {false, true}) {
+        try {
+            const std::map<std::string, int> pairs{{"a", below_zero}};
+            const std::string made = listed ? zerotrie::build(Kind::SimpleAscii, {{"a", below_zero}})
+                                            : zerotrie::build(Kind::SimpleAscii, pairs);
+            CHECK(made.empty());
+            CHECK(false);
+        } catch (const std::out_of_range &) {
+        }
     }
+    static_assert(!std::is_convertible_v<double, zerotrie::Pair>);
 }
 
 // Whether longest_prefix takes a string that ends with the statement, into which it would hand out a view.
@@ -181,6 +207,14 @@ int main(int count, char **arguments) {
     // bytes that are no trie, of which each byte is a value of the empty key: their listing ends
     const std::string hostile(300000, '\x81');
     CHECK(!zerotrie::Trie(Kind::SimpleAscii, hostile).items().empty());
+    // nor two edges of one byte, so that the parts of a listing come round: it ends after about as many pairs as there are bytes
+    Map twice;
+    for (size_t n = 0; n < 6000; n++) twice[(n < 3000 ? "a" : "b") + std::string(110, 'x') + std::to_string(10000 + n % 3000)] = 1;
+    std::string round = zerotrie::build(Kind::SimpleAscii, twice);
+    round[round.find("ab") + 1] = 'a';
+    size_t listed_pairs = 0;
+    zerotrie::Trie(Kind::SimpleAscii, round).for_each([&](std::string_view, size_t) { listed_pairs++; });
+    CHECK(!zerotrie::Trie::checked(Kind::SimpleAscii, round) && listed_pairs > 0 && listed_pairs < 10 * round.size());
     CHECK(zerotrie::Trie(Kind::SimpleAscii, {}).items().empty());
     CHECK((trie->get_many({"bar", "ba", ""}, 0) == std::vector<size_t>{2, 0, 0}));
     CHECK(trie->get_many(std::vector<std::string>{}, 0).empty());

@@ -17,10 +17,12 @@ A trie is a read-only Mapping from bytes to numbers, which lies in anything that
     1
 
 to_tagged() and pickle copy all bytes of a trie; so do bytes(trie) and copy.deepcopy(), unless it was given `bytes`. No other call
-of a trie does: a look-up copies the key if it isn't `bytes`, get_many() all keys, and a listing what it lists.
+of a trie does so at once: hash() copies a part at a time, a look-up the key if it isn't `bytes`, get_many() all keys, and a listing
+what it lists.
 
-Keys are bytes, or text, which stands for its UTF-8; what is listed is bytes. Values are from 0 to 2**64 - 1. Many threads may ask
-one trie at once, and a call lets other threads run; a Cursor is for one thread at a time.
+Keys are bytes, or text, which stands for its UTF-8; text that has none, such as a lone surrogate, raises UnicodeEncodeError, in
+`in` too. What is listed is bytes. Values are from 0 to 2**64 - 1. Many threads may ask one trie at once, and a call lets other
+threads run; a Cursor is for one thread at a time.
 
 The library is found by the variable ZEROTRIE_SO, else in this folder, else where bindings/make leaves it, else by the system's
 loader.
@@ -66,7 +68,7 @@ def _remade(cls: type[Other], base: Any, *arguments: Any) -> Other:
 
 
 def _with_attributes(made: Other, of: Other) -> Other:
-    """The object, with the attributes that a subclass gave to the other one."""
+    """The object, with what stands in the other one's `__dict__`, if a subclass has one."""
     if hasattr(of, "__dict__"):
         made.__dict__.update(of.__dict__)
     return made
@@ -356,7 +358,11 @@ class ZeroTrie(Mapping[bytes, int]):
 
     @classmethod
     def open(cls: type[Trie], path: Any, kind: Optional[int] = None, check: bool = True) -> Trie:
-        """The trie of a file, mapped into memory: tagged bytes, as `zerotrie build` writes them, or with a kind the trie alone."""
+        """The trie of a file, mapped into memory: tagged bytes, as `zerotrie build` writes them, or with a kind the trie alone.
+
+        Don't cut or overwrite the file while a trie uses it: to read beyond its end kills the process. Write a new file and rename it,
+        as `zerotrie build` does.
+        """
         with open(path, "rb") as file:
             size = os.fstat(file.fileno()).st_size
             data: Any = mmap.mmap(file.fileno(), 0, access=mmap.ACCESS_READ) if size else file.read()

@@ -364,7 +364,6 @@ impl<'a> ZeroTrie<'a> {
         let mut items = Items { keys: vec![], ends: vec![], values: vec![], next: 0 };
         // a part at a time, each with twice the room of the one before, up to a megabyte, and places for keys as long as those so far
         let mut room = 4096;
-        let (mut parts, mut earlier) = (0usize, 0..0);
         loop {
             let (from, at) = (items.keys.len(), items.ends.len());
             let places = room / (from / at.max(1)).max(4) + 1;
@@ -402,18 +401,9 @@ impl<'a> ZeroTrie<'a> {
                 *end += from;
             }
             items.keys.truncate(items.ends.last().copied().unwrap_or(0));
-            // No trie has a key twice. On other bytes the parts may come round to a key, and then the listing ends here.
-            if status == 8 && count > 0 {
-                let now = (if items.ends.len() < 2 { 0 } else { items.ends[items.ends.len() - 2] })..items.keys.len();
-                if parts > 0 && items.keys[now.clone()] == items.keys[earlier.clone()] {
-                    return Ok(items);
-                }
-                parts += 1;
-                if parts.is_power_of_two() {
-                    earlier = now;
-                }
-            }
             match status {
+                // a trie has no more pairs than bytes: these bytes are none, and their parts may come round
+                8 if items.ends.len() > self.bytes.len() => return Ok(items),
                 0 => return Ok(items),
                 8 => room = (2 * room).min(1 << 20).max(next_len),
                 other => return Err(Error::of(other)),

@@ -42,6 +42,20 @@ fn a_listing_of_any_bytes_ends() {
     assert!(trie.iter().count() <= bytes.len());
 }
 
+/// Bytes that are no trie: two edges of a branch are one byte, and the parts of a listing come round.
+#[test]
+fn a_listing_that_comes_round_ends() {
+    let key = |front: &str, n: usize| format!("{front}{}{}", "x".repeat(110), 10000 + n);
+    let pairs: Vec<_> = ["a", "b"].iter().flat_map(|front| (0..3000).map(move |n| (key(front, n), 1))).collect();
+    let mut bytes = build(Kind::SimpleAscii, pairs).unwrap();
+    let edges = bytes.windows(2).position(|edges| edges == b"ab").unwrap();
+    bytes[edges + 1] = b'a';
+    let trie = ZeroTrie::from_bytes(Kind::SimpleAscii, &bytes);
+    assert!(!trie.is_well_formed());
+    assert!(trie.prefix("").unwrap().count() < 10 * bytes.len());
+    assert!(trie.iter().count() <= bytes.len());
+}
+
 #[test]
 fn refusals() {
     assert_eq!(build(Kind::SimpleAscii, [("å", 1)]), Err(Error::NonAscii));
