@@ -266,8 +266,7 @@ uint32_t zerotrie_list(uint32_t kind, const uint8_t *bytes, size_t len, const ui
  * bytes; if *count is 0, some room has too few places for even this one. ZEROTRIE_OUT_OF_MEMORY: the pairs that are counted
  * are written all the same. ZEROTRIE_UNKNOWN_KIND: the rooms and *count stay. On bytes that are no trie a key may come twice, and
  * the parts then come round without end: a trie of n bytes has at most n pairs, so stop after more. A call costs a look-up of
- * `last` and what it lists. Takes memory, as much as the
- * longest key and the deepest branches. */
+ * `last` and what it lists. Takes memory, as much as the longest key and the deepest branches. */
 ZEROTRIE_ANSWERS
 uint32_t zerotrie_list_some(uint32_t kind, const uint8_t *bytes, size_t len, const uint8_t *prefix, size_t prefix_len,
                             bool goes_on, const uint8_t *last, size_t last_len, uint8_t *keys, size_t keys_len,

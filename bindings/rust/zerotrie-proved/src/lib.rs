@@ -217,7 +217,14 @@ impl<'a> ZeroTrie<'a> {
         let (mut out, mut len) = (vec![0; self.bytes.len() + 1], 0);
         // SAFETY: a slice that is read, one that is written and is this call's own, and a place.
         let status = unsafe {
-            ffi::zerotrie_tagged(self.number(), self.bytes.as_ptr(), self.bytes.len(), out.as_mut_ptr(), out.len(), &mut len)
+            ffi::zerotrie_tagged(
+                self.number(),
+                self.bytes.as_ptr(),
+                self.bytes.len(),
+                out.as_mut_ptr(),
+                out.len(),
+                &mut len,
+            )
         };
         debug_assert_eq!((status, len), (0, out.len()));
         out
@@ -606,8 +613,7 @@ fn built<K: AsRef<[u8]>>(kind: Kind, pairs: &[(K, usize)], build: Build) -> Resu
     loop {
         let mut out = vec![0; len];
         // SAFETY: a slice of pairs whose keys are borrowed, one that is this call's own, and a place.
-        let status =
-            unsafe { build(kind as u32, raw.as_ptr(), raw.len(), out.as_mut_ptr(), out.len(), &mut len) };
+        let status = unsafe { build(kind as u32, raw.as_ptr(), raw.len(), out.as_mut_ptr(), out.len(), &mut len) };
         match status {
             0 => {
                 out.truncate(len);
@@ -651,8 +657,15 @@ impl<'a> DenseTable<'a> {
         let (record, prefix, suffix, mut value) = (self.record, prefix.as_ref(), suffix.as_ref(), 0);
         // SAFETY: three slices, and a place that is this call's own.
         let status = unsafe {
-            ffi::zerotrie_dense_get(record.as_ptr(), record.len(), prefix.as_ptr(), prefix.len(), suffix.as_ptr(),
-                suffix.len(), &mut value)
+            ffi::zerotrie_dense_get(
+                record.as_ptr(),
+                record.len(),
+                prefix.as_ptr(),
+                prefix.len(),
+                suffix.as_ptr(),
+                suffix.len(),
+                &mut value,
+            )
         };
         match status {
             0 => Ok(Some(value)),
@@ -679,9 +692,22 @@ pub fn build_dense<P: AsRef<[u8]>, S: AsRef<[u8]>>(entries: &[(P, S, usize)], de
         let mut out = vec![0; len];
         // SAFETY: five slices, one that is this call's own, and a place.
         let status = unsafe {
-            ffi::zerotrie_dense_build(prefixes.as_ptr(), prefixes.len(), prefix_ends.as_ptr(), prefix_ends.len(),
-                suffixes.as_ptr(), suffixes.len(), suffix_ends.as_ptr(), suffix_ends.len(), values.as_ptr(), values.len(),
-                delimiter, out.as_mut_ptr(), out.len(), &mut len)
+            ffi::zerotrie_dense_build(
+                prefixes.as_ptr(),
+                prefixes.len(),
+                prefix_ends.as_ptr(),
+                prefix_ends.len(),
+                suffixes.as_ptr(),
+                suffixes.len(),
+                suffix_ends.as_ptr(),
+                suffix_ends.len(),
+                values.as_ptr(),
+                values.len(),
+                delimiter,
+                out.as_mut_ptr(),
+                out.len(),
+                &mut len,
+            )
         };
         match status {
             0 => {

@@ -21,7 +21,13 @@ fn the_map_that_went_in_comes_out() {
         let ones: Vec<_> = trie.prefix("key-1").unwrap().map(|(k, _)| k).collect();
         assert!(ones.len() > 100 && ones.iter().all(|k| k.starts_with(b"key-1")));
         let keys: Vec<u8> = map.keys().flat_map(|k| k.bytes()).collect();
-        let ends: Vec<usize> = map.keys().scan(0, |at, k| { *at += k.len(); Some(*at) }).collect();
+        let ends: Vec<usize> = map
+            .keys()
+            .scan(0, |at, k| {
+                *at += k.len();
+                Some(*at)
+            })
+            .collect();
         let mut values = vec![0; ends.len()];
         trie.get_many(&keys, &ends, usize::MAX, &mut values);
         assert!(values.iter().eq(map.values()));
@@ -74,12 +80,19 @@ fn refusals() {
 #[test]
 fn dense_tables() {
     let texts: Vec<String> = (0..300usize).map(|n| format!("{n:03}")).collect();
-    let entries: Vec<(&str, &str, usize)> = texts[..20].iter()
-        .flat_map(|p| texts.iter().filter(|s| !s.ends_with('7')).map(|s| (p.as_str(), s.as_str(), 70_000 * p.len() + s.len() * 3)))
-        .enumerate().map(|(n, (p, s, v))| (p, s, v + n % 60_000)).collect();
+    let entries: Vec<(&str, &str, usize)> = texts[..20]
+        .iter()
+        .flat_map(|p| {
+            texts.iter().filter(|s| !s.ends_with('7')).map(|s| (p.as_str(), s.as_str(), 70_000 * p.len() + s.len() * 3))
+        })
+        .enumerate()
+        .map(|(n, (p, s, v))| (p, s, v + n % 60_000))
+        .collect();
     let record = build_dense(&entries, b'/').unwrap();
     let table = DenseTable::from_record(&record);
-    for (prefix, suffix, value) in &entries { assert_eq!(table.get(prefix, suffix), Ok(Some(*value))); }
+    for (prefix, suffix, value) in &entries {
+        assert_eq!(table.get(prefix, suffix), Ok(Some(*value)));
+    }
     for (prefix, suffix) in [("000", "007"), ("021", "000"), ("", "000"), ("000", ""), ("000/", "000"), ("å", "000")] {
         assert_eq!(table.get(prefix, suffix), Ok(None));
     }
@@ -106,7 +119,10 @@ fn dense_tables() {
 #[test]
 fn any_bytes() {
     let mut seed = 1u64;
-    let mut byte = || { seed = seed.wrapping_mul(6364136223846793005).wrapping_add(1442695040888963407); (seed >> 33) as u8 };
+    let mut byte = || {
+        seed = seed.wrapping_mul(6364136223846793005).wrapping_add(1442695040888963407);
+        (seed >> 33) as u8
+    };
     let mut tries = 0;
     for _ in 0..20_000 {
         let bytes: Vec<u8> = (0..byte() % 12).map(|_| byte()).collect();
@@ -117,7 +133,9 @@ fn any_bytes() {
             let items: Vec<_> = trie.prefix("").unwrap().collect();
             let longest = trie.longest_prefix(&key);
             let mut cursor = trie.cursor();
-            for byte in &key { cursor.step(*byte); }
+            for byte in &key {
+                cursor.step(*byte);
+            }
             let taken = cursor.take_value();
             let _ = (trie.with_prefix(&key).is_some_and(|cursor| cursor.is_empty()), cursor.run().len());
             if trie.is_well_formed() {
@@ -125,8 +143,10 @@ fn any_bytes() {
                 assert_eq!(found, taken);
                 assert!(trie.iter().eq(items.iter().cloned()));
                 assert!(items.iter().all(|(k, v)| trie.get(k) == Some(*v)));
-                assert_eq!(longest.map(|(k, v)| (k.len(), v)),
-                    (0..=key.len()).rev().find_map(|n| trie.get(&key[..n]).map(|v| (n, v))));
+                assert_eq!(
+                    longest.map(|(k, v)| (k.len(), v)),
+                    (0..=key.len()).rev().find_map(|n| trie.get(&key[..n]).map(|v| (n, v)))
+                );
             }
         }
     }
@@ -140,7 +160,9 @@ fn many_threads_read_at_once() {
     std::thread::scope(|scope| {
         for _ in 0..4 {
             scope.spawn(move || {
-                for n in 0..500usize { assert_eq!(trie.get(n.to_string()), Some(n)); }
+                for n in 0..500usize {
+                    assert_eq!(trie.get(n.to_string()), Some(n));
+                }
                 assert_eq!(trie.iter().count(), 500);
             });
         }
