@@ -1,5 +1,5 @@
 -- What each command prints, what it leaves in files, and how it ends.
-use Rattle.std.specs.Prelude.{◌≡◌, ℕ, List, Option, Some, IfSome, Bool, true, false, map}
+use Rattle.std.specs.Prelude.{◌≡◌, ◌⊎◌, ℕ, List, Option, Some, IfSome, Bool, true, false, map}
 use Rattle.std.specs.Io.KnownBytes.{Appends}
 use Rattle.zerotrie_core.specs.WellFormed.{IsWellFormed}
 use Rattle.zerotrie_core.specs.Faults.{IsFirstFault}
@@ -104,6 +104,10 @@ pub record IsAsked (file : TrieFile) (question : Question) (input : Option (List
   pub opens : Opens file held kind bytes
   pub answers : Answers question input kind bytes old new all
 
+-- the file has a trie
+abbrev pub HasTrie : TrieFile → Option (List ℕ) → Option Files → Type 0
+HasTrie file input files = (held : List ℕ) × IsRead file.place input files held × (kind : TrieKind) × (bytes : List ℕ) × Opens file held kind bytes
+
 -- the file has no trie
 abbrev pub HasNoTrie : TrieFile → Option (List ℕ) → Option Files → Type 0
 HasNoTrie file input files = (held : List ℕ) × IsRead file.place input files held × (why : OpenError) × Explains file.kind held why
@@ -112,22 +116,23 @@ HasNoTrie file input files = (held : List ℕ) × IsRead file.place input files 
 abbrev pub IsFaultIn : Option TrieKind → List ℕ → ByteFault → Type 0
 IsFaultIn named held fault = (kind : TrieKind) × (bytes : List ℕ) × Holds named held kind bytes × IsFirstFault (kind_of kind) bytes fault
 
--- what a file holds has no answer: it has no trie, and nothing was printed; or printing failed
+-- what a file holds has no answer: it has no trie, and nothing was printed; or it has one, and printing failed
 abbrev pub IsUnanswered : TrieFile → List ℕ → (old new : Option (List ℕ)) → AskError → Type 0
 IsUnanswered file held old new ask.TwoInputs = ⊥
 IsUnanswered file held old new (ask.Unread e) = ⊥
 IsUnanswered file held old new (ask.NoTrie why fault) = Explains file.kind held why × (new ≡ old) × IfSome fault (IsFaultIn file.kind held)
-IsUnanswered file held old new (ask.Unanswered e) = Unit {0}
+IsUnanswered file held old new (ask.Unanswered e) = (kind : TrieKind) × (bytes : List ℕ) × Opens file held kind bytes
 
 -- How a question to the trie of a file ends. The answer was printed, and all was found or not; the file and the keys are
--- both standard input; the file has no trie; or a file can't be read, output can't be written, or it is out of memory.
+-- both standard input; the file has no trie; or it is out of memory, a file can't be read or output can't be written, and then
+-- nothing was printed unless the file has a trie.
 abbrev pub RunsAsk : TrieFile → Question → Option (List ℕ) → Option Files → (old new : Option (List ℕ)) → Status → Type 0
 RunsAsk file question input files old new Done = IsAsked file question input files old new true
 RunsAsk file question input files old new Absent = IsAsked file question input files old new false
 RunsAsk file question input files old new Refused = ⊥
 RunsAsk file question input files old new BadUsage = (file.place ≡ Stream) × (of_lines question ≡ true) × (new ≡ old)
 RunsAsk file question input files old new BadInput = HasNoTrie file input files × (new ≡ old)
-RunsAsk file question input files old new Fault = Unit {0}
+RunsAsk file question input files old new Fault = (new ≡ old) ⊎ HasTrie file input files
 
 -- why a question has no answer, as the end of a run
 abbrev pub ask_status : AskError → Status
@@ -154,15 +159,19 @@ abbrev pub IsKept : Place → World → World → Type 0
 IsKept (File path) before after = (after.printed ≡ before.printed) × FilesKnown before.files after.files (Kept path.now)
 IsKept Stream before after = after.files ≡ before.files
 
--- How a build ends. The file was made; its keys are refused, or its input is no pairs; or a file can't be read or written,
--- or it is out of memory.
+-- the input makes a file
+abbrev pub MakesFile : Build → Option (List ℕ) → Option Files → Type 0
+MakesFile build input files = (all : List ℕ) × IsRead build.from input files all × (file : List ℕ) × IsFile build.plan all file
+
+-- How a build ends. The file was made; its keys are refused, or its input is no pairs; or it is out of memory, or a file can't be
+-- read or written, and then nothing was printed unless the input makes a file.
 abbrev pub RunsBuild : Build → Option (List ℕ) → World → World → Status → Type 0
 RunsBuild build input before after Done = IsMade build input before after
 RunsBuild build input before after Absent = ⊥
 RunsBuild build input before after Refused = IsRefused build input before after Refused
 RunsBuild build input before after BadUsage = ⊥
 RunsBuild build input before after BadInput = IsRefused build input before after BadInput
-RunsBuild build input before after Fault = IsKept build.to before after
+RunsBuild build input before after Fault = IsKept build.to before after × ((after.printed ≡ before.printed) ⊎ MakesFile build input before.files)
 
 -- why no file is made, as the end of a run
 abbrev pub build_status : BuildError → Status
