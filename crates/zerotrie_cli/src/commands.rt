@@ -93,10 +93,13 @@ pub fn run_words(rt: &HostRuntime) -> Status {
     match arguments(rt) {
         Ok(words) => obey(rt, words.as_slice()),
         Err(error) => {
-            let _ = eprintln!(rt; "zerotrie: the arguments can't be read: {error}");
             if error.kind() == io::ErrorKind::InvalidData {
+                let _ = eprintln!(rt;
+                    "zerotrie: the arguments are not UTF-8; give keys of other bytes as lines of standard input"
+                );
                 Status::BadUsage
             } else {
+                let _ = eprintln!(rt; "zerotrie: the arguments can't be read: {error}");
                 Status::Fault
             }
         }

@@ -22,7 +22,8 @@ const FILE: Argument = Argument {
 const KIND: Argument = Argument {
     name: "kind",
     form: Form::OneOf("K", KINDS, Otherwise::Nothing),
-    help: "Read FILE as bare bytes of this kind, as build --bare writes them; without it the first byte tells the kind",
+    help: "Only for a file of build --bare: read it as bare bytes of this kind. Any other file has the number of its kind in \
+        front, which would be taken for the first byte of every key",
 };
 
 const TRUST: Argument = Argument {
