@@ -7,6 +7,16 @@
  *         && zerotrie_get(ZEROTRIE_SIMPLE_ASCII, trie, len, (const uint8_t *)"bar", 3, &value))
  *         printf("bar is %zu, in %zu bytes\n", value, len);
  *
+ * A file that the program `zerotrie build` wrote is tagged bytes: the number of the kind, then the trie. Given whole to another
+ * function it can pass for a trie whose keys all begin with that number. Take the number off first:
+ *
+ *     uint32_t kind;
+ *     zerotrie_bytes trie;
+ *     if (zerotrie_untagged(file, file_len, &kind, &trie) == ZEROTRIE_DONE
+ *         && zerotrie_is_well_formed(kind, trie.ptr, trie.len)
+ *         && zerotrie_get(kind, trie.ptr, trie.len, (const uint8_t *)"bar", 3, &value))
+ *         printf("bar is %zu\n", value);
+ *
  * bindings/make makes libzerotrie.a and libzerotrie.so in bindings/build, for 64-bit Linux on x86-64:
  *
  *     cc -Ibindings/c program.c bindings/build/libzerotrie.a

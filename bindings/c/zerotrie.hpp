@@ -6,6 +6,10 @@
 //     const zerotrie::Trie trie(zerotrie::Kind::SimpleAscii, bytes);
 //     trie.get("bar"); // 2
 //
+// A file that the program `zerotrie build` wrote is tagged: Trie::from_tagged(file) reads it, and Trie::checked(kind, file) would
+// take its first byte for that of every key. The table that `zerotrie code --lang c --name names` wrote has a zero after it, which
+// is not of the trie: Trie(Kind(names_kind), Bytes(names_bytes, sizeof names_bytes - 1)).
+//
 // Bytes, Trie, Cursor and DenseTable are views: copying one copies no bytes, and the bytes that it was made of have to outlive it,
 // as those of a std::string_view. Items owns what it lists. What is refused is thrown as Error, a value below 0 or from 2^64 on as
 // std::out_of_range, and out of memory as std::bad_alloc; what is noexcept throws nothing. Many threads may ask one Trie at once; a

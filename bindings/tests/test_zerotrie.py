@@ -221,4 +221,18 @@ for thread in threads:
     thread.start()
 for thread in threads:
     thread.join()
+
+def refused_in_words(call, *words):
+    try:
+        call()
+    except (TypeError, ValueError) as error:
+        assert all(word in str(error) for word in words), error
+    else:
+        raise AssertionError(words)
+
+
+refused_in_words(lambda: zerotrie.build({"a": "b"}), "a value is a whole number, not str")
+refused_in_words(lambda: zerotrie.build({1: 1}), "a key is text or bytes, not int")
+refused_in_words(lambda: zerotrie.ZeroTrie.build({"a": 1}).get_many("a"), "takes keys")
+refused_in_words(lambda: zerotrie.ZeroTrie(zerotrie.build({"\u00e5": 1})), "no trie of kind 0", "from_tagged()")
 print("python: ok")

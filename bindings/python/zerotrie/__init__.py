@@ -159,11 +159,20 @@ _NOTHING = ctypes.cast(c_char_p(b""), c_void_p)
 def _key(key: Key) -> bytes:
     if type(key) is bytes:
         return key
-    # a number is no key: bytes() would make as many zeros of it
-    return key.encode() if isinstance(key, str) else bytes(memoryview(key))
+    if isinstance(key, str):
+        return key.encode()
+    try:
+        # a number is no key: bytes() would make as many zeros of it
+        return bytes(memoryview(key))
+    except TypeError:
+        raise TypeError(f"a key is text or bytes, not {type(key).__name__}") from None
 
 
 def _number(number: int, bits: int, what: str) -> int:
+    try:
+        operator.index(number)
+    except TypeError:
+        raise TypeError(f"{what} is a whole number, not {type(number).__name__}") from None
     # ctypes would cut off what is too much
     if not 0 <= number < 1 << bits:
         raise OverflowError(f"{what} is from 0 to 2**{bits} - 1")
@@ -209,8 +218,9 @@ def _built(write: Any, pairs: Pairs, kind: Optional[int]) -> tuple[bytes, int]:
 
 
 def build(pairs: Pairs, kind: Optional[int] = None) -> bytes:
-    """The bytes of the trie of pairs in any order, or of a mapping. With no kind it is that of auto_kind(). What the library writes
-    is copied once; keys that are `bytes` are not.
+    """The bytes of the trie of pairs in any order, or of a mapping. With no kind it is that of auto_kind(), which the bytes don't
+    tell: take ZeroTrie.build(), which keeps it, or name the kind here and there. What the library writes is copied once; keys that
+    are `bytes` are not.
 
     ZeroTrieError if a key comes twice or is none of the kind, OverflowError if a value is out of range.
 
@@ -315,7 +325,8 @@ class Cursor:
 class ZeroTrie(Mapping[bytes, int]):
     """A read-only map from byte strings to numbers, over bytes that are not copied.
 
-    The bytes are those of build(), or of a file. They stay in use as long as the trie is: don't change them. Unless `check` is
+    The bytes are those of build(), with no tag. What `zerotrie build` or to_tagged() wrote is read by open() or from_tagged(): here
+    its first byte would be that of every key. The bytes stay in use as long as the trie is: don't change them. Unless `check` is
     false, they are tested first: ValueError if they are no trie of the kind. ZeroTrieError if the number is that of no kind.
 
     It is a Mapping, whose items(), keys() and values() are iterators, in the order of the bytes. len() lists all pairs. Two tries
@@ -339,7 +350,8 @@ class ZeroTrie(Mapping[bytes, int]):
         else:
             self._at = c_void_p(ctypes.addressof(c_uint8.from_buffer(self._view)))
         if check and not self.is_well_formed():
-            raise ValueError("the bytes are no trie of the kind")
+            raise ValueError(f"the bytes are no trie of kind {self._kind}: name the kind that they were built with, or read tagged "
+                             "bytes by from_tagged()")
 
     @classmethod
     def build(cls: type[Trie], pairs: Pairs, kind: Optional[int] = None) -> Trie:
@@ -360,8 +372,8 @@ class ZeroTrie(Mapping[bytes, int]):
     def open(cls: type[Trie], path: Any, kind: Optional[int] = None, check: bool = True) -> Trie:
         """The trie of a file, mapped into memory: tagged bytes, as `zerotrie build` writes them, or with a kind the trie alone.
 
-        Don't cut or overwrite the file while a trie uses it: to read beyond its end kills the process. Write a new file and rename it,
-        as `zerotrie build` does.
+        Don't cut or overwrite the file while a trie uses it: to read beyond its end kills the process. Write a new file and rename
+        it, as `zerotrie build` does.
         """
         with open(path, "rb") as file:
             size = os.fstat(file.fileno()).st_size
@@ -393,6 +405,8 @@ class ZeroTrie(Mapping[bytes, int]):
         >>> list(ZeroTrie.build({"foo": 1, "bar": 2}).get_many(["bar", "x"], missing=0))
         [2, 0]
         """
+        if isinstance(keys, (str, bytes)):
+            raise TypeError("get_many() takes keys, as in a list, and not one key")
         texts = [key if type(key) is bytes else _key(key) for key in keys]
         if not texts:
             return array.array("Q")
@@ -450,7 +464,10 @@ class ZeroTrie(Mapping[bytes, int]):
                 room = max(room, next_len.value)
 
     def items(self, prefix: Key = b"") -> Iterator[tuple[bytes, int]]:  # type: ignore[override]
-        """The pairs whose keys begin with the prefix, in the order of the trie's bytes. They are listed a part at a time."""
+        """The pairs whose keys begin with the prefix, in the order of the trie's bytes: in SIMPLE_ASCII that of the keys.
+
+        They are listed a part at a time.
+        """
         for text, ends, values, count in self._parts(prefix):
             at = 0
             for number in range(count):

@@ -16,8 +16,9 @@
 //! those of a prefix. [`DenseTable`] is a map from two texts.
 //!
 //! The library asks nothing of a call beside what its pointers owe, and slices of Rust give that. So each function here is
-//! safe: it returns on any bytes, and any number of threads may read one trie at once. Bytes from elsewhere are tested by
-//! [`ZeroTrie::try_from_bytes`] or [`ZeroTrie::load`]; on bytes that are no trie each call still gives some answer.
+//! safe: it returns on any bytes, and any number of threads may read one trie at once. Bytes from elsewhere are tested: a
+//! file that the program `zerotrie build` wrote by [`ZeroTrie::load`], and bytes without the number of a kind in front by
+//! [`ZeroTrie::try_from_bytes`]. On bytes that are no trie each call still gives some answer.
 //!
 //! A package names it by its path, as `zerotrie-proved = { path = "zt/bindings/rust/zerotrie-proved" }`. It is `no_std` with `alloc`.
 //! What the library itself takes during a build or a listing comes from the C library's `malloc`, and [`Error::OutOfMemory`] tells
