@@ -12,14 +12,16 @@
 //
 // Bytes, Trie, Cursor and DenseTable are views: copying one copies no bytes, and the bytes that it was made of have to outlive it,
 // as those of a std::string_view. Items owns what it lists. What is refused is thrown as Error, a value below 0 or from 2^64 on as
-// std::out_of_range, and out of memory as std::bad_alloc; what is noexcept throws nothing. Many threads may ask one Trie at once; a
-// Cursor is for one thread at a time.
+// std::out_of_range, and out of memory as std::bad_alloc; what is noexcept throws nothing. With exceptions off (-fno-exceptions)
+// std::abort() ends the program instead: zerotrie_build() and the other functions of zerotrie.h answer a status. Many threads may
+// ask one Trie at once; a Cursor is for one thread at a time.
 #pragma once
 #include "zerotrie.h"
 
 #include <algorithm>
 #include <array>
 #include <cstddef>
+#include <cstdlib>
 #include <initializer_list>
 #include <iterator>
 #include <new>
@@ -99,18 +101,26 @@ namespace detail {
 inline zerotrie_bytes of(std::string_view text) noexcept { return zerotrie_bytes_of(text.data(), text.size()); }
 inline std::string_view text_of(zerotrie_bytes bytes) noexcept { return {reinterpret_cast<const char *>(bytes.ptr), bytes.len}; }
 inline uint8_t *room(std::string &text) noexcept { return reinterpret_cast<uint8_t *>(text.data()); }
+// Throws, or ends the program if exceptions are off.
+template <class Exception> [[noreturn]] void refuse([[maybe_unused]] const Exception &why) {
+#ifdef __cpp_exceptions
+    throw why;
+#else
+    std::abort();
+#endif
+}
 // A value as C has it.
 template <class T> size_t number_of(T value) {
     static_assert(std::is_integral_v<T>, "a value is a whole number");
     const size_t number = static_cast<size_t>(value);
     bool fits = static_cast<T>(number) == value;
     if constexpr (std::is_signed_v<T>) fits = fits && value >= 0;
-    if (!fits) throw std::out_of_range("a value is from 0 to 2^64 - 1");
+    if (!fits) refuse(std::out_of_range("a value is from 0 to 2^64 - 1"));
     return number;
 }
 inline void check(uint32_t status) {
-    if (status == ZEROTRIE_OUT_OF_MEMORY) throw std::bad_alloc();
-    if (status != ZEROTRIE_DONE) throw Error(status);
+    if (status == ZEROTRIE_OUT_OF_MEMORY) refuse(std::bad_alloc());
+    if (status != ZEROTRIE_DONE) refuse(Error(status));
 }
 // What a call writes into a room of this length, or else into one of the length that it asks for.
 template <class Call> std::string written(size_t len, Call call) {

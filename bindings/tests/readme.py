@@ -38,7 +38,10 @@ def program(language, body):
         return compiled([os.environ.get("CC", "cc"), "-std=c11"], "shown.c", text)
     if language == "cpp":
         text = '#include "zerotrie.hpp"\n#include <iostream>\n#include <map>\nint main() {\n' + body + "}\n"
-        return compiled([os.environ.get("CXX", "c++"), "-std=c++17"], "shown.cpp", text)
+        compiler = [os.environ.get("CXX", "c++"), "-std=c++17"]
+        # the header throws nowhere but where it is said, so it serves programs without exceptions
+        compiled([*compiler, "-fno-exceptions", "-fno-rtti"], "shown.cpp", text)
+        return compiled(compiler, "shown.cpp", text)
     return in_rust(body) if language == "rs" else [sys.executable, "-c", body]
 
 
