@@ -122,9 +122,11 @@ inline void check(uint32_t status) {
     if (status == ZEROTRIE_OUT_OF_MEMORY) refuse(std::bad_alloc());
     if (status != ZEROTRIE_DONE) refuse(Error(status));
 }
-// What a call writes into a room of this length, or else into one of the length that it asks for.
+// What a call writes into a room of this length, or else into one of the length that it asks for. Keys that lie in one another may
+// have far more bytes together than their trie, so the first room has a limit.
 template <class Call> std::string written(size_t len, Call call) {
     std::string out;
+    len = std::min<size_t>(len, 1 << 30);
     uint32_t status = ZEROTRIE_BUFFER_TOO_SMALL;
     for (int turn = 0; turn < 2 && status == ZEROTRIE_BUFFER_TOO_SMALL; turn++) {
         out.resize(len);
@@ -132,6 +134,7 @@ template <class Call> std::string written(size_t len, Call call) {
     }
     check(status);
     out.resize(len);
+    out.shrink_to_fit();
     return out;
 }
 

@@ -9,6 +9,7 @@
 #include <memory_resource>
 #include <random>
 #include <sstream>
+#include <sys/mman.h>
 #if __cplusplus >= 202002L
 #include <ranges>
 #endif
@@ -183,6 +184,27 @@ static void builds(const Map &map, const std::string &bytes) {
     static_assert(!std::is_convertible_v<double, zerotrie::Pair>);
 }
 
+// A build keeps no more room than its bytes take, and takes little if its keys lie in one another.
+static void rooms() {
+    Map map;
+    for (size_t n = 0; n < 1000; n++) map[std::string(100, 'x') + std::to_string(n)] = n;
+    const std::string bytes = zerotrie::build(Kind::SimpleAscii, map);
+    CHECK(bytes.size() < 10000 && bytes.capacity() < 2 * bytes.size());
+    // 64 keys of a terabyte in one, where a room for all of them can't be had
+    const size_t len = size_t{1} << 40;
+    void *const zeros = mmap(nullptr, len, PROT_READ, MAP_PRIVATE | MAP_ANONYMOUS | MAP_NORESERVE, -1, 0);
+    CHECK(zeros != MAP_FAILED);
+    std::vector<std::pair<std::string_view, size_t>> pairs(66, {{static_cast<const char *>(zeros), len}, 0});
+    pairs[0].first = "b", pairs[1].first = "a";
+    try {
+        CHECK(zerotrie::build_sorted(Kind::SimpleAscii, pairs).empty());
+        CHECK(false);
+    } catch (const zerotrie::Error &error) {
+        CHECK(error.status == ZEROTRIE_UNSORTED);
+    }
+    CHECK(munmap(zeros, len) == 0);
+}
+
 // Whether longest_prefix takes a string that ends with the statement, into which it would hand out a view.
 template <class T, class = void> struct takes_passing_text : std::false_type {};
 template <class T>
@@ -225,6 +247,7 @@ int main(int count, char **arguments) {
         CHECK(error.status == ZEROTRIE_DUPLICATE_KEY && std::string(error.what()) == "a key was given twice: give each key once");
     }
     builds(map, bytes);
+    rooms();
     keys_that_go();
     bytes_that_stay();
     const std::map<std::string, Map> rows{{"de", {{"AT", 8}, {"CH", 9}}}, {"en", {{"US", 5}}}};

@@ -607,17 +607,26 @@ pub fn encoded_len<K: AsRef<[u8]>>(kind: Kind, pairs: &[(K, usize)]) -> Result<u
 
 type Build = unsafe extern "C" fn(u32, *const ffi::Pair, usize, *mut u8, usize, *mut usize) -> u32;
 
-/// Calls a build with a room that is enough for most pairs, and with the length that it tells if it was not.
+/// What a build of the pairs writes.
 fn built<K: AsRef<[u8]>>(kind: Kind, pairs: &[(K, usize)], build: Build) -> Result<Vec<u8>, Error> {
     let raw = raw_pairs(pairs);
-    let mut len = raw.iter().map(|pair| pair.key.len + 4).sum();
+    let most = raw.iter().fold(0, |len: usize, pair| len.saturating_add(pair.key.len + 4));
+    written(most, |out, len| {
+        // SAFETY: a slice of pairs whose keys are borrowed, one that is borrowed alone, and a place.
+        unsafe { build(kind as u32, raw.as_ptr(), raw.len(), out.as_mut_ptr(), out.len(), len) }
+    })
+}
+
+/// What a call writes into a room of this length, or else into one of the length that it tells. Keys that lie in one another may
+/// have far more bytes together than their trie, so the first room has a limit.
+fn written(most: usize, call: impl Fn(&mut [u8], &mut usize) -> u32) -> Result<Vec<u8>, Error> {
+    let mut len = most.min(1 << 30);
     loop {
         let mut out = vec![0; len];
-        // SAFETY: a slice of pairs whose keys are borrowed, one that is this call's own, and a place.
-        let status = unsafe { build(kind as u32, raw.as_ptr(), raw.len(), out.as_mut_ptr(), out.len(), &mut len) };
-        match status {
+        match call(&mut out, &mut len) {
             0 => {
                 out.truncate(len);
+                out.shrink_to_fit();
                 return Ok(out);
             }
             8 => {}
@@ -688,11 +697,9 @@ pub fn build_dense<P: AsRef<[u8]>, S: AsRef<[u8]>>(entries: &[(P, S, usize)], de
         suffix_ends.push(suffixes.len());
     }
     let values: Vec<usize> = entries.iter().map(|entry| entry.2).collect();
-    let mut len = 64 + prefixes.len() + suffixes.len() + 8 * values.len();
-    loop {
-        let mut out = vec![0; len];
-        // SAFETY: five slices, one that is this call's own, and a place.
-        let status = unsafe {
+    written(64 + prefixes.len() + suffixes.len() + 8 * values.len(), |out, len| {
+        // SAFETY: five slices, one that is borrowed alone, and a place.
+        unsafe {
             ffi::zerotrie_dense_build(
                 prefixes.as_ptr(),
                 prefixes.len(),
@@ -707,18 +714,10 @@ pub fn build_dense<P: AsRef<[u8]>, S: AsRef<[u8]>>(entries: &[(P, S, usize)], de
                 delimiter,
                 out.as_mut_ptr(),
                 out.len(),
-                &mut len,
+                len,
             )
-        };
-        match status {
-            0 => {
-                out.truncate(len);
-                return Ok(out);
-            }
-            8 => continue,
-            status => return Err(Error::of(status)),
         }
-    }
+    })
 }
 
 /// A cursor with nothing left, for the library to write over.

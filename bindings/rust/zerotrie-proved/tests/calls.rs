@@ -77,6 +77,19 @@ fn refusals() {
     assert_eq!(Error::DuplicateKey.to_string(), "a key was given twice: give each key once");
 }
 
+/// A build keeps no more room than its bytes take, and takes little if its keys lie in one another: here they have 2^46 bytes
+/// together, a room for which can't be had.
+#[test]
+fn rooms() {
+    let front = "x".repeat(100);
+    let bytes = build(Kind::SimpleAscii, (0..1000usize).map(|n| (format!("{front}{n}"), n))).unwrap();
+    assert!(bytes.len() < 10_000 && bytes.capacity() < 2 * bytes.len());
+    let zeros = vec![0; 1 << 30];
+    let mut pairs = vec![(&zeros[..], 0); 1 << 16];
+    (pairs[0].0, pairs[1].0) = (b"b", b"a");
+    assert_eq!(build_sorted(Kind::SimpleAscii, &pairs), Err(Error::Unsorted));
+}
+
 #[test]
 fn dense_tables() {
     let texts: Vec<String> = (0..300usize).map(|n| format!("{n:03}")).collect();
