@@ -407,7 +407,7 @@ public:
     // The pairs, or those whose keys begin with a prefix.
     [[nodiscard]] Items items(std::string_view prefix = {}) const { return Items(kind_, bytes_, prefix); }
     // Calls each(key, value) for these pairs in their order. They are listed a part at a time; a key is a view for the call alone.
-    template <class Each> void for_each(Each each, std::string_view prefix = {}) const {
+    template <class Each> void for_each(Each &&each, std::string_view prefix = {}) const {
         for (detail::Parts parts(kind_, bytes_, prefix); parts.next();) {
             for (size_t i = 0; i < parts.size(); i++) {
                 const auto [key, value] = parts[i];

@@ -225,6 +225,13 @@ int main(int count, char **arguments) {
     std::string listed;
     trie->for_each([&](std::string_view key, size_t value) { listed += std::string(key) + std::to_string(value); }, "ba");
     CHECK(listed == "bar2bazzoo3");
+    // an object that is called keeps what it counts: it is no copy of it that is called
+    struct Counter {
+        size_t pairs = 0;
+        void operator()(std::string_view, size_t) { pairs++; }
+    } counter;
+    trie->for_each(counter);
+    CHECK(counter.pairs == 3);
     CHECK(zerotrie::build(Kind::SimpleAscii, items) == zerotrie::build(Kind::SimpleAscii, Map{{"bar", 2}, {"bazzoo", 3}}));
     // bytes that are no trie, of which each byte is a value of the empty key: their listing ends
     const std::string hostile(300000, '\x81');
