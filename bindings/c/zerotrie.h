@@ -1,4 +1,4 @@
-/* zerotrie for C: maps from byte strings to numbers, as flat bytes that are read where they lie.
+/* zerotrie for C99 and later, and for C++: maps from byte strings to numbers, as flat bytes that are read where they lie.
  *
  *     zerotrie_pair pairs[] = { { ZEROTRIE_TEXT("foo"), 1 }, { ZEROTRIE_TEXT("bar"), 2 }, { ZEROTRIE_TEXT("bazzoo"), 3 } };
  *     uint8_t trie[64];

@@ -22,8 +22,8 @@
 //!
 //! A package names it by its path, as `zerotrie-proved = { path = "zt/bindings/rust/zerotrie-proved" }`. It is `no_std` with `alloc`.
 //! What the library itself takes during a build or a listing comes from the C library's `malloc`, and [`Error::OutOfMemory`] tells
-//! that there was none. `bindings/make` makes the static library that is linked; the variable `ZEROTRIE_LIB`
-//! names its folder, if it is another.
+//! that there was none. `bindings/make` makes the static library that is linked, for 64-bit Linux on x86-64; the variable
+//! `ZEROTRIE_LIB` names its folder, if it is another.
 #![no_std]
 extern crate alloc;
 
@@ -49,6 +49,7 @@ pub enum Kind {
 impl Kind {
     /// The kind for pairs if you have no wish: `SimpleAscii` if all keys are ASCII and there are fewer than 512, else
     /// `PerfectHash`.
+    #[must_use]
     pub fn for_pairs<K: AsRef<[u8]>>(pairs: &[(K, usize)]) -> Kind {
         let pairs = raw_pairs(pairs);
         // SAFETY: a slice of pairs, whose keys are borrowed.
@@ -158,6 +159,7 @@ pub struct ZeroTrie<'a> {
 
 impl<'a> ZeroTrie<'a> {
     /// The trie of these bytes, which are not tested: if they are no trie of the kind, each call gives some answer.
+    #[must_use]
     pub const fn from_bytes(kind: Kind, bytes: &'a [u8]) -> Self {
         ZeroTrie { kind, bytes }
     }
@@ -214,6 +216,7 @@ impl<'a> ZeroTrie<'a> {
     }
 
     /// Tagged bytes: the number of the kind, and then the bytes. `load` reads them.
+    #[must_use]
     pub fn to_tagged(&self) -> Vec<u8> {
         let (mut out, mut len) = (vec![0; self.bytes.len() + 1], 0);
         // SAFETY: a slice that is read, one that is written and is this call's own, and a place.
@@ -232,17 +235,20 @@ impl<'a> ZeroTrie<'a> {
     }
 
     /// Whether the bytes are a trie of the kind, every rule of the format kept.
+    #[must_use]
     pub fn is_well_formed(&self) -> bool {
         // SAFETY: a slice, borrowed for the call.
         unsafe { ffi::zerotrie_is_well_formed(self.number(), self.bytes.as_ptr(), self.bytes.len()) }
     }
 
     /// The kind of the trie.
+    #[must_use]
     pub const fn kind(&self) -> Kind {
         self.kind
     }
 
     /// The bytes of the trie.
+    #[must_use]
     pub const fn as_bytes(&self) -> &'a [u8] {
         self.bytes
     }
@@ -253,6 +259,7 @@ impl<'a> ZeroTrie<'a> {
 
     /// The value of the key, or `None` if the trie has no such key.
     #[inline]
+    #[must_use]
     pub fn get(&self, key: impl AsRef<[u8]>) -> Option<usize> {
         let (key, mut value) = (key.as_ref(), 0);
         // SAFETY: two slices, and a place that is this call's own.
@@ -263,6 +270,7 @@ impl<'a> ZeroTrie<'a> {
     }
 
     /// Whether the trie has the key.
+    #[must_use]
     pub fn contains_key(&self, key: impl AsRef<[u8]>) -> bool {
         self.get(key).is_some()
     }
@@ -298,6 +306,7 @@ impl<'a> ZeroTrie<'a> {
     }
 
     /// The longest key that a text begins with, as a part of the text, and its value. `None` if the text begins with no key.
+    #[must_use]
     pub fn longest_prefix<'t, T: AsRef<[u8]> + ?Sized>(&self, text: &'t T) -> Option<(&'t [u8], usize)> {
         let (text, mut len, mut value) = (text.as_ref(), 0, 0);
         // SAFETY: two slices, and two places that are this call's own.
@@ -316,6 +325,7 @@ impl<'a> ZeroTrie<'a> {
     }
 
     /// A cursor in front of all keys.
+    #[must_use]
     pub fn cursor(&self) -> Cursor<'a> {
         let mut raw = nowhere(self.bytes);
         // SAFETY: a slice, and a cursor that is this call's own.
@@ -331,6 +341,7 @@ impl<'a> ZeroTrie<'a> {
     /// assert_eq!(trie.with_prefix("ab").and_then(|mut cursor| cursor.take_value()), Some(6));
     /// assert!(trie.with_prefix("b").is_none());
     /// ```
+    #[must_use]
     pub fn with_prefix(&self, prefix: impl AsRef<[u8]>) -> Option<Cursor<'a>> {
         let (prefix, mut raw) = (prefix.as_ref(), nowhere(self.bytes));
         // SAFETY: two slices, and a cursor that is this call's own.
@@ -355,6 +366,7 @@ impl<'a> ZeroTrie<'a> {
     /// let pairs: Vec<_> = ZeroTrie::from_bytes(Kind::SimpleAscii, b"a\x85b\x86").iter().collect();
     /// assert_eq!(pairs, [(b"a".to_vec(), 5), (b"ab".to_vec(), 6)]);
     /// ```
+    #[must_use]
     pub fn iter(&self) -> Iter<'a> {
         Iter { key: Vec::new(), places: vec![(self.cursor(), 0)] }
     }
@@ -478,12 +490,14 @@ impl<'a> Cursor<'a> {
     }
 
     /// What is left of the span that the cursor stands in: each key goes on with it. It is empty outside of spans.
+    #[must_use]
     pub fn run(&self) -> &'a [u8] {
         // SAFETY: both parts of a cursor are parts of the bytes that it was made over.
         unsafe { slice(self.raw.run) }
     }
 
     /// Whether no key goes on from here, and none ends here.
+    #[must_use]
     pub fn is_empty(&self) -> bool {
         self.raw.run.len == 0 && self.raw.trie.len == 0
     }
@@ -573,13 +587,15 @@ impl ExactSizeIterator for Items {}
 impl FusedIterator for Items {}
 
 /// The bytes of the trie of pairs in any order, as of an array, a map or another iterator. Refused if a key comes twice, or is none of
-/// the kind.
+/// the kind. Of a map that is lent the pairs are `map.iter().map(|(key, value)| (key, *value))`.
 ///
 /// ```
 /// # use std::collections::BTreeMap;
 /// # use zerotrie_proved::{Error, Kind, build};
 /// let map = BTreeMap::from([("foo".to_string(), 1), ("bar".to_string(), 2)]);
-/// assert_eq!(build(Kind::SimpleAscii, map)?, b"\xC2bf\x03ar\x82oo\x81");
+/// let lent = map.iter().map(|(key, value)| (key, *value));
+/// assert_eq!(build(Kind::SimpleAscii, lent)?, b"\xC2bf\x03ar\x82oo\x81");
+/// assert_eq!(build(Kind::SimpleAscii, map)?.len(), 10);
 /// let error = build(Kind::SimpleAscii, [("a", 1), ("a", 2)]).unwrap_err();
 /// assert_eq!(error.to_string(), "a key was given twice: give each key once");
 /// # Ok::<(), Error>(())
@@ -658,6 +674,7 @@ pub struct DenseTable<'a> {
 
 impl<'a> DenseTable<'a> {
     /// The table of a record, which is not tested.
+    #[must_use]
     pub const fn from_record(record: &'a [u8]) -> Self {
         DenseTable { record }
     }
