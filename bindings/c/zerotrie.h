@@ -262,8 +262,9 @@ uint32_t zerotrie_dense_build(const uint8_t *prefixes, size_t prefixes_len, cons
 /* Lists the pairs whose keys begin with the prefix (an empty one: all), in the order of the trie's bytes, which in
  * SIMPLE_ASCII is that of the keys. The keys go to `keys` one after another, where each ends to `ends`, the values to
  * `values`; the rest of each room stays. *key_bytes and *count tell how long they are. With ZEROTRIE_BUFFER_TOO_SMALL some room
- * has too few places, and nothing is written to such a one. ZEROTRIE_OUT_OF_MEMORY: the three rooms stay. A trie of n bytes
- * has at most n pairs. Takes memory, as much as it lists. zerotrie_list_some() lists a large trie in parts. */
+ * has too few places, and nothing is written to such a one; so a call with three lengths of 0 tells what rooms to take.
+ * ZEROTRIE_OUT_OF_MEMORY: the three rooms stay. A trie of n bytes has at most n pairs. Takes memory, as much as it lists.
+ * zerotrie_list_some() lists a large trie in parts. */
 ZEROTRIE_ANSWERS
 uint32_t zerotrie_list(uint32_t kind, const uint8_t *bytes, size_t len, const uint8_t *prefix, size_t prefix_len,
                        uint8_t *keys, size_t keys_len, size_t *ends, size_t ends_len, size_t *values, size_t values_len,

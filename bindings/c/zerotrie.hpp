@@ -11,10 +11,13 @@
 // is not of the trie: Trie(Kind(names_kind), Bytes(names_bytes, sizeof names_bytes - 1)).
 //
 // Bytes, Trie, Cursor and DenseTable are views: copying one copies no bytes, and the bytes that it was made of have to outlive it,
-// as those of a std::string_view. Items owns what it lists. What is refused is thrown as Error, a value below 0 or from 2^64 on as
-// std::out_of_range, and out of memory as std::bad_alloc; what is noexcept throws nothing. With exceptions off (-fno-exceptions)
-// std::abort() ends the program instead: zerotrie_build() and the other functions of zerotrie.h answer a status. Many threads may
-// ask one Trie at once; a Cursor is for one thread at a time.
+// as those of a std::string_view. A Trie is made at no cost: a class that owns bytes makes one of them when it is asked, and keeps
+// none, which a copy or a move of the class would leave behind. Items owns what it lists.
+//
+// What is refused is thrown as Error, a value below 0 or from 2^64 on as std::out_of_range, and out of memory as std::bad_alloc;
+// what is noexcept throws nothing. With exceptions off (-fno-exceptions) std::abort() ends the program instead: there
+// zerotrie_build() and the other functions of zerotrie.h answer a status. Many threads may ask one Trie at once; a Cursor is for
+// one thread at a time.
 #pragma once
 #include "zerotrie.h"
 

@@ -15,6 +15,26 @@
 //! look-ups and cursors read the bytes where they lie. [`ZeroTrie::iter`] goes over the pairs, and [`ZeroTrie::prefix`] over
 //! those of a prefix. [`DenseTable`] is a map from two texts.
 //!
+//! What owns bytes keeps them and their kind, tests them once, and makes a trie of them when it is asked, which costs nothing:
+//!
+//! ```
+//! # use zerotrie_proved::{Error, Kind, ZeroTrie};
+//! struct Names(Kind, Vec<u8>);
+//!
+//! impl Names {
+//!     fn new(kind: Kind, bytes: Vec<u8>) -> Result<Self, Error> {
+//!         ZeroTrie::try_from_bytes(kind, &bytes)?;
+//!         Ok(Names(kind, bytes))
+//!     }
+//!
+//!     fn trie(&self) -> ZeroTrie<'_> {
+//!         ZeroTrie::from_bytes(self.0, &self.1)
+//!     }
+//! }
+//! assert_eq!(Names::new(Kind::SimpleAscii, b"in\x83".to_vec())?.trie().get("in"), Some(3));
+//! # Ok::<(), Error>(())
+//! ```
+//!
 //! The library asks nothing of a call beside what its pointers owe, and slices of Rust give that. So each function here is
 //! safe: it returns on any bytes, and any number of threads may read one trie at once. Bytes from elsewhere are tested: a
 //! file that the program `zerotrie build` wrote by [`ZeroTrie::load`], and bytes without the number of a kind in front by
