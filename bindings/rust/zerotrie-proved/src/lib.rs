@@ -379,7 +379,7 @@ impl<'a> ZeroTrie<'a> {
     }
 
     /// The pairs, one after another, in the order of the bytes, which in `SimpleAscii` is that of the keys. It goes on as it is
-    /// asked, and keeps a key and the places on the way to it.
+    /// asked, and keeps a key and the branches on the way to it that have more edges.
     ///
     /// ```
     /// # use zerotrie_proved::{Kind, ZeroTrie};
@@ -388,7 +388,7 @@ impl<'a> ZeroTrie<'a> {
     /// ```
     #[must_use]
     pub fn iter(&self) -> Iter<'a> {
-        Iter { key: Vec::new(), places: vec![(self.cursor(), 0)] }
+        Iter { key: Vec::new(), places: vec![Place { cursor: self.cursor(), edge: 0, len: 0 }] }
     }
 
     /// The pairs whose keys begin with a prefix, listed at once; each with its whole key. `OutOfMemory` if the library gets none.
@@ -534,11 +534,19 @@ unsafe impl Send for Cursor<'_> {}
 // SAFETY: the same.
 unsafe impl Sync for Cursor<'_> {}
 
-/// The pairs of a trie, by a cursor for each byte of the key in hand.
+/// The pairs of a trie, one after another.
 #[derive(Clone, Debug)]
 pub struct Iter<'a> {
     key: Vec<u8>,
-    places: Vec<(Cursor<'a>, usize)>,
+    places: Vec<Place<'a>>,
+}
+
+/// A place that has more to list: the number of its next edge, and the length of the key that leads to it.
+#[derive(Clone, Debug)]
+struct Place<'a> {
+    cursor: Cursor<'a>,
+    edge: usize,
+    len: usize,
 }
 
 impl Iterator for Iter<'_> {
@@ -546,23 +554,25 @@ impl Iterator for Iter<'_> {
 
     fn next(&mut self) -> Option<(Vec<u8>, usize)> {
         loop {
-            let (place, edges) = self.places.last_mut()?;
-            if *edges == 0
-                && let Some(value) = place.take_value()
+            let place = self.places.last_mut()?;
+            self.key.truncate(place.len);
+            if place.edge == 0
+                && let Some(value) = place.cursor.take_value()
             {
                 return Some((self.key.clone(), value));
             }
-            let mut below = *place;
-            match below.probe(*edges) {
-                Some((byte, _)) => {
-                    *edges += 1;
-                    self.key.push(byte);
-                    self.places.push((below, 0));
-                }
-                None => {
-                    self.places.pop();
-                    self.key.pop();
-                }
+            let mut cursor = place.cursor;
+            let Some((byte, siblings)) = cursor.probe(place.edge) else {
+                self.places.pop();
+                continue;
+            };
+            place.edge += 1;
+            self.key.push(byte);
+            let below = Place { cursor, edge: 0, len: self.key.len() };
+            if place.edge == usize::from(siblings) {
+                *place = below;
+            } else {
+                self.places.push(below);
             }
         }
     }

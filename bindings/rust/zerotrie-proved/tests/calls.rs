@@ -62,6 +62,17 @@ fn a_listing_that_comes_round_ends() {
     assert!(trie.iter().count() <= bytes.len());
 }
 
+/// An iterator keeps no place for each byte of a long key: its memory would be fifty times that of the trie.
+#[test]
+fn a_long_key_takes_little() {
+    let long = "x".repeat(10_000);
+    let bytes = build(Kind::SimpleAscii, [(&long[..], 1), (&long[..5000], 2), ("xy", 3)]).unwrap();
+    let mut pairs = ZeroTrie::from_bytes(Kind::SimpleAscii, &bytes).iter();
+    assert_eq!(pairs.next(), Some((long[..5000].into(), 2)));
+    assert!(format!("{pairs:?}").matches("Cursor").count() < 5);
+    assert!(pairs.eq([(long.into_bytes(), 1), (b"xy".to_vec(), 3)]));
+}
+
 #[test]
 fn refusals() {
     assert_eq!(build(Kind::SimpleAscii, [("å", 1)]), Err(Error::NonAscii));
