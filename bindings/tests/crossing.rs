@@ -49,9 +49,16 @@ fn main() {
     for round in 0..300 {
         let letters = 1 + random(26);
         let count = if round % 50 == 0 { 3000 } else { random(200) };
+        let low = if round % 3 == 0 { 0 } else { b'a' };
         let high = if round % 2 == 0 { 0 } else { 120 };
         let map: Map = (0..count)
-            .map(|_| ((0..random(9)).map(|_| b'a' + (random(letters) as u8) + high * random(2) as u8).collect(), (random(1 << 31) >> random(31)) as usize))
+            .map(|_| {
+                let key = (0..random(9)).map(|_| low + (random(letters) as u8) + high * random(2) as u8).collect();
+                // a number of up to 64 bits, and as often the last or the first of a length
+                let edges = [0, 15, 16, 2063, 2064, 264207, 264208, 33818639, 33818640, usize::MAX];
+                let number = (random(1 << 31) << 33 | random(1 << 31) << 2 | random(4)) >> random(64);
+                (key, if random(2) == 0 { number as usize } else { edges[random(10) as usize] })
+            })
             .collect();
         let hash = original::ZeroTriePerfectHash::try_from(&map).unwrap().into_store();
         crossed(3, &map, &hash, false, |bytes, key| original::ZeroTriePerfectHash::from_bytes(bytes).get(key));
