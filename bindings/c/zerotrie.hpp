@@ -347,6 +347,8 @@ private:
 // A trie over bytes that lie elsewhere, which have to outlive it.
 class Trie {
 public:
+    // Without keys.
+    constexpr Trie() noexcept = default;
     // The bytes are not tested; if they are no trie of the kind, each call answers something.
     constexpr Trie(Kind kind, Bytes bytes) noexcept : kind_(kind), bytes_(bytes.view()) {}
     // Tests the bytes. nullopt: they are no trie of the kind.
@@ -424,7 +426,7 @@ public:
 
 private:
     uint32_t number() const noexcept { return static_cast<uint32_t>(kind_); }
-    Kind kind_;
+    Kind kind_ = Kind::SimpleAscii;
     std::string_view bytes_;
 };
 

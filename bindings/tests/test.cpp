@@ -159,6 +159,11 @@ static void bytes_that_stay() {
     CHECK(trie.get("a") == 16 && trie == Trie(Kind::SimpleAscii, array) && trie == Trie(Kind::SimpleAscii, {array, sizeof array}));
     CHECK(trie != Trie(Kind::PerfectHash, array) && trie != Trie(Kind::SimpleAscii, {}));
     CHECK(zerotrie::Trie::from_tagged("\0a\x90\x00"sv) == trie);
+    // a Trie can be a member that is set later
+    Trie later;
+    CHECK(later.items().empty() && !later.get("") && !later.longest_prefix("a"sv) && later.cursor().is_empty());
+    later = trie;
+    CHECK(later.get("a") == 16);
     CHECK(zerotrie::Cursor(Kind::SimpleAscii, {}).is_empty() && !zerotrie::Cursor(Kind::SimpleAscii, array).is_empty());
 }
 
