@@ -39,7 +39,7 @@ def program(language, body):
     if language == "cpp":
         text = '#include "zerotrie.hpp"\n#include <iostream>\n#include <map>\nint main() {\n' + body + "}\n"
         compiler = [os.environ.get("CXX", "c++"), "-std=c++17"]
-        # the header throws nowhere but where it is said, so it serves programs without exceptions
+        # programs without exceptions and run-time types take the header too
         compiled([*compiler, "-fno-exceptions", "-fno-rtti"], "shown.cpp", text)
         return compiled(compiler, "shown.cpp", text)
     return in_rust(body) if language == "rs" else [sys.executable, "-c", body]
