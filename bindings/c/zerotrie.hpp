@@ -8,7 +8,7 @@
 //
 // A file that the program `zerotrie build` wrote is tagged: Trie::from_tagged(file) reads it, and Trie::checked(kind, file) would
 // take its first byte for that of every key. The table that `zerotrie code --lang c --name names` wrote has a zero after it, which
-// is not of the trie: Trie(Kind(names_kind), Bytes(names_bytes, sizeof names_bytes - 1)).
+// is not of the trie: Trie(Kind(names_kind), Bytes(names_bytes, names_len)).
 //
 // Bytes, Trie, Cursor and DenseTable are views: copying one copies no bytes, and the bytes that it was made of have to outlive it,
 // as those of a std::string_view. A Trie is made at no cost: a class that owns bytes makes one of them when it is asked, and keeps
