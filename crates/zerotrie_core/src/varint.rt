@@ -15,6 +15,34 @@ ghost use Rattle.zerotrie_core.specs.Numbers.{Spells, BeginsWith};
 
 use arrayvec::ArrayVec;
 
+/// Reads a number of two to four bytes, as most are that have more than one. `None` if it is longer, or if there is none.
+///
+/// No number of so few bytes is too large, so nothing is tested but where it ends.
+#[inline(always)]
+fn read_few(latent: u8, start: u8, rest: &[u8]) -> Option<(usize, &[u8])>
+    requires latent { (latent ≡ 16) ⊎ (latent ≡ 32) }
+    requires more { start / latent % 2 ≢ 0 }
+    ensures { IfSome result (λ r.
+        BeginsWith latent (start / (2 * latent)) r.0 (start ∷ rest.now) r.1.now) }
+{
+    let (first, rest) = rest.split_first()?;
+    let value = 128 * (start % latent) as usize + (*first % 128) as usize + latent as usize;
+    if *first < 128 {
+        return Some((value, rest));
+    }
+    let (second, rest) = rest.split_first()?;
+    let value = 128 * value + (*second % 128) as usize + latent as usize;
+    if *second < 128 {
+        return Some((value, rest));
+    }
+    let (third, rest) = rest.split_first()?;
+    let value = 128 * value + (*third % 128) as usize + latent as usize;
+    if *third < 128 {
+        return Some((value, rest));
+    }
+    None
+}
+
 /// Reads a number of the form whose shortest number of two bytes is `latent`.
 #[inline(always)]
 fn read_number(latent: u8, start: u8, rest: &[u8]) -> Option<(usize, &[u8])>
@@ -27,6 +55,9 @@ fn read_number(latent: u8, start: u8, rest: &[u8]) -> Option<(usize, &[u8])>
     let mut value = (start % latent) as usize;
     if start / latent % 2 == 0 {
         return Some((value, rest));
+    }
+    if let Some(found) = read_few(latent, start, rest) {
+        return Some(found);
     }
     for (i, t) in rest.iter().enumerate() {
         value = value
