@@ -14,7 +14,7 @@ ghost use Rattle.zerotrie_core.specs.Shapes.{shape, branch_shape};
 ghost use Rattle.zerotrie_core.specs.Nodes.{Begins};
 ghost use Rattle.zerotrie_core.specs.Nodes.Shape.{literal, span};
 ghost use Rattle.zerotrie_core.specs.declared.stream.opened.OpenBranch.{OpenBranch};
-ghost use Rattle.zerotrie_core.specs.listing.Runs.{MovesLiterals};
+ghost use Rattle.zerotrie_core.specs.listing.Runs.{MovesLiterals, MovesAny};
 ghost use Rattle.zerotrie_core.specs.listing.Opened.{IsOpen, Nested, Stands, pairs_left, pairs_open, work_open, work_left, IsFound};
 ghost use Rattle.zerotrie_core.specs.listing.Passed.{IsBehind, IsAfterEdge, IsAfterFront, IsPast, GoesInto, IsTowards, gone_to};
 ghost use Rattle.zerotrie_core.specs.reader.Going.{AlwaysStops};
@@ -514,6 +514,45 @@ fn enter<'a, A: Allocator>(
     Ok(target)
 }
 
+/// Moves literals from the rest to the end of the key: all that stand there, but at most sixteen at once, and none if the
+/// text has fewer bytes left.
+///
+/// There is no jump on what stands there, so it costs little if that is no literal.
+#[inline(always)]
+fn push_run<'a, A: Allocator>(here: Here<'a>, key: &mut Vec<u8, A>) -> Result<Here<'a>, AllocError>
+    ensures { IfOk result (λ next. MovesAny here.entry.rest.now key.old.items next.rest.now key.new.items) }
+{
+    if here.tail.len() < 16 {
+        return Ok(here);
+    }
+    let count = here.literals();
+    let len = key.len();
+    let (sixteen, _) = here.tail.split_at(16);
+    key.extend_from_slice(sixteen)?;
+    key.truncate(len + count);
+    Ok(here.after(count))
+}
+
+/// Goes into the next target of a branch, as `enter` does, and over literals with which it begins.
+#[inline(always)]
+fn enter_run<'a, A: Allocator>(
+    key: &mut Vec<u8, A>,
+    top: &mut OpenBranch<'a>,
+) -> Result<Here<'a>, AllocError>
+    requires some { top.old.next < top.old.edges }
+    requires open { IsOpen (length key.old.items) top.old }
+    ensures stands { IfOk result (λ _. (outer : List OpenBranch) → Nested top.old.depth outer
+        → Stands (length key.new.items) top.new outer) }
+    ensures same { (kind : Kind) (outer : List OpenBranch) → Nested top.old.depth outer → IfOk result (λ here.
+        pairs_left kind key.new.items here.rest.now (top.new ∷ outer) ≡ pairs_open kind key.old.items (top.old ∷ outer)) }
+    ensures less { IfOk result (λ here. (outer : List OpenBranch)
+        → work_left here.rest.now (top.new ∷ outer) < work_open (top.old ∷ outer)) }
+{
+    let target = enter(key, top)?;
+    let here = push_run(target, key)?;
+    Ok(here)
+}
+
 /// Leaves the innermost branch if none of its targets is left, and tells whether the one at hand has some.
 #[inline(always)]
 fn has_target<'a, A: Allocator>(
@@ -586,7 +625,7 @@ fn next_value<'a, K: ZeroTrieWithOptions, A: Allocator>(
                     *here = Here::nowhere();
                     return Ok(None);
                 }
-                at = enter(key, top)?;
+                at = enter_run(key, top)?;
             }
             Some(Node::Value(value, after)) => {
                 *here = at.behind(after);

@@ -3,7 +3,7 @@ use Rattle.std.proofs.Common.{◌≡◌, ℕ, suc, ◌+◌, ◌-◌, ◌<◌, �
 use Rattle.std.specs.Prelude.{slice_index, if◌then◌else◌, IsTrue}
 use Rattle.std.proofs.lemmas.Bool.{cases_lt}
 use Rattle.std.specs.Borrow.{Bor}
-use Rattle.std.proofs.lemmas.List.{append-nil, take-append-le, take-append-drop, take_all, length-take, length-take-le, length-drop, drop_at, drop-take, take-take, get_or-take}
+use Rattle.std.proofs.lemmas.List.{append-nil, take-append-le, take-append-drop, take_all, length-take, length-take-le, length-drop, drop_at, drop-take, take-take, get_or-take, take_at}
 use Rattle.std.proofs.Math.Seq.{take-append-add}
 use Rattle.zerotrie_core.specs.Kind.{Kind}
 use Rattle.zerotrie_core.specs.Maps.{Pairs, with_front, with_run}
@@ -12,7 +12,7 @@ use Rattle.zerotrie_core.specs.Nodes as shapes
 use Rattle.zerotrie_core.specs.Branches.{before_edges}
 use Rattle.zerotrie_core.specs.listing.Listed.{listed, of_node, of_targets, node_of, is_in_order, target_of}
 use Rattle.zerotrie_core.specs.listing.Opened.{pairs_behind, pairs_open, pairs_left, IsOpen, Nested, Stands, work_open, work_left}
-use Rattle.zerotrie_core.specs.listing.Runs.{EndsWith, MovesLiterals}
+use Rattle.zerotrie_core.specs.listing.Runs.{EndsWith, MovesLiterals, MovesAny}
 use Rattle.zerotrie_core.specs.declared.stream.opened.OpenBranch.{OpenBranch}
 use Rattle.zerotrie_core.proofs.ListingLemmas.Nodes.{listed_node, listed_read, order_is, is_order, next_begin}
 use Rattle.zerotrie_core.proofs.NodeLemmas.Read.{InSome, Within, node_within, node_begun}
@@ -369,3 +369,23 @@ moves_sixteen rest tail key rest' key' sixteen n lies is some most within low re
       rest_is = sym (take-append-drop n rest) ∙ ap (λ x. take n rest ++ x) (sym rest_is);
       key_is = key_is ∙ take-append-add key sixteen n ∙ ap (λ x. key ++ x) same;
     }
+
+-- up to sixteen literals go, or none
+pub moves_any : (rest tail key rest' key' sixteen : List ℕ) (n : ℕ) → rest ≡ take (length rest) tail → sixteen ≡ take 16 tail → n ≤ 16 → n ≤ length rest
+    → ((k : ℕ) → k < n → slice_index rest k < 128)
+    → rest' ≡ drop n rest → key' ≡ take (length key + n) (key ++ sixteen) → MovesAny rest key rest' key'
+moves_any rest tail key rest' key' sixteen n lies is most within low rest_is key_is = elim (cases_lt 0 n) [
+  | inl some ↦ inr (moves_sixteen rest tail key rest' key' sixteen n lies is some most within low rest_is key_is)
+  | inr none ↦
+      let zero : n ≡ 0 = omega (arith, none) in
+      let no_more : length key + n ≡ length key = omega (arith, zero) in
+      inl (rest_is ∙ ap (λ m. drop m rest) zero, key_is ∙ (ap (λ m. take m (key ++ sixteen)) no_more ∙ take_at key sixteen (length key) refl))
+]
+
+-- and what is left stays
+pub at_any : (kind : Kind) (prefix rest prefix' rest' : List ℕ) (branches : List OpenBranch) → FirstLow (length prefix) branches → MovesAny rest prefix rest' prefix'
+    → pairs_left kind prefix' rest' branches ≡ pairs_left kind prefix rest branches
+at_any kind prefix rest prefix' rest' branches low moves = elim moves [
+  | inl same ↦ rw (same.0, same.1) refl
+  | inr some ↦ sym (at_literals kind prefix rest prefix' rest' branches low some)
+]

@@ -1,5 +1,5 @@
 -- Bytes at the front and at the end of others, and runs of literals.
-use Rattle.std.specs.Prelude.{◌≡◌, ℕ, ◌<◌, List, ◌++◌, length, slice_index}
+use Rattle.std.specs.Prelude.{◌≡◌, ℕ, ◌<◌, List, ◌++◌, ◌⊎◌, length, slice_index}
 
 -- the bytes end with these
 abbrev pub EndsWith : List ℕ → List ℕ → Type 0
@@ -12,3 +12,7 @@ pub record MovesLiterals (rest key rest' key' : List ℕ) : Type 0 where
   pub literal : (k : ℕ) → k < length run → slice_index run k < 128
   pub rest_is : rest ≡ run ++ rest'
   pub key_is : key' ≡ key ++ run
+
+-- Nothing went, or literals did.
+abbrev pub MovesAny : List ℕ → List ℕ → List ℕ → List ℕ → Type 0
+MovesAny rest key rest' key' = ((rest' ≡ rest) × (key' ≡ key)) ⊎ MovesLiterals rest key rest' key'

@@ -107,8 +107,8 @@ loop-top-preserved g c =
 pub returns-then-not-has_target-clause-stands : goal.returns-then-not-has_target-clause-stands
 returns-then-not-has_target-clause-stands g c = c.has_target.ensures.stands (length c.loop-top.key.items) c.loop-top.invariant.stands
 
-pub enter-requires-clause-some : goal.enter-requires-clause-some
-enter-requires-clause-some g c = c.has_target.ensures.some (length c.loop-top.key.items) c.loop-top.invariant.stands c.if-not-has_target.false
+pub enter_run-requires-clause-some : goal.enter_run-requires-clause-some
+enter_run-requires-clause-some g c = c.has_target.ensures.some (length c.loop-top.key.items) c.loop-top.invariant.stands c.if-not-has_target.false
 
-pub enter-requires-clause-open : goal.enter-requires-clause-open
-enter-requires-clause-open g c = (c.has_target.ensures.stands (length c.loop-top.key.items) c.loop-top.invariant.stands).0
+pub enter_run-requires-clause-open : goal.enter_run-requires-clause-open
+enter_run-requires-clause-open g c = (c.has_target.ensures.stands (length c.loop-top.key.items) c.loop-top.invariant.stands).0
