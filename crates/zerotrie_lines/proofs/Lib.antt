@@ -1,5 +1,6 @@
 mod NumberLemmas
 mod TableLemmas
+mod PlainLemmas
 mod EscapeLemmas
 mod LineLemmas
 mod BlockLemmas

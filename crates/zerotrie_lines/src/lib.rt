@@ -10,6 +10,7 @@ mod fault;
 pub mod laws;
 mod lines;
 mod numbers;
+mod plain;
 mod reading;
 mod records;
 mod strings;
