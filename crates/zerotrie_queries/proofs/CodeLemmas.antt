@@ -9,7 +9,7 @@ use Rattle.zerotrie_queries.specs.declared.kind.TrieKind.TheVariants.{Simple, Ig
 use Rattle.zerotrie_queries.specs.declared.code.language.Language.{Language}
 use Rattle.zerotrie_queries.specs.declared.code.language.Language.TheVariants as lang
 use Rattle.zerotrie_queries.specs.code.Names.{is_letter, is_in_word, are_in_word, is_name}
-use Rattle.zerotrie_queries.specs.code.Texts.{rust_kind, c_kind, rattle_type, front, behind}
+use Rattle.zerotrie_queries.specs.code.Texts.{rust_kind, c_kind, rattle_type, c_get, front, behind}
 use Rattle.zerotrie_queries.specs.code.Items.{before_item, item_number, items, digit_value, seen_after, numbers_after}
 use Rattle.zerotrie_queries.specs.code.Items.Seen.{outside, inside, zero_seen}
 
@@ -114,16 +114,21 @@ front_read lang.C kind name rest is =
     let last = codes "_bytes[] = {" in
     let bytes = codes ";\n\n/* Its bytes, and a zero. */\nstatic const uint8_t " ++ (name ++ last) in
     let kinds = codes "_kind = " ++ (c_kind kind ++ bytes) in
-    named name kinds rest is ∙ c_kind_read kind bytes rest ∙ named name last rest is
+    let guarded = codes "_INCLUDED\n\n#include \"zerotrie.h\"\n\n/* The kind of the trie. */\nstatic const uint32_t " ++ (name ++ kinds) in
+    let guard = codes "_INCLUDED\n#define " ++ (name ++ guarded) in
+    named name guard rest is ∙ named name guarded rest is ∙ named name kinds rest is ∙ c_kind_read kind bytes rest ∙ named name last rest is
 front_read lang.Rattle kind name rest is = named name (codes "(key: &[u8]) -> Option<usize> {\n    static BYTES: &[u8] = &[") rest is
 
 -- and none after them
 pub behind_read : (language : Language) (kind : TrieKind) (name : List ℕ) → is_name name ≡ true → numbers_after outside (behind language kind name) ≡ []
 behind_read lang.Rust kind name is = refl
 behind_read lang.C kind name is =
-    let last = codes "_bytes - 1, key, key_len, value);\n}\n" in
-    let size = codes "_bytes, sizeof " ++ (name ++ last) in
-    let bytes = codes "_kind, " ++ (name ++ size) in
+    let end = codes "_bytes - 1;\n" in
+    let size = codes "_len = sizeof " ++ (name ++ end) in
+    let last = codes "_len, key, key_len, value);\n}\n\n#endif\n" in
+    let len = codes "_bytes, " ++ (name ++ last) in
+    let bytes = codes "_kind, " ++ (name ++ len) in
     let call = codes "_get(const uint8_t *key, size_t key_len, size_t *value) {\n    return zerotrie_get(" ++ (name ++ bytes) in
-    name_read name call is ∙ name_read name bytes is ∙ name_read name size is ∙ name_read name last is
+    let get = c_get name in
+    named name size get is ∙ named name end get is ∙ name_read name call is ∙ name_read name bytes is ∙ name_read name len is ∙ name_read name last is
 behind_read lang.Rattle kind name is = rattle_type_read kind (codes "::from_bytes(BYTES).get(key)\n}\n")

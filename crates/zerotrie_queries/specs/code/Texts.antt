@@ -43,10 +43,12 @@ rust_front kind name =
 -- what C has
 abbrev pub c_front : TrieKind → List ℕ → List ℕ
 c_front kind name =
-    codes "#include \"zerotrie.h\"\n\n/* The kind of the trie. */\nstatic const uint32_t " ++ (name
+    codes "#ifndef " ++ (name
+    ++ (codes "_INCLUDED\n#define " ++ (name
+    ++ (codes "_INCLUDED\n\n#include \"zerotrie.h\"\n\n/* The kind of the trie. */\nstatic const uint32_t " ++ (name
     ++ (codes "_kind = " ++ (c_kind kind
     ++ (codes ";\n\n/* Its bytes, and a zero. */\nstatic const uint8_t " ++ (name
-    ++ codes "_bytes[] = {")))))
+    ++ codes "_bytes[] = {")))))))))
 
 -- what Rattle has
 abbrev pub rattle_front : List ℕ → List ℕ
@@ -54,14 +56,25 @@ rattle_front name =
     codes "/// The value of a key. `None` if the trie has no such key.\npub fn " ++ (name
     ++ codes "(key: &[u8]) -> Option<usize> {\n    static BYTES: &[u8] = &[")
 
--- what C has after the bytes
-abbrev pub c_behind : List ℕ → List ℕ
-c_behind name =
-    codes "\n    0\n};\n\n/* Whether the trie has the key. If so, writes its value. */\nstatic inline bool " ++ (name
+-- what C has right after the bytes: a zero, and their number
+abbrev pub c_len : List ℕ → List ℕ
+c_len name =
+    codes "\n    0\n};\n\n/* How many bytes it has. */\nstatic const size_t " ++ (name
+    ++ (codes "_len = sizeof " ++ (name
+    ++ codes "_bytes - 1;\n")))
+
+-- the function of C
+abbrev pub c_get : List ℕ → List ℕ
+c_get name =
+    codes "\n/* Whether the trie has the key. If so, writes its value. */\nstatic inline bool " ++ (name
     ++ (codes "_get(const uint8_t *key, size_t key_len, size_t *value) {\n    return zerotrie_get(" ++ (name
     ++ (codes "_kind, " ++ (name
-    ++ (codes "_bytes, sizeof " ++ (name
-    ++ codes "_bytes - 1, key, key_len, value);\n}\n")))))))
+    ++ (codes "_bytes, " ++ (name
+    ++ codes "_len, key, key_len, value);\n}\n\n#endif\n")))))))
+
+-- what C has after the bytes
+abbrev pub c_behind : List ℕ → List ℕ
+c_behind name = c_len name ++ c_get name
 
 -- what Rattle has
 abbrev pub rattle_behind : TrieKind → List ℕ

@@ -2,7 +2,7 @@
 
 ghost use Rattle.std.specs.Prelude.{OnOk};
 ghost use Rattle.std.specs.Io.KnownBytes.{Appends};
-ghost use Rattle.zerotrie_queries.specs.code.Texts.{rust_front, c_front, rattle_front, c_behind, rattle_behind, front, behind};
+ghost use Rattle.zerotrie_queries.specs.code.Texts.{rust_front, c_front, rattle_front, c_len, c_get, c_behind, rattle_behind, front, behind};
 ghost use Rattle.zerotrie_queries.specs.code.Code.{code};
 
 use crate::code::items::write_items;
@@ -34,7 +34,10 @@ fn write_c_front<W: Write>(kind: TrieKind, name: &str, output: &mut W) -> io::Re
     let kind = c_kind(kind);
     write!(
         output,
-        "#include \"zerotrie.h\"
+        "#ifndef {name}_INCLUDED
+#define {name}_INCLUDED
+
+#include \"zerotrie.h\"
 
 /* The kind of the trie. */
 static const uint32_t {name}_kind = {kind};
@@ -44,10 +47,10 @@ static const uint8_t {name}_bytes[] = {{"
     )
 }
 
-/// Writes what C has after the bytes: a zero, since an array there has an item, and the function.
-fn write_c_behind<W: Write>(name: &str, output: &mut W) -> io::Result<()>
+/// Writes what C has right after the bytes: a zero, since an array there has an item, and how many bytes there are.
+fn write_c_len<W: Write>(name: &str, output: &mut W) -> io::Result<()>
     ensures { OnOk result (Appends (W.contents output.old) (W.contents output.new)
-        (c_behind name.now)) }
+        (c_len name.now)) }
 {
     write!(
         output,
@@ -55,12 +58,37 @@ fn write_c_behind<W: Write>(name: &str, output: &mut W) -> io::Result<()>
     0
 }};
 
-/* Whether the trie has the key. If so, writes its value. */
-static inline bool {name}_get(const uint8_t *key, size_t key_len, size_t *value) {{
-    return zerotrie_get({name}_kind, {name}_bytes, sizeof {name}_bytes - 1, key, key_len, value);
-}}
+/* How many bytes it has. */
+static const size_t {name}_len = sizeof {name}_bytes - 1;
 "
     )
+}
+
+/// Writes the function of C.
+fn write_c_get<W: Write>(name: &str, output: &mut W) -> io::Result<()>
+    ensures { OnOk result (Appends (W.contents output.old) (W.contents output.new)
+        (c_get name.now)) }
+{
+    write!(
+        output,
+        "
+/* Whether the trie has the key. If so, writes its value. */
+static inline bool {name}_get(const uint8_t *key, size_t key_len, size_t *value) {{
+    return zerotrie_get({name}_kind, {name}_bytes, {name}_len, key, key_len, value);
+}}
+
+#endif
+"
+    )
+}
+
+/// Writes what C has after the bytes.
+fn write_c_behind<W: Write>(name: &str, output: &mut W) -> io::Result<()>
+    ensures { OnOk result (Appends (W.contents output.old) (W.contents output.new)
+        (c_behind name.now)) }
+{
+    write_c_len(name, output)?;
+    write_c_get(name, output)
 }
 
 /// Writes what Rattle has in front of the bytes.
