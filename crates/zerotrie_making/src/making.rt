@@ -21,6 +21,8 @@ fn file_of(bare: bool, kind: TrieKind, bytes: Vec<u8>) -> Result<Vec<u8>, AllocE
 {
     let mut file = bytes;
     if !bare {
+        // room that is doubled would be a second copy of the trie
+        file.reserve_exact(1)?;
         file.insert(0, kind.tag())?;
     }
     Ok(file)

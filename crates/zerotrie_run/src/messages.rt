@@ -11,7 +11,7 @@ use std::io;
 use std::io::{ErrorKind, Write};
 use zerotrie_any::TagError;
 use zerotrie_core::{Fault, ZeroTrieBuildError};
-use zerotrie_lines::{Format, write_escaped};
+use zerotrie_lines::{BadLine, Format, write_escaped};
 use zerotrie_making::{MakeError, Shown, Source};
 use zerotrie_queries::OpenError;
 
@@ -150,6 +150,13 @@ fn refusal(alloc: Global, path: &str, unit: &str, error: &MakeError) -> io::Resu
     let mut text = Vec::new(alloc);
     write!(text, "zerotrie: {path}: ")?;
     match error {
+        MakeError::Line(number, BadLine::NoTab) => {
+            let bad = BadLine::NoTab;
+            write!(
+                text,
+                "{unit} {number}: {bad}; if the input has another form, name it by --format"
+            )?
+        }
         MakeError::Line(number, bad) => write!(text, "{unit} {number}: {bad}")?,
         MakeError::NotJson(line, column) => {
             write!(text, "line {line}, column {column}: no JSON value")?
@@ -157,7 +164,7 @@ fn refusal(alloc: Global, path: &str, unit: &str, error: &MakeError) -> io::Resu
         MakeError::NotPairs => write!(text, "neither an object nor a list")?,
         MakeError::NotPair(number) => write!(
             text,
-            "{unit} {number}: no key with a whole number below 2^64"
+            "{unit} {number}: no key with a whole number below 2^64; pairs of an object are counted in the order of its keys"
         )?,
         MakeError::Keys(shown) => {
             add_reason(&mut text, unit, shown)?;

@@ -97,7 +97,7 @@ const REFUSED: &[Row] = &[
         command: Command::Build(BUILD),
         status: Status::BadInput,
         printed: b"",
-        told: b"zerotrie: names.tsv: line 2: no tab between a key and its value\n",
+        told: b"zerotrie: names.tsv: line 2: no tab between a key and its value; if the input has another form, name it by --format\n",
         left: ("names.trie", TRIE),
     },
     Row {
