@@ -1,5 +1,7 @@
 pub use Rattle.zerotrie_base.specs.Hashes
 pub use Rattle.zerotrie_base.specs.Refusals
+pub use Rattle.zerotrie_base.specs.Caches
+pub use Rattle.zerotrie_base.specs.CacheCalls
 pub use Rattle.zerotrie_core.specs.Kind
 pub use Rattle.zerotrie_core.specs.Options
 pub use Rattle.zerotrie_core.specs.Numbers
@@ -21,6 +23,10 @@ pub use Rattle.zerotrie_core.specs.Stack
 pub use Rattle.zerotrie_core.specs.ArrayRoutes
 pub use Rattle.zerotrie_core.specs.Laws
 pub use Rattle.zerotrie_core.specs.WellFormed
+pub use Rattle.zerotrie_core.specs.Shapes
+pub use Rattle.zerotrie_core.specs.Nodes
+pub use Rattle.zerotrie_core.specs.Faults
+pub use Rattle.zerotrie_core.specs.walk
 pub use Rattle.zerotrie_build.specs.Refused
 pub use Rattle.zerotrie_any.specs.Order
 pub use Rattle.zerotrie_any.specs.Auto
