@@ -2,6 +2,7 @@
 //! is asked of a reader but that it lists bytes of the library's own builder. Keys have at most [`LONGEST`] bytes.
 
 use crate::calls::Kind;
+use std::arch::x86_64::{__m128i, _mm_loadu_si128, _mm_movemask_epi8, _mm_storeu_si128};
 
 const LONGEST: usize = 1 << 16;
 
@@ -30,6 +31,8 @@ struct Open {
 pub struct Walker {
     at: *const u8,
     end: *const u8,
+    /// From no place after this one can sixteen bytes be read.
+    last: *const u8,
     key: Vec<u8>,
     len: usize,
     open: Vec<Open>,
@@ -38,9 +41,10 @@ pub struct Walker {
 
 impl Walker {
     pub fn new(kind: Kind, bytes: &[u8]) -> Walker {
+        let last = bytes[..bytes.len().saturating_sub(16)].as_ptr_range().end;
         let bytes = bytes.as_ptr_range();
         let is_hashed = matches!(kind, Kind::Hash | Kind::Ext);
-        Walker { at: bytes.start, end: bytes.end, key: vec![0; LONGEST], len: 0, open: Vec::with_capacity(64), is_hashed }
+        Walker { at: bytes.start, end: bytes.end, last, key: vec![0; LONGEST + 16], len: 0, open: Vec::with_capacity(64), is_hashed }
     }
 
     /// A number whose lead has this many values below the extender bit.
@@ -61,6 +65,25 @@ impl Walker {
                 }
             }
             value
+        }
+    }
+
+    /// Moves the literals that stand here to the key, at most sixteen, if there are any.
+    #[inline(always)]
+    unsafe fn literals(&mut self) {
+        unsafe {
+            if self.at < self.last {
+                let sixteen = _mm_loadu_si128(self.at as *const __m128i);
+                let count = (_mm_movemask_epi8(sixteen) as u32 | 0x10000).trailing_zeros() as usize;
+                let count = count.min(self.end.offset_from(self.at) as usize);
+                _mm_storeu_si128(self.key.as_mut_ptr().add(self.len) as *mut __m128i, sixteen);
+                self.len += count;
+                self.at = self.at.add(count);
+            } else if *self.at < 0x80 {
+                *self.key.get_unchecked_mut(self.len) = *self.at;
+                self.len += 1;
+                self.at = self.at.add(1);
+            }
         }
     }
 
@@ -131,16 +154,13 @@ impl Walker {
                 self.turn();
             }
             loop {
+                self.literals();
                 let lead = *self.at;
-                if lead < 0x80 {
-                    *self.key.get_unchecked_mut(self.len) = lead;
-                    self.len += 1;
-                    self.at = self.at.add(1);
-                } else if lead < 0xA0 {
+                if (0x80..0xA0).contains(&lead) {
                     return Some(self.number(16));
                 } else if lead >= 0xC0 {
                     self.enter();
-                } else {
+                } else if lead >= 0xA0 {
                     let run = self.number(16);
                     self.at.copy_to_nonoverlapping(self.key.as_mut_ptr().add(self.len), run);
                     self.len += run;
