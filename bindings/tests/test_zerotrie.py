@@ -1,9 +1,16 @@
-"""Calls the library from Python."""
+"""Calls the library from Python. The argument `extension` or `ctypes` says by which of the two ways single look-ups go; with none they
+go by the extension if there is one."""
 
 import array
+import contextlib
 import copy
 import ctypes
 import doctest
+import functools
+import gc
+import importlib
+import inspect
+import io
 import mmap
 import os
 import pathlib
@@ -15,15 +22,22 @@ import tarfile
 import tempfile
 import threading
 import tracemalloc
+import types
 import unittest.mock
+import weakref
 import zipfile
 
 sys.path.insert(0, str(pathlib.Path(__file__).parent / "../python"))
+way = sys.argv[1] if sys.argv[1:] else None
+if way == "ctypes":
+    sys.modules["zerotrie._fast"] = None
 import packed  # noqa: E402
 import zerotrie  # noqa: E402
 from zerotrie import EXTENDED_CAPACITY, IGNORE_CASE, PERFECT_HASH, SIMPLE_ASCII, ZeroTrie, ZeroTrieError, build  # noqa: E402
 
 random.seed(5)
+by_extension = isinstance(ZeroTrie.get, types.MethodDescriptorType)
+assert way in (None, "extension" if by_extension else "ctypes"), (way, "the extension was not made, or not found")
 
 
 def refused(kind, call, *arguments):
@@ -107,7 +121,7 @@ assert 5000 <= len(ZeroTrie(b"\x81" * 5000, check=False)) <= 5001
 lent = bytearray(build({"a": 1}, IGNORE_CASE))
 gone = ZeroTrie(lent, IGNORE_CASE)
 cursor = gone.cursor()
-gone.__init__(b"")
+del gone
 refused(BufferError, lent.append, 1)
 assert (cursor.step(ord("A")), cursor.take_value()) == (ord("a"), 1)
 cursor = trie.cursor()
@@ -196,19 +210,34 @@ with tempfile.TemporaryDirectory() as room:
     with open(path, "r+b") as file:
         assert ZeroTrie(mmap.mmap(file.fileno(), 0), SIMPLE_ASCII)["foo"] == 1
 
-# what is packed: the package, its types and the library, and for an editable install the way to this folder
+# what is packed: the package, its types and the library, the extension if it compiles, and for an editable install the way to this
+# folder. A wheel with the extension serves CPython from 3.9 on, and one without any Python
 with tempfile.TemporaryDirectory() as room:
     here = pathlib.Path(shutil.copytree(packed.HERE, os.path.join(room, "python")))
+    shutil.copytree(packed.HERE.parent / "c", os.path.join(room, "c"))
     (here / "zerotrie/libzerotrie.so").write_bytes(b"library")
+    any_python, cpython = "py3-none-linux_x86_64", "cp39-abi3-linux_x86_64"
     with unittest.mock.patch.object(packed, "HERE", here):
         files = {"zerotrie/__init__.py", "zerotrie/py.typed", "zerotrie/libzerotrie.so"}
         with tarfile.open(os.path.join(room, packed.build_sdist(room))) as sdist:
-            assert {f"{packed.NAME}/{name}" for name in {*files, "packed.py", "pyproject.toml"}} <= set(sdist.getnames())
-        for build_it, want in ((packed.build_wheel, files), (packed.build_editable, {"zerotrie.pth"})):
-            with zipfile.ZipFile(os.path.join(room, build_it(room))) as wheel:
+            names = {*files, "zerotrie/_fast.c", "zerotrie.h", "packed.py", "pyproject.toml"}
+            assert {f"{packed.NAME}/{name}" for name in names} <= set(sdist.getnames())
+        for build_it, compiler, tag, want in ((packed.build_wheel, "cc", cpython, {*files, "zerotrie/_fast.abi3.so"}),
+                                              (packed.build_wheel, "false", any_python, files),
+                                              (packed.build_wheel, "no-such-compiler", any_python, files),
+                                              (packed.build_editable, "cc", any_python, {"zerotrie.pth"})):
+            if tag == cpython and not by_extension:
+                continue
+            said = io.StringIO()
+            with unittest.mock.patch.dict(os.environ, CC=compiler), contextlib.redirect_stderr(said):
+                name = build_it(room)
+            assert name == f"{packed.NAME}-{tag}.whl" and ("python3-dev" in said.getvalue()) == (compiler != "cc"), said.getvalue()
+            with zipfile.ZipFile(os.path.join(room, name)) as wheel:
                 assert {name for name in wheel.namelist() if not name.startswith(packed.NAME)} == want
-                said = wheel.read(f"{packed.NAME}.dist-info/METADATA").decode()
-                assert "\nSummary: Maps from" in said and "\nLicense: Unicode-3.0\n" in said
+                told = {name: wheel.read(f"{packed.NAME}.dist-info/{name}").decode() for name in ("METADATA", "WHEEL")}
+                assert "\nSummary: Maps from" in told["METADATA"] and "\nLicense: Unicode-3.0\n" in told["METADATA"]
+                assert f"\nTag: {tag}\n" in told["WHEEL"]
+
 
 
 def read():
@@ -235,4 +264,227 @@ refused_in_words(lambda: zerotrie.build({"a": "b"}), "a value is a whole number,
 refused_in_words(lambda: zerotrie.build({1: 1}), "a key is text or bytes, not int")
 refused_in_words(lambda: zerotrie.ZeroTrie.build({"a": 1}).get_many("a"), "takes keys")
 refused_in_words(lambda: zerotrie.ZeroTrie(zerotrie.build({"\u00e5": 1})), "no trie of kind 0", "from_tagged()")
-print("python: ok")
+
+# What a caller may do to the code below it. A second set-up would let go of bytes that a look-up reads, in another thread or in this
+# one, if a key runs code: a key may, as isinstance() asks it for its class.
+trie, other = ZeroTrie.build({"foo": 1, "bar": 2}), build({"foo": 3})
+for made, arguments in ((trie, (other,)), (trie.cursor(), (trie,)), (named, ("bar",))):
+    assert "make another one" in str(refused(TypeError, made.__init__, *arguments))
+assert trie["foo"] == 1 == named["foo"] and bytes(trie) != other
+# a refused one is none, so that a subclass can try one kind after another
+late = ZeroTrie.__new__(ZeroTrie)
+refused(ValueError, late.__init__, b"into")
+late.__init__(other)
+assert late["foo"] == 3
+
+
+class Meddling:
+    """A key whose class is asked for, which does something first."""
+
+    def __init__(self, meddle):
+        self.meddle = meddle
+
+    @property
+    def __class__(self):
+        self.meddle()
+        return str
+
+
+class Text(str):
+    """Text that says of itself what is wrong, and would have a library read beyond its end."""
+
+    def encode(self, *_):
+        return Long(b"bar")
+
+    def __len__(self):
+        return 1 << 30
+
+
+class Long(bytes):
+    def __len__(self):
+        return 1 << 30
+
+
+def again():
+    refused(TypeError, mine.__init__, b"")
+    gc.collect()
+
+
+for call in ("get", "__getitem__", "__contains__", "longest_prefix", "with_prefix"):
+    mine = ZeroTrie(bytearray(other))
+    refused(TypeError, getattr(mine, call), Meddling(again))
+assert trie.get(Text("foo")) == trie[Text("foo")] == trie[Long(b"foo")] == 1 and Text("foo") in trie
+assert trie.longest_prefix(Text("foobar")) == (b"foo", 1) and build({Text("foo"): 1}) == build({"foo": 1})
+assert list(trie.get_many([Text("foo"), Long(b"bar")])) == [1, 2]
+# words that a caller keeps, and which go while the key is made bytes of
+asked = functools.partial(trie.get, key=Meddling(lambda: asked.keywords.clear()), default=object())
+refused(TypeError, asked)
+assert trie.get(key="foo", default=5) == 1 and trie.get("x", default=5) == trie.get("x", 5) == 5
+for wrong in (trie.get, lambda: trie.get("x", 1, 2), lambda: trie.get("x", key="x"), lambda: trie.get("x", no=1), trie.longest_prefix):
+    refused(TypeError, wrong)
+
+# nothing was set up: no call reads at no address
+for call in ("get", "__getitem__", "__contains__", "longest_prefix", "with_prefix", "items", "get_many", "__len__", "__bool__", "__bytes__",
+             "is_well_formed", "to_tagged", "cursor", "__hash__", "__copy__", "__reduce__"):
+    arguments = ["a"] if call in ("get", "__getitem__", "__contains__", "longest_prefix", "with_prefix") else [["a"]] if call == "get_many" else []
+    refused(AttributeError, lambda: list(getattr(ZeroTrie.__new__(ZeroTrie), call)(*arguments)))
+for call, *arguments in (("step", 1), ("probe", 1), ("take_value",), ("copy",), ("__bool__",), ("__copy__",)):
+    refused(AttributeError, getattr(zerotrie.Cursor.__new__(zerotrie.Cursor), call), *arguments)
+refused(AttributeError, lambda: zerotrie.Cursor.__new__(zerotrie.Cursor).run)
+
+
+# numbers of other types, which ctypes takes for none
+class Index:
+    def __init__(self, number):
+        self.number = number
+
+    def __index__(self):
+        return self.number
+
+
+assert build({"a": Index(5)}, Index(0)) == build({"a": 5}) and zerotrie.tagged(b"", Index(3)) == b"\3"
+assert list(trie.get_many(["x"], Index(9))) == [9] and trie.cursor().step(Index(ord("f"))) == trie.cursor().step(ord("f")) == ord("f")
+for call in (trie.cursor().step, trie.cursor().probe):
+    refused(TypeError, call, "f")
+    refused(TypeError, call, 1.0)
+    refused(OverflowError, call, Index(-1))
+refused(OverflowError, trie.cursor().step, 256)
+assert trie.cursor().probe((1 << 64) - 1) is trie.cursor().step(True) is None and trie.cursor().probe(True) == trie.cursor().probe(1)
+
+# a key that is not there is what KeyError has, whatever it is
+assert refused(KeyError, trie.__getitem__, "no").args == ("no",) and refused(KeyError, trie.__getitem__, b"no").args == (b"no",)
+if sys.version_info >= (3, 12):
+    class Odd(KeyError):
+        def __buffer__(self, flags):
+            return memoryview(b"no")
+
+    class Pair(tuple):
+        def __buffer__(self, flags):
+            return memoryview(b"no")
+
+    for odd in (Odd(), Pair((1, 2))):
+        error = refused(KeyError, trie.__getitem__, odd)
+        assert type(error) is KeyError and len(error.args) == 1 and error.args[0] is odd
+
+
+# bytes that refer to the trie over them: the collector finds the ring
+class Ring(bytearray):
+    pass
+
+
+ring = Ring(other)
+ring.trie, ring.cursor = ZeroTrie(ring), ZeroTrie(ring).cursor()
+seen = weakref.ref(ring.trie)
+del ring
+gc.collect()
+assert seen() is None
+
+
+def ask_all():
+    """Each call that the extension has, with each way out of it."""
+    for key in ("foo", "x", b"foo", bytearray(b"foo"), memoryview(b"x"), "å", "\ud800", 5, Text("foo")):
+        for call in (trie.get, trie.__getitem__, trie.__contains__, trie.longest_prefix, trie.with_prefix, lambda key: trie.get(key, default=key)):
+            try:
+                call(key)
+            except (KeyError, TypeError, UnicodeEncodeError):
+                pass
+    cursor = trie.cursor()
+    for call, number in ((cursor.step, ord("f")), (cursor.copy().probe, 0), (cursor.probe, 7), (cursor.step, -1), (cursor.probe, "a")):
+        try:
+            call(number)
+        except (OverflowError, TypeError):
+            pass
+    assert cursor.copy().run == cursor.run and cursor.take_value() is None and not cursor
+    try:
+        cursor.__init__(trie)
+    except TypeError:
+        pass
+
+
+# a reference too many keeps memory, and one too few ends the process later
+ask_all()
+gc.collect()
+blocks = sys.getallocatedblocks()
+for _ in range(1000):
+    ask_all()
+gc.collect()
+assert sys.getallocatedblocks() - blocks < 900, sys.getallocatedblocks() - blocks
+
+# threads that ask one trie, set it up again and go on by one cursor: each step is whole, so none reads beyond the bytes
+shared = trie.cursor()
+stop = threading.Event()
+
+
+def meddle():
+    while not stop.is_set():
+        refused(TypeError, trie.__init__, other)
+        assert trie.get("foo") == 1 and trie["bar"] == 2 and "x" not in trie
+        shared.step(ord("f")), shared.probe(0), shared.run, shared.copy().take_value(), bool(shared)
+
+
+threads = [threading.Thread(target=meddle) for _ in range(4)]
+for thread in threads:
+    thread.start()
+stop.wait(0.3)
+stop.set()
+for thread in threads:
+    thread.join()
+
+
+def outcome(call, *arguments):
+    """What the call answers, or which exception of which text it raises."""
+    try:
+        answer = call(*arguments)
+    except Exception as error:
+        return type(error), str(error)
+    return type(answer), answer
+
+
+def imported(module):
+    """The package anew, whose extension is this one."""
+    for name in [name for name in sys.modules if name.partition(".")[0] == "zerotrie"]:
+        del sys.modules[name]
+    if module is None:
+        sys.modules["zerotrie._fast"] = None
+    return importlib.import_module("zerotrie")
+
+
+# the two ways answer alike, down to the words of exceptions, and tell a reader the same of themselves
+if by_extension:
+    packages = imported("made"), imported(None)
+    readers = [(package.ZeroTrie, package.Cursor) for package in packages]
+    assert [isinstance(one.get, types.MethodDescriptorType) for one, _ in readers] == [True, False]
+    for which, name in ((0, "get"), (0, "longest_prefix"), (1, "step"), (1, "probe"), (1, "take_value")):
+        told = []
+        for types_of in readers:
+            call = getattr(types_of[which], name)
+            taken = list(inspect.signature(call).parameters.values())[1:]
+            told.append((call.__doc__, [(each.name, each.kind, each.default) for each in taken]))
+        assert told[0] == told[1], told
+    assert len({one.run.__doc__ for _, one in readers}) == 1
+    pairs = {"": 0, "a": 1, "foo": 1 << 64 - 1, "food": 7, "fö": 3}
+    strange = [*pairs, "fo", "foods", b"", b"foo", b"f\xc3\xb6", b"\xff", "\ud800", "\ud800\udfff", "\0", Text("foo"), Long(b"foo"), bytearray(b"foo"),
+               memoryview(b"foo"), memoryview(b"f?o?o?")[::2], array.array("H", [0x6F66]), 5, None, 1.5, [], (), ("foo",), {}, object, "x" * 100000]
+    for letters in ({"a": 1, "foo": 1 << 63, "food": 7}, pairs, {}):
+        tries = [package.ZeroTrie.build(letters) for package in packages]
+        for key in strange:
+            for ask in (lambda one: one.get(key), lambda one: one.get(key, 5), lambda one: one[key], lambda one: key in one,
+                        lambda one: one.longest_prefix(key), lambda one: bool(one.with_prefix(key)), lambda one: one.cursor().step(key),
+                        lambda one: one.cursor().probe(key)):
+                assert outcome(ask, tries[0]) == outcome(ask, tries[1]), key
+        for _ in range(300):
+            steps = [(random.choice(("step", "probe", "take_value", "run", "bool", "copy")), random.choice((*b"afod", 0, 1, 2, 300, -1))) for _ in range(8)]
+
+            def walk(one):
+                cursor, told = one.cursor(), []
+                for step, number in steps:
+                    if step == "copy":
+                        cursor = cursor.copy()
+                    elif step in ("step", "probe"):
+                        told.append(outcome(getattr(cursor, step), number))
+                    else:
+                        told.append({"take_value": cursor.take_value, "run": lambda: cursor.run, "bool": lambda: bool(cursor)}[step]())
+                return told
+
+            assert walk(tries[0]) == walk(tries[1]), steps
+print("python:", "by the extension" if by_extension else "by ctypes", "ok")

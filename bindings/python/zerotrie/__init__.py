@@ -36,10 +36,12 @@ import itertools
 import mmap
 import operator
 import os
+import sys
+import threading
 from collections.abc import Iterable, Iterator, Mapping
 from copy import deepcopy
 from ctypes import POINTER, Structure, c_bool, c_char_p, c_int, c_size_t, c_uint8, c_uint16, c_uint32, c_void_p, py_object
-from typing import Any, NoReturn, Optional, TypeVar, Union, overload
+from typing import TYPE_CHECKING, Any, NoReturn, Optional, TypeVar, Union, overload
 
 __all__ = [
     "SIMPLE_ASCII", "PERFECT_HASH", "EXTENDED_CAPACITY", "IGNORE_CASE",
@@ -50,7 +52,7 @@ __all__ = [
 Key = Union[str, bytes, bytearray, memoryview]
 Pairs = Union[Mapping[Any, int], Iterable["tuple[Key, int]"]]
 Other = TypeVar("Other")
-Place = TypeVar("Place", bound="Cursor")
+Place = TypeVar("Place", bound="_Place")
 Trie = TypeVar("Trie", bound="ZeroTrie")
 
 #: The kinds of trie, by the numbers of tagged bytes.
@@ -136,31 +138,43 @@ _DECLARED = {
 }
 
 
+#: The functions that take less time than to let other threads run. A cursor is whole after each, whatever threads do to it.
+_SHORT = {"zerotrie_get", "zerotrie_longest_prefix", "zerotrie_with_prefix", "zerotrie_cursor_new", "zerotrie_cursor_step",
+          "zerotrie_cursor_take_value", "zerotrie_cursor_probe", "zerotrie_dense_get"}
+
+_HERE = os.path.dirname(os.path.abspath(__file__))
+_MADE = os.path.join(_HERE, "../../build")
+
+
 def _load() -> ctypes.CDLL:
-    here = os.path.dirname(os.path.abspath(__file__))
-    near = [os.path.join(here, "libzerotrie.so"), os.path.join(here, "../../build/libzerotrie.so")]
+    near = [os.path.join(folder, "libzerotrie.so") for folder in (_HERE, _MADE)]
     found = [os.environ.get("ZEROTRIE_SO", ""), *filter(os.path.exists, near), "libzerotrie.so.0"]
     try:
         lib = ctypes.CDLL(next(filter(None, found)))
     except OSError as error:
         raise ImportError(f"{error}: run bindings/make, or name libzerotrie.so in ZEROTRIE_SO") from error
+    short = ctypes.PyDLL(lib._name, handle=lib._handle)
     for name, (result, arguments) in _DECLARED.items():
-        function = getattr(lib, name, None)
+        function = getattr(short if name in _SHORT else lib, name, None)
         if function is None:
             raise ImportError(f"{lib._name} is too old, as it has no function {name}: run bindings/make again")
         function.restype, function.argtypes = result, arguments
+        setattr(lib, name, function)
     return lib
 
 
 _lib = _load()
-_NOTHING = ctypes.cast(c_char_p(b""), c_void_p)
+_ONCE = threading.RLock()
+_NO_BYTES = b""
+_NOTHING = ctypes.cast(c_char_p(_NO_BYTES), c_void_p)
 
 
 def _key(key: Key) -> bytes:
     if type(key) is bytes:
         return key
     if isinstance(key, str):
-        return key.encode()
+        # not encode() of a subclass, which answers what it likes
+        return str.encode(key)
     try:
         # a number is no key: bytes() would make as many zeros of it
         return bytes(memoryview(key))
@@ -170,7 +184,7 @@ def _key(key: Key) -> bytes:
 
 def _number(number: int, bits: int, what: str) -> int:
     try:
-        operator.index(number)
+        number = operator.index(number)
     except TypeError:
         raise TypeError(f"{what} is a whole number, not {type(number).__name__}") from None
     # ctypes would cut off what is too much
@@ -180,7 +194,7 @@ def _number(number: int, bits: int, what: str) -> int:
 
 
 def _known(kind: int) -> int:
-    kind = operator.index(_number(kind, 32, "a kind"))
+    kind = _number(kind, 32, "a kind")
     if kind not in _KINDS:
         raise ZeroTrieError(_UNKNOWN_KIND)
     return kind
@@ -262,7 +276,125 @@ def tagged(data: Any, kind: int) -> bytes:
     return b"".join((tag, view if view.c_contiguous else bytes(view)))
 
 
-class Cursor:
+def _once(cls: Any, made: Any, value: Any) -> None:
+    """Sets what the object holds, for good: a thread may be reading the bytes that another value would let go of."""
+    # by the descriptor, as a subclass may have made something else of getattr() and setattr()
+    slot = vars(cls)["_held"]
+    with _ONCE:
+        try:
+            slot.__get__(made)
+        except AttributeError:
+            slot.__set__(made, value)
+            return
+    raise TypeError("this is set up already, and stays as it is: make another one")
+
+
+class _Reader:
+    """Look-ups one by one, in bytes that a view keeps where they lie: a kind, their address and how many they are."""
+
+    __slots__ = ("_held",)
+
+    def _hold(self, view: memoryview, kind: int, at: int, length: int) -> None:
+        _once(_Reader, self, (kind, at, length, view))
+
+    @overload
+    def get(self, key: Key) -> Optional[int]: ...
+    @overload
+    def get(self, key: Key, default: Other) -> Union[int, Other]: ...
+    def get(self, key: Key, default: Any = None) -> Any:
+        """The value of the key, or `default`."""
+        text, value = _key(key), c_size_t()
+        kind, at, length, _ = self._held
+        return value.value if _lib.zerotrie_get(kind, at, length, text, len(text), value) else default
+
+    def __getitem__(self, key: Key) -> int:
+        text, value = _key(key), c_size_t()
+        kind, at, length, _ = self._held
+        if not _lib.zerotrie_get(kind, at, length, text, len(text), value):
+            raise KeyError(key)
+        return value.value
+
+    def __contains__(self, key: Any) -> bool:
+        text, value = _key(key), c_size_t()
+        kind, at, length, _ = self._held
+        return _lib.zerotrie_get(kind, at, length, text, len(text), value)
+
+    def longest_prefix(self, text: Key, /) -> Optional[tuple[bytes, int]]:
+        """The longest key that the text begins with, and its value. None: it begins with no key."""
+        front, size, value = _key(text), c_size_t(), c_size_t()
+        kind, at, length, _ = self._held
+        found = _lib.zerotrie_longest_prefix(kind, at, length, front, len(front), size, value)
+        return (front[: size.value], value.value) if found else None
+
+
+class _Place:
+    """What a cursor goes by, in bytes that a view keeps where they lie."""
+
+    __slots__ = ("_held",)
+
+    def _hold(self, view: memoryview, kind: int, at: int, length: int) -> None:
+        raw = _Cursor()
+        _lib.zerotrie_cursor_new(at, length, raw)
+        _once(_Place, self, (kind, raw, view))
+
+    def _go(self, prefix: Key) -> bool:
+        text = _key(prefix)
+        kind, raw, _ = self._held
+        return _lib.zerotrie_with_prefix(kind, raw.trie.ptr, raw.trie.len, text, len(text), raw)
+
+    def _copied(self: Place) -> Place:
+        made = object.__new__(type(self))
+        kind, raw, view = self._held
+        _once(_Place, made, (kind, _Cursor.from_buffer_copy(raw), view))
+        return made
+
+    def step(self, byte: int, /) -> Optional[int]:
+        """Goes along the edge that is the byte to the kind, and answers its byte as it is stored. None: nothing is left."""
+        number, edge = _number(byte, 8, "a byte"), c_uint8()
+        return edge.value if _lib.zerotrie_cursor_step(self._held[0], self._held[1], number, edge) else None
+
+    def probe(self, index: int, /) -> Optional[tuple[int, int]]:
+        """Goes along edge number `index`, from 0, and answers its byte and how many edges there are. None: nothing is left."""
+        number, edge, siblings = _number(index, 64, "an index"), c_uint8(), c_uint16()
+        found = _lib.zerotrie_cursor_probe(self._held[0], self._held[1], number, edge, siblings)
+        return (edge.value, siblings.value) if found else None
+
+    def take_value(self) -> Optional[int]:
+        """Takes the value of the key that ends here. None: no key does, or it was taken."""
+        value = c_size_t()
+        return value.value if _lib.zerotrie_cursor_take_value(self._held[1], value) else None
+
+    @property
+    def run(self) -> bytes:
+        """What is left of the span that it stands in: each key goes on with it. Empty outside of spans."""
+        # a copy, as another thread may go on between the two
+        raw = _Cursor.from_buffer_copy(self._held[1])
+        return ctypes.string_at(raw.run.ptr, raw.run.len)
+
+    def __bool__(self) -> bool:
+        raw = _Cursor.from_buffer_copy(self._held[1])
+        return raw.run.len + raw.trie.len > 0
+
+
+def _extension() -> Any:
+    """The module of the two types above that C makes. None if there is none for this interpreter."""
+    if "t" in getattr(sys, "abiflags", ""):
+        # an interpreter without a lock, which the extension would need
+        return None
+    __path__.append(_MADE)
+    try:
+        from . import _fast
+        _fast.bind(_lib._handle)
+    except ImportError:
+        return None
+    return _fast
+
+
+if not TYPE_CHECKING and (_made := _extension()):
+    _Reader, _Place = _made.Reader, _made.Place
+
+
+class Cursor(_Place):
     r"""A place in a trie, between two bytes of keys: cursor() of a trie makes one. It keeps the bytes in use, as the trie does.
 
     >>> cursor = ZeroTrie(b"a\x85b\x86").cursor()
@@ -270,40 +402,14 @@ class Cursor:
     (97, 5, (98, 1), 6)
     """
 
-    __slots__ = ("_kind", "_view", "_raw")
+    __slots__ = ()
 
     def __init__(self, trie: ZeroTrie) -> None:
-        # the view holds the bytes, whatever becomes of the trie
-        self._kind, self._view, self._raw = trie._kind, trie._view, _Cursor()
-        _lib.zerotrie_cursor_new(trie._at, trie._len, self._raw)
-
-    def step(self, byte: int) -> Optional[int]:
-        """Goes along the edge that is the byte to the kind, and answers its byte as it is stored. None: nothing is left."""
-        edge = c_uint8()
-        found = _lib.zerotrie_cursor_step(self._kind, self._raw, _number(byte, 8, "a byte"), edge)
-        return edge.value if found else None
-
-    def probe(self, index: int) -> Optional[tuple[int, int]]:
-        """Goes along edge number `index`, from 0, and answers its byte and how many edges there are. None: nothing is left."""
-        edge, siblings = c_uint8(), c_uint16()
-        found = _lib.zerotrie_cursor_probe(self._kind, self._raw, _number(index, 64, "an index"), edge, siblings)
-        return (edge.value, siblings.value) if found else None
-
-    def take_value(self) -> Optional[int]:
-        """Takes the value of the key that ends here. None: no key does, or it was taken."""
-        value = c_size_t()
-        return value.value if _lib.zerotrie_cursor_take_value(self._raw, value) else None
-
-    @property
-    def run(self) -> bytes:
-        """What is left of the span that it stands in: each key goes on with it. Empty outside of spans."""
-        return ctypes.string_at(self._raw.run.ptr, self._raw.run.len)
+        self._hold(trie._view, *trie._lent)
 
     def copy(self: Place) -> Place:
         """A cursor of its own at the same place, over the same bytes."""
-        made = type(self).__new__(type(self))
-        made._kind, made._view, made._raw = self._kind, self._view, _Cursor.from_buffer_copy(self._raw)
-        return _with_attributes(made, self)
+        return _with_attributes(self._copied(), self)
 
     __copy__ = copy
 
@@ -317,12 +423,8 @@ class Cursor:
     def __reduce__(self) -> NoReturn:
         raise TypeError("a cursor is a place in memory, which no pickle can hold: pickle its trie")
 
-    def __bool__(self) -> bool:
-        """Whether some key goes on from here, or ends here."""
-        return self._raw.run.len + self._raw.trie.len > 0
 
-
-class ZeroTrie(Mapping[bytes, int]):
+class ZeroTrie(_Reader, Mapping[bytes, int]):  # type: ignore[misc]
     """A read-only map from byte strings to numbers, over bytes that are not copied.
 
     The bytes are those of build(), with no tag. What `zerotrie build` or to_tagged() wrote is read by open() or from_tagged(): here
@@ -333,25 +435,18 @@ class ZeroTrie(Mapping[bytes, int]):
     are equal if their kinds and their bytes are. The first hash() of a trie reads all bytes, a later one none.
     """
 
-    __slots__ = ("_kind", "_data", "_view", "_at", "_len", "_hash", "__weakref__")
+    __slots__ = ("_lent", "_data", "_view", "_hash", "__weakref__")
 
     def __init__(self, data: Any, kind: int = SIMPLE_ASCII, check: bool = True) -> None:
-        self._kind, self._data = _known(kind), data
-        self._view = memoryview(data).cast("B")
-        self._len = len(self._view)
-        self._hash: Optional[int] = None
-        if not self._len:
-            self._at = _NOTHING
-        elif type(data) is bytes:
-            self._at = ctypes.cast(c_char_p(data), c_void_p)
-        elif self._view.readonly:
-            # ctypes lends no bytes that are read-only: ask the buffer itself where it lies
-            self._at = c_void_p(_address(self._view))
-        else:
-            self._at = c_void_p(ctypes.addressof(c_uint8.from_buffer(self._view)))
-        if check and not self.is_well_formed():
-            raise ValueError(f"the bytes are no trie of kind {self._kind}: name the kind that they were built with, or read tagged "
+        kind, view = _known(kind), memoryview(data).cast("B")
+        #: the kind, where the bytes lie, and how many they are
+        lent = kind, _address(view), len(view)
+        if check and not _lib.zerotrie_is_well_formed(*lent):
+            raise ValueError(f"the bytes are no trie of kind {kind}: name the kind that they were built with, or read tagged "
                              "bytes by from_tagged()")
+        self._hold(view, *lent)
+        self._lent, self._data, self._view = lent, data, view
+        self._hash: Optional[int] = None
 
     @classmethod
     def build(cls: type[Trie], pairs: Pairs, kind: Optional[int] = None) -> Trie:
@@ -383,23 +478,13 @@ class ZeroTrie(Mapping[bytes, int]):
     @property
     def kind(self) -> int:
         """The number of the kind."""
-        return self._kind
+        return self._lent[0]
 
     def is_well_formed(self) -> bool:
         """Whether the bytes are a trie of the kind, every rule of the format kept."""
-        return _lib.zerotrie_is_well_formed(self._kind, self._at, self._len)
+        return _lib.zerotrie_is_well_formed(*self._lent)
 
-    @overload  # type: ignore[override]
-    def get(self, key: Key) -> Optional[int]: ...
-    @overload
-    def get(self, key: Key, default: Other) -> Union[int, Other]: ...
-    def get(self, key: Key, default: Any = None) -> Any:
-        """The value of the key, or `default`."""
-        text, value = _key(key), c_size_t()
-        found = _lib.zerotrie_get(self._kind, self._at, self._len, text, len(text), value)
-        return value.value if found else default
-
-    def get_many(self, keys: Iterable[Key], missing: int = (1 << 64) - 1) -> array.array:
+    def get_many(self, keys: Iterable[Key], missing: int = (1 << 64) - 1) -> array.array[int]:
         """The value of each key, or `missing`, as an array of numbers: one call for all.
 
         >>> list(ZeroTrie.build({"foo": 1, "bar": 2}).get_many(["bar", "x"], missing=0))
@@ -413,24 +498,9 @@ class ZeroTrie(Mapping[bytes, int]):
         ends = array.array("Q", itertools.accumulate(map(len, texts)))
         values = array.array("Q", bytes(8 * len(texts)))
         sizes = c_size_t * len(texts)
-        _check(_lib.zerotrie_get_many(self._kind, self._at, self._len, b"".join(texts), ends[-1], sizes.from_buffer(ends),
+        _check(_lib.zerotrie_get_many(*self._lent, b"".join(texts), ends[-1], sizes.from_buffer(ends),
                                       len(texts), _number(missing, 64, "missing"), sizes.from_buffer(values), len(texts)))
         return values
-
-    def longest_prefix(self, text: Key) -> Optional[tuple[bytes, int]]:
-        """The longest key that the text begins with, and its value. None: it begins with no key."""
-        text, length, value = _key(text), c_size_t(), c_size_t()
-        found = _lib.zerotrie_longest_prefix(self._kind, self._at, self._len, text, len(text), length, value)
-        return (text[: length.value], value.value) if found else None
-
-    def __getitem__(self, key: Key) -> int:
-        text, value = _key(key), c_size_t()
-        if not _lib.zerotrie_get(self._kind, self._at, self._len, text, len(text), value):
-            raise KeyError(key)
-        return value.value
-
-    def __contains__(self, key: object) -> bool:
-        return self.get(key) is not None  # type: ignore[arg-type]
 
     def cursor(self) -> Cursor:
         """A cursor in front of all keys."""
@@ -438,30 +508,30 @@ class ZeroTrie(Mapping[bytes, int]):
 
     def with_prefix(self, prefix: Key) -> Optional[Cursor]:
         """A cursor after a prefix. None if no key begins with it."""
-        cursor, text = Cursor(self), _key(prefix)
-        found = _lib.zerotrie_with_prefix(self._kind, self._at, self._len, text, len(text), cursor._raw)
-        return cursor if found else None
+        cursor = Cursor(self)
+        return cursor if cursor._go(prefix) else None
 
     def _parts(self, prefix: Key) -> Iterator[tuple[bytes, Any, Any, int]]:
-        """Parts of the listing of a prefix: keys one after another, where each ends, their values, and how many they are."""
+        """Parts of the listing of a prefix, small ones first: keys one after another, where each ends, their values, and how many
+        they are."""
         front, last, goes_on = _key(prefix), b"", False
-        room, places = min(1 << 16, 8 * self._len + 1), min(1 << 12, self._len + 1)
+        room, places = 1 << 9, 1 << 5
         count, next_len, status = c_size_t(), c_size_t(), _TOO_SMALL
         # bytes list at most as many pairs as they are; if they are no trie, the parts may come round
-        left = self._len + 1
+        left = len(self._view) + 1
         while status == _TOO_SMALL and left > 0:
             keys, ends, values = (c_uint8 * room)(), (c_size_t * places)(), (c_size_t * places)()
-            status = _lib.zerotrie_list_some(self._kind, self._at, self._len, front, len(front), goes_on, last, len(last),
-                                             keys, room, ends, places, values, places, count, next_len)
+            status = _lib.zerotrie_list_some(*self._lent, front, len(front), goes_on, last, len(last), keys, room, ends, places,
+                                             values, places, count, next_len)
             if status != _TOO_SMALL:
                 _check(status)
-            text, n = bytes(keys), min(count.value, left)
+            n = min(count.value, left)
             left -= n
+            text = ctypes.string_at(keys, ends[n - 1]) if n > 0 else b""
             yield text, ends, values, n
             if n > 0:
-                last, goes_on = text[ends[n - 2] if n > 1 else 0 : ends[n - 1]], True
-            if status == _TOO_SMALL:
-                room = max(room, next_len.value)
+                last, goes_on = text[ends[n - 2] if n > 1 else 0 :], True
+            room, places = max(min(8 * room, 1 << 16), next_len.value), min(8 * places, 1 << 12)
 
     def items(self, prefix: Key = b"") -> Iterator[tuple[bytes, int]]:  # type: ignore[override]
         """The pairs whose keys begin with the prefix, in the order of the trie's bytes: in SIMPLE_ASCII that of the keys.
@@ -470,17 +540,22 @@ class ZeroTrie(Mapping[bytes, int]):
         """
         for text, ends, values, count in self._parts(prefix):
             at = 0
-            for number in range(count):
-                yield text[at : ends[number]], values[number]
-                at = ends[number]
+            for end, value in zip(ends[:count], values[:count]):
+                yield text[at:end], value
+                at = end
 
     def keys(self, prefix: Key = b"") -> Iterator[bytes]:  # type: ignore[override]
         """The keys of items()."""
-        return (key for key, _ in self.items(prefix))
+        for text, ends, _, count in self._parts(prefix):
+            at = 0
+            for end in ends[:count]:
+                yield text[at:end]
+                at = end
 
     def values(self, prefix: Key = b"") -> Iterator[int]:  # type: ignore[override]
         """The values of items()."""
-        return (value for _, value in self.items(prefix))
+        for _, _, values, count in self._parts(prefix):
+            yield from values[:count]
 
     def __iter__(self) -> Iterator[bytes]:
         return self.keys()
@@ -491,7 +566,7 @@ class ZeroTrie(Mapping[bytes, int]):
 
     def __bool__(self) -> bool:
         """Whether there is a pair. It lists nothing."""
-        return self._len > 0
+        return len(self._view) > 0
 
     def __bytes__(self) -> bytes:
         """The bytes of the trie: what was given, if it is `bytes`, and else a copy."""
@@ -499,32 +574,32 @@ class ZeroTrie(Mapping[bytes, int]):
 
     def to_tagged(self) -> bytes:
         """Tagged bytes: the number of the kind, then the bytes, which it copies once."""
-        return tagged(self._view, self._kind)
+        return tagged(self._view, self.kind)
 
     def __eq__(self, other: object) -> bool:
         if not isinstance(other, ZeroTrie):
             return NotImplemented
-        return (self._kind, self._view) == (other._kind, other._view)
+        return (self.kind, self._view) == (other.kind, other._view)
 
     def __hash__(self) -> int:
         """A number of the kind and the bytes, which the trie keeps. The first call reads all bytes, and copies a part at a time."""
         if self._hash is None:
-            starts = range(0, self._len, _HASHED_AT_ONCE)
-            self._hash = hash((self._kind, *(hash(bytes(self._view[at : at + _HASHED_AT_ONCE])) for at in starts)))
+            starts = range(0, len(self._view), _HASHED_AT_ONCE)
+            self._hash = hash((self.kind, *(hash(bytes(self._view[at : at + _HASHED_AT_ONCE])) for at in starts)))
         return self._hash
 
     def __copy__(self: Trie) -> Trie:
         """Another trie over the same bytes."""
-        return _with_attributes(_remade(type(self), ZeroTrie, self._data, self._kind, False), self)
+        return _with_attributes(_remade(type(self), ZeroTrie, self._data, self.kind, False), self)
 
     def __reduce__(self) -> tuple[Any, ...]:
-        return _remade, (type(self), ZeroTrie, bytes(self), self._kind, False), getattr(self, "__dict__", None)
+        return _remade, (type(self), ZeroTrie, bytes(self), self.kind, False), getattr(self, "__dict__", None)
 
     def __repr__(self) -> str:
         name = type(self).__name__
-        if self._len > 64:
-            return f"<{name} of {self._len} bytes, kind={self._kind}>"
-        return f"{name}({bytes(self._view)!r}, kind={self._kind})"
+        if len(self._view) > 64:
+            return f"<{name} of {len(self._view)} bytes, kind={self.kind}>"
+        return f"{name}({bytes(self._view)!r}, kind={self.kind})"
 
 
 def build_dense(rows: Mapping[Any, Mapping[Any, int]], delimiter: Key = b"/") -> bytes:
@@ -558,19 +633,18 @@ def build_dense(rows: Mapping[Any, Mapping[Any, int]], delimiter: Key = b"/") ->
 class DenseTable:
     """A map from two texts to numbers, over the record of a dense table, which is copied unless it is `bytes`."""
 
-    __slots__ = ("_record", "_at")
+    __slots__ = ("_record",)
 
     def __init__(self, record: Any) -> None:
         self._record = record if type(record) is bytes else bytes(memoryview(record))
-        self._at = ctypes.cast(c_char_p(self._record), c_void_p)
 
     def __reduce__(self) -> tuple[Any, ...]:
         return _remade, (type(self), DenseTable, self._record), getattr(self, "__dict__", None)
 
     def get(self, prefix: Key, suffix: Key, default: Any = None) -> Any:
         """The value of a suffix under a prefix, or `default`. ZeroTrieError if the bytes are no record."""
-        p, s, value = _key(prefix), _key(suffix), c_size_t()
-        status = _lib.zerotrie_dense_get(self._at, len(self._record), p, len(p), s, len(s), value)
+        record, p, s, value = self._record, _key(prefix), _key(suffix), c_size_t()
+        status = _lib.zerotrie_dense_get(record, len(record), p, len(p), s, len(s), value)
         if status == _NO_ENTRY:
             return default
         _check(status)
@@ -588,10 +662,10 @@ _release_buffer = ctypes.PYFUNCTYPE(None, POINTER(_Buffer))(("PyBuffer_Release",
 
 
 def _address(view: memoryview) -> int:
-    """Where read-only bytes lie. The view is kept by the trie, and keeps them there."""
+    """Where the bytes lie that the view keeps there."""
     got = _Buffer()
     _get_buffer(view, got, 0)
     try:
-        return got.buf or 0
+        return got.buf or _NOTHING.value
     finally:
         _release_buffer(got)
