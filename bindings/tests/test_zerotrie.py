@@ -6,7 +6,6 @@ import contextlib
 import copy
 import ctypes
 import doctest
-import functools
 import gc
 import importlib
 import inspect
@@ -265,8 +264,7 @@ refused_in_words(lambda: zerotrie.build({1: 1}), "a key is text or bytes, not in
 refused_in_words(lambda: zerotrie.ZeroTrie.build({"a": 1}).get_many("a"), "takes keys")
 refused_in_words(lambda: zerotrie.ZeroTrie(zerotrie.build({"\u00e5": 1})), "no trie of kind 0", "from_tagged()")
 
-# What a caller may do to the code below it. A second set-up would let go of bytes that a look-up reads, in another thread or in this
-# one, if a key runs code: a key may, as isinstance() asks it for its class.
+# what a second set-up would let go of, another thread may be reading, or this one, in a call whose key or number runs code
 trie, other = ZeroTrie.build({"foo": 1, "bar": 2}), build({"foo": 3})
 for made, arguments in ((trie, (other,)), (trie.cursor(), (trie,)), (named, ("bar",))):
     assert "make another one" in str(refused(TypeError, made.__init__, *arguments))
@@ -279,15 +277,18 @@ assert late["foo"] == 3
 
 
 class Meddling:
-    """A key whose class is asked for, which does something first."""
+    """A number and, from Python 3.12 on, a key, which runs code when it is asked what it is."""
 
-    def __init__(self, meddle):
-        self.meddle = meddle
+    def __init__(self, meddle, is_):
+        self.meddle, self.is_ = meddle, is_
 
-    @property
-    def __class__(self):
+    def __index__(self):
         self.meddle()
-        return str
+        return self.is_
+
+    def __buffer__(self, flags):
+        self.meddle()
+        return memoryview(self.is_)
 
 
 class Text(str):
@@ -307,18 +308,22 @@ class Long(bytes):
 
 def again():
     refused(TypeError, mine.__init__, b"")
+    refused(TypeError, place.__init__, trie)
     gc.collect()
 
 
-for call in ("get", "__getitem__", "__contains__", "longest_prefix", "with_prefix"):
-    mine = ZeroTrie(bytearray(other))
-    refused(TypeError, getattr(mine, call), Meddling(again))
+mine = ZeroTrie(bytearray(other))
+for call, wanted in (("get", 3), ("__getitem__", 3), ("__contains__", True), ("longest_prefix", (b"foo", 3))):
+    place = mine.cursor()
+    assert place.step(Meddling(again, ord("f"))) == ord("f") and place.probe(Meddling(again, 0)) == (ord("o"), 1)
+    if sys.version_info >= (3, 12):
+        assert getattr(mine, call)(Meddling(again, b"foo")) == wanted and mine.with_prefix(Meddling(again, b"foo"))
+# a type that says it is text, and is none
+lying = type("Lying", (bytearray,), {"__class__": property(lambda self: str)})(b"foo")
+assert isinstance(lying, str) and trie[lying] == 1
 assert trie.get(Text("foo")) == trie[Text("foo")] == trie[Long(b"foo")] == 1 and Text("foo") in trie
 assert trie.longest_prefix(Text("foobar")) == (b"foo", 1) and build({Text("foo"): 1}) == build({"foo": 1})
 assert list(trie.get_many([Text("foo"), Long(b"bar")])) == [1, 2]
-# words that a caller keeps, and which go while the key is made bytes of
-asked = functools.partial(trie.get, key=Meddling(lambda: asked.keywords.clear()), default=object())
-refused(TypeError, asked)
 assert trie.get(key="foo", default=5) == 1 and trie.get("x", default=5) == trie.get("x", 5) == 5
 for wrong in (trie.get, lambda: trie.get("x", 1, 2), lambda: trie.get("x", key="x"), lambda: trie.get("x", no=1), trie.longest_prefix):
     refused(TypeError, wrong)
@@ -350,6 +355,35 @@ for call in (trie.cursor().step, trie.cursor().probe):
     refused(OverflowError, call, Index(-1))
 refused(OverflowError, trie.cursor().step, 256)
 assert trie.cursor().probe((1 << 64) - 1) is trie.cursor().step(True) is None and trie.cursor().probe(True) == trie.cursor().probe(1)
+
+# what takes long lets other threads run, and what is short does not, so that a cursor is whole whenever another thread looks at it
+for name in zerotrie._DECLARED:
+    keeps = name.partition("_")[2] in ("get", "longest_prefix", "with_prefix", "dense_get") or "_cursor_" in name
+    assert bool(getattr(zerotrie._lib, name)._flags_ & 4) == keeps, name
+
+# bytes in use stay where they are, and a listing of bytes that change ends
+lent = bytearray(build({str(n): n for n in range(500)}))
+changed = ZeroTrie(lent)
+listed = changed.items()
+next(listed)
+lent[:] = b"\x81" * len(lent)
+assert len(list(listed)) <= len(lent) + 1
+lent[:] = random.randbytes(len(lent))
+for key in range(500):
+    changed.get(str(key)), changed.longest_prefix(str(key)), changed.with_prefix(str(key))
+refused(BufferError, lent.clear)
+with tempfile.TemporaryFile() as file:
+    file.write(bytes(trie))
+    file.flush()
+    mapped = mmap.mmap(file.fileno(), 0)
+    over = ZeroTrie(mapped)
+    refused(BufferError, mapped.close)
+    assert over["foo"] == 1 and over._data is mapped
+    del over
+    mapped.close()
+# a wrong prefix is told at once, not when the listing begins
+for call in (trie.items, trie.keys, trie.values):
+    refused(TypeError, call, 5)
 
 # a key that is not there is what KeyError has, whatever it is
 assert refused(KeyError, trie.__getitem__, "no").args == ("no",) and refused(KeyError, trie.__getitem__, b"no").args == (b"no",)

@@ -1,4 +1,4 @@
-"""Maps from byte strings to numbers, read from flat bytes: zerotrie for Python, by ctypes over a library that is proved.
+"""Maps from byte strings to numbers, read from flat bytes: zerotrie for Python, over a library that is proved.
 
     >>> trie = ZeroTrie(build({"foo": 1, "bar": 2, "bazzoo": 3}, SIMPLE_ASCII), SIMPLE_ASCII)
     >>> trie["bar"], trie.get("unknown"), trie.longest_prefix("barn")
@@ -20,19 +20,22 @@ to_tagged() and pickle copy all bytes of a trie; so do bytes(trie) and copy.deep
 of a trie does so at once: hash() copies a part at a time, a look-up the key if it isn't `bytes`, get_many() all keys, and a listing
 what it lists.
 
-Keys are bytes, or text, which stands for its UTF-8; text that has none, such as a lone surrogate, raises UnicodeEncodeError, in
-`in` too. What is listed is bytes. Values are from 0 to 2**64 - 1. Many threads may ask one trie at once, and a call lets other
-threads run; a Cursor is for one thread at a time.
+Keys are bytes, or text, which stands for its UTF-8. Text that has none, such as a lone surrogate, raises UnicodeEncodeError, and
+what is neither text nor lends bytes raises TypeError, both in `in` too. What is listed is bytes. Values are from 0 to 2**64 - 1.
+
+Many threads may ask one trie at once. A build, the test of bytes, a listing and get_many() let other threads run meanwhile; a
+look-up of one key and a step of a cursor do not, as they take less time than that. A Cursor is for one thread at a time.
 
 The library is found by the variable ZEROTRIE_SO, else in this folder, else where bindings/make leaves it, else by the system's
-loader.
+loader. Look-ups one by one and cursors go to it by an extension in C, and else by ctypes, which takes ten times as long. `pip
+install` and bindings/make compile the extension if a C compiler and Python's headers are there (as gcc and python3-dev). It is in
+use if `import zerotrie._fast` works.
 """
 
 from __future__ import annotations
 
 import array
 import ctypes
-import itertools
 import mmap
 import operator
 import os
@@ -41,6 +44,7 @@ import threading
 from collections.abc import Iterable, Iterator, Mapping
 from copy import deepcopy
 from ctypes import POINTER, Structure, c_bool, c_char_p, c_int, c_size_t, c_uint8, c_uint16, c_uint32, c_void_p, py_object
+from itertools import accumulate, chain
 from typing import TYPE_CHECKING, Any, NoReturn, Optional, TypeVar, Union, overload
 
 __all__ = [
@@ -172,14 +176,20 @@ _NOTHING = ctypes.cast(c_char_p(_NO_BYTES), c_void_p)
 def _key(key: Key) -> bytes:
     if type(key) is bytes:
         return key
-    if isinstance(key, str):
+    if issubclass(type(key), str):
         # not encode() of a subclass, which answers what it likes
-        return str.encode(key)
+        return str.encode(key)  # type: ignore[arg-type]
     try:
         # a number is no key: bytes() would make as many zeros of it
-        return bytes(memoryview(key))
+        view = memoryview(key)  # type: ignore[arg-type]
     except TypeError:
         raise TypeError(f"a key is text or bytes, not {type(key).__name__}") from None
+    return bytes(view)
+
+
+def _cut(text: bytes, ends: list[int]) -> list[bytes]:
+    """The text in pieces, by where each of them ends."""
+    return [text[at:end] for at, end in zip([0, *ends], ends)]
 
 
 def _number(number: int, bits: int, what: str) -> int:
@@ -376,22 +386,22 @@ class _Place:
         return raw.run.len + raw.trie.len > 0
 
 
-def _extension() -> Any:
-    """The module of the two types above that C makes. None if there is none for this interpreter."""
+def _extension() -> bool:
+    """Whether there is the extension, which makes the two types above in C, for this interpreter and this library."""
     if "t" in getattr(sys, "abiflags", ""):
-        # an interpreter without a lock, which the extension would need
-        return None
+        # an interpreter without a lock, which the extension needs
+        return False
     __path__.append(_MADE)
     try:
         from . import _fast
         _fast.bind(_lib._handle)
     except ImportError:
-        return None
-    return _fast
+        return False
+    return True
 
 
-if not TYPE_CHECKING and (_made := _extension()):
-    _Reader, _Place = _made.Reader, _made.Place
+if not TYPE_CHECKING and _extension():
+    from ._fast import Place as _Place, Reader as _Reader
 
 
 class Cursor(_Place):
@@ -429,7 +439,8 @@ class ZeroTrie(_Reader, Mapping[bytes, int]):  # type: ignore[misc]
 
     The bytes are those of build(), with no tag. What `zerotrie build` or to_tagged() wrote is read by open() or from_tagged(): here
     its first byte would be that of every key. The bytes stay in use as long as the trie is: don't change them. Unless `check` is
-    false, they are tested first: ValueError if they are no trie of the kind. ZeroTrieError if the number is that of no kind.
+    false, they are tested first, all of them: ValueError if they are no trie of the kind. ZeroTrieError if the number is that of no
+    kind. A trie stays as it is: TypeError if it is set up again.
 
     It is a Mapping, whose items(), keys() and values() are iterators, in the order of the bytes. len() lists all pairs. Two tries
     are equal if their kinds and their bytes are. The first hash() of a trie reads all bytes, a later one none.
@@ -495,7 +506,7 @@ class ZeroTrie(_Reader, Mapping[bytes, int]):  # type: ignore[misc]
         texts = [key if type(key) is bytes else _key(key) for key in keys]
         if not texts:
             return array.array("Q")
-        ends = array.array("Q", itertools.accumulate(map(len, texts)))
+        ends = array.array("Q", accumulate(map(len, texts)))
         values = array.array("Q", bytes(8 * len(texts)))
         sizes = c_size_t * len(texts)
         _check(_lib.zerotrie_get_many(*self._lent, b"".join(texts), ends[-1], sizes.from_buffer(ends),
@@ -511,10 +522,10 @@ class ZeroTrie(_Reader, Mapping[bytes, int]):  # type: ignore[misc]
         cursor = Cursor(self)
         return cursor if cursor._go(prefix) else None
 
-    def _parts(self, prefix: Key) -> Iterator[tuple[bytes, Any, Any, int]]:
+    def _parts(self, front: bytes) -> Iterator[tuple[bytes, Any, Any, int]]:
         """Parts of the listing of a prefix, small ones first: keys one after another, where each ends, their values, and how many
         they are."""
-        front, last, goes_on = _key(prefix), b"", False
+        last, goes_on = b"", False
         room, places = 1 << 9, 1 << 5
         count, next_len, status = c_size_t(), c_size_t(), _TOO_SMALL
         # bytes list at most as many pairs as they are; if they are no trie, the parts may come round
@@ -536,28 +547,23 @@ class ZeroTrie(_Reader, Mapping[bytes, int]):  # type: ignore[misc]
     def items(self, prefix: Key = b"") -> Iterator[tuple[bytes, int]]:  # type: ignore[override]
         """The pairs whose keys begin with the prefix, in the order of the trie's bytes: in SIMPLE_ASCII that of the keys.
 
-        They are listed a part at a time.
+        They are listed a part at a time, of at most 4,096 pairs.
         """
-        for text, ends, values, count in self._parts(prefix):
-            at = 0
-            for end, value in zip(ends[:count], values[:count]):
-                yield text[at:end], value
-                at = end
+        parts = self._parts(_key(prefix))
+        return chain.from_iterable(zip(_cut(text, ends[:count]), values[:count]) for text, ends, values, count in parts)
 
     def keys(self, prefix: Key = b"") -> Iterator[bytes]:  # type: ignore[override]
         """The keys of items()."""
-        for text, ends, _, count in self._parts(prefix):
-            at = 0
-            for end in ends[:count]:
-                yield text[at:end]
-                at = end
+        parts = self._parts(_key(prefix))
+        return chain.from_iterable(_cut(text, ends[:count]) for text, ends, _, count in parts)
 
     def values(self, prefix: Key = b"") -> Iterator[int]:  # type: ignore[override]
         """The values of items()."""
-        for _, _, values, count in self._parts(prefix):
-            yield from values[:count]
+        parts = self._parts(_key(prefix))
+        return chain.from_iterable(values[:count] for _, _, values, count in parts)
 
     def __iter__(self) -> Iterator[bytes]:
+        """The keys, as keys() lists them."""
         return self.keys()
 
     def __len__(self) -> int:
@@ -577,6 +583,7 @@ class ZeroTrie(_Reader, Mapping[bytes, int]):  # type: ignore[misc]
         return tagged(self._view, self.kind)
 
     def __eq__(self, other: object) -> bool:
+        """Whether it is a trie of the same kind and the same bytes. A dict is none, whatever it holds."""
         if not isinstance(other, ZeroTrie):
             return NotImplemented
         return (self.kind, self._view) == (other.kind, other._view)
@@ -641,6 +648,10 @@ class DenseTable:
     def __reduce__(self) -> tuple[Any, ...]:
         return _remade, (type(self), DenseTable, self._record), getattr(self, "__dict__", None)
 
+    @overload
+    def get(self, prefix: Key, suffix: Key) -> Optional[int]: ...
+    @overload
+    def get(self, prefix: Key, suffix: Key, default: Other) -> Union[int, Other]: ...
     def get(self, prefix: Key, suffix: Key, default: Any = None) -> Any:
         """The value of a suffix under a prefix, or `default`. ZeroTrieError if the bytes are no record."""
         record, p, s, value = self._record, _key(prefix), _key(suffix), c_size_t()

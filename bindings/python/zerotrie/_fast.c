@@ -2,7 +2,7 @@
  * which Cursor is. __init__.py has both types once more, by ctypes, and takes these if they are there.
  *
  * A call keeps the lock of the interpreter, as a look-up takes less time than to let go of it. What may run code in Python, such as
- * to make bytes of a key of another type, comes before anything that the object holds is read. An object is set up once, for good. */
+ * to ask a number or a key of another type, comes before anything that the object holds is read. An object is set up once, for good. */
 #define Py_LIMITED_API 0x03090000
 #define PY_SSIZE_T_CLEAN
 #include <Python.h>
@@ -83,15 +83,16 @@ static void dealloc(PyObject *object) {
     Py_DECREF(type);
 }
 
-/* Calls a function of __init__.py that is given one of a caller's objects. It may run any code. */
-static PyObject *in_python(const char *name, PyObject *args) {
-    PyObject *package = args ? PyImport_ImportModule("zerotrie") : NULL;
-    PyObject *function = package ? PyObject_GetAttrString(package, name) : NULL;
-    PyObject *answer = function ? PyObject_CallObject(function, args) : NULL;
-    Py_XDECREF(function);
-    Py_XDECREF(package);
-    Py_XDECREF(args);
-    return answer;
+/* Puts into words that the object is of no type that serves, if the exception is a TypeError: "a key is text or bytes, not int". */
+static void in_words(const char *what, PyObject *given) {
+    PyObject *name;
+    if (!PyErr_ExceptionMatches(PyExc_TypeError))
+        return;
+    PyErr_Clear();
+    name = PyObject_GetAttrString((PyObject *)Py_TYPE(given), "__name__");
+    if (name)
+        PyErr_Format(PyExc_TypeError, "%s, not %S", what, name);
+    Py_XDECREF(name);
 }
 
 /* A `bytes` of the key, to let go of, whose bytes go to *text. NULL and an exception if it is no key. */
@@ -102,10 +103,15 @@ static PyObject *bytes_of(PyObject *key, zerotrie_bytes *text) {
     if (PyBytes_CheckExact(key)) {
         Py_INCREF(key);
         bytes = key;
-    } else if (PyUnicode_CheckExact(key)) {
+    } else if (PyUnicode_Check(key)) {
         bytes = PyUnicode_AsUTF8String(key);
     } else {
-        bytes = in_python("_key", Py_BuildValue("(O)", key));
+        /* a copy, as what lends its bytes may change them; a number lends none */
+        PyObject *view = PyMemoryView_FromObject(key);
+        bytes = view ? PyObject_Bytes(view) : NULL;
+        if (!view)
+            in_words("a key is text or bytes", key);
+        Py_XDECREF(view);
     }
     if (bytes && PyBytes_AsStringAndSize(bytes, &start, &len) < 0)
         Py_CLEAR(bytes);
@@ -182,27 +188,26 @@ static PyObject *reader_longest_prefix(PyObject *object, PyObject *given) {
     return answer;
 }
 
-/* Whether the number is one of so many bits, which goes to *number; if not, an exception says what it should be. */
-static bool number_of(PyObject *given, int bits, const char *what, size_t *number) {
-    PyObject *checked = NULL;
-    if (PyLong_CheckExact(given)) {
-        *number = PyLong_AsSize_t(given);
-        if (!PyErr_Occurred() && *number >> (bits - 1) <= 1)
-            return true;
-        PyErr_Clear();
+/* Whether the object is a number of so many bits, which goes to *number. If not, an exception says what it should be. */
+static bool number_of(PyObject *given, const char *words, const char *what, unsigned bits, size_t *number) {
+    PyObject *whole = PyNumber_Index(given);
+    if (!whole) {
+        in_words(words, given);
+        return false;
     }
-    checked = in_python("_number", Py_BuildValue("(Ois)", given, bits, what));
-    if (checked)
-        *number = PyLong_AsSize_t(checked);
-    Py_XDECREF(checked);
-    return checked && !PyErr_Occurred();
+    *number = PyLong_AsSize_t(whole);
+    Py_DECREF(whole);
+    if (!PyErr_Occurred() && *number >> (bits - 1) <= 1)
+        return true;
+    PyErr_Format(PyExc_OverflowError, "%s is from 0 to 2**%u - 1", what, bits);
+    return false;
 }
 
 /* cursor.step(byte) */
 static PyObject *place_step(PyObject *object, PyObject *given) {
     size_t byte;
     uint8_t edge;
-    Held *held = number_of(given, 8, "a byte", &byte) ? held_by(object) : NULL;
+    Held *held = number_of(given, "a byte is a whole number", "a byte", 8, &byte) ? held_by(object) : NULL;
     if (held && cursor_step(held->kind, &held->cursor, (uint8_t)byte, &edge))
         return PyLong_FromLong(edge);
     return held ? Py_BuildValue("") : NULL;
@@ -213,7 +218,7 @@ static PyObject *place_probe(PyObject *object, PyObject *given) {
     size_t index;
     uint8_t edge;
     uint16_t siblings;
-    Held *held = number_of(given, 64, "an index", &index) ? held_by(object) : NULL;
+    Held *held = number_of(given, "an index is a whole number", "an index", 64, &index) ? held_by(object) : NULL;
     if (held && cursor_probe(held->kind, &held->cursor, index, &edge, &siblings))
         return Py_BuildValue("(ii)", edge, siblings);
     return held ? Py_BuildValue("") : NULL;
