@@ -423,7 +423,8 @@ def ask_all():
             except (KeyError, TypeError, UnicodeEncodeError):
                 pass
     cursor = trie.cursor()
-    for call, number in ((cursor.step, ord("f")), (cursor.copy().probe, 0), (cursor.probe, 7), (cursor.step, -1), (cursor.probe, "a")):
+    for call, number in ((cursor.step, ord("f")), (cursor.copy().probe, 0), (cursor.copy().probe, int("1000000")), (cursor.probe, 7),
+                         (cursor.step, -1), (cursor.probe, "a")):
         try:
             call(number)
         except (OverflowError, TypeError):
@@ -438,11 +439,12 @@ def ask_all():
 # a reference too many keeps memory, and one too few ends the process later
 ask_all()
 gc.collect()
-blocks = sys.getallocatedblocks()
+blocks, uses = sys.getallocatedblocks(), [sys.getrefcount(each) for each in (ZeroTrie, zerotrie.Cursor, None, True)]
 for _ in range(1000):
     ask_all()
 gc.collect()
 assert sys.getallocatedblocks() - blocks < 900, sys.getallocatedblocks() - blocks
+assert all(sys.getrefcount(each) - use < 900 for each, use in zip((ZeroTrie, zerotrie.Cursor, None, True), uses))
 
 # threads that ask one trie, set it up again and go on by one cursor: each step is whole, so none reads beyond the bytes
 shared = trie.cursor()
@@ -497,7 +499,9 @@ if by_extension:
         assert told[0] == told[1], told
     assert len({one.run.__doc__ for _, one in readers}) == 1
     pairs = {"": 0, "a": 1, "foo": 1 << 64 - 1, "food": 7, "fö": 3}
-    strange = [*pairs, "fo", "foods", b"", b"foo", b"f\xc3\xb6", b"\xff", "\ud800", "\ud800\udfff", "\0", Text("foo"), Long(b"foo"), bytearray(b"foo"),
+    released = memoryview(b"foo")
+    released.release()
+    strange = [released, *pairs, "fo", "foods", b"", b"foo", b"f\xc3\xb6", b"\xff", "\ud800", "\ud800\udfff", "\0", Text("foo"), Long(b"foo"), bytearray(b"foo"),
                memoryview(b"foo"), memoryview(b"f?o?o?")[::2], array.array("H", [0x6F66]), 5, None, 1.5, [], (), ("foo",), {}, object, "x" * 100000]
     for letters in ({"a": 1, "foo": 1 << 63, "food": 7}, pairs, {}):
         tries = [package.ZeroTrie.build(letters) for package in packages]
