@@ -169,8 +169,8 @@ def _load() -> ctypes.CDLL:
 
 _lib = _load()
 _ONCE = threading.RLock()
-_NO_BYTES = b""
-_NOTHING = ctypes.cast(c_char_p(_NO_BYTES), c_void_p)
+_NO_BYTES = (c_uint8 * 1)()
+_NOTHING = ctypes.addressof(_NO_BYTES)
 
 
 def _key(key: Key) -> bytes:
@@ -212,11 +212,12 @@ def _known(kind: int) -> int:
 
 def _raw_pairs(pairs: Pairs) -> "ctypes.Array[_Pair]":
     given = list(pairs.items() if isinstance(pairs, Mapping) else pairs)
-    raw = (_Pair * max(1, len(given)))()
+    raw, size = (_Pair * max(1, len(given)))(), 0
     for place, (key, value) in zip(raw, given):
         text = _key(key)
+        size += len(text)
         place.key.ptr, place.key.len, place.value = text, len(text), _number(value, 64, "a value")
-    raw.count = len(given)
+    raw.count, raw.size = len(given), size
     return raw
 
 
@@ -231,7 +232,7 @@ def _built(write: Any, pairs: Pairs, kind: Optional[int]) -> tuple[bytes, int]:
     """What a function of the library builds of the pairs, and the kind, which is that of auto_kind() if it is None."""
     raw = _raw_pairs(pairs)
     kind = _lib.zerotrie_auto_kind(raw, raw.count) if kind is None else _number(kind, 32, "a kind")
-    length = c_size_t(sum(pair.key.len + 4 for pair in raw))
+    length = c_size_t(raw.size + 4 * raw.count)
     for _ in range(2):
         room = (c_uint8 * max(1, length.value))()
         status = write(kind, raw, raw.count, room, len(room), length)
@@ -300,9 +301,10 @@ def _once(cls: Any, made: Any, value: Any) -> None:
 
 
 class _Reader:
-    """Look-ups one by one, in bytes that a view keeps where they lie: a kind, their address and how many they are."""
+    """Look-ups one by one, in bytes that a view keeps where they lie. It holds the kind, where they lie, how many they are, and the view."""
 
     __slots__ = ("_held",)
+    _held: tuple[int, int, int, memoryview]
 
     def _hold(self, view: memoryview, kind: int, at: int, length: int) -> None:
         _once(_Reader, self, (kind, at, length, view))
@@ -338,9 +340,10 @@ class _Reader:
 
 
 class _Place:
-    """What a cursor goes by, in bytes that a view keeps where they lie."""
+    """What a cursor goes by, in bytes that a view keeps where they lie. It holds the kind, the place, and the view."""
 
     __slots__ = ("_held",)
+    _held: tuple[int, _Cursor, memoryview]
 
     def _hold(self, view: memoryview, kind: int, at: int, length: int) -> None:
         raw = _Cursor()
@@ -471,7 +474,7 @@ class ZeroTrie(_Reader, Mapping[bytes, int]):  # type: ignore[misc]
         view = memoryview(data).cast("B")
         first = bytes(view[:1])
         kind, part = c_uint32(), _Part()
-        _check(_lib.zerotrie_untagged(ctypes.cast(c_char_p(first), c_void_p), len(first), kind, part))
+        _check(_lib.zerotrie_untagged(first, len(first), kind, part))
         return cls(view[1:], kind.value, check)
 
     @classmethod
@@ -677,6 +680,6 @@ def _address(view: memoryview) -> int:
     got = _Buffer()
     _get_buffer(view, got, 0)
     try:
-        return got.buf or _NOTHING.value
+        return got.buf or _NOTHING
     finally:
         _release_buffer(got)

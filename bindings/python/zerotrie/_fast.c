@@ -180,10 +180,14 @@ static PyObject *reader_longest_prefix(PyObject *object, PyObject *given) {
     PyObject *bytes = bytes_of(given, &text), *answer = NULL;
     Held *held = bytes ? held_by(object) : NULL;
     size_t len, value;
-    if (held && longest_prefix(held->kind, held->bytes, held->len, text.ptr, text.len, &len, &value))
-        answer = Py_BuildValue("(y#K)", text.ptr, (Py_ssize_t)len, (unsigned long long)value);
-    else if (held)
+    if (held && longest_prefix(held->kind, held->bytes, held->len, text.ptr, text.len, &len, &value)) {
+        PyObject *key = PyBytes_FromStringAndSize((const char *)text.ptr, (Py_ssize_t)len), *number = PyLong_FromSize_t(value);
+        answer = key && number ? PyTuple_Pack(2, key, number) : NULL;
+        Py_XDECREF(key);
+        Py_XDECREF(number);
+    } else if (held) {
         answer = Py_BuildValue("");
+    }
     Py_XDECREF(bytes);
     return answer;
 }
