@@ -1,10 +1,10 @@
 """Packs the one package for `pip install .`, so that no other one is asked for. The library goes along: a libzerotrie.so that lies
 in the package, or else where bindings/make leaves it, is installed in the package, which finds it there. Without one nothing is
-packed. So does the extension zerotrie/_fast.c, which makes single look-ups fast, if a C compiler and Python.h are there to compile
-it; the package does without. `pip install -e .` installs the way to this folder alone: the library and the extension are those of
-bindings/make, before or after.
+packed. The extension zerotrie/_fast.c, by which single look-ups are fast, is compiled and goes along if a C compiler and Python.h
+are there; else the package does without. `pip install -e .` installs the way to this folder alone: the library and the extension are
+those that bindings/make made, before or after.
 
-As a program it compiles the extension into the folder that is its argument."""
+As a program, which bindings/make calls, it compiles the extension into the folder that is its argument."""
 
 import base64
 import hashlib
@@ -66,7 +66,7 @@ def extension(folder):
         try:
             done = subprocess.run([*compiler, *flags, *places, str(HERE / "zerotrie/_fast.c"), "-o", str(made)],
                                   stdout=subprocess.DEVNULL, stderr=subprocess.PIPE, text=True, errors="replace")
-            why = done.stderr if done.returncode else None
+            why = done.stderr if done.returncode or not made.exists() else None
         except OSError as error:
             why = f"{error}\n"
     if why is None:

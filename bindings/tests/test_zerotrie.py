@@ -222,6 +222,7 @@ with tempfile.TemporaryDirectory() as room:
             names = {*files, "zerotrie/_fast.c", "zerotrie.h", "packed.py", "pyproject.toml"}
             assert {f"{packed.NAME}/{name}" for name in names} <= set(sdist.getnames())
         for build_it, compiler, tag, want in ((packed.build_wheel, "cc", cpython, {*files, "zerotrie/_fast.abi3.so"}),
+                                              (packed.build_wheel, "true", any_python, files),
                                               (packed.build_wheel, "false", any_python, files),
                                               (packed.build_wheel, "no-such-compiler", any_python, files),
                                               (packed.build_editable, "cc", any_python, {"zerotrie.pth"})):
@@ -355,6 +356,11 @@ for call in (trie.cursor().step, trie.cursor().probe):
     refused(OverflowError, call, Index(-1))
 refused(OverflowError, trie.cursor().step, 256)
 assert trie.cursor().probe((1 << 64) - 1) is trie.cursor().step(True) is None and trie.cursor().probe(True) == trie.cursor().probe(1)
+
+# the library is the one that ZEROTRIE_SO names, for the extension too: another copy of it would come beside
+if os.environ.get("ZEROTRIE_SO"):
+    used = {line.split(maxsplit=5)[5] for line in pathlib.Path("/proc/self/maps").read_text().splitlines() if "libzerotrie" in line}
+    assert used == {os.path.realpath(os.environ["ZEROTRIE_SO"])}, used
 
 # what takes long lets other threads run, and what is short does not, so that a cursor is whole whenever another thread looks at it
 for name in zerotrie._DECLARED:

@@ -320,6 +320,7 @@ class _Reader:
         return value.value if _lib.zerotrie_get(kind, at, length, text, len(text), value) else default
 
     def __getitem__(self, key: Key) -> int:
+        """The value of the key. KeyError if there is none."""
         text, value = _key(key), c_size_t()
         kind, at, length, _ = self._held
         if not _lib.zerotrie_get(kind, at, length, text, len(text), value):
@@ -327,6 +328,7 @@ class _Reader:
         return value.value
 
     def __contains__(self, key: Any) -> bool:
+        """Whether there is the key."""
         text, value = _key(key), c_size_t()
         kind, at, length, _ = self._held
         return _lib.zerotrie_get(kind, at, length, text, len(text), value)
