@@ -239,7 +239,6 @@ with tempfile.TemporaryDirectory() as room:
                 assert f"\nTag: {tag}\n" in told["WHEEL"]
 
 
-
 def read():
     for n in range(2000):
         assert trie["bar"] == 2 and trie.get("no") is None

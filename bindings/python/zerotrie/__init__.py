@@ -366,12 +366,14 @@ class _Place:
     def step(self, byte: int, /) -> Optional[int]:
         """Goes along the edge that is the byte to the kind, and answers its byte as it is stored. None: nothing is left."""
         number, edge = _number(byte, 8, "a byte"), c_uint8()
-        return edge.value if _lib.zerotrie_cursor_step(self._held[0], self._held[1], number, edge) else None
+        kind, raw, _ = self._held
+        return edge.value if _lib.zerotrie_cursor_step(kind, raw, number, edge) else None
 
     def probe(self, index: int, /) -> Optional[tuple[int, int]]:
         """Goes along edge number `index`, from 0, and answers its byte and how many edges there are. None: nothing is left."""
         number, edge, siblings = _number(index, 64, "an index"), c_uint8(), c_uint16()
-        found = _lib.zerotrie_cursor_probe(self._held[0], self._held[1], number, edge, siblings)
+        kind, raw, _ = self._held
+        found = _lib.zerotrie_cursor_probe(kind, raw, number, edge, siblings)
         return (edge.value, siblings.value) if found else None
 
     def take_value(self) -> Optional[int]:
