@@ -30,6 +30,11 @@ typedef struct {
     zerotrie_cursor cursor;
 } Held;
 
+/* None, as an answer. Py_RETURN_NONE of Python 3.12's headers counts no reference, and an older Python that runs it needs one. */
+static PyObject *none(void) {
+    return Py_BuildValue("");
+}
+
 /* What the object holds. NULL and AttributeError if it is not set up. */
 static Held *held_by(PyObject *object) {
     Held *held = (Held *)object;
@@ -58,7 +63,7 @@ static PyObject *hold(PyObject *object, PyObject *args) {
     cursor_new(held->bytes, held->len, &held->cursor);
     Py_INCREF(view);
     held->view = view;
-    Py_RETURN_NONE;
+    return none();
 }
 
 /* Shows the collector of cycles what the object refers to. */
@@ -186,7 +191,7 @@ static PyObject *reader_longest_prefix(PyObject *object, PyObject *given) {
         Py_XDECREF(key);
         Py_XDECREF(number);
     } else if (held) {
-        answer = Py_BuildValue("");
+        answer = none();
     }
     Py_XDECREF(bytes);
     return answer;
@@ -214,7 +219,7 @@ static PyObject *place_step(PyObject *object, PyObject *given) {
     Held *held = number_of(given, "a byte is a whole number", "a byte", 8, &byte) ? held_by(object) : NULL;
     if (held && cursor_step(held->kind, &held->cursor, (uint8_t)byte, &edge))
         return PyLong_FromLong(edge);
-    return held ? Py_BuildValue("") : NULL;
+    return held ? none() : NULL;
 }
 
 /* cursor.probe(index) */
@@ -225,16 +230,16 @@ static PyObject *place_probe(PyObject *object, PyObject *given) {
     Held *held = number_of(given, "an index is a whole number", "an index", 64, &index) ? held_by(object) : NULL;
     if (held && cursor_probe(held->kind, &held->cursor, index, &edge, &siblings))
         return Py_BuildValue("(ii)", edge, siblings);
-    return held ? Py_BuildValue("") : NULL;
+    return held ? none() : NULL;
 }
 
 /* cursor.take_value() */
-static PyObject *place_take_value(PyObject *object, PyObject *Py_UNUSED(none)) {
+static PyObject *place_take_value(PyObject *object, PyObject *Py_UNUSED(unused)) {
     size_t value;
     Held *held = held_by(object);
     if (held && cursor_take_value(&held->cursor, &value))
         return PyLong_FromSize_t(value);
-    return held ? Py_BuildValue("") : NULL;
+    return held ? none() : NULL;
 }
 
 /* _go(prefix): from the front of the trie, goes behind a prefix. Answers whether some key begins with it. */
@@ -249,7 +254,7 @@ static PyObject *place_go(PyObject *object, PyObject *prefix) {
 }
 
 /* _copied(): a Place of the same type that holds the same. */
-static PyObject *place_copied(PyObject *object, PyObject *Py_UNUSED(none)) {
+static PyObject *place_copied(PyObject *object, PyObject *Py_UNUSED(unused)) {
     Held *held = held_by(object), *made = held ? (Held *)PyType_GenericAlloc(Py_TYPE(object), 0) : NULL;
     if (made) {
         made->kind = held->kind;
@@ -263,7 +268,7 @@ static PyObject *place_copied(PyObject *object, PyObject *Py_UNUSED(none)) {
 }
 
 /* cursor.run */
-static PyObject *place_run(PyObject *object, void *Py_UNUSED(none)) {
+static PyObject *place_run(PyObject *object, void *Py_UNUSED(unused)) {
     Held *held = held_by(object);
     return held ? PyBytes_FromStringAndSize((const char *)held->cursor.run.ptr, (Py_ssize_t)held->cursor.run.len) : NULL;
 }
@@ -290,7 +295,7 @@ static PyObject *bind(PyObject *Py_UNUSED(module), PyObject *handle) {
             return PyErr_Format(PyExc_ImportError, "the library has no function %s", wanted[number].name);
         memcpy(wanted[number].to, &function, sizeof function);
     }
-    Py_RETURN_NONE;
+    return none();
 }
 
 /* A pointer to a function among pointers to data, for which ISO C has no cast. */
