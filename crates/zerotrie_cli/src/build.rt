@@ -5,7 +5,7 @@ use clap::ArgMatches;
 use zerotrie_lines::Format;
 use zerotrie_making::{Plan, Source};
 use zerotrie_queries::TrieKind;
-use zerotrie_run::Build;
+use zerotrie_run::{Build, Place};
 
 /// How the file is to be made.
 fn plan_in(matches: &ArgMatches<'_>) -> Plan {
@@ -23,11 +23,19 @@ fn plan_in(matches: &ArgMatches<'_>) -> Plan {
     }
 }
 
+/// Where the file goes. A path of standard output is that stream: what it leads to is not replaced.
+fn target_in<'a>(matches: &ArgMatches<'a>) -> Place<'a> {
+    match matches.get_str("output") {
+        Some("/dev/stdout" | "/dev/fd/1" | "/proc/self/fd/1") => Place::Stream,
+        _ => place_in(matches, "output"),
+    }
+}
+
 /// The build that is asked for. Its steps are told if that was asked for, or if messages go to a terminal.
 pub fn build_in<'a>(matches: &ArgMatches<'a>, to_terminal: bool) -> Build<'a> {
     Build {
         from: place_in(matches, "IN"),
-        to: place_in(matches, "output"),
+        to: target_in(matches),
         plan: plan_in(matches),
         progress: to_terminal || matches.get_flag("progress"),
     }

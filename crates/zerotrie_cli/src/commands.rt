@@ -8,7 +8,7 @@ use clap::error::ErrorKind;
 use std::io::{BufWriter, IsTerminal};
 use std::{env, io};
 use zerotrie_files::SystemStore;
-use zerotrie_run::{Command, Status, run};
+use zerotrie_run::{Build, Command, Place, Status, run};
 
 /// Tells that something failed before a command was known. If that can't be told either, the status tells it alone.
 fn tell_fault(rt: &HostRuntime, error: &io::Error) -> Status {
@@ -60,6 +60,8 @@ fn show(rt: &HostRuntime, said: &clap::Error) -> Status {
         ErrorKind::OutOfMemory => Status::Fault,
         ErrorKind::DisplayHelp | ErrorKind::DisplayVersion => match shown {
             Ok(()) => Status::Done,
+            // who reads the output has enough
+            Err(error) if error.kind() == io::ErrorKind::BrokenPipe => Status::Fault,
             Err(error) => {
                 let _ = eprintln!(rt; "zerotrie: standard output: {error}");
                 Status::Fault
@@ -67,6 +69,15 @@ fn show(rt: &HostRuntime, said: &clap::Error) -> Status {
         },
         _ => Status::BadUsage,
     }
+}
+
+/// Makes the file of a build, unless it would replace its own input.
+fn run_build(rt: &HostRuntime, build: Build<'_>) -> Status {
+    if build.from == build.to && build.to != Place::Stream {
+        let _ = eprintln!(rt; "zerotrie: IN and OUT are the same file");
+        return Status::BadUsage;
+    }
+    run_here(rt, Command::Build(build))
 }
 
 /// Does what the words ask.
@@ -79,7 +90,7 @@ fn obey(rt: &HostRuntime, words: &[String]) -> Status {
         Ok(matches) => match matches.subcommand() {
             Some(("build", matches)) => {
                 let to_terminal = rt.stderr().is_terminal();
-                run_here(rt, Command::Build(build_in(matches, to_terminal)))
+                run_build(rt, build_in(matches, to_terminal))
             }
             Some((name, matches)) => run_question(rt, matches, name),
             None => Status::BadUsage,

@@ -11,11 +11,11 @@ const KEYWORDS: &[&str] = &[
     "typeof", "unsafe", "unsized", "use", "virtual", "where", "while", "yield",
 ];
 
-/// Whether the name is a keyword of the language. In C, where it stands in front of others, it is one with which they would
+/// Whether the name is a keyword of the language. In C, where it stands in front of others, it is one with which they could
 /// be names of `zerotrie.h`.
 pub fn is_taken(language: Language, name: &str) -> bool {
     match language {
         Language::Rust | Language::Rattle => KEYWORDS.iter().any(|word| *word == name),
-        Language::C => name == "zerotrie",
+        Language::C => name.starts_with("zerotrie"),
     }
 }

@@ -53,12 +53,15 @@ pub const COMMANDS: &[Subcommand] = &[
             Argument {
                 name: "kind",
                 form: Form::OneOf("K", KINDS_OR_AUTO, Otherwise::Is("auto")),
-                help: "The kind of the trie",
+                help: "The kind of the trie: simple for some hundreds of ASCII keys, ignore for ASCII keys that are to be found in \
+                    either case, hash for any bytes or many keys, ext for gigabytes; auto takes simple for fewer than 512 \
+                    ASCII keys, else hash",
             },
             Argument {
                 name: "format",
                 form: Form::OneOf("F", INPUTS, Otherwise::Is("tsv")),
-                help: "The format of the input",
+                help: "The format of the input: tsv, a key with escapes as \\t, a tab and a number; csv, two fields, no header; \
+                    lines, a key, whose value is the number of its line; json, an object or a list of pairs",
             },
             Argument {
                 name: "sorted",
@@ -93,7 +96,7 @@ pub const COMMANDS: &[Subcommand] = &[
             Argument {
                 name: "KEY",
                 form: Form::Words,
-                help: "Keys; with none they are the lines of standard input",
+                help: "Keys, without escapes; with none they are the lines of standard input",
             },
         ],
     },

@@ -20,7 +20,7 @@ const MOST_TRIES: usize = 100;
 enum Target {
     /// A file with this path, or none yet. A file that is there has permissions.
     File(String, Option<Permissions>),
-    /// A device or a pipe.
+    /// A device, a pipe, or an open file of a process.
     Stream,
 }
 
@@ -46,8 +46,16 @@ fn target_there<R: Files + AllocGlobal>(
     Ok(Target::File(real.into_string(), Some(kept)))
 }
 
+/// Whether a path is that of an open file of a process, whose file is to be written to and not replaced.
+fn is_open_file(path: &str) -> bool {
+    path.starts_with("/dev/fd/") || path.starts_with("/dev/std") || path.starts_with("/proc/")
+}
+
 /// What stands at a path. A link to what isn't there is an error.
 fn target_of<R: Files + AllocGlobal>(rt: &R, path: &str) -> io::Result<Target> {
+    if is_open_file(path) {
+        return Ok(Target::Stream);
+    }
     match fs::metadata(rt, path) {
         Ok(found) => target_there(rt, path, &found),
         Err(error) => {
@@ -91,12 +99,12 @@ fn write_file<R: Files + AllocGlobal>(
 ///
 /// They are written to a new file in the same folder, which then takes the path. A symbolic link stays, and the file
 /// that it leads to is replaced; the file keeps who may read, write and run it, and no set-id bit. A device or a pipe is
-/// written to. A folder, a link that leads nowhere and a file that can't be written are errors.
+/// written to, and so is the end of a file that is open at `/dev/fd/N`. A folder, a link that leads nowhere and a file that can't be written are errors.
 pub fn write_output<R: Files + AllocGlobal>(rt: &R, path: &str, bytes: &[u8]) -> io::Result<()> {
     match target_of(rt, path)? {
         Target::File(real, permissions) => write_file(rt, real.as_str(), permissions, bytes),
         Target::Stream => {
-            let mut stream = OpenOptions::new().write(true).open(rt, path)?;
+            let mut stream = OpenOptions::new().append(true).open(rt, path)?;
             stream.write_all(bytes)
         }
     }

@@ -114,9 +114,7 @@ front_read lang.C kind name rest is =
     let last = codes "_bytes[] = {" in
     let bytes = codes ";\n\n/* Its bytes, and a zero. */\nstatic const uint8_t " ++ (name ++ last) in
     let kinds = codes "_kind = " ++ (c_kind kind ++ bytes) in
-    let guarded = codes "_INCLUDED\n\n#include \"zerotrie.h\"\n\n/* The kind of the trie. */\nstatic const uint32_t " ++ (name ++ kinds) in
-    let guard = codes "_INCLUDED\n#define " ++ (name ++ guarded) in
-    named name guard rest is ∙ named name guarded rest is ∙ named name kinds rest is ∙ c_kind_read kind bytes rest ∙ named name last rest is
+    named name kinds rest is ∙ c_kind_read kind bytes rest ∙ named name last rest is
 front_read lang.Rattle kind name rest is = named name (codes "(key: &[u8]) -> Option<usize> {\n    static BYTES: &[u8] = &[") rest is
 
 -- and none after them
@@ -125,7 +123,7 @@ behind_read lang.Rust kind name is = refl
 behind_read lang.C kind name is =
     let end = codes "_bytes - 1;\n" in
     let size = codes "_len = sizeof " ++ (name ++ end) in
-    let last = codes "_len, key, key_len, value);\n}\n\n#endif\n" in
+    let last = codes "_len, key, key_len, value);\n}\n" in
     let len = codes "_bytes, " ++ (name ++ last) in
     let bytes = codes "_kind, " ++ (name ++ len) in
     let call = codes "_get(const uint8_t *key, size_t key_len, size_t *value) {\n    return zerotrie_get(" ++ (name ++ bytes) in

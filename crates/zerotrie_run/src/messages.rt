@@ -42,7 +42,7 @@ fn tell_no_trie<M: Write>(
         }
         (OpenError::BadTag(TagError::InvalidTag), _) => writeln!(
             messages,
-            "zerotrie: {path}: no kind has the number that the file begins with; if it is bare bytes, name their kind by --kind"
+            "zerotrie: {path}: no file of zerotrie build: no kind has the number that the file begins with; if it is bare bytes, name their kind by --kind"
         ),
         (OpenError::NotWellFormed(kind), Some(fault)) => {
             let name = kind.name();

@@ -43,12 +43,10 @@ rust_front kind name =
 -- what C has
 abbrev pub c_front : TrieKind → List ℕ → List ℕ
 c_front kind name =
-    codes "#ifndef " ++ (name
-    ++ (codes "_INCLUDED\n#define " ++ (name
-    ++ (codes "_INCLUDED\n\n#include \"zerotrie.h\"\n\n/* The kind of the trie. */\nstatic const uint32_t " ++ (name
+    codes "#include \"zerotrie.h\"\n\n/* The kind of the trie. */\nstatic const uint32_t " ++ (name
     ++ (codes "_kind = " ++ (c_kind kind
     ++ (codes ";\n\n/* Its bytes, and a zero. */\nstatic const uint8_t " ++ (name
-    ++ codes "_bytes[] = {")))))))))
+    ++ codes "_bytes[] = {")))))
 
 -- what Rattle has
 abbrev pub rattle_front : List ℕ → List ℕ
@@ -70,7 +68,7 @@ c_get name =
     ++ (codes "_get(const uint8_t *key, size_t key_len, size_t *value) {\n    return zerotrie_get(" ++ (name
     ++ (codes "_kind, " ++ (name
     ++ (codes "_bytes, " ++ (name
-    ++ codes "_len, key, key_len, value);\n}\n\n#endif\n")))))))
+    ++ codes "_len, key, key_len, value);\n}\n")))))))
 
 -- what C has after the bytes
 abbrev pub c_behind : List ℕ → List ℕ

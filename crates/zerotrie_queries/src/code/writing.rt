@@ -34,10 +34,7 @@ fn write_c_front<W: Write>(kind: TrieKind, name: &str, output: &mut W) -> io::Re
     let kind = c_kind(kind);
     write!(
         output,
-        "#ifndef {name}_INCLUDED
-#define {name}_INCLUDED
-
-#include \"zerotrie.h\"
+        "#include \"zerotrie.h\"
 
 /* The kind of the trie. */
 static const uint32_t {name}_kind = {kind};
@@ -76,8 +73,6 @@ fn write_c_get<W: Write>(name: &str, output: &mut W) -> io::Result<()>
 static inline bool {name}_get(const uint8_t *key, size_t key_len, size_t *value) {{
     return zerotrie_get({name}_kind, {name}_bytes, {name}_len, key, key_len, value);
 }}
-
-#endif
 "
     )
 }
