@@ -26,7 +26,7 @@ fn plan_in(matches: &ArgMatches<'_>) -> Plan {
 /// Where the file goes. A path of standard output is that stream: what it leads to is not replaced.
 fn target_in<'a>(matches: &ArgMatches<'a>) -> Place<'a> {
     match matches.get_str("output") {
-        Some("/dev/stdout" | "/dev/fd/1" | "/proc/self/fd/1") => Place::Stream,
+        Some("/dev/stdout" | "/dev/fd/1") => Place::Stream,
         _ => place_in(matches, "output"),
     }
 }
