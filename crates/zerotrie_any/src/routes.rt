@@ -4,7 +4,7 @@ ghost use Rattle.std.specs.Prelude.{◌≡◌, IfOk, OnOk};
 ghost use Rattle.std.specs.Iterator.{IsFiniteIterable};
 ghost use Rattle.zerotrie_core.specs.Maps.{Ascends};
 ghost use Rattle.zerotrie_core.specs.Items.{pairs_of, keyed};
-ghost use Rattle.zerotrie_core.specs.Routes.{ascending, in_order, IsBuild, HoldsOfItsPairs, IsBuildOfAll};
+ghost use Rattle.zerotrie_core.specs.Routes.{ascending, any_order, in_order, IsBuild, HoldsOfItsPairs, IsBuildOfAll};
 ghost use Rattle.zerotrie_any.specs.Order.{IsByBytes};
 
 use std::alloc::{AllocError, Global};
@@ -37,6 +37,26 @@ pub fn bytes_from_slice<K: ZeroTrieWithOptions>(
         ByteSliceWithIndices::from_byte_slice(items),
         ZeroTrieBuilderOptions::of::<K>(),
     )?;
+    Ok(builder.data.into_vec())
+}
+
+/// The bytes of the trie of a slice in any order. An empty input gives an empty trie. The items are copied only if they
+/// have to be sorted.
+///
+/// ```
+/// let bytes = bytes_from_unsorted_slice::<Simple>(rt.alloc(), &[(b"adef", 33), (b"ad", 22)])?;
+/// assert_eq!(rt; bytes.as_slice(), b"ad\x90\x06ef\x90\x11".as_slice());
+/// ```
+///
+/// A build is refused as by `bytes_from_iter`, each time for the reason that `ZeroTrieBuildError` gives.
+pub fn bytes_from_unsorted_slice<K: ZeroTrieWithOptions>(
+    alloc: Global,
+    items: &[(&[u8], usize)],
+) -> Result<Vec<u8>, ZeroTrieBuildError>
+    ensures { IsBuild any_order K.kind (λ bytes. bytes.items) (pairs_of items.now) result }
+{
+    let builder: ZeroTrieBuilder<VecDeque<u8>> =
+        ZeroTrieBuilder::from_tuple_slice(alloc, items, ZeroTrieBuilderOptions::of::<K>())?;
     Ok(builder.data.into_vec())
 }
 

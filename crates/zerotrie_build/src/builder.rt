@@ -303,6 +303,22 @@ impl<S: TrieBuilderStore + Drop> ZeroTrieBuilder<S> {
         Ok(ZeroTrieBuilder { data })
     }
 
+    /// Builds the trie of the items of a slice, in any order. An empty input gives an empty trie. If they are in the
+    /// order of the kind, they are read where they stand, and else a sorted copy of the items is made.
+    ///
+    /// A build is refused as `from_bytes_iter` is, each time for the reason that `ZeroTrieBuildError` gives.
+    pub fn from_tuple_slice<K: TrieKey>(
+        alloc: Global,
+        items: &[(K, usize)],
+        options: ZeroTrieBuilderOptions,
+    ) -> Result<Self, ZeroTrieBuildError>
+        ensures { IsBuild any_order (kind_with options) (λ b. S.list b.data)
+            (keyed K.key items.now) result }
+    {
+        let data = build_any(alloc, alloc, items, options)?;
+        Ok(ZeroTrieBuilder { data })
+    }
+
     /// Builds the trie of all pairs that the iterator gives, in any order. An empty input gives an empty
     /// trie.
     ///

@@ -11,7 +11,7 @@ ghost use Rattle.zerotrie_c.specs.Builds.{given, IsHandedOut, IsBuildTold, IsLen
 
 use crate::statuses::{BUFFER_TOO_SMALL, DONE, UNKNOWN_KIND, status_of};
 use std::alloc::{AllocError, Global};
-use zerotrie_any::{bytes_from_iter, bytes_from_slice};
+use zerotrie_any::{bytes_from_slice, bytes_from_unsorted_slice};
 use zerotrie_build::{ByteSliceWithIndices, encoded_len};
 use zerotrie_core::{
     Ext, Hash, Ignore, Simple, ZeroTrieBuildError, ZeroTrieBuilderOptions, ZeroTrieWithOptions,
@@ -60,17 +60,6 @@ fn bytes_sorted<K: ZeroTrieWithOptions>(
     bytes_from_slice::<K>(alloc, items.as_slice())
 }
 
-/// Builds the trie of items in any order, in the kind `K`.
-fn bytes_of_items<K: ZeroTrieWithOptions>(
-    alloc: Global,
-    items: Vec<(&[u8], usize)>,
-) -> Result<Vec<u8>, ZeroTrieBuildError>
-    ensures { IsBuild any_order K.kind (λ bytes. bytes.items) (pairs_of items.entry.items) result }
-{
-    let bytes = bytes_from_iter::<K, &[u8], Vec<(&[u8], usize)>>(alloc, items)?;
-    Ok(bytes)
-}
-
 /// Builds the trie of pairs in any order, in the kind `K`.
 fn bytes_unsorted<K: ZeroTrieWithOptions>(
     alloc: Global,
@@ -79,7 +68,7 @@ fn bytes_unsorted<K: ZeroTrieWithOptions>(
     ensures { IsBuild any_order K.kind (λ bytes. bytes.items) (given pairs.now) result }
 {
     let items = items_of(alloc, pairs)?;
-    bytes_of_items::<K>(alloc, items)
+    bytes_from_unsorted_slice::<K>(alloc, items.as_slice())
 }
 
 /// Builds the trie of pairs whose keys ascend, in the kind `K`, and hands it out.

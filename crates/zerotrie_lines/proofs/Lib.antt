@@ -2,6 +2,7 @@ mod NumberLemmas
 mod TableLemmas
 mod PlainLemmas
 mod EscapeLemmas
+mod ItemLemmas
 mod LineLemmas
 mod BlockLemmas
 mod ReadLemmas

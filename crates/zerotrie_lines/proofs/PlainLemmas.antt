@@ -1,5 +1,5 @@
 -- Bytes that stand for themselves, as masks of lanes and part by part.
-use Rattle.std.proofs.Common.{rules, ◌-◌, take, drop, subst, ◌≡◌, ℕ, ◌+◌, ◌*◌, ◌≤◌, ◌&&◌, List, [], ◌∷◌, Bool, true, false, cond, not, eqb, leb, ltb, length, map, refl, sym, ap, ◌∙◌, arith, inl, inr}
+use Rattle.std.proofs.Common.{rules, ◌-◌, take, drop, subst, ◌≡◌, ℕ, ◌+◌, ◌*◌, ◌≤◌, ◌&&◌, List, [], ◌∷◌, Bool, true, false, cond, not, eqb, ltb, length, map, refl, sym, ap, ◌∙◌, arith, inl, inr}
 use Rattle.std.specs.List.{list_all}
 use Rattle.std.specs.Simd.Lanes.{mask_l}
 use Rattle.std.proofs.lemmas.Bool.{eq-eqb, cases_eq, ne_eqb}

@@ -7,6 +7,7 @@
 mod blocks;
 mod escapes;
 mod fault;
+mod items;
 pub mod laws;
 mod lines;
 mod numbers;
@@ -19,6 +20,7 @@ mod table;
 pub use blocks::{read_more, whole_lines};
 pub use escapes::{hex_digit, unescape, write_escaped};
 pub use fault::{BadLine, ReadError};
+pub use items::read_items;
 pub use lines::{read_lines, take_line, write_pair};
 pub use numbers::{parse_number, write_number};
 pub use reading::{Format, read_pairs};

@@ -1,7 +1,9 @@
 -- What a build of the pairs answers is what one of the input does.
-use Rattle.std.proofs.Common.{◌≡◌, ℕ, List, subst}
+use Rattle.std.proofs.Common.{◌≡◌, ℕ, List, Bool, false, subst, sym, refl}
 use Rattle.zerotrie_core.specs.Maps.{Pairs}
 use Rattle.zerotrie_lines.specs.Tables.{lowered}
+use Rattle.zerotrie_lines.specs.Reads.{Reads}
+use Rattle.zerotrie_lines.specs.declared.reading.Format.{Format}
 use Rattle.zerotrie_making.specs.Sources.{IsPairs, NoPairs}
 use Rattle.zerotrie_making.specs.Made.{OfInput, Explains, ExplainsOf}
 use Rattle.zerotrie_core.specs.declared.ZeroTrieBuildError.{ZeroTrieBuildError}
@@ -21,7 +23,7 @@ pub explains_of : (plan : Plan) (input : List ℕ) (table : Pairs) (e : MakeErro
 explains_of plan input table (Line number bad) h fact = absurd fact
 explains_of plan input table (NotJson line column) h fact = absurd fact
 explains_of plan input table NotPairs h fact = absurd fact
-explains_of plan input table (NotPair number) h fact = absurd fact
+explains_of plan input table (NotPair bad) h fact = absurd fact
 explains_of plan input table (Keys s) h fact = of_table plan input table (λ pairs. ExplainsOf plan pairs (Keys s)) h fact
 explains_of plan input table (Refused e) h fact = of_table plan input table (λ pairs. ExplainsOf plan pairs (Refused e)) h fact
 explains_of plan input table OutOfMemory h fact = tt
@@ -40,7 +42,12 @@ pub no_pairs : (plan : Plan) (input : List ℕ) (e : MakeError) → NoPairs plan
 no_pairs plan input (Line number bad) h = h
 no_pairs plan input (NotJson line column) h = h
 no_pairs plan input NotPairs h = h
-no_pairs plan input (NotPair number) h = h
+no_pairs plan input (NotPair bad) h = h
 no_pairs plan input (Keys s) h = absurd (no_keys plan.source input s h)
 no_pairs plan input (Refused e) h = absurd (no_refusal plan.source input e h)
 no_pairs plan input OutOfMemory h = tt
+
+-- pairs of a text whose keys are as they are
+pub as_they_are : (source : Source) (format : Format) (lower_case : Bool) (input : List ℕ) (pairs : Pairs) → source ≡ Text format → false ≡ lower_case
+    → Reads format input pairs → (given : Pairs) × IsPairs source input given × (pairs ≡ lowered lower_case given)
+as_they_are source format lower_case input pairs text kept reads = (pairs, rw text reads, rw (sym kept) refl)

@@ -44,7 +44,7 @@ abbrev pub IsRefusedAs : Route → Kind → Pairs → MakeError → Type 0
 IsRefusedAs route kind pairs (Line number bad) = ⊥
 IsRefusedAs route kind pairs (NotJson line column) = ⊥
 IsRefusedAs route kind pairs NotPairs = ⊥
-IsRefusedAs route kind pairs (NotPair number) = ⊥
+IsRefusedAs route kind pairs (NotPair bad) = ⊥
 IsRefusedAs route kind pairs (Keys s) = (r : Refusal) × IsWhyRefused route kind pairs (Some r) × Tells pairs r s
 IsRefusedAs route kind pairs (Refused e) = HasCause route kind pairs e × AreFaultless route kind pairs
 IsRefusedAs route kind pairs OutOfMemory = Unit {0}
@@ -58,7 +58,7 @@ abbrev pub Explains : Plan → List ℕ → MakeError → Type 0
 Explains plan input (Line number bad) = NoPairs plan.source input (Line number bad)
 Explains plan input (NotJson line column) = NoPairs plan.source input (NotJson line column)
 Explains plan input NotPairs = NoPairs plan.source input NotPairs
-Explains plan input (NotPair number) = NoPairs plan.source input (NotPair number)
+Explains plan input (NotPair bad) = NoPairs plan.source input (NotPair bad)
 Explains plan input (Keys s) = OfInput plan input (λ pairs. ExplainsOf plan pairs (Keys s))
 Explains plan input (Refused e) = OfInput plan input (λ pairs. ExplainsOf plan pairs (Refused e))
 Explains plan input OutOfMemory = Unit {0}

@@ -8,9 +8,10 @@ use Rattle.zerotrie_lines.specs.Reads.{Reads}
 use Rattle.zerotrie_lines.specs.Reads as reads
 use Rattle.zerotrie_lines.specs.declared.reading.Format.{Format}
 use Rattle.zerotrie_lines.specs.declared.fault.ReadError.TheVariants as fault
-use Rattle.zerotrie_making.specs.Unread.{first_in}
+use Rattle.zerotrie_making.specs.Unread.{IsFirst}
 use Rattle.zerotrie_making.specs.declared.plan.Source.{Source}
 use Rattle.zerotrie_making.specs.declared.plan.Source.TheVariants.{Text, Json}
+use Rattle.zerotrie_making.specs.declared.refused.NoPair.{NoPair}
 use Rattle.zerotrie_making.specs.declared.refused.MakeError.{MakeError}
 use Rattle.zerotrie_making.specs.declared.refused.MakeError.TheVariants.{Line, NotJson, NotPairs, NotPair, Keys, Refused, OutOfMemory}
 
@@ -28,14 +29,14 @@ abbrev pub NoText : Format → List ℕ → MakeError → Type 0
 NoText format input (Line number bad) = reads.Explains format input (fault.Line number bad)
 NoText format input (NotJson line column) = ⊥
 NoText format input NotPairs = ⊥
-NoText format input (NotPair number) = ⊥
+NoText format input (NotPair bad) = ⊥
 NoText format input (Keys s) = ⊥
 NoText format input (Refused e) = ⊥
 NoText format input OutOfMemory = Unit {0}
 
 -- the input is a JSON value in which there are no pairs, and this member or item of it is the first that is none, if it has any
-abbrev pub IsUnread : List ℕ → Option ℕ → Type 0
-IsUnread input number = (d : Data) × IsJson input d × (pairs_in d ≡ None) × (first_in d ≡ number)
+abbrev pub IsUnread : List ℕ → Option NoPair → Type 0
+IsUnread input bad = (d : Data) × IsJson input d × (pairs_in d ≡ None) × IsFirst d bad
 
 -- why an input is no JSON value of pairs: it is no JSON value, or no object and no list, or this of its members or items is no pair,
 -- or it is out of memory
@@ -43,7 +44,7 @@ abbrev pub NoJson : List ℕ → MakeError → Type 0
 NoJson input (Line number bad) = ⊥
 NoJson input (NotJson line column) = IsUtf8 input → read input ≡ None
 NoJson input NotPairs = IsUnread input None
-NoJson input (NotPair number) = IsUnread input (Some number)
+NoJson input (NotPair bad) = IsUnread input (Some bad)
 NoJson input (Keys s) = ⊥
 NoJson input (Refused e) = ⊥
 NoJson input OutOfMemory = Unit {0}

@@ -1,9 +1,10 @@
 -- What shows that there are no pairs in a JSON value.
-use Rattle.std.specs.Prelude.{ℕ, suc, Option, Some, None, option_map, option_and_then}
-use Rattle.std.specs.Option.{option_or}
+use Rattle.std.specs.Prelude.{◌≡◌, ℕ, suc, List, Option, Some, None, option_map, option_and_then}
 use Rattle.serde_json.specs.Data.{Data, Items, no_items, item, Members, no_members, member}
 use Rattle.serde_json.specs.Find.{as_array, as_object}
 use Rattle.zerotrie_any.specs.Json.{number_in, pair_in}
+use Rattle.zerotrie_making.specs.declared.refused.NoPair.{NoPair}
+use Rattle.zerotrie_making.specs.declared.refused.NoPair.TheVariants.{Member, Item}
 
 -- 1 if nothing is read, and else one more than the number among the rest, if one of these has it
 abbrev pub first_or_later : {A : Type 0} → Option A → Option ℕ → Option ℕ
@@ -15,11 +16,26 @@ abbrev pub first_unread : {A : Type 0} → (Data → Option A) → Items → Opt
 first_unread read no_items = None
 first_unread read (item d ds) = first_or_later (read d) (first_unread read ds)
 
--- the number of the first member whose value is no whole number
-abbrev pub first_member : Members → Option ℕ
-first_member no_members = None
-first_member (member k d ms) = first_or_later (number_in d) (first_member ms)
+-- the key, if nothing is read, and else that among the rest
+abbrev pub key_or_later : {A : Type 0} → Option A → List ℕ → Option (List ℕ) → Option (List ℕ)
+key_or_later None key later = Some key
+key_or_later (Some a) key later = later
 
--- the number of the first member of an object, or item of a list, that is no pair
-abbrev pub first_in : Data → Option ℕ
-first_in d = option_or (option_and_then first_member (as_object d)) (option_and_then (first_unread pair_in) (as_array d))
+-- the key of the first member whose value is no whole number
+abbrev pub first_member : Members → Option (List ℕ)
+first_member no_members = None
+first_member (member k d ms) = key_or_later (number_in d) k (first_member ms)
+
+-- the key of the first member of an object that is no pair
+abbrev pub bad_member : Data → Option (List ℕ)
+bad_member d = option_and_then first_member (as_object d)
+
+-- the number of the first item of a list that is no pair
+abbrev pub bad_item : Data → Option ℕ
+bad_item d = option_and_then (first_unread pair_in) (as_array d)
+
+-- the first member or item of a value that is no pair, if it has one
+abbrev pub IsFirst : Data → Option NoPair → Type 0
+IsFirst d None = (bad_member d ≡ None) × (bad_item d ≡ None)
+IsFirst d (Some (Member key)) = bad_member d ≡ Some key.items
+IsFirst d (Some (Item number)) = bad_item d ≡ Some number

@@ -1,14 +1,14 @@
 //! The pairs in a JSON value.
 
-ghost use Rattle.std.specs.Prelude.{◌≡◌, ◌++◌, ◌∷◌, [], IfOk, IfErr};
+ghost use Rattle.std.specs.Prelude.{◌≡◌, ◌++◌, ◌∷◌, [], IfOk, IfErr, option_map};
 ghost use Rattle.serde_json.specs.View.{view, items_view, members_view};
 ghost use Rattle.zerotrie_any.specs.Json.{number_in, byte_in, key_in, pair_in, pairs_in, each, member_pairs};
 ghost use Rattle.zerotrie_any.specs.JsonCalls.{IsReading};
 ghost use Rattle.zerotrie_making.specs.Sources.{IsPairs, NoPairs};
-ghost use Rattle.zerotrie_making.specs.Unread.{first_unread, first_member, first_in};
+ghost use Rattle.zerotrie_making.specs.Unread.{first_unread, first_member, IsFirst};
 ghost use Rattle.zerotrie_making.specs.declared.plan.Source.TheVariants.{Json};
 
-use crate::refused::MakeError;
+use crate::refused::{MakeError, NoPair};
 use serde_json::{Map, Value};
 use std::alloc::{AllocError, Global};
 use zerotrie_any::JsonError;
@@ -130,27 +130,30 @@ fn first_item(alloc: Global, items: &[Value]) -> Result<Option<usize>, AllocErro
     Ok(None)
 }
 
-/// The number of the first member whose value is no whole number, from 1 on.
-fn first_member(members: &Map<String, Value>) -> Option<usize>
-    ensures { result ≡ first_member (members_view members.now.entries) }
+/// The key of the first member whose value is no whole number.
+fn first_member(members: &Map<String, Value>) -> Option<&[u8]>
+    ensures { option_map (λ key. key.now) result ≡ first_member (members_view members.now.entries) }
 {
-    for (index, (_key, value)) in members.iter().enumerate() {
+    for (key, value) in members {
         if number_of(value).is_none() {
-            return Some(index + 1);
+            return Some(key.as_bytes());
         }
     }
     None
 }
 
-/// The number of the first member or item of a value that is no pair, from 1 on. `None` if the value has none.
-fn first_bad(alloc: Global, value: &Value) -> Result<Option<usize>, AllocError>
-    ensures { IfOk result (λ number. number ≡ first_in (view value.now)) }
+/// The first member or item of a value that is no pair. `None` if the value has none.
+fn first_bad(alloc: Global, value: &Value) -> Result<Option<NoPair>, AllocError>
+    ensures { IfOk result (IsFirst (view value.now)) }
 {
     if let Some(members) = value.as_object() {
-        return Ok(first_member(members));
+        return match first_member(members) {
+            Some(key) => Ok(Some(NoPair::Member(Vec::from_slice(alloc, key)?))),
+            None => Ok(None),
+        };
     }
     match value.as_array() {
-        Some(items) => first_item(alloc, items.as_slice()),
+        Some(items) => Ok(first_item(alloc, items.as_slice())?.map(NoPair::Item)),
         None => Ok(None),
     }
 }
@@ -172,7 +175,7 @@ pub fn read_json(alloc: Global, input: &[u8]) -> Result<Table, MakeError>
     match pairs_of(alloc, &value) {
         Ok(table) => Ok(table),
         Err(JsonError::Shape) => Err(match first_bad(alloc, &value)? {
-            Some(number) => MakeError::NotPair(number),
+            Some(bad) => MakeError::NotPair(bad),
             None => MakeError::NotPairs,
         }),
         Err(_) => Err(MakeError::OutOfMemory),

@@ -11,4 +11,4 @@ mod tries;
 
 pub use making::make;
 pub use plan::{Plan, Source};
-pub use refused::{MakeError, NumberedKey, Shown};
+pub use refused::{MakeError, NoPair, NumberedKey, Shown};

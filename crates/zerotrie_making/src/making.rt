@@ -2,17 +2,17 @@
 
 ghost use Rattle.std.specs.Prelude.{◌≡◌, IfOk, IfErr};
 ghost use Rattle.zerotrie_queries.specs.Kinds.{kind_of};
+ghost use Rattle.zerotrie_core.specs.Items.{pairs_of};
 ghost use Rattle.zerotrie_core.specs.Routes.{IsRefusal};
 ghost use Rattle.zerotrie_making.specs.Plans.{route_of, file_of};
 ghost use Rattle.zerotrie_making.specs.Made.{IsFile, IsFileOf, IsRefusedAs, Explains, ExplainsOf};
 
 use crate::plan::Plan;
-use crate::reading::read_input;
+use crate::reading::{items_in, read_input};
 use crate::refused::{MakeError, show};
 use crate::tries::{bytes_of, kind_for, why_refused};
 use std::alloc::{AllocError, Global};
 use zerotrie_core::ZeroTrieBuildError;
-use zerotrie_lines::Table;
 use zerotrie_queries::TrieKind;
 
 /// The file of a trie with these bytes. Unless it is bare, the number of the kind stands in front of them.
@@ -33,32 +33,30 @@ fn explain(
     alloc: Global,
     kind: TrieKind,
     sorted: bool,
-    table: &Table,
+    items: &[(&[u8], usize)],
     error: ZeroTrieBuildError,
 ) -> Result<MakeError, AllocError>
-    requires { IsRefusal (route_of sorted) (kind_of kind) table.now error }
-    ensures { IfOk result (IsRefusedAs (route_of sorted) (kind_of kind) table.now) }
+    requires { IsRefusal (route_of sorted) (kind_of kind) (pairs_of items.now) error }
+    ensures { IfOk result (IsRefusedAs (route_of sorted) (kind_of kind) (pairs_of items.now)) }
 {
     if error == ZeroTrieBuildError::OutOfMemory {
         return Ok(MakeError::OutOfMemory);
     }
-    let items = table.items(alloc)?;
-    match why_refused(alloc, kind, sorted, items.as_slice())? {
-        Some(refusal) => Ok(MakeError::Keys(show(alloc, items.as_slice(), refusal)?)),
+    match why_refused(alloc, kind, sorted, items)? {
+        Some(refusal) => Ok(MakeError::Keys(show(alloc, items, refusal)?)),
         None => Ok(MakeError::Refused(error)),
     }
 }
 
 /// The file of the trie of the pairs.
-fn make_of(alloc: Global, plan: Plan, table: &Table) -> Result<Vec<u8>, MakeError>
-    ensures ok { IfOk result (λ file. IsFileOf plan table.now file.items) }
-    ensures err { IfErr result (λ e. ExplainsOf plan table.now e) }
+fn make_of(alloc: Global, plan: Plan, items: &[(&[u8], usize)]) -> Result<Vec<u8>, MakeError>
+    ensures ok { IfOk result (λ file. IsFileOf plan (pairs_of items.now) file.items) }
+    ensures err { IfErr result (λ e. ExplainsOf plan (pairs_of items.now) e) }
 {
-    let items = table.items(alloc)?;
-    let kind = kind_for(plan.kind, items.as_slice());
+    let kind = kind_for(plan.kind, items);
     match bytes_of(alloc, kind, plan.sorted, items) {
         Ok(bytes) => Ok(file_of(plan.bare, kind, bytes)?),
-        Err(error) => Err(explain(alloc, kind, plan.sorted, table, error)?),
+        Err(error) => Err(explain(alloc, kind, plan.sorted, items, error)?),
     }
 }
 
@@ -77,14 +75,18 @@ fn make_of(alloc: Global, plan: Plan, table: &Table) -> Result<Vec<u8>, MakeErro
 /// assert_eq!(rt; file.as_slice(), b"\x00ad\x90\x06ef\x90\x11".as_slice());
 /// ```
 ///
-/// It takes the input, and lets its memory go before the trie is built. The error is `Line`, `NotJson`, `NotPairs` or
+/// It takes the input. If keys have to be copied from it, its memory is let go before the trie is built. The error is `Line`, `NotJson`, `NotPairs` or
 /// `NotPair` if the input is no pairs, `Keys` if keys show why a build of the pairs is refused, `Refused` if it is refused
 /// and none do, and `OutOfMemory`.
 pub fn make(alloc: Global, plan: Plan, input: Vec<u8>) -> Result<Vec<u8>, MakeError>
     ensures ok { IfOk result (λ file. IsFile plan input.items file.items) }
     ensures err { IfErr result (λ e. Explains plan input.items e) }
 {
+    if let Some(items) = items_in(alloc, plan.source, plan.lower_case, input.as_slice())? {
+        return make_of(alloc, plan, items.as_slice());
+    }
     let table = read_input(alloc, plan.source, plan.lower_case, input.as_slice())?;
     drop(input);
-    make_of(alloc, plan, &table)
+    let items = table.items(alloc)?;
+    make_of(alloc, plan, items.as_slice())
 }

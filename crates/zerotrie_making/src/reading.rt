@@ -1,14 +1,31 @@
 //! The pairs that an input is.
 
-ghost use Rattle.std.specs.Prelude.{◌≡◌, IfOk, IfErr};
-ghost use Rattle.zerotrie_lines.specs.Tables.{Pairs, lowered};
+ghost use Rattle.std.specs.Prelude.{◌≡◌, IfOk, IfErr, IfSome};
+ghost use Rattle.zerotrie_lines.specs.Tables.{Pairs, pairs_of, lowered};
 ghost use Rattle.zerotrie_making.specs.Sources.{IsPairs, NoPairs};
 
 use crate::json::read_json;
 use crate::plan::Source;
 use crate::refused::MakeError;
-use std::alloc::Global;
-use zerotrie_lines::{Table, read_pairs};
+use std::alloc::{AllocError, Global};
+use zerotrie_lines::{Table, read_items, read_pairs};
+
+/// The pairs that an input is, in their order, with their keys where they stand in it. `None` if `read_input` has to copy
+/// them.
+pub fn items_in(
+    alloc: Global,
+    source: Source,
+    lower_case: bool,
+    input: &[u8],
+) -> Result<Option<Vec<(&[u8], usize)>>, AllocError>
+    ensures { IfOk result (λ items. IfSome items (λ items. (pairs : Pairs)
+        × IsPairs source input.now pairs × (pairs_of items.items ≡ lowered lower_case pairs))) }
+{
+    match source {
+        Source::Text(format) if !lower_case => read_items(alloc, format, input),
+        _ => Ok(None),
+    }
+}
 
 /// The pairs that an input is, in their order. With `lower_case` the ASCII letters of their keys are in lower case.
 pub fn read_input(

@@ -28,6 +28,15 @@ pub struct Shown {
     pub second: NumberedKey,
 }
 
+/// A member or an item of a JSON value that is no pair.
+#[derive(PartialEq, Eq, Debug, Drop)]
+pub enum NoPair {
+    /// Of an object the member with this key: its value is no whole number below 2^64.
+    Member(Vec<u8>),
+    /// Of a list the item with this number, from 1 on: it is no list of a key and such a number.
+    Item(usize),
+}
+
 /// Why no trie file is made.
 #[derive(PartialEq, Eq, Debug, Drop)]
 pub enum MakeError {
@@ -37,8 +46,8 @@ pub enum MakeError {
     NotJson(usize, usize),
     /// The input is a JSON value, and neither an object nor a list.
     NotPairs,
-    /// The input is a JSON object or list, and this member, in the order of the keys, or this item is no pair.
-    NotPair(usize),
+    /// The input is a JSON object or list, and this member or item is the first that is no pair.
+    NotPair(NoPair),
     /// The build is refused, and these keys show why.
     Keys(Shown),
     /// The build is refused though no key is at fault: `CapacityExceeded` or `CouldNotSolvePerfectHash`.

@@ -2,14 +2,14 @@
 
 ghost use Rattle.std.specs.Prelude.{◌≡◌, IfOk, IfSome};
 ghost use Rattle.zerotrie_core.specs.Items.{pairs_of};
-ghost use Rattle.zerotrie_core.specs.Routes.{any_order, IsBuild};
+ghost use Rattle.zerotrie_core.specs.Routes.{IsBuild};
 ghost use Rattle.zerotrie_any.specs.Auto.{are_ascii};
 ghost use Rattle.zerotrie_build.specs.Refused.{IsWhyRefused};
 ghost use Rattle.zerotrie_queries.specs.Kinds.{kind_of};
 ghost use Rattle.zerotrie_making.specs.Plans.{kind_for, route_of};
 
 use std::alloc::{AllocError, Global};
-use zerotrie_any::{bytes_from_iter, bytes_from_slice};
+use zerotrie_any::{bytes_from_slice, bytes_from_unsorted_slice};
 use zerotrie_build::{Refusal, why_iter_refused, why_slice_refused};
 use zerotrie_core::{Ext, Hash, Ignore, Simple, ZeroTrieBuildError, ZeroTrieWithOptions};
 use zerotrie_queries::TrieKind;
@@ -37,30 +37,18 @@ pub fn kind_for(named: Option<TrieKind>, items: &[(&[u8], usize)]) -> TrieKind
     }
 }
 
-/// The bytes of the trie of pairs in any order, of the kind `K`.
-fn bytes_unsorted<K: ZeroTrieWithOptions>(
-    alloc: Global,
-    items: Vec<(&[u8], usize)>,
-) -> Result<Vec<u8>, ZeroTrieBuildError>
-    ensures { IsBuild any_order K.kind (λ bytes. bytes.items) (pairs_of items.entry.items) result }
-{
-    let bytes = bytes_from_iter::<K, &[u8], Vec<(&[u8], usize)>>(alloc, items)?;
-    Ok(bytes)
-}
-
 /// The bytes of the trie of the pairs, of the kind `K`.
 fn bytes_as<K: ZeroTrieWithOptions>(
     alloc: Global,
     sorted: bool,
-    items: Vec<(&[u8], usize)>,
+    items: &[(&[u8], usize)],
 ) -> Result<Vec<u8>, ZeroTrieBuildError>
-    ensures { IsBuild (route_of sorted) K.kind (λ bytes. bytes.items) (pairs_of items.entry.items)
-        result }
+    ensures { IsBuild (route_of sorted) K.kind (λ bytes. bytes.items) (pairs_of items.now) result }
 {
     if sorted {
-        bytes_from_slice::<K>(alloc, items.as_slice())
+        bytes_from_slice::<K>(alloc, items)
     } else {
-        bytes_unsorted::<K>(alloc, items)
+        bytes_from_unsorted_slice::<K>(alloc, items)
     }
 }
 
@@ -69,10 +57,10 @@ pub fn bytes_of(
     alloc: Global,
     kind: TrieKind,
     sorted: bool,
-    items: Vec<(&[u8], usize)>,
+    items: &[(&[u8], usize)],
 ) -> Result<Vec<u8>, ZeroTrieBuildError>
-    ensures { IsBuild (route_of sorted) (kind_of kind) (λ bytes. bytes.items)
-        (pairs_of items.entry.items) result }
+    ensures { IsBuild (route_of sorted) (kind_of kind) (λ bytes. bytes.items) (pairs_of items.now)
+        result }
 {
     match kind {
         TrieKind::Simple => bytes_as::<Simple>(alloc, sorted, items),

@@ -1,10 +1,11 @@
 -- What each command prints, what it leaves in files, and how it ends.
-use Rattle.std.specs.Prelude.{◌≡◌, ◌⊎◌, ℕ, List, Option, Some, IfSome, Bool, true, false, map}
+use Rattle.std.specs.Prelude.{◌≡◌, ◌⊎◌, ℕ, List, Option, Some, None, IfSome, Bool, true, false, map}
 use Rattle.std.specs.Io.KnownBytes.{Appends}
 use Rattle.zerotrie_core.specs.WellFormed.{IsWellFormed}
 use Rattle.zerotrie_core.specs.Faults.{IsFirstFault}
 use Rattle.zerotrie_core.specs.declared.faults.Fault.{Fault as ByteFault}
 use Rattle.zerotrie_lines.specs.Lines.{lines_of}
+use Rattle.zerotrie_any.specs.Tagged.{tagged}
 use Rattle.zerotrie_queries.specs.Kinds.{kind_of}
 use Rattle.zerotrie_queries.specs.Files.{Holds, Explains}
 use Rattle.zerotrie_queries.specs.declared.kind.TrieKind.{TrieKind}
@@ -178,6 +179,20 @@ abbrev pub build_status : BuildError → Status
 build_status (build.Unread e) = Fault
 build_status (build.NotMade e) = made_status e
 build_status (build.Unwritten e) = Fault
+
+-- the file is read as bare bytes of a kind that was named, and begins with the number of a kind, as one that has it does
+abbrev pub HasNumberToo : Option TrieKind → List ℕ → Type 0
+HasNumberToo None held = ⊥
+HasNumberToo (Some named) held = (kind : TrieKind) × (rest : List ℕ) × (held ≡ tagged (kind_of kind) rest)
+
+-- what is read of the file does
+abbrev pub IsDoubtful : TrieFile → Option (List ℕ) → Option Files → Type 0
+IsDoubtful file input files = (held : List ℕ) × IsRead file.place input files held × HasNumberToo file.kind held
+
+-- a command reads such a file, which is told
+abbrev pub TellsNumber : Command → Option (List ℕ) → Option Files → Type 0
+TellsNumber (commands.Build build) input files = ⊥
+TellsNumber (commands.Ask file question) input files = IsDoubtful file input files
 
 -- whether the steps of a command are told
 abbrev pub tells_steps : Command → Bool

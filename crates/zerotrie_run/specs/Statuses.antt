@@ -19,7 +19,7 @@ abbrev pub made_status : MakeError → Status
 made_status (error.Line number bad) = BadInput
 made_status (error.NotJson line column) = BadInput
 made_status error.NotPairs = BadInput
-made_status (error.NotPair number) = BadInput
+made_status (error.NotPair bad) = BadInput
 made_status (error.Keys shown) = Refused
 made_status (error.Refused why) = Refused
 made_status error.OutOfMemory = Fault

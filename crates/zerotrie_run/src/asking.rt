@@ -3,10 +3,11 @@
 ghost use Rattle.std.specs.Prelude.{◌≡◌, ◌↔◌, ℕ, List, true, Ok, IfOk, IfErr, IfSome, IsTrue};
 ghost use Rattle.zerotrie_queries.specs.Files.{Explains};
 ghost use Rattle.zerotrie_queries.specs.declared.kind.TrieKind.{TrieKind};
-ghost use Rattle.zerotrie_run.specs.Runs.{Opens, KeysAnswered, Answers, IsAsked, RunsAsk, IsUnanswered, IsFaultIn, ask_status, of_lines};
+ghost use Rattle.zerotrie_run.specs.Runs.{Opens, KeysAnswered, Answers, IsAsked, RunsAsk, IsUnanswered, IsDoubtful, IsFaultIn, ask_status, of_lines};
 ghost use Rattle.zerotrie_run.specs.declared.command.Place.TheVariants.{Stream};
 
 use crate::command::{Keys, Place, Question, TrieFile};
+use crate::messages::tell_number;
 use crate::reading::read_place;
 use crate::status::Status;
 use crate::typed::{AnswerError, answer_lines};
@@ -163,19 +164,23 @@ fn answer_held<R: Read, W: Write>(
     }
 }
 
-/// Answers a question to the trie of a file, and tells whether all was found.
-pub fn ask<F: Store, R: Read, W: Write>(
+/// Answers a question to the trie of a file, and tells whether all was found. If the file is read as bare bytes and begins
+/// with the number of a kind, a message says so.
+pub fn ask<F: Store, R: Read, W: Write, M: Write>(
     alloc: Global,
     file: TrieFile<'_>,
     question: Question<'_>,
     files: &F,
     input: &mut R,
     output: &mut W,
+    messages: &mut M,
 ) -> Result<bool, AskError>
     ensures ok { IfOk result (λ all. IsAsked file.entry question.entry (R.remaining input.old)
         (F.files files.now) (W.contents output.old) (W.contents output.new) all) }
     ensures err { IfErr result (λ e. RunsAsk file.entry question.entry (R.remaining input.old)
         (F.files files.now) (W.contents output.old) (W.contents output.new) (ask_status e)) }
+    ensures quiet { (IsDoubtful file.entry (R.remaining input.old) (F.files files.now) → ⊥)
+        → messages.new ≡ messages.old }
 {
     if reads_twice(file.place, question) {
         return Err(AskError::TwoInputs);
@@ -184,7 +189,9 @@ pub fn ask<F: Store, R: Read, W: Write>(
         Ok(held) => held,
         Err(error) => return Err(AskError::Unread(error)),
     };
-    let all = answer_held(alloc, file, held.as_slice(), question, input, output)?;
+    let held = held.as_slice();
+    tell_number(messages, file, held);
+    let all = answer_held(alloc, file, held, question, input, output)?;
     match output.flush() {
         Ok(()) => Ok(all),
         Err(error) => Err(AskError::Unanswered(AnswerError::Failed(error))),

@@ -1,10 +1,13 @@
 //! What is told on standard error. If it can't be told, the status tells it alone.
 
-ghost use Rattle.std.specs.Prelude.{◌≡◌, false};
+ghost use Rattle.std.specs.Prelude.{◌≡◌, ℕ, List, false, IfSome};
+ghost use Rattle.zerotrie_any.specs.Tagged.{tagged};
+ghost use Rattle.zerotrie_queries.specs.Kinds.{kind_of};
+ghost use Rattle.zerotrie_run.specs.Runs.{HasNumberToo};
 
 use crate::asking::AskError;
 use crate::building::BuildError;
-use crate::command::{Build, Place};
+use crate::command::{Build, Place, TrieFile};
 use crate::typed::AnswerError;
 use std::alloc::Global;
 use std::io;
@@ -12,12 +15,15 @@ use std::io::{ErrorKind, Write};
 use zerotrie_any::TagError;
 use zerotrie_core::{Fault, ZeroTrieBuildError};
 use zerotrie_lines::{BadLine, Format, write_escaped};
-use zerotrie_making::{MakeError, Shown, Source};
-use zerotrie_queries::OpenError;
+use zerotrie_making::{MakeError, NoPair, Shown, Source};
+use zerotrie_queries::{OpenError, Trie, TrieKind};
 
 const STANDARD_INPUT: &str = "standard input";
 
 const STANDARD_OUTPUT: &str = "standard output";
+
+/// How many bytes of a key a message shows at most.
+const SHOWN: usize = 100;
 
 /// How messages name the place that bytes come from.
 fn source_name(place: Place<'_>) -> &str {
@@ -58,6 +64,30 @@ fn tell_no_trie<M: Write>(
     }
 }
 
+/// The kind whose number a file begins with, if it is read as bare bytes of a kind that was named.
+fn number_too(file: TrieFile<'_>, held: &[u8]) -> Option<TrieKind>
+    ensures { IfSome result (λ _. HasNumberToo file.entry.kind held.now) }
+{
+    file.kind?;
+    let trie = Trie::of_tagged(held).ok()?;
+    Some(trie.kind)
+}
+
+/// Tells that a file begins with the number of a kind though it is read as bare bytes, if it does. Most often its kind
+/// was named again as for its build, and the number is taken for the first byte of every key.
+pub fn tell_number<M: Write>(messages: &mut M, file: TrieFile<'_>, held: &[u8])
+    ensures { (HasNumberToo file.entry.kind held.now → ⊥) → messages.new ≡ messages.old }
+{
+    if let Some(kind) = number_too(file, held) {
+        let path = source_name(file.place);
+        let name = kind.name();
+        let _ = writeln!(
+            messages,
+            "zerotrie: {path}: read as bare bytes, though its first byte is the number of kind {name}: leave out --kind unless every key begins with that byte"
+        );
+    }
+}
+
 /// Tells that bytes can't be written to a place. If whoever reads them wants no more, nothing is told.
 fn tell_unwritten<M: Write>(messages: &mut M, place: &str, error: &io::Error) -> io::Result<()> {
     match error.kind() {
@@ -66,6 +96,10 @@ fn tell_unwritten<M: Write>(messages: &mut M, place: &str, error: &io::Error) ->
         ErrorKind::AlreadyExists => writeln!(
             messages,
             "zerotrie: {place}: builds that were interrupted left {place}.0.tmp to {place}.99.tmp beside it: remove these"
+        ),
+        ErrorKind::PermissionDenied => writeln!(
+            messages,
+            "zerotrie: {place}: {error}; a new file is made in its folder, and then takes its place"
         ),
         _ => writeln!(messages, "zerotrie: {place}: {error}"),
     }
@@ -127,22 +161,33 @@ fn add_reason(text: &mut Vec<u8>, unit: &str, shown: &Shown) -> io::Result<()> {
     }
 }
 
+/// Adds a key with its escapes, or the front of one that would be too long to read.
+fn add_key(text: &mut Vec<u8>, key: &[u8]) -> io::Result<()> {
+    match key.get(..SHOWN) {
+        Some(front) => {
+            write_escaped(text, front)?;
+            write!(text, ".. ({} bytes)", key.len())?;
+        }
+        None => write_escaped(text, key)?,
+    }
+    Ok(())
+}
+
 /// Adds the keys that show it.
 fn add_keys(text: &mut Vec<u8>, shown: &Shown) -> io::Result<()> {
     let first = shown.first.key.as_slice();
     let second = shown.second.key.as_slice();
     match &shown.error {
         ZeroTrieBuildError::DuplicateKey | ZeroTrieBuildError::NonAsciiError => {
-            write_escaped(text, first)?;
+            add_key(text, first)
         }
-        ZeroTrieBuildError::Unsorted => write_escaped(text, second)?,
+        ZeroTrieBuildError::Unsorted => add_key(text, second),
         _ => {
-            write_escaped(text, first)?;
+            add_key(text, first)?;
             write!(text, " and ")?;
-            write_escaped(text, second)?;
+            add_key(text, second)
         }
     }
-    Ok(())
 }
 
 /// Why no file is made, as a line of text.
@@ -162,9 +207,13 @@ fn refusal(alloc: Global, path: &str, unit: &str, error: &MakeError) -> io::Resu
             write!(text, "line {line}, column {column}: no JSON value")?
         }
         MakeError::NotPairs => write!(text, "neither an object nor a list")?,
-        MakeError::NotPair(number) => write!(
+        MakeError::NotPair(NoPair::Member(key)) => {
+            write!(text, "the value of this key is no whole number below 2^64: ")?;
+            add_key(&mut text, key.as_slice())?;
+        }
+        MakeError::NotPair(NoPair::Item(number)) => write!(
             text,
-            "{unit} {number}: no key with a whole number below 2^64; pairs of an object are counted in the order of its keys"
+            "{unit} {number}: no list of a key and a whole number below 2^64"
         )?,
         MakeError::Keys(shown) => {
             add_reason(&mut text, unit, shown)?;

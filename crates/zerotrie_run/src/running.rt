@@ -1,7 +1,7 @@
 //! The program over files and streams.
 
 ghost use Rattle.std.specs.Prelude.{◌≡◌, ◌⊎◌, false};
-ghost use Rattle.zerotrie_run.specs.Runs.{World, Runs, tells_steps};
+ghost use Rattle.zerotrie_run.specs.Runs.{World, Runs, TellsNumber, tells_steps};
 ghost use Rattle.zerotrie_run.specs.declared.status.Status.TheVariants.{Done, Absent};
 
 use crate::asking::ask;
@@ -17,7 +17,7 @@ use zerotrie_files::Store;
 ///
 /// What is printed is that of the command, the files and the input, and what is left in files too; see `Runs`. A message
 /// that can't be written is lost, and the status tells alone. If all went well, there is none but the steps of a build,
-/// if they were asked for.
+/// if they were asked for, and a note on a file that is read as bare bytes though it begins with the number of a kind.
 pub fn run<F: Store, R: Read, W: Write, M: Write>(
     alloc: Global,
     command: Command<'_>,
@@ -30,6 +30,7 @@ pub fn run<F: Store, R: Read, W: Write, M: Write>(
         (record { files = F.files files.old; printed = W.contents output.old })
         (record { files = F.files files.new; printed = W.contents output.new }) result }
     ensures quiet { tells_steps command.entry ≡ false
+        → (TellsNumber command.entry (R.remaining input.old) (F.files files.old) → ⊥)
         → (result ≡ Done) ⊎ (result ≡ Absent) → messages.new ≡ messages.old }
 {
     match command {
@@ -40,13 +41,15 @@ pub fn run<F: Store, R: Read, W: Write, M: Write>(
                 error.status()
             }
         },
-        Command::Ask(file, question) => match ask(alloc, file, question, files, input, output) {
-            Ok(true) => Status::Done,
-            Ok(false) => Status::Absent,
-            Err(error) => {
-                let _ = tell_ask(messages, file.place, &error);
-                error.status()
+        Command::Ask(file, question) => {
+            match ask(alloc, file, question, files, input, output, messages) {
+                Ok(true) => Status::Done,
+                Ok(false) => Status::Absent,
+                Err(error) => {
+                    let _ = tell_ask(messages, file.place, &error);
+                    error.status()
+                }
             }
-        },
+        }
     }
 }

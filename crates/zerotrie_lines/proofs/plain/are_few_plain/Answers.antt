@@ -1,4 +1,4 @@
-use Rattle.std.proofs.Common.{rules, ◌≡◌, arith, ap, ◌∙◌}
+use Rattle.std.proofs.Common.{rules, arith}
 use Rattle.zerotrie_lines.proofs.PlainLemmas.{ends_all}
 use Rattle.zerotrie_lines.proofs.plain.are_few_plain.Goals as goal
 

@@ -10,11 +10,19 @@ returns-in-Ok-flush-clause-ok g c =
     let answered = c.in_ok-all.ensures.ok in
     let kept = kept_answer c.args.question (remaining c.read_place.new.input) answered.0 answered.1 old now (contents c.flush.new.self) c.in_ok-all.all answered.3 c.flush.ensures.bytes in
     record {
-      held = c.as_slice.result.now;
-      read = rw c.as_slice.ensures.value c.in-Ok.ensures.read;
+      held = c.as_slice-held.result.now;
+      read = rw c.as_slice-held.ensures.value c.in-Ok.ensures.read;
       kind = answered.0;
       bytes = answered.1;
       opens = answered.2;
       answers = same_answer c.args.file.place remaining c.args.input.now c.read_place.new.input c.args.question answered.0 answered.1 old (contents c.flush.new.self) c.in_ok-all.all
           (λ both. is_not c.reads_twice.result c.if-reads_twice.false (c.reads_twice.ensures.1 both)) c.read_place.ensures.untouched kept;
     }
+
+pub returns-in-Ok-flush-clause-quiet : goal.returns-in-Ok-flush-clause-quiet
+returns-in-Ok-flush-clause-quiet g c = λ none.
+    c.tell_number.ensures (λ both. none (c.as_slice-held.result.now, rw c.as_slice-held.ensures.value c.in-Ok.ensures.read, both))
+
+pub returns-clause-quiet : goal.returns-clause-quiet
+returns-clause-quiet g c = λ none.
+    c.tell_number.ensures (λ both. none (c.as_slice-held.result.now, rw c.as_slice-held.ensures.value c.in-Ok.ensures.read, both))

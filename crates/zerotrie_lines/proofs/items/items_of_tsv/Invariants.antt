@@ -1,0 +1,12 @@
+use Rattle.std.proofs.Common.{ℕ, length}
+use Rattle.zerotrie_lines.specs.Tables.{pairs_of}
+use Rattle.zerotrie_lines.specs.Lines.{lines_of}
+use Rattle.zerotrie_lines.specs.declared.reading.Format.TheVariants.{Tsv}
+use Rattle.zerotrie_lines.proofs.ReadLemmas.{ReadTo}
+use Rattle.zerotrie_lines.proofs.items.items_of_tsv.Given as goal
+
+abbrev pub invariant-loop-rest : goal.invariant-loop-rest
+invariant-loop-rest l = (n : ℕ) × ReadTo Tsv (lines_of l.input) (pairs_of l.items.items) n (lines_of l.rest)
+
+abbrev pub decreases-loop-rest : goal.decreases-loop-rest
+decreases-loop-rest l = length l.rest

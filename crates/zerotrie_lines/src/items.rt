@@ -1,0 +1,124 @@
+//! Pairs whose keys stand in the input as they are, so that they are read where they lie.
+
+ghost use Rattle.std.specs.Prelude.{◌≡◌, ◌≤◌, ◌⊎◌, ◌∷◌, [], length, take, IfOk, IfSome};
+ghost use Rattle.std.specs.List.{before_first, after_first};
+ghost use Rattle.zerotrie_lines.specs.Numbers.{IsNumber};
+ghost use Rattle.zerotrie_lines.specs.Tables.{pairs_of};
+ghost use Rattle.zerotrie_lines.specs.Lines.{is_feed, IsPairLine};
+ghost use Rattle.zerotrie_lines.specs.Reads.{Reads};
+ghost use Rattle.zerotrie_lines.specs.declared.reading.Format.TheVariants.{Lines, Tsv};
+
+use crate::lines::take_line;
+use crate::reading::Format;
+use memchr::memchr3;
+use std::alloc::{AllocError, Global};
+
+/// The number that the digits spell with which a text begins, and how many digits these are. `None` if there are none or
+/// more than 20, or the number is 2^64 or more.
+#[inline(always)]
+fn leading_number(text: &[u8]) -> Option<(usize, usize)>
+    ensures number { IfSome result (λ r. IsNumber (take r.1 text.now) r.0) }
+    ensures within { IfSome result (λ r. r.1 ≤ length text.now) }
+{
+    let mut value: usize = 0;
+    let mut count = 0;
+    while count < text.len() && text[count].is_ascii_digit() {
+        value = value
+            .checked_mul(10)?
+            .checked_add((text[count] - b'0') as usize)?;
+        count += 1;
+    }
+    if count == 0 || count > 20 {
+        return None;
+    }
+    Some((value, count))
+}
+
+/// What stands after the line feed with which a text begins, or nothing if there is no text.
+#[inline(always)]
+fn after_feed(text: &[u8]) -> Option<&[u8]>
+    ensures { IfSome result (λ rest. (text.now ≡ 10 ∷ rest.now)
+        ⊎ ((text.now ≡ []) × (rest.now ≡ []))) }
+{
+    match text {
+        [] => Some(text),
+        [b'\n', rest @ ..] => Some(rest),
+        _ => None,
+    }
+}
+
+/// Takes the first line off, and answers the pair that it is. `None` if its key has an escape, or it is no pair; what is
+/// left is then as it was.
+#[inline(always)]
+fn take_plain<'a>(rest: &mut &'a [u8]) -> Option<(&'a [u8], usize)>
+    ensures pair { IfSome result (λ e.
+        IsPairLine (before_first is_feed rest.old.now) (e.0.now, e.1)) }
+    ensures rest { IfSome result (λ _. rest.new.now ≡ after_first is_feed rest.old.now) }
+{
+    let all = *rest;
+    let place = memchr3(b'\t', b'\\', b'\n', all)?;
+    if all[place] != b'\t' {
+        return None;
+    }
+    let (key, _) = all.split_at(place);
+    let (_, text) = all.split_at(place + 1);
+    let (value, count) = leading_number(text)?;
+    let (_, behind) = text.split_at(count);
+    *rest = after_feed(behind)?;
+    Some((key, value))
+}
+
+/// The pairs of lines with a tab, if no key has an escape.
+fn items_of_tsv(alloc: Global, input: &[u8]) -> Result<Option<Vec<(&[u8], usize)>>, AllocError>
+    ensures { IfOk result (λ items. IfSome items (λ items.
+        Reads Tsv input.now (pairs_of items.items))) }
+{
+    let mut items = Vec::new(alloc);
+    let mut rest = input;
+    while !rest.is_empty() {
+        match take_plain(&mut rest) {
+            Some(item) => items.push(item)?,
+            None => return Ok(None),
+        }
+    }
+    Ok(Some(items))
+}
+
+/// The pairs of lines that are keys.
+fn items_of_keys(alloc: Global, input: &[u8]) -> Result<Vec<(&[u8], usize)>, AllocError>
+    ensures { IfOk result (λ items. Reads Lines input.now (pairs_of items.items)) }
+{
+    let mut items = Vec::new(alloc);
+    let mut rest = input;
+    let mut number: usize = 0;
+    while !rest.is_empty() {
+        let line = take_line(&mut rest);
+        number += 1;
+        items.push((line, number))?;
+    }
+    Ok(items)
+}
+
+/// The pairs that an input is, with their keys as they stand in it. `None` if some key does not, and `read_pairs` has to
+/// copy them: if one has an escape, or the input is records, or no pairs.
+///
+/// ```
+/// let items = read_items(rt.alloc(), Format::Tsv, b"ad\t22\nadef\t33\n")?;
+/// assert_eq!(rt; items.map(|items| items[1]), Some((b"adef".as_slice(), 33)));
+/// ```
+///
+/// A line takes no memory but its item's.
+pub fn read_items(
+    alloc: Global,
+    format: Format,
+    input: &[u8],
+) -> Result<Option<Vec<(&[u8], usize)>>, AllocError>
+    ensures { IfOk result (λ items. IfSome items (λ items.
+        Reads format input.now (pairs_of items.items))) }
+{
+    match format {
+        Format::Tsv => items_of_tsv(alloc, input),
+        Format::Lines => Ok(Some(items_of_keys(alloc, input)?)),
+        Format::Csv => Ok(None),
+    }
+}
