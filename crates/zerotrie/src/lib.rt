@@ -88,8 +88,8 @@ pub mod cursor {
 /// ```
 pub mod bytes {
     pub use zerotrie_any::{
-        bytes_from_iter, bytes_from_json, bytes_from_map, bytes_from_slice, first_key_of, json_of,
-        map_of, tagged, untagged, walk,
+        bytes_from_iter, bytes_from_json, bytes_from_map, bytes_from_slice,
+        bytes_from_unsorted_slice, first_key_of, json_of, map_of, tagged, untagged, walk,
     };
     pub use zerotrie_build::{
         ByteSliceWithIndices, TrieBuilderStore, ZeroTrieBuilder, ZeroTrieBuilderConst,

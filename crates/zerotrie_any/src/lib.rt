@@ -23,9 +23,7 @@ pub use keys::TextKey;
 pub use listed::{first_key_of, map_of};
 pub use load::{LoadError, loaded};
 pub use parts::{ZeroTrieKeys, ZeroTrieValues};
-pub use routes::{
-    bytes_from_iter, bytes_from_map, bytes_from_slice, bytes_from_unsorted_slice,
-};
+pub use routes::{bytes_from_iter, bytes_from_map, bytes_from_slice, bytes_from_unsorted_slice};
 pub use tags::{TagError, tagged, untagged};
 pub use zerotrie::{HasFlavor, ZeroTrie, ZeroTrieFlavor};
 pub use zerotrie_cursor::ZeroTrieCursor;

@@ -55,8 +55,11 @@ pub fn bytes_from_unsorted_slice<K: ZeroTrieWithOptions>(
 ) -> Result<Vec<u8>, ZeroTrieBuildError>
     ensures { IsBuild any_order K.kind (λ bytes. bytes.items) (pairs_of items.now) result }
 {
-    let builder: ZeroTrieBuilder<VecDeque<u8>> =
-        ZeroTrieBuilder::from_tuple_slice(alloc, items, ZeroTrieBuilderOptions::of::<K>())?;
+    let builder: ZeroTrieBuilder<VecDeque<u8>> = ZeroTrieBuilder::from_tuple_slice(
+        alloc,
+        items,
+        ZeroTrieBuilderOptions::of::<K>(),
+    )?;
     Ok(builder.data.into_vec())
 }
 

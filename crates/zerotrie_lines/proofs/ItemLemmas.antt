@@ -76,8 +76,7 @@ plain_line key digits tail rest value none number ends =
     let feed : Lacks 10 (key ++ 9 ∷ digits) = lacks_append 10 key (9 ∷ digits) (lacks_by 10 key (λ k l. (none k l).2)) (lacks_next 10 9 digits refl (lacks_low 10 digits (omega arith) high)) in
     let line = first_is (key ++ 9 ∷ digits) tail rest feed ends in
     let place : position_or_len is_tab (key ++ 9 ∷ digits) ≡ length key = place_behind 9 key digits (lacks_by 9 key (λ k l. (none k l).0)) in
-    let long = length-append key (9 ∷ digits) in
-    (
+    let long = length-append key (9 ∷ digits) in (
       rw (line.0, place) (
         omega (arith, long),
         subst (λ t. Spells t key) (sym (take-append_seam key (9 ∷ digits))) (spells_itself key (λ k l. (none k l).1)),

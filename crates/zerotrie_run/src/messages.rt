@@ -208,7 +208,10 @@ fn refusal(alloc: Global, path: &str, unit: &str, error: &MakeError) -> io::Resu
         }
         MakeError::NotPairs => write!(text, "neither an object nor a list")?,
         MakeError::NotPair(NoPair::Member(key)) => {
-            write!(text, "the value of this key is no whole number below 2^64: ")?;
+            write!(
+                text,
+                "the value of this key is no whole number below 2^64: "
+            )?;
             add_key(&mut text, key.as_slice())?;
         }
         MakeError::NotPair(NoPair::Item(number)) => write!(

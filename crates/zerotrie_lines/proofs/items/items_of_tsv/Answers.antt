@@ -21,9 +21,11 @@ loop-rest-preserved c =
     let item = c.in-Some.item in
     let n = c.loop-rest.invariant.0 in
     let first = first_lines rest line after (not_nil rest c.loop-rest-test.ensures) refl c.in-Some.ensures.rest in
-    let pushed = ap pairs_of c.in_ok-push-in-Some.ensures.items ∙ pairs_push items item in
-    (n + 1, subst (λ p. ReadTo Tsv (lines_of c.args.input.now) p (n + 1) (lines_of after)) (sym pushed)
-    (read_more Tsv (lines_of c.args.input.now) (lines_of rest) (lines_of after) (pairs_of items) n line (item.0.now, item.1) c.loop-rest.invariant.1 first c.in-Some.ensures.pair))
+    let pushed = ap pairs_of c.in_ok-push-in-Some.ensures.items ∙ pairs_push items item in (
+      n + 1,
+      subst (λ p. ReadTo Tsv (lines_of c.args.input.now) p (n + 1) (lines_of after)) (sym pushed)
+          (read_more Tsv (lines_of c.args.input.now) (lines_of rest) (lines_of after) (pairs_of items) n line (item.0.now, item.1) c.loop-rest.invariant.1 first c.in-Some.ensures.pair),
+    )
 
 pub returns : goal.returns
 returns c =
