@@ -38,7 +38,8 @@ pub const COMMANDS: &[Subcommand] = &[
         name: "build",
         about: "Make a trie from a file of pairs",
         help: "Example: zerotrie build names.tsv -o names.trie\nIn memory: \
-            the keys, 40 bytes a pair, 40 more if they are to be sorted, and the trie; of json the parsed value, too.",
+            the input, 40 bytes a pair, 24 more if they are to be sorted, and the trie; 16 more if keys are copied, as those \
+            of csv and json and with escapes; of json the parsed value, too.",
         arguments: &[
             Argument {
                 name: "IN",
