@@ -164,11 +164,11 @@ fn add_reason(text: &mut Vec<u8>, unit: &str, shown: &Shown) -> io::Result<()> {
 /// Adds a key with its escapes, or the front of one that would be too long to read.
 fn add_key(text: &mut Vec<u8>, key: &[u8]) -> io::Result<()> {
     match key.get(..SHOWN) {
-        Some(front) => {
+        Some(front) if key.len() > SHOWN => {
             write_escaped(text, front)?;
             write!(text, ".. ({} bytes)", key.len())?;
         }
-        None => write_escaped(text, key)?,
+        _ => write_escaped(text, key)?,
     }
     Ok(())
 }
