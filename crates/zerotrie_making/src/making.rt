@@ -75,9 +75,9 @@ fn make_of(alloc: Global, plan: Plan, items: &[(&[u8], usize)]) -> Result<Vec<u8
 /// assert_eq!(rt; file.as_slice(), b"\x00ad\x90\x06ef\x90\x11".as_slice());
 /// ```
 ///
-/// It takes the input. If keys have to be copied from it, its memory is let go before the trie is built. The error is `Line`, `NotJson`, `NotPairs` or
-/// `NotPair` if the input is no pairs, `Keys` if keys show why a build of the pairs is refused, `Refused` if it is refused
-/// and none do, and `OutOfMemory`.
+/// It takes the input. If keys have to be copied from it, its memory is let go before the trie is built. The error is
+/// `Line`, `NotJson`, `NotPairs` or `NotPair` if the input is no pairs, `Keys` if keys show why a build of the pairs is
+/// refused, `Refused` if it is refused and none do, and `OutOfMemory`.
 pub fn make(alloc: Global, plan: Plan, input: Vec<u8>) -> Result<Vec<u8>, MakeError>
     ensures ok { IfOk result (λ file. IsFile plan input.items file.items) }
     ensures err { IfErr result (λ e. Explains plan input.items e) }

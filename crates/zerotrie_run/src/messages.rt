@@ -1,8 +1,6 @@
 //! What is told on standard error. If it can't be told, the status tells it alone.
 
-ghost use Rattle.std.specs.Prelude.{◌≡◌, ℕ, List, false, IfSome};
-ghost use Rattle.zerotrie_any.specs.Tagged.{tagged};
-ghost use Rattle.zerotrie_queries.specs.Kinds.{kind_of};
+ghost use Rattle.std.specs.Prelude.{◌≡◌, false, IfSome};
 ghost use Rattle.zerotrie_run.specs.Runs.{HasNumberToo};
 
 use crate::asking::AskError;
