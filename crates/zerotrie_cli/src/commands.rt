@@ -6,7 +6,7 @@ use crate::question::{file_in, question_in, words_in};
 use clap::ArgMatches;
 use clap::error::ErrorKind;
 use std::io::{BufWriter, IsTerminal};
-use std::{env, io};
+use std::{env, fs, io};
 use zerotrie_files::SystemStore;
 use zerotrie_run::{Build, Command, Place, Status, run};
 
@@ -71,11 +71,21 @@ fn show(rt: &HostRuntime, said: &clap::Error) -> Status {
     }
 }
 
+/// Whether two paths lead to one file, by whatever links.
+fn lead_to_one_file(rt: &HostRuntime, path: &str, other: &str) -> bool {
+    match (fs::canonicalize(rt, path), fs::canonicalize(rt, other)) {
+        (Ok(path), Ok(other)) => path == other,
+        _ => false,
+    }
+}
+
 /// Makes the file of a build, unless it would replace its own input.
 fn run_build(rt: &HostRuntime, build: Build<'_>) -> Status {
-    if build.from == build.to && build.to != Place::Stream {
-        let _ = eprintln!(rt; "zerotrie: IN and OUT are the same file");
-        return Status::BadUsage;
+    if let (Place::File(from), Place::File(to)) = (build.from, build.to) {
+        if from == to || lead_to_one_file(rt, from, to) {
+            let _ = eprintln!(rt; "zerotrie: IN and OUT are the same file");
+            return Status::BadUsage;
+        }
     }
     run_here(rt, Command::Build(build))
 }
