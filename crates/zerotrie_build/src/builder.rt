@@ -1,6 +1,6 @@
 //! The builder.
 
-ghost use Rattle.std.specs.Prelude.{◌≡◌, ◌≢◌, ◌<◌, IfOk, IfErr, length};
+ghost use Rattle.std.specs.Prelude.{◌≡◌, ◌≢◌, ◌<◌, IfOk, IfErr, IsTrue, length};
 ghost use Rattle.std.specs.List.Sorted.{IsPermutation};
 ghost use Rattle.std.specs.Iterator.{IsFiniteIterable};
 ghost use Rattle.zerotrie_core.specs.Items.{pairs_of, keyed};
@@ -8,12 +8,12 @@ ghost use Rattle.zerotrie_core.specs.Kind.{kind_with};
 ghost use Rattle.zerotrie_core.specs.Maps.{Ascends};
 ghost use Rattle.zerotrie_core.specs.Routes.{ascending, any_order, IsRefusal, IsBuild, IsLength, HoldsOfItsPairs, IsBuildOfAll};
 ghost use Rattle.zerotrie_build.specs.Items.{pairs};
-ghost use Rattle.zerotrie_build.specs.Order.{Ordered, AreKeys, AreValues};
+ghost use Rattle.zerotrie_build.specs.Order.{Ordered, AreKeys, AreAsciiKeys, AreValues};
 
 use crate::branch_layout::{Layout, WriteInput};
 use crate::indexed::IndexedItems;
 use crate::measuring::measure_all;
-use crate::order::{are_ascii, are_in_order, are_keys, is_ordered, repeats_next};
+use crate::order::{are_ascii, are_in_order, are_keys, is_ordered};
 use crate::slice_indices::ByteSliceWithIndices;
 use crate::sort::sorted_by_fold;
 use crate::store::TrieBuilderStore;
@@ -38,34 +38,33 @@ fn in_order<K: ZeroTrieWithOptions, Key: TrieKey, A: Allocator + Copy>(
     ensures no_search { IfErr result (λ e. e ≢ ZeroTrieBuildError.CouldNotSolvePerfectHash) }
 {
     let items = sorted_by_fold::<K, Key, A>(alloc, given)?;
-    if repeats_next(items.as_slice()) {
-        return Err(ZeroTrieBuildError::DuplicateKey);
-    }
-    let sorted = ByteSliceWithIndices::from_byte_slice(items.as_slice());
-    if !are_keys::<K, _>(sorted) {
+    // The given order is often that in which the keys lie in memory.
+    if !are_keys::<K, _>(given) {
         return Err(ZeroTrieBuildError::NonAsciiError);
     }
+    let sorted = ByteSliceWithIndices::from_byte_slice(items.as_slice());
     if K::IGNORE_CASE && !is_ordered::<K, _>(sorted) {
         return Err(ZeroTrieBuildError::MixedCase);
     }
     Ok(items)
 }
 
-/// The bytes of the trie of items in the order of the kind. The store and hashed tables take their memory from `alloc`.
+/// The bytes of the trie of items in the order of the kind. The store and hashed tables take their memory from `alloc`. If
+/// `ascii` is true, all keys are ASCII.
 fn build_ordered<
     'a,
     K: ZeroTrieWithOptions,
     I: IndexedItems<'a>,
     S: TrieBuilderStore + Drop,
     A: Allocator + Copy,
->(alloc: Global, spare: A, items: I) -> Result<S, ZeroTrieBuildError>
+>(alloc: Global, spare: A, items: I, ascii: bool) -> Result<S, ZeroTrieBuildError>
     requires ordered { Ordered K.kind (I.pairs items) }
     requires keys { AreKeys K.kind (I.pairs items) }
+    requires ascii { IsTrue ascii → AreAsciiKeys (I.pairs items) }
     ensures { IsBuild any_order K.kind S.list (I.pairs items) result }
 {
     laws::canonical_exactly();
     laws::meant_fits();
-    let ascii = are_ascii::<K, I>(items);
     let measured = measure_all::<K, I, A>(spare, items, ascii)?;
     let mut writing: Writing<S> = Writing::new(alloc, measured.len)?;
     let mut layout = Layout::new(alloc, spare, items.len())?;
@@ -83,8 +82,9 @@ fn build_sorted<
     ensures { IsBuild any_order K.kind S.list (keyed Key.key given.now) result }
 {
     let items = in_order::<K, Key, A>(spare, given)?;
+    let ascii = are_ascii::<K, _>(given);
     let items = ByteSliceWithIndices::from_byte_slice(items.as_slice());
-    build_ordered::<K, _, S, A>(alloc, spare, items)
+    build_ordered::<K, _, S, A>(alloc, spare, items, ascii)
 }
 
 /// The bytes of the trie of items that ascend by the bytes of their keys. If the kind has another order,
@@ -98,7 +98,7 @@ fn build_ascending<K: ZeroTrieWithOptions, S: TrieBuilderStore + Drop, A: Alloca
     ensures { IsBuild any_order K.kind S.list (pairs items.entry) result }
 {
     if are_in_order::<K>(items)? {
-        return build_ordered::<K, _, S, A>(alloc, spare, items);
+        return build_ordered::<K, _, S, A>(alloc, spare, items, are_ascii::<K, _>(items));
     }
     match items {
         ByteSliceWithIndices::Bytes(items) => build_sorted::<K, &[u8], S, A>(alloc, spare, items),
@@ -146,7 +146,7 @@ fn build_given<
     if !are_keys::<K, _>(given) {
         return Err(ZeroTrieBuildError::NonAsciiError);
     }
-    build_ordered::<K, _, S, A>(alloc, spare, given)
+    build_ordered::<K, _, S, A>(alloc, spare, given, are_ascii::<K, _>(given))
 }
 
 /// The bytes of the trie of items in any order, in the kind of the options.

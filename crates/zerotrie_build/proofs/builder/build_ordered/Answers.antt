@@ -26,7 +26,7 @@ put_pending-requires g c =
     let written = subst (λ at. WrittenTo kind all (g.S.TrieBuilderStore.list c.in_ok-writing.writing.data) at (whole_window all ∷ [])) (sym zeros.at) (left_start _ m zeros.zeros) in
     let pending = subst (λ x. IsPending kind all input.slots.now (position_at 0 0) x (whole_window all ∷ [])) one
     (subst (λ x. IsPending kind all x (position_at 0 0) (text_of (whole_window all) ∷ []) (whole_window all ∷ [])) (sym c.new-3.ensures.slots) (leads_start m)) in
-    let ascii = subst (λ x. IsTrue x → AreAsciiKeys all) (sym c.new-3.ensures.ascii) c.are_ascii-ascii.ensures in
+    let ascii = subst (λ x. IsTrue x → AreAsciiKeys all) (sym c.new-3.ensures.ascii) c.requires.ascii in
     λ k. ((refl, tt), (c.requires.keys, (ascii, (c.requires.ordered, (whole_window all ∷ [], written, pending)))))
 
 pub returns : goal.returns
