@@ -1,6 +1,6 @@
 //! The rows of commands as clap takes them.
 
-use crate::table::COMMANDS;
+use crate::table::{COMMANDS, STATUSES};
 use clap::{Arg, ArgAction, ArgMatches, Command};
 use std::alloc::{AllocError, Global};
 use zerotrie_run::Place;
@@ -25,6 +25,8 @@ pub enum Form {
     Flag,
     /// Its name, or a letter, and a word after it, which help calls so.
     Text(&'static str, Option<char>, Otherwise),
+    /// Its name and any word after it, which help calls so; also one that begins with a hyphen.
+    AnyText(&'static str),
     /// Its name and one of these words after it, which help calls so.
     OneOf(&'static str, &'static [&'static str], Otherwise),
 }
@@ -67,6 +69,10 @@ impl Argument {
                     None => or_otherwise(option, otherwise),
                 }
             }
+            Form::AnyText(value) => {
+                let option = arg.action(ArgAction::Set).long(self.name).value_name(value);
+                option.allow_hyphen_values(true)
+            }
             Form::OneOf(value, words, otherwise) => {
                 let option = arg.action(ArgAction::Set).long(self.name).value_name(value);
                 or_otherwise(option.value_parser(*words), otherwise)
@@ -93,6 +99,7 @@ pub fn command<'a>(alloc: Global) -> Result<Command<'a>, AllocError> {
         .bin_name("zerotrie")?
         .version("0.2.5-1")
         .about("Makes tries in files and reads them")
+        .after_help(STATUSES)
         .subcommand_required(true)
         .arg_required_else_help(true);
     for row in COMMANDS {

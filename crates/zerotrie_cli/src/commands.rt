@@ -116,7 +116,7 @@ pub fn run_words(rt: &HostRuntime) -> Status {
         Err(error) => {
             if error.kind() == io::ErrorKind::InvalidData {
                 let _ = eprintln!(rt;
-                    "zerotrie: the arguments are not UTF-8; give keys of other bytes as lines of standard input"
+                    "zerotrie: the arguments are not UTF-8; give keys of other bytes as lines of standard input, and a file of such a name as - with <"
                 );
                 Status::BadUsage
             } else {

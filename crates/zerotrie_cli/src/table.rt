@@ -32,6 +32,11 @@ const TRUST: Argument = Argument {
     help: "Skip the check that FILE is a valid trie, which reads all of it once",
 };
 
+/// What a status says, in the help of the program.
+pub const STATUSES: &str =
+    "Status: 0 if all is done or found; 1 if a key is not there, or a build is refused; 2 if the words are no \
+    command, FILE is no trie, or IN is no pairs; 3 if a file can't be read or written, or memory runs out.";
+
 /// What the program can be asked to do.
 pub const COMMANDS: &[Subcommand] = &[
     Subcommand {
@@ -39,7 +44,7 @@ pub const COMMANDS: &[Subcommand] = &[
         about: "Make a trie from a file of pairs",
         help: "Example: zerotrie build names.tsv -o names.trie\nIn memory: \
             the input, 40 bytes a pair, 24 more if they are to be sorted, and the trie; 16 more if keys are copied, as those \
-            of csv and json and with escapes; of json the parsed value, too.",
+            of csv and json and with escapes; of json the parsed value, too.\nStatus: 1 if the build is refused, 2 if IN is no pairs.",
         arguments: &[
             Argument {
                 name: "IN",
@@ -89,7 +94,7 @@ pub const COMMANDS: &[Subcommand] = &[
     Subcommand {
         name: "get",
         about: "Print the values of keys",
-        help: "Example: zerotrie get names.trie amp lt\nIn memory: the file and the longest key.",
+        help: "Example: zerotrie get names.trie amp lt\nIn memory: the file and the longest key.\nStatus: 1 if a key is not there, 2 if FILE is no trie.",
         arguments: &[
             FILE,
             KIND,
@@ -104,7 +109,8 @@ pub const COMMANDS: &[Subcommand] = &[
     Subcommand {
         name: "longest",
         about: "Print the longest key that each text begins with, and its value",
-        help: "Example: zerotrie longest names.trie ampersand\nIn memory: the file and the longest text.",
+        help: "Example: zerotrie longest names.trie ampersand\nIn memory: the file and the longest text.\n\
+            Status: 1 if a text begins with no key, 2 if FILE is no trie.",
         arguments: &[
             FILE,
             KIND,
@@ -119,14 +125,15 @@ pub const COMMANDS: &[Subcommand] = &[
     Subcommand {
         name: "list",
         about: "Print the pairs",
-        help: "Example: zerotrie list names.trie --prefix am\nIn memory: the file and the longest key.",
+        help: "Example: zerotrie list names.trie --prefix am\nIn memory: the file and the longest key.\n\
+            Status: 0 also if no key begins so, 2 if FILE is no trie.",
         arguments: &[
             FILE,
             KIND,
             TRUST,
             Argument {
                 name: "prefix",
-                form: Form::Text("P", None, Otherwise::Nothing),
+                form: Form::AnyText("P"),
                 help: "Only keys that begin so",
             },
             Argument {
@@ -140,7 +147,7 @@ pub const COMMANDS: &[Subcommand] = &[
         name: "check",
         about: "Test the bytes, and print what the trie is made of, or where and why they are no trie",
         help: "Example: zerotrie check names.trie\nIn memory: the file and the open \
-            branches. Places are counted after the number of the kind.",
+            branches. Places are counted after the number of the kind.\nStatus: 2 if FILE is no trie.",
         arguments: &[FILE, KIND],
     },
     Subcommand {

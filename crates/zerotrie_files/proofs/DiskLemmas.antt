@@ -1,8 +1,6 @@
 -- Calls to a disk, one after another.
 use Rattle.std.proofs.Common.{◌≡◌, ◌≢◌, ◌⊎◌, ◌∙◌, ℕ, List, ◌++◌, Option, Some, None, Result, Ok, Err, inl, inr, sym, ap, append_assoc}
-use Rattle.std.specs.IoError.{error_kind}
 use Rattle.std.specs.declared.io.Error.{Error}
-use Rattle.std.specs.declared.io.ErrorKind.TheVariants.{AlreadyExists}
 use Rattle.std.proofs.lemmas.List.Elements.{All-append, All-weaker}
 use Rattle.zerotrie_files.specs.Disks.{Files, Story, Known, Passes, SameBeside, Same, Moved, WritesNew, Renames, Removes, IsWhole, Replaces}
 
@@ -55,33 +53,34 @@ whole_moved path beside bytes old now f apart same holds (inr moved) = record {
   others = λ other off far. moved.others other far off ∙ same other far;
 }
 
+-- a new file was written, and it took the path or not
+abbrev pub Tried : List ℕ → List ℕ → List ℕ → Result (Unit {0}) Error → Story → Story → Type 0
+Tried path beside bytes r a d = (a.now beside ≡ None) × Replaces path beside bytes r a d
+
 -- a file that was not written whole has taken no path
 pub not_written : (path beside bytes : List ℕ) (w : Result (Unit {0}) Error) (e : Error) (a b : Story) → beside ≢ path → w ≡ Err e → WritesNew beside bytes w a b
     → Replaces {T = Unit {0}} path beside bytes (Err e) a b
 not_written path beside bytes w e a b apart is h =
     let failed = rw is at h in (
       passes_by (IsWhole path beside bytes a.now) (SameBeside beside a.now) a b (λ f s. whole_beside path beside bytes a.now f apart s) failed.0,
-      (failed.0.ends path (λ i. apart (sym i)), λ there _. failed.1 there),
+      (failed.0.ends path (λ i. apart (sym i)), failed.1),
     )
 
--- it is removed, and it was no other's
-pub then_removed : (path beside bytes : List ℕ) (e : Error) (a b d : Story) → beside ≢ path → (error_kind e ≡ AlreadyExists → a.now beside ≢ None → ⊥)
-    → Replaces {T = Unit {0}} path beside bytes (Err e) a b → Removes beside b d → Replaces {T = Unit {0}} path beside bytes (Err e) a d
-then_removed path beside bytes e a b d apart own h r = (
-  passes_then (IsWhole path beside bytes a.now) (IsWhole path beside bytes a.now) (SameBeside beside b.now) a b d (λ f w. w)
-      (λ f s. whole_still path beside bytes a.now b.now f apart h.0.ends s) h.0 r,
-  (r.ends path (λ i. apart (sym i)) ∙ h.1.0, λ there some. absurd (own there some)),
-)
+-- one that was written and took no path is removed
+pub then_removed : (path beside bytes : List ℕ) (e : Error) (a b d : Story) → beside ≢ path → Tried path beside bytes (Err e) a b → Removes beside b d
+    → Replaces {T = Unit {0}} path beside bytes (Err e) a d
+then_removed path beside bytes e a b d apart tried r =
+    let h = tried.1 in (
+      passes_then (IsWhole path beside bytes a.now) (IsWhole path beside bytes a.now) (SameBeside beside b.now) a b d (λ f w. w)
+          (λ f s. whole_still path beside bytes a.now b.now f apart h.0.ends s) h.0 r,
+      (r.ends path (λ i. apart (sym i)) ∙ h.1.0, λ some. absurd (some tried.0)),
+    )
 
 passes_moved : (path beside bytes : List ℕ) (r : Result (Unit {0}) Error) (a b d : Story) → beside ≢ path → Passes (SameBeside beside a.now) a b → b.now beside ≡ Some bytes
     → Renames beside path r b d → Passes (IsWhole path beside bytes a.now) a d
 passes_moved path beside bytes r a b d apart p holds moves =
     passes_then (IsWhole path beside bytes a.now) (SameBeside beside a.now) (λ f. Same b.now f ⊎ Moved beside path b.now f) a b d
     (λ f s. whole_beside path beside bytes a.now f apart s) (λ f m. whole_moved path beside bytes a.now b.now f apart p.ends holds m) p moves.0
-
--- a new file was written, and it took the path or not
-abbrev pub Tried : List ℕ → List ℕ → List ℕ → Result (Unit {0}) Error → Story → Story → Type 0
-Tried path beside bytes r a d = (a.now beside ≡ None) × Replaces path beside bytes r a d
 
 -- a file that was written takes the path, or does not
 pub then_moved : (path beside bytes : List ℕ) (w r : Result (Unit {0}) Error) (a b d : Story) → beside ≢ path → w ≡ Ok tt → WritesNew beside bytes w a b → Renames beside path r b d
@@ -91,4 +90,4 @@ then_moved path beside bytes w (Ok u) a b d apart ok written moves =
     (done.1.0, (passes_moved path beside bytes (Ok u) a b d apart done.0 done.1.1 moves, (moves.1.there ∙ done.1.1, moves.1.gone apart ∙ sym done.1.0)))
 then_moved path beside bytes w (Err e) a b d apart ok written moves =
     let done = rw ok at written in
-    (done.1.0, (passes_moved path beside bytes (Err e) a b d apart done.0 done.1.1 moves, (moves.1 path ∙ done.0.ends path (λ i. apart (sym i)), λ _ some. absurd (some done.1.0))))
+    (done.1.0, (passes_moved path beside bytes (Err e) a b d apart done.0 done.1.1 moves, (moves.1 path ∙ done.0.ends path (λ i. apart (sym i)), λ some. absurd (some done.1.0))))

@@ -1,8 +1,5 @@
 -- A disk from moment to moment, and what the calls that replace a file do to it.
 use Rattle.std.specs.Prelude.{◌≡◌, ◌≢◌, ◌⊎◌, ℕ, List, ◌++◌, All, Option, Some, None, Result, MatchResult}
-use Rattle.std.specs.IoError.{error_kind}
-use Rattle.std.specs.declared.io.Error.{Error}
-use Rattle.std.specs.declared.io.ErrorKind.TheVariants.{AlreadyExists}
 
 -- what the file of each path holds, if there is one
 abbrev pub Files : Type 0
@@ -13,8 +10,8 @@ pub record Story : Type 0 where
   pub now : Files
   pub moments : List Files
 
--- the fact holds of a disk before a call and after it, if anything is known of the disk
-abbrev pub Known : Option Story → Option Story → (Story → Story → Type 0) → Type 0
+-- the fact holds of a disk, or of its files, before a call and after it, if anything is known of it
+abbrev pub Known : {A : Type 0} → Option A → Option A → (A → A → Type 0) → Type 0
 Known None new Fact = Unit {0}
 Known (Some old) None Fact = ⊥
 Known (Some old) (Some new) Fact = Fact old new
@@ -44,11 +41,15 @@ pub record Moved (from to : List ℕ) (old new : Files) : Type 0 where
   pub gone : from ≢ to → new from ≡ None
   pub others : (other : List ℕ) → other ≢ from → other ≢ to → new other ≡ old other
 
--- a new file is written: other files stay at each moment; if all went well there was none, and it holds the bytes; if the error
--- is that there is one, no file changes
-abbrev pub WritesNew : {T : Type 0} → List ℕ → List ℕ → Result T Error → Story → Story → Type 0
+-- if there was a file at the path, no file changes
+abbrev pub Spares : List ℕ → Story → Story → Type 0
+Spares path old new = old.now path ≢ None → Stays old new
+
+-- a new file is written: other files stay at each moment; if all went well there was none, and it holds the bytes; if there is one,
+-- it fails, and no file changes
+abbrev pub WritesNew : {T E : Type 0} → List ℕ → List ℕ → Result T E → Story → Story → Type 0
 WritesNew path bytes result old new = Passes (SameBeside path old.now) old new
-    × MatchResult result (λ _. (old.now path ≡ None) × (new.now path ≡ Some bytes)) (λ e. error_kind e ≡ AlreadyExists → Stays old new)
+    × MatchResult result (λ _. (old.now path ≡ None) × (new.now path ≡ Some bytes)) (λ _. Spares path old new)
 
 -- a file is given another path, with no moment between before and after
 abbrev pub Renames : {T E : Type 0} → List ℕ → List ℕ → Result T E → Story → Story → Type 0
@@ -65,13 +66,13 @@ pub record IsWhole (path beside bytes : List ℕ) (old new : Files) : Type 0 whe
   pub whole : (new path ≡ old path) ⊎ (new path ≡ Some bytes)
   pub others : (other : List ℕ) → other ≢ path → other ≢ beside → new other ≡ old other
 
--- if the error is that there is a file at the path beside, and there was one, no file changes
-abbrev pub SparesBeside : List ℕ → Error → Story → Story → Type 0
-SparesBeside beside e old new = error_kind e ≡ AlreadyExists → old.now beside ≢ None → Stays old new
+-- the file of the path holds the bytes, and the files of all other paths what they held
+abbrev pub Holds : List ℕ → List ℕ → Files → Files → Type 0
+Holds path bytes old new = (new path ≡ Some bytes) × SameBeside path old new
 
 -- a file is replaced: it is whole at each moment; if all went well it holds the bytes, and what was beside it stays; else it holds
--- what it held
-abbrev pub Replaces : {T : Type 0} → List ℕ → List ℕ → List ℕ → Result T Error → Story → Story → Type 0
+-- what it held, and if there was a file beside it, no file changed
+abbrev pub Replaces : {T E : Type 0} → List ℕ → List ℕ → List ℕ → Result T E → Story → Story → Type 0
 Replaces path beside bytes result old new = Passes (IsWhole path beside bytes old.now) old new
     × MatchResult result (λ _. (new.now path ≡ Some bytes) × (new.now beside ≡ old.now beside))
-    (λ e. (new.now path ≡ old.now path) × SparesBeside beside e old new)
+    (λ _. (new.now path ≡ old.now path) × Spares beside old new)

@@ -1,8 +1,8 @@
 //! Files that are read and replaced whole.
 
 ghost use Rattle.std.specs.Prelude.{◌≡◌, Option, Some, None, IfOk, IfSome};
-ghost use Rattle.zerotrie_files.specs.Disks.{Files};
-ghost use Rattle.zerotrie_files.specs.Stores.{FilesKnown, Rewrites};
+ghost use Rattle.zerotrie_files.specs.Disks.{Files, Known};
+ghost use Rattle.zerotrie_files.specs.Stores.{Rewrites};
 
 use crate::output::write_output;
 use std::fs::{File, OpenFile};
@@ -16,12 +16,14 @@ pub trait Store {
 
     /// All that the file of a path holds.
     fn read(&self, path: &str) -> io::Result<Vec<u8>>
-        ensures { IfOk result (λ bytes. IfSome (files self.now) (λ held. held path.now ≡ Some bytes.items)) };
+        ensures { IfOk result (λ bytes.
+            IfSome (files self.now) (λ held. held path.now ≡ Some bytes.items)) };
 
-    /// Replaces the file of a path by the bytes, or makes it. After an error it holds what it held; files whose paths begin
-    /// with that path may be left beside it.
+    /// Replaces the file of a path by the bytes, or makes it. After an error it holds what it held; new files whose paths
+    /// begin with that path may be left beside it.
     fn replace(&mut self, path: &str, bytes: &[u8]) -> io::Result<()>
-        ensures { FilesKnown (files self.old) (files self.new) (Rewrites path.now bytes.now result) };
+        ensures { Known (files self.old) (files self.new)
+            (Rewrites path.now bytes.now result) };
 }
 
 /// The files of the system. No clause says what they hold.

@@ -36,7 +36,13 @@ impl<'a, R: Files> Disk for SystemDisk<'a, R> {
 
     fn write_new(&mut self, path: &str, bytes: &[u8]) -> io::Result<()> {
         let mut file = File::create_new(self.files, path)?;
-        self.fill(&mut file, bytes)
+        match self.fill(&mut file, bytes) {
+            Ok(()) => Ok(()),
+            Err(error) => {
+                let _ = self.remove(path);
+                Err(error)
+            }
+        }
     }
 
     fn rename(&mut self, from: &str, to: &str) -> io::Result<()> {

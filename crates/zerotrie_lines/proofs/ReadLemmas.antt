@@ -18,6 +18,7 @@ pub record GoodTo (all : List (List ℕ)) (n : ℕ) (rest : List (List ℕ)) : T
 
 -- what has no number is no pair, for the same fault
 pub line_fault : (line : List ℕ) (fault : BadLine) → HasNoNumber line fault → IsLineFault line fault
+line_fault line bad.Empty h = absurd h.2
 line_fault line bad.NoTab h = absurd h.2
 line_fault line bad.Escape h = absurd h.2
 line_fault line bad.Number h = h

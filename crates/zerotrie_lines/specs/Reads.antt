@@ -38,6 +38,7 @@ EndsInReturn text = (front : List ℕ) × (text ≡ front ++ 13 ∷ [])
 
 -- what is wrong with what stands for a value and is no number: a carriage return at its end, or something else
 abbrev pub IsValueFault : List ℕ → BadLine → Type 0
+IsValueFault digits bad.Empty = ⊥
 IsValueFault digits bad.NoTab = ⊥
 IsValueFault digits bad.Escape = ⊥
 IsValueFault digits bad.Number = EndsInReturn digits → ⊥
@@ -48,9 +49,10 @@ IsValueFault digits bad.Fields = ⊥
 abbrev pub HasNoNumber : List ℕ → BadLine → Type 0
 HasNoNumber line fault = HasTab line × ((value : ℕ) → IsNumber (after_first is_tab line) value → ⊥) × IsValueFault (after_first is_tab line) fault
 
--- why a line is no pair: it has no tab, what stands before the tab spells no key, or what stands after it is no number
+-- why a line is no pair: it is empty, it has no tab, what stands before the tab spells no key, or what stands after it is no number
 abbrev pub IsLineFault : List ℕ → BadLine → Type 0
-IsLineFault line bad.NoTab = HasTab line → ⊥
+IsLineFault line bad.Empty = line ≡ []
+IsLineFault line bad.NoTab = (line ≢ []) × (HasTab line → ⊥)
 IsLineFault line bad.Escape = HasTab line × ((key : List ℕ) → Spells (before_first is_tab line) key → ⊥)
 IsLineFault line bad.Number = HasNoNumber line bad.Number
 IsLineFault line bad.CarriageReturn = HasNoNumber line bad.CarriageReturn
@@ -58,6 +60,7 @@ IsLineFault line bad.Fields = ⊥
 
 -- why a record is none: it has not two fields, or the second is no number
 abbrev pub IsRecordFault : Fields → BadLine → Type 0
+IsRecordFault row bad.Empty = ⊥
 IsRecordFault row bad.NoTab = ⊥
 IsRecordFault row bad.Escape = ⊥
 IsRecordFault row bad.Number = (key digits : List ℕ) × (row ≡ key ∷ digits ∷ []) × ((value : ℕ) → IsNumber digits value → ⊥)

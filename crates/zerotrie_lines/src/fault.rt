@@ -9,7 +9,9 @@ use std::fmt;
 /// What is bad in a line.
 #[derive(Clone, Copy, PartialEq, Eq, Debug)]
 pub enum BadLine {
-    /// It has no tab.
+    /// It is empty.
+    Empty,
+    /// It has no tab, but something else.
     NoTab,
     /// What stands before its tab spells no key.
     Escape,
@@ -24,6 +26,7 @@ pub enum BadLine {
 impl fmt::Display for BadLine {
     fn fmt<W: fmt::Write>(&self, f: &mut fmt::Formatter<W>) -> fmt::Result {
         f.write_str(match self {
+            BadLine::Empty => "an empty line",
             BadLine::NoTab => "no tab between a key and its value",
             BadLine::Escape =>
                 "a backslash that begins no escape; the escapes are \\t \\n \\r \\\\ \\xHH",

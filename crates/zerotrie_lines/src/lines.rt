@@ -4,7 +4,7 @@ ghost use Rattle.std.specs.Prelude.{◌≡◌, ◌≢◌, ◌++◌, ◌∷◌, �
 ghost use Rattle.std.specs.List.{before_first, after_first};
 ghost use Rattle.zerotrie_lines.specs.Tables.{Pair};
 ghost use Rattle.zerotrie_lines.specs.Escapes.{Spells};
-ghost use Rattle.zerotrie_lines.specs.Lines.{is_feed, lines_of, IsPairLine, tsv_line};
+ghost use Rattle.zerotrie_lines.specs.Lines.{is_feed, lines_of, HasTab, IsPairLine, tsv_line};
 ghost use Rattle.zerotrie_lines.specs.Reads.{IsLineFault, IsValueFault};
 
 use crate::escapes::{unescape, write_escaped};
@@ -82,6 +82,18 @@ fn bad_number(digits: &[u8]) -> BadLine
     }
 }
 
+/// Why a line without a tab is no pair.
+fn without_tab(line: &[u8]) -> BadLine
+    requires { HasTab line.now → ⊥ }
+    ensures { IsLineFault line.now result }
+{
+    if line.is_empty() {
+        BadLine::Empty
+    } else {
+        BadLine::NoTab
+    }
+}
+
 /// Adds the pair that a line is, or answers why it is none. The key is room for one that has escapes.
 pub fn read_pair(
     line: &[u8],
@@ -93,7 +105,7 @@ pub fn read_pair(
     ensures none { IfOk result (λ bad. IfSome bad (IsLineFault line.now)) }
 {
     let Some(place) = memchr(b'\t', line) else {
-        return Ok(Some(BadLine::NoTab));
+        return Ok(Some(without_tab(line)));
     };
     let digits = &line[place + 1..];
     let Some(value) = parse_number(digits) else {

@@ -10,12 +10,16 @@ use Rattle.zerotrie_queries.specs.declared.code.language.Language.{Language}
 use Rattle.zerotrie_queries.specs.declared.code.language.Language.TheVariants as lang
 use Rattle.zerotrie_queries.specs.code.Names.{is_letter, is_in_word, are_in_word, is_name}
 use Rattle.zerotrie_queries.specs.code.Texts.{rust_kind, c_kind, rattle_type, c_get, front, behind}
-use Rattle.zerotrie_queries.specs.code.Items.{before_item, item_number, items, digit_value, seen_after, numbers_after}
-use Rattle.zerotrie_queries.specs.code.Items.Seen.{outside, inside, zero_seen}
+use Rattle.zerotrie_queries.specs.code.Items.{before_item, item_number, items, is_hex, digit_value, seen_after, numbers_after}
+use Rattle.zerotrie_queries.specs.code.Items.Seen.{outside, inside, zero_seen, digit_seen}
 
 -- a digit that is written has its value
 digit_back : (n : ℕ) → n < 16 → digit_value (hex_digit n) ≡ n
 digit_back n below = grind (arith, nat_tests)
+
+-- and is one
+hex_back : (n : ℕ) → n < 16 → is_hex (hex_digit n) ≡ true
+hex_back n below = grind (arith, nat_tests)
 
 -- no number stands in front of an item
 before_read : (first : Bool) (rest : List ℕ) → numbers_after outside ((if first then codes "\n    " else codes " ") ++ rest) ≡ numbers_after outside rest
@@ -24,7 +28,12 @@ before_read false rest = refl
 
 -- an item has one number, its byte
 number_read : (b : ℕ) (rest : List ℕ) → b < 256 → numbers_after outside (item_number b ++ rest) ≡ b ∷ numbers_after outside rest
-number_read b rest below = ap (λ n. n ∷ numbers_after outside rest) (bytes_back b below)
+number_read b rest below =
+    let high = hex_digit (b / 16) in
+    let low = hex_digit (b % 16) in
+    ap (λ hex. numbers_after (if hex then digit_seen (digit_value high) else seen_after high) (low ∷ 44 ∷ rest)) (hex_back (b / 16) (omega arith))
+    ∙ ap (λ hex. if hex then (16 * digit_value high + digit_value low) ∷ numbers_after inside (44 ∷ rest) else numbers_after (seen_after low) (44 ∷ rest)) (hex_back (b % 16) (omega arith))
+    ∙ ap (λ n. n ∷ numbers_after outside rest) (bytes_back b below)
   where
     bytes_back : (b : ℕ) → b < 256 → 16 * digit_value (hex_digit (b / 16)) + digit_value (hex_digit (b % 16)) ≡ b
     bytes_back b below = rw (digit_back (b / 16) (omega arith), digit_back (b % 16) (omega arith)) (omega arith)

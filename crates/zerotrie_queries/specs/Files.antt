@@ -12,8 +12,13 @@ abbrev pub Holds : Option TrieKind → List ℕ → TrieKind → List ℕ → Ty
 Holds None file kind bytes = file ≡ tagged (kind_of kind) bytes
 Holds (Some named) file kind bytes = (kind ≡ named) × (bytes ≡ file)
 
--- why a file has no trie: no kind has its number in front, or the bytes mean no map of the kind
+-- why the kind of a file is not known: none was named, and no kind has its number in front
+abbrev pub HasNoKind : Option TrieKind → List ℕ → OpenError → Type 0
+HasNoKind named file (NotWellFormed kind) = ⊥
+HasNoKind None file (BadTag why) = IsTagFault IsTag file why
+HasNoKind (Some named) file (BadTag why) = ⊥
+
+-- why a file has no trie: its kind is not known, or the bytes mean no map of the kind
 abbrev pub Explains : Option TrieKind → List ℕ → OpenError → Type 0
 Explains named file (NotWellFormed kind) = (bytes : List ℕ) × Holds named file kind bytes × (IsWellFormed (kind_of kind) bytes → ⊥)
-Explains None file (BadTag why) = IsTagFault IsTag file why
-Explains (Some named) file (BadTag why) = ⊥
+Explains named file (BadTag why) = HasNoKind named file (BadTag why)

@@ -3,7 +3,7 @@
 ghost use Rattle.std.specs.Prelude.{◌≡◌, IfOk, IfErr};
 ghost use Rattle.zerotrie_core.specs.WellFormed.{IsWellFormed};
 ghost use Rattle.zerotrie_queries.specs.Kinds.{kind_of};
-ghost use Rattle.zerotrie_queries.specs.Files.{Holds, Explains};
+ghost use Rattle.zerotrie_queries.specs.Files.{Holds, HasNoKind, Explains};
 ghost use Rattle.zerotrie_queries.specs.declared.file.OpenError.TheVariants.{BadTag};
 
 use crate::kind::TrieKind;
@@ -35,7 +35,7 @@ impl<'a> Trie<'a> {
     /// is the number of no kind.
     pub fn open_untested(named: Option<TrieKind>, file: &'a [u8]) -> Result<Self, OpenError>
         ensures ok { IfOk result (λ trie. Holds named file.now trie.kind trie.bytes.now) }
-        ensures err { IfErr result (λ why. Explains named file.now why) }
+        ensures err { IfErr result (HasNoKind named file.now) }
     {
         match named {
             Some(kind) => Ok(Trie { kind, bytes: file }),

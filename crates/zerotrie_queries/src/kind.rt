@@ -3,6 +3,7 @@
 ghost use Rattle.std.specs.Prelude.{◌≡◌, IfSome, IfNone};
 ghost use Rattle.zerotrie_core.specs.Kind.{tag};
 ghost use Rattle.zerotrie_queries.specs.Kinds.{kind_of, kind_name, IsTag};
+ghost use Rattle.zerotrie_queries.specs.declared.kind.TrieKind.{TrieKind};
 
 use zerotrie_core::{Ext, Hash, Ignore, Simple, ZeroTrieWithOptions};
 
@@ -60,7 +61,8 @@ impl TrieKind {
 
     /// The kind that a command line names so. `None` if it names none.
     pub fn named(name: &str) -> Option<Self>
-        ensures { IfSome result (λ kind. name.now ≡ kind_name kind) }
+        ensures some { IfSome result (λ kind. name.now ≡ kind_name kind) }
+        ensures none { IfNone result ((kind : TrieKind) → name.now ≡ kind_name kind → ⊥) }
     {
         match name {
             "simple" => Some(TrieKind::Simple),

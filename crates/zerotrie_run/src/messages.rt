@@ -188,34 +188,56 @@ fn add_keys(text: &mut Vec<u8>, shown: &Shown) -> io::Result<()> {
     }
 }
 
+/// What may help if this line or record is no pair.
+fn hint(source: Source, number: usize, bad: BadLine) -> &'static str {
+    match (source, bad) {
+        (_, BadLine::NoTab) => "; if the input has another form, name it by --format",
+        (Source::Text(Format::Csv), BadLine::Number) if number == 1 => {
+            "; if it is a header, leave it out"
+        }
+        _ => "",
+    }
+}
+
+/// Adds where text is no JSON value.
+fn add_not_json(text: &mut Vec<u8>, line: usize, column: usize) -> io::Result<()> {
+    write!(text, "line {line}, column {column}: no JSON value")?;
+    if line == 1 && column == 1 {
+        write!(text, "; if a byte order mark stands in front, leave it out")?;
+    }
+    Ok(())
+}
+
+/// Adds which member or item of a JSON value is no pair.
+fn add_no_pair(text: &mut Vec<u8>, bad: &NoPair) -> io::Result<()> {
+    match bad {
+        NoPair::Member(key) => {
+            write!(
+                text,
+                "the value of this key is not written as a whole number below 2^64: "
+            )?;
+            add_key(text, key.as_slice())
+        }
+        NoPair::Item(number) => write!(
+            text,
+            "pair {number}: no list of a key and of a value that is written as a whole number below 2^64"
+        ),
+    }
+}
+
 /// Why no file is made, as a line of text.
-fn refusal(alloc: Global, path: &str, unit: &str, error: &MakeError) -> io::Result<Vec<u8>> {
+fn refusal(alloc: Global, path: &str, source: Source, error: &MakeError) -> io::Result<Vec<u8>> {
+    let unit = unit_of(source);
     let mut text = Vec::new(alloc);
     write!(text, "zerotrie: {path}: ")?;
     match error {
-        MakeError::Line(number, BadLine::NoTab) => {
-            let bad = BadLine::NoTab;
-            write!(
-                text,
-                "{unit} {number}: {bad}; if the input has another form, name it by --format"
-            )?
+        MakeError::Line(number, bad) => {
+            let hint = hint(source, *number, *bad);
+            write!(text, "{unit} {number}: {bad}{hint}")?
         }
-        MakeError::Line(number, bad) => write!(text, "{unit} {number}: {bad}")?,
-        MakeError::NotJson(line, column) => {
-            write!(text, "line {line}, column {column}: no JSON value")?
-        }
+        MakeError::NotJson(line, column) => add_not_json(&mut text, *line, *column)?,
         MakeError::NotPairs => write!(text, "neither an object nor a list")?,
-        MakeError::NotPair(NoPair::Member(key)) => {
-            write!(
-                text,
-                "the value of this key is no whole number below 2^64: "
-            )?;
-            add_key(&mut text, key.as_slice())?;
-        }
-        MakeError::NotPair(NoPair::Item(number)) => write!(
-            text,
-            "{unit} {number}: no list of a key and a whole number below 2^64"
-        )?,
+        MakeError::NotPair(bad) => add_no_pair(&mut text, bad)?,
         MakeError::Keys(shown) => {
             add_reason(&mut text, unit, shown)?;
             add_keys(&mut text, shown)?;
@@ -288,7 +310,7 @@ pub fn tell_build<M: Write>(
             writeln!(messages, "zerotrie: {from}: out of memory")
         }
         BuildError::NotMade(error) => {
-            let text = refusal(alloc, from, unit_of(build.plan.source), error)?;
+            let text = refusal(alloc, from, build.plan.source, error)?;
             messages.write_all(text.as_slice())
         }
         BuildError::Unwritten(error) => tell_unwritten(messages, target_name(build.to), error),

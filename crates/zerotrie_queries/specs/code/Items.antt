@@ -1,5 +1,5 @@
 -- Bytes as the items of a constant, and what is read of them.
-use Rattle.std.specs.Prelude.{ℕ, ◌+◌, ◌-◌, ◌*◌, ◌/◌, ◌%◌, ◌==◌, nat_lt, List, [], ◌∷◌, ◌++◌, codes, if◌then◌else◌}
+use Rattle.std.specs.Prelude.{ℕ, ◌+◌, ◌-◌, ◌*◌, ◌/◌, ◌%◌, ◌==◌, ◌&&◌, ◌||◌, Bool, nat_lt, nat_le, List, [], ◌∷◌, ◌++◌, codes, if◌then◌else◌}
 use Rattle.zerotrie_lines.specs.Escapes.{hex_digit}
 use Rattle.zerotrie_queries.specs.code.Names.{is_in_word}
 
@@ -25,7 +25,11 @@ pub data Seen : Type 0 where
   x_seen : Seen
   digit_seen : ℕ → Seen
 
--- the value of a hexadecimal digit in lower case
+-- a hexadecimal digit in lower case
+abbrev pub is_hex : ℕ → Bool
+is_hex c = (nat_le 48 c && nat_le c 57) || (nat_le 97 c && nat_le c 102)
+
+-- its value
 abbrev pub digit_value : ℕ → ℕ
 digit_value c = if nat_lt c 58 then c - 48 else c - 87
 
@@ -39,8 +43,9 @@ numbers_after s [] = []
 numbers_after outside (c ∷ text) = numbers_after (if c == 48 then zero_seen else seen_after c) text
 numbers_after inside (c ∷ text) = numbers_after (seen_after c) text
 numbers_after zero_seen (c ∷ text) = numbers_after (if c == 120 then x_seen else seen_after c) text
-numbers_after x_seen (c ∷ text) = numbers_after (digit_seen (digit_value c)) text
-numbers_after (digit_seen d) (c ∷ text) = (16 * d + digit_value c) ∷ numbers_after inside text
+numbers_after x_seen (c ∷ text) = numbers_after (if is_hex c then digit_seen (digit_value c) else seen_after c) text
+numbers_after (digit_seen d) (c ∷ text) =
+    if is_hex c then (16 * d + digit_value c) ∷ numbers_after inside text else numbers_after (seen_after c) text
 
 -- the words of a text that begin with 0x and two hexadecimal digits, as numbers
 abbrev pub numbers_in : List ℕ → List ℕ

@@ -24,7 +24,8 @@ fn item_number(byte: u8) -> [u8; 5]
 
 /// Writes bytes as items, sixteen a line. It takes no memory.
 pub fn write_items<W: Write>(bytes: &[u8], output: &mut W) -> io::Result<()>
-    ensures { OnOk result (Appends (W.contents output.old) (W.contents output.new) (items 0 bytes.now)) }
+    ensures { OnOk result (Appends (W.contents output.old) (W.contents output.new)
+        (items 0 bytes.now)) }
 {
     for (index, byte) in bytes.iter().enumerate() {
         output.write_all(before_item(index).as_bytes())?;

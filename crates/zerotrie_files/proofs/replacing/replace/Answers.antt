@@ -1,22 +1,7 @@
-use Rattle.std.proofs.Common.{◌≡◌, ◌∙◌, true, false, Err, sym}
-use Rattle.zerotrie_files.specs.Disks.{WritesNew, Renames, Removes, Replaces}
+use Rattle.std.proofs.Common.{◌≡◌, Err, sym}
+use Rattle.zerotrie_files.specs.Disks.{Known, WritesNew, Renames, Removes, Replaces}
 use Rattle.zerotrie_files.proofs.DiskLemmas.{Tried, known_then, not_written, then_removed, then_moved}
 use Rattle.zerotrie_files.proofs.replacing.replace.Goals as goal
-
-other_than : true ≡ false → ⊥
-other_than e = absurd (cc)
-
-pub returns-then-ne : goal.returns-then-ne
-returns-then-ne g c =
-    let path = c.args.path.now in
-    let beside = c.args.beside.now in
-    let bytes = c.args.bytes.now in
-    let e = c.in-Err.error in
-    let story = g.D.Disk.story in
-    known_then (WritesNew {T = Unit {0}} beside bytes c.write_new.result) (Removes beside) (Replaces {T = Unit {0}} path beside bytes (Err e)) (story c.args.disk.now) (story c.write_new.new.self)
-    (story c.remove.new.self)
-    (λ a b d w r. then_removed path beside bytes e a b d c.requires (λ there _. other_than (rw (c.kind.ensures ∙ there) at c.if-ne.ensures)) (not_written path beside bytes c.write_new.result e a b c.requires c.in-Err.is w) r)
-    c.write_new.ensures c.remove.ensures
 
 pub returns-in-Ok : goal.returns-in-Ok
 returns-in-Ok g c =
@@ -27,22 +12,22 @@ returns-in-Ok g c =
     rw (sym c.in-Ok.is)
     (known_then (WritesNew beside bytes c.write_new.result) (Renames beside path c.rename.result) (Replaces path beside bytes c.rename.result) (story c.args.disk.now) (story c.write_new.new.self)
     (story c.rename.new.self)
-    (λ a b d w m. (then_moved path beside bytes c.write_new.result c.rename.result a b d c.requires c.in_default.is w m).1)
+    (λ a b d w m. (then_moved path beside bytes c.write_new.result c.rename.result a b d c.requires c.in_ok-write_new.was w m).1)
     c.write_new.ensures c.rename.ensures)
 
-pub returns-in-Err-rename : goal.returns-in-Err-rename
-returns-in-Err-rename g c =
+pub returns-in-Err : goal.returns-in-Err
+returns-in-Err g c =
     let path = c.args.path.now in
     let beside = c.args.beside.now in
     let bytes = c.args.bytes.now in
-    let e = c.in-Err-rename.error in
+    let e = c.in-Err.error in
     let story = g.D.Disk.story in
     let tried = known_then (WritesNew beside bytes c.write_new.result) (Renames beside path c.rename.result) (Tried path beside bytes c.rename.result) (story c.args.disk.now) (story c.write_new.new.self)
     (story c.rename.new.self)
-    (λ a b d w m. then_moved path beside bytes c.write_new.result c.rename.result a b d c.requires c.in_default.is w m)
+    (λ a b d w m. then_moved path beside bytes c.write_new.result c.rename.result a b d c.requires c.in_ok-write_new.was w m)
     c.write_new.ensures c.rename.ensures in
     known_then (Tried path beside bytes (Err e)) (Removes beside) (Replaces {T = Unit {0}} path beside bytes (Err e)) (story c.args.disk.now) (story c.rename.new.self)
-    (story c.remove-in-Err-rename.new.self)
-    (λ a b d h r. then_removed path beside bytes e a b d c.requires (λ _ some. absurd (some h.0)) h.1 r)
-    (rw c.in-Err-rename.is at tried)
-    c.remove-in-Err-rename.ensures
+    (story c.remove.new.self)
+    (λ a b d h r. then_removed path beside bytes e a b d c.requires h r)
+    (rw c.in-Err.is at tried)
+    c.remove.ensures

@@ -7,8 +7,8 @@ use Rattle.zerotrie_lines.specs.Reads.{IsValueFault}
 use Rattle.zerotrie_lines.proofs.ReadLemmas.{line_fault}
 use Rattle.zerotrie_lines.proofs.lines.read_pair.Goals as goal
 
-pub returns-in_default-clause-none : goal.returns-in_default-clause-none
-returns-in_default-clause-none c = λ h. omega (arith, h, no_place is_tab c.args.line.now c.in_default.ensures)
+pub without_tab-requires : goal.without_tab-requires
+without_tab-requires c = λ h. omega (arith, h, no_place is_tab c.args.line.now c.in_default.ensures)
 
 pub returns-in_default-parse_number-clause-none : goal.returns-in_default-parse_number-clause-none
 returns-in_default-parse_number-clause-none c =
