@@ -1,5 +1,5 @@
 -- What each command prints, what it leaves in files, and how it ends.
-use Rattle.std.specs.Prelude.{◌≡◌, ◌⊎◌, ℕ, List, Option, Some, None, IfSome, Bool, true, false, map}
+use Rattle.std.specs.Prelude.{◌≡◌, ◌≢◌, ◌⊎◌, ℕ, List, Option, Some, None, IfSome, Bool, true, false, map, codes}
 use Rattle.std.specs.Io.KnownBytes.{Appends}
 use Rattle.zerotrie_core.specs.WellFormed.{IsWellFormed}
 use Rattle.zerotrie_core.specs.Faults.{IsFirstFault}
@@ -7,7 +7,7 @@ use Rattle.zerotrie_core.specs.declared.faults.Fault.{Fault as ByteFault}
 use Rattle.zerotrie_lines.specs.Lines.{lines_of}
 use Rattle.zerotrie_any.specs.Tagged.{tagged}
 use Rattle.zerotrie_queries.specs.Kinds.{kind_of}
-use Rattle.zerotrie_queries.specs.Files.{Holds, Explains}
+use Rattle.zerotrie_queries.specs.Files.{Holds, HasNoKind, Explains}
 use Rattle.zerotrie_queries.specs.declared.kind.TrieKind.{TrieKind}
 use Rattle.zerotrie_queries.specs.declared.file.OpenError.{OpenError}
 use Rattle.zerotrie_queries.specs.Answers.{AreAnswered, AreListed}
@@ -17,8 +17,9 @@ use Rattle.zerotrie_queries.specs.code.Code.{code}
 use Rattle.zerotrie_queries.specs.views.Views.{shown}
 use Rattle.zerotrie_queries.specs.reports.Reports.{report_of}
 use Rattle.zerotrie_queries.specs.reports.Lines.{report_lines}
-use Rattle.zerotrie_files.specs.Disks.{Files, SameBeside}
-use Rattle.zerotrie_files.specs.Stores.{FilesKnown, Kept}
+use Rattle.zerotrie_files.specs.Disks as disks
+use Rattle.zerotrie_files.specs.Disks.{Files, Known}
+use Rattle.zerotrie_files.specs.Stores.{Kept}
 use Rattle.zerotrie_making.specs.Made.{IsFile}
 use Rattle.zerotrie_making.specs.Made as made
 use Rattle.zerotrie_making.specs.declared.refused.MakeError.{MakeError}
@@ -49,6 +50,11 @@ pub record World : Type 0 where
 abbrev pub Untouched : World → World → Type 0
 Untouched before after = (after.printed ≡ before.printed) × (after.files ≡ before.files)
 
+-- the place that a word names: a stream if it is a hyphen, and else the file of this path
+abbrev pub IsNamed : List ℕ → Place → Type 0
+IsNamed word (File path) = (path.now ≡ word) × (word ≢ codes "-")
+IsNamed word Stream = word ≡ codes "-"
+
 -- the bytes of a place: what its file holds, or all of standard input
 abbrev pub IsRead : Place → Option (List ℕ) → Option Files → List ℕ → Type 0
 IsRead (File path) input files bytes = IfSome files (λ held. held path.now ≡ Some bytes)
@@ -57,7 +63,7 @@ IsRead Stream input files bytes = IfSome input (λ known. bytes ≡ known)
 -- the bytes were put in a place: its file holds them and no other file has changed, or they were printed
 abbrev pub IsWritten : Place → List ℕ → World → World → Type 0
 IsWritten (File path) bytes before after = (after.printed ≡ before.printed)
-    × FilesKnown before.files after.files (λ old new. (new path.now ≡ Some bytes) × SameBeside path.now old new)
+    × Known before.files after.files (disks.Holds path.now bytes)
 IsWritten Stream bytes before after = Appends before.printed after.printed bytes × (after.files ≡ before.files)
 
 -- the keys of a question: words, or the lines of standard input
@@ -82,6 +88,10 @@ of_lines (View view) = false
 -- the bytes of this kind that a file has; they mean a map, unless they are taken for a trie without a test
 abbrev pub Opens : TrieFile → List ℕ → TrieKind → List ℕ → Type 0
 Opens file all kind bytes = Holds file.kind all kind bytes × (file.trust ≡ false → IsWellFormed (kind_of kind) bytes)
+
+-- why what a file holds is not opened: its kind is not known, or it is tested, and its bytes are no trie
+abbrev pub IsUnopened : TrieFile → List ℕ → OpenError → Type 0
+IsUnopened file all why = Explains file.kind all why × (file.trust ≡ true → HasNoKind file.kind all why)
 
 -- what was printed, and whether all was found, belong to the keys and to the map that the bytes mean, if they mean one
 abbrev pub KeysAnswered : Asked → Keys → (input : Option (List ℕ)) → TrieKind → List ℕ → (old new : Option (List ℕ)) → Bool → Type 0
@@ -111,7 +121,7 @@ HasTrie file input files = (held : List ℕ) × IsRead file.place input files he
 
 -- the file has no trie
 abbrev pub HasNoTrie : TrieFile → Option (List ℕ) → Option Files → Type 0
-HasNoTrie file input files = (held : List ℕ) × IsRead file.place input files held × (why : OpenError) × Explains file.kind held why
+HasNoTrie file input files = (held : List ℕ) × IsRead file.place input files held × (why : OpenError) × IsUnopened file held why
 
 -- the fault is the first in the bytes that a file has
 abbrev pub IsFaultIn : Option TrieKind → List ℕ → ByteFault → Type 0
@@ -121,7 +131,7 @@ IsFaultIn named held fault = (kind : TrieKind) × (bytes : List ℕ) × Holds na
 abbrev pub IsUnanswered : TrieFile → List ℕ → (old new : Option (List ℕ)) → AskError → Type 0
 IsUnanswered file held old new ask.TwoInputs = ⊥
 IsUnanswered file held old new (ask.Unread e) = ⊥
-IsUnanswered file held old new (ask.NoTrie why fault) = Explains file.kind held why × (new ≡ old) × IfSome fault (IsFaultIn file.kind held)
+IsUnanswered file held old new (ask.NoTrie why fault) = IsUnopened file held why × (new ≡ old) × IfSome fault (IsFaultIn file.kind held)
 IsUnanswered file held old new (ask.Unanswered e) = (kind : TrieKind) × (bytes : List ℕ) × Opens file held kind bytes
 
 -- How a question to the trie of a file ends. The answer was printed, and all was found or not; the file and the keys are
@@ -157,7 +167,7 @@ IsRefused build input before after status = (all : List ℕ) × IsRead build.fro
 
 -- after a fault the file of a place holds what it held; of what was printed to a stream nothing is known
 abbrev pub IsKept : Place → World → World → Type 0
-IsKept (File path) before after = (after.printed ≡ before.printed) × FilesKnown before.files after.files (Kept path.now)
+IsKept (File path) before after = (after.printed ≡ before.printed) × Known before.files after.files (Kept path.now)
 IsKept Stream before after = after.files ≡ before.files
 
 -- the input makes a file
@@ -193,6 +203,11 @@ IsDoubtful file input files = (held : List ℕ) × IsRead file.place input files
 abbrev pub TellsNumber : Command → Option (List ℕ) → Option Files → Type 0
 TellsNumber (commands.Build build) input files = ⊥
 TellsNumber (commands.Ask file question) input files = IsDoubtful file input files
+
+-- a command reads standard input
+abbrev pub ReadsInput : Command → Type 0
+ReadsInput (commands.Build build) = build.from ≡ Stream
+ReadsInput (commands.Ask file question) = (file.place ≡ Stream) ⊎ (of_lines question ≡ true)
 
 -- whether the steps of a command are told
 abbrev pub tells_steps : Command → Bool

@@ -1,9 +1,8 @@
 //! A question to the trie of a file.
 
-ghost use Rattle.std.specs.Prelude.{◌≡◌, ◌↔◌, ℕ, List, true, Ok, IfOk, IfErr, IfSome, IsTrue};
-ghost use Rattle.zerotrie_queries.specs.Files.{Explains};
+ghost use Rattle.std.specs.Prelude.{◌≡◌, ◌↔◌, ◌⊎◌, ℕ, List, true, false, Ok, IfOk, IfErr, IfSome, IsTrue};
 ghost use Rattle.zerotrie_queries.specs.declared.kind.TrieKind.{TrieKind};
-ghost use Rattle.zerotrie_run.specs.Runs.{Opens, KeysAnswered, Answers, IsAsked, RunsAsk, IsUnanswered, IsDoubtful, IsFaultIn, ask_status, of_lines};
+ghost use Rattle.zerotrie_run.specs.Runs.{Opens, IsUnopened, KeysAnswered, Answers, IsAsked, RunsAsk, IsUnanswered, IsDoubtful, IsFaultIn, ask_status, are_lines, of_lines};
 ghost use Rattle.zerotrie_run.specs.declared.command.Place.TheVariants.{Stream};
 
 use crate::command::{Keys, Place, Question, TrieFile};
@@ -70,7 +69,7 @@ fn reads_twice(place: Place<'_>, question: Question<'_>) -> bool
 /// The trie in what a file holds. It is tested, unless it is to be trusted.
 fn open<'a>(file: TrieFile<'_>, held: &'a [u8]) -> Result<Trie<'a>, OpenError>
     ensures ok { IfOk result (λ trie. Opens file.entry held.now trie.kind trie.bytes.now) }
-    ensures err { IfErr result (λ why. Explains file.entry.kind held.now why) }
+    ensures err { IfErr result (IsUnopened file.entry held.now) }
 {
     if file.trust {
         Trie::open_untested(file.kind, held)
@@ -96,8 +95,9 @@ fn answer_keys<R: Read, W: Write>(
     input: &mut R,
     output: &mut W,
 ) -> Result<bool, AnswerError>
-    ensures { IfOk result (KeysAnswered asked keys.entry (R.remaining input.old)
+    ensures answered { IfOk result (KeysAnswered asked keys.entry (R.remaining input.old)
         trie.now.kind trie.now.bytes.now (W.contents output.old) (W.contents output.new)) }
+    ensures unread { are_lines keys.entry ≡ false → input.new ≡ input.old }
 {
     match keys {
         Keys::Words(words) => Ok(write_answers(alloc, trie, asked, words, output)?),
@@ -113,8 +113,9 @@ fn answer<R: Read, W: Write>(
     input: &mut R,
     output: &mut W,
 ) -> Result<bool, AnswerError>
-    ensures { IfOk result (Answers question.entry (R.remaining input.old)
+    ensures answered { IfOk result (Answers question.entry (R.remaining input.old)
         trie.now.kind trie.now.bytes.now (W.contents output.old) (W.contents output.new)) }
+    ensures unread { of_lines question.entry ≡ false → input.new ≡ input.old }
 {
     match question {
         Question::Get(keys) => answer_keys(alloc, trie, Asked::Value, keys, input, output),
@@ -153,6 +154,7 @@ fn answer_held<R: Read, W: Write>(
         (W.contents output.old) (W.contents output.new) all) }
     ensures err { IfErr result (IsUnanswered file.entry held.now
         (W.contents output.old) (W.contents output.new)) }
+    ensures unread { of_lines question.entry ≡ false → input.new ≡ input.old }
 {
     let trie = match open(file, held) {
         Ok(trie) => trie,
@@ -181,6 +183,8 @@ pub fn ask<F: Store, R: Read, W: Write, M: Write>(
         (F.files files.now) (W.contents output.old) (W.contents output.new) (ask_status e)) }
     ensures quiet { (IsDoubtful file.entry (R.remaining input.old) (F.files files.now) → ⊥)
         → messages.new ≡ messages.old }
+    ensures unread { ((file.entry.place ≡ Stream) ⊎ (of_lines question.entry ≡ true) → ⊥)
+        → input.new ≡ input.old }
 {
     if reads_twice(file.place, question) {
         return Err(AskError::TwoInputs);

@@ -2,6 +2,7 @@
 
 ghost use Rattle.std.specs.Prelude.{◌≡◌, false, IfErr, OnOk};
 ghost use Rattle.zerotrie_run.specs.Runs.{World, IsMade, RunsBuild, build_status};
+ghost use Rattle.zerotrie_run.specs.declared.command.Place.TheVariants.{Stream};
 
 use crate::command::Build;
 use crate::messages::{tell_made, tell_read, tell_written};
@@ -52,6 +53,7 @@ pub fn build<F: Store, R: Read, W: Write, M: Write>(
         (record { files = F.files files.old; printed = W.contents output.old })
         (record { files = F.files files.new; printed = W.contents output.new }) (build_status e)) }
     ensures quiet { build.entry.progress ≡ false → messages.new ≡ messages.old }
+    ensures unread { (build.entry.from ≡ Stream → ⊥) → input.new ≡ input.old }
 {
     let held = match read_place(alloc, build.from, files, input) {
         Ok(held) => held,

@@ -1,5 +1,7 @@
 //! What the program can be asked to do.
 
+ghost use Rattle.zerotrie_run.specs.Runs.{IsNamed};
+
 use zerotrie_making::Plan;
 use zerotrie_queries::{Form, Language, TrieKind, View};
 
@@ -14,7 +16,9 @@ pub enum Place<'a> {
 
 impl<'a> Place<'a> {
     /// The place that a word names: a file, or a stream if it is `-`.
-    pub fn named(word: &'a str) -> Self {
+    pub fn named(word: &'a str) -> Self
+        ensures { IsNamed word.now result }
+    {
         if word == "-" {
             Place::Stream
         } else {

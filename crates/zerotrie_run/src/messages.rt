@@ -136,6 +136,12 @@ fn are_same(shown: &Shown) -> bool {
     shown.first.key.as_slice() == shown.second.key.as_slice()
 }
 
+/// Whether they are the same but for the case of letters.
+fn are_same_without_case(shown: &Shown) -> bool {
+    let key = shown.first.key.as_slice();
+    key.eq_ignore_ascii_case(shown.second.key.as_slice())
+}
+
 /// Adds why keys are refused together.
 fn add_reason(text: &mut Vec<u8>, unit: &str, shown: &Shown) -> io::Result<()> {
     let first = shown.first.number;
@@ -151,6 +157,10 @@ fn add_reason(text: &mut Vec<u8>, unit: &str, shown: &Shown) -> io::Result<()> {
         ZeroTrieBuildError::NonAsciiError => write!(
             text,
             "{unit} {first}: its key is not ASCII; take --kind hash or --kind ext: "
+        ),
+        _ if are_same_without_case(shown) => write!(
+            text,
+            "{unit}s {first} and {second}: their keys differ only in case, so they are one key to the kind; leave one out: "
         ),
         _ => write!(
             text,

@@ -1,7 +1,7 @@
 //! The program over files and streams.
 
 ghost use Rattle.std.specs.Prelude.{◌≡◌, ◌⊎◌, false};
-ghost use Rattle.zerotrie_run.specs.Runs.{World, Runs, TellsNumber, tells_steps};
+ghost use Rattle.zerotrie_run.specs.Runs.{World, Runs, TellsNumber, ReadsInput, tells_steps};
 ghost use Rattle.zerotrie_run.specs.declared.status.Status.TheVariants.{Done, Absent};
 
 use crate::asking::ask;
@@ -18,6 +18,7 @@ use zerotrie_files::Store;
 /// What is printed is that of the command, the files and the input, and what is left in files too; see `Runs`. A message
 /// that can't be written is lost, and the status tells alone. If all went well, there is none but the steps of a build,
 /// if they were asked for, and a note on a file that is read as bare bytes though it begins with the number of a kind.
+/// Standard input is left alone unless the command reads it.
 pub fn run<F: Store, R: Read, W: Write, M: Write>(
     alloc: Global,
     command: Command<'_>,
@@ -32,6 +33,7 @@ pub fn run<F: Store, R: Read, W: Write, M: Write>(
     ensures quiet { tells_steps command.entry ≡ false
         → (TellsNumber command.entry (R.remaining input.old) (F.files files.old) → ⊥)
         → (result ≡ Done) ⊎ (result ≡ Absent) → messages.new ≡ messages.old }
+    ensures unread { (ReadsInput command.entry → ⊥) → input.new ≡ input.old }
 {
     match command {
         Command::Build(plan) => match build(alloc, plan, files, input, output, messages) {

@@ -1,5 +1,5 @@
 use Rattle.std.proofs.Common.{map, refl}
 use Rattle.zerotrie_run.proofs.asking.answer_keys.Goals as goal
 
-pub returns-in_ok-write_answers-in-Words : goal.returns-in_ok-write_answers-in-Words
-returns-in_ok-write_answers-in-Words g c = rw c.in-Words.is (map (λ word. word.now) c.in-Words.words.now, refl, c.in_ok-write_answers-in-Words.ensures)
+pub returns-in_ok-write_answers-in-Words-clause-answered : goal.returns-in_ok-write_answers-in-Words-clause-answered
+returns-in_ok-write_answers-in-Words-clause-answered g c = rw c.in-Words.is (map (λ word. word.now) c.in-Words.words.now, refl, c.in_ok-write_answers-in-Words.ensures)
