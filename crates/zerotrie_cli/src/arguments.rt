@@ -112,3 +112,11 @@ pub fn command<'a>(alloc: Global) -> Result<Command<'a>, AllocError> {
 pub fn place_in<'a>(matches: &ArgMatches<'a>, name: &str) -> Place<'a> {
     Place::named(matches.get_str(name).unwrap_or("-"))
 }
+
+/// The place that an argument names, which is read. A path of standard input is that stream, so that it is not read twice.
+pub fn source_in<'a>(matches: &ArgMatches<'a>, name: &str) -> Place<'a> {
+    match matches.get_str(name) {
+        Some("/dev/stdin" | "/dev/fd/0") => Place::Stream,
+        _ => place_in(matches, name),
+    }
+}

@@ -1,6 +1,6 @@
 //! The build that the command line asks for.
 
-use crate::arguments::place_in;
+use crate::arguments::{place_in, source_in};
 use clap::ArgMatches;
 use zerotrie_lines::Format;
 use zerotrie_making::{Plan, Source};
@@ -34,7 +34,7 @@ fn target_in<'a>(matches: &ArgMatches<'a>) -> Place<'a> {
 /// The build that is asked for. Its steps are told if that was asked for, or if messages go to a terminal.
 pub fn build_in<'a>(matches: &ArgMatches<'a>, to_terminal: bool) -> Build<'a> {
     Build {
-        from: place_in(matches, "IN"),
+        from: source_in(matches, "IN"),
         to: target_in(matches),
         plan: plan_in(matches),
         progress: to_terminal || matches.get_flag("progress"),

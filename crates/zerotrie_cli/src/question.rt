@@ -1,6 +1,6 @@
 //! The questions to a trie that the command line asks.
 
-use crate::arguments::place_in;
+use crate::arguments::source_in;
 use crate::keywords::is_taken;
 use clap::ArgMatches;
 use std::alloc::{AllocError, Global};
@@ -10,7 +10,7 @@ use zerotrie_run::{Keys, Question, TrieFile};
 /// The file of the trie that is asked.
 pub fn file_in<'a>(matches: &ArgMatches<'a>) -> TrieFile<'a> {
     TrieFile {
-        place: place_in(matches, "FILE"),
+        place: source_in(matches, "FILE"),
         kind: matches.get_str("kind").and_then(TrieKind::named),
         trust: matches.get_flag("trust"),
     }

@@ -32,17 +32,17 @@ Reads Lines input pairs = ReadsLines Lines 1 (lines_of input) pairs
 Reads Tsv input pairs = ReadsLines Tsv 1 (lines_of input) pairs
 Reads Csv input pairs = (rows : List Fields) × AreRowsOf input rows × ArePairRecords rows pairs
 
--- a text ends in a carriage return
-abbrev pub EndsInReturn : List ℕ → Type 0
-EndsInReturn text = (front : List ℕ) × (text ≡ front ++ 13 ∷ [])
+-- a text is a number with a carriage return after it
+abbrev pub HasReturn : List ℕ → Type 0
+HasReturn text = (front : List ℕ) × (value : ℕ) × (text ≡ front ++ 13 ∷ []) × IsNumber front value
 
--- what is wrong with what stands for a value and is no number: a carriage return at its end, or something else
+-- what is wrong with what stands for a value and is no number: a carriage return after one, or something else
 abbrev pub IsValueFault : List ℕ → BadLine → Type 0
 IsValueFault digits bad.Empty = ⊥
 IsValueFault digits bad.NoTab = ⊥
 IsValueFault digits bad.Escape = ⊥
-IsValueFault digits bad.Number = EndsInReturn digits → ⊥
-IsValueFault digits bad.CarriageReturn = EndsInReturn digits
+IsValueFault digits bad.Number = HasReturn digits → ⊥
+IsValueFault digits bad.CarriageReturn = HasReturn digits
 IsValueFault digits bad.Fields = ⊥
 
 -- what stands after the tab of a line is no number, for this fault

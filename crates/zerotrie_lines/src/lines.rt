@@ -1,11 +1,11 @@
 //! Lines, and the pairs that they are.
 
-ghost use Rattle.std.specs.Prelude.{◌≡◌, ◌≢◌, ◌++◌, ◌∷◌, ℕ, List, [], map, true, false, IfOk, IfSome, IfNone, OnOk};
+ghost use Rattle.std.specs.Prelude.{◌≡◌, ◌≢◌, ◌++◌, ◌∷◌, ℕ, List, [], map, true, false, IfOk, IfSome, IfNone, OnOk, IsTrue};
 ghost use Rattle.std.specs.List.{before_first, after_first};
 ghost use Rattle.zerotrie_lines.specs.Tables.{Pair};
 ghost use Rattle.zerotrie_lines.specs.Escapes.{Spells};
 ghost use Rattle.zerotrie_lines.specs.Lines.{is_feed, lines_of, HasTab, IsPairLine, tsv_line};
-ghost use Rattle.zerotrie_lines.specs.Reads.{IsLineFault, IsValueFault};
+ghost use Rattle.zerotrie_lines.specs.Reads.{IsLineFault, HasReturn, IsValueFault};
 
 use crate::escapes::{unescape, write_escaped};
 use crate::fault::BadLine;
@@ -72,13 +72,25 @@ fn add_spelled(
     }
 }
 
-/// Why what stands for a value is no number: a carriage return at its end, or what else it has.
+/// Whether a text is a number with a carriage return after it.
+fn has_return(text: &[u8]) -> bool
+    ensures yes { IsTrue result → HasReturn text.now }
+    ensures no { result ≡ false → HasReturn text.now → ⊥ }
+{
+    let Some((b'\r', front)) = text.split_last() else {
+        return false;
+    };
+    parse_number(front).is_some()
+}
+
+/// Why what stands for a value is no number: a carriage return after one, or what else it has.
 fn bad_number(digits: &[u8]) -> BadLine
     ensures { IsValueFault digits.now result }
 {
-    match digits.last() {
-        Some(b'\r') => BadLine::CarriageReturn,
-        _ => BadLine::Number,
+    if has_return(digits) {
+        BadLine::CarriageReturn
+    } else {
+        BadLine::Number
     }
 }
 

@@ -256,6 +256,10 @@ fn refusal(alloc: Global, path: &str, source: Source, error: &MakeError) -> io::
             text,
             "the trie would be too long for its kind: take --kind ext, or fewer pairs"
         )?,
+        MakeError::Refused(ZeroTrieBuildError::CouldNotSolvePerfectHash) => write!(
+            text,
+            "no hashed table was found for the bytes that keys go on with at some place, as happens with keys of random bytes: take --kind simple if all keys are ASCII, or change a key"
+        )?,
         MakeError::Refused(error) => write!(text, "{error}")?,
         MakeError::OutOfMemory => write!(text, "out of memory")?,
     }
