@@ -1,5 +1,6 @@
 mod ArrayLemmas
 mod Building
+mod Filling
 mod Items
 mod MeasureLemmas
 mod Nodes

@@ -1,8 +1,8 @@
 -- Words of the sort and of the two passes.
 pub mod Windows
 pub mod Measured
-pub mod Zeros
 pub mod Writing
+pub mod Writes
 pub mod Walking
 pub mod Sorts
 pub mod OtherCase

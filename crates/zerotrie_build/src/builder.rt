@@ -66,10 +66,12 @@ fn build_ordered<
     laws::canonical_exactly();
     laws::meant_fits();
     let measured = measure_all::<K, I, A>(spare, items, ascii)?;
-    let mut writing: Writing<S> = Writing::new(alloc, measured.len)?;
+    let mut writing = Writing::new(alloc, measured.len)?;
     let mut layout = Layout::new(alloc, spare, items.len())?;
     writing.put_pending::<K, I, A>(items, WriteInput::new(&measured, ascii), &mut layout)?;
-    Ok(writing.into_data())
+    let mut store = S::atbs_new_empty(alloc);
+    store.atbs_fill(writing.into_bytes())?;
+    Ok(store)
 }
 
 /// The bytes of the trie of items in any order, which are put in the order of the kind.

@@ -50,6 +50,25 @@ pub trait TrieBuilderStore: Sized {
         ensures { list self.new ≡ slice_set (list self.old) index
             (bit_or (slice_index (list self.old) index) bits) };
 
+    /// Takes in all of these bytes, if there are none so far. The list grows once, and then each byte is set at its place,
+    /// from the first to the last. A store that keeps a `Vec` can take this one as it is.
+    ///
+    /// ```
+    /// let mut store: VecDeque<u8> = TrieBuilderStore::atbs_new_empty(rt.alloc());
+    /// store.atbs_fill(Vec::from_slice(rt.alloc(), b"abc")?)?;
+    /// assert_eq!(rt; store.atbs_to_bytes(rt.alloc())?.as_slice(), b"abc".as_slice());
+    /// ```
+    fn atbs_fill(&mut self, bytes: Vec<u8>) -> Result<(), AllocError>
+        requires { list self.old ≡ [] }
+        ensures { OnOk result (list self.new ≡ bytes.items) }
+    {
+        self.atbs_prepend_n_zeros(bytes.len())?;
+        for index in 0..bytes.len() {
+            self.atbs_bitor_assign(index, bytes[index]);
+        }
+        Ok(())
+    }
+
     /// Takes the first byte off and answers it.
     fn atbs_pop_front(&mut self) -> u8
         requires { 0 < length (list self.old) }
@@ -163,6 +182,11 @@ impl TrieBuilderStore for VecDeque<u8> {
 
     fn atbs_bitor_assign(&mut self, index: usize, bits: u8) {
         self[index] |= bits;
+    }
+
+    fn atbs_fill(&mut self, bytes: Vec<u8>) -> Result<(), AllocError> {
+        *self = VecDeque::from_vec(bytes);
+        Ok(())
     }
 
     fn atbs_pop_front(&mut self) -> u8 {

@@ -1,6 +1,6 @@
 //! The second pass: the bytes of the text, from the first to the last.
 
-ghost use Rattle.std.specs.Prelude.{◌≡◌, ◌≢◌, ℕ, List, [], ◌∷◌, ◌+◌, ◌-◌, ◌*◌, ◌/◌, ◌%◌, ◌^◌, ◌<◌, ◌≤◌, ◌++◌, length, map, replicate, slice_index, slice_index_or, take, drop, reverse, All, IfOk, OnOk, IfErr, IfSome, IfNone, IsTrue};
+ghost use Rattle.std.specs.Prelude.{vec_capacity, ◌≡◌, ◌≢◌, ℕ, List, [], ◌∷◌, ◌+◌, ◌-◌, ◌*◌, ◌/◌, ◌%◌, ◌^◌, ◌<◌, ◌≤◌, ◌++◌, length, map, replicate, slice_index, slice_index_or, take, drop, reverse, All, IfOk, OnOk, IfErr, IfSome, IfNone, IsTrue};
 ghost use Rattle.zerotrie_core.specs.Maps.{map_of};
 ghost use Rattle.zerotrie_core.specs.Numbers.{value_form, span_form, SpellsAs, spelled_as};
 ghost use Rattle.zerotrie_core.specs.Branches.{total as total_of, ends, blocks, branch_front};
@@ -11,14 +11,12 @@ ghost use Rattle.zerotrie_core.specs.plain.Encoding.{with_bits};
 ghost use Rattle.zerotrie_build.specs.Order.{Ordered, AreKeys, AreAsciiKeys};
 ghost use Rattle.zerotrie_build.specs.passes.Windows.{window as window_of, item_no, step_of};
 ghost use Rattle.zerotrie_build.specs.passes.Measured.{NoneFirst, HasFirstTargets, IsMeasured};
-ghost use Rattle.zerotrie_build.specs.passes.Zeros.{WritesNext};
-ghost use Rattle.zerotrie_build.specs.passes.Writing.{IsLead, spelled_with_bits, target_lens, HasSlotsTo, position_at, IsPending, FrontWritten, NodesWritten, WrittenTo};
+ghost use Rattle.zerotrie_build.specs.passes.Writing.{IsLead, spelled_with_bits, target_lens, HasSlotsTo, position_at, IsPending};
 
 use crate::branch_layout::{Layout, Next, PendingWindow, Position, WriteInput};
 use crate::indexed::IndexedItems;
 use crate::leaf::ascii_leaf;
 use crate::measuring::width_of;
-use crate::store::TrieBuilderStore;
 use crate::windows::{Step, Window, first_step, literals_end};
 use std::alloc::{AllocError, Allocator, Global};
 use zerotrie_core::{
@@ -34,63 +32,60 @@ const SPAN: u8 = 0b1010_0000;
 /// The bits of the lead of a branch.
 pub(crate) const BRANCH: u8 = 0b1100_0000;
 
-/// A store whose first `at` bytes are written. The others are zeros.
+/// A text that is written from its first byte on, in room for all of it.
 #[derive(Drop)]
-pub(crate) struct Writing<S> {
-    pub(crate) data: S,
-    pub(crate) at: usize,
+pub(crate) struct Writing {
+    bytes: Vec<u8>,
+    /// How many bytes the text has in the end.
+    len: usize,
+    ghost room: { len ≤ vec_capacity bytes },
 }
 
-impl<S: TrieBuilderStore + Drop> Writing<S> {
-    /// A store of this many zeros.
+impl Writing {
+    ghost use Rattle.zerotrie_build.specs.passes.Writes.{HasRoom, Writes, FrontWritten, NodesWritten, WrittenTo};
+
+    /// Room for a text of this many bytes.
     pub(crate) fn new(alloc: Global, len: usize) -> Result<Self, AllocError>
-        ensures zeros { IfOk result (λ w. S.list w.data ≡ replicate len 0) }
-        ensures at { IfOk result (λ w. w.at ≡ 0) }
+        ensures empty { IfOk result (λ w. w.bytes.items ≡ []) }
+        ensures len { IfOk result (λ w. w.len ≡ len) }
     {
-        let mut data = S::atbs_new_empty(alloc);
-        data.atbs_prepend_n_zeros(len)?;
-        Ok(Writing { data, at: 0 })
+        let bytes = Vec::with_capacity(alloc, len)?;
+        Ok(Writing { bytes, len })
     }
 
-    /// The store.
-    pub(crate) fn into_data(self) -> S
-        ensures is { S.list result ≡ S.list self.data }
-        ensures room { length (S.list result) < 2 ^ 64 }
+    /// The bytes that are written.
+    pub(crate) fn into_bytes(self) -> Vec<u8>
+        ensures is { result.items ≡ self.bytes.items }
+        ensures short { length result.items < 2 ^ 64 }
     {
-        let Writing { data, at: _ } = self;
-        // That a length is below 2^64 tells the proof that so is that of the text.
-        let _len = data.atbs_len();
-        data
+        let Writing { bytes, len: _ } = self;
+        bytes
     }
 
     /// Writes a byte.
     #[inline(always)]
     fn put(&mut self, byte: u8)
-        requires { self.old.at < length (S.list self.old.data) }
-        ensures { WritesNext S.list self.old self.new (byte ∷ []) }
+        requires { HasRoom self.old 1 }
+        ensures { Writes self.old self.new (byte ∷ []) }
     {
-        // That a length is below 2^64 tells the proof that so is the place after it.
-        let _len = self.data.atbs_len();
-        self.data.atbs_bitor_assign(self.at, byte);
-        self.at += 1;
+        self.bytes.push_reserved(byte);
     }
 
     /// Writes bytes.
     #[inline(always)]
     fn put_all(&mut self, bytes: &[u8])
-        requires { self.old.at + length bytes.now ≤ length (S.list self.old.data) }
-        ensures { WritesNext S.list self.old self.new bytes.now }
+        requires { HasRoom self.old (length bytes.now) }
+        ensures { Writes self.old self.new bytes.now }
     {
-        for byte in bytes {
-            self.put(*byte);
-        }
+        // As there is room, no memory is taken, and none can be refused.
+        let _ = self.bytes.extend_from_slice(bytes);
     }
 
     /// Writes a spelling, with these bits added to its lead.
     fn put_spelling(&mut self, bits: u8, spelling: &[u8])
-        requires room { self.old.at + length spelling.now ≤ length (S.list self.old.data) }
+        requires room { HasRoom self.old (length spelling.now) }
         requires bits { bits + slice_index spelling.now 0 < 256 }
-        ensures { WritesNext S.list self.old self.new (with_bits bits spelling.now) }
+        ensures { Writes self.old self.new (with_bits bits spelling.now) }
     {
         if let Some((lead, trail)) = spelling.split_first() {
             self.put(bits + *lead);
@@ -101,9 +96,8 @@ impl<S: TrieBuilderStore + Drop> Writing<S> {
     /// Writes a number of any length, in the form whose shortest number of two bytes is `latent`.
     fn put_long(&mut self, bits: u8, latent: u8, number: usize)
         requires form { IsLead bits latent }
-        requires room { self.old.at + length (spelled_with_bits bits latent number)
-            ≤ length (S.list self.old.data) }
-        ensures { WritesNext S.list self.old self.new (spelled_with_bits bits latent number) }
+        requires room { HasRoom self.old (length (spelled_with_bits bits latent number)) }
+        ensures { Writes self.old self.new (spelled_with_bits bits latent number) }
     {
         if latent == 16 {
             self.put_spelling(bits, &write_varint_meta3(number));
@@ -117,9 +111,8 @@ impl<S: TrieBuilderStore + Drop> Writing<S> {
     #[inline(always)]
     fn put_number(&mut self, bits: u8, latent: u8, number: usize)
         requires form { IsLead bits latent }
-        requires room { self.old.at + length (spelled_with_bits bits latent number)
-            ≤ length (S.list self.old.data) }
-        ensures { WritesNext S.list self.old self.new (spelled_with_bits bits latent number) }
+        requires room { HasRoom self.old (length (spelled_with_bits bits latent number)) }
+        ensures { Writes self.old self.new (spelled_with_bits bits latent number) }
     {
         let least = latent as usize;
         if number < least {
@@ -140,9 +133,8 @@ impl<S: TrieBuilderStore + Drop> Writing<S> {
     fn put_large(&mut self, bits: u8, latent: u8, number: usize)
         requires form { IsLead bits latent }
         requires large { latent + 128 * latent ≤ number }
-        requires room { self.old.at + length (spelled_with_bits bits latent number)
-            ≤ length (S.list self.old.data) }
-        ensures { WritesNext S.list self.old self.new (spelled_with_bits bits latent number) }
+        requires room { HasRoom self.old (length (spelled_with_bits bits latent number)) }
+        ensures { Writes self.old self.new (spelled_with_bits bits latent number) }
     {
         let least = latent as usize;
         let low = number - least;
@@ -161,9 +153,8 @@ impl<S: TrieBuilderStore + Drop> Writing<S> {
     fn put_larger(&mut self, bits: u8, latent: u8, number: usize)
         requires form { IsLead bits latent }
         requires larger { latent + 128 * (latent + 128 * latent) ≤ number }
-        requires room { self.old.at + length (spelled_with_bits bits latent number)
-            ≤ length (S.list self.old.data) }
-        ensures { WritesNext S.list self.old self.new (spelled_with_bits bits latent number) }
+        requires room { HasRoom self.old (length (spelled_with_bits bits latent number)) }
+        ensures { Writes self.old self.new (spelled_with_bits bits latent number) }
     {
         let least = latent as usize;
         let low = number - least;
@@ -182,9 +173,8 @@ impl<S: TrieBuilderStore + Drop> Writing<S> {
     /// Writes a value node.
     #[inline(always)]
     fn put_value(&mut self, value: usize)
-        requires { self.old.at + length (spelled_as value_form value)
-            ≤ length (S.list self.old.data) }
-        ensures puts { WritesNext S.list self.old self.new (spelled_as value_form value) }
+        requires { HasRoom self.old (length (spelled_as value_form value)) }
+        ensures puts { Writes self.old self.new (spelled_as value_form value) }
         ensures spells { SpellsAs value_form value (spelled_as value_form value) }
     {
         self.put_number(VALUE, 16, value);
@@ -196,8 +186,8 @@ impl<S: TrieBuilderStore + Drop> Writing<S> {
         requires item { window.from < length (I.pairs items) }
         requires order { window.depth ≤ end }
         requires within { end ≤ length (item_no (I.pairs items) window.from).0 }
-        requires room { self.old.at + (end - window.depth) ≤ length (S.list self.old.data) }
-        ensures { WritesNext S.list self.old self.new (take (end - window.depth)
+        requires room { HasRoom self.old (end - window.depth) }
+        ensures { Writes self.old self.new (take (end - window.depth)
             (drop window.depth (item_no (I.pairs items) window.from).0)) }
     {
         let (key, _) = items.get(window.from);
@@ -209,9 +199,8 @@ impl<S: TrieBuilderStore + Drop> Writing<S> {
     fn put_span<'a, I: IndexedItems<'a>>(&mut self, items: I, window: Window, run: usize)
         requires item { window.from < length (I.pairs items) }
         requires run { window.depth + run ≤ length (item_no (I.pairs items) window.from).0 }
-        requires room { self.old.at + (length (spelled_as span_form run) + run)
-            ≤ length (S.list self.old.data) }
-        ensures puts { WritesNext S.list self.old self.new (spelled_as span_form run ++ take run
+        requires room { HasRoom self.old (length (spelled_as span_form run) + run) }
+        ensures puts { Writes self.old self.new (spelled_as span_form run ++ take run
             (drop window.depth (item_no (I.pairs items) window.from).0)) }
         ensures spells { SpellsAs span_form run (spelled_as span_form run) }
     {
@@ -226,8 +215,8 @@ impl<S: TrieBuilderStore + Drop> Writing<S> {
         requires place { place < 8 }
         requires within { All (λ i. i < length lens.now) numbers.now }
         requires small { total_of (target_lens lens.now numbers.now) < 2 ^ 64 }
-        requires room { self.old.at + (length numbers.now - 1) ≤ length (S.list self.old.data) }
-        ensures { WritesNext S.list self.old self.new
+        requires room { HasRoom self.old (length numbers.now - 1) }
+        ensures { Writes self.old self.new
             (map (λ o. o / 256 ^ place % 256) (ends (target_lens lens.now numbers.now))) }
     {
         let mut end = 0;
@@ -244,9 +233,8 @@ impl<S: TrieBuilderStore + Drop> Writing<S> {
         requires bytes { bytes ≤ 8 }
         requires within { All (λ i. i < length lens.now) numbers.now }
         requires small { total_of (target_lens lens.now numbers.now) < 2 ^ 64 }
-        requires room { self.old.at + bytes * (length numbers.now - 1)
-            ≤ length (S.list self.old.data) }
-        ensures { WritesNext S.list self.old self.new
+        requires room { HasRoom self.old (bytes * (length numbers.now - 1)) }
+        ensures { Writes self.old self.new
             (blocks bytes (ends (target_lens lens.now numbers.now))) }
     {
         for place in (0..bytes).rev() {
@@ -259,10 +247,8 @@ impl<S: TrieBuilderStore + Drop> Writing<S> {
     fn put_branch(&mut self, table: &[u8], lens: &[usize], numbers: &[usize])
         requires within { All (λ i. i < length lens.now) numbers.now }
         requires small { total_of (target_lens lens.now numbers.now) < 2 ^ 64 }
-        requires room { self.old.at
-            + length (branch_front table.now (target_lens lens.now numbers.now))
-            ≤ length (S.list self.old.data) }
-        ensures { WritesNext S.list self.old self.new
+        requires room { HasRoom self.old (length (branch_front table.now (target_lens lens.now numbers.now))) }
+        ensures { Writes self.old self.new
             (branch_front table.now (target_lens lens.now numbers.now)) }
     {
         let width = width_of(total(lens, numbers));
@@ -281,10 +267,9 @@ impl<S: TrieBuilderStore + Drop> Writing<S> {
         requires keys { AreKeys K.kind (I.pairs items) }
         requires known { (targets : List Window)
             × HasFirstTargets K.kind (I.pairs items) window targets }
-        requires room { self.old.at + size_of K.kind (window_of (I.pairs items) window)
-            ≤ length (S.list self.old.data) }
+        requires room { HasRoom self.old (size_of K.kind (window_of (I.pairs items) window)) }
         ensures front { FrontWritten K.kind (I.pairs items) window result
-            (S.list self.old.data) self.old.at (S.list self.new.data) self.new.at }
+            self.old self.new }
         ensures stops { NoneFirst K.kind (I.pairs items) result }
         ensures room { step_of K.kind (I.pairs items) result ≡ Step.Branch
             → result.depth + 1 < 2 ^ 64 }
@@ -326,12 +311,11 @@ impl<S: TrieBuilderStore + Drop> Writing<S> {
         requires ordered { Ordered K.kind (I.pairs items) }
         requires kept { (end : ℕ)
             × HasSlotsTo K.kind (I.pairs items) input.slots.now slot end window }
-        requires room { self.old.at + size_of K.kind (window_of (I.pairs items) window)
-            ≤ length (S.list self.old.data) }
+        requires room { HasRoom self.old (size_of K.kind (window_of (I.pairs items) window)) }
         ensures put { OnOk result ((next : List Next) × (reverse layout.new.pending.items
             ≡ next ++ reverse layout.old.pending.items)
             × NodesWritten K.kind (I.pairs items) input.entry.slots.now slot window next
-            (S.list self.old.data) self.old.at (S.list self.new.data) self.new.at) }
+            self.old self.new) }
         ensures refused { IfErr result (λ e. e ≢ ZeroTrieBuildError.OutOfMemory
             → (e ≡ ZeroTrieBuildError.CouldNotSolvePerfectHash) × Cause K.kind (I.pairs items) e) }
     {
@@ -363,11 +347,11 @@ impl<S: TrieBuilderStore + Drop> Writing<S> {
         requires ascii { IsTrue input.ascii → AreAsciiKeys (I.pairs items) }
         requires ordered { Ordered K.kind (I.pairs items) }
         requires pending { (ws : List Window)
-            × WrittenTo K.kind (I.pairs items) (S.list self.old.data) self.old.at ws
+            × WrittenTo K.kind (I.pairs items) self.old ws
             × IsPending K.kind (I.pairs items) input.slots.now (position_at 0 0)
             (reverse layout.old.pending.items) ws }
         ensures put { OnOk result (WrittenTo K.kind (I.pairs items)
-            (S.list self.new.data) self.new.at []) }
+            self.new []) }
         ensures refused { IfErr result (λ e. e ≢ ZeroTrieBuildError.OutOfMemory
             → (e ≡ ZeroTrieBuildError.CouldNotSolvePerfectHash) × Cause K.kind (I.pairs items) e) }
     {

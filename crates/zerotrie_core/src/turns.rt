@@ -22,6 +22,9 @@ const TOGETHER: usize = 64;
 /// How many turns each has before it is brought to its end alone.
 const TURNS: usize = 16;
 
+/// How many bytes memory gives at once.
+const LINE: usize = 64;
+
 /// A look-up under way: the bytes and the key that it is of, and where it has come to.
 #[derive(Drop)]
 struct LookUp<'a, K: ZeroTrieWithOptions> {
@@ -87,13 +90,16 @@ impl<'a, K: ZeroTrieWithOptions> LookUp<'a, K> {
 
     /// Whether the look-up is not at its end: there are bytes, and the key has some left or no value comes.
     ///
-    /// The first of the bytes is read whatever is left of the key, so that it is near when its turn comes.
+    /// The first of the bytes is read whatever is left of the key, so that it is near when its turn comes, and so is one of
+    /// the next line of memory, where the offsets of a larger branch stand. That one says nothing: it is compared so that
+    /// it is read, and a look-up that seems to be at its end for it is brought there alone.
     #[inline(always)]
     fn is_open(&self) -> bool {
-        match self.rest.first() {
-            Some(lead) => !self.left.is_empty() | (*lead / 32 != 4),
-            None => false,
-        }
+        let Some(lead) = self.rest.first() else {
+            return false;
+        };
+        let next_line = self.rest.get(LINE).copied().unwrap_or(0);
+        (!self.left.is_empty() | (*lead / 32 != 4)) & (next_line != u8::MAX)
     }
 
     /// The value of the key.

@@ -9,8 +9,9 @@ ghost use Rattle.zerotrie_lines.specs.Reads.{IsLineFault, HasReturn, IsValueFaul
 
 use crate::escapes::{unescape, write_escaped};
 use crate::fault::BadLine;
-use crate::numbers::{parse_number, write_number};
+use crate::numbers::parse_number;
 use crate::table::Table;
+use itoa::Buffer;
 use memchr::memchr;
 use std::alloc::{AllocError, Global};
 
@@ -131,12 +132,16 @@ pub fn read_pair(
 }
 
 /// Writes the line of a pair: the key with escapes, a tab, the value and a line feed.
+///
+/// The digits are worked out before the key is written, so that they need not be waited for when they are copied.
 pub fn write_pair(output: &mut Vec<u8>, key: &[u8], value: usize) -> Result<(), AllocError>
     ensures { OnOk result (output.new.items ≡ output.old.items ++ tsv_line (key.now, value)) }
 {
+    let mut buffer = Buffer::new();
+    let digits = buffer.format(value).as_bytes();
     write_escaped(output, key)?;
     output.push(b'\t')?;
-    write_number(output, value)?;
+    output.extend_from_slice(digits)?;
     output.push(b'\n')?;
     Ok(())
 }

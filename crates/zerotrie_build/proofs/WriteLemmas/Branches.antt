@@ -22,10 +22,11 @@ use Rattle.zerotrie_build.specs.declared.branch_layout.Next.TheVariants.{Go}
 use Rattle.zerotrie_build.specs.declared.windows.Step.TheVariants.{End, Branch}
 use Rattle.zerotrie_build.specs.passes.Windows.{window, edge_of, step_of}
 use Rattle.zerotrie_build.specs.passes.Measured.{NoneFirst, HasFirstTargets, TargetWindows, sizes_of}
-use Rattle.zerotrie_build.specs.passes.Zeros.{OverwritesZeros}
-use Rattle.zerotrie_build.specs.passes.Writing.{no_window, window_at, edge_no, target_lens, position_at, text_of, placed_next, next_of, Listed, Texts, NodesWritten, IsLayout, HasSlots, IsPending}
+use Rattle.zerotrie_build.specs.declared.writing.Writing.{Writing}
+use Rattle.zerotrie_build.specs.passes.Writes.{HasRoom, Writes, NodesWritten}
+use Rattle.zerotrie_build.specs.passes.Writing.{no_window, window_at, edge_no, target_lens, position_at, text_of, placed_next, next_of, Listed, Texts, IsLayout, HasSlots, IsPending}
 use Rattle.zerotrie_build.proofs.OrderLemmas.Sorting.{ordered_distinct}
-use Rattle.zerotrie_build.proofs.WriteLemmas.Puts.{puts_then, count_map}
+use Rattle.zerotrie_build.proofs.WriteLemmas.Puts.{puts_then, grows, count_map}
 use Rattle.zerotrie_build.proofs.WindowLemmas.Windows.{cut_none, step_end}
 use Rattle.zerotrie_build.proofs.WriteLemmas.Layouts.{up_of, map_both, named, numbers_within}
 use Rattle.zerotrie_build.proofs.WriteLemmas.Slots.{Opened, opened, parts_same, each_count, slots_lens, next_leads, none_ends}
@@ -117,8 +118,8 @@ front_size {kind = kind} {all = all} {cs = cs} {table = table} {numbers = number
     (omega arith, omega arith)
 
 -- what of the slots leads to the targets of a branch
-pub branch_slots : {kind : Kind} {all : Pairs} {slots : List ℕ} {slot end : ℕ} {w : Window} {list : List ℕ} {at : ℕ} {list' : List ℕ} {at' : ℕ} {rest : Window} (k : Opened kind all slots slot end w)
-    → Going kind all w k.known.bytes k.known.behind list at list' at' rest → step_of kind all rest ≡ Branch → HasSlots kind all rest slots slot
+pub branch_slots : {kind : Kind} {all : Pairs} {slots : List ℕ} {slot end : ℕ} {w : Window} {old new : Writing} {rest : Window} (k : Opened kind all slots slot end w)
+    → Going kind all w k.known.bytes k.known.behind old new rest → step_of kind all rest ≡ Branch → HasSlots kind all rest slots slot
 branch_slots {kind = kind} {all = all} k g e =
     let o = k.known in
     let s = on_stop g.run (inr e) in
@@ -137,28 +138,28 @@ branch_slots {kind = kind} {all = all} k g e =
     }
 
 -- what stands after the values, literals and spans of a window is known, and so are the targets
-branch_same : {kind : Kind} {all : Pairs} {slots : List ℕ} {slot end last : ℕ} {w : Window} {list : List ℕ} {at : ℕ} {list' : List ℕ} {at' : ℕ} {rest : Window} (k : Opened kind all slots slot end w) (other : Opened kind all slots slot last w)
-    → Going kind all w k.known.bytes k.known.behind list at list' at' rest → NoneFirst kind all rest → (other.known.behind ≡ rest) × (other.cs ≡ k.cs)
+branch_same : {kind : Kind} {all : Pairs} {slots : List ℕ} {slot end last : ℕ} {w : Window} {old new : Writing} {rest : Window} (k : Opened kind all slots slot end w) (other : Opened kind all slots slot last w)
+    → Going kind all w k.known.bytes k.known.behind old new rest → NoneFirst kind all rest → (other.known.behind ≡ rest) × (other.cs ≡ k.cs)
 branch_same {all = all} k other g stops =
     let s = on_stop g.run stops in
     let same = behind_same other.known.run other.known.stops k.known.run k.known.stops in
     (same ∙ s.0, parts_same all k.known.behind other.cs k.cs (subst (λ x. TargetWindows all x other.cs) same other.known.parts) k.known.parts)
 
 -- the windows that were found are those of the targets
-pub branch_windows : {kind : Kind} {all : Pairs} {slots : List ℕ} {slot end : ℕ} {w : Window} {list : List ℕ} {at : ℕ} {list' : List ℕ} {at' : ℕ} {rest : Window} (k : Opened kind all slots slot end w)
-    → Going kind all w k.known.bytes k.known.behind list at list' at' rest → step_of kind all rest ≡ Branch → {table numbers : List ℕ} (ws : List Window) → TargetWindows all rest ws
+pub branch_windows : {kind : Kind} {all : Pairs} {slots : List ℕ} {slot end : ℕ} {w : Window} {old new : Writing} {rest : Window} (k : Opened kind all slots slot end w)
+    → Going kind all w k.known.bytes k.known.behind old new rest → step_of kind all rest ≡ Branch → {table numbers : List ℕ} (ws : List Window) → TargetWindows all rest ws
     → IsLayout kind (edge_no all ws) (length ws) table numbers → (ws ≡ k.cs) × IsLayout kind (edge_no all k.cs) (length k.cs) table numbers
 branch_windows {kind = kind} {all = all} {rest = rest} k g e {table = table} {numbers = numbers} ws parts laid =
     let same = parts_same all rest ws k.cs parts (subst (λ x. TargetWindows all x k.cs) (on_stop g.run (inr e)).0 k.known.parts) in
     (same, subst (λ x. IsLayout kind (edge_no all x) (length x) table numbers) same laid)
 
-branch_two : {kind : Kind} {all : Pairs} {slots : List ℕ} {slot end : ℕ} {w : Window} {list : List ℕ} {at : ℕ} {list' : List ℕ} {at' : ℕ} {rest : Window} (k : Opened kind all slots slot end w)
-    → Going kind all w k.known.bytes k.known.behind list at list' at' rest → step_of kind all rest ≡ Branch → 2 ≤ length k.cs
+branch_two : {kind : Kind} {all : Pairs} {slots : List ℕ} {slot end : ℕ} {w : Window} {old new : Writing} {rest : Window} (k : Opened kind all slots slot end w)
+    → Going kind all w k.known.bytes k.known.behind old new rest → step_of kind all rest ≡ Branch → 2 ≤ length k.cs
 branch_two {kind = kind} {all = all} k g e = let s = on_stop g.run (inr e) in (k.known.some (ap (step_of kind all) s.0 ∙ e)).0
 
 -- the slots with the lengths of the targets
-pub branch_lens : {kind : Kind} {all : Pairs} {slots : List ℕ} {slot end : ℕ} {w : Window} {list : List ℕ} {at : ℕ} {list' : List ℕ} {at' : ℕ} {rest : Window} {table numbers : List ℕ} (k : Opened kind all slots slot end w)
-    → Going kind all w k.known.bytes k.known.behind list at list' at' rest → step_of kind all rest ≡ Branch → IsLayout kind (edge_no all k.cs) (length k.cs) table numbers
+pub branch_lens : {kind : Kind} {all : Pairs} {slots : List ℕ} {slot end : ℕ} {w : Window} {old new : Writing} {rest : Window} {table numbers : List ℕ} (k : Opened kind all slots slot end w)
+    → Going kind all w k.known.bytes k.known.behind old new rest → step_of kind all rest ≡ Branch → IsLayout kind (edge_no all k.cs) (length k.cs) table numbers
     → (n : ℕ) → n ≡ length numbers → (take (slot + n - slot) (drop slot slots) ≡ sizes_of kind all k.cs) × (slot + n ≤ length slots)
 branch_lens {kind = kind} {all = all} {slots = slots} {slot = slot} k g e laid n count =
     let two = branch_two k g e in
@@ -190,9 +191,9 @@ branch_small {kind = kind} o laid ls ns ls_is ns_is =
 front_same : (table tb lens ls : List ℕ) → tb ≡ table → ls ≡ lens → branch_front tb ls ≡ branch_front table lens
 front_same table tb lens ls a b = ap (λ x. branch_front x ls) a ∙ ap (branch_front table) b
 
-pub branch_room : {kind : Kind} {all : Pairs} {slots : List ℕ} {slot end : ℕ} {w : Window} {list : List ℕ} {at : ℕ} {list' : List ℕ} {at' : ℕ} {rest : Window} {table numbers : List ℕ} (k : Opened kind all slots slot end w)
-    → Going kind all w k.known.bytes k.known.behind list at list' at' rest → step_of kind all rest ≡ Branch → at + size_of kind (window all w) ≤ length list
-    → IsLayout kind (edge_no all k.cs) (length k.cs) table numbers → (tb ls ns : List ℕ) → tb ≡ table → ls ≡ sizes_of kind all k.cs → ns ≡ numbers → at' + length (branch_front tb (target_lens ls ns)) ≤ length list'
+pub branch_room : {kind : Kind} {all : Pairs} {slots : List ℕ} {slot end : ℕ} {w : Window} {old new : Writing} {rest : Window} {table numbers : List ℕ} (k : Opened kind all slots slot end w)
+    → Going kind all w k.known.bytes k.known.behind old new rest → step_of kind all rest ≡ Branch → HasRoom old (size_of kind (window all w))
+    → IsLayout kind (edge_no all k.cs) (length k.cs) table numbers → (tb ls ns : List ℕ) → tb ≡ table → ls ≡ sizes_of kind all k.cs → ns ≡ numbers → HasRoom new (length (branch_front tb (target_lens ls ns)))
 branch_room {kind = kind} {all = all} {table = table} {numbers = numbers} k g e room laid tb ls ns tb_is ls_is ns_is =
     let o = k.known in
     let s = on_stop g.run (inr e) in
@@ -201,7 +202,7 @@ branch_room {kind = kind} {all = all} {table = table} {numbers = numbers} k g e 
     let long = front_size o b in
     let l0 = long.0 in
     let is = ap length (front_same table tb _ (target_lens ls ns) tb_is (targets_lens o laid ls ns ls_is ns_is)) in
-    let a = g.puts.at_is in let l = g.puts.same in let z = g.sized in let c = s.1 in let d = n.1 in
+    let a = grows g.puts in let l = g.puts.same in let z = g.sized in let c = s.1 in let d = n.1 in
     omega arith
 
 -- what is written after a branch is no more than its bytes
@@ -237,11 +238,11 @@ leads_at {kind = kind} {all = all} {slots = slots} {slot = slot} {end = end} {w 
     same (next_leads k numbers)
 
 -- a branch was written
-pub front_branch : {kind : Kind} {all : Pairs} {slots : List ℕ} {slot end : ℕ} {w : Window} {list : List ℕ} {at : ℕ} {list' : List ℕ} {at' : ℕ} {rest : Window} {table numbers : List ℕ} (list'' : List ℕ) (at'' : ℕ) (k : Opened kind all slots slot end w)
-    → Going kind all w k.known.bytes k.known.behind list at list' at' rest → step_of kind all rest ≡ Branch → IsLayout kind (edge_no all k.cs) (length k.cs) table numbers
-    → (tb ls ns : List ℕ) → tb ≡ table → ls ≡ sizes_of kind all k.cs → ns ≡ numbers → OverwritesZeros list' at' list'' at'' (branch_front tb (target_lens ls ns))
-    → (next : List Next) → next ≡ next_of kind slots slot k.cs numbers → NodesWritten kind all slots slot w next list at list'' at''
-front_branch {kind = kind} {all = all} {slots = slots} {slot = slot} {end = end} {w = w} {list = list} {at = at} {list' = list'} {at' = at'} {rest = rest} {table = table} {numbers = numbers} list'' at'' k g e laid tb ls ns tb_is ls_is ns_is p next next_is =
+pub front_branch : {kind : Kind} {all : Pairs} {slots : List ℕ} {slot end : ℕ} {w : Window} {old new : Writing} {rest : Window} {table numbers : List ℕ} (newer : Writing) (k : Opened kind all slots slot end w)
+    → Going kind all w k.known.bytes k.known.behind old new rest → step_of kind all rest ≡ Branch → IsLayout kind (edge_no all k.cs) (length k.cs) table numbers
+    → (tb ls ns : List ℕ) → tb ≡ table → ls ≡ sizes_of kind all k.cs → ns ≡ numbers → Writes new newer (branch_front tb (target_lens ls ns))
+    → (next : List Next) → next ≡ next_of kind slots slot k.cs numbers → NodesWritten kind all slots slot w next old newer
+front_branch {kind = kind} {all = all} {slots = slots} {slot = slot} {end = end} {w = w} {old = old} {new = new} {rest = rest} {table = table} {numbers = numbers} newer k g e laid tb ls ns tb_is ls_is ns_is p next next_is =
     let o = k.known in
     let cs = k.cs in
     let vs = map (window_at cs) numbers in
@@ -249,7 +250,7 @@ front_branch {kind = kind} {all = all} {slots = slots} {slot = slot} {end = end}
     let n = o.some (ap (step_of kind all) s.0 ∙ e) in
     let b = turned o laid in
     let front = branch_front table (sizes_of kind all vs) in
-    let put : OverwritesZeros list' at' list'' at'' front = subst (OverwritesZeros list' at' list'' at'') (front_same table tb (sizes_of kind all vs) (target_lens ls ns) tb_is (targets_lens o laid ls ns ls_is ns_is)) p in
+    let put : Writes new newer front = subst (Writes new newer) (front_same table tb (sizes_of kind all vs) (target_lens ls ns) tb_is (targets_lens o laid ls ns ls_is ns_is)) p in
     let to_is = g.to_is in
     let inside = o.within in
     let whole = ap (λ x. x.to) s.0 in
@@ -259,7 +260,7 @@ front_branch {kind = kind} {all = all} {slots = slots} {slot = slot} {end = end}
     record {
       targets = vs;
       front = g.done ++ front;
-      puts = puts_then _ _ _ _ _ _ _ _ g.puts put;
+      puts = puts_then g.puts put;
       sized = (let a = length-append g.done front in let z = g.sized in let c = s.1 in let d = n.1 in let l = long.0 in omega arith);
       many = (let a = length-append g.done front in let l = long.1 in let c = ap length next_is in let m = next_count kind slots slot cs numbers n.0 b.count in omega arith);
       lists = λ texts h. subst (λ x. Listed kind x (window all w)) (sym (append_assoc g.done front (concat texts)))
@@ -272,12 +273,12 @@ front_branch {kind = kind} {all = all} {slots = slots} {slot = slot} {end = end}
     }
 
 -- no branch was there to write
-pub front_end : {kind : Kind} {all : Pairs} {slots : List ℕ} {slot end : ℕ} {w : Window} {list : List ℕ} {at : ℕ} {list' : List ℕ} {at' : ℕ} {rest : Window} (k : Opened kind all slots slot end w)
-    → Going kind all w k.known.bytes k.known.behind list at list' at' rest → step_of kind all rest ≡ End → (next : List Next) → next ≡ [] → NodesWritten kind all slots slot w next list at list' at'
-front_end {kind = kind} {all = all} {slots = slots} {slot = slot} {w = w} {list = list} {at = at} {list' = list'} {at' = at'} {rest = rest} k g e next none =
+pub front_end : {kind : Kind} {all : Pairs} {slots : List ℕ} {slot end : ℕ} {w : Window} {old new : Writing} {rest : Window} (k : Opened kind all slots slot end w)
+    → Going kind all w k.known.bytes k.known.behind old new rest → step_of kind all rest ≡ End → (next : List Next) → next ≡ [] → NodesWritten kind all slots slot w next old new
+front_end {kind = kind} {all = all} {slots = slots} {slot = slot} {w = w} {old = old} {new = new} {rest = rest} k g e next none =
     let s = on_stop g.run (inl e) in
     let n = k.known.none (ap (step_of kind all) s.0 ∙ e) in
-    subst (λ x. NodesWritten kind all slots slot w x list at list' at') (sym none) (record {
+    subst (λ x. NodesWritten kind all slots slot w x old new) (sym none) (record {
       targets = [];
       front = g.done;
       puts = g.puts;
@@ -300,8 +301,8 @@ hashed_order perfect_hash n es h = refl
 hashed_order extended_capacity n es h = refl
 
 -- why a branch was refused
-pub branch_refused : {kind : Kind} {all : Pairs} {slots : List ℕ} {slot end : ℕ} {w : Window} {list : List ℕ} {at : ℕ} {list' : List ℕ} {at' : ℕ} {rest : Window} (err : ZeroTrieBuildError) (k : Opened kind all slots slot end w)
-    → Ordered kind all → Going kind all w k.known.bytes k.known.behind list at list' at' rest → step_of kind all rest ≡ Branch
+pub branch_refused : {kind : Kind} {all : Pairs} {slots : List ℕ} {slot end : ℕ} {w : Window} {old new : Writing} {rest : Window} (err : ZeroTrieBuildError) (k : Opened kind all slots slot end w)
+    → Ordered kind all → Going kind all w k.known.bytes k.known.behind old new rest → step_of kind all rest ≡ Branch
     → (err ≢ OutOfMemory → (err ≡ CouldNotSolvePerfectHash) × ((cs : List Window) → TargetWindows all rest cs → AreCrooked kind (map (edge_of all) cs)))
     → err ≢ OutOfMemory → (err ≡ CouldNotSolvePerfectHash) × Cause kind all err
 branch_refused {kind = kind} {all = all} err k up g e why some =

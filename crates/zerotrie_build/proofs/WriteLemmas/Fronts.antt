@@ -12,30 +12,31 @@ use Rattle.zerotrie_build.specs.declared.windows.Step.TheVariants.{Value, Litera
 use Rattle.zerotrie_build.specs.passes.Windows.{cut, window, item_no, high_front, step_of, HasLiteralAt, IsAsciiLeaf}
 use Rattle.zerotrie_build.specs.passes.Measured.{Passes, NoneFirst, HasFirstTargets}
 use Rattle.zerotrie_build.specs.passes.Measured.Passes.{here, value as run_value, literal as run_literal, span as run_span}
-use Rattle.zerotrie_build.specs.passes.Zeros.{OverwritesZeros}
-use Rattle.zerotrie_build.specs.passes.Writing.{Listed, FrontWritten}
-use Rattle.zerotrie_build.proofs.WriteLemmas.Puts.{puts_nothing, puts_then}
+use Rattle.zerotrie_build.specs.declared.writing.Writing.{Writing}
+use Rattle.zerotrie_build.specs.passes.Writes.{HasRoom, Writes, FrontWritten}
+use Rattle.zerotrie_build.specs.passes.Writing.{Listed}
+use Rattle.zerotrie_build.proofs.WriteLemmas.Puts.{puts_nothing, puts_then, grows}
 use Rattle.zerotrie_build.proofs.WindowLemmas.NodeRuns.{low_literal, literal_low, lone_low, lone_value, along}
 use Rattle.zerotrie_build.proofs.WindowLemmas.Windows.{cut_first, key_cut, last_key, last_cut, step_value, none_empty, ordered_front}
 use Rattle.zerotrie_build.proofs.WindowLemmas.Spans.{step_literal, step_span}
 use Rattle.zerotrie_build.proofs.WriteLemmas.Listed.{listed_value, listed_literal, listed_span}
 
 -- The window was written as far as the rest, in front of what is after its values, literals and spans.
-pub record Going (kind : Kind) (all : Pairs) (w : Window) (bytes : ℕ) (behind : Window) (list : List ℕ) (at : ℕ) (list' : List ℕ) (at' : ℕ) (rest : Window) : Type 0 where
+pub record Going (kind : Kind) (all : Pairs) (w : Window) (bytes : ℕ) (behind : Window) (old new : Writing) (rest : Window) : Type 0 where
   pub done : List ℕ
   pub left : ℕ
-  pub puts : OverwritesZeros list at list' at' done
+  pub puts : Writes old new done
   pub sized : length done + left ≡ bytes
   pub run : Passes kind all rest behind left
   pub lists : (t : List ℕ) → Listed kind t (window all rest) → Listed kind (done ++ t) (window all w)
   pub ordered : Ordered kind (window all rest)
   pub to_is : rest.to ≡ w.to
 
-pub going_start : {kind : Kind} {all : Pairs} {w : Window} {cs : List Window} (list : List ℕ) (at : ℕ) (o : HasFirstTargets kind all w cs) → Going kind all w o.bytes o.behind list at list at w
-going_start list at o = record {
+pub going_start : {kind : Kind} {all : Pairs} {w : Window} {cs : List Window} (start : Writing) (o : HasFirstTargets kind all w cs) → Going kind all w o.bytes o.behind start start w
+going_start start o = record {
   done = [];
   left = o.bytes;
-  puts = puts_nothing list at;
+  puts = puts_nothing start;
   sized = omega arith;
   run = o.run;
   lists = λ t l. l;
@@ -107,10 +108,10 @@ exact_none kind [] h = refl
 exact_none kind (([], v) ∷ pairs) h = absurd (cc)
 exact_none kind ((b ∷ key, v) ∷ pairs) h = exact_none kind pairs h
 
-pub going_value : {kind : Kind} {all : Pairs} {w behind : Window} {bytes : ℕ} {list : List ℕ} {at : ℕ} {list' : List ℕ} {at' : ℕ} {rest : Window} (list'' : List ℕ) (at'' : ℕ) (v : ℕ)
-    → Going kind all w bytes behind list at list' at' rest → NoneFirst kind all behind → w.to ≤ length all → step_of kind all rest ≡ Value v → SpellsAs value_form v (spelled_as value_form v)
-    → OverwritesZeros list' at' list'' at'' (spelled_as value_form v) → Going kind all w bytes behind list at list'' at'' (record rest { from = rest.from + 1 })
-going_value {kind = kind} {all = all} {w = w} {rest = rest} list'' at'' v g stops within e s p =
+pub going_value : {kind : Kind} {all : Pairs} {w behind : Window} {bytes : ℕ} {old new : Writing} {rest : Window} (newer : Writing) (v : ℕ)
+    → Going kind all w bytes behind old new rest → NoneFirst kind all behind → w.to ≤ length all → step_of kind all rest ≡ Value v → SpellsAs value_form v (spelled_as value_form v)
+    → Writes new newer (spelled_as value_form v) → Going kind all w bytes behind old newer (record rest { from = rest.from + 1 })
+going_value {kind = kind} {all = all} {w = w} {rest = rest} newer v g stops within e s p =
     let o = on_value g.run stops v e in
     let to_is = g.to_is in
     let st = step_value kind all rest v (omega arith) e in
@@ -120,7 +121,7 @@ going_value {kind = kind} {all = all} {w = w} {rest = rest} list'' at'' v g stop
     record {
       done = g.done ++ sp;
       left = o.less;
-      puts = puts_then _ _ _ _ _ _ _ _ g.puts p;
+      puts = puts_then g.puts p;
       sized = (let a = length-append g.done sp in let b = g.sized in let c = o.is in omega arith);
       run = o.run;
       lists = λ t l. subst (λ x. Listed kind x (window all w)) (sym (append_assoc g.done sp t))
@@ -176,11 +177,11 @@ literals (suc n) kind all w behind left run stops inside within keys up low =
           (subst (Listed kind _) (sym st.is) (listed_literal kind b (take n (drop (w.depth + 1) key) ++ t) (window all next) st.low (cut_some all w.from w.to (w.depth + 1) inside within) rest));
     }
 
-pub going_literals : {kind : Kind} {all : Pairs} {w behind : Window} {bytes : ℕ} {list : List ℕ} {at : ℕ} {list' : List ℕ} {at' : ℕ} {rest : Window} (list'' : List ℕ) (at'' b end : ℕ)
-    → Going kind all w bytes behind list at list' at' rest → NoneFirst kind all behind → w.to ≤ length all → AreKeys kind all → step_of kind all rest ≡ Literal b
+pub going_literals : {kind : Kind} {all : Pairs} {w behind : Window} {bytes : ℕ} {old new : Writing} {rest : Window} (newer : Writing) (b end : ℕ)
+    → Going kind all w bytes behind old new rest → NoneFirst kind all behind → w.to ≤ length all → AreKeys kind all → step_of kind all rest ≡ Literal b
     → rest.depth < end → ((i : ℕ) → rest.depth ≤ i → i < end → HasLiteralAt all rest i) → end ≤ length (item_no all rest.from).0
-    → OverwritesZeros list' at' list'' at'' (take (end - rest.depth) (drop rest.depth (item_no all rest.from).0)) → Going kind all w bytes behind list at list'' at'' (record rest { depth = end })
-going_literals {kind = kind} {all = all} {w = w} {behind = behind} {rest = rest} list'' at'' b end g stops within keys e past low ends p =
+    → Writes new newer (take (end - rest.depth) (drop rest.depth (item_no all rest.from).0)) → Going kind all w bytes behind old newer (record rest { depth = end })
+going_literals {kind = kind} {all = all} {w = w} {behind = behind} {rest = rest} newer b end g stops within keys e past low ends p =
     let to_is = g.to_is in
     let inside = (literal_low kind all rest b (omega arith) keys e).0 in
     let n = end - rest.depth in
@@ -191,7 +192,7 @@ going_literals {kind = kind} {all = all} {w = w} {behind = behind} {rest = rest}
     record {
       done = g.done ++ run;
       left = o.less;
-      puts = puts_then _ _ _ _ _ _ _ _ g.puts p;
+      puts = puts_then g.puts p;
       sized = (let a = length-append g.done run in let c = g.sized in let d = o.is in omega arith);
       run = subst (λ d. Passes kind all (record rest { depth = d }) behind o.less) there o.run;
       lists = λ t l. subst (λ x. Listed kind x (window all w)) (sym (append_assoc g.done run t))
@@ -201,10 +202,10 @@ going_literals {kind = kind} {all = all} {w = w} {behind = behind} {rest = rest}
     }
 
 -- all that is left of a window
-pub going_lone : {kind : Kind} {all : Pairs} {w behind : Window} {bytes : ℕ} {list : List ℕ} {at : ℕ} {list' : List ℕ} {at' : ℕ} {rest : Window} (list'' : List ℕ) (at'' : ℕ) (key : List ℕ) (v : ℕ)
-    → Going kind all w bytes behind list at list' at' rest → NoneFirst kind all behind → w.to ≤ length all → AreKeys kind all → IsAsciiLeaf all rest key v → SpellsAs value_form v (spelled_as value_form v)
-    → OverwritesZeros list' at' list'' at'' (key ++ spelled_as value_form v) → Going kind all w bytes behind list at list'' at'' (record { from = rest.from + 1; to = rest.to; depth = rest.depth + length key })
-going_lone {kind = kind} {all = all} {w = w} {behind = behind} {rest = rest} list'' at'' key v g stops within keys lone s p =
+pub going_lone : {kind : Kind} {all : Pairs} {w behind : Window} {bytes : ℕ} {old new : Writing} {rest : Window} (newer : Writing) (key : List ℕ) (v : ℕ)
+    → Going kind all w bytes behind old new rest → NoneFirst kind all behind → w.to ≤ length all → AreKeys kind all → IsAsciiLeaf all rest key v → SpellsAs value_form v (spelled_as value_form v)
+    → Writes new newer (key ++ spelled_as value_form v) → Going kind all w bytes behind old newer (record { from = rest.from + 1; to = rest.to; depth = rest.depth + length key })
+going_lone {kind = kind} {all = all} {w = w} {behind = behind} {rest = rest} newer key v g stops within keys lone s p =
     let to_is = g.to_is in
     let one = lone.one in
     let n = length key in
@@ -220,7 +221,7 @@ going_lone {kind = kind} {all = all} {w = w} {behind = behind} {rest = rest} lis
     record {
       done = g.done ++ (key ++ sp);
       left = ov.less;
-      puts = puts_then _ _ _ _ _ _ _ _ g.puts p;
+      puts = puts_then g.puts p;
       sized = (let a = length-append g.done (key ++ sp) in let b = length-append key sp in let c = g.sized in let d = o.is in let f = ov.is in omega arith);
       run = ov.run;
       lists = λ t l. subst (λ x. Listed kind x (window all w)) (sym (append_assoc g.done (key ++ sp) t))
@@ -233,10 +234,10 @@ going_lone {kind = kind} {all = all} {w = w} {behind = behind} {rest = rest} lis
 run_some : (n : ℕ) (run : List ℕ) → 0 < n → length run ≡ n → run ≡ [] → ⊥
 run_some n run some long none = let l = ap length none in omega arith
 
-pub going_span : {kind : Kind} {all : Pairs} {w behind : Window} {bytes : ℕ} {list : List ℕ} {at : ℕ} {list' : List ℕ} {at' : ℕ} {rest : Window} (list'' : List ℕ) (at'' : ℕ) (n : ℕ)
-    → Going kind all w bytes behind list at list' at' rest → NoneFirst kind all behind → w.to ≤ length all → AreKeys kind all → step_of kind all rest ≡ Span n → SpellsAs span_form n (spelled_as span_form n)
-    → OverwritesZeros list' at' list'' at'' (spelled_as span_form n ++ take n (drop rest.depth (item_no all rest.from).0)) → Going kind all w bytes behind list at list'' at'' (record rest { depth = rest.depth + n })
-going_span {kind = kind} {all = all} {w = w} {rest = rest} list'' at'' n g stops within keys e s p =
+pub going_span : {kind : Kind} {all : Pairs} {w behind : Window} {bytes : ℕ} {old new : Writing} {rest : Window} (newer : Writing) (n : ℕ)
+    → Going kind all w bytes behind old new rest → NoneFirst kind all behind → w.to ≤ length all → AreKeys kind all → step_of kind all rest ≡ Span n → SpellsAs span_form n (spelled_as span_form n)
+    → Writes new newer (spelled_as span_form n ++ take n (drop rest.depth (item_no all rest.from).0)) → Going kind all w bytes behind old newer (record rest { depth = rest.depth + n })
+going_span {kind = kind} {all = all} {w = w} {rest = rest} newer n g stops within keys e s p =
     let o = on_span g.run stops n e in
     let to_is = g.to_is in
     let st = step_span kind all rest n (omega arith) keys g.ordered e in
@@ -250,7 +251,7 @@ going_span {kind = kind} {all = all} {w = w} {rest = rest} list'' at'' n g stops
     record {
       done = g.done ++ (sp ++ run);
       left = o.less;
-      puts = puts_then _ _ _ _ _ _ _ _ g.puts p;
+      puts = puts_then g.puts p;
       sized = (let a = length-append g.done (sp ++ run) in let b = length-append sp run in let l = f.long in let c = g.sized in let i = o.is in omega arith);
       run = o.run;
       lists = λ t l. subst (λ x. Listed kind x (window all w)) (ap (λ x. g.done ++ x) (sym (append_assoc sp run t)) ∙ sym (append_assoc g.done (sp ++ run) t))
@@ -268,36 +269,36 @@ open_bytes o = elim o.stops [
   | inr e ↦ let n = o.some e in let l = n.1 in omega arith
 ]
 
-pub room_value : {kind : Kind} {all : Pairs} {w behind : Window} {bytes : ℕ} {list : List ℕ} {at : ℕ} {list' : List ℕ} {at' : ℕ} {rest : Window} (v len : ℕ)
-    → Going kind all w bytes behind list at list' at' rest → NoneFirst kind all behind → step_of kind all rest ≡ Value v → bytes ≤ len → at + len ≤ length list → at' + length (spelled_as value_form v) ≤ length list'
-room_value v len g s e b r = let o = on_value g.run s v e in let a = g.puts.at_is in let l = g.puts.same in let z = g.sized in let i = o.is in omega arith
+pub room_value : {kind : Kind} {all : Pairs} {w behind : Window} {bytes : ℕ} {old new : Writing} {rest : Window} (v len : ℕ)
+    → Going kind all w bytes behind old new rest → NoneFirst kind all behind → step_of kind all rest ≡ Value v → bytes ≤ len → HasRoom old len → HasRoom new (length (spelled_as value_form v))
+room_value v len g s e b r = let o = on_value g.run s v e in let a = grows g.puts in let l = g.puts.same in let z = g.sized in let i = o.is in omega arith
 
-pub room_literals : {kind : Kind} {all : Pairs} {w behind : Window} {bytes : ℕ} {list : List ℕ} {at : ℕ} {list' : List ℕ} {at' : ℕ} {rest : Window} (b end len : ℕ)
-    → Going kind all w bytes behind list at list' at' rest → NoneFirst kind all behind → w.to ≤ length all → AreKeys kind all → step_of kind all rest ≡ Literal b
-    → rest.depth < end → ((i : ℕ) → rest.depth ≤ i → i < end → HasLiteralAt all rest i) → bytes ≤ len → at + len ≤ length list → at' + (end - rest.depth) ≤ length list'
+pub room_literals : {kind : Kind} {all : Pairs} {w behind : Window} {bytes : ℕ} {old new : Writing} {rest : Window} (b end len : ℕ)
+    → Going kind all w bytes behind old new rest → NoneFirst kind all behind → w.to ≤ length all → AreKeys kind all → step_of kind all rest ≡ Literal b
+    → rest.depth < end → ((i : ℕ) → rest.depth ≤ i → i < end → HasLiteralAt all rest i) → bytes ≤ len → HasRoom old len → HasRoom new (end - rest.depth)
 room_literals {kind = kind} {all = all} {behind = behind} {rest = rest} b end len g stops within keys e past low h r =
     let to_is = g.to_is in
     let inside = (literal_low kind all rest b (omega arith) keys e).0 in
     let o = literals (end - rest.depth) kind all rest behind g.left g.run stops inside (omega arith) keys g.ordered (λ i from below. low i from (omega arith)) in
-    let a = g.puts.at_is in let l = g.puts.same in let z = g.sized in let i = o.is in omega arith
+    let a = grows g.puts in let l = g.puts.same in let z = g.sized in let i = o.is in omega arith
 
-pub room_lone : {kind : Kind} {all : Pairs} {w behind : Window} {bytes : ℕ} {list : List ℕ} {at : ℕ} {list' : List ℕ} {at' : ℕ} {rest : Window} (key : List ℕ) (v len : ℕ)
-    → Going kind all w bytes behind list at list' at' rest → NoneFirst kind all behind → w.to ≤ length all → AreKeys kind all → IsAsciiLeaf all rest key v → bytes ≤ len → at + len ≤ length list
-    → at' + (length key + length (spelled_as value_form v)) ≤ length list'
+pub room_lone : {kind : Kind} {all : Pairs} {w behind : Window} {bytes : ℕ} {old new : Writing} {rest : Window} (key : List ℕ) (v len : ℕ)
+    → Going kind all w bytes behind old new rest → NoneFirst kind all behind → w.to ≤ length all → AreKeys kind all → IsAsciiLeaf all rest key v → bytes ≤ len → HasRoom old len
+    → HasRoom new (length key + length (spelled_as value_form v))
 room_lone {kind = kind} {all = all} {behind = behind} {rest = rest} key v len g stops within keys lone h r =
     let to_is = g.to_is in
     let one = lone.one in
     let o = literals (length key) kind all rest behind g.left g.run stops (omega arith) (omega arith) keys g.ordered (lone_low all rest key v lone) in
     let last = on_value o.run stops v (lone_value kind all rest key v lone) in
-    let a = g.puts.at_is in let l = g.puts.same in let z = g.sized in let i = o.is in let j = last.is in omega arith
+    let a = grows g.puts in let l = g.puts.same in let z = g.sized in let i = o.is in let j = last.is in omega arith
 
-pub room_span : {kind : Kind} {all : Pairs} {w behind : Window} {bytes : ℕ} {list : List ℕ} {at : ℕ} {list' : List ℕ} {at' : ℕ} {rest : Window} (n len : ℕ)
-    → Going kind all w bytes behind list at list' at' rest → NoneFirst kind all behind → step_of kind all rest ≡ Span n → bytes ≤ len → at + len ≤ length list → at' + (length (spelled_as span_form n) + n) ≤ length list'
-room_span n len g s e h r = let o = on_span g.run s n e in let a = g.puts.at_is in let l = g.puts.same in let z = g.sized in let i = o.is in omega arith
+pub room_span : {kind : Kind} {all : Pairs} {w behind : Window} {bytes : ℕ} {old new : Writing} {rest : Window} (n len : ℕ)
+    → Going kind all w bytes behind old new rest → NoneFirst kind all behind → step_of kind all rest ≡ Span n → bytes ≤ len → HasRoom old len → HasRoom new (length (spelled_as span_form n) + n)
+room_span n len g s e h r = let o = on_span g.run s n e in let a = grows g.puts in let l = g.puts.same in let z = g.sized in let i = o.is in omega arith
 
 -- the bytes of a span are in the first key
-pub span_within : {kind : Kind} {all : Pairs} {w behind : Window} {bytes : ℕ} {list : List ℕ} {at : ℕ} {list' : List ℕ} {at' : ℕ} {rest : Window} (n : ℕ)
-    → Going kind all w bytes behind list at list' at' rest → w.to ≤ length all → AreKeys kind all → step_of kind all rest ≡ Span n
+pub span_within : {kind : Kind} {all : Pairs} {w behind : Window} {bytes : ℕ} {old new : Writing} {rest : Window} (n : ℕ)
+    → Going kind all w bytes behind old new rest → w.to ≤ length all → AreKeys kind all → step_of kind all rest ≡ Span n
     → (rest.from < length all) × (rest.depth + n ≤ length (item_no all rest.from).0)
 span_within {kind = kind} {all = all} {rest = rest} n g within keys e =
     let to_is = g.to_is in
@@ -313,8 +314,8 @@ span_within {kind = kind} {all = all} {rest = rest} n g within keys e =
     ]
 
 -- nothing is left of the values, literals and spans
-pub front_written : {kind : Kind} {all : Pairs} {w : Window} {cs : List Window} {list : List ℕ} {at : ℕ} {list' : List ℕ} {at' : ℕ} {rest : Window} (o : HasFirstTargets kind all w cs)
-    → Going kind all w o.bytes o.behind list at list' at' rest → NoneFirst kind all rest → FrontWritten kind all w rest list at list' at'
+pub front_written : {kind : Kind} {all : Pairs} {w : Window} {cs : List Window} {old new : Writing} {rest : Window} (o : HasFirstTargets kind all w cs)
+    → Going kind all w o.bytes o.behind old new rest → NoneFirst kind all rest → FrontWritten kind all w rest old new
 front_written {kind = kind} {all = all} {w = w} {rest = rest} o g stops =
     let s = on_stop g.run stops in
     let long : o.bytes ≡ length g.done = (let a = g.sized in let b = s.1 in omega arith) in
@@ -326,8 +327,8 @@ front_written {kind = kind} {all = all} {w = w} {rest = rest} o g stops =
     }
 
 -- all of them are written
-pub going_front : {kind : Kind} {all : Pairs} {w : Window} {cs : List Window} {list : List ℕ} {at : ℕ} {list' : List ℕ} {at' : ℕ} {rest : Window} (o : HasFirstTargets kind all w cs) → AreKeys kind all
-    → FrontWritten kind all w rest list at list' at' → NoneFirst kind all rest → Going kind all w o.bytes o.behind list at list' at' rest
+pub going_front : {kind : Kind} {all : Pairs} {w : Window} {cs : List Window} {old new : Writing} {rest : Window} (o : HasFirstTargets kind all w cs) → AreKeys kind all
+    → FrontWritten kind all w rest old new → NoneFirst kind all rest → Going kind all w o.bytes o.behind old new rest
 going_front {kind = kind} {all = all} {rest = rest} o keys f stops =
     let same : o.behind ≡ rest = behind_same o.run o.stops f.run stops in
     let a = along o.run o.within keys o.ordered in

@@ -1,37 +1,32 @@
--- Bytes written over zeros.
-use Rattle.std.proofs.Common.{◌≡◌, ℕ, zero, suc, ◌+◌, ◌<◌, ◌≤◌, List, [], ◌∷◌, ◌++◌, length, refl, sym, ◌∙◌, ap, subst, arith, append_assoc, length-append, replicate, take, get_or}
+-- Bytes that are written at the end of a text.
+use Rattle.std.proofs.Common.{◌≡◌, ℕ, zero, suc, ◌+◌, ◌<◌, ◌≤◌, List, [], ◌∷◌, ◌++◌, length, refl, sym, ◌∙◌, ap, subst, arith, append_assoc, length-append, take, get_or}
 use Rattle.std.proofs.Common.{◌-◌, ◌*◌, ◌/◌, ◌%◌, ◌^◌, ◌⊎◌, map}
-use Rattle.std.proofs.lemmas.List.{append-nil, take_more, get_or-map}
+use Rattle.std.proofs.lemmas.List.{append-nil, get_or-map}
 use Rattle.std.proofs.lemmas.List.Sums.{sum_by-cons}
 use Rattle.std.proofs.lemmas.List.FromFn.{length-map-range_with_len}
 use Rattle.std.specs.List.{range_with_len}
 use Rattle.zerotrie_core.specs.Numbers.{Form, Spells, extender, spelled_as, branch_form}
 use Rattle.zerotrie_core.specs.Branches.{IsWidth, blocks, total, ends, branch_front}
 use Rattle.zerotrie_core.proofs.CallerLemmas.{below_metadata, spelling_is, Completes, length-blocks, width_is}
-use Rattle.zerotrie_build.specs.passes.Zeros.{OverwritesZeros}
+use Rattle.zerotrie_build.specs.declared.writing.Writing.{Writing}
+use Rattle.zerotrie_build.specs.passes.Writes.{Writes}
 use Rattle.zerotrie_core.specs.plain.Encoding.{with_bits}
 use Rattle.zerotrie_build.specs.passes.Writing.{target_lens}
 
-pub puts_nothing : (list : List ℕ) (at : ℕ) → OverwritesZeros list at list at []
-puts_nothing list at = record { at_is = omega arith; same = refl; puts = λ written left a l. l ∙ ap (λ n. written ++ replicate n 0) (let e : 0 + left ≡ left = omega arith in e) ∙ ap (λ w. w ++ replicate left 0) (sym (append-nil written)) }
+pub puts_nothing : (start : Writing) → Writes start start []
+puts_nothing start = record { is = sym (append-nil start.bytes.items); same = refl }
 
-pub puts_then : (l : List ℕ) (a : ℕ) (l' : List ℕ) (a' : ℕ) (l'' : List ℕ) (a'' : ℕ) (xs ys : List ℕ) → OverwritesZeros l a l' a' xs → OverwritesZeros l' a' l'' a'' ys → OverwritesZeros l a l'' a'' (xs ++ ys)
-puts_then l a l' a' l'' a'' xs ys p q = record {
-  at_is = (let e = length-append xs ys in let f = p.at_is in let g = q.at_is in omega arith);
+pub puts_then : {old new newer : Writing} {xs ys : List ℕ} → Writes old new xs → Writes new newer ys → Writes old newer (xs ++ ys)
+puts_then {old = old} {xs = xs} {ys = ys} p q = record {
+  is = q.is ∙ ap (λ t. t ++ ys) p.is ∙ append_assoc old.bytes.items xs ys;
   same = q.same ∙ p.same;
-  puts = λ written left at_is is.
-      (let e : length (xs ++ ys) + left ≡ length xs + (length ys + left) = (let k = length-append xs ys in omega arith) in
-      let first = p.puts written (length ys + left) at_is (is ∙ ap (λ n. written ++ replicate n 0) e) in
-      let here : a' ≡ length (written ++ xs) = (let k = length-append written xs in let f = p.at_is in omega arith) in
-      q.puts (written ++ xs) left here first ∙ ap (λ w. w ++ replicate left 0) (append_assoc written xs ys));
 }
 
--- the next of the bytes
-pub puts_more : (l : List ℕ) (a : ℕ) (l' : List ℕ) (a' : ℕ) (l'' : List ℕ) (a'' : ℕ) (xs : List ℕ) (i b : ℕ) → i < length xs → b ≡ get_or xs i 0 → OverwritesZeros l a l' a' (take i xs) → OverwritesZeros l' a' l'' a'' (b ∷ []) → OverwritesZeros l a l'' a'' (take (i + 1) xs)
-puts_more l a l' a' l'' a'' xs i b h e p q = subst (OverwritesZeros l a l'' a'') (ap (λ x. take i xs ++ x ∷ []) e ∙ sym (take_more xs i 0 h)) (puts_then l a l' a' l'' a'' (take i xs) (b ∷ []) p q)
+pub puts_same : {old new : Writing} {xs ys : List ℕ} → xs ≡ ys → Writes old new xs → Writes old new ys
+puts_same {old = old} {new = new} e = subst (Writes old new) e
 
-pub puts_same : (l : List ℕ) (a : ℕ) (l' : List ℕ) (a' : ℕ) (xs ys : List ℕ) → xs ≡ ys → OverwritesZeros l a l' a' xs → OverwritesZeros l a l' a' ys
-puts_same l a l' a' xs ys e = subst (OverwritesZeros l a l' a') e
+pub grows : {old new : Writing} {xs : List ℕ} → Writes old new xs → length new.bytes.items ≡ length old.bytes.items + length xs
+grows {old = old} {xs = xs} p = ap length p.is ∙ length-append old.bytes.items xs
 
 -- a number with bits of metadata is its spelling
 pub number_is : (form : Form) (v bits : ℕ) (bytes : List ℕ) → (form.latent_value ≡ 16) ⊎ (form.latent_value ≡ 32) → bits ≡ form.metadata * (2 * form.latent_value)

@@ -1,5 +1,5 @@
 -- Window after window is written.
-use Rattle.std.proofs.Common.{◌≡◌, ℕ, zero, suc, ◌+◌, ◌-◌, ◌^◌, ◌<◌, ◌≤◌, List, [], ◌∷◌, ◌++◌, length, refl, sym, ◌∙◌, ap, subst, arith, map, append_assoc, length-append, replicate, reverse}
+use Rattle.std.proofs.Common.{◌≡◌, ℕ, suc, ◌+◌, ◌-◌, ◌^◌, ◌<◌, List, [], ◌∷◌, ◌++◌, length, refl, sym, ◌∙◌, ap, subst, arith, map, append_assoc, length-append, reverse}
 use Rattle.std.specs.List.{concat}
 use Rattle.std.proofs.lemmas.List.{append-nil, map-append}
 use Rattle.std.proofs.lemmas.List.Sums.{sum_by-cons}
@@ -16,9 +16,11 @@ use Rattle.zerotrie_build.specs.declared.branch_layout.Next.{Next}
 use Rattle.zerotrie_build.specs.declared.branch_layout.Next.TheVariants.{Go, Text}
 use Rattle.zerotrie_build.specs.passes.Windows.{window}
 use Rattle.zerotrie_build.specs.passes.Measured.{IsMeasured, sizes_of, whole_window}
-use Rattle.zerotrie_build.specs.passes.Writing.{Listed, Texts, position_at, text_of, HasSlotsTo, IsPending, NodesWritten, WrittenTo}
+use Rattle.zerotrie_build.specs.declared.writing.Writing.{Writing}
+use Rattle.zerotrie_build.specs.passes.Writes.{HasRoom, NodesWritten, WrittenTo}
+use Rattle.zerotrie_build.specs.passes.Writing.{Listed, Texts, position_at, text_of, HasSlotsTo, IsPending}
 use Rattle.zerotrie_build.specs.passes.Writing.IsPending.{done, go as to_go, text as to_text}
-use Rattle.zerotrie_build.proofs.WriteLemmas.Puts.{total_append}
+use Rattle.zerotrie_build.proofs.WriteLemmas.Puts.{grows, total_append}
 use Rattle.zerotrie_build.proofs.WriteLemmas.Slots.{window_same}
 use Rattle.zerotrie_build.proofs.WindowLemmas.Windows.{cut_whole}
 
@@ -38,10 +40,6 @@ concat_append : (xs ys : List (List ℕ)) → concat (xs ++ ys) ≡ concat xs ++
 concat_append [] ys = refl
 concat_append (x ∷ xs) ys = ap (λ z. x ++ z) (concat_append xs ys) ∙ sym (append_assoc x (concat xs) (concat ys))
 
-length-replicate : (n x : ℕ) → length (replicate n x) ≡ n
-length-replicate zero x = refl
-length-replicate (suc n) x = ap suc (length-replicate n x)
-
 -- all items are written first
 measured_to : {kind : Kind} {all : Pairs} {slots : List ℕ} {len : ℕ} → IsMeasured kind all slots len → HasSlotsTo kind all slots 0 (length slots) (whole_window all)
 measured_to {slots = slots} m = record { below = slots; more = []; kept = m.slots_are; slots_are = sym (append-nil slots); end_is = omega arith }
@@ -52,16 +50,10 @@ leads_start m = to_text (measured_to m) done
 pub first_pushed : (all : Pairs) (one : List Next) (to : ℕ) → one ≡ Text (record { to = to; depth = 0 }) ∷ [] → to ≡ length all → text_of (whole_window all) ∷ [] ≡ reverse one
 first_pushed all one to pushed is = sym (ap reverse pushed ∙ ap (λ n. Text (record { to = n; depth = 0 }) ∷ []) is)
 
-pub only_zeros : (empty list : List ℕ) (len : ℕ) → empty ≡ [] → list ≡ replicate len 0 ++ empty → list ≡ replicate len 0
-only_zeros empty list len none is = is ∙ ap (λ x. replicate len 0 ++ x) none ∙ append-nil (replicate len 0)
-
-pub left_start : {kind : Kind} {all : Pairs} {slots : List ℕ} {len : ℕ} (list : List ℕ) → IsMeasured kind all slots len → list ≡ replicate len 0 → WrittenTo kind all list 0 (whole_window all ∷ [])
-left_start {kind = kind} {all = all} {len = len} list m is = record {
-  written = [];
-  at_is = refl;
-  list_is = is ∙ ap (λ n. replicate n 0) (let e = sum_by-cons (λ n. n) (size_of kind (window all (whole_window all))) [] in let l = m.len_is in let w = ap (size_of kind) (cut_whole all) in
-      let f : len ≡ total (size_of kind (window all (whole_window all)) ∷ []) = omega arith in f);
-  completes = texts_whole;
+pub left_start : {kind : Kind} {all : Pairs} {slots : List ℕ} {len : ℕ} (start : Writing) → IsMeasured kind all slots len → start.bytes.items ≡ [] → start.len ≡ len → WrittenTo kind all start (whole_window all ∷ [])
+left_start {kind = kind} {all = all} {len = len} start m none room = record {
+  room = (let e = sum_by-cons (λ n. n) (size_of kind (window all (whole_window all))) [] in let l = m.len_is in let w = ap (size_of kind) (cut_whole all) in let n = ap length none in omega arith);
+  completes = λ texts h. subst (λ x. Listed kind (x ++ concat texts) all) (sym none) (texts_whole texts h);
 }
   where
     texts_whole : (texts : List (List ℕ)) → Texts kind all (whole_window all ∷ []) texts → Listed kind (concat texts) all
@@ -69,56 +61,50 @@ left_start {kind = kind} {all = all} {len = len} list m is = record {
     texts_whole (t ∷ u ∷ ts) h = absurd (h.1)
     texts_whole (t ∷ []) h = subst (λ x. Listed kind x all) (sym (append-nil t)) (subst (Listed kind t) (cut_whole all) h.0)
 
-pub left_room : {kind : Kind} {all : Pairs} {list : List ℕ} {at : ℕ} {w : Window} {ws : List Window} → WrittenTo kind all list at (w ∷ ws) → at + size_of kind (window all w) ≤ length list
+pub left_room : {kind : Kind} {all : Pairs} {now : Writing} {w : Window} {ws : List Window} → WrittenTo kind all now (w ∷ ws) → HasRoom now (size_of kind (window all w))
 left_room {kind = kind} {all = all} {w = w} {ws = ws} l =
-    let e = ap length l.list_is ∙ length-append l.written (replicate (total (sizes_of kind all (w ∷ ws))) 0) in
-    let n = length-replicate (total (sizes_of kind all (w ∷ ws))) 0 in
     let t = sum_by-cons (λ n. n) (size_of kind (window all w)) (sizes_of kind all ws) in
-    let a = l.at_is in omega arith
+    let r = l.room in omega arith
 
 -- nothing is left to be written
-pub left_end : (kind : Kind) (all : Pairs) (list : List ℕ) (at : ℕ) (ws : List Window) → ws ≡ [] → length list < 2 ^ 64 → WrittenTo kind all list at ws → Means kind list (map_of all)
-left_end kind all list at [] e small l =
-    let full : list ≡ l.written ++ [] = l.list_is in
-    let done = subst (λ x. Listed kind x all) (sym full) (l.completes [] tt) in
+pub left_end : (kind : Kind) (all : Pairs) (now : Writing) (ws : List Window) → ws ≡ [] → length now.bytes.items < 2 ^ 64 → WrittenTo kind all now ws → Means kind now.bytes.items (map_of all)
+left_end kind all now [] e small l =
+    let done = subst (λ x. Listed kind x all) (append-nil now.bytes.items) (l.completes [] tt) in
     record {
       short = small;
       pairs = done.listed;
       lists = done.lists;
       is = sym (same-map done.listed all done.same);
     }
-left_end kind all list at (w ∷ ws) e small l = absurd (cc)
+left_end kind all now (w ∷ ws) e small l = absurd (cc)
 
 sizes_append : (kind : Kind) (all : Pairs) (xs ys : List Window) → sizes_of kind all (xs ++ ys) ≡ sizes_of kind all xs ++ sizes_of kind all ys
 sizes_append kind all xs ys = ap (map (size_of kind)) (map-append (window all) xs ys) ∙ map-append (size_of kind) (map (window all) xs) (map (window all) ys)
 
 -- the next window is written
-pub left_more : {kind : Kind} {all : Pairs} {slots : List ℕ} {slot : ℕ} {list : List ℕ} {at : ℕ} {list' : List ℕ} {at' : ℕ} {w : Window} {next : List Next} {ws : List Window}
-    → WrittenTo kind all list at (w ∷ ws) → (p : NodesWritten kind all slots slot w next list at list' at') → WrittenTo kind all list' at' (p.targets ++ ws)
-left_more {kind = kind} {all = all} {list = list} {w = w} {ws = ws} l p =
-    let left = total (sizes_of kind all (p.targets ++ ws)) in
+pub left_more : {kind : Kind} {all : Pairs} {slots : List ℕ} {slot : ℕ} {old new : Writing} {w : Window} {next : List Next} {ws : List Window}
+    → WrittenTo kind all old (w ∷ ws) → (p : NodesWritten kind all slots slot w next old new) → WrittenTo kind all new (p.targets ++ ws)
+left_more {kind = kind} {all = all} {old = old} {w = w} {ws = ws} l p =
     let split_len = ap total (sizes_append kind all p.targets ws) ∙ total_append (sizes_of kind all p.targets) (sizes_of kind all ws) in
     let before = sum_by-cons (λ x. x) (size_of kind (window all w)) (sizes_of kind all ws) in
     let sized = p.sized in
-    let all_left : total (sizes_of kind all (w ∷ ws)) ≡ length p.front + left = omega arith in
     record {
-      written = l.written ++ p.front;
-      at_is = (let a = p.puts.at_is in let b = l.at_is in let c = length-append l.written p.front in omega arith);
-      list_is = p.puts.puts l.written left l.at_is (l.list_is ∙ ap (λ k. l.written ++ replicate k 0) all_left);
+      room = (let r = l.room in let a = grows p.puts in let b = p.puts.same in omega arith);
       completes = λ texts h.
           (let s = split kind all p.targets ws texts h in
           let one = l.completes ((p.front ++ concat s.front) ∷ s.back) (p.lists s.front s.front_texts, s.back_texts) in
           subst (λ x. Listed kind x all)
-          (ap (λ x. l.written ++ x) (append_assoc p.front (concat s.front) (concat s.back) ∙ ap (λ x. p.front ++ x) (sym (concat_append s.front s.back) ∙ ap concat (sym s.is))) ∙ sym (append_assoc l.written p.front (concat texts))) one);
+          (ap (λ x. old.bytes.items ++ x) (append_assoc p.front (concat s.front) (concat s.back) ∙ ap (λ x. p.front ++ x) (sym (concat_append s.front s.back) ∙ ap concat (sym s.is)))
+          ∙ sym (append_assoc old.bytes.items p.front (concat texts)) ∙ ap (λ x. x ++ concat texts) (sym p.puts.is)) one);
     }
 
 -- and less is left
-pub left_less : {kind : Kind} {all : Pairs} {slots : List ℕ} {slot : ℕ} {list : List ℕ} {at : ℕ} {list' : List ℕ} {at' : ℕ} {w : Window} {next : List Next} {ws : List Window} (rest : List Next)
-    → WrittenTo kind all list at (w ∷ ws) → NodesWritten kind all slots slot w next list at list' at'
-    → (length list' - at') + length (next ++ rest) < (length list - at) + suc (length rest)
+pub left_less : {kind : Kind} {all : Pairs} {slots : List ℕ} {slot : ℕ} {old new : Writing} {w : Window} {next : List Next} {ws : List Window} (rest : List Next)
+    → WrittenTo kind all old (w ∷ ws) → NodesWritten kind all slots slot w next old new
+    → (new.len - length new.bytes.items) + length (next ++ rest) < (old.len - length old.bytes.items) + suc (length rest)
 left_less {next = next} rest l p =
     let room = left_room l in
-    let a = p.puts.at_is in let s = p.puts.same in let z = p.sized in let m = p.many in
+    let a = grows p.puts in let s = p.puts.same in let z = p.sized in let m = p.many in
     let n = length-append next rest in
     omega arith
 

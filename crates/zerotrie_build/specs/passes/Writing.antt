@@ -1,21 +1,19 @@
--- What the second pass writes.
-use Rattle.std.specs.Prelude.{◌≡◌, ℕ, ◌+◌, ◌-◌, ◌*◌, ◌/◌, ◌<◌, ◌≤◌, ◌⊎◌, ◌==◌, List, [], ◌∷◌, ◌++◌, length, map, take, drop, replicate, slice_index_or, false, if◌then◌else◌}
-use Rattle.std.specs.List.{concat, range_with_len}
+-- What the second pass writes, and in which order.
+use Rattle.std.specs.Prelude.{◌≡◌, ℕ, ◌+◌, ◌-◌, ◌*◌, ◌/◌, ◌<◌, ◌⊎◌, ◌==◌, List, [], ◌∷◌, ◌++◌, length, map, take, drop, slice_index_or, false, if◌then◌else◌}
+use Rattle.std.specs.List.{range_with_len}
 use Rattle.std.specs.List.Sorted.{IsPermutation, IsStrictlyIncreasing}
 use Rattle.zerotrie_base.specs.Hashes.{IsPerfect}
 use Rattle.zerotrie_core.specs.Kind.{Kind, simple_ascii, fold_byte, is_hashed}
 use Rattle.zerotrie_core.specs.Numbers.{spelled}
 use Rattle.zerotrie_core.specs.Maps.{Pairs, value_at}
-use Rattle.zerotrie_core.specs.Branches.{IsTable, total}
-use Rattle.zerotrie_core.specs.Canonical.{size_of}
+use Rattle.zerotrie_core.specs.Branches.{IsTable}
 use Rattle.zerotrie_core.specs.Texts.{Lists}
 use Rattle.zerotrie_build.specs.declared.windows.Window.{Window}
 use Rattle.zerotrie_build.specs.declared.branch_layout.Position.{Position}
 use Rattle.zerotrie_build.specs.declared.branch_layout.Next.{Next}
 use Rattle.zerotrie_build.specs.declared.branch_layout.Next.TheVariants.{Go, Text}
 use Rattle.zerotrie_build.specs.passes.Windows.{window, edge_of}
-use Rattle.zerotrie_build.specs.passes.Measured.{Passes, TargetWindows, AreSlotsOf, sizes_of, slots_of}
-use Rattle.zerotrie_build.specs.passes.Zeros.{OverwritesZeros}
+use Rattle.zerotrie_build.specs.passes.Measured.{TargetWindows, AreSlotsOf, slots_of}
 
 -- these bits begin a node whose number has the form with this latent value
 abbrev pub IsLead : ℕ → ℕ → Type 0
@@ -124,28 +122,3 @@ Texts kind all [] [] = Unit {0}
 Texts kind all [] (t ∷ ts) = ⊥
 Texts kind all (w ∷ ws) [] = ⊥
 Texts kind all (w ∷ ws) (t ∷ ts) = Listed kind t (window all w) × Texts kind all ws ts
-
--- The values, literals and spans that stand first in a window were written, and the rest of it comes after them.
-pub record FrontWritten (kind : Kind) (all : Pairs) (w rest : Window) (list : List ℕ) (at : ℕ) (list' : List ℕ) (at' : ℕ) : Type 0 where
-  pub front : List ℕ
-  pub writes : OverwritesZeros list at list' at' front
-  pub run : Passes kind all w rest (length front)
-  pub lists : (text : List ℕ) → Listed kind text (window all rest) → Listed kind (front ++ text) (window all w)
-
--- The bytes of a window in front of the targets of its first branch were written, and then come these windows.
-pub record NodesWritten (kind : Kind) (all : Pairs) (slots : List ℕ) (slot : ℕ) (w : Window) (next : List Next) (list : List ℕ) (at : ℕ) (list' : List ℕ) (at' : ℕ) : Type 0 where
-  pub targets : List Window
-  pub front : List ℕ
-  pub puts : OverwritesZeros list at list' at' front
-  pub sized : length front + total (sizes_of kind all targets) ≡ size_of kind (window all w)
-  pub many : length next ≤ length front
-  pub lists : (texts : List (List ℕ)) → Texts kind all targets texts → Listed kind (front ++ concat texts) (window all w)
-  pub leads : (end : ℕ) (more : List Next) (ws : List Window) → HasSlotsTo kind all slots slot end w
-      → IsPending kind all slots (position_at w.to end) more ws → IsPending kind all slots (position_at w.to slot) (next ++ more) (targets ++ ws)
-
--- A text was written as far as these windows, in this order.
-pub record WrittenTo (kind : Kind) (all : Pairs) (list : List ℕ) (at : ℕ) (ws : List Window) : Type 0 where
-  pub written : List ℕ
-  pub at_is : at ≡ length written
-  pub list_is : list ≡ written ++ replicate (total (sizes_of kind all ws)) 0
-  pub completes : (texts : List (List ℕ)) → Texts kind all ws texts → Listed kind (written ++ concat texts) all

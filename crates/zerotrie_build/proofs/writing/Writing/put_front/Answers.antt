@@ -5,10 +5,11 @@ use Rattle.zerotrie_build.specs.passes.Windows.{item_no}
 use Rattle.zerotrie_build.specs.passes.Measured.{NoneFirst}
 use Rattle.zerotrie_build.proofs.WindowLemmas.NodeRuns.{literal_low}
 use Rattle.zerotrie_build.proofs.WriteLemmas.Fronts.{going_start, going_value, going_literals, going_span, open_bytes, room_value, room_literals, room_span, span_within, front_written}
+use Rattle.zerotrie_build.proofs.WriteLemmas.Puts.{grows}
 use Rattle.zerotrie_build.proofs.writing.Writing.put_front.Goals as goal
 
 pub loop-value-init : goal.loop-value-init
-loop-value-init g c = (c.requires.known.0, c.requires.known.1, going_start _ _ c.requires.known.1)
+loop-value-init g c = (c.requires.known.0, c.requires.known.1, going_start _ c.requires.known.1)
 
 pub put_value-requires : goal.put_value-requires
 put_value-requires g c = let v = c.loop-value.invariant in let o = v.1 in room_value c.in-Value.value _ v.2 o.stops (sym c.first_step.ensures.is ∙ c.in-Value.is) (open_bytes o) c.requires.room
@@ -18,14 +19,14 @@ loop-value-smaller-in-Value g c =
     let v = c.loop-value.invariant in
     let o = v.1 in
     let r = room_value c.in-Value.value _ v.2 o.stops (sym c.first_step.ensures.is ∙ c.in-Value.is) (open_bytes o) c.requires.room in
-    let p = c.put_value.ensures.puts in let a = p.at_is in let l = p.same in
+    let p = c.put_value.ensures.puts in let a = grows p in let l = p.same in
     let some = ap length c.put_value.ensures.spells.bytes_are in omega arith
 
 pub loop-value-preserved-in-Value : goal.loop-value-preserved-in-Value
 loop-value-preserved-in-Value g c =
     let v = c.loop-value.invariant in
     let o = v.1 in
-    (v.0, v.1, going_value _ _ c.in-Value.value v.2 o.stops o.within (sym c.first_step.ensures.is ∙ c.in-Value.is) c.put_value.ensures.spells c.put_value.ensures.puts)
+    (v.0, v.1, going_value _ c.in-Value.value v.2 o.stops o.within (sym c.first_step.ensures.is ∙ c.in-Value.is) c.put_value.ensures.spells c.put_value.ensures.puts)
 
 pub literals_end-end-requires : goal.literals_end-end-requires
 literals_end-end-requires g c =
@@ -60,7 +61,7 @@ pub loop-value-preserved : goal.loop-value-preserved
 loop-value-preserved g c =
     let v = c.loop-value.invariant in
     let o = v.1 in
-    (v.0, v.1, going_span _ _ c.in-Span.count v.2 o.stops o.within c.requires.keys (sym c.first_step.ensures.is ∙ c.in-Span.is) c.put_span.ensures.spells c.put_span.ensures.puts)
+    (v.0, v.1, going_span _ c.in-Span.count v.2 o.stops o.within c.requires.keys (sym c.first_step.ensures.is ∙ c.in-Span.is) c.put_span.ensures.spells c.put_span.ensures.puts)
 
 pub loop-value-smaller-in-Literal : goal.loop-value-smaller-in-Literal
 loop-value-smaller-in-Literal g c =
@@ -74,7 +75,7 @@ loop-value-smaller-in-Literal g c =
     let key = (item_no (g.I.IndexedItems.pairs c.args.items) c.loop-value.rest.from).0 in
     let d = c.loop-value.rest.depth in
     let n = length-take-le (c.literals_end-end.result - d) (drop d key) (let l = length-drop d key in omega arith) in
-    let a = c.put_literals.ensures.at_is in let l = c.put_literals.ensures.same in omega arith
+    let a = grows c.put_literals.ensures in let l = c.put_literals.ensures.same in omega arith
 
 pub loop-value-preserved-in-Literal : goal.loop-value-preserved-in-Literal
 loop-value-preserved-in-Literal g c =
@@ -82,14 +83,14 @@ loop-value-preserved-in-Literal g c =
     let o = v.1 in
     let step = sym c.first_step.ensures.is ∙ c.in-Literal.is in
     let e = c.literals_end-end.ensures in
-    (v.0, v.1, going_literals _ _ c.in-Literal.field-0 c.literals_end-end.result v.2 o.stops o.within c.requires.keys step e.past e.low e.within c.put_literals.ensures)
+    (v.0, v.1, going_literals _ c.in-Literal.field-0 c.literals_end-end.result v.2 o.stops o.within c.requires.keys step e.past e.low e.within c.put_literals.ensures)
 
 pub loop-value-smaller : goal.loop-value-smaller
 loop-value-smaller g c =
     let v = c.loop-value.invariant in
     let o = v.1 in
     let r = room_span c.in-Span.count _ v.2 o.stops (sym c.first_step.ensures.is ∙ c.in-Span.is) (open_bytes o) c.requires.room in
-    let p = c.put_span.ensures.puts in let a = p.at_is in let l = p.same in
+    let p = c.put_span.ensures.puts in let a = grows p in let l = p.same in
     let some = ap length c.put_span.ensures.spells.bytes_are in
     let n = length-append (spelled_as span_form c.in-Span.count) (take c.in-Span.count (drop c.loop-value.rest.depth (item_no (g.I.IndexedItems.pairs c.args.items) c.loop-value.rest.from).0)) in
     omega arith

@@ -7,7 +7,7 @@ use Rattle.zerotrie_build.proofs.writing.Writing.put_front.Given as goal
 abbrev pub invariant-loop-value : goal.invariant-loop-value
 invariant-loop-value g l =
     (targets : List Window) × (o : HasFirstTargets g.K.ZeroTrieWithOptions.kind (g.I.IndexedItems.pairs l.items) l.fn.window targets)
-    × Going g.K.ZeroTrieWithOptions.kind (g.I.IndexedItems.pairs l.items) l.fn.window o.bytes o.behind (g.S.TrieBuilderStore.list l.initial.self.data) l.initial.self.at (g.S.TrieBuilderStore.list l.self.data) l.self.at l.rest
+    × Going g.K.ZeroTrieWithOptions.kind (g.I.IndexedItems.pairs l.items) l.fn.window o.bytes o.behind l.initial.self l.self l.rest
 
 abbrev pub decreases-loop-value : goal.decreases-loop-value
-decreases-loop-value g l = length (g.S.TrieBuilderStore.list l.self.data) - l.self.at
+decreases-loop-value g l = l.self.len - length l.self.bytes.items

@@ -1,23 +1,23 @@
 use Rattle.std.proofs.Common.{ap, arith, length}
 use Rattle.zerotrie_build.proofs.WriteLemmas.Numbers.{three_bytes}
-use Rattle.zerotrie_build.proofs.WriteLemmas.Puts.{puts_same, puts_then}
+use Rattle.zerotrie_build.proofs.WriteLemmas.Puts.{grows, puts_same, puts_then}
 use Rattle.zerotrie_build.proofs.writing.Writing.put_large.Goals as goal
 
 pub put-requires : goal.put-requires
-put-requires g c = let is = ap length (three_bytes c.args.bits c.args.latent c.args.number c.requires.form (omega arith) (omega arith) (omega arith) (omega arith)) in let room = c.requires.room in omega arith
+put-requires c = let is = ap length (three_bytes c.args.bits c.args.latent c.args.number c.requires.form (omega arith) (omega arith) (omega arith) (omega arith)) in let room = c.requires.room in omega arith
 
 pub put-requires-then-high-least : goal.put-requires-then-high-least
-put-requires-then-high-least g c =
+put-requires-then-high-least c =
     let is = ap length (three_bytes c.args.bits c.args.latent c.args.number c.requires.form (omega arith) (omega arith) (omega arith) (omega arith)) in
-    let room = c.requires.room in let a = c.put.ensures.at_is in let s = c.put.ensures.same in omega arith
+    let room = c.requires.room in let a = grows c.put.ensures in let s = c.put.ensures.same in omega arith
 
 pub put-requires-then-high-least-2 : goal.put-requires-then-high-least-2
-put-requires-then-high-least-2 g c =
+put-requires-then-high-least-2 c =
     let is = ap length (three_bytes c.args.bits c.args.latent c.args.number c.requires.form (omega arith) (omega arith) (omega arith) (omega arith)) in
-    let room = c.requires.room in let a = c.put.ensures.at_is in let s = c.put.ensures.same in
-    let b = c.put-then-high-least.ensures.at_is in let t = c.put-then-high-least.ensures.same in omega arith
+    let room = c.requires.room in let a = grows c.put.ensures in let s = c.put.ensures.same in
+    let b = grows c.put-then-high-least.ensures in let t = c.put-then-high-least.ensures.same in omega arith
 
 pub returns-then-high-least : goal.returns-then-high-least
-returns-then-high-least g c =
-    puts_same _ _ _ _ _ _ (three_bytes c.args.bits c.args.latent c.args.number c.requires.form (omega arith) (omega arith) (omega arith) (omega arith))
-    (puts_then _ _ _ _ _ _ _ _ (puts_then _ _ _ _ _ _ _ _ c.put.ensures c.put-then-high-least.ensures) c.put-then-high-least-2.ensures)
+returns-then-high-least c =
+    puts_same (three_bytes c.args.bits c.args.latent c.args.number c.requires.form (omega arith) (omega arith) (omega arith) (omega arith))
+    (puts_then (puts_then c.put.ensures c.put-then-high-least.ensures) c.put-then-high-least-2.ensures)

@@ -1,30 +1,30 @@
 use Rattle.std.proofs.Common.{ap, arith, length}
 use Rattle.zerotrie_build.proofs.WriteLemmas.Numbers.{four_bytes}
-use Rattle.zerotrie_build.proofs.WriteLemmas.Puts.{puts_same, puts_then}
+use Rattle.zerotrie_build.proofs.WriteLemmas.Puts.{grows, puts_same, puts_then}
 use Rattle.zerotrie_build.proofs.writing.Writing.put_larger.Goals as goal
 
 pub put-requires : goal.put-requires
-put-requires g c = let is = ap length (four_bytes c.args.bits c.args.latent c.args.number c.requires.form (omega arith) (omega arith) (omega arith)) in let room = c.requires.room in omega arith
+put-requires c = let is = ap length (four_bytes c.args.bits c.args.latent c.args.number c.requires.form (omega arith) (omega arith) (omega arith)) in let room = c.requires.room in omega arith
 
 pub put-requires-then-top-least : goal.put-requires-then-top-least
-put-requires-then-top-least g c =
+put-requires-then-top-least c =
     let is = ap length (four_bytes c.args.bits c.args.latent c.args.number c.requires.form (omega arith) (omega arith) (omega arith)) in
-    let room = c.requires.room in let a = c.put.ensures.at_is in let s = c.put.ensures.same in omega arith
+    let room = c.requires.room in let a = grows c.put.ensures in let s = c.put.ensures.same in omega arith
 
 pub put-requires-then-top-least-2 : goal.put-requires-then-top-least-2
-put-requires-then-top-least-2 g c =
+put-requires-then-top-least-2 c =
     let is = ap length (four_bytes c.args.bits c.args.latent c.args.number c.requires.form (omega arith) (omega arith) (omega arith)) in
-    let room = c.requires.room in let a = c.put.ensures.at_is in let s = c.put.ensures.same in
-    let b = c.put-then-top-least.ensures.at_is in let t = c.put-then-top-least.ensures.same in omega arith
+    let room = c.requires.room in let a = grows c.put.ensures in let s = c.put.ensures.same in
+    let b = grows c.put-then-top-least.ensures in let t = c.put-then-top-least.ensures.same in omega arith
 
 pub put-requires-then-top-least-3 : goal.put-requires-then-top-least-3
-put-requires-then-top-least-3 g c =
+put-requires-then-top-least-3 c =
     let is = ap length (four_bytes c.args.bits c.args.latent c.args.number c.requires.form (omega arith) (omega arith) (omega arith)) in
-    let room = c.requires.room in let a = c.put.ensures.at_is in let s = c.put.ensures.same in
-    let b = c.put-then-top-least.ensures.at_is in let t = c.put-then-top-least.ensures.same in
-    let d = c.put-then-top-least-2.ensures.at_is in let u = c.put-then-top-least-2.ensures.same in omega arith
+    let room = c.requires.room in let a = grows c.put.ensures in let s = c.put.ensures.same in
+    let b = grows c.put-then-top-least.ensures in let t = c.put-then-top-least.ensures.same in
+    let d = grows c.put-then-top-least-2.ensures in let u = c.put-then-top-least-2.ensures.same in omega arith
 
 pub returns-then-top-least : goal.returns-then-top-least
-returns-then-top-least g c =
-    puts_same _ _ _ _ _ _ (four_bytes c.args.bits c.args.latent c.args.number c.requires.form (omega arith) (omega arith) (omega arith))
-    (puts_then _ _ _ _ _ _ _ _ (puts_then _ _ _ _ _ _ _ _ (puts_then _ _ _ _ _ _ _ _ c.put.ensures c.put-then-top-least.ensures) c.put-then-top-least-2.ensures) c.put-then-top-least-3.ensures)
+returns-then-top-least c =
+    puts_same (four_bytes c.args.bits c.args.latent c.args.number c.requires.form (omega arith) (omega arith) (omega arith))
+    (puts_then (puts_then (puts_then c.put.ensures c.put-then-top-least.ensures) c.put-then-top-least-2.ensures) c.put-then-top-least-3.ensures)

@@ -3,7 +3,7 @@ use Rattle.zerotrie_build.specs.passes.Writing.{next_of}
 use Rattle.zerotrie_build.proofs.WindowLemmas.NodeRuns.{lone_end, stopped}
 use Rattle.zerotrie_build.proofs.MeasureLemmas.Slots.{at_end}
 use Rattle.zerotrie_build.proofs.WriteLemmas.Fronts.{going_start, going_lone, going_front, open_bytes, room_lone}
-use Rattle.zerotrie_build.proofs.WriteLemmas.Puts.{puts_then}
+use Rattle.zerotrie_build.proofs.WriteLemmas.Puts.{grows, puts_then}
 use Rattle.zerotrie_build.proofs.WriteLemmas.Slots.{opened}
 use Rattle.zerotrie_build.proofs.WriteLemmas.Branches.{branch_slots, branch_windows, branch_lens, branch_numbers, branch_small, branch_room, branch_refused, front_branch, front_end}
 use Rattle.zerotrie_build.proofs.writing.Writing.put_nodes.Goals as goal
@@ -11,14 +11,14 @@ use Rattle.zerotrie_build.proofs.writing.Writing.put_nodes.Goals as goal
 pub put_all-requires : goal.put_all-requires
 put_all-requires g c =
     let o = (opened c.requires.kept.1).known in
-    let room = room_lone c.in-Some.literals.now c.in-Some.value _ (going_start (g.S.TrieBuilderStore.list c.args.self.now.data) c.args.self.now.at o) o.stops o.within c.requires.keys c.in-Some.ensures.is (open_bytes o) c.requires.room in
+    let room = room_lone c.in-Some.literals.now c.in-Some.value _ (going_start c.args.self.now o) o.stops o.within c.requires.keys c.in-Some.ensures.is (open_bytes o) c.requires.room in
     omega arith
 
 pub put_value-requires : goal.put_value-requires
 put_value-requires g c =
     let o = (opened c.requires.kept.1).known in
-    let room = room_lone c.in-Some.literals.now c.in-Some.value _ (going_start (g.S.TrieBuilderStore.list c.args.self.now.data) c.args.self.now.at o) o.stops o.within c.requires.keys c.in-Some.ensures.is (open_bytes o) c.requires.room in
-    let p = c.put_all.ensures in let at = p.at_is in let same = p.same in
+    let room = room_lone c.in-Some.literals.now c.in-Some.value _ (going_start c.args.self.now o) o.stops o.within c.requires.keys c.in-Some.ensures.is (open_bytes o) c.requires.room in
+    let p = c.put_all.ensures in let at = grows p in let same = p.same in
     omega arith
 
 pub returns-in-Some-clause-put : goal.returns-in-Some-clause-put
@@ -30,8 +30,8 @@ returns-in-Some-clause-put g c =
     let o = k.known in
     let literals = c.in-Some.literals.now in
     let lone = c.in-Some.ensures.is in
-    let puts = puts_then _ _ _ _ _ _ _ _ c.put_all.ensures c.put_value.ensures.puts in
-    let going = going_lone _ _ literals c.in-Some.value (going_start (g.S.TrieBuilderStore.list c.args.self.now.data) c.args.self.now.at o) o.stops o.within c.requires.keys lone c.put_value.ensures.spells puts in
+    let puts = puts_then c.put_all.ensures c.put_value.ensures.puts in
+    let going = going_lone _ literals c.in-Some.value (going_start c.args.self.now o) o.stops o.within c.requires.keys lone c.put_value.ensures.spells puts in
     ([], refl, front_end k going (lone_end kind all w literals c.in-Some.value (w.depth + length literals) lone) [] refl)
 
 pub put_front-rest-requires : goal.put_front-rest-requires
@@ -144,5 +144,5 @@ returns-in_ok-set-clause-put g c =
     let next_is : next ≡ next_of kind slots slot k.cs numbers = ap (λ x. next_of kind slots slot x numbers) found.0 in (
       next,
       c.in_ok-set.ensures.pending,
-      front_branch _ _ k v step laid _ _ _ c.as_slice.ensures.value lens.0 c.as_slice-numbers.ensures.value c.put_branch.ensures next next_is,
+      front_branch _ k v step laid _ _ _ c.as_slice.ensures.value lens.0 c.as_slice-numbers.ensures.value c.put_branch.ensures next next_is,
     )

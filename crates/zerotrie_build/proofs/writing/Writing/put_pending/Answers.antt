@@ -1,7 +1,8 @@
 use Rattle.std.proofs.Common.{rules, refl, ◌≡◌, [], ◌∷◌, ◌++◌, length, reverse, arith, sym, ap, subst, ◌∙◌}
 use Rattle.zerotrie_build.specs.declared.windows.Window.{Window}
 use Rattle.zerotrie_build.specs.declared.branch_layout.PendingWindow.{PendingWindow}
-use Rattle.zerotrie_build.specs.passes.Writing.{position_at, IsPending, WrittenTo}
+use Rattle.zerotrie_build.specs.passes.Writing.{position_at, IsPending}
+use Rattle.zerotrie_build.specs.passes.Writes.{WrittenTo}
 use Rattle.zerotrie_build.proofs.Stacks.{popped}
 use Rattle.zerotrie_build.proofs.WriteLemmas.Writing.{left_room, left_more, left_less, leads_none, leads_go, leads_text}
 use Rattle.zerotrie_build.proofs.writing.Writing.put_pending.Goals as goal
@@ -22,7 +23,7 @@ put_nodes-requires g c =
     let rest = reverse c.pop.new.self.items in
     let first = popped _ _ _ c.in-Some.ensures.items ∙ ap (λ x. x ∷ rest) c.in-Text.is in
     let t = leads_text next_window rest v.2 first in
-    let left : WrittenTo kind all (g.S.TrieBuilderStore.list c.loop-next.self.data) c.loop-next.self.at (w ∷ t.behind) = subst (WrittenTo kind all (g.S.TrieBuilderStore.list c.loop-next.self.data) c.loop-next.self.at) t.is v.1 in
+    let left : WrittenTo kind all c.loop-next.self (w ∷ t.behind) = subst (WrittenTo kind all c.loop-next.self) t.is v.1 in
     λ k. ((refl, tt), (c.requires.keys, (c.requires.ascii, (c.requires.ordered, ((t.end, t.kept), left_room left)))))
 
 pub loop-next-smaller : goal.loop-next-smaller
@@ -35,7 +36,7 @@ loop-next-smaller g c =
     let rest = reverse c.pop.new.self.items in
     let first = popped _ _ _ c.in-Some.ensures.items ∙ ap (λ x. x ∷ rest) c.in-Text.is in
     let t = leads_text next_window rest v.2 first in
-    let left : WrittenTo kind all (g.S.TrieBuilderStore.list c.loop-next.self.data) c.loop-next.self.at (w ∷ t.behind) = subst (WrittenTo kind all (g.S.TrieBuilderStore.list c.loop-next.self.data) c.loop-next.self.at) t.is v.1 in
+    let left : WrittenTo kind all c.loop-next.self (w ∷ t.behind) = subst (WrittenTo kind all c.loop-next.self) t.is v.1 in
     let put = c.in_ok-put_nodes-in-Text.ensures.put in
     let pending : put.0 ++ rest ≡ reverse c.put_nodes.new.layout.pending.items = sym put.1 in
     let less = left_less rest left put.2 in
@@ -54,7 +55,7 @@ loop-next-preserved g c =
     let rest = reverse c.pop.new.self.items in
     let first = popped _ _ _ c.in-Some.ensures.items ∙ ap (λ x. x ∷ rest) c.in-Text.is in
     let t = leads_text next_window rest v.2 first in
-    let left : WrittenTo kind all (g.S.TrieBuilderStore.list c.loop-next.self.data) c.loop-next.self.at (w ∷ t.behind) = subst (WrittenTo kind all (g.S.TrieBuilderStore.list c.loop-next.self.data) c.loop-next.self.at) t.is v.1 in
+    let left : WrittenTo kind all c.loop-next.self (w ∷ t.behind) = subst (WrittenTo kind all c.loop-next.self) t.is v.1 in
     let next = c.in_ok-put_nodes-in-Text.ensures.put.0 in
     let put = c.in_ok-put_nodes-in-Text.ensures.put.2 in
     let pending : next ++ rest ≡ reverse c.put_nodes.new.layout.pending.items = sym c.in_ok-put_nodes-in-Text.ensures.put.1 in
@@ -64,4 +65,4 @@ pub returns-clause-put : goal.returns-clause-put
 returns-clause-put g c =
     let v = c.loop-next.invariant in
     let none : c.loop-next.layout.pending.items ≡ [] = search rules in
-    subst (WrittenTo g.K.ZeroTrieWithOptions.kind (g.I.IndexedItems.pairs c.args.items) (g.S.TrieBuilderStore.list c.loop-next.self.data) c.loop-next.self.at) (leads_none v.2 (ap reverse none)) v.1
+    subst (WrittenTo g.K.ZeroTrieWithOptions.kind (g.I.IndexedItems.pairs c.args.items) c.loop-next.self) (leads_none v.2 (ap reverse none)) v.1

@@ -3,4 +3,4 @@ use Rattle.zerotrie_core.proofs.CallerLemmas.{spells_spelled}
 use Rattle.zerotrie_build.proofs.writing.Writing.put_value.Goals as goal
 
 pub returns-clause-spells : goal.returns-clause-spells
-returns-clause-spells g c = spells_spelled 16 4 c.args.value (omega arith) (inl refl)
+returns-clause-spells c = spells_spelled 16 4 c.args.value (omega arith) (inl refl)

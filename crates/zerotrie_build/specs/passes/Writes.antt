@@ -1,0 +1,45 @@
+-- Bytes that are written at the end of a text.
+use Rattle.std.specs.Prelude.{◌≡◌, ℕ, ◌+◌, ◌≤◌, List, ◌++◌, length}
+use Rattle.std.specs.List.{concat}
+use Rattle.zerotrie_core.specs.Kind.{Kind}
+use Rattle.zerotrie_core.specs.Maps.{Pairs}
+use Rattle.zerotrie_core.specs.Branches.{total}
+use Rattle.zerotrie_core.specs.Canonical.{size_of}
+use Rattle.zerotrie_build.specs.declared.windows.Window.{Window}
+use Rattle.zerotrie_build.specs.declared.branch_layout.Next.{Next}
+use Rattle.zerotrie_build.specs.declared.writing.Writing.{Writing}
+use Rattle.zerotrie_build.specs.passes.Windows.{window}
+use Rattle.zerotrie_build.specs.passes.Measured.{Passes, sizes_of}
+use Rattle.zerotrie_build.specs.passes.Writing.{Listed, Texts, position_at, HasSlotsTo, IsPending}
+
+-- this many bytes more are part of the text
+abbrev pub HasRoom : Writing → ℕ → Type 0
+HasRoom w n = length w.bytes.items + n ≤ w.len
+
+-- The bytes were written next.
+pub record Writes (old new : Writing) (bytes : List ℕ) : Type 0 where
+  pub is : new.bytes.items ≡ old.bytes.items ++ bytes
+  pub same : new.len ≡ old.len
+
+-- The values, literals and spans that stand first in a window were written, and the rest of it comes after them.
+pub record FrontWritten (kind : Kind) (all : Pairs) (w rest : Window) (old new : Writing) : Type 0 where
+  pub front : List ℕ
+  pub writes : Writes old new front
+  pub run : Passes kind all w rest (length front)
+  pub lists : (text : List ℕ) → Listed kind text (window all rest) → Listed kind (front ++ text) (window all w)
+
+-- The bytes of a window in front of the targets of its first branch were written, and then come these windows.
+pub record NodesWritten (kind : Kind) (all : Pairs) (slots : List ℕ) (slot : ℕ) (w : Window) (next : List Next) (old new : Writing) : Type 0 where
+  pub targets : List Window
+  pub front : List ℕ
+  pub puts : Writes old new front
+  pub sized : length front + total (sizes_of kind all targets) ≡ size_of kind (window all w)
+  pub many : length next ≤ length front
+  pub lists : (texts : List (List ℕ)) → Texts kind all targets texts → Listed kind (front ++ concat texts) (window all w)
+  pub leads : (end : ℕ) (more : List Next) (ws : List Window) → HasSlotsTo kind all slots slot end w
+      → IsPending kind all slots (position_at w.to end) more ws → IsPending kind all slots (position_at w.to slot) (next ++ more) (targets ++ ws)
+
+-- A text was written as far as these windows, in this order, for which there is room.
+pub record WrittenTo (kind : Kind) (all : Pairs) (w : Writing) (ws : List Window) : Type 0 where
+  pub room : HasRoom w (total (sizes_of kind all ws))
+  pub completes : (texts : List (List ℕ)) → Texts kind all ws texts → Listed kind (w.bytes.items ++ concat texts) all
