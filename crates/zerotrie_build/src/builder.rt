@@ -49,7 +49,7 @@ fn in_order<K: ZeroTrieWithOptions, Key: TrieKey, A: Allocator + Copy>(
     Ok(items)
 }
 
-/// The bytes of the trie of items in the order of the kind. The store and hashed tables take their memory from `alloc`. If
+/// The bytes of the trie of items in the order of the kind. They and hashed tables take their memory from `alloc`. If
 /// `ascii` is true, all keys are ASCII.
 fn build_ordered<
     'a,
@@ -262,7 +262,8 @@ pub fn encoded_len(
     Ok(len)
 }
 
-/// A builder of tries, which measures their bytes and then writes them into a store that grows once.
+/// A builder of tries, which measures their bytes and then writes them into memory of their length. A `VecDeque` takes
+/// that over; a store of another type grows once, and takes in byte after byte (`TrieBuilderStore::atbs_fill`).
 ///
 /// ```
 /// let items = [("ad", 22), ("adef", 33)];

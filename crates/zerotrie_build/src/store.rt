@@ -51,7 +51,7 @@ pub trait TrieBuilderStore: Sized {
             (bit_or (slice_index (list self.old) index) bits) };
 
     /// Takes in all of these bytes, if there are none so far. The list grows once, and then each byte is set at its place,
-    /// from the first to the last. A store that keeps a `Vec` can take this one as it is.
+    /// from the first to the last. A store that keeps its bytes in a `Vec` can take this one as it is, as `VecDeque` does.
     ///
     /// ```
     /// let mut store: VecDeque<u8> = TrieBuilderStore::atbs_new_empty(rt.alloc());
