@@ -263,7 +263,7 @@ pub fn encoded_len(
 }
 
 /// A builder of tries, which measures their bytes and then writes them into memory of their length. A `VecDeque` takes
-/// that over; a store of another type grows once, and takes in byte after byte (`TrieBuilderStore::atbs_fill`).
+/// that over; a store that keeps the trait's `atbs_fill` grows once, and takes in byte after byte.
 ///
 /// ```
 /// let items = [("ad", 22), ("adef", 33)];

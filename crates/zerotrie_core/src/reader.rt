@@ -106,7 +106,7 @@ pub(crate) fn descend<'a, K: ZeroTrieWithOptions>(node: Node<'a>, key: &'a [u8])
 ///
 /// In `Ignore` an ASCII letter of the key matches in either case. Every other byte, and in the other kinds
 /// each, matches itself alone. `Hash` and `Ext` also read spans, which are one node each, and find an edge
-/// of a branch of 16 edges or more by a perfect hash.
+/// of a branch of 16 edges or more by a perfect hash, unless all edges are compared at once.
 ///
 /// It returns on any bytes, and takes no memory. On bytes that mean a map the first part is the key's value
 /// in that map, and the second is at most 2n + 1 for a key of n bytes. On other bytes it may be more: in

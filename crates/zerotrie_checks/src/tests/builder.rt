@@ -78,7 +78,7 @@ fn lengths_of_long_keys(rt: HostRuntime) -> Result<(), Fail> {
     Ok(())
 }
 
-/// A build grows its store once, and writes each byte at a place after those written before.
+/// A store that keeps the trait's `atbs_fill` grows once, and each byte is set at a place after those set before.
 #[test]
 fn a_build_grows_once(rt: HostRuntime) -> Result<(), Fail> {
     let rows: [&[(&str, usize)]; 3] = [
