@@ -60,7 +60,8 @@ pub trait TrieBuilderStore: Sized {
     /// ```
     fn atbs_fill(&mut self, bytes: Vec<u8>) -> Result<(), AllocError>
         requires { list self.old ≡ [] }
-        ensures { OnOk result (list self.new ≡ bytes.items) }
+        ensures ok { OnOk result (list self.new ≡ bytes.items) }
+        ensures err { OnErr result (list self.new ≡ list self.old) }
     {
         self.atbs_prepend_n_zeros(bytes.len())?;
         for index in 0..bytes.len() {

@@ -68,7 +68,7 @@ fn code_in<'a>(matches: &ArgMatches<'a>) -> Result<Question<'a>, &'static str> {
     }
     if is_taken(language, name) {
         return Err(
-            "--name asks for no keyword of the language, and in C for no name of zerotrie.h",
+            "--name asks for no keyword of the language, and in C for none that begins with zerotrie",
         );
     }
     Ok(Question::Code(language, name))

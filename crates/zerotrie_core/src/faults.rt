@@ -33,7 +33,7 @@ pub enum FaultCause {
     ///
     /// They are cut off, a number in them is too large, or they are a branch of one edge, or one whose offsets are wider
     /// than any of the kind.
-    #[error("no node of this kind of trie begins here")]
+    #[error("no whole node of this kind of trie begins here")]
     NoNode,
     /// A span begins, and the kind has none.
     #[error("a span stands in a kind of trie that has none")]

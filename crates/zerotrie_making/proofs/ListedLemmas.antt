@@ -1,15 +1,17 @@
 -- Pairs that a trie lists, read again and built.
-use Rattle.std.proofs.Common.{◌≡◌, ℕ, ◌^◌, ◌<◌, ◌++◌, List, [], ◌∷◌, Some, refl, ◌∙◌, subst, sym}
+use Rattle.std.proofs.Common.{◌≡◌, ℕ, ◌^◌, ◌<◌, ◌++◌, List, [], ◌∷◌, Some, refl, ap, ◌∙◌, subst, sym}
 use Rattle.std.specs.Prelude.{All}
 use Rattle.std.proofs.lemmas.List.Elements.{All-nil, All-cons, All-map, All-append}
 use Rattle.zerotrie_core.specs.Kind.{Kind}
-use Rattle.zerotrie_core.specs.Maps.{Map, Pairs, with_front}
+use Rattle.zerotrie_core.specs.Maps.{Map, Pairs, with_front, beginning}
 use Rattle.zerotrie_core.specs.Texts.{Lists, ListEach, Means, nothing, value, literal, span, branch, no_edge, edge}
-use Rattle.zerotrie_lines.specs.Lines.{tsv_lines}
+use Rattle.zerotrie_lines.specs.Lines.{tsv_line, tsv_lines}
 use Rattle.zerotrie_lines.specs.Laws.{LinesReadBack, OneReading}
 use Rattle.zerotrie_lines.specs.declared.reading.Format.TheVariants.{Tsv}
 use Rattle.zerotrie_lines.specs.Tables.{lowered}
 use Rattle.zerotrie_queries.specs.Kinds.{kind_of}
+use Rattle.zerotrie_queries.specs.Printed.{pair_lines}
+use Rattle.zerotrie_queries.specs.declared.print.Style.TheVariants as style
 use Rattle.zerotrie_queries.specs.declared.kind.TrieKind.{TrieKind}
 use Rattle.zerotrie_making.specs.Plans.{file_of}
 use Rattle.zerotrie_making.specs.Sources.{IsPairs}
@@ -43,9 +45,20 @@ of_listed kind bytes file m plan means named made =
     let b = rw named at made.build in
     (made.bytes, f, subst (Means (kind_of kind) made.bytes) (sym means.is) b.1.means)
 
+-- with the empty prefix all pairs are listed
+all_begin : (kind : Kind) (pairs : Pairs) → beginning kind [] pairs ≡ pairs
+all_begin kind [] = refl
+all_begin kind (e ∷ pairs) = ap (λ ps. e ∷ ps) (all_begin kind pairs)
+
+-- as lines that are read back
+same_lines : (pairs : Pairs) → pair_lines style.Tsv pairs ≡ tsv_lines pairs
+same_lines [] = refl
+same_lines (e ∷ pairs) = ap (λ t. tsv_line e ++ t) (same_lines pairs)
+
 pub made_again : LinesReadBack → OneReading → ListedIsMadeAgain
 made_again back one kind bytes file m plan means tsv named kept made =
-    let read : IsPairs (Text Tsv) (tsv_lines means.pairs) made.0 = subst (λ s. IsPairs s (tsv_lines means.pairs) made.0) tsv made.1 in
+    let lines : pair_lines style.Tsv (beginning (kind_of kind) [] means.pairs) ≡ tsv_lines means.pairs = ap (pair_lines style.Tsv) (all_begin (kind_of kind) means.pairs) ∙ same_lines means.pairs in
+    let read : IsPairs (Text Tsv) (tsv_lines means.pairs) made.0 = subst (λ t. IsPairs (Text Tsv) t made.0) lines (subst (λ s. IsPairs s (pair_lines style.Tsv (beginning (kind_of kind) [] means.pairs)) made.0) tsv made.1) in
     let same = one (tsv_lines means.pairs) means.pairs made.0 (back means.pairs (values_below means.lists)) read in
     let plain : lowered plan.lower_case made.0 ≡ made.0 = rw kept refl in
     of_listed kind bytes file m plan means named (subst (λ pairs. IsFileOf plan pairs file) (plain ∙ same) made.2)

@@ -5,7 +5,7 @@ ghost use Rattle.zerotrie_making.specs.Laws.{ListedIsMadeAgain};
 
 use zerotrie_lines::laws::{lines_read_back, one_reading};
 
-/// The lines of a trie, made into a file of the same kind, mean the same map.
+/// The lines in which a trie is listed, made into a file of the same kind, mean the same map.
 pub fn listed_is_made_again()
     ensures { ListedIsMadeAgain }
 {

@@ -1,6 +1,8 @@
 -- What each command prints, what it leaves in files, and how it ends.
-use Rattle.std.specs.Prelude.{◌≡◌, ◌≢◌, ◌⊎◌, ℕ, List, Option, Some, None, IfSome, Bool, true, false, map, codes}
+use Rattle.std.specs.Prelude.{◌≡◌, ◌≢◌, ◌⊎◌, ℕ, List, [], Option, Some, None, IfSome, Result, Ok, Err, Bool, true, false, map, codes}
 use Rattle.std.specs.Io.KnownBytes.{Appends}
+use Rattle.std.specs.Io.Buffered.{writer_buffer}
+use Rattle.std.specs.declared.io.buffered.BufWriter.{BufWriter}
 use Rattle.zerotrie_core.specs.WellFormed.{IsWellFormed}
 use Rattle.zerotrie_core.specs.Faults.{IsFirstFault}
 use Rattle.zerotrie_core.specs.declared.faults.Fault.{Fault as ByteFault}
@@ -45,6 +47,10 @@ use Rattle.zerotrie_run.specs.declared.command.Command.TheVariants as commands
 pub record World : Type 0 where
   pub files : Option Files
   pub printed : Option (List ℕ)
+
+-- a buffer that was empty is empty: what was written to it was handed on
+abbrev pub HandsOn : {W A : Type 0} → BufWriter W A → BufWriter W A → Type 0
+HandsOn before after = writer_buffer before ≡ [] → writer_buffer after ≡ []
 
 -- nothing was printed, and all files hold what they held
 abbrev pub Untouched : World → World → Type 0
@@ -152,6 +158,12 @@ ask_status (ask.Unread e) = Fault
 ask_status (ask.NoTrie why fault) = BadInput
 ask_status (ask.Unanswered e) = Fault
 
+-- whether all was found, or why there is no answer, as the end of a run
+abbrev pub asked_status : Result Bool AskError → Status
+asked_status (Ok true) = Done
+asked_status (Ok false) = Absent
+asked_status (Err e) = ask_status e
+
 -- The file of a trie was made: what was read, and the file that was written.
 pub record IsMade (build : Build) (input : Option (List ℕ)) (before after : World) : Type 0 where
   pub all : List ℕ
@@ -204,10 +216,24 @@ abbrev pub TellsNumber : Command → Option (List ℕ) → Option Files → Type
 TellsNumber (commands.Build build) input files = ⊥
 TellsNumber (commands.Ask file question) input files = IsDoubtful file input files
 
--- a command reads standard input
-abbrev pub ReadsInput : Command → Type 0
-ReadsInput (commands.Build build) = build.from ≡ Stream
-ReadsInput (commands.Ask file question) = (file.place ≡ Stream) ⊎ (of_lines question ≡ true)
+-- the file and the keys of a command are both standard input
+abbrev pub ReadsTwice : Command → Type 0
+ReadsTwice (commands.Build build) = ⊥
+ReadsTwice (commands.Ask file question) = (file.place ≡ Stream) × (of_lines question ≡ true)
+
+-- A question that ends so doesn't read its keys from standard input, which it does not if its file has no trie.
+abbrev pub LeavesKeys : Question → Status → Type 0
+LeavesKeys question BadInput = Unit {0}
+LeavesKeys question Done = of_lines question ≡ true → ⊥
+LeavesKeys question Absent = of_lines question ≡ true → ⊥
+LeavesKeys question Refused = of_lines question ≡ true → ⊥
+LeavesKeys question BadUsage = of_lines question ≡ true → ⊥
+LeavesKeys question Fault = of_lines question ≡ true → ⊥
+
+-- a command that ends so doesn't read standard input
+abbrev pub LeavesInput : Command → Status → Type 0
+LeavesInput (commands.Build build) status = build.from ≡ Stream → ⊥
+LeavesInput (commands.Ask file question) status = (status ≡ BadUsage) ⊎ ((file.place ≡ Stream → ⊥) × LeavesKeys question status)
 
 -- whether the steps of a command are told
 abbrev pub tells_steps : Command → Bool

@@ -1,9 +1,12 @@
 //! A question to the trie of a file.
 
-ghost use Rattle.std.specs.Prelude.{◌≡◌, ◌↔◌, ◌⊎◌, ℕ, List, true, false, Ok, IfOk, IfErr, IfSome, IsTrue};
+ghost use Rattle.std.specs.Prelude.{◌≡◌, ◌↔◌, ℕ, List, true, false, Ok, Err, IfOk, IfErr, IfSome, IsTrue};
+ghost use Rattle.std.specs.Io.Buffered.{writer_contents};
 ghost use Rattle.zerotrie_queries.specs.declared.kind.TrieKind.{TrieKind};
-ghost use Rattle.zerotrie_run.specs.Runs.{Opens, IsUnopened, KeysAnswered, Answers, IsAsked, RunsAsk, IsUnanswered, IsDoubtful, IsFaultIn, ask_status, are_lines, of_lines};
+ghost use Rattle.zerotrie_run.specs.Runs.{Opens, IsUnopened, KeysAnswered, Answers, IsAsked, RunsAsk, IsUnanswered, IsDoubtful, IsFaultIn, ReadsTwice, LeavesKeys, LeavesInput, HandsOn, ask_status, asked_status, are_lines, of_lines};
 ghost use Rattle.zerotrie_run.specs.declared.command.Place.TheVariants.{Stream};
+ghost use Rattle.zerotrie_run.specs.declared.command.Command.TheVariants.{Ask};
+ghost use Rattle.zerotrie_run.specs.declared.asking.AskError.TheVariants.{TwoInputs};
 
 use crate::command::{Keys, Place, Question, TrieFile};
 use crate::messages::tell_number;
@@ -12,7 +15,7 @@ use crate::status::Status;
 use crate::typed::{AnswerError, answer_lines};
 use std::alloc::Global;
 use std::io;
-use std::io::{Read, Write};
+use std::io::{BufWriter, Read, Write};
 use zerotrie_core::Fault;
 use zerotrie_files::Store;
 use zerotrie_queries::{
@@ -154,7 +157,7 @@ fn answer_held<R: Read, W: Write>(
         (W.contents output.old) (W.contents output.new) all) }
     ensures err { IfErr result (IsUnanswered file.entry held.now
         (W.contents output.old) (W.contents output.new)) }
-    ensures unread { of_lines question.entry ≡ false → input.new ≡ input.old }
+    ensures unread { LeavesKeys question.entry (asked_status result) → input.new ≡ input.old }
 {
     let trie = match open(file, held) {
         Ok(trie) => trie,
@@ -168,22 +171,24 @@ fn answer_held<R: Read, W: Write>(
 
 /// Answers a question to the trie of a file, and tells whether all was found. If the file is read as bare bytes and begins
 /// with the number of a kind, a message says so.
-pub fn ask<F: Store, R: Read, W: Write, M: Write>(
+pub fn ask<F: Store, R: Read, W: Write + Drop, M: Write>(
     alloc: Global,
     file: TrieFile<'_>,
     question: Question<'_>,
     files: &F,
     input: &mut R,
-    output: &mut W,
+    output: &mut BufWriter<W>,
     messages: &mut M,
 ) -> Result<bool, AskError>
     ensures ok { IfOk result (λ all. IsAsked file.entry question.entry (R.remaining input.old)
-        (F.files files.now) (W.contents output.old) (W.contents output.new) all) }
+        (F.files files.now) (writer_contents W.contents output.old) (writer_contents W.contents output.new) all) }
     ensures err { IfErr result (λ e. RunsAsk file.entry question.entry (R.remaining input.old)
-        (F.files files.now) (W.contents output.old) (W.contents output.new) (ask_status e)) }
+        (F.files files.now) (writer_contents W.contents output.old) (writer_contents W.contents output.new) (ask_status e)) }
+    ensures handed { IfOk result (λ _. HandsOn output.old output.new) }
     ensures quiet { (IsDoubtful file.entry (R.remaining input.old) (F.files files.now) → ⊥)
         → messages.new ≡ messages.old }
-    ensures unread { ((file.entry.place ≡ Stream) ⊎ (of_lines question.entry ≡ true) → ⊥)
+    ensures twice { ReadsTwice (Ask file.entry question.entry) → result ≡ Err TwoInputs }
+    ensures unread { LeavesInput (Ask file.entry question.entry) (asked_status result)
         → input.new ≡ input.old }
 {
     if reads_twice(file.place, question) {

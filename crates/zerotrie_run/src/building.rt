@@ -1,7 +1,8 @@
 //! A trie file that is made.
 
 ghost use Rattle.std.specs.Prelude.{◌≡◌, false, IfErr, OnOk};
-ghost use Rattle.zerotrie_run.specs.Runs.{World, IsMade, RunsBuild, build_status};
+ghost use Rattle.zerotrie_run.specs.Runs.{World, IsMade, RunsBuild, HandsOn, build_status};
+ghost use Rattle.std.specs.Io.Buffered.{writer_contents};
 ghost use Rattle.zerotrie_run.specs.declared.command.Place.TheVariants.{Stream};
 
 use crate::command::Build;
@@ -10,7 +11,7 @@ use crate::reading::{read_place, write_place};
 use crate::status::Status;
 use std::alloc::Global;
 use std::io;
-use std::io::{Read, Write};
+use std::io::{BufWriter, Read, Write};
 use zerotrie_files::Store;
 use zerotrie_making::{MakeError, make};
 
@@ -38,20 +39,21 @@ impl BuildError {
 }
 
 /// Makes a trie file, and puts it in its place. Each step is told as it ends, if that was asked for.
-pub fn build<F: Store, R: Read, W: Write, M: Write>(
+pub fn build<F: Store, R: Read, W: Write + Drop, M: Write>(
     alloc: Global,
     build: Build<'_>,
     files: &mut F,
     input: &mut R,
-    output: &mut W,
+    output: &mut BufWriter<W>,
     messages: &mut M,
 ) -> Result<(), BuildError>
     ensures ok { OnOk result (IsMade build.entry (R.remaining input.old)
-        (record { files = F.files files.old; printed = W.contents output.old })
-        (record { files = F.files files.new; printed = W.contents output.new })) }
+        (record { files = F.files files.old; printed = writer_contents W.contents output.old })
+        (record { files = F.files files.new; printed = writer_contents W.contents output.new })) }
     ensures err { IfErr result (λ e. RunsBuild build.entry (R.remaining input.old)
-        (record { files = F.files files.old; printed = W.contents output.old })
-        (record { files = F.files files.new; printed = W.contents output.new }) (build_status e)) }
+        (record { files = F.files files.old; printed = writer_contents W.contents output.old })
+        (record { files = F.files files.new; printed = writer_contents W.contents output.new }) (build_status e)) }
+    ensures handed { OnOk result (HandsOn output.old output.new) }
     ensures quiet { build.entry.progress ≡ false → messages.new ≡ messages.old }
     ensures unread { (build.entry.from ≡ Stream → ⊥) → input.new ≡ input.old }
 {

@@ -33,13 +33,22 @@ fn target_name(place: Place<'_>) -> &str {
     place.name(STANDARD_OUTPUT)
 }
 
+/// From where the places in a file are counted.
+fn counted_from(file: TrieFile<'_>) -> &'static str {
+    match file.kind {
+        Some(_) => "",
+        None => " after the number of the kind",
+    }
+}
+
 /// Tells why a file has no trie, and where its first fault is.
 fn tell_no_trie<M: Write>(
     messages: &mut M,
-    path: &str,
+    file: TrieFile<'_>,
     why: &OpenError,
     fault: &Option<Fault>,
 ) -> io::Result<()> {
+    let path = source_name(file.place);
     match (why, fault) {
         (OpenError::BadTag(TagError::Empty), _) => {
             writeln!(messages, "zerotrie: {path}: the file is empty")
@@ -50,9 +59,10 @@ fn tell_no_trie<M: Write>(
         ),
         (OpenError::NotWellFormed(kind), Some(fault)) => {
             let name = kind.name();
+            let counted = counted_from(file);
             writeln!(
                 messages,
-                "zerotrie: {path}: no trie of kind {name}: {fault}"
+                "zerotrie: {path}: no trie of kind {name}: {fault}{counted}"
             )
         }
         (OpenError::NotWellFormed(kind), None) => {
@@ -93,26 +103,30 @@ fn tell_unwritten<M: Write>(messages: &mut M, place: &str, error: &io::Error) ->
         ErrorKind::OutOfMemory => writeln!(messages, "zerotrie: out of memory"),
         ErrorKind::AlreadyExists => writeln!(
             messages,
-            "zerotrie: {place}: builds that were interrupted left {place}.0.tmp to {place}.99.tmp beside it: remove these"
+            "zerotrie: {place}: builds that were interrupted left a hundred new files beside it, or beside the file that it leads to, with .0.tmp to .99.tmp after its name: remove these"
         ),
         ErrorKind::PermissionDenied => writeln!(
             messages,
-            "zerotrie: {place}: {error}; a new file is made in its folder, and then takes its place"
+            "zerotrie: {place}: {error}; it has to be writable, and so has its folder, where a new file is made that takes its place"
         ),
         _ => writeln!(messages, "zerotrie: {place}: {error}"),
     }
 }
 
 /// Tells why a question has no answer.
-pub fn tell_ask<M: Write>(messages: &mut M, place: Place<'_>, error: &AskError) -> io::Result<()> {
-    let path = source_name(place);
+pub fn tell_ask<M: Write>(
+    messages: &mut M,
+    file: TrieFile<'_>,
+    error: &AskError,
+) -> io::Result<()> {
+    let path = source_name(file.place);
     match error {
         AskError::TwoInputs => writeln!(
             messages,
             "zerotrie: standard input can't be both the file and the keys"
         ),
         AskError::Unread(error) => writeln!(messages, "zerotrie: {path}: {error}"),
-        AskError::NoTrie(why, fault) => tell_no_trie(messages, path, why, fault),
+        AskError::NoTrie(why, fault) => tell_no_trie(messages, file, why, fault),
         AskError::Unanswered(AnswerError::Untyped(error)) => {
             writeln!(messages, "zerotrie: standard input: {error}")
         }
@@ -258,7 +272,7 @@ fn refusal(alloc: Global, path: &str, source: Source, error: &MakeError) -> io::
         )?,
         MakeError::Refused(ZeroTrieBuildError::CouldNotSolvePerfectHash) => write!(
             text,
-            "no hashed table was found for the bytes that keys go on with at some place, as happens with keys of random bytes: take --kind simple if all keys are ASCII, or change a key"
+            "no hashed table was found for the bytes that keys go on with at some place, as happens if these are random: take --kind simple if all keys are ASCII, or other keys, as their hexadecimal digits"
         )?,
         MakeError::Refused(error) => write!(text, "{error}")?,
         MakeError::OutOfMemory => write!(text, "out of memory")?,

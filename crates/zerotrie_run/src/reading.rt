@@ -1,13 +1,14 @@
 //! Bytes that are read whole, or written whole.
 
 ghost use Rattle.std.specs.Prelude.{◌≡◌, ◌⊎◌, IfOk, IfSome, OnOk, OnErr};
-ghost use Rattle.zerotrie_run.specs.Runs.{World, IsRead, IsWritten, IsKept};
+ghost use Rattle.zerotrie_run.specs.Runs.{World, IsRead, IsWritten, IsKept, HandsOn};
+ghost use Rattle.std.specs.Io.Buffered.{writer_contents};
 ghost use Rattle.zerotrie_run.specs.declared.command.Place.TheVariants.{Stream};
 
 use crate::command::Place;
 use std::alloc::Global;
 use std::io;
-use std::io::{Read, Write};
+use std::io::{BufWriter, Read, Write};
 use zerotrie_files::Store;
 
 /// All that a stream still has.
@@ -36,19 +37,20 @@ pub fn read_place<F: Store, R: Read>(
     }
 }
 
-/// Puts bytes in a place: in place of what its file held, or on standard output.
-pub fn write_place<F: Store, W: Write>(
+/// Puts bytes in a place: in place of what its file held, or on standard output, whose buffer hands them on.
+pub fn write_place<F: Store, W: Write + Drop>(
     place: Place<'_>,
     bytes: &[u8],
     files: &mut F,
-    output: &mut W,
+    output: &mut BufWriter<W>,
 ) -> io::Result<()>
     ensures ok { OnOk result (IsWritten place.entry bytes.now
-        (record { files = F.files files.old; printed = W.contents output.old })
-        (record { files = F.files files.new; printed = W.contents output.new })) }
+        (record { files = F.files files.old; printed = writer_contents W.contents output.old })
+        (record { files = F.files files.new; printed = writer_contents W.contents output.new })) }
     ensures err { OnErr result (IsKept place.entry
-        (record { files = F.files files.old; printed = W.contents output.old })
-        (record { files = F.files files.new; printed = W.contents output.new })) }
+        (record { files = F.files files.old; printed = writer_contents W.contents output.old })
+        (record { files = F.files files.new; printed = writer_contents W.contents output.new })) }
+    ensures handed { OnOk result (HandsOn output.old output.new) }
 {
     match place {
         Place::File(path) => files.replace(path, bytes),

@@ -1,8 +1,9 @@
 //! The program over files and streams.
 
 ghost use Rattle.std.specs.Prelude.{◌≡◌, ◌⊎◌, false};
-ghost use Rattle.zerotrie_run.specs.Runs.{World, Runs, TellsNumber, ReadsInput, tells_steps};
-ghost use Rattle.zerotrie_run.specs.declared.status.Status.TheVariants.{Done, Absent};
+ghost use Rattle.zerotrie_run.specs.Runs.{World, Runs, TellsNumber, ReadsTwice, LeavesInput, HandsOn, tells_steps};
+ghost use Rattle.std.specs.Io.Buffered.{writer_contents};
+ghost use Rattle.zerotrie_run.specs.declared.status.Status.TheVariants.{Done, Absent, BadUsage};
 
 use crate::asking::ask;
 use crate::building::build;
@@ -10,30 +11,34 @@ use crate::command::Command;
 use crate::messages::{tell_ask, tell_build};
 use crate::status::Status;
 use std::alloc::Global;
-use std::io::{Read, Write};
+use std::io::{BufWriter, Read, Write};
 use zerotrie_files::Store;
 
 /// Does what a command asks, and tells how it ended. What is wrong is told by a message.
 ///
-/// What is printed is that of the command, the files and the input, and what is left in files too; see `Runs`. A message
+/// What is printed is that of the command, the files and the input, and what is left in files too; see `Runs`. If all went
+/// well, the buffer has handed all of it on to the writer beneath, if it was empty before. A message
 /// that can't be written is lost, and the status tells alone. If all went well, there is none but the steps of a build,
 /// if they were asked for, and a note on a file that is read as bare bytes though it begins with the number of a kind.
-/// Standard input is left alone unless the command reads it.
-pub fn run<F: Store, R: Read, W: Write, M: Write>(
+/// If the file and the keys are both standard input, the usage is bad. Standard input is left alone unless the command reads
+/// it; keys are not read from it if the file has no trie.
+pub fn run<F: Store, R: Read, W: Write + Drop, M: Write>(
     alloc: Global,
     command: Command<'_>,
     files: &mut F,
     input: &mut R,
-    output: &mut W,
+    output: &mut BufWriter<W>,
     messages: &mut M,
 ) -> Status
     ensures runs { Runs command.entry (R.remaining input.old)
-        (record { files = F.files files.old; printed = W.contents output.old })
-        (record { files = F.files files.new; printed = W.contents output.new }) result }
+        (record { files = F.files files.old; printed = writer_contents W.contents output.old })
+        (record { files = F.files files.new; printed = writer_contents W.contents output.new }) result }
+    ensures handed { (result ≡ Done) ⊎ (result ≡ Absent) → HandsOn output.old output.new }
     ensures quiet { tells_steps command.entry ≡ false
         → (TellsNumber command.entry (R.remaining input.old) (F.files files.old) → ⊥)
         → (result ≡ Done) ⊎ (result ≡ Absent) → messages.new ≡ messages.old }
-    ensures unread { (ReadsInput command.entry → ⊥) → input.new ≡ input.old }
+    ensures usage { ReadsTwice command.entry → result ≡ BadUsage }
+    ensures unread { LeavesInput command.entry result → input.new ≡ input.old }
 {
     match command {
         Command::Build(plan) => match build(alloc, plan, files, input, output, messages) {
@@ -48,7 +53,7 @@ pub fn run<F: Store, R: Read, W: Write, M: Write>(
                 Ok(true) => Status::Done,
                 Ok(false) => Status::Absent,
                 Err(error) => {
-                    let _ = tell_ask(messages, file.place, &error);
+                    let _ = tell_ask(messages, file, &error);
                     error.status()
                 }
             }

@@ -37,6 +37,6 @@ returns g c =
     let bytes = c.into_bytes.ensures in
     let short : length c.put_pending.new.self.bytes.items < 2 ^ 64 = rw (sym bytes.is) bytes.short in
     let means = left_end kind all c.put_pending.new.self [] refl short c.in_ok-put_pending.ensures.put in
-    let filled : g.S.TrieBuilderStore.list c.atbs_fill.new.self ≡ c.put_pending.new.self.bytes.items = c.in_ok-atbs_fill.ensures ∙ bytes.is in
+    let filled : g.S.TrieBuilderStore.list c.atbs_fill.new.self ≡ c.put_pending.new.self.bytes.items = c.in_ok-atbs_fill.ensures.ok ∙ bytes.is in
     written_build kind g.S.TrieBuilderStore.list all (Ok c.atbs_fill.new.self) c.meant_fits.ensures c.canonical_exactly.ensures.text
     (ordered_distinct kind all c.requires.ordered) (rw filled means) tt

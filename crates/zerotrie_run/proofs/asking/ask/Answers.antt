@@ -1,9 +1,10 @@
+use Rattle.std.specs.Io.Buffered.{writer_contents}
 use Rattle.zerotrie_run.proofs.AskLemmas.{kept_answer, same_answer, is_not}
 use Rattle.zerotrie_run.proofs.asking.ask.Goals as goal
 
 pub returns-in-Ok-flush-clause-ok : goal.returns-in-Ok-flush-clause-ok
 returns-in-Ok-flush-clause-ok g c =
-    let contents = g.W.Write.contents in
+    let contents = writer_contents g.W.Write.contents in
     let remaining = g.R.Read.remaining in
     let old = contents c.args.output.now in
     let now = contents c.answer_held.new.output in
