@@ -1,4 +1,5 @@
 -- The second pass.
+pub mod Backward
 pub mod Branches
 pub mod Fronts
 pub mod Layouts

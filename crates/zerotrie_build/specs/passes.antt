@@ -1,5 +1,6 @@
 -- Words of the sort and of the two passes.
 pub mod Windows
+pub mod Backward
 pub mod Measured
 pub mod Writing
 pub mod Writes

@@ -4,6 +4,7 @@ ghost use Rattle.std.specs.Prelude.{◌≡◌, ◌≢◌, ℕ, List, [], ◌∷�
 ghost use Rattle.std.specs.List.{range_with_len};
 ghost use Rattle.std.specs.List.Sorted.{IsPermutation, IsStrictlyIncreasing};
 ghost use Rattle.zerotrie_base.specs.Refusals.{IsTableRefusal};
+ghost use Rattle.zerotrie_core.specs.Kind.{fold_byte};
 ghost use Rattle.zerotrie_core.specs.Causes.{AreCrooked};
 ghost use Rattle.zerotrie_build.specs.Order.{Ordered};
 ghost use Rattle.zerotrie_build.specs.passes.Windows.{window as window_of, edge_of, IsGroup};
@@ -72,7 +73,7 @@ pub(crate) struct Layout<A: Allocator> {
     alloc: Global,
     cache: PerfectByteHashMapCacheOwned,
     /// The windows of the targets, in the order of the edges.
-    windows: Vec<Window, A>,
+    pub(crate) windows: Vec<Window, A>,
     /// The search table.
     pub(crate) table: Vec<u8, A>,
     /// The numbers of the targets among the windows, in the order of the table.
@@ -97,6 +98,18 @@ impl<A: Allocator + Copy> Layout<A> {
             numbers: Vec::new(spare),
             pending,
         })
+    }
+
+    /// No branch, and nothing that is to be written.
+    pub(crate) fn empty(alloc: Global, spare: A) -> Self {
+        Layout {
+            alloc,
+            cache: PerfectByteHashMapCacheOwned::new_empty(alloc),
+            windows: Vec::new(spare),
+            table: Vec::new(spare),
+            numbers: Vec::new(spare),
+            pending: Vec::new(spare),
+        }
     }
 
     /// No branch, as at first.
@@ -158,6 +171,54 @@ impl<A: Allocator + Copy> Layout<A> {
         set_places(&mut self.numbers, self.table.as_slice(), table.keys())?;
         self.table.clear();
         self.table.extend_from_slice(table.as_bytes())?;
+        Ok(())
+    }
+
+    /// Lays the targets of the branch out that stands first in the window, and leaves the list of what is to be written
+    /// alone.
+    pub(crate) fn lay_out<'a, K: ZeroTrieWithOptions, I: IndexedItems<'a>>(
+        &mut self,
+        items: I,
+        window: Window,
+    ) -> Result<(), ZeroTrieBuildError>
+        requires order { window.from ≤ window.to }
+        requires items { window.to ≤ length (I.pairs items) }
+        requires room { window.depth + 1 < 2 ^ 64 }
+        requires ordered { Ordered K.kind (window_of (I.pairs items) window) }
+        requires rises { (cs : List Window) → TargetWindows (I.pairs items) window cs
+            → IsStrictlyIncreasing (map (fold_byte K.kind) (map (edge_of (I.pairs items)) cs)) }
+        ensures parts { OnOk result (TargetWindows (I.pairs items) window self.new.windows.items) }
+        ensures laid { OnOk result (IsLayout K.kind (edge_no (I.pairs items) self.new.windows.items)
+            (length self.new.windows.items) self.new.table.items self.new.numbers.items) }
+    {
+        self.set_sorted::<K, I>(items, window, &[])?;
+        if is_hashed::<K>(self.windows.len()) {
+            self.set_hashed()?;
+        }
+        Ok(())
+    }
+
+    /// The window of the target at this place of the table.
+    #[inline(always)]
+    pub(crate) fn target(&self, place: usize) -> Window
+        requires place { place < length self.now.numbers.items }
+        requires within { All (λ i. i < length self.now.windows.items) self.now.numbers.items }
+        ensures { result ≡ window_at self.now.windows.items (slice_index_or self.now.numbers.items place 0) }
+    {
+        self.windows[self.numbers[place]]
+    }
+
+    /// Numbers the targets anew, in the order of the table in which they were laid out.
+    pub(crate) fn number_in_order(&mut self) -> Result<(), AllocError>
+        ensures numbers { OnOk result (self.new.numbers.items
+            ≡ range_with_len 0 (length self.old.windows.items)) }
+        ensures windows { self.new.windows.items ≡ self.old.windows.items }
+        ensures table { self.new.table.items ≡ self.old.table.items }
+    {
+        self.numbers.clear();
+        for number in 0..self.windows.len() {
+            self.numbers.push(number)?;
+        }
         Ok(())
     }
 

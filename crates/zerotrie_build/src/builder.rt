@@ -1,18 +1,20 @@
 //! The builder.
 
-ghost use Rattle.std.specs.Prelude.{◌≡◌, ◌≢◌, ◌<◌, IfOk, IfErr, IsTrue, length};
+ghost use Rattle.std.specs.Prelude.{◌≡◌, ◌≢◌, ◌<◌, IfOk, IfErr, IfSome, IsTrue, length};
 ghost use Rattle.std.specs.List.Sorted.{IsPermutation};
 ghost use Rattle.std.specs.Iterator.{IsFiniteIterable};
 ghost use Rattle.zerotrie_core.specs.Items.{pairs_of, keyed};
 ghost use Rattle.zerotrie_core.specs.Kind.{kind_with};
-ghost use Rattle.zerotrie_core.specs.Maps.{Ascends};
+ghost use Rattle.zerotrie_core.specs.Maps.{Ascends, map_of};
+ghost use Rattle.zerotrie_core.specs.Texts.{Means};
 ghost use Rattle.zerotrie_core.specs.Routes.{ascending, any_order, IsRefusal, IsBuild, IsLength, HoldsOfItsPairs, IsBuildOfAll};
 ghost use Rattle.zerotrie_build.specs.Items.{pairs};
 ghost use Rattle.zerotrie_build.specs.Order.{Ordered, AreKeys, AreAsciiKeys, AreValues};
 
 use crate::branch_layout::{Layout, WriteInput};
-use crate::indexed::IndexedItems;
+use crate::indexed::{IndexedItems, LentItems};
 use crate::measuring::measure_all;
+use crate::one_pass::bytes_in_one_pass;
 use crate::order::{are_ascii, are_in_order, are_keys, is_ordered};
 use crate::slice_indices::ByteSliceWithIndices;
 use crate::sort::sorted_by_fold;
@@ -49,9 +51,9 @@ fn in_order<K: ZeroTrieWithOptions, Key: TrieKey, A: Allocator + Copy>(
     Ok(items)
 }
 
-/// The bytes of the trie of items in the order of the kind. They and hashed tables take their memory from `alloc`. If
-/// `ascii` is true, all keys are ASCII.
-fn build_ordered<
+/// The bytes of the trie of items in the order of the kind, which are measured first. They and hashed tables take their
+/// memory from `alloc`. If `ascii` is true, all keys are ASCII.
+fn build_in_two_passes<
     'a,
     K: ZeroTrieWithOptions,
     I: IndexedItems<'a>,
@@ -74,6 +76,53 @@ fn build_ordered<
     Ok(store)
 }
 
+/// How many items are worth a build in one pass, which sets up memory for branches one below the other.
+const MANY: usize = 1 << 12;
+
+/// The bytes of the trie of items in the order of the kind, if there are many and one pass builds it. If `ascii` is true,
+/// all keys are ASCII.
+fn build_many<K: ZeroTrieWithOptions, J: LentItems, A: Allocator + Copy>(
+    alloc: Global,
+    spare: A,
+    items: &J,
+    ascii: bool,
+) -> Option<Vec<u8>>
+    requires ordered { Ordered K.kind (J.pairs items.now) }
+    requires keys { AreKeys K.kind (J.pairs items.now) }
+    requires ascii { IsTrue ascii → AreAsciiKeys (J.pairs items.now) }
+    ensures { IfSome result (λ bytes. Means K.kind bytes.items (map_of (J.pairs items.now))) }
+{
+    if items.lent_len() < MANY {
+        return None;
+    }
+    bytes_in_one_pass::<K, J, A>(alloc, spare, items, ascii).ok()
+}
+
+/// The bytes of the trie of items in the order of the kind: in one pass if they are many, and else, or if that gives up,
+/// in two. They and hashed tables take their memory from `alloc`. If `ascii` is true, all keys are ASCII.
+fn build_ordered<
+    K: ZeroTrieWithOptions,
+    J: LentItems,
+    S: TrieBuilderStore + Drop,
+    A: Allocator + Copy,
+>(alloc: Global, spare: A, items: &J, ascii: bool) -> Result<S, ZeroTrieBuildError>
+    requires ordered { Ordered K.kind (J.pairs items.now) }
+    requires keys { AreKeys K.kind (J.pairs items.now) }
+    requires ascii { IsTrue ascii → AreAsciiKeys (J.pairs items.now) }
+    ensures { IsBuild any_order K.kind S.list (J.pairs items.now) result }
+{
+    laws::canonical_exactly();
+    laws::meant_fits();
+    match build_many::<K, J, A>(alloc, spare, items, ascii) {
+        Some(bytes) => {
+            let mut store = S::atbs_new_empty(alloc);
+            store.atbs_fill(bytes)?;
+            Ok(store)
+        }
+        None => build_in_two_passes::<K, &J, S, A>(alloc, spare, items, ascii),
+    }
+}
+
 /// The bytes of the trie of items in any order, which are put in the order of the kind.
 fn build_sorted<
     K: ZeroTrieWithOptions,
@@ -86,7 +135,7 @@ fn build_sorted<
     let items = in_order::<K, Key, A>(spare, given)?;
     let ascii = are_ascii::<K, _>(given);
     let items = ByteSliceWithIndices::from_byte_slice(items.as_slice());
-    build_ordered::<K, _, S, A>(alloc, spare, items, ascii)
+    build_ordered::<K, _, S, A>(alloc, spare, &items, ascii)
 }
 
 /// The bytes of the trie of items that ascend by the bytes of their keys. If the kind has another order,
@@ -100,7 +149,7 @@ fn build_ascending<K: ZeroTrieWithOptions, S: TrieBuilderStore + Drop, A: Alloca
     ensures { IsBuild any_order K.kind S.list (pairs items.entry) result }
 {
     if are_in_order::<K>(items)? {
-        return build_ordered::<K, _, S, A>(alloc, spare, items, are_ascii::<K, _>(items));
+        return build_ordered::<K, _, S, A>(alloc, spare, &items, are_ascii::<K, _>(items));
     }
     match items {
         ByteSliceWithIndices::Bytes(items) => build_sorted::<K, &[u8], S, A>(alloc, spare, items),
@@ -148,7 +197,7 @@ fn build_given<
     if !are_keys::<K, _>(given) {
         return Err(ZeroTrieBuildError::NonAsciiError);
     }
-    build_ordered::<K, _, S, A>(alloc, spare, given, are_ascii::<K, _>(given))
+    build_ordered::<K, _, S, A>(alloc, spare, &given, are_ascii::<K, _>(given))
 }
 
 /// The bytes of the trie of items in any order, in the kind of the options.

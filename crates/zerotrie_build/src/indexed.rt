@@ -48,6 +48,57 @@ impl<'a, Key: TrieKey> IndexedItems<'a> for &'a [(Key, usize)] {
     }
 }
 
+/// Items whose keys are lent for as long as they are. So a function that calls itself can take any of them.
+pub(crate) trait LentItems {
+    ghost pairs: { Self → Pairs };
+
+    /// How many items there are.
+    fn lent_len(&self) -> usize
+        ensures { result ≡ length (pairs self.now) };
+
+    /// The item of number `index`, counted from 0: the bytes of its key, and its value.
+    fn lent(&self, index: usize) -> (&[u8], usize)
+        requires { index < length (pairs self.now) }
+        ensures { slice_get (pairs self.now) index ≡ Some (result.0.now, result.1) };
+}
+
+impl<'a> LentItems for ByteSliceWithIndices<'a> {
+    ghost pairs = { λ items. pairs items };
+
+    fn lent_len(&self) -> usize {
+        ByteSliceWithIndices::len(*self)
+    }
+
+    fn lent(&self, index: usize) -> (&[u8], usize) {
+        ByteSliceWithIndices::get(*self, index)
+    }
+}
+
+impl<'a, Key: TrieKey> LentItems for &'a [(Key, usize)] {
+    ghost pairs = { λ items. keyed Key.key items.now };
+
+    fn lent_len(&self) -> usize {
+        (**self).len()
+    }
+
+    fn lent(&self, index: usize) -> (&[u8], usize) {
+        let (key, value) = &self[index];
+        (key.key_bytes(), *value)
+    }
+}
+
+impl<'a, J: LentItems> IndexedItems<'a> for &'a J {
+    ghost pairs = { λ items. J.pairs items.now };
+
+    fn len(self) -> usize {
+        self.lent_len()
+    }
+
+    fn get(self, index: usize) -> (&'a [u8], usize) {
+        self.lent(index)
+    }
+}
+
 /// The item of the number, its key by its bytes. After the last are an empty key and zero.
 pub(crate) fn item_at<Key: TrieKey>(given: &[(Key, usize)], index: usize) -> (&[u8], usize)
     ensures { (result.0.now, result.1) ≡ item_no (keyed Key.key given.now) index }

@@ -4,12 +4,14 @@
 //! or a buffer.
 #![tactic(auto)]
 
+mod backward;
 mod branch_layout;
 mod builder;
 mod indexed;
 mod konst;
 mod leaf;
 mod measuring;
+mod one_pass;
 mod order;
 mod refusal;
 mod slice_indices;

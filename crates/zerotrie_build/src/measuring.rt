@@ -162,7 +162,7 @@ fn after_leaf<'a, K: ZeroTrieWithOptions, I: IndexedItems<'a>>(
 
 /// The window after the values, literals and spans that stand first, and how many bytes these have.
 #[inline(always)]
-fn after_front<'a, K: ZeroTrieWithOptions, I: IndexedItems<'a>>(
+pub(crate) fn after_front<'a, K: ZeroTrieWithOptions, I: IndexedItems<'a>>(
     items: I,
     start: Window,
 ) -> Result<(Window, usize), ZeroTrieBuildError>
@@ -224,7 +224,7 @@ fn after_nodes<'a, K: ZeroTrieWithOptions, I: IndexedItems<'a>>(
 }
 
 /// The sum of these lengths.
-fn total(lens: &[usize]) -> Result<usize, ZeroTrieBuildError>
+pub(crate) fn total(lens: &[usize]) -> Result<usize, ZeroTrieBuildError>
     ensures sum { IfOk result (λ n. n ≡ sum lens.now) }
     ensures refused { IfErr result (λ e.
         (e ≡ ZeroTrieBuildError.CapacityExceeded) × (2 ^ 64 ≤ sum lens.now)) }
@@ -237,7 +237,7 @@ fn total(lens: &[usize]) -> Result<usize, ZeroTrieBuildError>
 }
 
 /// Whether this length is beyond every offset of the kind.
-fn is_too_wide<K: ZeroTrieWithOptions>(total: usize) -> bool
+pub(crate) fn is_too_wide<K: ZeroTrieWithOptions>(total: usize) -> bool
     ensures { IsTrue result ↔ (256 ^ (greatest_width K.kind + 1) ≤ total) }
 {
     !K::EXTENDED && total >= 1 << 32
@@ -285,7 +285,7 @@ pub(crate) fn is_hashed<K: ZeroTrieWithOptions>(edges: usize) -> bool
 }
 
 /// How many bytes a branch with this number of edges has in front of its targets, which together have `total` bytes.
-fn branch_len<K: ZeroTrieWithOptions>(edges: usize, total: usize) -> usize
+pub(crate) fn branch_len<K: ZeroTrieWithOptions>(edges: usize, total: usize) -> usize
     requires some { 1 ≤ edges }
     requires few { edges ≤ 256 }
     ensures { (lengths : List ℕ) → length lengths ≡ edges → sum lengths ≡ total

@@ -42,7 +42,7 @@ pub(crate) struct Writing {
 }
 
 impl Writing {
-    ghost use Rattle.zerotrie_build.specs.passes.Writes.{HasRoom, Writes, FrontWritten, NodesWritten, WrittenTo};
+    ghost use Rattle.zerotrie_build.specs.passes.Writes.{HasRoom, FrontFits, Writes, FrontWritten, NodesWritten, WrittenTo};
 
     /// Room for a text of this many bytes.
     pub(crate) fn new(alloc: Global, len: usize) -> Result<Self, AllocError>
@@ -51,6 +51,24 @@ impl Writing {
     {
         let bytes = Vec::with_capacity(alloc, len)?;
         Ok(Writing { bytes, len })
+    }
+
+    /// Forgets what was written, and tells whether there is room for this many bytes.
+    #[inline(always)]
+    pub(crate) fn clear_for(&mut self, len: usize) -> bool
+        ensures empty { self.new.bytes.items ≡ [] }
+        ensures room { IsTrue result → HasRoom self.new len }
+    {
+        self.bytes.clear();
+        len <= self.len
+    }
+
+    /// The bytes that are written.
+    #[inline(always)]
+    pub(crate) fn as_slice(&self) -> &[u8]
+        ensures { result.now ≡ self.now.bytes.items }
+    {
+        self.bytes.as_slice()
     }
 
     /// The bytes that are written.
@@ -244,7 +262,7 @@ impl Writing {
 
     /// Writes a branch with this search table in front of the targets of these numbers, which are so long.
     #[inline(always)]
-    fn put_branch(&mut self, table: &[u8], lens: &[usize], numbers: &[usize])
+    pub(crate) fn put_branch(&mut self, table: &[u8], lens: &[usize], numbers: &[usize])
         requires within { All (λ i. i < length lens.now) numbers.now }
         requires small { total_of (target_lens lens.now numbers.now) < 2 ^ 64 }
         requires room { HasRoom self.old (length (branch_front table.now (target_lens lens.now numbers.now))) }
@@ -259,7 +277,7 @@ impl Writing {
 
     /// Writes the values, literals and spans that stand first in the window. Returns the window after them.
     #[inline(always)]
-    fn put_front<'a, K: ZeroTrieWithOptions, I: IndexedItems<'a>>(
+    pub(crate) fn put_front<'a, K: ZeroTrieWithOptions, I: IndexedItems<'a>>(
         &mut self,
         items: I,
         window: Window,
@@ -267,7 +285,7 @@ impl Writing {
         requires keys { AreKeys K.kind (I.pairs items) }
         requires known { (targets : List Window)
             × HasFirstTargets K.kind (I.pairs items) window targets }
-        requires room { HasRoom self.old (size_of K.kind (window_of (I.pairs items) window)) }
+        requires room { FrontFits K.kind (I.pairs items) window self.old }
         ensures front { FrontWritten K.kind (I.pairs items) window result
             self.old self.new }
         ensures stops { NoneFirst K.kind (I.pairs items) result }

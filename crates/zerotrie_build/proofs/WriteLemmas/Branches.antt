@@ -35,17 +35,28 @@ use Rattle.zerotrie_build.proofs.WriteLemmas.Fronts.{Going, on_stop, behind_same
 use Rattle.zerotrie_build.proofs.WriteLemmas.Targets.{apart_distinct, apart_up, groups_answers, moved, answers_same, texts_each, groups_some, map_same, texts_count, by_recursion, sizes_at, sizes_count, texts_sizes, edges_most, branch_made}
 
 -- What is known of the targets of a branch, in the order of its table.
-record Turned (kind : Kind) (all : Pairs) (cs : List Window) (table numbers : List ℕ) : Type 0 where
-  count : length numbers ≡ length cs
-  within : AllByRecursion (λ j. j < length cs) numbers
-  perm : IsPermutation cs (map (window_at cs) numbers)
-  is_table : IsTable kind (map (edge_of all) (map (window_at cs) numbers)) table
-  low : All (λ b. b < edge_limit kind) (map (edge_of all) (map (window_at cs) numbers))
-  most : length (map (edge_of all) (map (window_at cs) numbers)) ≤ 256
-  lens : target_lens (sizes_of kind all cs) numbers ≡ sizes_of kind all (map (window_at cs) numbers)
-  sum : total (sizes_of kind all (map (window_at cs) numbers)) ≡ total (sizes_of kind all cs)
+pub record Turned (kind : Kind) (all : Pairs) (cs : List Window) (table numbers : List ℕ) : Type 0 where
+  pub count : length numbers ≡ length cs
+  pub within : AllByRecursion (λ j. j < length cs) numbers
+  pub perm : IsPermutation cs (map (window_at cs) numbers)
+  pub is_table : IsTable kind (map (edge_of all) (map (window_at cs) numbers)) table
+  pub low : All (λ b. b < edge_limit kind) (map (edge_of all) (map (window_at cs) numbers))
+  pub most : length (map (edge_of all) (map (window_at cs) numbers)) ≤ 256
+  pub lens : target_lens (sizes_of kind all cs) numbers ≡ sizes_of kind all (map (window_at cs) numbers)
+  pub sum : total (sizes_of kind all (map (window_at cs) numbers)) ≡ total (sizes_of kind all cs)
 
-turned : {kind : Kind} {all : Pairs} {w : Window} {cs : List Window} {table numbers : List ℕ} → HasFirstTargets kind all w cs → IsLayout kind (edge_no all cs) (length cs) table numbers → Turned kind all cs table numbers
+-- together the targets are as long in one order as in another
+pub sizes_moved : (kind : Kind) (all : Pairs) (cs : List Window) (numbers : List ℕ) → IsPermutation (range_with_len 0 (length cs)) numbers → total (sizes_of kind all (map (window_at cs) numbers)) ≡ total (sizes_of kind all cs)
+sizes_moved kind all cs numbers permutation =
+    let range = range_with_len 0 (length cs) in
+    let all_named : map (window_at cs) range ≡ cs = named (λ (x : Window). x) cs no_window ∙ map_same cs in
+    let vs = map (window_at cs) numbers in
+    let perm : IsPermutation cs vs = subst (λ x. IsPermutation x vs) all_named (IsPermutation-map (window_at cs) range numbers permutation) in
+    let size : Window → ℕ = λ x. size_of kind (window all x) in
+    let sum = sum_by-IsPermutation (λ x. x) (map size cs) (map size vs) (IsPermutation-map size cs vs perm) in
+    ap total (map_both (size_of kind) (window all) vs) ∙ sum ∙ ap total (sym (map_both (size_of kind) (window all) cs))
+
+pub turned : {kind : Kind} {all : Pairs} {w : Window} {cs : List Window} {table numbers : List ℕ} → HasFirstTargets kind all w cs → IsLayout kind (edge_no all cs) (length cs) table numbers → Turned kind all cs table numbers
 turned {kind = kind} {all = all} {w = w} {cs = cs} {table = table} {numbers = numbers} o laid =
     let n = length cs in
     let range = range_with_len 0 n in
@@ -53,8 +64,6 @@ turned {kind = kind} {all = all} {w = w} {cs = cs} {table = table} {numbers = nu
     let vs = map (window_at cs) numbers in
     let perm : IsPermutation cs vs = subst (λ x. IsPermutation x vs) all_named (IsPermutation-map (window_at cs) range numbers laid.permutation) in
     let within = by_recursion n numbers (λ k h. numbers_within n numbers laid.permutation k 0 h) in
-    let size : Window → ℕ = λ x. size_of kind (window all x) in
-    let sum = sum_by-IsPermutation (λ x. x) (map size cs) (map size vs) (IsPermutation-map size cs vs perm) in
     let most = edges_most kind (map (edge_of all) cs) o.rises o.low in
     let es = count_map (edge_of all) cs in
     let es_count = count_map (edge_of all) vs ∙ length_permutation cs vs perm in
@@ -66,11 +75,11 @@ turned {kind = kind} {all = all} {w = w} {cs = cs} {table = table} {numbers = nu
       low = All-map-IsPermutation (edge_of all) (λ b. b < edge_limit kind) cs vs perm o.low;
       most = omega arith;
       lens = sizes_at kind all cs numbers within;
-      sum = ap total (map_both (size_of kind) (window all) vs) ∙ sum ∙ ap total (sym (map_both (size_of kind) (window all) cs));
+      sum = sizes_moved kind all cs numbers laid.permutation;
     }
 
 -- a branch in front of texts of its targets
-branch_text : {kind : Kind} {all : Pairs} {w : Window} {cs : List Window} {table numbers : List ℕ} (o : HasFirstTargets kind all w cs) (texts : List (List ℕ)) → Turned kind all cs table numbers
+pub branch_text : {kind : Kind} {all : Pairs} {w : Window} {cs : List Window} {table numbers : List ℕ} (o : HasFirstTargets kind all w cs) (texts : List (List ℕ)) → Turned kind all cs table numbers
     → o.behind.to ≤ length all → 2 ≤ length numbers → Texts kind all (map (window_at cs) numbers) texts → Listed kind (branch_front table (sizes_of kind all (map (window_at cs) numbers)) ++ concat texts) (window all o.behind)
 branch_text {kind = kind} {all = all} {cs = cs} {table = table} {numbers = numbers} o texts b within two h =
     let vs = map (window_at cs) numbers in
@@ -95,7 +104,7 @@ branch_text {kind = kind} {all = all} {cs = cs} {table = table} {numbers = numbe
     }
 
 -- how long a branch in front of its targets is
-front_size : {kind : Kind} {all : Pairs} {w : Window} {cs : List Window} {table numbers : List ℕ} → HasFirstTargets kind all w cs → Turned kind all cs table numbers
+pub front_size : {kind : Kind} {all : Pairs} {w : Window} {cs : List Window} {table numbers : List ℕ} → HasFirstTargets kind all w cs → Turned kind all cs table numbers
     → (length (branch_front table (sizes_of kind all (map (window_at cs) numbers))) ≡ branch_size kind (sizes_of kind all cs))
     × (table_size kind (length cs) + (length cs - 1) ≤ length (branch_front table (sizes_of kind all (map (window_at cs) numbers))))
 front_size {kind = kind} {all = all} {cs = cs} {table = table} {numbers = numbers} o b =

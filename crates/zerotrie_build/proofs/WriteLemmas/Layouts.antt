@@ -237,6 +237,11 @@ pub edges_more : (all : Pairs) (ws ws' : List Window) (c : Window) (es es' : Lis
 edges_more all ws ws' c es es' e pushed more are is =
     more ∙ ap (λ x. x ++ e ∷ []) are ∙ ap (λ x. map (edge_of all) ws ++ x ∷ []) is ∙ sym (map-append (edge_of all) ws (c ∷ [])) ∙ ap (map (edge_of all)) (sym pushed)
 
+-- a number more
+pub range_more : (k : ℕ) → range_with_len 0 k ++ k ∷ [] ≡ range_with_len 0 (k + 1)
+range_more k =
+    ap (λ x. x ++ k ∷ []) (sym (same_range (range_with_len 0 k))) ∙ sym (map-range_with_len_more (λ x. x) 0 k k (omega arith)) ∙ same_range (range_with_len 0 (k + 1))
+
 pub numbers_more : (ws ws' : List Window) (c : Window) (ns ns' : List ℕ) (n : ℕ) → ws' ≡ ws ++ c ∷ [] → ns' ≡ ns ++ n ∷ [] → ns ≡ range_with_len 0 (length ws) → n ≡ length ws → ns' ≡ range_with_len 0 (length ws')
 numbers_more ws ws' c ns ns' n pushed more are is =
     let k = length ws in

@@ -9,12 +9,16 @@ use Rattle.zerotrie_build.specs.declared.windows.Window.{Window}
 use Rattle.zerotrie_build.specs.declared.branch_layout.Next.{Next}
 use Rattle.zerotrie_build.specs.declared.writing.Writing.{Writing}
 use Rattle.zerotrie_build.specs.passes.Windows.{window}
-use Rattle.zerotrie_build.specs.passes.Measured.{Passes, sizes_of}
+use Rattle.zerotrie_build.specs.passes.Measured.{Passes, NoneFirst, sizes_of}
 use Rattle.zerotrie_build.specs.passes.Writing.{Listed, Texts, position_at, HasSlotsTo, IsPending}
 
 -- this many bytes more are part of the text
 abbrev pub HasRoom : Writing → ℕ → Type 0
 HasRoom w n = length w.bytes.items + n ≤ w.len
+
+-- there is room for the values, literals and spans that stand first in a window
+abbrev pub FrontFits : Kind → Pairs → Window → Writing → Type 0
+FrontFits kind all w writing = (rest : Window) (n : ℕ) → Passes kind all w rest n → NoneFirst kind all rest → HasRoom writing n
 
 -- The bytes were written next.
 pub record Writes (old new : Writing) (bytes : List ℕ) : Type 0 where

@@ -19,7 +19,11 @@ build_ordered-requires g c =
     let sorted = pairs_of c.in_ok-items.items.items in
     let from = sym (c.from_byte_slice-items.ensures ∙ ap pairs_of c.as_slice.ensures.value) in
     let ascii = λ (yes : IsTrue c.are_ascii-ascii.result). ascii_permuted all sorted c.in_ok-items.ensures.same (c.are_ascii-ascii.ensures yes) in
-    λ k. ((refl, tt), (subst (Ordered kind) from c.in_ok-items.ensures.ordered, (subst (AreKeys kind) from c.in_ok-items.ensures.keys, λ yes. subst AreAsciiKeys from (ascii yes))))
+    record {
+      ordered = subst (Ordered kind) from c.in_ok-items.ensures.ordered;
+      keys = subst (AreKeys kind) from c.in_ok-items.ensures.keys;
+      ascii = λ yes. subst AreAsciiKeys from (ascii yes);
+    }
 
 pub returns : goal.returns
 returns g c =

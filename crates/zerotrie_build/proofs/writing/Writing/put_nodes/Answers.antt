@@ -2,7 +2,7 @@ use Rattle.std.proofs.Common.{◌≡◌, rules, refl, [], ◌+◌, ap, arith, le
 use Rattle.zerotrie_build.specs.passes.Writing.{next_of}
 use Rattle.zerotrie_build.proofs.WindowLemmas.NodeRuns.{lone_end, stopped}
 use Rattle.zerotrie_build.proofs.MeasureLemmas.Slots.{at_end}
-use Rattle.zerotrie_build.proofs.WriteLemmas.Fronts.{going_start, going_lone, going_front, open_bytes, room_lone}
+use Rattle.zerotrie_build.proofs.WriteLemmas.Fronts.{going_start, going_lone, going_front, open_bytes, room_lone, front_fits}
 use Rattle.zerotrie_build.proofs.WriteLemmas.Puts.{grows, puts_then}
 use Rattle.zerotrie_build.proofs.WriteLemmas.Slots.{opened}
 use Rattle.zerotrie_build.proofs.WriteLemmas.Branches.{branch_slots, branch_windows, branch_lens, branch_numbers, branch_small, branch_room, branch_refused, front_branch, front_end}
@@ -35,7 +35,7 @@ returns-in-Some-clause-put g c =
     ([], refl, front_end k going (lone_end kind all w literals c.in-Some.value (w.depth + length literals) lone) [] refl)
 
 pub put_front-rest-requires : goal.put_front-rest-requires
-put_front-rest-requires g c = let o = opened c.requires.kept.1 in λ k. ((refl, tt), (c.requires.keys, ((o.cs, o.known), c.requires.room)))
+put_front-rest-requires g c = let o = opened c.requires.kept.1 in λ k. ((refl, tt), (c.requires.keys, ((o.cs, o.known), front_fits c.args.self.now o.known.within c.requires.keys o.known.ordered c.requires.room)))
 
 pub returns-else-rest-clause-put : goal.returns-else-rest-clause-put
 returns-else-rest-clause-put g c =

@@ -1,0 +1,242 @@
+use Rattle.std.proofs.Common.{◌≡◌, ◌+◌, ◌-◌, ◌*◌, ◌^◌, ◌<◌, ◌≤◌, ◌∷◌, ◌++◌, [], ℕ, length, refl, sym, ◌∙◌, ap, subst, arith, rules, inl, inr, drop, get_or, append_assoc, length-append}
+use Rattle.std.proofs.lemmas.Bool.{cases_lt}
+use Rattle.std.proofs.lemmas.List.{length-set, get_or_default}
+use Rattle.std.specs.List.{range_with_len}
+use Rattle.zerotrie_core.specs.Kind.{greatest_width}
+use Rattle.zerotrie_core.specs.Numbers.{value_form, spelled_as}
+use Rattle.zerotrie_core.specs.Branches.{total, branch_front}
+use Rattle.zerotrie_core.specs.Canonical.{branch_size}
+use Rattle.zerotrie_core.proofs.CallerLemmas.{spells_spelled}
+use Rattle.zerotrie_build.specs.declared.windows.Window.{Window}
+use Rattle.zerotrie_build.specs.declared.windows.Step.TheVariants.{Branch}
+use Rattle.zerotrie_build.specs.passes.Windows.{step_of}
+use Rattle.zerotrie_build.specs.passes.Measured.{sizes_of}
+use Rattle.zerotrie_build.specs.passes.Walking.{IsPlaced}
+use Rattle.zerotrie_build.specs.passes.Writing.{no_window, window_at, target_lens}
+use Rattle.zerotrie_build.specs.passes.Writes.{HasRoom}
+use Rattle.zerotrie_build.specs.passes.Backward.{PutsText, PutsTargets}
+use Rattle.zerotrie_build.proofs.WindowLemmas.NodeRuns.{along, stopped}
+use Rattle.zerotrie_build.proofs.WriteLemmas.Layouts.{numbers_within}
+use Rattle.zerotrie_build.proofs.WriteLemmas.Fronts.{lone_listed}
+use Rattle.zerotrie_build.proofs.WriteLemmas.Backward.{placed_at, placed_after, targets_more, first_known, targets_placed, targets_rise, lens_known, lens_in_order, within_order, narrow_small, rest_size, rest_put, rest_none, fits_front, front_put, rest_whole, text_longer, not_above}
+use Rattle.zerotrie_build.proofs.WriteLemmas.Targets.{sizes_count}
+use Rattle.zerotrie_build.proofs.one_pass.+one_pass.Goals as goal
+
+pub put_rest-returns-then-window-clause-puts : goal.put_rest-returns-then-window-clause-puts
+put_rest-returns-then-window-clause-puts g t c = rest_none g.K.ZeroTrieWithOptions.kind (g.J.LentItems.pairs c.args.items.now) c.args.window c.args.text.now (let h = c.if-window.true in omega arith)
+
+pub put_rest-lay_out-requires : goal.put_rest-lay_out-requires
+put_rest-lay_out-requires g t c κs =
+    let kind = g.K.ZeroTrieWithOptions.kind in
+    let all = g.J.LentItems.pairs c.args.items.now in
+    let w = c.args.window in
+    let placed = c.requires.placed in
+    let is = stopped kind all w c.requires.stops (let h = c.if-window.false in omega arith) in
+    ((refl, tt), (placed.order, (placed.within, (c.requires.room is, (placed.ordered, λ cs p. targets_rise cs placed c.requires.keys is p)))))
+
+pub put_rest-put_targets-requires : goal.put_rest-put_targets-requires
+put_rest-put_targets-requires g t c κs within =
+    let kind = g.K.ZeroTrieWithOptions.kind in
+    let all = g.J.LentItems.pairs c.args.items.now in
+    let w = c.args.window in
+    let is = stopped kind all w c.requires.stops (let h = c.if-window.false in omega arith) in
+    let ws = c.lay_out.new.self.windows.items in
+    let falls : 3 * length c.pop.new.self.items + 3 < t =
+    (let d = c.decreases in let n = ap length c.in-Some.ensures.items in let a = length-append c.pop.new.self.items (c.in-Some.level ∷ []) in omega arith) in (
+      falls,
+      (
+        within.0,
+        (
+          within.1.0,
+          (
+            within.1.1,
+            (
+              c.requires.keys,
+              (
+                c.requires.ascii,
+                record {
+                  placed = targets_placed ws c.requires.placed c.requires.keys is c.in_ok-lay_out.ensures.parts;
+                  within = numbers_within (length ws) c.lay_out.new.self.numbers.items c.in_ok-lay_out.ensures.laid.permutation;
+                },
+              ),
+            ),
+          ),
+        ),
+      ),
+    )
+
+pub put_rest-branch_len-requires-clause-some : goal.put_rest-branch_len-requires-clause-some
+put_rest-branch_len-requires-clause-some g t c =
+    let kind = g.K.ZeroTrieWithOptions.kind in
+    let all = g.J.LentItems.pairs c.args.items.now in
+    let is = stopped kind all c.args.window c.requires.stops (let h = c.if-window.false in omega arith) in
+    let l = lens_known c.requires.placed c.requires.keys is c.in_ok-lay_out.ensures.parts c.in_ok-lay_out.ensures.laid c.in_ok-put_targets.ensures.puts in
+    let n = ap length c.as_slice-lens.ensures.value in
+    let m = l.count in
+    let two = l.two in
+    omega arith
+
+pub put_rest-branch_len-requires-clause-few : goal.put_rest-branch_len-requires-clause-few
+put_rest-branch_len-requires-clause-few g t c =
+    let kind = g.K.ZeroTrieWithOptions.kind in
+    let all = g.J.LentItems.pairs c.args.items.now in
+    let is = stopped kind all c.args.window c.requires.stops (let h = c.if-window.false in omega arith) in
+    let l = lens_known c.requires.placed c.requires.keys is c.in_ok-lay_out.ensures.parts c.in_ok-lay_out.ensures.laid c.in_ok-put_targets.ensures.puts in
+    let n = ap length c.as_slice-lens.ensures.value in
+    let m = l.count in
+    let few = l.few in
+    omega arith
+
+pub put_rest-put_branch-requires-clause-within : goal.put_rest-put_branch-requires-clause-within
+put_rest-put_branch-requires-clause-within g t c =
+    let kind = g.K.ZeroTrieWithOptions.kind in
+    let all = g.J.LentItems.pairs c.args.items.now in
+    let is = stopped kind all c.args.window c.requires.stops (let h = c.if-window.false in omega arith) in
+    let l = lens_known c.requires.placed c.requires.keys is c.in_ok-lay_out.ensures.parts c.in_ok-lay_out.ensures.laid c.in_ok-put_targets.ensures.puts in
+    let n = ap length c.as_slice-lens.ensures.value in
+    let m = l.count in
+    within_order c.as_slice-lens.result.now c.as_slice-2.result.now (length c.lay_out.new.self.windows.items) (c.as_slice-2.ensures.value ∙ c.in_ok-number_in_order.ensures.numbers) (omega arith)
+
+pub put_rest-put_branch-requires-clause-small : goal.put_rest-put_branch-requires-clause-small
+put_rest-put_branch-requires-clause-small g t c =
+    let kind = g.K.ZeroTrieWithOptions.kind in
+    let all = g.J.LentItems.pairs c.args.items.now in
+    let placed = c.requires.placed in
+    let keys = c.requires.keys in
+    let is = stopped kind all c.args.window c.requires.stops (let h = c.if-window.false in omega arith) in
+    let parts = c.in_ok-lay_out.ensures.parts in
+    let laid = c.in_ok-lay_out.ensures.laid in
+    let puts = c.in_ok-put_targets.ensures.puts in
+    let lens = c.put_targets.new.lens.items in
+    let l = lens_known placed keys is parts laid puts in
+    let narrow : total lens < 256 ^ (greatest_width kind + 1) = not_above _ _ (λ h. c.if-is_too_wide.ensures.1 (subst (λ n. 256 ^ (greatest_width kind + 1) ≤ n) (sym (c.in_ok-total.ensures.sum ∙ ap total c.as_slice-lens.ensures.value)) h)) in
+    let ls = c.as_slice-lens.result.now in
+    let ns = c.as_slice-2.result.now in
+    let order : target_lens ls ns ≡ lens = ap (λ x. target_lens x ns) c.as_slice-lens.ensures.value
+    ∙ lens_in_order lens ns (c.as_slice-2.ensures.value ∙ c.in_ok-number_in_order.ensures.numbers ∙ ap (range_with_len 0) (sym l.count)) in
+    subst (λ n. n < 2 ^ 64) (ap total (sym order)) (narrow_small kind (total lens) narrow)
+
+pub put_rest-put_branch-requires-clause-room : goal.put_rest-put_branch-requires-clause-room
+put_rest-put_branch-requires-clause-room g t c =
+    let kind = g.K.ZeroTrieWithOptions.kind in
+    let all = g.J.LentItems.pairs c.args.items.now in
+    let placed = c.requires.placed in
+    let keys = c.requires.keys in
+    let is = stopped kind all c.args.window c.requires.stops (let h = c.if-window.false in omega arith) in
+    let parts = c.in_ok-lay_out.ensures.parts in
+    let laid = c.in_ok-lay_out.ensures.laid in
+    let puts = c.in_ok-put_targets.ensures.puts in
+    let lens = c.put_targets.new.lens.items in
+    let l = lens_known placed keys is parts laid puts in
+    let narrow : total lens < 256 ^ (greatest_width kind + 1) = not_above _ _ (λ h. c.if-is_too_wide.ensures.1 (subst (λ n. 256 ^ (greatest_width kind + 1) ≤ n) (sym (c.in_ok-total.ensures.sum ∙ ap total c.as_slice-lens.ensures.value)) h)) in
+    let ls = c.as_slice-lens.result.now in
+    let ns = c.as_slice-2.result.now in
+    let order : target_lens ls ns ≡ lens = ap (λ x. target_lens x ns) c.as_slice-lens.ensures.value
+    ∙ lens_in_order lens ns (c.as_slice-2.ensures.value ∙ c.in_ok-number_in_order.ensures.numbers ∙ ap (range_with_len 0) (sym l.count)) in
+    let table : c.as_slice.result.now ≡ c.lay_out.new.self.table.items = c.as_slice.ensures.value ∙ c.in_ok-number_in_order.ensures.table in
+    let long = rest_size placed keys is parts laid l narrow in
+    let count : length (sizes_of kind all c.lay_out.new.self.windows.items) ≡ length ls = sizes_count kind all c.lay_out.new.self.windows.items ∙ sym l.count ∙ ap length (sym c.as_slice-lens.ensures.value) in
+    let sum : total (sizes_of kind all c.lay_out.new.self.windows.items) ≡ c.in_ok-total.total = sym l.same ∙ ap total (sym c.as_slice-lens.ensures.value) ∙ sym c.in_ok-total.ensures.sum in
+    let size = c.branch_len.ensures (sizes_of kind all c.lay_out.new.self.windows.items) count sum in
+    subst (HasRoom c.clear_for.new.self) (size ∙ sym long ∙ ap (λ x. length (branch_front x lens)) (sym table) ∙ ap (λ x. length (branch_front c.as_slice.result.now x)) (sym order)) (c.if-not-clear_for.ensures.room refl)
+
+pub put_rest-returns-clause-puts : goal.put_rest-returns-clause-puts
+put_rest-returns-clause-puts g t c =
+    let kind = g.K.ZeroTrieWithOptions.kind in
+    let all = g.J.LentItems.pairs c.args.items.now in
+    let placed = c.requires.placed in
+    let keys = c.requires.keys in
+    let is = stopped kind all c.args.window c.requires.stops (let h = c.if-window.false in omega arith) in
+    let parts = c.in_ok-lay_out.ensures.parts in
+    let laid = c.in_ok-lay_out.ensures.laid in
+    let puts = c.in_ok-put_targets.ensures.puts in
+    let lens = c.put_targets.new.lens.items in
+    let l = lens_known placed keys is parts laid puts in
+    let narrow : total lens < 256 ^ (greatest_width kind + 1) = not_above _ _ (λ h. c.if-is_too_wide.ensures.1 (subst (λ n. 256 ^ (greatest_width kind + 1) ≤ n) (sym (c.in_ok-total.ensures.sum ∙ ap total c.as_slice-lens.ensures.value)) h)) in
+    let ls = c.as_slice-lens.result.now in
+    let ns = c.as_slice-2.result.now in
+    let order : target_lens ls ns ≡ lens = ap (λ x. target_lens x ns) c.as_slice-lens.ensures.value
+    ∙ lens_in_order lens ns (c.as_slice-2.ensures.value ∙ c.in_ok-number_in_order.ensures.numbers ∙ ap (range_with_len 0) (sym l.count)) in
+    let table : c.as_slice.result.now ≡ c.lay_out.new.self.table.items = c.as_slice.ensures.value ∙ c.in_ok-number_in_order.ensures.table in
+    let front : c.as_slice-3.result.now ≡ branch_front c.lay_out.new.self.table.items lens =
+    c.as_slice-3.ensures ∙ c.put_branch.ensures.is ∙ ap (λ x. x ++ branch_front c.as_slice.result.now (target_lens ls ns)) c.clear_for.ensures.empty
+    ∙ ap (λ x. branch_front x (target_lens ls ns)) table ∙ ap (branch_front c.lay_out.new.self.table.items) order in
+    rest_put placed keys is parts laid puts l narrow front c.in_ok-put_all.ensures
+
+pub put_targets-put_window-requires : goal.put_targets-put_window-requires
+put_targets-put_window-requires g t c κs within =
+    let kind = g.K.ZeroTrieWithOptions.kind in
+    let all = g.J.LentItems.pairs c.args.items.now in
+    let ws = c.args.layout.now.windows.items in
+    let numbers = c.args.layout.now.numbers.items in
+    let i = c.loop-index.index - 1 in
+    let v = c.loop-index.invariant in
+    let few = v.within in
+    let some = c.loop-index-test.true in
+    let falls : 3 * length c.loop-index.levels.items + 2 < t = (let d = c.decreases in let deep = v.deep in omega arith) in
+    let below = c.requires.targets.within i 0 (omega arith) in
+    let at : c.target-window.result ≡ window_at ws (get_or numbers i 0) = c.target-window.ensures in
+    (falls, (within.0, (within.1.0, (within.1.1, (c.requires.keys, (c.requires.ascii, subst (IsPlaced kind all) (sym at) (placed_at kind all ws (get_or numbers i 0) c.requires.targets.placed below)))))))
+
+pub put_targets-loop-index-preserved : goal.put_targets-loop-index-preserved
+put_targets-loop-index-preserved g t c =
+    let kind = g.K.ZeroTrieWithOptions.kind in
+    let all = g.J.LentItems.pairs c.args.items.now in
+    let ws = c.args.layout.now.windows.items in
+    let numbers = c.args.layout.now.numbers.items in
+    let lens = c.loop-index.lens.items in
+    let i = c.loop-index.index - 1 in
+    let v = c.loop-index.invariant in
+    let few = v.within in
+    let some = c.loop-index-test.true in
+    let len = c.len.result - c.len-before.result in
+    let next : c.loop-index.index ≡ i + 1 = omega arith in
+    let at : c.target-window.result ≡ window_at ws (get_or numbers i 0) = c.target-window.ensures in
+    let text = subst (λ w. PutsText kind all w c.loop-index.text c.put_window.new.text) at c.in_ok-put_window.ensures.puts in
+    let more = subst (λ n. PutsTargets kind all ws (drop n numbers) (drop n lens) c.args.text.now c.loop-index.text) next v.puts in
+    let longer = text_longer kind all c.target-window.result c.loop-index.text c.put_window.new.text c.in_ok-put_window.ensures.puts in
+    let a = c.len.ensures in
+    let b = c.len-before.ensures in
+    record {
+      deep = (let d = c.put_window.ensures.deep in let e = v.deep in omega arith);
+      within = omega arith;
+      long = length-set lens i len ∙ v.long;
+      puts = targets_more kind all ws i numbers lens len c.args.text.now c.loop-index.text c.put_window.new.text (omega arith) v.long more text (omega arith);
+    }
+
+pub put_window-returns-in-Some-clause-puts : goal.put_window-returns-in-Some-clause-puts
+put_window-returns-in-Some-clause-puts g t c =
+    let kind = g.K.ZeroTrieWithOptions.kind in
+    let all = g.J.LentItems.pairs c.args.items.now in
+    let placed = c.requires.placed in
+    let literals = c.in-Some.literals.now in
+    let spelled = spelled_as value_form c.in-Some.value in (
+      literals ++ spelled,
+      lone_listed literals c.in-Some.value placed.within c.requires.keys placed.ordered c.in-Some.ensures.is (spells_spelled 16 4 c.in-Some.value c.put_value.ensures.small (inl refl)),
+      c.in_ok-put_all.ensures ∙ ap (λ x. literals ++ x) c.in_ok-put_value.ensures.puts ∙ sym (append_assoc literals spelled c.args.text.now),
+    )
+
+pub put_window-put_rest-requires : goal.put_window-put_rest-requires
+put_window-put_rest-requires g t c κs within =
+    let falls : 3 * length c.args.levels.now.items + 1 < t = (let d = c.decreases in omega arith) in
+    let rest = c.in_ok-rest.ensures in
+    (falls, (within.0, (within.1.0, (within.1.1, (c.requires.keys, (c.requires.ascii, (placed_after c.requires.placed c.requires.keys rest.run, (rest.stops, rest.room))))))))
+
+pub put_window-put_front-requires : goal.put_window-put_front-requires
+put_window-put_front-requires g t c κs =
+    let rest = c.in_ok-rest.ensures in
+    let placed = c.requires.placed in
+    let keys = c.requires.keys in
+    let room = (c.if-not-clear_for.ensures.room refl) in
+    ((refl, tt), (keys, (first_known placed keys rest.run rest.stops c.in_ok-put_rest.ensures.puts, fits_front c.clear_for.new.self placed keys rest.run rest.stops room)))
+
+pub put_window-returns-in_ok-put_all-2-clause-puts : goal.put_window-returns-in_ok-put_all-2-clause-puts
+put_window-returns-in_ok-put_all-2-clause-puts g t c =
+    let rest = c.in_ok-rest.ensures in
+    front_put rest.run rest.stops c.in_ok-put_rest.ensures.puts c.put_front.ensures.front c.put_front.ensures.stops c.clear_for.ensures.empty c.as_slice.ensures c.in_ok-put_all-2.ensures
+
+pub put_window-returns-else-rest-window-2-clause-puts : goal.put_window-returns-else-rest-window-2-clause-puts
+put_window-returns-else-rest-window-2-clause-puts g t c =
+    let same : c.in_ok-rest.rest.from ≡ c.args.window.from = (let h = c.if-rest-window.false in omega arith) in
+    let deep : c.in_ok-rest.rest.depth ≡ c.args.window.depth = (let h = c.if-rest-window-2.false in omega arith) in
+    rest_whole c.requires.placed c.requires.keys c.in_ok-rest.ensures.run same deep c.in_ok-put_rest.ensures.puts
