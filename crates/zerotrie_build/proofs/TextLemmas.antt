@@ -1,13 +1,14 @@
 -- Pairs whose keys lie in one text, as they are added.
 use Rattle.std.proofs.Common.{◌≡◌, ◌↔◌, ℕ, ◌-◌, ◌<◌, suc, List, [], ◌∷◌, ◌++◌, length, slice_get, Some, All, Bool, IsTrue, refl, subst, sym, ap, ◌∙◌, arith}
 use Rattle.std.proofs.lemmas.List.Elements.{All-map, All-take, All-drop, All-push, All-contains, Contains-push}
+use Rattle.std.proofs.lemmas.Option.{slice_get_within, get_or_from_slice_get}
 use Rattle.std.proofs.Math.Seq.{take-append_seam}
 use Rattle.zerotrie_core.specs.Kind.{Kind, simple_ascii, edge_limit}
 use Rattle.zerotrie_core.specs.Maps.{Pairs, Ascends}
 use Rattle.zerotrie_build.proofs.OrderLemmas.Below.{ordered_ascends}
 use Rattle.zerotrie_build.proofs.OrderLemmas.Sorting.{ascends_ordered}
 use Rattle.zerotrie_build.specs.Order.{Before, Ordered, AreKeys, AreAsciiKeys}
-use Rattle.zerotrie_build.specs.TextItems.{marked_pair, marked_pairs, IsAboveLast}
+use Rattle.zerotrie_build.specs.TextItems.{marked_pair, marked_pairs, LiesIn, LieIn, IsAboveLast}
 use Rattle.zerotrie_build.specs.declared.text_items.Mark.{Mark}
 
 -- the keys ascend with one more if they do and it is above the last
@@ -59,15 +60,23 @@ swap p = (p.1, p.0)
 both : {A B C : Type 0} → (A ↔ B) → (B ↔ C) → A ↔ C
 both p q = ((λ a. q.0 (p.0 a)), λ c. p.1 (q.1 c))
 
+-- the last of marks whose keys lie in the text
+pub last_lies : (text : List ℕ) (marks : List Mark) (m : Mark) → LieIn text marks → Some m ≡ slice_get marks (length marks - 1) → LiesIn text m
+last_lies text marks m all last =
+    let place = length marks - 1 in
+    subst (LiesIn text) (get_or_from_slice_get marks place m m (sym last)) (all place m (slice_get_within marks place m (sym last)))
+
 -- what is told of the pairs with one more
 pub told_push : (text : List ℕ) (marks marks' : List Mark) (m : Mark) (pairs : Pairs) (key : List ℕ) (ascend ascii : Bool) → marks' ≡ marks ++ m ∷ [] → marked_pairs text marks ≡ pairs
     → key ≡ (marked_pair text m).0 → IsTrue ascend ↔ (Ordered simple_ascii pairs × IsAboveLast pairs key) → IsTrue ascii ↔ (AreAsciiKeys pairs × All (λ b. b < 128) key)
-    → (IsTrue ascend ↔ Ordered simple_ascii (marked_pairs text marks')) × (IsTrue ascii ↔ AreAsciiKeys (marked_pairs text marks'))
-told_push text marks marks' m pairs key ascend ascii grown are is up low =
+    → LieIn text marks → LiesIn text m
+    → (IsTrue ascend ↔ Ordered simple_ascii (marked_pairs text marks')) × (IsTrue ascii ↔ AreAsciiKeys (marked_pairs text marks')) × LieIn text marks'
+told_push text marks marks' m pairs key ascend ascii grown are is up low all lies =
     let more : marked_pairs text marks' ≡ pairs ++ (key, m.value) ∷ [] =
     ap (marked_pairs text) grown ∙ marked_push text marks m ∙ ap (λ ps. ps ++ marked_pair text m ∷ []) are ∙ ap (λ k. pairs ++ (k, m.value) ∷ []) (sym is) in (
       subst (λ ps. IsTrue ascend ↔ Ordered simple_ascii ps) (sym more) (both up (swap (ordered_push pairs (key, m.value)))),
       subst (λ ps. IsTrue ascii ↔ AreAsciiKeys ps) (sym more) (both low (swap (ascii_push pairs (key, m.value)))),
+      subst (LieIn text) (sym grown) (All-push (LiesIn text) marks m all lies),
     )
 
 -- keys of bytes, and keys that are ASCII, are keys of a kind that takes them

@@ -4,7 +4,7 @@ ghost use Rattle.std.specs.Prelude.{◌≡◌, ◌+◌, ◌<◌, ◌↔◌, ◌+
 ghost use Rattle.zerotrie_core.specs.Maps.{Ascends};
 ghost use Rattle.zerotrie_core.specs.Kind.{simple_ascii};
 ghost use Rattle.zerotrie_build.specs.Order.{Ordered, AreAsciiKeys};
-ghost use Rattle.zerotrie_build.specs.TextItems.{marked_pairs, IsAboveLast, IsTooWide};
+ghost use Rattle.zerotrie_build.specs.TextItems.{marked_pairs, LiesIn, LieIn, IsAboveLast, IsTooWide, HasNoMark};
 
 use crate::indexed::IndexedItems;
 use crate::order::precedes;
@@ -38,23 +38,21 @@ fn mark_of(start: usize, len: usize, value: usize) -> Option<Mark>
     })
 }
 
-/// The key that lies in the text at the mark, or as much of it as is there.
+/// The key that lies in the text at the mark.
 #[inline(always)]
 fn marked_key(text: &[u8], mark: Mark) -> &[u8]
+    requires { LiesIn text.now mark }
     ensures { result.now ≡ take mark.len (drop mark.start text.now) }
 {
-    let Some(rest) = text.get(mark.start as usize..) else {
-        return &[];
-    };
-    match rest.get(..mark.len as usize) {
-        Some(key) => key,
-        None => rest,
-    }
+    let start = mark.start as usize;
+    let end = start + mark.len as usize;
+    &text[start..end]
 }
 
 /// Whether the key is above the last of the marks by its bytes, or there are none.
 #[inline(always)]
 fn is_above_last(text: &[u8], marks: &[Mark], key: &[u8]) -> bool
+    requires { LieIn text.now marks.now }
     ensures { IsTrue result ↔ IsAboveLast (marked_pairs text.now marks.now) key.now }
 {
     match marks.last() {
@@ -86,7 +84,7 @@ impl<'a> Model for TextItems<'a> {
     ghost use Rattle.std.specs.Prelude.{◌↔◌, IsTrue};
     ghost use Rattle.zerotrie_core.specs.Kind.{simple_ascii};
     ghost use Rattle.zerotrie_build.specs.Order.{Ordered, AreAsciiKeys};
-    ghost use Rattle.zerotrie_build.specs.TextItems.{TextPairs, marked_pairs};
+    ghost use Rattle.zerotrie_build.specs.TextItems.{TextPairs, marked_pairs, LieIn};
 
     ghost Value = { TextPairs };
 
@@ -94,7 +92,8 @@ impl<'a> Model for TextItems<'a> {
 
     ghost invariant = { λ t.
         (IsTrue t.ascend ↔ Ordered simple_ascii (marked_pairs t.text.now t.marks.items))
-        × (IsTrue t.ascii ↔ AreAsciiKeys (marked_pairs t.text.now t.marks.items)) };
+        × (IsTrue t.ascii ↔ AreAsciiKeys (marked_pairs t.text.now t.marks.items))
+        × LieIn t.text.now t.marks.items };
 }
 
 impl<'a> TextItems<'a> {
@@ -128,22 +127,25 @@ impl<'a> TextItems<'a> {
         self.ascii && key.is_ascii()
     }
 
-    /// Adds the pair of a value and the key of `len` bytes that begins at the place `start` of the text. Where the text
-    /// ends before, so does the key.
+    /// Adds the pair of a value and the key of `len` bytes that begins at the place `start` of the text.
     ///
-    /// The answer is `false`, and no pair is added, if one of the numbers has more than 32 bits.
+    /// The answer is `false`, and no pair is added, if the text ends before the key does, or one of the numbers has more
+    /// than 32 bits.
     #[inline(always)]
     pub fn push(&mut self, start: usize, len: usize, value: usize) -> Result<bool, AllocError>
         ensures text { self.new.text ≡ self.old.text }
         ensures yes { IfOk result (λ yes. IsTrue yes → self.new.pairs
             ≡ self.old.pairs ++ (take len (drop start self.old.text), value) ∷ []) }
         ensures no { IfOk result (λ yes. yes ≡ false
-            → IsTooWide start len value × (self.new ≡ self.old)) }
+            → HasNoMark self.old.text start len value × (self.new ≡ self.old)) }
         ensures err { OnErr result (self.new ≡ self.old) }
     {
         let Some(mark) = mark_of(start, len, value) else {
             return Ok(false);
         };
+        if start + len > self.text.len() {
+            return Ok(false);
+        }
         let key = marked_key(self.text, mark);
         let ascend = self.ascend_with(key);
         let ascii = self.is_ascii_with(key);
@@ -190,11 +192,13 @@ impl<'a> TextItems<'a> {
 pub(crate) struct MarkedItems<'a> {
     text: &'a [u8],
     marks: &'a [Mark],
+    ghost within: { LieIn text.now marks.now },
 }
 
 impl<'a> MarkedItems<'a> {
     /// The marks of the text.
     fn new(text: &'a [u8], marks: &'a [Mark]) -> Self
+        requires { LieIn text.now marks.now }
         ensures text { result.text.now ≡ text.now }
         ensures marks { result.marks.now ≡ marks.now }
         ensures bytes { All (λ b. b < 256) text.now }
