@@ -10,5 +10,6 @@ mod Ranges
 mod RefusalLemmas
 mod Runs
 mod Stacks
+mod TextLemmas
 mod WindowLemmas
 mod WriteLemmas

@@ -7,6 +7,7 @@ ghost use Rattle.zerotrie_core.specs.Items.{pairs_of, keyed};
 ghost use Rattle.zerotrie_core.specs.Kind.{kind_with};
 ghost use Rattle.zerotrie_core.specs.Maps.{Ascends, map_of};
 ghost use Rattle.zerotrie_core.specs.Texts.{Means};
+ghost use Rattle.zerotrie_core.specs.Built.{IsBuilt};
 ghost use Rattle.zerotrie_core.specs.Routes.{ascending, any_order, IsRefusal, IsBuild, IsLength, HoldsOfItsPairs, IsBuildOfAll};
 ghost use Rattle.zerotrie_build.specs.Items.{pairs};
 ghost use Rattle.zerotrie_build.specs.Order.{Ordered, AreKeys, AreAsciiKeys, AreValues};
@@ -19,8 +20,10 @@ use crate::order::{are_ascii, are_in_order, are_keys, is_ordered};
 use crate::slice_indices::ByteSliceWithIndices;
 use crate::sort::sorted_by_fold;
 use crate::store::TrieBuilderStore;
+use crate::text_items::TextItems;
 use crate::writing::Writing;
 use std::alloc::{AllocError, Allocator, Global};
+use std::collections::VecDeque;
 use zerotrie_core::{
     Ext, Hash, Ignore, Simple, TrieKey, ZeroTrieBuildError, ZeroTrieBuilderOptions,
     ZeroTrieWithOptions, laws,
@@ -399,5 +402,60 @@ impl<S: TrieBuilderStore + Drop> ZeroTrieBuilder<S> {
         ensures { IfOk result (λ bytes. bytes.items ≡ S.list self.now.data) }
     {
         self.data.atbs_to_bytes(alloc)
+    }
+}
+
+/// The bytes of the trie of pairs in a text, in the kind `K`, if their keys ascend and no build of them is refused. It is
+/// always `None` for the kind that ignores case.
+fn build_marked<K: ZeroTrieWithOptions>(alloc: Global, items: &TextItems<'_>) -> Option<Vec<u8>>
+    ensures { IfSome result (λ bytes. Ascends items.now.pairs
+        × IsBuilt K.kind items.now.pairs bytes.items) }
+{
+    let ascii = items.is_ascii();
+    if K::IGNORE_CASE || !(K::SPANS || ascii) || !items.ascend() {
+        return None;
+    }
+    let built: Result<VecDeque<u8>, ZeroTrieBuildError> = build_ordered::<
+        K,
+        _,
+        VecDeque<u8>,
+        Global,
+    >(alloc, alloc, &items.items(), ascii);
+    match built {
+        Ok(store) => Some(store.into_vec()),
+        Err(_) => None,
+    }
+}
+
+/// The bytes of the trie of pairs in a text, in the kind of the options. Nothing is sorted, and no memory is taken for
+/// the pairs but what they have.
+///
+/// ```
+/// let mut items = TextItems::new(rt.alloc(), b"ad 22, adef 33");
+/// items.push(0, 2, 22)?;
+/// items.push(7, 4, 33)?;
+/// let options = ZeroTrieBuilderOptions::of::<Simple>();
+/// let bytes = build_text(rt.alloc(), &items, options);
+/// assert_eq!(rt; bytes.as_deref(), Some(b"ad\x90\x06ef\x90\x11".as_slice()));
+/// ```
+///
+/// It is `None` if the keys do not ascend strictly by their bytes, if a build by `ZeroTrieBuilder` is refused, and always
+/// if the options ignore case. `ZeroTrieBuilder` builds the rest, and tells why not.
+pub fn build_text(
+    alloc: Global,
+    items: &TextItems<'_>,
+    options: ZeroTrieBuilderOptions,
+) -> Option<Vec<u8>>
+    ensures { IfSome result (λ bytes. Ascends items.now.pairs
+        × IsBuilt (kind_with options) items.now.pairs bytes.items) }
+{
+    if options.ignore_case() {
+        None
+    } else if options.extended() {
+        build_marked::<Ext>(alloc, items)
+    } else if options.use_phf() {
+        build_marked::<Hash>(alloc, items)
+    } else {
+        build_marked::<Simple>(alloc, items)
     }
 }

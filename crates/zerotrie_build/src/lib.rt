@@ -17,11 +17,13 @@ mod refusal;
 mod slice_indices;
 mod sort;
 mod store;
+mod text_items;
 mod windows;
 mod writing;
 
-pub use builder::{ZeroTrieBuilder, build_slice, encoded_len};
+pub use builder::{ZeroTrieBuilder, build_slice, build_text, encoded_len};
 pub use konst::{ZeroTrieBuilderConst, bytes_within, fill_from_end};
 pub use refusal::{Refusal, why_iter_refused, why_slice_refused};
 pub use slice_indices::ByteSliceWithIndices;
 pub use store::TrieBuilderStore;
+pub use text_items::TextItems;

@@ -117,3 +117,12 @@ pub plain_first : (all : List ℕ) (place count value : ℕ) (rest : List ℕ) �
 plain_first all place count value rest within none tab number ends =
     subst (λ t. IsPairLine (before_first is_feed t) (take place all, value) × (rest ≡ after_first is_feed t)) (sym (parts all place count within tab))
     (plain_line (take place all) (take count (drop (place + 1) all)) (drop count (drop (place + 1) all)) rest value (none_before all place within none) number ends)
+
+-- a front of an input is as many of its first bytes as it has
+pub front_again : (n : ℕ) (all front : List ℕ) → front ≡ take n all → front ≡ take (length front) all
+front_again n all front is = is ∙ again n all ∙ ap (λ f. take (length f) all) (sym is)
+  where
+    again : (n : ℕ) (xs : List ℕ) → take n xs ≡ take (length (take n xs)) xs
+    again zero xs = refl
+    again (suc n) [] = refl
+    again (suc n) (x ∷ xs) = ap (λ t. x ∷ t) (again n xs)

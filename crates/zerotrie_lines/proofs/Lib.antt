@@ -1,3 +1,4 @@
+pub mod CallerLemmas
 mod NumberLemmas
 mod TableLemmas
 mod PlainLemmas

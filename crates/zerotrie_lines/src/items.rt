@@ -1,6 +1,6 @@
 //! Pairs whose keys stand in the input as they are, so that they are read where they lie.
 
-ghost use Rattle.std.specs.Prelude.{◌≡◌, ◌≤◌, ◌⊎◌, ◌∷◌, [], length, take, IfOk, IfSome};
+ghost use Rattle.std.specs.Prelude.{◌≡◌, ◌≤◌, ◌⊎◌, ◌∷◌, [], length, take, IfOk, IfSome, IfNone};
 ghost use Rattle.std.specs.List.{before_first, after_first};
 ghost use Rattle.zerotrie_lines.specs.Numbers.{IsNumber};
 ghost use Rattle.zerotrie_lines.specs.Tables.{pairs_of};
@@ -47,13 +47,23 @@ fn after_feed(text: &[u8]) -> Option<&[u8]>
     }
 }
 
-/// Takes the first line off, and answers the pair that it is. `None` if its key has an escape, or it is no pair; what is
-/// left is then as it was.
+/// Takes the first line off, which is a key, a tab and a number, and answers the pair that it is. The key is the front of
+/// what was left, so that it lies in the input.
+///
+/// ```
+/// let mut rest = b"ad\t22\nadef\t33\n".as_slice();
+/// assert_eq!(rt; take_plain(&mut rest), Some((b"ad".as_slice(), 22)));
+/// assert_eq!(rt; rest, b"adef\t33\n".as_slice());
+/// ```
+///
+/// It is `None` if the key has an escape, or the line is no pair. What is left is then as it was.
 #[inline(always)]
-fn take_plain<'a>(rest: &mut &'a [u8]) -> Option<(&'a [u8], usize)>
+pub fn take_plain<'a>(rest: &mut &'a [u8]) -> Option<(&'a [u8], usize)>
     ensures pair { IfSome result (λ e.
         IsPairLine (before_first is_feed rest.old.now) (e.0.now, e.1)) }
+    ensures front { IfSome result (λ e. e.0.now ≡ take (length e.0.now) rest.old.now) }
     ensures rest { IfSome result (λ _. rest.new.now ≡ after_first is_feed rest.old.now) }
+    ensures none { IfNone result (rest.new.now ≡ rest.old.now) }
 {
     let all = *rest;
     let place = memchr3(b'\t', b'\\', b'\n', all)?;

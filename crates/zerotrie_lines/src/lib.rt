@@ -20,7 +20,7 @@ mod table;
 pub use blocks::{read_more, whole_lines};
 pub use escapes::{hex_digit, unescape, write_escaped};
 pub use fault::{BadLine, ReadError};
-pub use items::read_items;
+pub use items::{read_items, take_plain};
 pub use lines::{read_lines, take_line, write_pair};
 pub use numbers::{parse_number, write_number};
 pub use reading::{Format, read_pairs};

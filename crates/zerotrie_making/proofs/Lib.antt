@@ -1,3 +1,4 @@
 mod ShownLemmas
 mod MadeLemmas
+mod QuickLemmas
 mod ListedLemmas

@@ -5,6 +5,7 @@ mod json;
 pub mod laws;
 mod making;
 mod plan;
+mod quick;
 mod reading;
 mod refused;
 mod tries;

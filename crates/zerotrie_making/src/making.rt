@@ -8,6 +8,7 @@ ghost use Rattle.zerotrie_making.specs.Plans.{route_of, file_of};
 ghost use Rattle.zerotrie_making.specs.Made.{IsFile, IsFileOf, IsRefusedAs, Explains, ExplainsOf};
 
 use crate::plan::Plan;
+use crate::quick::make_quick;
 use crate::reading::{items_in, read_input};
 use crate::refused::{MakeError, show};
 use crate::tries::{bytes_of, kind_for, why_refused};
@@ -16,7 +17,7 @@ use zerotrie_core::ZeroTrieBuildError;
 use zerotrie_queries::TrieKind;
 
 /// The file of a trie with these bytes. Unless it is bare, the number of the kind stands in front of them.
-fn file_of(bare: bool, kind: TrieKind, bytes: Vec<u8>) -> Result<Vec<u8>, AllocError>
+pub fn file_of(bare: bool, kind: TrieKind, bytes: Vec<u8>) -> Result<Vec<u8>, AllocError>
     ensures { IfOk result (λ file. file.items ≡ file_of bare (kind_of kind) bytes.items) }
 {
     let mut file = bytes;
@@ -82,6 +83,9 @@ pub fn make(alloc: Global, plan: Plan, input: Vec<u8>) -> Result<Vec<u8>, MakeEr
     ensures ok { IfOk result (λ file. IsFile plan input.items file.items) }
     ensures err { IfErr result (λ e. Explains plan input.items e) }
 {
+    if let Some(file) = make_quick(alloc, plan, input.as_slice()) {
+        return Ok(file);
+    }
     if let Some(items) = items_in(alloc, plan.source, plan.lower_case, input.as_slice())? {
         return make_of(alloc, plan, items.as_slice());
     }

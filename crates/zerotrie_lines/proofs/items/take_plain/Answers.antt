@@ -2,7 +2,7 @@ use Rattle.std.proofs.Common.{rules, ◌≡◌, ◌∷◌, [], ◌⊎◌, take, 
 use Rattle.std.specs.List.{before_first}
 use Rattle.zerotrie_lines.specs.Numbers.{IsNumber}
 use Rattle.zerotrie_lines.specs.Lines.{is_feed, IsPairLine}
-use Rattle.zerotrie_lines.proofs.ItemLemmas.{plain_first}
+use Rattle.zerotrie_lines.proofs.ItemLemmas.{plain_first, front_again}
 use Rattle.zerotrie_lines.proofs.items.take_plain.Goals as goal
 
 pub returns-clause-pair : goal.returns-clause-pair
@@ -20,6 +20,9 @@ returns-clause-pair c =
     let ends = subst (λ t. (t ≡ 10 ∷ rest) ⊎ ((t ≡ []) × (rest ≡ []))) behind c.in_ok-rest.ensures in
     subst (λ key. IsPairLine (before_first is_feed all) (key, value)) (sym c.split_at.ensures.front)
     (plain_first all place count value rest found.0.high found.0.before tab number ends).0
+
+pub returns-clause-front : goal.returns-clause-front
+returns-clause-front c = front_again c.in_ok-place.place c.args.rest.now.now _ c.split_at.ensures.front
 
 pub returns-clause-rest : goal.returns-clause-rest
 returns-clause-rest c =

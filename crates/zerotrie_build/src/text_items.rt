@@ -1,0 +1,225 @@
+//! Pairs whose keys lie in one text.
+
+ghost use Rattle.std.specs.Prelude.{◌≡◌, ◌+◌, ◌<◌, ◌↔◌, ◌++◌, ◌∷◌, [], Some, false, length, slice_get, take, drop, All, IsTrue, IfOk, IfSome, IfNone, OnErr};
+ghost use Rattle.zerotrie_core.specs.Maps.{Ascends};
+ghost use Rattle.zerotrie_core.specs.Kind.{simple_ascii};
+ghost use Rattle.zerotrie_build.specs.Order.{Ordered, AreAsciiKeys};
+ghost use Rattle.zerotrie_build.specs.TextItems.{marked_pairs, LiesIn, LieIn, IsAboveLast, IsTooWide, HasNoMark};
+
+use crate::indexed::LentItems;
+use crate::order::precedes;
+use std::alloc::{AllocError, Global};
+use std::marker::Model;
+use zerotrie_core::Simple;
+
+/// Where a key lies in a text, and its value.
+#[derive(Clone, Copy, Debug)]
+struct Mark {
+    start: u32,
+    len: u32,
+    value: u32,
+}
+
+/// The mark of these numbers. `None` if one of them has more than 32 bits.
+#[inline(always)]
+fn mark_of(start: usize, len: usize, value: usize) -> Option<Mark>
+    ensures some { IfSome result (λ mark. (mark.start ≡ start) × (mark.len ≡ len)
+        × (mark.value ≡ value)) }
+    ensures none { IfNone result (IsTooWide start len value) }
+{
+    let most = u32::MAX as usize;
+    if start > most || len > most || value > most {
+        return None;
+    }
+    Some(Mark {
+        start: start as u32,
+        len: len as u32,
+        value: value as u32,
+    })
+}
+
+/// The key that lies in the text at the mark.
+#[inline(always)]
+fn marked_key(text: &[u8], mark: Mark) -> &[u8]
+    requires { LiesIn text.now mark }
+    ensures { result.now ≡ take mark.len (drop mark.start text.now) }
+{
+    let start = mark.start as usize;
+    let end = start + mark.len as usize;
+    &text[start..end]
+}
+
+/// Whether the key is above the last of the marks by its bytes, or there are none.
+#[inline(always)]
+fn is_above_last(text: &[u8], marks: &[Mark], key: &[u8]) -> bool
+    requires { LieIn text.now marks.now }
+    ensures { IsTrue result ↔ IsAboveLast (marked_pairs text.now marks.now) key.now }
+{
+    match marks.last() {
+        Some(last) => precedes::<Simple>(marked_key(text, *last), key),
+        None => true,
+    }
+}
+
+/// Pairs whose keys lie in one text, in the order in which they were added.
+///
+/// A pair takes twelve bytes. What a build asks of its pairs is looked at as each is added: whether the keys ascend, and
+/// whether they are ASCII.
+///
+/// ```
+/// let mut items = TextItems::new(rt.alloc(), b"ad 22, adef 33");
+/// items.push(0, 2, 22)?;
+/// items.push(7, 4, 33)?;
+/// assert_eq!(rt; (items.len(), items.ascend(), items.is_ascii()), (2, true, true));
+/// ```
+#[derive(Debug, Drop)]
+pub struct TextItems<'a> {
+    text: &'a [u8],
+    marks: Vec<Mark>,
+    ascend: bool,
+    ascii: bool,
+}
+
+impl<'a> Model for TextItems<'a> {
+    ghost use Rattle.std.specs.Prelude.{◌↔◌, IsTrue};
+    ghost use Rattle.zerotrie_core.specs.Kind.{simple_ascii};
+    ghost use Rattle.zerotrie_build.specs.Order.{Ordered, AreAsciiKeys};
+    ghost use Rattle.zerotrie_build.specs.TextItems.{TextPairs, marked_pairs, LieIn};
+
+    ghost Value = { TextPairs };
+
+    ghost view = { λ t. record { text = t.text.now; pairs = marked_pairs t.text.now t.marks.items } };
+
+    ghost invariant = { λ t.
+        (IsTrue t.ascend ↔ Ordered simple_ascii (marked_pairs t.text.now t.marks.items))
+        × (IsTrue t.ascii ↔ AreAsciiKeys (marked_pairs t.text.now t.marks.items))
+        × LieIn t.text.now t.marks.items };
+}
+
+impl<'a> TextItems<'a> {
+    /// No pairs of the text.
+    pub fn new(alloc: Global, text: &'a [u8]) -> Self
+        ensures text { result.text ≡ text.now }
+        ensures pairs { result.pairs ≡ [] }
+    {
+        TextItems {
+            text,
+            marks: Vec::new(alloc),
+            ascend: true,
+            ascii: true,
+        }
+    }
+
+    /// Whether the keys ascend with this one after them.
+    #[inline(always)]
+    fn ascend_with(&self, key: &[u8]) -> bool
+        ensures { IsTrue result ↔ Ordered simple_ascii self.now.pairs
+            × IsAboveLast self.now.pairs key.now }
+    {
+        self.ascend && is_above_last(self.text, self.marks.as_slice(), key)
+    }
+
+    /// Whether all keys are ASCII with this one.
+    #[inline(always)]
+    fn is_ascii_with(&self, key: &[u8]) -> bool
+        ensures { IsTrue result ↔ AreAsciiKeys self.now.pairs × All (λ b. b < 128) key.now }
+    {
+        self.ascii && key.is_ascii()
+    }
+
+    /// Adds the pair of a value and the key of `len` bytes that begins at the place `start` of the text.
+    ///
+    /// The answer is `false`, and no pair is added, if the text ends before the key does, or one of the numbers has more
+    /// than 32 bits.
+    #[inline(always)]
+    pub fn push(&mut self, start: usize, len: usize, value: usize) -> Result<bool, AllocError>
+        ensures text { self.new.text ≡ self.old.text }
+        ensures yes { IfOk result (λ yes. IsTrue yes → self.new.pairs
+            ≡ self.old.pairs ++ (take len (drop start self.old.text), value) ∷ []) }
+        ensures no { IfOk result (λ yes. yes ≡ false
+            → HasNoMark self.old.text start len value × (self.new ≡ self.old)) }
+        ensures err { OnErr result (self.new ≡ self.old) }
+    {
+        let Some(mark) = mark_of(start, len, value) else {
+            return Ok(false);
+        };
+        if start + len > self.text.len() {
+            return Ok(false);
+        }
+        let key = marked_key(self.text, mark);
+        let ascend = self.ascend_with(key);
+        let ascii = self.is_ascii_with(key);
+        self.marks.push(mark)?;
+        self.ascend = ascend;
+        self.ascii = ascii;
+        Ok(true)
+    }
+
+    /// How many pairs there are.
+    pub fn len(&self) -> usize
+        ensures { result ≡ length self.now.pairs }
+    {
+        self.marks.len()
+    }
+
+    /// Whether the keys are strictly ascending by their bytes, so that none comes twice. It was found as they were added.
+    #[inline(always)]
+    pub fn ascend(&self) -> bool
+        ensures { IsTrue result ↔ Ascends self.now.pairs }
+    {
+        self.ascend
+    }
+
+    /// Whether every byte of every key is below 128. It was found as they were added.
+    #[inline(always)]
+    pub fn is_ascii(&self) -> bool
+        ensures { IsTrue result ↔ All (λ e. All (λ b. b < 128) e.0) self.now.pairs }
+    {
+        self.ascii
+    }
+
+    /// The pairs, as items that are asked for by number.
+    pub(crate) fn items(&self) -> MarkedItems<'_>
+        ensures pairs { marked_pairs result.text.now result.marks.now ≡ self.now.pairs }
+        ensures bytes { All (λ e. All (λ b. b < 256) e.0) self.now.pairs }
+    {
+        MarkedItems::new(self.text, self.marks.as_slice())
+    }
+}
+
+/// A text and marks of keys in it.
+#[derive(Clone, Copy)]
+pub(crate) struct MarkedItems<'a> {
+    text: &'a [u8],
+    marks: &'a [Mark],
+    ghost within: { LieIn text.now marks.now },
+}
+
+impl<'a> MarkedItems<'a> {
+    /// The marks of the text.
+    fn new(text: &'a [u8], marks: &'a [Mark]) -> Self
+        requires { LieIn text.now marks.now }
+        ensures text { result.text.now ≡ text.now }
+        ensures marks { result.marks.now ≡ marks.now }
+        ensures bytes { All (λ b. b < 256) text.now }
+    {
+        // That the text was read tells the proof that its bytes are below 256.
+        let _first = text.first();
+        MarkedItems { text, marks }
+    }
+}
+
+impl<'a> LentItems for MarkedItems<'a> {
+    ghost pairs = { λ items. marked_pairs items.text.now items.marks.now };
+
+    #[inline(always)]
+    fn lent_len(&self) -> usize {
+        self.marks.len()
+    }
+
+    #[inline(always)]
+    fn lent(&self, index: usize) -> (&[u8], usize) {
+        let mark = self.marks[index];
+        (marked_key(self.text, mark), mark.value as usize)
+    }
+}
