@@ -66,10 +66,14 @@ fn items_of_keys(alloc: Global, input: &[u8]) -> Option<TextItems<'_>>
     Some(items)
 }
 
-/// The pairs of lines. `None` if a key does not stand in its line as it is, or the keys do not ascend.
+/// The pairs of lines. `None` if a key does not stand in its line as it is, or the keys do not ascend, or a place in the
+/// input has more than 32 bits.
 fn items_of(alloc: Global, format: Format, input: &[u8]) -> Option<TextItems<'_>>
     ensures { IfSome result (λ items. Reads format input.now items.pairs) }
 {
+    if input.len() > u32::MAX as usize {
+        return None;
+    }
     match format {
         Format::Tsv => items_of_tsv(alloc, input),
         Format::Lines => items_of_keys(alloc, input),
