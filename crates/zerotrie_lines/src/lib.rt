@@ -5,6 +5,7 @@
 #![tactic(auto)]
 
 mod blocks;
+mod copies;
 mod escapes;
 mod fault;
 mod items;

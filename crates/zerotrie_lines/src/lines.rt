@@ -7,6 +7,7 @@ ghost use Rattle.zerotrie_lines.specs.Escapes.{Spells};
 ghost use Rattle.zerotrie_lines.specs.Lines.{is_feed, lines_of, HasTab, IsPairLine, tsv_line};
 ghost use Rattle.zerotrie_lines.specs.Reads.{IsLineFault, HasReturn, IsValueFault};
 
+use crate::copies::push_bytes;
 use crate::escapes::{unescape, write_escaped};
 use crate::fault::BadLine;
 use crate::numbers::parse_number;
@@ -141,7 +142,7 @@ pub fn write_pair(output: &mut Vec<u8>, key: &[u8], value: usize) -> Result<(), 
     let digits = buffer.format(value).as_bytes();
     write_escaped(output, key)?;
     output.push(b'\t')?;
-    output.extend_from_slice(digits)?;
+    push_bytes(output, digits)?;
     output.push(b'\n')?;
     Ok(())
 }
