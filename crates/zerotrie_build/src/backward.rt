@@ -1,6 +1,6 @@
 //! A text that is written from its last byte to its first.
 
-ghost use Rattle.std.specs.Prelude.{◌≡◌, ◌∷◌, ◌++◌, ◌<◌, ◌^◌, [], length, IfOk, OnOk};
+ghost use Rattle.std.specs.Prelude.{◌≡◌, ◌++◌, ◌<◌, ◌^◌, [], length, reverse, IfOk, OnOk};
 ghost use Rattle.zerotrie_core.specs.Numbers.{value_form, spelled_as};
 ghost use Rattle.zerotrie_core.specs.plain.Encoding.{with_bits};
 
@@ -41,13 +41,12 @@ impl Backward {
         self.written.len()
     }
 
-    /// Puts a byte in front.
+    /// Puts bytes in front that are given from the last to the first.
     #[inline(always)]
-    fn put(&mut self, byte: u8) -> Result<(), AllocError>
-        ensures { OnOk result (self.new ≡ byte ∷ self.old) }
+    fn put_turned(&mut self, bytes: &[u8]) -> Result<(), AllocError>
+        ensures { OnOk result (self.new ≡ reverse bytes.now ++ self.old) }
     {
-        self.written.push(byte)?;
-        Ok(())
+        self.written.extend_from_slice(bytes)
     }
 
     /// Puts bytes in front.
@@ -69,25 +68,28 @@ impl Backward {
         ensures small { value < 2 ^ 64 }
     {
         if value < 16 {
-            return self.put(VALUE + value as u8);
+            return self.put_turned(&[VALUE + value as u8]);
         }
         let low = value - 16;
         if low < 2048 {
-            self.put((low % 128) as u8)?;
-            return self.put(VALUE + 16 + (low / 128) as u8);
+            return self.put_turned(&[(low % 128) as u8, VALUE + 16 + (low / 128) as u8]);
         }
         let middle = low / 128 - 16;
         if middle < 2048 {
-            self.put((low % 128) as u8)?;
-            self.put(128 + (middle % 128) as u8)?;
-            return self.put(VALUE + 16 + (middle / 128) as u8);
+            return self.put_turned(&[
+                (low % 128) as u8,
+                128 + (middle % 128) as u8,
+                VALUE + 16 + (middle / 128) as u8,
+            ]);
         }
         let high = middle / 128 - 16;
         if high < 2048 {
-            self.put((low % 128) as u8)?;
-            self.put(128 + (middle % 128) as u8)?;
-            self.put(128 + (high % 128) as u8)?;
-            return self.put(VALUE + 16 + (high / 128) as u8);
+            return self.put_turned(&[
+                (low % 128) as u8,
+                128 + (middle % 128) as u8,
+                128 + (high % 128) as u8,
+                VALUE + 16 + (high / 128) as u8,
+            ]);
         }
         self.put_long(value)
     }
@@ -99,7 +101,7 @@ impl Backward {
         let spelling = write_varint_meta3(value);
         if let Some((lead, trail)) = spelling.split_first() {
             self.put_all(trail)?;
-            self.put(VALUE + *lead)?;
+            self.put_turned(&[VALUE + *lead])?;
         }
         Ok(())
     }

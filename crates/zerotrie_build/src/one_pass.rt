@@ -129,7 +129,37 @@ fn put_rest<K: ZeroTrieWithOptions, J: LentItems, A: Allocator + Copy>(
     Ok(())
 }
 
-/// Puts the text of a window in front of the text that is there. An error says that it gives up.
+/// Puts the text of a window that is more than a leaf in front of the text that is there. An error says that it gives up.
+#[cycle(one_pass)]
+fn put_inner<K: ZeroTrieWithOptions, J: LentItems, A: Allocator + Copy>(
+    items: &J,
+    ascii: bool,
+    window: Window,
+    levels: &mut Vec<Level<A>, A>,
+    text: &mut Backward,
+    front: &mut Writing,
+) -> Result<(), ZeroTrieBuildError>
+    requires keys { AreKeys K.kind (J.pairs items.now) }
+    requires ascii { IsTrue ascii → AreAsciiKeys (J.pairs items.now) }
+    requires placed { IsPlaced K.kind (J.pairs items.now) window }
+    ensures deep { length levels.new.items ≤ length levels.old.items }
+    ensures puts { OnOk result (PutsText K.kind (J.pairs items.now) window text.old text.new) }
+{
+    let (rest, len) = after_front::<K, &J>(items, window)?;
+    put_rest::<K, J, A>(items, ascii, rest, levels, text, front)?;
+    if rest.from != window.from || rest.depth != window.depth {
+        if !front.clear_for(len) {
+            return Err(ZeroTrieBuildError::CapacityExceeded);
+        }
+        front.put_front::<K, &J>(items, window);
+        text.put_all(front.as_slice())?;
+    }
+    Ok(())
+}
+
+/// Puts the text of a window in front of the text that is there. An error says that it gives up. A window of one item, as
+/// most are, takes no call.
+#[inline(always)]
 #[cycle(one_pass)]
 fn put_window<K: ZeroTrieWithOptions, J: LentItems, A: Allocator + Copy>(
     items: &J,
@@ -150,16 +180,7 @@ fn put_window<K: ZeroTrieWithOptions, J: LentItems, A: Allocator + Copy>(
         text.put_all(literals)?;
         return Ok(());
     }
-    let (rest, len) = after_front::<K, &J>(items, window)?;
-    put_rest::<K, J, A>(items, ascii, rest, levels, text, front)?;
-    if rest.from != window.from || rest.depth != window.depth {
-        if !front.clear_for(len) {
-            return Err(ZeroTrieBuildError::CapacityExceeded);
-        }
-        front.put_front::<K, &J>(items, window);
-        text.put_all(front.as_slice())?;
-    }
-    Ok(())
+    put_inner::<K, J, A>(items, ascii, window, levels, text, front)
 }
 
 /// The bytes of the trie of items in the order of the kind. An error says that it gives up: too many branches stand one

@@ -9,6 +9,7 @@ use zerotrie_build::{
 };
 use zerotrie_core::{
     Ext, Hash, Ignore, Simple, ZeroTrieBuildError, ZeroTrieBuilderOptions, ZeroTrieWithOptions,
+    get_counted,
 };
 
 type Builder = ZeroTrieBuilder<VecDeque<u8>>;
@@ -149,5 +150,60 @@ fn every_size_of_heap(rt: HostRuntime) -> Result<(), Fail> {
         same(&rt, heap.used(), 0);
     }
     assert!(rt; refused > 10 && refused < 190);
+    Ok(())
+}
+
+/// 4,913 keys of three bytes in ascending order, one after another. All of their bytes are multiples of the step.
+fn many_keys(alloc: Global, step: u8) -> Result<Vec<u8>, Fail> {
+    let mut keys = Vec::new(alloc);
+    for number in 0..4913usize {
+        for digit in [number / 289 % 17, number / 17 % 17, number % 17] {
+            keys.push((digit as u8).wrapping_mul(step))?;
+        }
+    }
+    Ok(keys)
+}
+
+/// The items of these keys, with their numbers as values.
+fn numbered(alloc: Global, keys: &[u8]) -> Result<Vec<(&[u8], usize)>, Fail> {
+    let mut items: Vec<(&[u8], usize)> = Vec::new(alloc);
+    for key in keys.chunks(3) {
+        items.push((key, items.len()))?;
+    }
+    Ok(items)
+}
+
+/// Many items have a text as long as was told beforehand, which has the last of them.
+fn has_many<K: ZeroTrieWithOptions>(alloc: Global, step: u8) -> Result<bool, Fail> {
+    let keys = many_keys(alloc, step)?;
+    let items = numbered(alloc, keys.as_slice())?;
+    let text = by_slice::<K>(alloc, items.as_slice())?;
+    let (last, value) = *items.last().ok_or("no items")?;
+    let told = has_len::<K>(alloc, items.as_slice(), text.len())?;
+    Ok(told && get_counted::<K>(text.as_slice(), last).0 == Some(value))
+}
+
+#[test]
+fn many_items(rt: HostRuntime) -> Result<(), Fail> {
+    let alloc = rt.alloc();
+    assert!(rt; has_many::<Simple>(alloc, 7)?);
+    assert!(rt; has_many::<Ignore>(alloc, 3)?);
+    assert!(rt; has_many::<Hash>(alloc, 15)?);
+    assert!(rt; has_many::<Ext>(alloc, 15)?);
+    Ok(())
+}
+
+/// Keys that each go on after the one before have more nodes in front of a branch than one pass takes.
+#[test]
+fn many_keys_in_a_row(rt: HostRuntime) -> Result<(), Fail> {
+    let alloc = rt.alloc();
+    let long = vec![in alloc; b'b'; 4200]?;
+    let mut items: Vec<(&[u8], usize)> = Vec::new(alloc);
+    for len in 0..4200usize {
+        items.push((long.get(..len).ok_or("short")?, len))?;
+    }
+    let text = by_slice::<Simple>(alloc, items.as_slice())?;
+    let key = long.get(..4000).ok_or("short")?;
+    assert!(rt; get_counted::<Simple>(text.as_slice(), key).0 == Some(4000));
     Ok(())
 }

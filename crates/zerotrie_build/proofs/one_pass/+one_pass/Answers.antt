@@ -41,7 +41,7 @@ put_rest-put_targets-requires g t c κs within =
     let w = c.args.window in
     let is = stopped kind all w c.requires.stops (let h = c.if-window.false in omega arith) in
     let ws = c.lay_out.new.self.windows.items in
-    let falls : 3 * length c.pop.new.self.items + 3 < t =
+    let falls : 4 * length c.pop.new.self.items + 4 < t =
     (let d = c.decreases in let n = ap length c.in-Some.ensures.items in let a = length-append c.pop.new.self.items (c.in-Some.level ∷ []) in omega arith) in (
       falls,
       (
@@ -173,7 +173,7 @@ put_targets-put_window-requires g t c κs within =
     let v = c.loop-index.invariant in
     let few = v.within in
     let some = c.loop-index-test.true in
-    let falls : 3 * length c.loop-index.levels.items + 2 < t = (let d = c.decreases in let deep = v.deep in omega arith) in
+    let falls : 4 * length c.loop-index.levels.items + 3 < t = (let d = c.decreases in let deep = v.deep in omega arith) in
     let below = c.requires.targets.within i 0 (omega arith) in
     let at : c.target-window.result ≡ window_at ws (get_or numbers i 0) = c.target-window.ensures in
     (falls, (within.0, (within.1.0, (within.1.1, (c.requires.keys, (c.requires.ascii, subst (IsPlaced kind all) (sym at) (placed_at kind all ws (get_or numbers i 0) c.requires.targets.placed below)))))))
@@ -216,27 +216,32 @@ put_window-returns-in-Some-clause-puts g t c =
       c.in_ok-put_all.ensures ∙ ap (λ x. literals ++ x) c.in_ok-put_value.ensures.puts ∙ sym (append_assoc literals spelled c.args.text.now),
     )
 
-pub put_window-put_rest-requires : goal.put_window-put_rest-requires
-put_window-put_rest-requires g t c κs within =
-    let falls : 3 * length c.args.levels.now.items + 1 < t = (let d = c.decreases in omega arith) in
+pub put_inner-put_rest-requires : goal.put_inner-put_rest-requires
+put_inner-put_rest-requires g t c κs within =
+    let falls : 4 * length c.args.levels.now.items + 1 < t = (let d = c.decreases in omega arith) in
     let rest = c.in_ok-rest.ensures in
     (falls, (within.0, (within.1.0, (within.1.1, (c.requires.keys, (c.requires.ascii, (placed_after c.requires.placed c.requires.keys rest.run, (rest.stops, rest.room))))))))
 
-pub put_window-put_front-requires : goal.put_window-put_front-requires
-put_window-put_front-requires g t c κs =
+pub put_inner-put_front-requires : goal.put_inner-put_front-requires
+put_inner-put_front-requires g t c κs =
     let rest = c.in_ok-rest.ensures in
     let placed = c.requires.placed in
     let keys = c.requires.keys in
     let room = (c.if-not-clear_for.ensures.room refl) in
     ((refl, tt), (keys, (first_known placed keys rest.run rest.stops c.in_ok-put_rest.ensures.puts, fits_front c.clear_for.new.self placed keys rest.run rest.stops room)))
 
-pub put_window-returns-in_ok-put_all-2-clause-puts : goal.put_window-returns-in_ok-put_all-2-clause-puts
-put_window-returns-in_ok-put_all-2-clause-puts g t c =
+pub put_inner-returns-in_ok-put_all-clause-puts : goal.put_inner-returns-in_ok-put_all-clause-puts
+put_inner-returns-in_ok-put_all-clause-puts g t c =
     let rest = c.in_ok-rest.ensures in
-    front_put rest.run rest.stops c.in_ok-put_rest.ensures.puts c.put_front.ensures.front c.put_front.ensures.stops c.clear_for.ensures.empty c.as_slice.ensures c.in_ok-put_all-2.ensures
+    front_put rest.run rest.stops c.in_ok-put_rest.ensures.puts c.put_front.ensures.front c.put_front.ensures.stops c.clear_for.ensures.empty c.as_slice.ensures c.in_ok-put_all.ensures
 
-pub put_window-returns-else-rest-window-2-clause-puts : goal.put_window-returns-else-rest-window-2-clause-puts
-put_window-returns-else-rest-window-2-clause-puts g t c =
+pub put_inner-returns-else-rest-window-2-clause-puts : goal.put_inner-returns-else-rest-window-2-clause-puts
+put_inner-returns-else-rest-window-2-clause-puts g t c =
     let same : c.in_ok-rest.rest.from ≡ c.args.window.from = (let h = c.if-rest-window.false in omega arith) in
     let deep : c.in_ok-rest.rest.depth ≡ c.args.window.depth = (let h = c.if-rest-window-2.false in omega arith) in
     rest_whole c.requires.placed c.requires.keys c.in_ok-rest.ensures.run same deep c.in_ok-put_rest.ensures.puts
+
+pub put_window-put_inner-requires : goal.put_window-put_inner-requires
+put_window-put_inner-requires g t c κs within =
+    let falls : 4 * length c.args.levels.now.items + 2 < t = (let d = c.decreases in omega arith) in
+    (falls, (within.0, (within.1.0, (within.1.1, (c.requires.keys, (c.requires.ascii, c.requires.placed))))))

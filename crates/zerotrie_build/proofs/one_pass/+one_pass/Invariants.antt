@@ -3,13 +3,16 @@ use Rattle.zerotrie_build.specs.passes.Backward.{PutsTargets}
 use Rattle.zerotrie_build.proofs.one_pass.+one_pass.Given as goal
 
 abbrev pub decreases-put_rest : goal.decreases-put_rest
-decreases-put_rest g l = 3 * length l.levels.now.items + 1
+decreases-put_rest g l = 4 * length l.levels.now.items + 1
 
 abbrev pub decreases-put_targets : goal.decreases-put_targets
-decreases-put_targets g l = 3 * length l.levels.now.items + 3
+decreases-put_targets g l = 4 * length l.levels.now.items + 4
 
 abbrev pub decreases-put_window : goal.decreases-put_window
-decreases-put_window g l = 3 * length l.levels.now.items + 2
+decreases-put_window g l = 4 * length l.levels.now.items + 3
+
+abbrev pub decreases-put_inner : goal.decreases-put_inner
+decreases-put_inner g l = 4 * length l.levels.now.items + 2
 
 abbrev pub invariant-put_targets-loop-index : goal.invariant-put_targets-loop-index
 invariant-put_targets-loop-index g l = record {
