@@ -22,6 +22,7 @@ use crate::node::{Node, first_node};
 use crate::options::ZeroTrieWithOptions;
 use crate::walk::{Part, push_behind};
 use crate::well_formed::branches::{has_table, has_width};
+use crate::well_formed::known_table::KnownTable;
 use crate::well_formed::{Expected, is_run};
 use std::alloc::{AllocError, Allocator};
 use thiserror::Error;
@@ -135,7 +136,7 @@ fn branch_fault<K: ZeroTrieWithOptions>(branch: Branch<'_>) -> Option<FaultCause
         → IfNone result (Keeps K.kind expected (branch_shape branch.entry)) }
 {
     let (_, body) = branch.behind.split_at(branch.edges);
-    if !has_table::<K>(&branch, branch.behind) {
+    if !has_table::<K>(&branch, branch.behind, &mut KnownTable::none()) {
         Some(FaultCause::WrongTable)
     } else if !has_width(body, branch.width * (branch.edges - 1), branch.width) {
         Some(FaultCause::WrongWidth)

@@ -15,12 +15,14 @@ ghost use Rattle.zerotrie_core.specs.listing.Runs.{EndsWith};
 ghost use Rattle.zerotrie_core.specs.well_formed.Testing.{Steps, IsAllowed, IsPastValue, ReducesTo, IsFirstLonger, AlwaysReducesTo, AlwaysNoText};
 
 pub(crate) mod branches;
+pub(crate) mod known_table;
 
 use crate::branch::Branch;
 use crate::here::Here;
 use crate::node::{Node, first_node};
 use crate::options::ZeroTrieWithOptions;
 use branches::{has_front, target_from};
+use known_table::KnownTable;
 
 /// What may stand next in a text.
 #[derive(Clone, Copy)]
@@ -188,6 +190,7 @@ fn by_length<'a>(first: Here<'a>, next: Here<'a>) -> (Here<'a>, Here<'a>)
 fn go_behind<'a, K: ZeroTrieWithOptions>(
     here: Here<'a>,
     branch: Branch<'a>,
+    known: &mut KnownTable<'a>,
 ) -> Option<(Here<'a>, u32)>
     requires { EndsWith here.rest.now branch.behind.now }
     ensures shorter { IfSome result (λ r. length r.0.rest.now < length branch.entry.behind.now) }
@@ -197,7 +200,7 @@ fn go_behind<'a, K: ZeroTrieWithOptions>(
         AlwaysReducesTo K.kind (branch_shape branch.entry) r.0.rest.now Expected.Something r.1) }
     ensures none { IfNone result (AlwaysNoText K.kind (branch_shape branch.entry)) }
 {
-    if !has_front::<K>(&branch, here.behind(branch.behind)) {
+    if !has_front::<K>(&branch, here.behind(branch.behind), known) {
         return None;
     }
     let targets = here.behind(branch.targets());
@@ -209,7 +212,7 @@ fn go_behind<'a, K: ZeroTrieWithOptions>(
         begin += target.rest.len();
         let (shorter, longer) = by_length(longest, target);
         longest = longer;
-        let (yes, count) = is_target_counted::<K>(shorter);
+        let (yes, count) = is_target_counted::<K>(shorter, known);
         if !yes {
             return None;
         }
@@ -223,7 +226,10 @@ fn go_behind<'a, K: ZeroTrieWithOptions>(
 /// Most of the shorter targets are literals and a value: they take no call.
 #[inline(always)]
 #[cycle(tested)]
-fn is_target_counted<K: ZeroTrieWithOptions>(target: Here<'_>) -> (bool, u32)
+fn is_target_counted<'a, K: ZeroTrieWithOptions>(
+    target: Here<'a>,
+    known: &mut KnownTable<'a>,
+) -> (bool, u32)
     requires { target.rest.now ≢ [] }
     ensures yes { IsTrue result.0 ↔ IsWellFormed K.kind target.entry.rest.now }
     ensures count { (m : Map) (means : Means K.kind target.entry.rest.now m)
@@ -234,15 +240,16 @@ fn is_target_counted<K: ZeroTrieWithOptions>(target: Here<'_>) -> (bool, u32)
     if at.rest.is_empty() {
         return (expected.takes_end(), 1);
     }
-    is_text_counted::<K>(at.tail, at.rest.len(), expected)
+    is_text_counted::<K>(at.tail, at.rest.len(), expected, known)
 }
 
 /// Whether the first `len` of these bytes are a trie of the kind and begin as they may, and the depth of the trie.
 #[cycle(tested)]
-fn is_text_counted<K: ZeroTrieWithOptions>(
-    tail: &[u8],
+fn is_text_counted<'a, K: ZeroTrieWithOptions>(
+    tail: &'a [u8],
     len: usize,
     expected: Expected,
+    known: &mut KnownTable<'a>,
 ) -> (bool, u32)
     requires { len ≤ length tail.now }
     ensures yes { IsTrue result.0
@@ -264,7 +271,7 @@ fn is_text_counted<K: ZeroTrieWithOptions>(
                 at = at.behind(after);
                 next = following;
             }
-            Step::Behind(branch) => match go_behind::<K>(at, branch) {
+            Step::Behind(branch) => match go_behind::<K>(at, branch, known) {
                 None => return (false, most),
                 Some((longest, count)) => {
                     (at, next) = pass(longest);
@@ -293,7 +300,8 @@ pub fn is_well_formed_counted<K: ZeroTrieWithOptions>(bytes: &[u8]) -> (bool, u3
     ensures count { (m : Map) (means : Means K.kind bytes.now m) → result.1 ≡ deep means.lists }
     ensures shallow { IsShallow bytes.now result.1 }
 {
-    is_text_counted::<K>(bytes, bytes.len(), Expected::Anything)
+    let mut known = KnownTable::none();
+    is_text_counted::<K>(bytes, bytes.len(), Expected::Anything, &mut known)
 }
 
 /// Whether the bytes are a trie of the kind, every rule of the format kept.

@@ -1,13 +1,12 @@
 //! The test of a branch: its search table, the width of its offsets, and where its targets end.
 
-ghost use Rattle.std.specs.Prelude.{◌≡◌, ◌↔◌, ℕ, ◌+◌, ◌-◌, ◌<◌, ◌≤◌, IsTrue, IfSome, IfNone, List, ◌∷◌, ◌++◌, length, map, take, drop, false};
-ghost use Rattle.zerotrie_base.specs.Hashes.{IsPerfect};
+ghost use Rattle.std.specs.Prelude.{◌≡◌, ◌↔◌, ◌-◌, ◌<◌, ◌≤◌, IsTrue, IfSome, IfNone, length, map, take, drop, false};
 ghost use Rattle.std.specs.List.Sorted.{IsStrictlyIncreasing};
 ghost use Rattle.zerotrie_core.specs.Kind.{fold_byte};
 ghost use Rattle.zerotrie_core.specs.Branches.{IsWidth, table_size};
 ghost use Rattle.zerotrie_core.specs.Nodes.{targets_behind, begin_of};
 ghost use Rattle.zerotrie_core.specs.Shapes.{branch_shape};
-ghost use Rattle.zerotrie_core.specs.well_formed.Branching.{AreBytes, AnswersEach, HasTable, HasFront, IsTarget};
+ghost use Rattle.zerotrie_core.specs.well_formed.Branching.{AreBytes, HasTable, HasFront, IsTarget};
 ghost use Rattle.zerotrie_core.specs.well_formed.Testing.{AlwaysNoText};
 
 use crate::branch::Branch;
@@ -16,7 +15,7 @@ use crate::here::Here;
 use crate::lanes::rising_in_17;
 use crate::offsets::least_width;
 use crate::options::ZeroTrieWithOptions;
-use zerotrie_base::PerfectByteHashMap;
+use crate::well_formed::known_table::KnownTable;
 
 /// Whether the edges rise by their folds.
 fn rises<K: ZeroTrieWithOptions>(edges: &[u8]) -> bool
@@ -48,25 +47,15 @@ fn front_rises<K: ZeroTrieWithOptions>(bytes: &[u8], count: usize) -> bool
     rises::<K>(edges)
 }
 
-/// Whether a hashed table has each edge at its place.
-fn is_perfect(table: &[u8], edges: &[u8]) -> bool
-    ensures bytes { AreBytes table.now × AreBytes edges.now }
-    ensures yes { IsTrue result → AnswersEach table.now edges.now }
-    ensures no { (p : ℕ) (qs : List ℕ) → table.now ≡ p ∷ (qs ++ edges.now)
-        → IsPerfect p qs edges.now → IsTrue result }
-{
-    for index in 0..edges.len() {
-        if PerfectByteHashMap::from_bytes(table).get(edges[index]) != Some(index) {
-            return false;
-        }
-    }
-    true
-}
-
 /// Whether the search table is one of the kind, and its edges are bytes of the kind.
 ///
 /// If edges rise, and the last of them is ASCII, all are. The bytes from the first edge on go on to the end of the text.
-pub(crate) fn has_table<K: ZeroTrieWithOptions>(branch: &Branch<'_>, tail: &[u8]) -> bool
+/// A hashed table that passes is known from then on.
+pub(crate) fn has_table<'a, K: ZeroTrieWithOptions>(
+    branch: &Branch<'a>,
+    tail: &[u8],
+    known: &mut KnownTable<'a>,
+) -> bool
     requires { branch.now.behind.now ≡ take (length branch.now.behind.now) tail.now }
     ensures { length branch.now.table.now ≡ table_size K.kind branch.now.edges
         → (IsTrue result ↔ HasTable K.kind (take branch.now.edges branch.now.behind.now)
@@ -78,7 +67,7 @@ pub(crate) fn has_table<K: ZeroTrieWithOptions>(branch: &Branch<'_>, tail: &[u8]
     } else if branch.edges < 16 {
         front_rises::<K>(tail, branch.edges)
     } else {
-        is_perfect(branch.table, edges)
+        known.is_perfect(branch.table, edges)
     }
 }
 
@@ -94,7 +83,11 @@ pub(crate) fn has_width(body: &[u8], offsets: usize, width: usize) -> bool
 }
 
 /// Whether the search table of a branch and the width of its offsets are well-formed, from where its edges stand.
-pub(super) fn has_front<K: ZeroTrieWithOptions>(branch: &Branch<'_>, edges: Here<'_>) -> bool
+pub(super) fn has_front<'a, K: ZeroTrieWithOptions>(
+    branch: &Branch<'a>,
+    edges: Here<'_>,
+    known: &mut KnownTable<'a>,
+) -> bool
     requires { edges.rest.now ≡ branch.now.behind.now }
     ensures yes { IsTrue result → HasFront K.kind branch.now.edges branch.now.width
         branch.now.table.now branch.now.behind.now }
@@ -102,7 +95,7 @@ pub(super) fn has_front<K: ZeroTrieWithOptions>(branch: &Branch<'_>, edges: Here
 {
     let (_, body) = branch.behind.split_at(branch.edges);
     has_width(body, branch.width * (branch.edges - 1), branch.width)
-        && has_table::<K>(branch, edges.tail)
+        && has_table::<K>(branch, edges.tail, known)
 }
 
 /// The target of an edge, which begins at a place among the targets. `None` if its offset falls, or passes the end, or it
