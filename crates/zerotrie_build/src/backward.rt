@@ -1,6 +1,6 @@
 //! A text that is written from its last byte to its first.
 
-ghost use Rattle.std.specs.Prelude.{◌≡◌, ◌++◌, ◌<◌, ◌^◌, [], length, reverse, IfOk, OnOk};
+ghost use Rattle.std.specs.Prelude.{◌≡◌, ◌++◌, ◌<◌, ◌^◌, [], length, IfOk, OnOk};
 ghost use Rattle.zerotrie_core.specs.Numbers.{value_form, spelled_as};
 ghost use Rattle.zerotrie_core.specs.plain.Encoding.{with_bits};
 
@@ -41,14 +41,6 @@ impl Backward {
         self.written.len()
     }
 
-    /// Puts bytes in front that are given from the last to the first.
-    #[inline(always)]
-    fn put_turned(&mut self, bytes: &[u8]) -> Result<(), AllocError>
-        ensures { OnOk result (self.new ≡ reverse bytes.now ++ self.old) }
-    {
-        self.written.extend_from_slice(bytes)
-    }
-
     /// Puts bytes in front.
     #[inline(always)]
     pub(crate) fn put_all(&mut self, bytes: &[u8]) -> Result<(), AllocError>
@@ -67,29 +59,32 @@ impl Backward {
         ensures puts { OnOk result (self.new ≡ spelled_as value_form value ++ self.old) }
         ensures small { value < 2 ^ 64 }
     {
+        self.written.reserve(4)?;
         if value < 16 {
-            return self.put_turned(&[VALUE + value as u8]);
+            self.written.push_reserved(VALUE + value as u8);
+            return Ok(());
         }
         let low = value - 16;
         if low < 2048 {
-            return self.put_turned(&[(low % 128) as u8, VALUE + 16 + (low / 128) as u8]);
+            self.written.push_reserved((low % 128) as u8);
+            self.written.push_reserved(VALUE + 16 + (low / 128) as u8);
+            return Ok(());
         }
         let middle = low / 128 - 16;
         if middle < 2048 {
-            return self.put_turned(&[
-                (low % 128) as u8,
-                128 + (middle % 128) as u8,
-                VALUE + 16 + (middle / 128) as u8,
-            ]);
+            self.written.push_reserved((low % 128) as u8);
+            self.written.push_reserved(128 + (middle % 128) as u8);
+            self.written
+                .push_reserved(VALUE + 16 + (middle / 128) as u8);
+            return Ok(());
         }
         let high = middle / 128 - 16;
         if high < 2048 {
-            return self.put_turned(&[
-                (low % 128) as u8,
-                128 + (middle % 128) as u8,
-                128 + (high % 128) as u8,
-                VALUE + 16 + (high / 128) as u8,
-            ]);
+            self.written.push_reserved((low % 128) as u8);
+            self.written.push_reserved(128 + (middle % 128) as u8);
+            self.written.push_reserved(128 + (high % 128) as u8);
+            self.written.push_reserved(VALUE + 16 + (high / 128) as u8);
+            return Ok(());
         }
         self.put_long(value)
     }
@@ -101,7 +96,7 @@ impl Backward {
         let spelling = write_varint_meta3(value);
         if let Some((lead, trail)) = spelling.split_first() {
             self.put_all(trail)?;
-            self.put_turned(&[VALUE + *lead])?;
+            self.written.push(VALUE + *lead)?;
         }
         Ok(())
     }

@@ -1,11 +1,11 @@
 -- A text that is written from its last byte to its first.
-use Rattle.std.proofs.Common.{◌≡◌, ℕ, zero, suc, ◌+◌, ◌-◌, ◌^◌, ◌<◌, ◌≤◌, inl, inr, List, [], ◌∷◌, ◌++◌, length, refl, sym, ◌∙◌, ap, subst, arith, get_or, drop, map, append_assoc, length-append, All, lit<}
+use Rattle.std.proofs.Common.{◌≡◌, ℕ, zero, suc, ◌+◌, ◌-◌, ◌^◌, ◌<◌, ◌≤◌, inl, inr, List, [], ◌∷◌, ◌++◌, length, refl, sym, ◌∙◌, ap, subst, arith, get_or, drop, map, reverse, append_assoc, length-append, All, lit<}
 use Rattle.std.specs.Prelude.{slice_set, IsTrue, false}
 use Rattle.std.specs.List.{concat, range_with_len}
 use Rattle.std.proofs.Math.Nat.{pow-le-pow_right}
 use Rattle.std.proofs.Math.Seq.{drop-cons}
 use Rattle.std.proofs.lemmas.Bool.{cases_lt}
-use Rattle.std.proofs.lemmas.List.{append-nil, drop-set, length-map}
+use Rattle.std.proofs.lemmas.List.{append-nil, drop-set, length-map, reverse-append}
 use Rattle.std.proofs.lemmas.List.FromFn.{length-range_with_len, get_or-range_with_len}
 use Rattle.std.proofs.lemmas.List.Sorted.{length_permutation}
 use Rattle.std.specs.List.Sorted.{IsStrictlyIncreasing}
@@ -32,7 +32,7 @@ use Rattle.zerotrie_build.proofs.WindowLemmas.NodeRuns.{along, step_branch}
 use Rattle.zerotrie_build.proofs.WindowLemmas.Opened.{groups_low}
 use Rattle.zerotrie_build.proofs.WindowLemmas.Placed.{EachW, Targets, targets}
 use Rattle.zerotrie_build.proofs.MeasureLemmas.Slots.{rises_count, edges_behind, not_branch, kept_end}
-use Rattle.zerotrie_build.proofs.WriteLemmas.Branches.{turned, sizes_moved, branch_text, front_size}
+use Rattle.zerotrie_build.proofs.WriteLemmas.Branches.{turned as in_table_order, sizes_moved, branch_text, front_size}
 use Rattle.zerotrie_build.proofs.WriteLemmas.Fronts.{behind_same}
 use Rattle.zerotrie_build.proofs.WriteLemmas.Layouts.{named, numbers_within}
 use Rattle.zerotrie_build.proofs.WriteLemmas.Listed.{listed_nothing}
@@ -171,7 +171,7 @@ pub rest_size : {kind : Kind} {all : Pairs} {w : Window} {cs : List Window} {tab
 rest_size {kind = kind} {all = all} {cs = cs} {table = table} placed keys is parts laid l narrow =
     let same = l.same in
     let o = first_targets cs placed keys here is parts (omega arith) in
-    ap (λ x. length (branch_front table x)) l.sizes ∙ (front_size o (turned o laid)).0
+    ap (λ x. length (branch_front table x)) l.sizes ∙ (front_size o (in_table_order o laid)).0
 
 -- a branch is put in front of its targets
 pub rest_put : {kind : Kind} {all : Pairs} {w : Window} {cs : List Window} {table numbers lens old new newer front : List ℕ} → IsPlaced kind all w → AreKeys kind all → step_of kind all w ≡ Branch → TargetWindows all w cs
@@ -187,7 +187,7 @@ rest_put {kind = kind} {all = all} {w = w} {cs = cs} {table = table} {numbers = 
     let c = l.count in
     let d = l.two in
     let within = subst (λ x. x.to ≤ length all) (sym at) placed.within in
-    let listed = branch_text o p.texts (turned o laid) within (omega arith) p.each in
+    let listed = branch_text o p.texts (in_table_order o laid) within (omega arith) p.each in
     record {
       puts = (
         branch_front table lens ++ concat p.texts,
@@ -266,3 +266,7 @@ text_longer kind all w old new t = let a = ap length t.2 in let b = length-appen
 
 pub not_above : (n most : ℕ) → (most ≤ n → IsTrue false) → n < most
 not_above n most h = elim (cases_lt n most) [ inl below ↦ below | inr above ↦ absurd (let t = h above in cc) ]
+
+-- a byte more at the end of what was written is one in front of the text
+pub turned : (before after : List ℕ) (b : ℕ) → after ≡ before ++ b ∷ [] → reverse after ≡ b ∷ reverse before
+turned before after b is = ap reverse is ∙ reverse-append before (b ∷ [])
