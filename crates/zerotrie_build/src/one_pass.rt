@@ -37,13 +37,17 @@ struct Level<A: Allocator> {
 }
 
 /// The levels of this many branches one below the other.
-fn levels<A: Allocator + Copy>(alloc: Global, spare: A) -> Result<Vec<Level<A>, A>, AllocError> {
+fn levels<A: Allocator + Copy>(
+    alloc: Global,
+    spare: A,
+) -> Result<Vec<Box<Level<A>>, A>, AllocError> {
     let mut levels = Vec::with_capacity(spare, DEPTH)?;
     for _ in 0..DEPTH {
-        levels.push(Level {
+        let level = Level {
             layout: Layout::empty(alloc, spare),
             lens: Vec::new(spare),
-        })?;
+        };
+        levels.push(Box::new(alloc, level)?)?;
     }
     Ok(levels)
 }
@@ -55,7 +59,7 @@ fn put_targets<K: ZeroTrieWithOptions, J: LentItems, A: Allocator + Copy>(
     ascii: bool,
     layout: &Layout<A>,
     lens: &mut Vec<usize, A>,
-    levels: &mut Vec<Level<A>, A>,
+    levels: &mut Vec<Box<Level<A>>, A>,
     text: &mut Backward,
     front: &mut Writing,
 ) -> Result<(), ZeroTrieBuildError>
@@ -85,7 +89,7 @@ fn put_rest<K: ZeroTrieWithOptions, J: LentItems, A: Allocator + Copy>(
     items: &J,
     ascii: bool,
     window: Window,
-    levels: &mut Vec<Level<A>, A>,
+    levels: &mut Vec<Box<Level<A>>, A>,
     text: &mut Backward,
     front: &mut Writing,
 ) -> Result<(), ZeroTrieBuildError>
@@ -103,26 +107,27 @@ fn put_rest<K: ZeroTrieWithOptions, J: LentItems, A: Allocator + Copy>(
     let Some(mut level) = levels.pop() else {
         return Err(ZeroTrieBuildError::StackExceeded);
     };
-    level.layout.lay_out::<K, &J>(items, window)?;
+    let inner = &mut *level;
+    inner.layout.lay_out::<K, &J>(items, window)?;
     put_targets::<K, J, A>(
         items,
         ascii,
-        &level.layout,
-        &mut level.lens,
+        &inner.layout,
+        &mut inner.lens,
         levels,
         text,
         front,
     )?;
-    let lens = level.lens.as_slice();
+    let lens = inner.lens.as_slice();
     let total = total(lens)?;
     if is_too_wide::<K>(total) || !front.clear_for(branch_len::<K>(lens.len(), total)) {
         return Err(ZeroTrieBuildError::CapacityExceeded);
     }
-    level.layout.number_in_order()?;
+    inner.layout.number_in_order()?;
     front.put_branch(
-        level.layout.table.as_slice(),
+        inner.layout.table.as_slice(),
         lens,
-        level.layout.numbers.as_slice(),
+        inner.layout.numbers.as_slice(),
     );
     text.put_all(front.as_slice())?;
     levels.push(level)?;
@@ -135,7 +140,7 @@ fn put_inner<K: ZeroTrieWithOptions, J: LentItems, A: Allocator + Copy>(
     items: &J,
     ascii: bool,
     window: Window,
-    levels: &mut Vec<Level<A>, A>,
+    levels: &mut Vec<Box<Level<A>>, A>,
     text: &mut Backward,
     front: &mut Writing,
 ) -> Result<(), ZeroTrieBuildError>
@@ -165,7 +170,7 @@ fn put_window<K: ZeroTrieWithOptions, J: LentItems, A: Allocator + Copy>(
     items: &J,
     ascii: bool,
     window: Window,
-    levels: &mut Vec<Level<A>, A>,
+    levels: &mut Vec<Box<Level<A>>, A>,
     text: &mut Backward,
     front: &mut Writing,
 ) -> Result<(), ZeroTrieBuildError>

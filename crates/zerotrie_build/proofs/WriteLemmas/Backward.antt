@@ -1,5 +1,5 @@
 -- A text that is written from its last byte to its first.
-use Rattle.std.proofs.Common.{◌≡◌, ℕ, zero, suc, ◌+◌, ◌-◌, ◌^◌, ◌<◌, ◌≤◌, inl, inr, List, [], ◌∷◌, ◌++◌, length, refl, sym, ◌∙◌, ap, subst, arith, get_or, drop, map, reverse, append_assoc, length-append, All, lit<}
+use Rattle.std.proofs.Common.{◌≡◌, ℕ, zero, suc, ◌+◌, ◌^◌, ◌<◌, ◌≤◌, inl, inr, List, [], ◌∷◌, ◌++◌, length, refl, sym, ◌∙◌, ap, subst, arith, get_or, drop, map, reverse, append_assoc, length-append, All, lit<}
 use Rattle.std.specs.Prelude.{slice_set, IsTrue, false}
 use Rattle.std.specs.List.{concat, range_with_len}
 use Rattle.std.proofs.Math.Nat.{pow-le-pow_right}
@@ -17,28 +17,28 @@ use Rattle.zerotrie_core.specs.Texts.{Means}
 use Rattle.zerotrie_core.proofs.CallerLemmas.{rises_increasing, greatest_width_most, same-map}
 use Rattle.zerotrie_build.specs.Order.{AreKeys}
 use Rattle.zerotrie_build.specs.declared.windows.Window.{Window}
-use Rattle.zerotrie_build.specs.declared.windows.Step.TheVariants.{End, Branch}
+use Rattle.zerotrie_build.specs.declared.windows.Step.TheVariants.{Branch}
 use Rattle.zerotrie_build.specs.declared.writing.Writing.{Writing}
 use Rattle.zerotrie_build.specs.passes.Windows.{window, edge_of, step_of}
-use Rattle.zerotrie_build.specs.passes.Measured.{Passes, NoneFirst, TargetWindows, sizes_of, HasFirstTargets, AreSlotsOf, whole_window}
+use Rattle.zerotrie_build.specs.passes.Measured.{Passes, NoneFirst, TargetWindows, sizes_of, HasFirstTargets, AreSlotsOf}
 use Rattle.zerotrie_build.specs.passes.Measured.AreSlotsOf.{kept}
 use Rattle.zerotrie_build.specs.passes.Measured.Passes.{here}
 use Rattle.zerotrie_build.specs.passes.Walking.{IsPlaced}
 use Rattle.zerotrie_build.specs.passes.Writing.{Listed, Texts, window_at, edge_no, target_lens, IsLayout}
 use Rattle.zerotrie_build.specs.passes.Writes.{HasRoom, FrontFits, FrontWritten}
-use Rattle.zerotrie_build.specs.passes.Backward.{PutsText, HasTargets, PutsRest, ArePlaced, AreTargets, PutsTargets}
+use Rattle.zerotrie_build.specs.passes.Backward.{PutsText, PutsRest, ArePlaced, PutsTargets}
 use Rattle.zerotrie_build.proofs.WindowLemmas.Windows.{cut_none, cut_whole, step_end}
 use Rattle.zerotrie_build.proofs.WindowLemmas.NodeRuns.{along, step_branch}
 use Rattle.zerotrie_build.proofs.WindowLemmas.Opened.{groups_low}
-use Rattle.zerotrie_build.proofs.WindowLemmas.Placed.{EachW, Targets, targets}
+use Rattle.zerotrie_build.proofs.WindowLemmas.Placed.{EachW, targets}
 use Rattle.zerotrie_build.proofs.MeasureLemmas.Slots.{rises_count, edges_behind, not_branch, kept_end}
 use Rattle.zerotrie_build.proofs.WriteLemmas.Branches.{turned as in_table_order, sizes_moved, branch_text, front_size}
 use Rattle.zerotrie_build.proofs.WriteLemmas.Fronts.{behind_same}
-use Rattle.zerotrie_build.proofs.WriteLemmas.Layouts.{named, numbers_within}
+use Rattle.zerotrie_build.proofs.WriteLemmas.Layouts.{named}
 use Rattle.zerotrie_build.proofs.WriteLemmas.Listed.{listed_nothing}
 use Rattle.zerotrie_build.proofs.WriteLemmas.Puts.{count_map}
 use Rattle.zerotrie_build.proofs.WriteLemmas.Slots.{window_same}
-use Rattle.zerotrie_build.proofs.WriteLemmas.Targets.{map_same, texts_count, texts_sizes, sizes_count}
+use Rattle.zerotrie_build.proofs.WriteLemmas.Targets.{map_same, texts_sizes, sizes_count}
 
 pub placed_at : (kind : Kind) (all : Pairs) (ws : List Window) (i : ℕ) → ArePlaced kind all ws → i < length ws → IsPlaced kind all (window_at ws i)
 placed_at kind all [] i each h = absurd (omega arith)

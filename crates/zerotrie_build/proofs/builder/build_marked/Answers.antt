@@ -1,4 +1,4 @@
-use Rattle.std.proofs.Common.{refl, inl, inr, sym, ap, subst, ◌∙◌, IsTrue}
+use Rattle.std.proofs.Common.{inl, inr, sym, ap, subst, ◌∙◌, IsTrue}
 use Rattle.zerotrie_build.specs.Order.{Ordered, AreKeys, AreAsciiKeys}
 use Rattle.zerotrie_build.proofs.Items.{limit_high, limit_low}
 use Rattle.zerotrie_build.proofs.OrderLemmas.Sorting.{ascends_ordered}

@@ -1,6 +1,4 @@
-use Rattle.std.proofs.Common.{Ok, sym}
-use Rattle.zerotrie_core.specs.Maps.{map_of}
-use Rattle.zerotrie_core.specs.Texts.{Means}
+use Rattle.std.proofs.Common.{Ok}
 use Rattle.zerotrie_build.proofs.Building.{written_build}
 use Rattle.zerotrie_build.proofs.OrderLemmas.Sorting.{ordered_distinct}
 use Rattle.zerotrie_build.proofs.builder.build_ordered.Goals as goal

@@ -1,21 +1,16 @@
-use Rattle.std.proofs.Common.{◌≡◌, ◌+◌, ◌-◌, ◌*◌, ◌^◌, ◌<◌, ◌≤◌, ◌∷◌, ◌++◌, [], ℕ, length, refl, sym, ◌∙◌, ap, subst, arith, rules, inl, inr, drop, get_or, append_assoc, length-append}
-use Rattle.std.proofs.lemmas.Bool.{cases_lt}
-use Rattle.std.proofs.lemmas.List.{length-set, get_or_default}
+use Rattle.std.proofs.Common.{◌≡◌, ◌+◌, ◌-◌, ◌*◌, ◌^◌, ◌<◌, ◌≤◌, ◌∷◌, ◌++◌, [], length, refl, sym, ◌∙◌, ap, subst, arith, inl, drop, get_or, append_assoc, length-append}
+use Rattle.std.proofs.lemmas.List.{length-set}
 use Rattle.std.specs.List.{range_with_len}
 use Rattle.zerotrie_core.specs.Kind.{greatest_width}
 use Rattle.zerotrie_core.specs.Numbers.{value_form, spelled_as}
 use Rattle.zerotrie_core.specs.Branches.{total, branch_front}
-use Rattle.zerotrie_core.specs.Canonical.{branch_size}
 use Rattle.zerotrie_core.proofs.CallerLemmas.{spells_spelled}
-use Rattle.zerotrie_build.specs.declared.windows.Window.{Window}
-use Rattle.zerotrie_build.specs.declared.windows.Step.TheVariants.{Branch}
-use Rattle.zerotrie_build.specs.passes.Windows.{step_of}
 use Rattle.zerotrie_build.specs.passes.Measured.{sizes_of}
 use Rattle.zerotrie_build.specs.passes.Walking.{IsPlaced}
-use Rattle.zerotrie_build.specs.passes.Writing.{no_window, window_at, target_lens}
+use Rattle.zerotrie_build.specs.passes.Writing.{window_at, target_lens}
 use Rattle.zerotrie_build.specs.passes.Writes.{HasRoom}
 use Rattle.zerotrie_build.specs.passes.Backward.{PutsText, PutsTargets}
-use Rattle.zerotrie_build.proofs.WindowLemmas.NodeRuns.{along, stopped}
+use Rattle.zerotrie_build.proofs.WindowLemmas.NodeRuns.{stopped}
 use Rattle.zerotrie_build.proofs.WriteLemmas.Layouts.{numbers_within}
 use Rattle.zerotrie_build.proofs.WriteLemmas.Fronts.{lone_listed}
 use Rattle.zerotrie_build.proofs.WriteLemmas.Backward.{placed_at, placed_after, targets_more, first_known, targets_placed, targets_rise, lens_known, lens_in_order, within_order, narrow_small, rest_size, rest_put, rest_none, fits_front, front_put, rest_whole, text_longer, not_above}

@@ -1,5 +1,4 @@
-use Rattle.std.proofs.Common.{◌≡◌, length, refl, sym, ◌∙◌, ap, subst, arith}
-use Rattle.zerotrie_build.specs.declared.windows.Window.{Window}
+use Rattle.std.proofs.Common.{sym, subst}
 use Rattle.zerotrie_build.specs.passes.Walking.{IsPlaced}
 use Rattle.zerotrie_build.specs.passes.Backward.{PutsText}
 use Rattle.zerotrie_build.proofs.WindowLemmas.Placed.{whole_placed}

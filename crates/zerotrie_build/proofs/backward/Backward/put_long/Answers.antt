@@ -1,4 +1,4 @@
-use Rattle.std.proofs.Common.{◌≡◌, ◌+◌, ◌∷◌, ◌++◌, [], refl, ◌∙◌, ap, inl, rules}
+use Rattle.std.proofs.Common.{◌≡◌, ◌+◌, ◌∷◌, ◌++◌, refl, ◌∙◌, ap, inl, rules}
 use Rattle.zerotrie_core.specs.plain.Encoding.{with_bits}
 use Rattle.zerotrie_build.proofs.WriteLemmas.Backward.{turned}
 use Rattle.zerotrie_build.proofs.WriteLemmas.Numbers.{spelling_behind}
