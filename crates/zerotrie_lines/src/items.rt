@@ -17,6 +17,8 @@ use std::simd::prelude::*;
 
 /// The number that the digits spell with which a text begins, and how many digits these are. `None` if there are none or
 /// more than 20, or the number is 2^64 or more.
+///
+/// Up to eighteen digits spell a number that is far below 2^64, so that only those after them are taken with a test.
 #[inline(always)]
 fn leading_number(text: &[u8]) -> Option<(usize, usize)>
     ensures number { IfSome result (λ r. IsNumber (take r.1 text.now) r.0) }
@@ -24,6 +26,10 @@ fn leading_number(text: &[u8]) -> Option<(usize, usize)>
 {
     let mut value: usize = 0;
     let mut count = 0;
+    while count < 18 && count < text.len() && text[count].is_ascii_digit() {
+        value = value * 10 + (text[count] - b'0') as usize;
+        count += 1;
+    }
     while count < text.len() && text[count].is_ascii_digit() {
         value = value
             .checked_mul(10)?
