@@ -5,6 +5,8 @@ use Rattle.memchr.specs.Find.{Nowhere, Passes, is_byte3}
 use Rattle.std.specs.List.{before_first, after_first, position_or_len}
 use Rattle.std.proofs.lemmas.List.{take_more, drop_more, take_all, take-append-drop, get_or-take, length-append, length-take-le, append-nil}
 use Rattle.std.proofs.Math.ListN.{drop_of_length-le}
+use Rattle.std.proofs.Math.Nat.{pow-suc, pow-le-pow_right}
+use Rattle.std.proofs.Math.Numerals.{add-one}
 use Rattle.std.proofs.Math.Seq.{take-append_seam}
 use Rattle.zerotrie_lines.specs.Numbers.{AreDigits, number_behind, IsNumber}
 use Rattle.zerotrie_lines.specs.Escapes.{Spells}
@@ -40,6 +42,14 @@ digits_more text count value next r h low high is below =
       within = omega (arith, h);
       below = below;
     }
+
+-- a number below 10 ^ count takes one more digit, without a carry
+pub tens_more : (value digit count : ℕ) → value < 10 ^ count → digit ≤ 9 → value * 10 + digit < 10 ^ (count + 1)
+tens_more value digit count h low = let p : 10 ^ (count + 1) ≡ 10 ^ count * 10 = ap (λ n. 10 ^ n) (add-one count) ∙ pow-suc 10 count in omega (arith, p, h, low)
+
+-- below 18 digits, one more does not reach 2 ^ 64
+pub tens_fit : (value count : ℕ) → value < 10 ^ count → count < 18 → value < 100000000000000000
+tens_fit value count h few = let p : 10 ^ count ≤ 10 ^ 17 = pow-le-pow_right (omega arith) (let below : count ≤ 17 = omega (arith, few) in below) in omega (arith, p, h)
 
 pub none_read : (text : List ℕ) → DigitsTo text 0 0
 none_read text = record { all = tt; is = refl; within = omega arith; below = omega arith }

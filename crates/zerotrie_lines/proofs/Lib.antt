@@ -2,6 +2,7 @@ pub mod CallerLemmas
 mod NumberLemmas
 mod TableLemmas
 mod PlainLemmas
+mod StopLemmas
 mod EscapeLemmas
 mod ItemLemmas
 mod LineLemmas

@@ -2,6 +2,7 @@
 
 ghost use Rattle.std.specs.Prelude.{◌≡◌, ◌≤◌, ◌⊎◌, ◌∷◌, [], length, take, IfOk, IfSome, IfNone};
 ghost use Rattle.std.specs.List.{before_first, after_first};
+ghost use Rattle.memchr.specs.Find.{IsFirstByte, is_byte3};
 ghost use Rattle.zerotrie_lines.specs.Numbers.{IsNumber};
 ghost use Rattle.zerotrie_lines.specs.Tables.{pairs_of};
 ghost use Rattle.zerotrie_lines.specs.Lines.{is_feed, IsPairLine};
@@ -12,9 +13,12 @@ use crate::lines::take_line;
 use crate::reading::Format;
 use memchr::memchr3;
 use std::alloc::{AllocError, Global};
+use std::simd::prelude::*;
 
 /// The number that the digits spell with which a text begins, and how many digits these are. `None` if there are none or
 /// more than 20, or the number is 2^64 or more.
+///
+/// Up to eighteen digits spell a number that is far below 2^64, so that only those after them are taken with a test.
 #[inline(always)]
 fn leading_number(text: &[u8]) -> Option<(usize, usize)>
     ensures number { IfSome result (λ r. IsNumber (take r.1 text.now) r.0) }
@@ -22,6 +26,10 @@ fn leading_number(text: &[u8]) -> Option<(usize, usize)>
 {
     let mut value: usize = 0;
     let mut count = 0;
+    while count < 18 && count < text.len() && text[count].is_ascii_digit() {
+        value = value * 10 + (text[count] - b'0') as usize;
+        count += 1;
+    }
     while count < text.len() && text[count].is_ascii_digit() {
         value = value
             .checked_mul(10)?
@@ -47,6 +55,25 @@ fn after_feed(text: &[u8]) -> Option<&[u8]>
     }
 }
 
+/// The first place of a tab, a backslash or a line feed. The first sixteen bytes are looked at together, in which most
+/// keys end.
+#[inline(always)]
+fn first_stop(text: &[u8]) -> Option<usize>
+    ensures { IsFirstByte (is_byte3 9 92 10) text.now result }
+{
+    if text.len() >= 16 {
+        let lanes = u8x16::from_slice(text);
+        let tabs = lanes.simd_eq(u8x16::splat(b'\t')).to_bitmask();
+        let slashes = lanes.simd_eq(u8x16::splat(b'\\')).to_bitmask();
+        let feeds = lanes.simd_eq(u8x16::splat(b'\n')).to_bitmask();
+        let stops = tabs | slashes | feeds;
+        if stops != 0 {
+            return Some(stops.trailing_zeros() as usize);
+        }
+    }
+    memchr3(b'\t', b'\\', b'\n', text)
+}
+
 /// Takes the first line off, which is a key, a tab and a number, and answers the pair that it is. The key is the front of
 /// what was left, so that it lies in the input.
 ///
@@ -66,7 +93,7 @@ pub fn take_plain<'a>(rest: &mut &'a [u8]) -> Option<(&'a [u8], usize)>
     ensures none { IfNone result (rest.new.now ≡ rest.old.now) }
 {
     let all = *rest;
-    let place = memchr3(b'\t', b'\\', b'\n', all)?;
+    let place = first_stop(all)?;
     if all[place] != b'\t' {
         return None;
     }

@@ -1,9 +1,19 @@
-use Rattle.std.proofs.Common.{length, ◌-◌}
+use Rattle.std.proofs.Common.{length, ◌-◌, ◌^◌, ◌<◌, ◌≤◌}
 use Rattle.zerotrie_lines.proofs.ItemLemmas.{DigitsTo}
 use Rattle.zerotrie_lines.proofs.items.leading_number.Given as goal
 
 abbrev pub invariant-loop-count : goal.invariant-loop-count
-invariant-loop-count l = DigitsTo l.text l.count l.value
+invariant-loop-count l = record {
+  few : l.count ≤ 18;
+  read : DigitsTo l.text l.count l.value;
+  small : l.value < 10 ^ l.count;
+}
 
 abbrev pub decreases-loop-count : goal.decreases-loop-count
 decreases-loop-count l = length l.text - l.count
+
+abbrev pub invariant-loop-count-2 : goal.invariant-loop-count-2
+invariant-loop-count-2 l = DigitsTo l.text l.count l.value
+
+abbrev pub decreases-loop-count-2 : goal.decreases-loop-count-2
+decreases-loop-count-2 l = length l.text - l.count
