@@ -7,7 +7,6 @@ ghost use Rattle.zerotrie_core.specs.Items.{pairs_of, keyed};
 ghost use Rattle.zerotrie_core.specs.Kind.{kind_with};
 ghost use Rattle.zerotrie_core.specs.Maps.{Ascends, map_of};
 ghost use Rattle.zerotrie_core.specs.Texts.{Means};
-ghost use Rattle.zerotrie_core.specs.Built.{IsBuilt};
 ghost use Rattle.zerotrie_core.specs.Routes.{ascending, any_order, IsRefusal, IsBuild, IsLength, HoldsOfItsPairs, IsBuildOfAll};
 ghost use Rattle.zerotrie_build.specs.Items.{pairs};
 ghost use Rattle.zerotrie_build.specs.Order.{Ordered, AreKeys, AreAsciiKeys, AreValues};
@@ -405,52 +404,36 @@ impl<S: TrieBuilderStore + Drop> ZeroTrieBuilder<S> {
     }
 }
 
-/// The bytes of the trie of pairs in a text, in the kind `K`, if their keys ascend and no build of them is refused. It is
-/// always `None` for the kind that ignores case.
-fn build_marked<K: ZeroTrieWithOptions>(alloc: Global, items: &TextItems<'_>) -> Option<Vec<u8>>
-    ensures { IfSome result (λ bytes. Ascends items.now.pairs
-        × IsBuilt K.kind items.now.pairs bytes.items) }
+/// The bytes of the trie of pairs in a text whose keys ascend. If the kind has another order, the pairs are copied first.
+fn build_marked<K: ZeroTrieWithOptions>(
+    alloc: Global,
+    items: &TextItems<'_>,
+) -> Result<VecDeque<u8>, ZeroTrieBuildError>
+    requires { Ascends items.now.pairs }
+    ensures { IsBuild any_order K.kind (λ bytes. bytes.items) items.now.pairs result }
 {
     let ascii = items.is_ascii();
-    if K::IGNORE_CASE || !(K::SPANS || ascii) || !items.ascend() {
-        return None;
+    if !K::SPANS && !ascii {
+        return Err(ZeroTrieBuildError::NonAsciiError);
     }
-    let built: Result<VecDeque<u8>, ZeroTrieBuildError> = build_ordered::<
-        K,
-        _,
-        VecDeque<u8>,
-        Global,
-    >(alloc, alloc, &items.items(), ascii);
-    match built {
-        Ok(store) => Some(store.into_vec()),
-        Err(_) => None,
+    if K::IGNORE_CASE {
+        let copied = items.to_vec_u8(alloc)?;
+        return build_given::<K, &[u8], VecDeque<u8>, Global>(alloc, alloc, copied.as_slice());
     }
+    build_ordered::<K, _, VecDeque<u8>, Global>(alloc, alloc, &items.items(), ascii)
 }
 
-/// The bytes of the trie of pairs in a text, in the kind of the options. Nothing is sorted, and no memory is taken for
-/// the pairs but what they have.
-///
-/// ```
-/// let mut items = TextItems::new(rt.alloc(), b"ad 22, adef 33");
-/// items.push(0, 2, 22)?;
-/// items.push(7, 4, 33)?;
-/// let options = ZeroTrieBuilderOptions::of::<Simple>();
-/// let bytes = build_text(rt.alloc(), &items, options);
-/// assert_eq!(rt; bytes.as_deref(), Some(b"ad\x90\x06ef\x90\x11".as_slice()));
-/// ```
-///
-/// It is `None` if the keys do not ascend strictly by their bytes, if a build by `ZeroTrieBuilder` is refused, and always
-/// if the options ignore case. `ZeroTrieBuilder` builds the rest, and tells why not.
-pub fn build_text(
+/// The bytes of the trie of pairs in a text whose keys ascend, in the kind of the options.
+fn build_ascending_text(
     alloc: Global,
     items: &TextItems<'_>,
     options: ZeroTrieBuilderOptions,
-) -> Option<Vec<u8>>
-    ensures { IfSome result (λ bytes. Ascends items.now.pairs
-        × IsBuilt (kind_with options) items.now.pairs bytes.items) }
+) -> Result<VecDeque<u8>, ZeroTrieBuildError>
+    requires { Ascends items.now.pairs }
+    ensures { IsBuild any_order (kind_with options) (λ bytes. bytes.items) items.now.pairs result }
 {
     if options.ignore_case() {
-        None
+        build_marked::<Ignore>(alloc, items)
     } else if options.extended() {
         build_marked::<Ext>(alloc, items)
     } else if options.use_phf() {
@@ -458,4 +441,31 @@ pub fn build_text(
     } else {
         build_marked::<Simple>(alloc, items)
     }
+}
+
+/// Builds the trie of the pairs of a text, whose keys ascend strictly by their bytes, and answers its bytes. No pairs give
+/// none. The pairs take no memory but what they have; if the kind ignores case, they are copied, with 24 bytes each.
+///
+/// ```
+/// let mut items = TextItems::new(rt.alloc(), b"ad 22, adef 33");
+/// items.push(0, 2, 22)?;
+/// items.push(7, 4, 33)?;
+/// let bytes = build_text(rt.alloc(), &items, ZeroTrieBuilderOptions::of::<Simple>())?;
+/// assert_eq!(rt; bytes.as_slice(), b"ad\x90\x06ef\x90\x11".as_slice());
+/// ```
+///
+/// A build is refused as `ZeroTrieBuilder::from_sorted_tuple_slice` is, each time for the reason that `ZeroTrieBuildError`
+/// gives.
+pub fn build_text(
+    alloc: Global,
+    items: &TextItems<'_>,
+    options: ZeroTrieBuilderOptions,
+) -> Result<Vec<u8>, ZeroTrieBuildError>
+    ensures { IsBuild ascending (kind_with options) (λ bytes. bytes.items) items.now.pairs result }
+{
+    if !items.ascend() {
+        return Err(ZeroTrieBuildError::Unsorted);
+    }
+    let store = build_ascending_text(alloc, items, options)?;
+    Ok(store.into_vec())
 }

@@ -1,6 +1,7 @@
 //! Pairs whose keys lie in one text.
 
 ghost use Rattle.std.specs.Prelude.{◌≡◌, ◌+◌, ◌<◌, ◌↔◌, ◌++◌, ◌∷◌, [], Some, false, length, slice_get, take, drop, All, IsTrue, IfOk, IfSome, IfNone, OnErr};
+ghost use Rattle.zerotrie_core.specs.Items.{pairs_of};
 ghost use Rattle.zerotrie_core.specs.Maps.{Ascends};
 ghost use Rattle.zerotrie_core.specs.Kind.{simple_ascii};
 ghost use Rattle.zerotrie_build.specs.Order.{Ordered, AreAsciiKeys};
@@ -176,6 +177,19 @@ impl<'a> TextItems<'a> {
         ensures { IsTrue result ↔ All (λ e. All (λ b. b < 128) e.0) self.now.pairs }
     {
         self.ascii
+    }
+
+    /// The pairs with their keys as bytes, in memory of their own. The keys' bytes are not copied.
+    ///
+    /// The only error is out of memory.
+    pub fn to_vec_u8(&self, alloc: Global) -> Result<Vec<(&'a [u8], usize)>, AllocError>
+        ensures { IfOk result (λ items. pairs_of items.items ≡ self.now.pairs) }
+    {
+        let mut items = Vec::with_capacity(alloc, self.len())?;
+        for mark in self.marks.as_slice() {
+            items.push((marked_key(self.text, *mark), mark.value as usize))?;
+        }
+        Ok(items)
     }
 
     /// The pairs, as items that are asked for by number.

@@ -15,6 +15,7 @@ mod refusal;
 mod span_cursor;
 mod stores;
 mod tables;
+mod text_items;
 mod well_formed;
 
 use std::alloc::Global;

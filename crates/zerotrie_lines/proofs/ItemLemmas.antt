@@ -136,3 +136,10 @@ front_again n all front is = is ∙ again n all ∙ ap (λ f. take (length f) al
     again zero xs = refl
     again (suc n) [] = refl
     again (suc n) (x ∷ xs) = ap (λ t. x ∷ t) (again n xs)
+
+-- a front of a front is one
+pub front_of_front : (k n : ℕ) (xs : List ℕ) → take k (take n xs) ≡ take (length (take k (take n xs))) xs
+front_of_front zero n xs = refl
+front_of_front (suc k) zero xs = refl
+front_of_front (suc k) (suc n) [] = refl
+front_of_front (suc k) (suc n) (x ∷ xs) = ap (λ t. x ∷ t) (front_of_front k n xs)

@@ -1,5 +1,5 @@
 -- Lines that are read one after another.
-use Rattle.std.proofs.Common.{◌≡◌, ℕ, ◌+◌, inl, inr, List, [], ◌∷◌, ◌++◌, refl, sym, subst, append_assoc}
+use Rattle.std.proofs.Common.{◌≡◌, ℕ, ◌+◌, inl, inr, List, [], ◌∷◌, ◌++◌, refl, sym, subst, append_assoc, Any, suc, arith}
 use Rattle.std.proofs.lemmas.List.{append-nil}
 use Rattle.zerotrie_lines.specs.Tables.{Pair, Pairs}
 use Rattle.zerotrie_lines.specs.Lines.{IsPairLine}
@@ -50,3 +50,10 @@ read_all format all rest pairs n r none = subst (λ p. ReadsLines format 1 all p
 pub read_bad : (all rest after : List (List ℕ)) (n : ℕ) (line : List ℕ) (fault : BadLine) → GoodTo all n rest
     → rest ≡ line ∷ after → IsLineFault line fault → IsBadLine 1 all n fault
 read_bad all rest after n line fault r is h = r.bad n fault (subst (λ lines. IsBadLine n lines n fault) (sym is) (inl (refl, h)))
+
+-- some line of the first and more
+pub any_first : (Fact : List ℕ → Type 0) (line : List ℕ) (lines : List (List ℕ)) → Fact line → Any Fact (line ∷ lines)
+any_first Fact line lines h = (0, line, omega arith, refl, h)
+
+pub any_later : (Fact : List ℕ → Type 0) (line : List ℕ) (lines : List (List ℕ)) → Any Fact lines → Any Fact (line ∷ lines)
+any_later Fact line lines h = (suc h.0, h.1, omega (arith, h.2), h.3, h.4)

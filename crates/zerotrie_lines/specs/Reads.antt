@@ -1,6 +1,6 @@
 -- Which pairs an input is, and which line of it is none, and why.
-use Rattle.std.specs.Prelude.{◌≡◌, ◌≢◌, ℕ, ◌+◌, ◌⊎◌, List, [], ◌∷◌, ◌++◌, length}
-use Rattle.std.specs.List.{before_first, after_first}
+use Rattle.std.specs.Prelude.{◌≡◌, ◌≢◌, ℕ, ◌+◌, ◌⊎◌, List, [], ◌∷◌, ◌++◌, length, Any}
+use Rattle.std.specs.List.{before_first, after_first, Contains}
 use Rattle.zerotrie_lines.specs.Numbers.{IsNumber}
 use Rattle.zerotrie_lines.specs.Escapes.{Spells}
 use Rattle.zerotrie_lines.specs.Tables.{Pair, Pairs}
@@ -31,6 +31,16 @@ abbrev pub Reads : Format → List ℕ → Pairs → Type 0
 Reads Lines input pairs = ReadsLines Lines 1 (lines_of input) pairs
 Reads Tsv input pairs = ReadsLines Tsv 1 (lines_of input) pairs
 Reads Csv input pairs = (rows : List Fields) × AreRowsOf input rows × ArePairRecords rows pairs
+
+-- the line is no pair whose key stands in it as it is: a backslash stands before its tab, or it is no pair
+abbrev pub IsNotPlain : List ℕ → Type 0
+IsNotPlain line = Contains (before_first is_tab line) 92 ⊎ ((e : Pair) → IsPairLine line e → ⊥)
+
+-- an input is not pairs whose keys stand in it as they are: a line is none, or it is records
+abbrev pub HasNoItems : Format → List ℕ → Type 0
+HasNoItems Lines input = ⊥
+HasNoItems Tsv input = Any IsNotPlain (lines_of input)
+HasNoItems Csv input = Unit {0}
 
 -- a text is a number with a carriage return after it
 abbrev pub HasReturn : List ℕ → Type 0

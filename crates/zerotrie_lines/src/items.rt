@@ -6,19 +6,19 @@ ghost use Rattle.memchr.specs.Find.{IsFirstByte, is_byte3};
 ghost use Rattle.zerotrie_lines.specs.Numbers.{IsNumber};
 ghost use Rattle.zerotrie_lines.specs.Tables.{pairs_of};
 ghost use Rattle.zerotrie_lines.specs.Lines.{is_feed, IsPairLine};
-ghost use Rattle.zerotrie_lines.specs.Reads.{Reads};
+ghost use Rattle.zerotrie_lines.specs.Reads.{Reads, IsNotPlain, HasNoItems};
 ghost use Rattle.zerotrie_lines.specs.declared.reading.Format.TheVariants.{Lines, Tsv};
 
 use crate::lines::take_line;
+use crate::numbers::parse_number;
 use crate::reading::Format;
-use memchr::memchr3;
+use memchr::{memchr, memchr3};
 use std::alloc::{AllocError, Global};
 use std::simd::prelude::*;
 
-/// The number that the digits spell with which a text begins, and how many digits these are. `None` if there are none or
-/// more than 20, or the number is 2^64 or more.
+/// The number that the digits spell with which a text begins, and how many digits these are. `None` if there are none.
 ///
-/// Up to eighteen digits spell a number that is far below 2^64, so that only those after them are taken with a test.
+/// At most eighteen digits are taken, which spell a number that is far below 2^64.
 #[inline(always)]
 fn leading_number(text: &[u8]) -> Option<(usize, usize)>
     ensures number { IfSome result (λ r. IsNumber (take r.1 text.now) r.0) }
@@ -30,13 +30,7 @@ fn leading_number(text: &[u8]) -> Option<(usize, usize)>
         value = value * 10 + (text[count] - b'0') as usize;
         count += 1;
     }
-    while count < text.len() && text[count].is_ascii_digit() {
-        value = value
-            .checked_mul(10)?
-            .checked_add((text[count] - b'0') as usize)?;
-        count += 1;
-    }
-    if count == 0 || count > 20 {
+    if count == 0 {
         return None;
     }
     Some((value, count))
@@ -74,18 +68,9 @@ fn first_stop(text: &[u8]) -> Option<usize>
     memchr3(b'\t', b'\\', b'\n', text)
 }
 
-/// Takes the first line off, which is a key, a tab and a number, and answers the pair that it is. The key is the front of
-/// what was left, so that it lies in the input.
-///
-/// ```
-/// let mut rest = b"ad\t22\nadef\t33\n".as_slice();
-/// assert_eq!(rt; take_plain(&mut rest), Some((b"ad".as_slice(), 22)));
-/// assert_eq!(rt; rest, b"adef\t33\n".as_slice());
-/// ```
-///
-/// It is `None` if the key has an escape, or the line is no pair. What is left is then as it was.
+/// Like `take_plain`, but may be `None` for any line.
 #[inline(always)]
-pub fn take_plain<'a>(rest: &mut &'a [u8]) -> Option<(&'a [u8], usize)>
+fn take_quickly<'a>(rest: &mut &'a [u8]) -> Option<(&'a [u8], usize)>
     ensures pair { IfSome result (λ e.
         IsPairLine (before_first is_feed rest.old.now) (e.0.now, e.1)) }
     ensures front { IfSome result (λ e. e.0.now ≡ take (length e.0.now) rest.old.now) }
@@ -100,15 +85,62 @@ pub fn take_plain<'a>(rest: &mut &'a [u8]) -> Option<(&'a [u8], usize)>
     let (key, _) = all.split_at(place);
     let (_, text) = all.split_at(place + 1);
     let (value, count) = leading_number(text)?;
-    let (_, behind) = text.split_at(count);
-    *rest = after_feed(behind)?;
+    let (_, after) = text.split_at(count);
+    *rest = after_feed(after)?;
     Some((key, value))
+}
+
+/// Like `take_plain`, which it is for the few lines that `take_quickly` leaves.
+fn take_slowly<'a>(rest: &mut &'a [u8]) -> Option<(&'a [u8], usize)>
+    ensures pair { IfSome result (λ e.
+        IsPairLine (before_first is_feed rest.old.now) (e.0.now, e.1)) }
+    ensures front { IfSome result (λ e. e.0.now ≡ take (length e.0.now) rest.old.now) }
+    ensures rest { IfSome result (λ _. rest.new.now ≡ after_first is_feed rest.old.now) }
+    ensures none { IfNone result (rest.new.now ≡ rest.old.now) }
+    ensures not_plain { IfNone result (IsNotPlain (before_first is_feed rest.old.now)) }
+{
+    let mut after = *rest;
+    let line = take_line(&mut after);
+    let place = memchr(b'\t', line)?;
+    let key = &line[..place];
+    let value = parse_number(&line[place + 1..])?;
+    if memchr(b'\\', key).is_some() {
+        return None;
+    }
+    *rest = after;
+    Some((key, value))
+}
+
+/// Takes the first line off, which is a key, a tab and a number, and answers the pair that it is. The key is the front of
+/// what was left, so that it lies in the input.
+///
+/// ```
+/// let mut rest = b"ad\t22\nadef\t33\n".as_slice();
+/// assert_eq!(rt; take_plain(&mut rest), Some((b"ad".as_slice(), 22)));
+/// assert_eq!(rt; rest, b"adef\t33\n".as_slice());
+/// ```
+///
+/// It is `None` exactly if a backslash stands before the tab, or the line is no pair. What is left is then as it was.
+#[inline(always)]
+pub fn take_plain<'a>(rest: &mut &'a [u8]) -> Option<(&'a [u8], usize)>
+    ensures pair { IfSome result (λ e.
+        IsPairLine (before_first is_feed rest.old.now) (e.0.now, e.1)) }
+    ensures front { IfSome result (λ e. e.0.now ≡ take (length e.0.now) rest.old.now) }
+    ensures rest { IfSome result (λ _. rest.new.now ≡ after_first is_feed rest.old.now) }
+    ensures none { IfNone result (rest.new.now ≡ rest.old.now) }
+    ensures not_plain { IfNone result (IsNotPlain (before_first is_feed rest.old.now)) }
+{
+    match take_quickly(rest) {
+        Some(pair) => Some(pair),
+        None => take_slowly(rest),
+    }
 }
 
 /// The pairs of lines with a tab, if no key has an escape.
 fn items_of_tsv(alloc: Global, input: &[u8]) -> Result<Option<Vec<(&[u8], usize)>>, AllocError>
-    ensures { IfOk result (λ items. IfSome items (λ items.
+    ensures reads { IfOk result (λ items. IfSome items (λ items.
         Reads Tsv input.now (pairs_of items.items))) }
+    ensures none { IfOk result (λ items. IfNone items (HasNoItems Tsv input.now)) }
 {
     let mut items = Vec::new(alloc);
     let mut rest = input;
@@ -136,8 +168,8 @@ fn items_of_keys(alloc: Global, input: &[u8]) -> Result<Vec<(&[u8], usize)>, All
     Ok(items)
 }
 
-/// The pairs that an input is, with their keys as they stand in it. `None` if some key does not, and `read_pairs` has to
-/// copy them: if one has an escape, or the input is records, or no pairs.
+/// The pairs that an input is, with their keys as they stand in it. It is `None` exactly if `read_pairs` has to copy them:
+/// if a line has a backslash before its tab, or is no pair, or the input is records.
 ///
 /// ```
 /// let items = read_items(rt.alloc(), Format::Tsv, b"ad\t22\nadef\t33\n")?;
@@ -150,8 +182,9 @@ pub fn read_items(
     format: Format,
     input: &[u8],
 ) -> Result<Option<Vec<(&[u8], usize)>>, AllocError>
-    ensures { IfOk result (λ items. IfSome items (λ items.
+    ensures reads { IfOk result (λ items. IfSome items (λ items.
         Reads format input.now (pairs_of items.items))) }
+    ensures none { IfOk result (λ items. IfNone items (HasNoItems format input.now)) }
 {
     match format {
         Format::Tsv => items_of_tsv(alloc, input),

@@ -159,7 +159,7 @@ fn first_bad(alloc: Global, value: &Value) -> Result<Option<NoPair>, AllocError>
 }
 
 /// The pairs in the JSON value that an input is.
-pub fn read_json(alloc: Global, input: &[u8]) -> Result<Table, MakeError>
+pub(crate) fn read_json(alloc: Global, input: &[u8]) -> Result<Table, MakeError>
     ensures ok { IfOk result (λ table. IsPairs Json input.now table) }
     ensures err { IfErr result (λ e. NoPairs Json input.now e) }
 {

@@ -17,7 +17,7 @@ use zerotrie_core::ZeroTrieBuildError;
 use zerotrie_queries::TrieKind;
 
 /// The file of a trie with these bytes. Unless it is bare, the number of the kind stands in front of them.
-pub fn file_of(bare: bool, kind: TrieKind, bytes: Vec<u8>) -> Result<Vec<u8>, AllocError>
+pub(crate) fn file_of(bare: bool, kind: TrieKind, bytes: Vec<u8>) -> Result<Vec<u8>, AllocError>
     ensures { IfOk result (λ file. file.items ≡ file_of bare (kind_of kind) bytes.items) }
 {
     let mut file = bytes;

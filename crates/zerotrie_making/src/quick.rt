@@ -126,13 +126,15 @@ fn options_of(kind: TrieKind) -> ZeroTrieBuilderOptions
 }
 
 /// The file of the trie of the pairs that an input is, if it is lines whose keys stand in them as they are and ascend, and
-/// the build of the pairs is not refused. A pair takes twelve bytes.
-pub fn make_quick(alloc: Global, plan: Plan, input: &[u8]) -> Option<Vec<u8>>
+/// the build of the pairs is not refused. A pair takes twelve bytes, and 24 more if the kind ignores case.
+pub(crate) fn make_quick(alloc: Global, plan: Plan, input: &[u8]) -> Option<Vec<u8>>
     ensures { IfSome result (λ file. IsFile plan input.now file.items) }
 {
     let items = text_items(alloc, plan.source, plan.lower_case, input)?;
     let kind = kind_for(plan.kind, &items);
-    let bytes = build_text(alloc, &items, options_of(kind))?;
+    let Ok(bytes) = build_text(alloc, &items, options_of(kind)) else {
+        return None;
+    };
     match file_of(plan.bare, kind, bytes) {
         Ok(file) => Some(file),
         Err(_) => None,

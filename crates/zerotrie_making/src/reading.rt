@@ -12,7 +12,7 @@ use zerotrie_lines::{Table, read_items, read_pairs};
 
 /// The pairs that an input is, in their order, with their keys where they stand in it. `None` if `read_input` has to copy
 /// them.
-pub fn items_in(
+pub(crate) fn items_in(
     alloc: Global,
     source: Source,
     lower_case: bool,
@@ -28,7 +28,7 @@ pub fn items_in(
 }
 
 /// The pairs that an input is, in their order. With `lower_case` the ASCII letters of their keys are in lower case.
-pub fn read_input(
+pub(crate) fn read_input(
     alloc: Global,
     source: Source,
     lower_case: bool,

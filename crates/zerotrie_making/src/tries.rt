@@ -22,7 +22,7 @@ fn are_ascii(items: &[(&[u8], usize)]) -> bool
 }
 
 /// The kind of a trie of the pairs: the one that is named, or the one that `ZeroTrie` takes for them.
-pub fn kind_for(named: Option<TrieKind>, items: &[(&[u8], usize)]) -> TrieKind
+pub(crate) fn kind_for(named: Option<TrieKind>, items: &[(&[u8], usize)]) -> TrieKind
     ensures { kind_of result ≡ kind_for named (pairs_of items.now) }
 {
     match named {
@@ -53,7 +53,7 @@ fn bytes_as<K: ZeroTrieWithOptions>(
 }
 
 /// The bytes of the trie of the pairs. With `sorted` their keys have to ascend.
-pub fn bytes_of(
+pub(crate) fn bytes_of(
     alloc: Global,
     kind: TrieKind,
     sorted: bool,
@@ -86,7 +86,7 @@ fn why_as<K: ZeroTrieWithOptions>(
 }
 
 /// Which keys show why a build of the pairs is refused. `None` if none do.
-pub fn why_refused(
+pub(crate) fn why_refused(
     alloc: Global,
     kind: TrieKind,
     sorted: bool,

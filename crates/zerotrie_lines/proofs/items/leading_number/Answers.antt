@@ -23,7 +23,3 @@ loop-count-preserved c =
       read = digits_more text count value (value * 10 + (get_or text count 0 - 48)) c.loop-count.invariant.read (search rules) low high refl (omega (arith, t, high));
       small = tens_more value (get_or text count 0 - 48) count c.loop-count.invariant.small (omega (arith, high));
     }
-
-pub loop-count-2-preserved : goal.loop-count-2-preserved
-loop-count-2-preserved c = digits_more c.args.text.now c.loop-count-2.count c.loop-count-2.value c.in_ok-value.value c.loop-count-2.invariant
-    (search rules) (search rules) (search rules) (search rules) (search rules)

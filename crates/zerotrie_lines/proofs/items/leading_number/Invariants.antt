@@ -11,9 +11,3 @@ invariant-loop-count l = record {
 
 abbrev pub decreases-loop-count : goal.decreases-loop-count
 decreases-loop-count l = length l.text - l.count
-
-abbrev pub invariant-loop-count-2 : goal.invariant-loop-count-2
-invariant-loop-count-2 l = DigitsTo l.text l.count l.value
-
-abbrev pub decreases-loop-count-2 : goal.decreases-loop-count-2
-decreases-loop-count-2 l = length l.text - l.count

@@ -3,7 +3,7 @@ use Rattle.std.specs.List.{before_first}
 use Rattle.zerotrie_lines.specs.Numbers.{IsNumber}
 use Rattle.zerotrie_lines.specs.Lines.{is_feed, IsPairLine}
 use Rattle.zerotrie_lines.proofs.ItemLemmas.{plain_first, front_again}
-use Rattle.zerotrie_lines.proofs.items.take_plain.Goals as goal
+use Rattle.zerotrie_lines.proofs.items.take_quickly.Goals as goal
 
 pub returns-clause-pair : goal.returns-clause-pair
 returns-clause-pair c =
