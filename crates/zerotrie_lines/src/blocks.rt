@@ -1,6 +1,6 @@
 //! Lines of a stream, as many at once as it gives.
 
-ghost use Rattle.std.specs.Prelude.{ℕ, ◌≤◌, length, take, IfOk};
+ghost use Rattle.std.specs.Prelude.{◌≡◌, ℕ, ◌<◌, ◌≤◌, ◌⊎◌, length, take, IfOk};
 ghost use Rattle.zerotrie_lines.specs.Blocks.{AreWhole, Gives, HasFeed};
 
 use memchr::memrchr;
@@ -33,6 +33,7 @@ pub fn read_more<R: Read>(input: &mut R, held: &mut Vec<u8>) -> io::Result<bool>
 pub fn whole_lines(bytes: &[u8], from: usize) -> usize
     ensures within { result ≤ length bytes.now }
     ensures whole { AreWhole (take result bytes.now) }
+    ensures fresh { (result ≡ 0) ⊎ (from < result) }
     ensures last { (k : ℕ) → from ≤ k → result ≤ k → HasFeed bytes.now k → ⊥ }
 {
     let Some(fresh) = bytes.get(from..) else {
