@@ -52,7 +52,8 @@ fn levels<A: Allocator + Copy>(
     Ok(levels)
 }
 
-/// Puts the targets of a branch that was laid out in front of the text, and tells how long they are. An error says that it gives up.
+/// Puts the targets of a branch that was laid out in front of the text, and tells how long they are. An error says that it
+/// gives up.
 #[cycle(one_pass)]
 fn put_targets<K: ZeroTrieWithOptions, J: LentItems, A: Allocator + Copy>(
     items: &J,

@@ -92,7 +92,11 @@ fn numbered(
 }
 
 /// The keys that show a refusal, with the numbers of their lines.
-pub(crate) fn show(alloc: Global, items: &[(&[u8], usize)], refusal: Refusal) -> Result<Shown, AllocError>
+pub(crate) fn show(
+    alloc: Global,
+    items: &[(&[u8], usize)],
+    refusal: Refusal,
+) -> Result<Shown, AllocError>
     requires first { refusal.first < length items.now }
     requires second { refusal.second < length items.now }
     ensures { IfOk result (Tells (pairs_of items.now) refusal) }

@@ -28,8 +28,9 @@ fn by_slice<K: ZeroTrieWithOptions>(
     let copied = items.to_vec_u8(alloc)?;
     let slice = ByteSliceWithIndices::from_byte_slice(copied.as_slice());
     let options = ZeroTrieBuilderOptions::of::<K>();
-    let builder: ZeroTrieBuilder<VecDeque<u8>> =
-        ZeroTrieBuilder::from_sorted_tuple_slice(alloc, slice, options)?;
+    let builder: ZeroTrieBuilder<VecDeque<u8>> = ZeroTrieBuilder::from_sorted_tuple_slice(
+        alloc, slice, options,
+    )?;
     Ok(builder.to_bytes(alloc)?)
 }
 
@@ -75,6 +76,9 @@ fn pairs_beyond_a_text(rt: HostRuntime) -> Result<(), Fail> {
     assert_eq!(rt; items.len(), 0);
     assert!(rt; items.push(2, 0, (1 << 32) - 1)?);
     assert!(rt; items.push(1, 1, 0)?);
-    assert_eq!(rt; (items.len(), items.ascend(), items.is_ascii()), (2, true, true));
+    assert_eq!(rt;
+        (items.len(), items.ascend(), items.is_ascii()),
+        (2, true, true)
+    );
     Ok(())
 }

@@ -28,9 +28,12 @@ pub returns-then-not-ascii : goal.returns-then-not-ascii
 returns-then-not-ascii g c =
     let kind = g.K.ZeroTrieWithOptions.kind in
     let spans = ap (λ f. f.spans) g.K.ZeroTrieWithOptions.flags_are ∙ sym c.SPANS.ensures in
-    inr ((λ e. cc), some_foreign kind c.args.items.now.pairs (λ keys.
-    let yes = c.is_ascii-ascii.ensures.1 (subst (λ limit. All (λ e. All (λ b. b < limit) e.0) c.args.items.now.pairs) (limit_low kind (spans ∙ c.if-not-SPANS.true)) keys) in
-    let no = c.if-not-ascii.true in absurd (cc)))
+    inr (
+      (λ e. cc),
+      some_foreign kind c.args.items.now.pairs (λ keys.
+          let yes = c.is_ascii-ascii.ensures.1 (subst (λ limit. All (λ e. All (λ b. b < limit) e.0) c.args.items.now.pairs) (limit_low kind (spans ∙ c.if-not-SPANS.true)) keys) in
+          let no = c.if-not-ascii.true in absurd (cc)),
+    )
 
 pub returns-then-IGNORE_CASE : goal.returns-then-IGNORE_CASE
 returns-then-IGNORE_CASE g c =
