@@ -15,7 +15,7 @@ fn words(alloc: Global, text: &[u8]) -> Result<TextItems<'_>, Fail> {
         if !items.push(start, word.len(), start)? {
             return Err("no mark")?;
         }
-        start += word.len() + 1;
+        start = start.saturating_add(word.len()).saturating_add(1);
     }
     Ok(items)
 }
