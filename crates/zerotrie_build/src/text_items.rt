@@ -26,6 +26,7 @@ struct Mark {
 fn mark_of(start: usize, len: usize, value: usize) -> Option<Mark>
     ensures some { IfSome result (λ mark. (mark.start ≡ start) × (mark.len ≡ len)
         × (mark.value ≡ value)) }
+    ensures fits { IfSome result (λ _. IsTooWide start len value → ⊥) }
     ensures none { IfNone result (IsTooWide start len value) }
 {
     let most = u32::MAX as usize;
@@ -130,13 +131,14 @@ impl<'a> TextItems<'a> {
 
     /// Adds the pair of a value and the key of `len` bytes that begins at the place `start` of the text.
     ///
-    /// The answer is `false`, and no pair is added, if the text ends before the key does, or one of the numbers has more
-    /// than 32 bits.
+    /// The answer is `false`, and no pair is added, exactly if the text ends before the key does, or one of the numbers has
+    /// more than 32 bits. The only error is that it is out of memory.
     #[inline(always)]
     pub fn push(&mut self, start: usize, len: usize, value: usize) -> Result<bool, AllocError>
         ensures text { self.new.text ≡ self.old.text }
         ensures yes { IfOk result (λ yes. IsTrue yes → self.new.pairs
             ≡ self.old.pairs ++ (take len (drop start self.old.text), value) ∷ []) }
+        ensures fits { IfOk result (λ yes. IsTrue yes → HasNoMark self.old.text start len value → ⊥) }
         ensures no { IfOk result (λ yes. yes ≡ false
             → HasNoMark self.old.text start len value × (self.new ≡ self.old)) }
         ensures err { OnErr result (self.new ≡ self.old) }

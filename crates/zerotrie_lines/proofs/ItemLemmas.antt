@@ -13,7 +13,9 @@ use Rattle.zerotrie_lines.specs.Escapes.{Spells}
 use Rattle.std.specs.Borrow.{Bor}
 use Rattle.zerotrie_lines.specs.Tables.{pairs_of}
 use Rattle.zerotrie_lines.specs.Lines.{is_feed, is_tab, IsPairLine}
+use Rattle.zerotrie_lines.specs.Reads.{IsKeyOf}
 use Rattle.zerotrie_lines.proofs.EscapeLemmas.{spells_itself}
+use Rattle.zerotrie_lines.proofs.LineLemmas.{lacks_slash}
 use Rattle.zerotrie_lines.proofs.BackLemmas.{Lacks, lacks_by, lacks_append, lacks_low, lacks_next, digits_high, place_behind, no_place_of, drop_behind}
 
 -- The first count bytes are digits of the value.
@@ -80,7 +82,8 @@ first_is front tail rest lacks ends = elim ends [
 -- the line of a key that has no escape
 pub plain_line : (key digits tail rest : List ℕ) (value : ℕ) → ((k : ℕ) → k < length key → (get_or key k 0 ≢ 9) × (get_or key k 0 ≢ 92) × (get_or key k 0 ≢ 10))
     → IsNumber digits value → (tail ≡ 10 ∷ rest) ⊎ ((tail ≡ []) × (rest ≡ []))
-    → IsPairLine (before_first is_feed ((key ++ 9 ∷ digits) ++ tail)) (key, value) × (rest ≡ after_first is_feed ((key ++ 9 ∷ digits) ++ tail))
+    → IsPairLine (before_first is_feed ((key ++ 9 ∷ digits) ++ tail)) (key, value) × IsKeyOf (before_first is_feed ((key ++ 9 ∷ digits) ++ tail)) key
+    × (rest ≡ after_first is_feed ((key ++ 9 ∷ digits) ++ tail))
 plain_line key digits tail rest value none number ends =
     let high = digits_high digits number.all in
     let feed : Lacks 10 (key ++ 9 ∷ digits) = lacks_append 10 key (9 ∷ digits) (lacks_by 10 key (λ k l. (none k l).2)) (lacks_next 10 9 digits refl (lacks_low 10 digits (omega arith) high)) in
@@ -92,6 +95,7 @@ plain_line key digits tail rest value none number ends =
         subst (λ t. Spells t key) (sym (take-append_seam key (9 ∷ digits))) (spells_itself key (λ k l. (none k l).1)),
         subst (λ d. IsNumber d value) (sym (drop_behind 9 key digits)) number,
       ),
+      rw (line.0, place) (sym (take-append_seam key (9 ∷ digits)), lacks_slash key (λ k l. (none k l).1)),
       line.1,
     )
 
@@ -123,9 +127,9 @@ pairs_push (e ∷ items) item = ap (λ p. (e.0.now, e.1) ∷ p) (pairs_push item
 pub plain_first : (all : List ℕ) (place count value : ℕ) (rest : List ℕ) → place < length all → Nowhere (Passes (is_byte3 9 92 10) all) 0 place → get_or all place 0 ≡ 9
     → IsNumber (take count (drop (place + 1) all)) value
     → (drop count (drop (place + 1) all) ≡ 10 ∷ rest) ⊎ ((drop count (drop (place + 1) all) ≡ []) × (rest ≡ []))
-    → IsPairLine (before_first is_feed all) (take place all, value) × (rest ≡ after_first is_feed all)
+    → IsPairLine (before_first is_feed all) (take place all, value) × IsKeyOf (before_first is_feed all) (take place all) × (rest ≡ after_first is_feed all)
 plain_first all place count value rest within none tab number ends =
-    subst (λ t. IsPairLine (before_first is_feed t) (take place all, value) × (rest ≡ after_first is_feed t)) (sym (parts all place count within tab))
+    subst (λ t. IsPairLine (before_first is_feed t) (take place all, value) × IsKeyOf (before_first is_feed t) (take place all) × (rest ≡ after_first is_feed t)) (sym (parts all place count within tab))
     (plain_line (take place all) (take count (drop (place + 1) all)) (drop count (drop (place + 1) all)) rest value (none_before all place within none) number ends)
 
 -- a front of an input is as many of its first bytes as it has

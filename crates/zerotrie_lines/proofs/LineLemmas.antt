@@ -4,7 +4,7 @@ use Rattle.std.specs.Borrow.{Bor}
 use Rattle.std.proofs.lemmas.Bool.{eqb-true, eqb-false}
 use Rattle.std.specs.Prelude.{◌≢◌, ◌==◌, Option, Some, None}
 use Rattle.std.specs.List.{before_first, after_first, position_or_len}
-use Rattle.std.proofs.lemmas.List.{take_all, length-drop}
+use Rattle.std.proofs.lemmas.List.{take_all, length-drop, get_or_default}
 use Rattle.std.specs.List.{Contains}
 use Rattle.std.specs.Option.{is_some}
 use Rattle.std.proofs.lemmas.List.Elements.{Contains-get_or}
@@ -103,3 +103,7 @@ has_slash key (Some k) first some = subst (Contains key) (eqb-true (get_or key k
 pub no_slash : (key : List ℕ) (r : Option ℕ) → IsFirstByte (is_byte 92) key r → false ≡ is_some r → Nowhere (Passes (is_byte 92) key) 0 (length key)
 no_slash key None first none = first
 no_slash key (Some k) first none = absurd (cc)
+
+-- a text none of whose bytes is a backslash
+pub lacks_slash : (key : List ℕ) → ((k : ℕ) → k < length key → get_or key k 0 ≢ 92) → Contains key 92 → ⊥
+lacks_slash key none h = none h.0 h.1 (get_or_default key h.0 0 92 h.1 ∙ h.2)

@@ -32,6 +32,10 @@ Reads Lines input pairs = ReadsLines Lines 1 (lines_of input) pairs
 Reads Tsv input pairs = ReadsLines Tsv 1 (lines_of input) pairs
 Reads Csv input pairs = (rows : List Fields) × AreRowsOf input rows × ArePairRecords rows pairs
 
+-- the key stands on the line as it is, up to the tab, with no backslash
+abbrev pub IsKeyOf : List ℕ → List ℕ → Type 0
+IsKeyOf line key = (key ≡ before_first is_tab line) × (Contains key 92 → ⊥)
+
 -- the line is no pair whose key stands in it as it is: a backslash stands before its tab, or it is no pair
 abbrev pub IsNotPlain : List ℕ → Type 0
 IsNotPlain line = Contains (before_first is_tab line) 92 ⊎ ((e : Pair) → IsPairLine line e → ⊥)

@@ -1,6 +1,6 @@
 //! Lines of a stream, as many at once as it gives.
 
-ghost use Rattle.std.specs.Prelude.{◌≡◌, ℕ, ◌<◌, ◌≤◌, ◌⊎◌, length, take, IfOk};
+ghost use Rattle.std.specs.Prelude.{◌≡◌, ℕ, ◌+◌, ◌^◌, ◌<◌, ◌≤◌, ◌⊎◌, length, take, IfOk};
 ghost use Rattle.zerotrie_lines.specs.Blocks.{AreWhole, Gives, HasFeed};
 
 use memchr::memrchr;
@@ -11,11 +11,12 @@ use std::io::{ErrorKind, Read};
 /// part to the next.
 const ROOM: usize = 1 << 14;
 
-/// Adds what one read of a stream gives to the bytes that are held, and tells whether the stream has ended. A read that a
-/// signal interrupts gives nothing.
+/// Adds what one read of a stream gives to the bytes that are held, at most 16 KiB, and tells whether the stream has ended.
+/// A read that a signal interrupts gives nothing.
 pub fn read_more<R: Read>(input: &mut R, held: &mut Vec<u8>) -> io::Result<bool>
-    ensures { IfOk result (Gives (R.remaining input.old) (R.remaining input.new)
+    ensures gives { IfOk result (Gives (R.remaining input.old) (R.remaining input.new)
         held.old.items held.new.items) }
+    ensures few { IfOk result (λ _. length held.new.items ≤ length held.old.items + 2 ^ 14) }
 {
     let mut room = [0; ROOM];
     match input.read(&mut room) {

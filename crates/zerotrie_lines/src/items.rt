@@ -6,7 +6,7 @@ ghost use Rattle.memchr.specs.Find.{IsFirstByte, is_byte3};
 ghost use Rattle.zerotrie_lines.specs.Numbers.{IsNumber};
 ghost use Rattle.zerotrie_lines.specs.Tables.{pairs_of};
 ghost use Rattle.zerotrie_lines.specs.Lines.{is_feed, IsPairLine};
-ghost use Rattle.zerotrie_lines.specs.Reads.{Reads, IsNotPlain, HasNoItems};
+ghost use Rattle.zerotrie_lines.specs.Reads.{Reads, IsKeyOf, IsNotPlain, HasNoItems};
 ghost use Rattle.zerotrie_lines.specs.declared.reading.Format.TheVariants.{Lines, Tsv};
 
 use crate::lines::take_line;
@@ -74,6 +74,7 @@ fn take_quickly<'a>(rest: &mut &'a [u8]) -> Option<(&'a [u8], usize)>
     ensures pair { IfSome result (λ e.
         IsPairLine (before_first is_feed rest.old.now) (e.0.now, e.1)) }
     ensures front { IfSome result (λ e. e.0.now ≡ take (length e.0.now) rest.old.now) }
+    ensures key { IfSome result (λ e. IsKeyOf (before_first is_feed rest.old.now) e.0.now) }
     ensures rest { IfSome result (λ _. rest.new.now ≡ after_first is_feed rest.old.now) }
     ensures none { IfNone result (rest.new.now ≡ rest.old.now) }
 {
@@ -95,6 +96,7 @@ fn take_slowly<'a>(rest: &mut &'a [u8]) -> Option<(&'a [u8], usize)>
     ensures pair { IfSome result (λ e.
         IsPairLine (before_first is_feed rest.old.now) (e.0.now, e.1)) }
     ensures front { IfSome result (λ e. e.0.now ≡ take (length e.0.now) rest.old.now) }
+    ensures key { IfSome result (λ e. IsKeyOf (before_first is_feed rest.old.now) e.0.now) }
     ensures rest { IfSome result (λ _. rest.new.now ≡ after_first is_feed rest.old.now) }
     ensures none { IfNone result (rest.new.now ≡ rest.old.now) }
     ensures not_plain { IfNone result (IsNotPlain (before_first is_feed rest.old.now)) }
@@ -126,6 +128,7 @@ pub fn take_plain<'a>(rest: &mut &'a [u8]) -> Option<(&'a [u8], usize)>
     ensures pair { IfSome result (λ e.
         IsPairLine (before_first is_feed rest.old.now) (e.0.now, e.1)) }
     ensures front { IfSome result (λ e. e.0.now ≡ take (length e.0.now) rest.old.now) }
+    ensures key { IfSome result (λ e. IsKeyOf (before_first is_feed rest.old.now) e.0.now) }
     ensures rest { IfSome result (λ _. rest.new.now ≡ after_first is_feed rest.old.now) }
     ensures none { IfNone result (rest.new.now ≡ rest.old.now) }
     ensures not_plain { IfNone result (IsNotPlain (before_first is_feed rest.old.now)) }

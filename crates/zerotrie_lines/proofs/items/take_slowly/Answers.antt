@@ -4,10 +4,10 @@ use Rattle.std.proofs.lemmas.List.Elements.{Contains-get_or}
 use Rattle.zerotrie_lines.specs.Numbers.{IsNumber}
 use Rattle.zerotrie_lines.specs.Escapes.{Spells}
 use Rattle.zerotrie_lines.specs.Lines.{is_feed, is_tab, IsPairLine}
-use Rattle.zerotrie_lines.specs.Reads.{IsNotPlain}
+use Rattle.zerotrie_lines.specs.Reads.{IsKeyOf, IsNotPlain}
 use Rattle.zerotrie_lines.proofs.EscapeLemmas.{spells_itself}
 use Rattle.zerotrie_lines.proofs.ItemLemmas.{front_of_front}
-use Rattle.zerotrie_lines.proofs.LineLemmas.{none_is, place_is, no_place, front_is, behind_is, has_slash, no_slash}
+use Rattle.zerotrie_lines.proofs.LineLemmas.{none_is, place_is, no_place, front_is, behind_is, has_slash, no_slash, lacks_slash}
 use Rattle.zerotrie_lines.proofs.items.take_slowly.Goals as goal
 
 pub returns-in_err-place-clause-not_plain : goal.returns-in_err-place-clause-not_plain
@@ -46,3 +46,12 @@ returns-clause-pair c =
       subst (λ t. Spells t key) (front_is is_tab line place found.0.high found.0.before found.1) plain,
       subst (λ d. IsNumber d c.in_ok-value.value) (behind_is is_tab line place found.0.high found.0.before found.1) c.in_ok-value.ensures.some,
     )
+
+pub returns-clause-key : goal.returns-clause-key
+returns-clause-key c =
+    let line = c.take_line-line.result.now in
+    let place = c.in_ok-place.place in
+    let found = c.in_ok-place.ensures in
+    let key = take place line in
+    let lacks = lacks_slash key (none_is 92 key (no_slash key c.memchr-2.result c.memchr-2.ensures c.if-is_some.ensures)) in
+    subst (λ l. IsKeyOf l key) c.take_line-line.ensures.line (front_is is_tab line place found.0.high found.0.before found.1, lacks)
