@@ -34,8 +34,8 @@ const TRUST: Argument = Argument {
 
 /// What a status says, in the help of the program.
 pub const STATUSES: &str =
-    "Status: 0 if all is done or found; 1 if a key is not there, or a build is refused; 2 if the words are no \
-    command, FILE is no trie, or IN is no pairs; 3 if a file can't be read or written, or memory runs out.";
+    "Status: 0 if all is done or found; 1 if a key is not there, a text begins with none, or a build is refused; 2 if the \
+    command line is wrong, FILE is no trie, or IN is no pairs; 3 if a file can't be read or written, or memory runs out.";
 
 /// What the program can be asked to do.
 pub const COMMANDS: &[Subcommand] = &[

@@ -67,13 +67,14 @@ not_written path beside bytes w e a b apart is h =
     )
 
 -- one that was written and took no path is removed
-pub then_removed : (path beside bytes : List ℕ) (e : Error) (a b d : Story) → beside ≢ path → Tried path beside bytes (Err e) a b → Removes beside b d
+pub then_removed : (path beside bytes : List ℕ) (e : Error) (w : Result (Unit {0}) Error) (a b d : Story) → beside ≢ path → Tried path beside bytes (Err e) a b
+    → Removes beside w b d
     → Replaces {T = Unit {0}} path beside bytes (Err e) a d
-then_removed path beside bytes e a b d apart tried r =
+then_removed path beside bytes e w a b d apart tried r =
     let h = tried.1 in (
       passes_then (IsWhole path beside bytes a.now) (IsWhole path beside bytes a.now) (SameBeside beside b.now) a b d (λ f w. w)
-          (λ f s. whole_still path beside bytes a.now b.now f apart h.0.ends s) h.0 r,
-      (r.ends path (λ i. apart (sym i)) ∙ h.1.0, λ some. absurd (some tried.0)),
+          (λ f s. whole_still path beside bytes a.now b.now f apart h.0.ends s) h.0 r.0,
+      (r.0.ends path (λ i. apart (sym i)) ∙ h.1.0, λ some. absurd (some tried.0)),
     )
 
 passes_moved : (path beside bytes : List ℕ) (r : Result (Unit {0}) Error) (a b d : Story) → beside ≢ path → Passes (SameBeside beside a.now) a b → b.now beside ≡ Some bytes

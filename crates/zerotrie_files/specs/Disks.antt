@@ -1,5 +1,5 @@
 -- A disk from moment to moment, and what the calls that replace a file do to it.
-use Rattle.std.specs.Prelude.{◌≡◌, ◌≢◌, ◌⊎◌, ℕ, List, ◌++◌, All, Option, Some, None, Result, MatchResult}
+use Rattle.std.specs.Prelude.{◌≡◌, ◌≢◌, ◌⊎◌, ℕ, List, ◌++◌, All, Option, Some, None, Result, MatchResult, OnOk}
 
 -- what the file of each path holds, if there is one
 abbrev pub Files : Type 0
@@ -56,9 +56,9 @@ abbrev pub Renames : {T E : Type 0} → List ℕ → List ℕ → Result T E →
 Renames from to result old new = Passes (λ files. Same old.now files ⊎ Moved from to old.now files) old new
     × MatchResult result (λ _. Moved from to old.now new.now) (λ _. Same old.now new.now)
 
--- a file is removed, or is not
-abbrev pub Removes : List ℕ → Story → Story → Type 0
-Removes path old new = Passes (SameBeside path old.now) old new
+-- a file is removed: other files stay at each moment, and if all went well there is none at the path
+abbrev pub Removes : {T E : Type 0} → List ℕ → Result T E → Story → Story → Type 0
+Removes path result old new = Passes (SameBeside path old.now) old new × OnOk result (new.now path ≡ None)
 
 -- The file of the path holds what it held or all of the bytes, and the files of other paths are as they were, but for
 -- the path beside it.

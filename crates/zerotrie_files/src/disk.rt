@@ -21,5 +21,5 @@ pub trait Disk {
 
     /// Removes a file.
     fn remove(&mut self, path: &str) -> io::Result<()>
-        ensures { Known (story self.old) (story self.new) (Removes path.now) };
+        ensures { Known (story self.old) (story self.new) (Removes path.now result) };
 }

@@ -12,7 +12,7 @@ is_feed b = b == 10
 abbrev pub is_tab : ℕ → Bool
 is_tab b = b == 9
 
--- a byte in front of lines: a line feed is a line that is empty, and any other byte goes to the first line
+-- a byte that is no line feed, in front of lines: it goes to the first, or is one if there are none
 abbrev pub onto_line : ℕ → List (List ℕ) → List (List ℕ)
 onto_line b [] = (b ∷ []) ∷ []
 onto_line b (line ∷ lines) = (b ∷ line) ∷ lines

@@ -15,7 +15,7 @@ pub enum BadLine {
     NoTab,
     /// What stands before its tab spells no key.
     Escape,
-    /// Its value is no number of decimal digits below 2^64.
+    /// Its value is no number below 2^64 of 1 to 20 decimal digits.
     Number,
     /// A carriage return stands after the value, as if a line ended in both.
     CarriageReturn,

@@ -171,8 +171,8 @@ fn items_of_keys(alloc: Global, input: &[u8]) -> Result<Vec<(&[u8], usize)>, All
     Ok(items)
 }
 
-/// The pairs that an input is, with their keys as they stand in it. It is `None` exactly if `read_pairs` has to copy them:
-/// if a line has a backslash before its tab, or is no pair, or the input is records.
+/// The pairs that an input is, with their keys as they stand in it. It is `None` only if a line has a backslash before its
+/// tab, or is no pair, or the input is records; `read_pairs` then copies the keys, or tells what is wrong.
 ///
 /// ```
 /// let items = read_items(rt.alloc(), Format::Tsv, b"ad\t22\nadef\t33\n")?;

@@ -8,7 +8,7 @@ use std::marker::Model;
 
 /// Pairs in the order in which they were added.
 ///
-/// The bytes of all keys are one list, so that a pair takes no memory of its own.
+/// The bytes of all keys are one list, and a pair takes 16 bytes besides.
 #[derive(Drop)]
 pub struct Table {
     bytes: Vec<u8>,

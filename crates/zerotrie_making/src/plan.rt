@@ -9,7 +9,8 @@ pub enum Source {
     /// Lines or records, one a pair.
     Text(Format),
     /// A JSON value: an object from keys to numbers, or a list of pairs. A pair is a list of two, a key and a number,
-    /// and a key is a text or a list of bytes.
+    /// and a key is a text or a list of bytes. The pairs of an object are in the order of their keys; of a name that comes
+    /// twice in it, the last number counts.
     Json,
 }
 

@@ -10,7 +10,8 @@ use zerotrie_build::Refusal;
 use zerotrie_core::ZeroTrieBuildError;
 use zerotrie_lines::{BadLine, ReadError};
 
-/// A key, and the number of its pair, from 1 on. For lines and records it is theirs.
+/// A key, and the number of its pair, from 1 on. For lines and records it is theirs; the pairs of a JSON object are in the
+/// order of their keys.
 #[derive(PartialEq, Eq, Debug, Drop)]
 pub struct NumberedKey {
     pub number: usize,
@@ -31,7 +32,7 @@ pub struct Shown {
 /// A member or an item of a JSON value that is no pair.
 #[derive(PartialEq, Eq, Debug, Drop)]
 pub enum NoPair {
-    /// Of an object the member with this key: its value is no whole number below 2^64.
+    /// Of an object the member with this key: its value is not written as a whole number below 2^64.
     Member(Vec<u8>),
     /// Of a list the item with this number, from 1 on: it is no list of a key and such a number.
     Item(usize),
@@ -42,7 +43,7 @@ pub enum NoPair {
 pub enum MakeError {
     /// The line with this number is no pair, and why. Of comma-separated fields it is the record with this number.
     Line(usize, BadLine),
-    /// The input is no JSON value, which shows at this line and column.
+    /// The input is no JSON value. It was read up to this line and column; of both, no clause says more.
     NotJson(usize, usize),
     /// The input is a JSON value, and neither an object nor a list.
     NotPairs,

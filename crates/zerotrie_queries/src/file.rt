@@ -31,8 +31,8 @@ impl<'a> Trie<'a> {
     /// The bytes of a file and their kind, for a file that is known to have a trie. The bytes are not tested: if they are no
     /// trie, each call on them returns, and no clause says what.
     ///
-    /// If a kind is named, the file is bare bytes of it, and else its first byte is the number of its kind. Refused if that
-    /// is the number of no kind.
+    /// If a kind is named, the file is bare bytes of it, and else its first byte is the number of its kind. Refused if there
+    /// is none, or it is the number of no kind.
     pub fn open_untested(named: Option<TrieKind>, file: &'a [u8]) -> Result<Self, OpenError>
         ensures ok { IfOk result (λ trie. Holds named file.now trie.kind trie.bytes.now) }
         ensures err { IfErr result (HasNoKind named file.now) }

@@ -61,6 +61,11 @@ abbrev pub IsNamed : List ℕ → Place → Type 0
 IsNamed word (File path) = (path.now ≡ word) × (word ≢ codes "-")
 IsNamed word Stream = word ≡ codes "-"
 
+-- how a place is named: by its path, and a stream by the name that is given
+abbrev pub IsNameOf : Place → List ℕ → List ℕ → Type 0
+IsNameOf (File path) stream name = name ≡ path.now
+IsNameOf Stream stream name = name ≡ stream
+
 -- the bytes of a place: what its file holds, or all of standard input
 abbrev pub IsRead : Place → Option (List ℕ) → Option Files → List ℕ → Type 0
 IsRead (File path) input files bytes = IfSome files (λ held. held path.now ≡ Some bytes)
@@ -187,14 +192,14 @@ abbrev pub MakesFile : Build → Option (List ℕ) → Option Files → Type 0
 MakesFile build input files = (all : List ℕ) × IsRead build.from input files all × (file : List ℕ) × IsFile build.plan all file
 
 -- How a build ends. The file was made; its keys are refused, or its input is no pairs; or it is out of memory, or a file can't be
--- read or written, and then nothing was printed unless the input makes a file.
+-- read or written, and then nothing was touched, or the input makes a file and the place of it is as it was.
 abbrev pub RunsBuild : Build → Option (List ℕ) → World → World → Status → Type 0
 RunsBuild build input before after Done = IsMade build input before after
 RunsBuild build input before after Absent = ⊥
 RunsBuild build input before after Refused = IsRefused build input before after Refused
 RunsBuild build input before after BadUsage = ⊥
 RunsBuild build input before after BadInput = IsRefused build input before after BadInput
-RunsBuild build input before after Fault = IsKept build.to before after × ((after.printed ≡ before.printed) ⊎ MakesFile build input before.files)
+RunsBuild build input before after Fault = Untouched before after ⊎ (IsKept build.to before after × MakesFile build input before.files)
 
 -- why no file is made, as the end of a run
 abbrev pub build_status : BuildError → Status

@@ -1,6 +1,6 @@
 //! What the program can be asked to do.
 
-ghost use Rattle.zerotrie_run.specs.Runs.{IsNamed};
+ghost use Rattle.zerotrie_run.specs.Runs.{IsNamed, IsNameOf};
 
 use zerotrie_making::Plan;
 use zerotrie_queries::{Form, Language, TrieKind, View};
@@ -26,8 +26,10 @@ impl<'a> Place<'a> {
         }
     }
 
-    /// How messages name the place. A stream has the name that is given.
-    pub fn name(self, stream: &'static str) -> &'a str {
+    /// How messages name the place: by its path. A stream has the name that is given.
+    pub fn name(self, stream: &'static str) -> &'a str
+        ensures { IsNameOf self.entry stream.now result.now }
+    {
         match self {
             Place::File(path) => path,
             Place::Stream => stream,

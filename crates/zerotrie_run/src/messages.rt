@@ -183,8 +183,11 @@ fn add_reason(text: &mut Vec<u8>, unit: &str, shown: &Shown) -> io::Result<()> {
     }
 }
 
-/// Adds a key with its escapes, or the front of one that would be too long to read.
+/// Adds a key with its escapes, or the front of one that would be too long to read. Of the empty key it says that it is.
 fn add_key(text: &mut Vec<u8>, key: &[u8]) -> io::Result<()> {
+    if key.is_empty() {
+        return write!(text, "the empty key");
+    }
     match key.get(..SHOWN) {
         Some(front) if key.len() > SHOWN => {
             write_escaped(text, front)?;

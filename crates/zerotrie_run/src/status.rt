@@ -12,9 +12,9 @@ pub enum Status {
     Done,
     /// A key is not there, or a text begins with no key.
     Absent,
-    /// The keys of a build are refused.
+    /// A build of the pairs is refused.
     Refused,
-    /// The words are no command.
+    /// The words are no command, or standard input is to be both the file and the keys.
     BadUsage,
     /// A file has no trie, or the input of a build is no pairs.
     BadInput,

@@ -3,7 +3,7 @@
 
 ghost use Rattle.zerotrie_queries.specs.code.Laws.{CodeSpellsBytes};
 
-/// The numbers that stand in the code of a trie are its bytes, whatever its name.
+/// The numbers that stand in the code of a trie are its bytes, whatever word its name is.
 pub fn code_spells_bytes()
     ensures { CodeSpellsBytes }
 {}

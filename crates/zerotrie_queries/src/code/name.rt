@@ -29,7 +29,7 @@ fn are_in_word(bytes: &[u8]) -> bool
     true
 }
 
-/// Whether code can have the name: an ASCII letter or `_`, and after it more of them and ASCII digits.
+/// Whether the name is a word in code: an ASCII letter or `_`, and after it more of them and ASCII digits. It may be a keyword.
 pub fn is_name(name: &str) -> bool
     ensures { result ≡ is_name name.now }
 {

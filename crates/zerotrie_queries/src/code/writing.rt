@@ -150,7 +150,7 @@ fn write_behind<W: Write>(
 }
 
 /// Writes the bytes of a trie as source code: a constant, and the call that reads it, by this name. They may be any bytes,
-/// and `is_name` says which names are right. It takes no memory.
+/// and the name has to be a word (`is_name`) that is no keyword of the language. It takes no memory.
 pub fn write_trie_code<W: Write>(
     trie: &Trie<'_>,
     language: Language,

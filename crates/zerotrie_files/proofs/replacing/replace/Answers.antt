@@ -1,6 +1,6 @@
-use Rattle.std.proofs.Common.{◌≡◌, Err, sym}
-use Rattle.zerotrie_files.specs.Disks.{Known, WritesNew, Renames, Removes, Replaces}
-use Rattle.zerotrie_files.proofs.DiskLemmas.{Tried, known_then, not_written, then_removed, then_moved}
+use Rattle.std.proofs.Common.{Err, sym}
+use Rattle.zerotrie_files.specs.Disks.{WritesNew, Renames, Removes, Replaces}
+use Rattle.zerotrie_files.proofs.DiskLemmas.{Tried, known_then, then_removed, then_moved}
 use Rattle.zerotrie_files.proofs.replacing.replace.Goals as goal
 
 pub returns-in-Ok : goal.returns-in-Ok
@@ -26,8 +26,8 @@ returns-in-Err g c =
     (story c.rename.new.self)
     (λ a b d w m. then_moved path beside bytes c.write_new.result c.rename.result a b d c.requires c.in_ok-write_new.was w m)
     c.write_new.ensures c.rename.ensures in
-    known_then (Tried path beside bytes (Err e)) (Removes beside) (Replaces {T = Unit {0}} path beside bytes (Err e)) (story c.args.disk.now) (story c.rename.new.self)
+    known_then (Tried path beside bytes (Err e)) (Removes beside c.remove.result) (Replaces {T = Unit {0}} path beside bytes (Err e)) (story c.args.disk.now) (story c.rename.new.self)
     (story c.remove.new.self)
-    (λ a b d h r. then_removed path beside bytes e a b d c.requires h r)
+    (λ a b d h r. then_removed path beside bytes e c.remove.result a b d c.requires h r)
     (rw c.in-Err.is at tried)
     c.remove.ensures

@@ -1,12 +1,10 @@
-use Rattle.std.proofs.Common.{inl, inr, take, length, subst, sym, ap, arith, ◌∙◌}
-use Rattle.std.specs.List.{before_first, position_or_len, Contains}
-use Rattle.std.proofs.lemmas.List.Elements.{Contains-get_or}
+use Rattle.std.proofs.Common.{inl, inr, take, subst, sym, arith}
+use Rattle.std.specs.List.{Contains}
 use Rattle.zerotrie_lines.specs.Numbers.{IsNumber}
 use Rattle.zerotrie_lines.specs.Escapes.{Spells}
-use Rattle.zerotrie_lines.specs.Lines.{is_feed, is_tab, IsPairLine}
+use Rattle.zerotrie_lines.specs.Lines.{is_tab, IsPairLine}
 use Rattle.zerotrie_lines.specs.Reads.{IsKeyOf, IsNotPlain}
 use Rattle.zerotrie_lines.proofs.EscapeLemmas.{spells_itself}
-use Rattle.zerotrie_lines.proofs.ItemLemmas.{front_of_front}
 use Rattle.zerotrie_lines.proofs.LineLemmas.{none_is, place_is, no_place, front_is, behind_is, has_slash, no_slash, lacks_slash}
 use Rattle.zerotrie_lines.proofs.items.take_slowly.Goals as goal
 
