@@ -1,7 +1,7 @@
 -- A disk from moment to moment, and what the calls that replace a file do to it.
 use Rattle.std.specs.Prelude.{◌≡◌, ◌≢◌, ◌⊎◌, ℕ, List, ◌++◌, All, Option, Some, None, Result, MatchResult, OnOk}
 
--- what the file of each path holds, if there is one
+-- what the file of each path holds, if there is one; each path is a file of its own, so links are left out
 abbrev pub Files : Type 0
 Files = List ℕ → Option (List ℕ)
 
