@@ -126,7 +126,7 @@ fn options_of(kind: TrieKind) -> ZeroTrieBuilderOptions
 }
 
 /// The file of the trie of the pairs that an input is, if it is lines whose keys stand in them as they are and ascend, and
-/// the build of the pairs is not refused. A pair takes twelve bytes, and 24 more if the kind ignores case.
+/// the build of the pairs is not refused. A pair takes twelve bytes, and in the build what `build_text` says.
 pub(crate) fn make_quick(alloc: Global, plan: Plan, input: &[u8]) -> Option<Vec<u8>>
     ensures { IfSome result (λ file. IsFile plan input.now file.items) }
 {
