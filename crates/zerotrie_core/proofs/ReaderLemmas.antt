@@ -1,6 +1,7 @@
 -- Look-ups.
 pub mod Counts
 pub mod Edges
+pub mod Fronts
 pub mod Lanes
 pub mod Literals
 pub mod LookUps

@@ -4,4 +4,5 @@ pub mod Reading
 pub mod Descending
 pub mod Literals
 pub mod Starts
+pub mod Fronts
 pub mod Turns

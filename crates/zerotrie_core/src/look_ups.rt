@@ -46,7 +46,7 @@ impl<'a, K: ZeroTrieWithOptions> Model for LookUps<'a, K> {
 
 /// The trie after a first byte, which is empty if no key begins with it. `None` if a span has more bytes after it.
 #[inline(never)]
-fn target_of<K: ZeroTrieWithOptions>(bytes: &[u8], byte: u8) -> Option<&[u8]>
+pub(crate) fn target_of<K: ZeroTrieWithOptions>(bytes: &[u8], byte: u8) -> Option<&[u8]>
     ensures { IfSome result (λ target. LeadsTo K.kind bytes.now byte target.now) }
 {
     steps_look_ahead();
@@ -78,7 +78,7 @@ impl<'a, K: ZeroTrieWithOptions> LookUps<'a, K> {
 
     /// The trie after a first byte, which is kept unless it is empty.
     #[inline(always)]
-    fn target(&mut self, byte: u8) -> Option<&'a [u8]>
+    pub(crate) fn target(&mut self, byte: u8) -> Option<&'a [u8]>
         ensures some { IfSome result (λ target. LeadsTo K.kind self.old byte target.now) }
         ensures kept { self.new ≡ self.old }
     {

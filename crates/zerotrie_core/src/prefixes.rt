@@ -38,9 +38,11 @@ fn noted(
 /// assert_eq!(rt; longest_prefix::<Simple>(bytes, b"b"), None);
 /// ```
 ///
-/// It reads the text once, up to the first byte with which no key goes on, and takes no memory. It returns on any bytes.
+/// It reads the text once, up to the first byte with which no key goes on, and takes no memory. It returns on any bytes, and the
+/// length is never beyond the text.
 pub fn longest_prefix<K: ZeroTrieWithOptions>(bytes: &[u8], text: &[u8]) -> Option<(usize, usize)>
-    ensures { (m : Map) → Means K.kind bytes.now m → IsLongestPrefix K.kind m text.now result }
+    ensures longest { (m : Map) → Means K.kind bytes.now m → IsLongestPrefix K.kind m text.now result }
+    ensures within { IfSome result (λ r. r.0 ≤ length text.now) }
 {
     steps_look_ahead();
     let mut cursor = SpanCursor::new(bytes);

@@ -21,16 +21,20 @@ use crate::node::{Node, first_node};
 use crate::options::ZeroTrieWithOptions;
 
 /// What reading one node comes to.
-pub(crate) enum Descent<'a> {
+pub(crate) enum Descent<'a, 'k> {
     /// The look-up ends with this answer.
     Answer(Option<usize>),
     /// The look-up goes on in these bytes, with this rest of the key, after this number of nodes.
-    Down(&'a [u8], &'a [u8], usize),
+    Down(&'a [u8], &'k [u8], usize),
 }
 
 /// Goes on after a literal, and over the literals after it that the key goes on with.
 #[inline(always)]
-fn over_literals<'a, K: ZeroTrieWithOptions>(edge: u8, rest: &'a [u8], key: &'a [u8]) -> Descent<'a>
+fn over_literals<'a, 'k, K: ZeroTrieWithOptions>(
+    edge: u8,
+    rest: &'a [u8],
+    key: &'k [u8],
+) -> Descent<'a, 'k>
     ensures { Descends K.kind (literal edge rest.now) key.now result }
 {
     let Some((byte, after)) = key.split_first() else {
@@ -47,7 +51,7 @@ fn over_literals<'a, K: ZeroTrieWithOptions>(edge: u8, rest: &'a [u8], key: &'a 
 
 /// Goes on after a span, which the key has to go on with.
 #[inline(always)]
-fn over_span<'a>(run: &'a [u8], rest: &'a [u8], key: &'a [u8]) -> Descent<'a>
+fn over_span<'a, 'k>(run: &'a [u8], rest: &'a [u8], key: &'k [u8]) -> Descent<'a, 'k>
     ensures { (kind : Kind) → Descends kind (span run.now rest.now) key.now result }
 {
     if key.starts_with(run) {
@@ -60,7 +64,7 @@ fn over_span<'a>(run: &'a [u8], rest: &'a [u8], key: &'a [u8]) -> Descent<'a>
 
 /// Goes on in the target of a branch whose edge is the next byte of the key.
 #[inline(always)]
-fn into_target<'a, K: ZeroTrieWithOptions>(branch: Branch<'a>, key: &'a [u8]) -> Descent<'a>
+fn into_target<'a, 'k, K: ZeroTrieWithOptions>(branch: Branch<'a>, key: &'k [u8]) -> Descent<'a, 'k>
     ensures { Descends K.kind (branch_shape branch.entry) key.now result }
 {
     let Some((byte, after)) = key.split_first() else {
@@ -74,7 +78,10 @@ fn into_target<'a, K: ZeroTrieWithOptions>(branch: Branch<'a>, key: &'a [u8]) ->
 
 /// Goes on after one node.
 #[inline(always)]
-pub(crate) fn descend<'a, K: ZeroTrieWithOptions>(node: Node<'a>, key: &'a [u8]) -> Descent<'a>
+pub(crate) fn descend<'a, 'k, K: ZeroTrieWithOptions>(
+    node: Node<'a>,
+    key: &'k [u8],
+) -> Descent<'a, 'k>
     ensures { Descends K.kind (shape node.entry) key.now result }
 {
     match node {

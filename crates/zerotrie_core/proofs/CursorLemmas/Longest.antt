@@ -2,7 +2,7 @@
 use Rattle.std.proofs.Common.{◌≡◌, ℕ, ◌+◌, ◌<◌, ◌≤◌, zero, suc, inl, inr, List, [], ◌∷◌, ◌++◌, length, take, get_or, refl, sym, ◌∙◌, ap, subst, arith, Option, Some, None}
 use Rattle.std.proofs.lemmas.Bool.Decides.{eqb_tells, leb_tells}
 use Rattle.std.proofs.lemmas.List.{append-nil}
-use Rattle.std.specs.Prelude.{is_some, not, true}
+use Rattle.std.specs.Prelude.{is_some, not, true, IfSome}
 use Rattle.zerotrie_core.specs.Kind.{Kind}
 use Rattle.zerotrie_core.specs.Maps.{Pairs, Map, look, value_at}
 use Rattle.zerotrie_core.specs.Texts.{Means}
@@ -137,3 +137,12 @@ of_map kind bytes text m means found h =
 pub no_edge : (answer : Option ℕ) → is_some answer ≡ not true → answer ≡ None
 no_edge None h = refl
 no_edge (Some b) h = absurd (cc)
+
+-- no length is beyond what was gone over
+pub within_more : (found : Option (ℕ × ℕ)) (few most : ℕ) → IfSome found (λ r. r.0 ≤ few) → few ≤ most → IfSome found (λ r. r.0 ≤ most)
+within_more None few most within less = tt
+within_more (Some r) few most within less = omega (arith, within, less)
+
+pub within_noted : (taken : Option ℕ) (len few : ℕ) (found : Option (ℕ × ℕ)) → IfSome found (λ r. r.0 ≤ few) → few ≤ len → IfSome (noted taken len found) (λ r. r.0 ≤ len)
+within_noted (Some v) len few found within less = omega arith
+within_noted None len few found within less = within_more found few len within less

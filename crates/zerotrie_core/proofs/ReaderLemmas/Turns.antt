@@ -1,12 +1,13 @@
 -- Look-ups that go on in turns.
-use Rattle.std.proofs.Common.{◌≡◌, ℕ, zero, suc, ◌+◌, ◌<◌, ◌≤◌, List, [], ◌∷◌, ◌++◌, map, drop, length, get_or, Option, refl, sym, ◌∙◌, ap, subst, append_assoc, append-nil, arith}
+use Rattle.std.proofs.Common.{◌≡◌, ℕ, zero, suc, ◌+◌, ◌<◌, ◌≤◌, List, [], ◌∷◌, ◌++◌, map, drop, take, length, get_or, Option, refl, sym, ◌∙◌, ap, subst, append_assoc, append-nil, arith}
 use Rattle.std.specs.Borrow.{Bor}
-use Rattle.std.proofs.lemmas.List.{drop_more, length-map}
+use Rattle.std.proofs.lemmas.List.{drop_more, length-map, take-append-drop}
+use Rattle.std.proofs.Math.Seq.{take-append_seam}
 use Rattle.std.proofs.Math.ListN.{drop_of_length-le}
 use Rattle.zerotrie_core.specs.Kind.{Kind}
 use Rattle.zerotrie_core.specs.Maps.{Map, look}
 use Rattle.zerotrie_core.specs.Texts.{Means}
-use Rattle.zerotrie_core.specs.reader.Turns.{asked_of}
+use Rattle.zerotrie_core.specs.reader.Turns.{asked_of, StandFirst}
 
 -- what is read past the end
 abbrev no_key : Bor (List ℕ)
@@ -45,3 +46,11 @@ pub answered_all : (kind : Kind) (m : Map) (bytes : List ℕ) (keys : List (Bor 
 answered_all kind m bytes keys look_ups i values all are most was =
     let end : length keys ≤ i = subst (λ n. n ≤ i) (ap length are ∙ length-map keys (asked_of bytes)) most in
     sym (append-nil values) ∙ ap (λ ks. values ++ map (λ key. look kind m key.now) ks) (sym (drop_of_length-le keys end)) ∙ was
+
+-- what stands first stands first in more
+pub stand_further : (first some all : List (Option ℕ)) → StandFirst first some → StandFirst some all → StandFirst first all
+stand_further first some all one two =
+    let one_part : some ≡ first ++ drop (length first) some = sym (take-append-drop (length first) some) ∙ ap (λ f. f ++ drop (length first) some) one in
+    let two_parts : all ≡ some ++ drop (length some) all = sym (take-append-drop (length some) all) ∙ ap (λ f. f ++ drop (length some) all) two in
+    let is = two_parts ∙ ap (λ f. f ++ drop (length some) all) one_part ∙ append_assoc first (drop (length first) some) (drop (length some) all) in
+    ap (take (length first)) is ∙ take-append_seam first (drop (length first) some ++ drop (length some) all)

@@ -9,4 +9,4 @@ returns-clause-values g c m means =
     let after = c.go_on.new.look_ups in
     let asked : after ≡ map (asked_of c.args.trie.now) c.args.keys.now = search rules in
     let are = c.as_slice.ensures.value ∙ take_at after (drop (length after) v.items) v.len (ap length c.go_on.ensures ∙ c.as_mut_slice.ensures.len) ∙ asked in
-    c.in_ok-add_answers.ensures m c.args.trie.now c.args.keys.now means are
+    c.in_ok-add_answers.ensures.values m c.args.trie.now c.args.keys.now means are

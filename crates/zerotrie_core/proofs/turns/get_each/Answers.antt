@@ -1,11 +1,4 @@
-use Rattle.std.proofs.Common.{◌≡◌, ◌++◌, [], map, drop, sym, ◌∙◌, ap, append-nil, arith}
-use Rattle.std.proofs.Math.ListN.{drop_of_length-le}
-use Rattle.zerotrie_core.specs.Maps.{look}
 use Rattle.zerotrie_core.proofs.turns.get_each.Goals as goal
 
-pub returns : goal.returns
-returns g c m means =
-    let none : drop c.loop-begin.begin c.args.keys.now ≡ [] = drop_of_length-le c.args.keys.now (omega arith) in
-    sym (append-nil c.loop-begin.values.items)
-    ∙ ap (λ ks. c.loop-begin.values.items ++ map (λ key. look g.K.ZeroTrieWithOptions.kind m key.now) ks) (sym none)
-    ∙ c.loop-begin.invariant.1 m means
+pub returns-clause-values : goal.returns-clause-values
+returns-clause-values g c = rw (← c.new-trie.ensures) c.get_each.ensures.values
