@@ -1,6 +1,6 @@
 //! A text that is written from its last byte to its first.
 
-ghost use Rattle.std.specs.Prelude.{◌≡◌, ◌++◌, ◌<◌, ◌^◌, [], length, IfOk, OnOk};
+ghost use Rattle.std.specs.Prelude.{◌≡◌, ◌++◌, ◌<◌, ◌^◌, [], length, reverse, IfOk, OnOk};
 ghost use Rattle.zerotrie_core.specs.Numbers.{value_form, spelled_as};
 ghost use Rattle.zerotrie_core.specs.plain.Encoding.{with_bits};
 
@@ -22,6 +22,17 @@ impl Model for Backward {
     ghost Value = { List ℕ };
 
     ghost view = { λ t. reverse t.written.items };
+}
+
+/// Eight bytes, the last one first.
+#[inline(always)]
+fn turned(bytes: &[u8]) -> [u8; 8]
+    requires { length bytes.now ≡ 8 }
+    ensures { result ≡ reverse bytes.now }
+{
+    [
+        bytes[7], bytes[6], bytes[5], bytes[4], bytes[3], bytes[2], bytes[1], bytes[0],
+    ]
 }
 
 impl Backward {
@@ -47,7 +58,13 @@ impl Backward {
         ensures { OnOk result (self.new ≡ bytes.now ++ self.old) }
     {
         self.written.reserve(bytes.len())?;
-        for index in (0..bytes.len()).rev() {
+        let mut count = bytes.len();
+        while count >= 8 {
+            let (_, last) = bytes[..count].split_at(count - 8);
+            self.written.extend_from_slice(&turned(last))?;
+            count -= 8;
+        }
+        for index in (0..count).rev() {
             self.written.push_reserved(bytes[index]);
         }
         Ok(())

@@ -1,19 +1,19 @@
 //! The search tables of branches, and the order that they give the targets.
 
-ghost use Rattle.std.specs.Prelude.{◌≡◌, ◌≢◌, ℕ, List, [], ◌∷◌, ◌+◌, ◌-◌, ◌^◌, ◌<◌, ◌≤◌, ◌++◌, length, map, reverse, slice_index_or, All, IfOk, OnOk, IfErr};
+ghost use Rattle.std.specs.Prelude.{◌≡◌, ◌≢◌, ℕ, List, [], ◌∷◌, false, ◌+◌, ◌-◌, ◌^◌, ◌<◌, ◌≤◌, ◌++◌, length, map, reverse, slice_index_or, All, IfOk, OnOk, IfErr};
 ghost use Rattle.std.specs.List.{range_with_len};
 ghost use Rattle.std.specs.List.Sorted.{IsPermutation, IsStrictlyIncreasing};
 ghost use Rattle.zerotrie_base.specs.Refusals.{IsTableRefusal};
-ghost use Rattle.zerotrie_core.specs.Kind.{fold_byte};
+ghost use Rattle.zerotrie_core.specs.Kind.{fold_byte, is_hashed};
 ghost use Rattle.zerotrie_core.specs.Causes.{AreCrooked};
 ghost use Rattle.zerotrie_build.specs.Order.{Ordered};
-ghost use Rattle.zerotrie_build.specs.passes.Windows.{window as window_of, edge_of, IsGroup};
+ghost use Rattle.zerotrie_build.specs.passes.Windows.{window as window_of, edge_of, GoesOnWith, IsGroupTo};
 ghost use Rattle.zerotrie_build.specs.passes.Measured.{TargetWindows};
 ghost use Rattle.zerotrie_build.specs.passes.Writing.{window_at, edge_no, place_in, position_at, text_of, placed_next, next_of, IsHashedLayout, IsLayout, HasSlots};
 
 use crate::indexed::IndexedItems;
 use crate::measuring::{Measured, is_hashed};
-use crate::windows::{Window, edge_at, group_end, group_end_near};
+use crate::windows::{Group, Window, byte_in, group_near, group_of};
 use std::alloc::{AllocError, Allocator, Global};
 use zerotrie_core::{PerfectByteHashMapCacheOwned, ZeroTrieBuildError, ZeroTrieWithOptions};
 
@@ -145,14 +145,15 @@ impl<A: Allocator + Copy> Layout<A> {
     {
         self.clear();
         let mut rest = window;
+        let mut byte = byte_in(items, window, window.from);
         while rest.from < rest.to {
-            let to = target_end::<K, I>(items, rest, counts, self.windows.len());
-            let target = Window::new(rest.from, to, rest.depth + 1);
-            let edge = edge_at(items, target);
-            self.table.push(edge)?;
+            let group = target_group::<K, I>(items, rest, byte, counts, self.windows.len());
+            let target = Window::new(rest.from, group.end, rest.depth + 1);
+            self.table.push(byte.unwrap_or(0))?;
             self.numbers.push(self.windows.len())?;
             self.windows.push(target)?;
-            rest.from = to;
+            rest.from = group.end;
+            byte = group.next;
         }
         Ok(())
     }
@@ -208,13 +209,18 @@ impl<A: Allocator + Copy> Layout<A> {
         self.windows[self.numbers[place]]
     }
 
-    /// Numbers the targets anew, in the order of the table in which they were laid out.
-    pub(crate) fn number_in_order(&mut self) -> Result<(), AllocError>
+    /// Numbers the targets of a branch that was laid out anew, in the order of its table. Those of a sorted table are in order.
+    pub(crate) fn number_in_order<K: ZeroTrieWithOptions>(&mut self) -> Result<(), AllocError>
+        requires { is_hashed K.kind (length self.old.windows.items) ≡ false
+            → self.old.numbers.items ≡ range_with_len 0 (length self.old.windows.items) }
         ensures numbers { OnOk result (self.new.numbers.items
             ≡ range_with_len 0 (length self.old.windows.items)) }
         ensures windows { self.new.windows.items ≡ self.old.windows.items }
         ensures table { self.new.table.items ≡ self.old.table.items }
     {
+        if !is_hashed::<K>(self.windows.len()) {
+            return Ok(());
+        }
         self.numbers.clear();
         for number in 0..self.windows.len() {
             self.numbers.push(number)?;
@@ -332,24 +338,26 @@ impl<A: Allocator + Copy> Layout<A> {
     }
 }
 
-/// Where the items of the branch's next target end, which has this number. The counts of the items are guesses, and
-/// the kinds with hashed tables have none.
+/// The items of the branch's next target, which has this number and goes on with this byte. The counts of the items are
+/// guesses, and the kinds with hashed tables have none.
 #[inline(always)]
-fn target_end<'a, K: ZeroTrieWithOptions, I: IndexedItems<'a>>(
+fn target_group<'a, K: ZeroTrieWithOptions, I: IndexedItems<'a>>(
     items: I,
     rest: Window,
+    byte: Option<u8>,
     counts: &[u8],
     number: usize,
-) -> usize
+) -> Group
     requires within { rest.from < rest.to }
     requires items { rest.to ≤ length (I.pairs items) }
     requires ordered { Ordered K.kind (window_of (I.pairs items) rest) }
-    ensures { IsGroup (I.pairs items) rest result }
+    requires byte { GoesOnWith (I.pairs items) rest byte }
+    ensures { IsGroupTo (I.pairs items) rest result }
 {
     if K::USE_PHF {
-        group_end::<K, I>(items, rest)
+        group_of::<K, I>(items, rest, byte)
     } else {
-        group_end_near::<K, I>(items, rest, counts.get(number).copied().unwrap_or(0))
+        group_near::<K, I>(items, rest, byte, counts.get(number).copied().unwrap_or(0))
     }
 }
 

@@ -14,7 +14,7 @@ ghost use Rattle.zerotrie_build.specs.passes.Walking.{item_ends, spare_len, with
 
 use crate::indexed::IndexedItems;
 use crate::leaf::{rest_len, single_item};
-use crate::windows::{Step, Window, first_step, group_end, literals_end};
+use crate::windows::{Step, Window, byte_in, first_step, group_of, literals_end};
 use std::alloc::{AllocError, Allocator};
 use zerotrie_core::{ZeroTrieBuildError, ZeroTrieWithOptions};
 
@@ -346,10 +346,12 @@ impl<'a, I: IndexedItems<'a>, A: Allocator + Copy> FirstPass<I, A> {
         ensures branches { self.new.branches.items ≡ self.old.branches.items }
     {
         let mut rest = window;
+        let mut byte = byte_in(self.items, window, window.from);
         while rest.from < rest.to {
-            let end = group_end::<K, I>(self.items, rest);
-            self.push_end::<K>(end, end - rest.from)?;
-            rest.from = end;
+            let group = group_of::<K, I>(self.items, rest, byte);
+            self.push_end::<K>(group.end, group.end - rest.from)?;
+            rest.from = group.end;
+            byte = group.next;
         }
         Ok(())
     }

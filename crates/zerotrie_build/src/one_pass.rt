@@ -124,7 +124,7 @@ fn put_rest<K: ZeroTrieWithOptions, J: LentItems, A: Allocator + Copy>(
     if is_too_wide::<K>(total) || !front.clear_for(branch_len::<K>(lens.len(), total)) {
         return Err(ZeroTrieBuildError::CapacityExceeded);
     }
-    inner.layout.number_in_order()?;
+    inner.layout.number_in_order::<K>()?;
     front.put_branch(
         inner.layout.table.as_slice(),
         lens,

@@ -2,7 +2,7 @@
 
 ghost use Rattle.std.specs.Prelude.{◌≡◌, ℕ, ◌+◌, ◌-◌, ◌^◌, ◌<◌, ◌≤◌, IfSome, Some, drop, slice_index, length};
 ghost use Rattle.zerotrie_build.specs.Order.{Ordered};
-ghost use Rattle.zerotrie_build.specs.passes.Windows.{window as window_of, step_of, item_no, byte_of, edge_of, high_front, HasLiteralAt, IsGroup};
+ghost use Rattle.zerotrie_build.specs.passes.Windows.{window as window_of, step_of, item_no, byte_of, high_front, HasLiteralAt, GoesOnWith, IsGroupTo};
 
 use crate::indexed::IndexedItems;
 use zerotrie_core::ZeroTrieWithOptions;
@@ -167,63 +167,85 @@ pub(crate) fn first_step<'a, K: ZeroTrieWithOptions, I: IndexedItems<'a>>(
     common_step::<K, I>(items, window, byte)
 }
 
-/// Where the first items that have one byte at the depth end. It looks ever further ahead, and halves what is left
-/// once it was too far.
-pub(crate) fn group_end<'a, K: ZeroTrieWithOptions, I: IndexedItems<'a>>(
+/// The first items of a window, which have one byte at its depth.
+#[derive(Clone, Copy, Debug)]
+pub(crate) struct Group {
+    /// The number of the item after them.
+    pub(crate) end: usize,
+    /// The byte of that item at the depth, if it is in the window.
+    pub(crate) next: Option<u8>,
+}
+
+/// The byte at the depth of the item of this number, if it is in the window.
+pub(crate) fn byte_in<'a, I: IndexedItems<'a>>(
     items: I,
     window: Window,
-) -> usize
+    index: usize,
+) -> Option<u8>
+    requires { window.to ≤ length (I.pairs items) }
+    ensures { index < window.to → result ≡ byte_of (I.pairs items) index window.depth }
+{
+    if index >= window.to {
+        return None;
+    }
+    byte_at(items, index, window.depth)
+}
+
+/// The first items that have one byte at the depth. It looks ever further ahead, and halves what is left once it was too
+/// far.
+pub(crate) fn group_of<'a, K: ZeroTrieWithOptions, I: IndexedItems<'a>>(
+    items: I,
+    window: Window,
+    byte: Option<u8>,
+) -> Group
     requires within { window.from < window.to }
     requires items { window.to ≤ length (I.pairs items) }
     requires ordered { Ordered K.kind (window_of (I.pairs items) window) }
-    ensures { IsGroup (I.pairs items) window result }
+    requires byte { GoesOnWith (I.pairs items) window byte }
+    ensures { IsGroupTo (I.pairs items) window result }
 {
-    let byte = byte_at(items, window.from, window.depth);
     // All items below `low` have the byte, and none from `high` on has it.
     let mut low = window.from + 1;
     let mut high = window.to;
+    let mut next = None;
     let mut ahead = 0;
     while low < high {
         let step = ((high - low) / 2).min(ahead);
         let place = low + step;
-        if byte_at(items, place, window.depth) == byte {
+        let there = byte_at(items, place, window.depth);
+        if there == byte {
             low = place + 1;
             ahead = 2 * step + 1;
         } else {
             high = place;
+            next = there;
         }
     }
-    low
+    Group { end: low, next }
 }
 
-/// Like `group_end`, but tries `count` first.
-pub(crate) fn group_end_near<'a, K: ZeroTrieWithOptions, I: IndexedItems<'a>>(
+/// Like `group_of`, but tries `count` items first.
+pub(crate) fn group_near<'a, K: ZeroTrieWithOptions, I: IndexedItems<'a>>(
     items: I,
     window: Window,
+    byte: Option<u8>,
     count: u8,
-) -> usize
+) -> Group
     requires within { window.from < window.to }
     requires items { window.to ≤ length (I.pairs items) }
     requires ordered { Ordered K.kind (window_of (I.pairs items) window) }
-    ensures { IsGroup (I.pairs items) window result }
+    requires byte { GoesOnWith (I.pairs items) window byte }
+    ensures { IsGroupTo (I.pairs items) window result }
 {
     let end = window.from.saturating_add(count as usize);
     if count == 0 || end > window.to {
-        return group_end::<K, I>(items, window);
+        return group_of::<K, I>(items, window, byte);
     }
-    let byte = byte_at(items, window.from, window.depth);
-    let is_last = end == window.to || byte_at(items, end, window.depth) != byte;
+    let next = byte_in(items, window, end);
+    let is_last = end == window.to || next != byte;
     if is_last && byte_at(items, end - 1, window.depth) == byte {
-        end
+        Group { end, next }
     } else {
-        group_end::<K, I>(items, window)
+        group_of::<K, I>(items, window, byte)
     }
-}
-
-/// The byte in front of the window.
-pub(crate) fn edge_at<'a, I: IndexedItems<'a>>(items: I, window: Window) -> u8
-    requires { window.from < length (I.pairs items) }
-    ensures { result ≡ edge_of (I.pairs items) window }
-{
-    byte_at(items, window.from, window.depth.saturating_sub(1)).unwrap_or(0)
 }

@@ -1,11 +1,12 @@
 -- A text that is written from its last byte to its first.
-use Rattle.std.proofs.Common.{◌≡◌, ℕ, zero, suc, ◌+◌, ◌^◌, ◌<◌, ◌≤◌, inl, inr, List, [], ◌∷◌, ◌++◌, length, refl, sym, ◌∙◌, ap, subst, arith, get_or, drop, map, reverse, append_assoc, length-append, All, lit<}
+use Rattle.std.proofs.Common.{◌≡◌, ℕ, zero, suc, ◌+◌, ◌-◌, ◌^◌, ◌<◌, ◌≤◌, inl, inr, List, [], ◌∷◌, ◌++◌, length, refl, sym, ◌∙◌, ap, subst, arith, get_or, take, drop, map, reverse, append_assoc, length-append, All, lit<}
 use Rattle.std.specs.Prelude.{slice_set, IsTrue, false}
 use Rattle.std.specs.List.{concat, range_with_len}
 use Rattle.std.proofs.Math.Nat.{pow-le-pow_right}
 use Rattle.std.proofs.Math.Seq.{drop-cons}
 use Rattle.std.proofs.lemmas.Bool.{cases_lt}
-use Rattle.std.proofs.lemmas.List.{append-nil, drop-set, length-map, reverse-append}
+use Rattle.std.proofs.Math.ListN.{drop_of_length-le}
+use Rattle.std.proofs.lemmas.List.{append-nil, drop-set, drop_more, drop-append-le, take-append-drop, length-take-le, length-map, reverse-append, reverse-reverse}
 use Rattle.std.proofs.lemmas.List.FromFn.{length-range_with_len, get_or-range_with_len}
 use Rattle.std.proofs.lemmas.List.Sorted.{length_permutation}
 use Rattle.std.specs.List.Sorted.{IsStrictlyIncreasing}
@@ -270,3 +271,30 @@ not_above n most h = elim (cases_lt n most) [ inl below ↦ below | inr above �
 -- a byte more at the end of what was written is one in front of the text
 pub turned : (before after : List ℕ) (b : ℕ) → after ≡ before ++ b ∷ [] → reverse after ≡ b ∷ reverse before
 turned before after b is = ap reverse is ∙ reverse-append before (b ∷ [])
+
+-- eight bytes, one by one
+pub eight : (l : List ℕ) → length l ≡ 8
+    → l ≡ get_or l 0 0 ∷ get_or l 1 0 ∷ get_or l 2 0 ∷ get_or l 3 0 ∷ get_or l 4 0 ∷ get_or l 5 0 ∷ get_or l 6 0 ∷ get_or l 7 0 ∷ []
+eight l is =
+    let last = drop_more l 7 0 (omega (arith, is)) ∙ ap (λ r. get_or l 7 0 ∷ r) (drop_of_length-le l {i = 8} (omega (arith, is))) in
+    let six = drop_more l 6 0 (omega (arith, is)) ∙ ap (λ r. get_or l 6 0 ∷ r) last in
+    let five = drop_more l 5 0 (omega (arith, is)) ∙ ap (λ r. get_or l 5 0 ∷ r) six in
+    let four = drop_more l 4 0 (omega (arith, is)) ∙ ap (λ r. get_or l 4 0 ∷ r) five in
+    let three = drop_more l 3 0 (omega (arith, is)) ∙ ap (λ r. get_or l 3 0 ∷ r) four in
+    let two = drop_more l 2 0 (omega (arith, is)) ∙ ap (λ r. get_or l 2 0 ∷ r) three in
+    let one = drop_more l 1 0 (omega (arith, is)) ∙ ap (λ r. get_or l 1 0 ∷ r) two in
+    drop_more l 0 0 (omega (arith, is)) ∙ ap (λ r. get_or l 0 0 ∷ r) one
+
+-- eight bytes more that are put in front
+pub eight_more : (written now eight all bytes old : List ℕ) (count : ℕ) → now ≡ written ++ reverse eight → reverse written ≡ drop count bytes ++ old → all ≡ take count bytes
+    → eight ≡ drop (count - 8) all → 8 ≤ count → count ≤ length bytes → reverse now ≡ drop (count - 8) bytes ++ old
+eight_more written now eight all bytes old count is was front part some within =
+    let short : count - 8 ≤ length (take count bytes) = omega (arith, length-take-le count bytes within) in
+    let whole = sym (ap (drop (count - 8)) (take-append-drop count bytes)) ∙ drop-append-le (count - 8) (take count bytes) (drop count bytes) short in
+    let mine : eight ≡ drop (count - 8) (take count bytes) = part ∙ ap (drop (count - 8)) front in
+    ap reverse is
+    ∙ reverse-append written (reverse eight)
+    ∙ ap (λ x. x ++ reverse written) (reverse-reverse eight)
+    ∙ ap (λ x. eight ++ x) was
+    ∙ sym (append_assoc eight (drop count bytes) old)
+    ∙ ap (λ x. x ++ old) (ap (λ x. x ++ drop count bytes) mine ∙ sym whole)

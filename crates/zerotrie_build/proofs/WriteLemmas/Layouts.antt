@@ -1,8 +1,10 @@
 -- Search tables, and the order that they give the targets.
 use Rattle.std.proofs.Common.{◌≡◌, ◌≢◌, ℕ, zero, suc, ◌+◌, ◌-◌, ◌/◌, ◌<◌, ◌≤◌, List, [], ◌∷◌, ◌++◌, length, refl, sym, ◌∙◌, ap, subst, arith, get_or, take, drop, map, true, false, ◌⊎◌, inl, inr, length-append, append_assoc, Result, Ok, Err}
-use Rattle.std.specs.Prelude.{nat_eq, Contains, MatchResult}
+use Rattle.std.specs.Prelude.{nat_eq, slice_index, Option, Contains, MatchResult}
+use Rattle.std.specs.Option.{unwrap_or}
 use Rattle.std.specs.List.{AllByRecursion, IsDistinct, range_with_len}
 use Rattle.std.specs.List.Sorted.{IsPermutation, IsStrictlyIncreasing}
+use Rattle.std.proofs.lemmas.Option.{unwrap_or-slice_get}
 use Rattle.std.proofs.lemmas.Bool.{eq-eqb, ne_eqb, cases_lt}
 use Rattle.std.proofs.lemmas.List.{take_more, take_all, map-append, drop_at, drop_more, get_or_default}
 use Rattle.std.proofs.lemmas.List.FromFn.{map-range_with_len_more, length-map-range_with_len, get_or-map-range_with_len, length-range_with_len, get_or-range_with_len}
@@ -18,7 +20,7 @@ use Rattle.zerotrie_core.specs.Branches.{IsTable}
 use Rattle.zerotrie_core.specs.Causes.{AreCrooked, ZeroTrieBuildError, NonAsciiError, CapacityExceeded, CouldNotSolvePerfectHash, MixedCase, IllegalDelimiter, DuplicateKey, Unsorted, BufferTooSmall, BufferTooLarge, StackExceeded, OutOfMemory}
 use Rattle.zerotrie_core.proofs.CallerLemmas.{hashed_spans, spans_fold}
 use Rattle.zerotrie_build.specs.declared.windows.Window.{Window}
-use Rattle.zerotrie_build.specs.passes.Windows.{edge_of}
+use Rattle.zerotrie_build.specs.passes.Windows.{byte_of, edge_of}
 use Rattle.zerotrie_build.specs.passes.Measured.{TargetWindows}
 use Rattle.zerotrie_build.specs.passes.Writing.{no_window, edge_no, place_in, IsHashedLayout, IsLayout}
 
@@ -272,3 +274,11 @@ found edges placed i x r up perm h e search = told r (searched edges x r search 
         → MatchResult r (λ k. (k < length edges) × (k ≡ place_in edges x)) (λ k. ⊥)
     told (Ok k) t = (t.0, sym (ap (place_in edges) (sym t.1) ∙ place_there edges rises k t.0))
     told (Err k) t = apart k t.1 t.2 (cases_lt c.0 k)
+
+-- the byte with which a window goes on is that of the edge of its first target
+pub edge_known : (all : Pairs) (w : Window) (byte : Option ℕ) (to edge : ℕ) → byte ≡ byte_of all w.from w.depth → edge ≡ unwrap_or byte 0
+    → edge ≡ edge_of all (record { from = w.from; to = to; depth = w.depth + 1 })
+edge_known all w byte to edge known is =
+    let key = (get_or all w.from ([], 0)).0 in
+    let depth : w.depth ≡ w.depth + 1 - 1 = omega arith in
+    is ∙ ap (λ o. unwrap_or o 0) known ∙ unwrap_or-slice_get key w.depth 0 ∙ ap (λ d. slice_index key d) depth

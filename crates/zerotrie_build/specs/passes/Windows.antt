@@ -3,6 +3,7 @@ use Rattle.std.specs.Prelude.{Bool, true, false, ◌⊎◌, ◌≡◌, ◌≢◌
 use Rattle.zerotrie_core.specs.Kind.{Kind, has_spans}
 use Rattle.zerotrie_core.specs.Maps.{Pairs}
 use Rattle.zerotrie_build.specs.declared.windows.Window.{Window}
+use Rattle.zerotrie_build.specs.declared.windows.Group.{Group}
 use Rattle.zerotrie_build.specs.declared.windows.Step.{Step}
 use Rattle.zerotrie_build.specs.declared.windows.Step.TheVariants.{End, Value, Literal, Span, Branch}
 
@@ -87,3 +88,11 @@ pub record IsGroup (all : Pairs) (w : Window) (end : ℕ) : Type 0 where
   pub within : end ≤ w.to
   pub same : (i : ℕ) → w.from ≤ i → i < end → byte_of all i w.depth ≡ byte_of all w.from w.depth
   pub other : end < w.to → byte_of all end w.depth ≢ byte_of all w.from w.depth
+
+-- the first item of a window goes on with the byte, if there is one
+abbrev pub GoesOnWith : Pairs → Window → Option ℕ → Type 0
+GoesOnWith all w byte = w.from < w.to → byte ≡ byte_of all w.from w.depth
+
+-- the first items end there, and the next one goes on with this byte
+abbrev pub IsGroupTo : Pairs → Window → Group → Type 0
+IsGroupTo all w group = IsGroup all w group.end × (group.end < w.to → group.next ≡ byte_of all group.end w.depth)

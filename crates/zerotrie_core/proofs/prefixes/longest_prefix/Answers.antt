@@ -9,7 +9,7 @@ loop-index-init g c =
     rw c.noted-longest.ensures
     (record {
       along = λ pairs lists. starts kind pairs c.args.text.now c.new-cursor.result c.take_value.new.self c.take_value.result
-    (subst (λ p. ListsAt kind p pairs) (sym c.new-cursor.ensures) lists) (c.take_value.ensures.meaning kind);
+          (subst (λ p. ListsAt kind p pairs) (sym c.new-cursor.ensures) lists) (c.take_value.ensures.meaning kind);
       within = within_noted c.take_value.result 0 0 None tt (omega arith);
     })
 
@@ -19,7 +19,7 @@ loop-index-preserved g c =
     rw c.noted-longest-in-loop-index.ensures
     (record {
       along = λ pairs lists. goes_on kind pairs c.args.text.now c.loop-index.index c.loop-index.cursor c.step.new.self c.take_value-in-loop-index.new.self c.step.result c.take_value-in-loop-index.result c.loop-index.longest
-    c.steps_look_ahead.ensures.pairs (omega arith) (c.loop-index.invariant.along pairs lists) c.step.ensures.meaning (c.take_value-in-loop-index.ensures.meaning kind);
+          c.steps_look_ahead.ensures.pairs (omega arith) (c.loop-index.invariant.along pairs lists) c.step.ensures.meaning (c.take_value-in-loop-index.ensures.meaning kind);
       within = within_noted c.take_value-in-loop-index.result (c.loop-index.index + 1) c.loop-index.index c.loop-index.longest c.loop-index.invariant.within (omega arith);
     })
 

@@ -15,10 +15,10 @@ loop-look_up-preserved g c =
     let old = c.loop-look_up.invariant in
     record {
       values = λ m bytes keys means are. answered_more g.K.ZeroTrieWithOptions.kind m bytes keys c.args.look_ups.now c.loop-look_up.look_up-index c.look_up-item.result c.look_up-item.result c.loop-look_up.values.items
-        c.push.new.self.items _ c.value.result means are (omega arith) c.look_up-item.is c.value.ensures c.in_ok-push.ensures.items (old.values m bytes keys means are);
+          c.push.new.self.items _ c.value.result means are (omega arith) c.look_up-item.is c.value.ensures c.in_ok-push.ensures.items (old.values m bytes keys means are);
       count = search rules;
       first = stand_further c.args.values.now.items c.loop-look_up.values.items c.push.new.self.items old.first
-        (rw c.in_ok-push.ensures.items (take-append_seam c.loop-look_up.values.items _));
+          (rw c.in_ok-push.ensures.items (take-append_seam c.loop-look_up.values.items _));
     }
 
 pub returns-clause-values : goal.returns-clause-values

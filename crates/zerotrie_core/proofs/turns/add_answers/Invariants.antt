@@ -8,8 +8,8 @@ use Rattle.zerotrie_core.proofs.turns.add_answers.Given as goal
 abbrev pub invariant-loop-look_up : goal.invariant-loop-look_up
 invariant-loop-look_up g l = record {
   values : (m : Map) (bytes : List ℕ) (keys : List (Bor (List ℕ))) → Means g.K.ZeroTrieWithOptions.kind bytes m → l.look_ups ≡ map (asked_of bytes) keys
-    → l.values.items ++ map (λ key. look g.K.ZeroTrieWithOptions.kind m key.now) (drop l.look_up-index keys)
-    ≡ l.initial.values.items ++ map (λ key. look g.K.ZeroTrieWithOptions.kind m key.now) keys;
+      → l.values.items ++ map (λ key. look g.K.ZeroTrieWithOptions.kind m key.now) (drop l.look_up-index keys)
+      ≡ l.initial.values.items ++ map (λ key. look g.K.ZeroTrieWithOptions.kind m key.now) keys;
   count : length l.values.items ≡ length l.initial.values.items + l.look_up-index;
   first : StandFirst l.initial.values.items l.values.items;
 }

@@ -2,7 +2,7 @@ use Rattle.std.proofs.Common.{◌≡◌, ◌-◌, ◌≤◌, List, ◌++◌, map
 use Rattle.std.specs.List.{range_with_len}
 use Rattle.zerotrie_build.specs.declared.windows.Window.{Window}
 use Rattle.zerotrie_build.specs.Order.{Ordered}
-use Rattle.zerotrie_build.specs.passes.Windows.{window, edge_of}
+use Rattle.zerotrie_build.specs.passes.Windows.{window, edge_of, GoesOnWith}
 use Rattle.zerotrie_build.specs.passes.Measured.{TargetWindows}
 use Rattle.zerotrie_build.proofs.branch_layout.Layout.set_sorted.Given as goal
 
@@ -16,6 +16,7 @@ invariant-loop-rest g l = record {
   to_is : l.rest.to ≡ l.fn.window.to;
   depth_is : l.rest.depth ≡ l.fn.window.depth;
   ordered : Ordered g.K.ZeroTrieWithOptions.kind (window (g.I.IndexedItems.pairs l.items) l.rest);
+  byte : GoesOnWith (g.I.IndexedItems.pairs l.items) l.rest l.byte;
 }
 
 abbrev pub decreases-loop-rest : goal.decreases-loop-rest

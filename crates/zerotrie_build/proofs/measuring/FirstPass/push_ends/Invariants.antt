@@ -1,7 +1,7 @@
 use Rattle.std.proofs.Common.{◌≡◌, List, ◌-◌, ◌≤◌, ◌++◌}
 use Rattle.zerotrie_build.specs.declared.windows.Window.{Window}
 use Rattle.zerotrie_build.specs.Order.{Ordered}
-use Rattle.zerotrie_build.specs.passes.Windows.{window}
+use Rattle.zerotrie_build.specs.passes.Windows.{window, GoesOnWith}
 use Rattle.zerotrie_build.specs.passes.Measured.{TargetWindows}
 use Rattle.zerotrie_build.specs.passes.Walking.{item_ends}
 use Rattle.zerotrie_build.proofs.measuring.FirstPass.push_ends.Given as goal
@@ -17,6 +17,7 @@ invariant-loop-rest g l = record {
   to : l.rest.to ≡ l.fn.window.to;
   depth : l.rest.depth ≡ l.fn.window.depth;
   ordered : Ordered g.K.ZeroTrieWithOptions.kind (window (g.I.IndexedItems.pairs l.initial.self.items) l.rest);
+  byte : GoesOnWith (g.I.IndexedItems.pairs l.initial.self.items) l.rest l.byte;
 }
 
 abbrev pub decreases-loop-rest : goal.decreases-loop-rest

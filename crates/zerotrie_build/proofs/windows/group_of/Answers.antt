@@ -1,7 +1,7 @@
 use Rattle.std.proofs.Common.{rules, ◌≡◌, ◌+◌, ◌<◌, arith}
 use Rattle.zerotrie_build.specs.passes.Windows.{byte_of}
 use Rattle.zerotrie_build.proofs.WindowLemmas.Ends.{same_between}
-use Rattle.zerotrie_build.proofs.windows.group_end.Goals as goal
+use Rattle.zerotrie_build.proofs.windows.group_of.Goals as goal
 
 pub loop-low-preserved-then-eq : goal.loop-low-preserved-then-eq
 loop-low-preserved-then-eq g c =
@@ -19,4 +19,5 @@ loop-low-preserved-then-eq g c =
       within = v.within;
       same = λ i from less. each i from (omega arith);
       other = v.other;
+      next = v.next;
     }

@@ -2,8 +2,8 @@ use Rattle.std.proofs.Common.{rules, ◌≡◌, ◌-◌, ◌<◌, ◌≤◌, inl
 use Rattle.std.proofs.Math.Nat.{eq-or-lt_of_le}
 use Rattle.zerotrie_build.specs.passes.Windows.{byte_of}
 use Rattle.zerotrie_build.proofs.WindowLemmas.Ends.{same_between}
-use Rattle.zerotrie_build.proofs.windows.group_end_near.Goals as goal
-use Rattle.zerotrie_build.proofs.windows.group_end_near.Goals.{then-end-window-2, else-end-window-2}
+use Rattle.zerotrie_build.proofs.windows.group_near.Goals as goal
+use Rattle.zerotrie_build.proofs.windows.group_near.Goals.{then-end-window-2, else-end-window-2}
 
 pub returns-then-eq : goal.returns-then-eq
 returns-then-eq g c =
@@ -14,7 +14,8 @@ returns-then-eq g c =
     let some : w.from < end = search rules in
     let same : byte_of all (end - 1) w.depth ≡ byte_of all w.from w.depth = search rules in
     let first : w.from ≤ end - 1 = omega arith in
-    record {
+    (
+      record {
       some = some;
       within = most;
       same = λ i from less. elim (eq-or-lt_of_le first) [
@@ -25,4 +26,6 @@ returns-then-eq g c =
         | then-end-window-2 v ↦ absurd (let e = v.if-end-window-2.true in omega arith)
         | else-end-window-2 v ↦ search rules
       ];
-    }
+    },
+      c.byte_in-next.ensures,
+    )
