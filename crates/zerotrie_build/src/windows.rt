@@ -177,11 +177,7 @@ pub(crate) struct Group {
 }
 
 /// The byte at the depth of the item of this number, if it is in the window.
-pub(crate) fn byte_in<'a, I: IndexedItems<'a>>(
-    items: I,
-    window: Window,
-    index: usize,
-) -> Option<u8>
+pub(crate) fn byte_in<'a, I: IndexedItems<'a>>(items: I, window: Window, index: usize) -> Option<u8>
     requires { window.to ≤ length (I.pairs items) }
     ensures { index < window.to → result ≡ byte_of (I.pairs items) index window.depth }
 {

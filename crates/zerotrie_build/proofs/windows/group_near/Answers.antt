@@ -13,19 +13,18 @@ returns-then-eq g c =
     let most : end ≤ w.to = omega (arith, c.if-end-window.false) in
     let some : w.from < end = search rules in
     let same : byte_of all (end - 1) w.depth ≡ byte_of all w.from w.depth = search rules in
-    let first : w.from ≤ end - 1 = omega arith in
-    (
+    let first : w.from ≤ end - 1 = omega arith in (
       record {
-      some = some;
-      within = most;
-      same = λ i from less. elim (eq-or-lt_of_le first) [
-        | inl one ↦ (let is : i ≡ w.from = omega arith in ap (λ j. byte_of all j w.depth) is)
-        | inr many ↦ same_between g.K.ZeroTrieWithOptions.kind all w (end - 1) many (omega arith) c.requires.items c.requires.ordered same i from (omega arith)
-      ];
-      other = λ below. elim c.if-end-window-2.branch [
-        | then-end-window-2 v ↦ absurd (let e = v.if-end-window-2.true in omega arith)
-        | else-end-window-2 v ↦ search rules
-      ];
-    },
+        some = some;
+        within = most;
+        same = λ i from less. elim (eq-or-lt_of_le first) [
+          | inl one ↦ (let is : i ≡ w.from = omega arith in ap (λ j. byte_of all j w.depth) is)
+          | inr many ↦ same_between g.K.ZeroTrieWithOptions.kind all w (end - 1) many (omega arith) c.requires.items c.requires.ordered same i from (omega arith)
+        ];
+        other = λ below. elim c.if-end-window-2.branch [
+          | then-end-window-2 v ↦ absurd (let e = v.if-end-window-2.true in omega arith)
+          | else-end-window-2 v ↦ search rules
+        ];
+      },
       c.byte_in-next.ensures,
     )
