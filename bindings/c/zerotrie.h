@@ -160,7 +160,7 @@ uint32_t zerotrie_get_many(uint32_t kind, const uint8_t *bytes, size_t len, cons
                            const size_t *ends, size_t ends_len, size_t missing, size_t *values, size_t values_len);
 
 /* Whether the text begins with a key, the empty one too. If so, the length of the longest such key goes to *key_len and
- * its value to *value, else both stay. */
+ * its value to *value, else both stay. The length is never beyond text_len, whatever the bytes are. */
 ZEROTRIE_ANSWERS
 bool zerotrie_longest_prefix(uint32_t kind, const uint8_t *bytes, size_t len, const uint8_t *text, size_t text_len,
                              size_t *key_len, size_t *value);

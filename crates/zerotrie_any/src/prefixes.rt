@@ -1,6 +1,6 @@
 //! Listings that lend their keys, and the keys that a text begins with, in a trie of a kind known when the program runs.
 
-ghost use Rattle.std.specs.Prelude.{◌≡◌, ◌≤◌, length, IfOk};
+ghost use Rattle.std.specs.Prelude.{◌≡◌, ◌≤◌, length, IfOk, IfSome};
 ghost use Rattle.zerotrie_core.specs.Maps.{Map, Pairs, beginning};
 ghost use Rattle.zerotrie_core.specs.Texts.{Lists, Means};
 ghost use Rattle.zerotrie_core.specs.Listings.{to_come};
@@ -100,8 +100,9 @@ impl<S: TrieStore> ZeroTrie<S> {
     ///
     /// It reads the text once, up to the first byte with which no key goes on, and takes no memory.
     pub fn longest_prefix(&self, text: &[u8]) -> Option<(usize, usize)>
-        ensures { (m : Map) → Means (flavor_kind self.now.flavor) (S.stored self.now.store) m
+        ensures longest { (m : Map) → Means (flavor_kind self.now.flavor) (S.stored self.now.store) m
             → IsLongestPrefix (flavor_kind self.now.flavor) m text.now result }
+        ensures within { IfSome result (λ r. r.0 ≤ length text.now) }
     {
         let bytes = self.store.bytes();
         match self.flavor {

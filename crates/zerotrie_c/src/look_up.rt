@@ -1,6 +1,6 @@
 //! Look-ups.
 
-ghost use Rattle.std.specs.Prelude.{◌≡◌, ◌≤◌, ℕ, false, None, IfSome, IfNone, length, take, drop};
+ghost use Rattle.std.specs.Prelude.{◌≡◌, ◌≤◌, ℕ, false, None, IfSome, IfNone, IsTrue, length, take, drop};
 ghost use Rattle.zerotrie_core.specs.Maps.{Map, look};
 ghost use Rattle.zerotrie_core.specs.Texts.{Means};
 ghost use Rattle.zerotrie_core.specs.Prefixes.{IsLongestPrefix};
@@ -189,6 +189,7 @@ pub extern "C" fn zerotrie_get_many(
 fn longest_as(kind: u32, bytes: &[u8], text: &[u8]) -> Option<(usize, usize)>
     ensures known { IfSome (kind_of kind) (λ k. (m : Map) → Means k bytes.now m
         → IsLongestPrefix k m text.now result) }
+    ensures within { IfSome result (λ r. r.0 ≤ length text.now) }
     ensures unknown { IfNone (kind_of kind) (result ≡ None) }
 {
     match kind {
@@ -212,6 +213,7 @@ pub extern "C" fn zerotrie_longest_prefix(
 ) -> bool
     ensures known { IfSome (kind_of kind) (λ k. (m : Map) → Means k bytes.now m
         → IsLongestPrefix k m text.now (told_both result len.new value.new)) }
+    ensures within { IsTrue result → len.new ≤ length text.now }
     ensures unknown { IfNone (kind_of kind) (result ≡ false) }
     ensures kept { result ≡ false → (len.new ≡ len.old) × (value.new ≡ value.old) }
 {

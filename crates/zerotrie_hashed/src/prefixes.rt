@@ -1,6 +1,6 @@
 //! Listings that lend their keys, and the keys that a text begins with, in a trie over keys of any bytes.
 
-ghost use Rattle.std.specs.Prelude.{◌≡◌, ◌≤◌, length, IfOk};
+ghost use Rattle.std.specs.Prelude.{◌≡◌, ◌≤◌, length, IfOk, IfSome};
 ghost use Rattle.zerotrie_core.specs.Maps.{Map, Pairs, beginning};
 ghost use Rattle.zerotrie_core.specs.Texts.{Lists, Means};
 ghost use Rattle.zerotrie_core.specs.Listings.{to_come};
@@ -68,8 +68,9 @@ impl<K: HashedKind, S: TrieStore> HashedTrie<K, S> {
     ///
     /// It reads the text once, up to the first byte with which no key goes on, and takes no memory.
     pub fn longest_prefix(&self, text: &[u8]) -> Option<(usize, usize)>
-        ensures { (m : Map) → Means K.kind (S.stored self.now.store) m
+        ensures longest { (m : Map) → Means K.kind (S.stored self.now.store) m
             → IsLongestPrefix K.kind m text.now result }
+        ensures within { IfSome result (λ r. r.0 ≤ length text.now) }
     {
         longest_prefix::<K>(self.as_bytes(), text)
     }

@@ -3,7 +3,8 @@
 //! A line is a key with escapes, a tab and a number; or two fields with a comma between them, the key and a number; or
 //! a key alone, whose number is that of its line.
 //!
-//! A call that adds to a `Vec` fails only if it is out of memory, and tells nothing then of what it added.
+//! A call that adds to a `Vec` fails only if it is out of memory, or if the stream fails that it reads. It tells nothing then of
+//! what it added.
 #![tactic(auto)]
 
 mod blocks;

@@ -1,6 +1,6 @@
 //! A trie of a kind that is known when the program runs.
 
-ghost use Rattle.std.specs.Prelude.{◌≡◌, ◌↔◌, ◌≤◌, ◌++◌, map, length, IsTrue, IfOk, OnOk, IfErr, IfSome, None};
+ghost use Rattle.std.specs.Prelude.{◌≡◌, ◌↔◌, ◌≤◌, length, IsTrue, IfOk, IfErr, IfSome, None};
 ghost use Rattle.zerotrie_core.specs.Maps.{Map, Pairs, look, beginning};
 ghost use Rattle.zerotrie_core.specs.Texts.{Lists, Means};
 ghost use Rattle.zerotrie_core.specs.Listings.{to_come};
@@ -16,7 +16,7 @@ use crate::kind::TrieKind;
 use std::alloc::{AllocError, Global};
 use zerotrie_any::TagError;
 use zerotrie_core::{
-    Ext, Fault, Hash, Ignore, Nodes, Simple, ZeroTrieStream, first_fault, get_counted, get_each,
+    Ext, Fault, Hash, Ignore, Nodes, Simple, ZeroTrieStream, first_fault, get_counted,
     is_well_formed, longest_prefix,
 };
 
@@ -91,31 +91,11 @@ impl<'a> Trie<'a> {
         value
     }
 
-    /// Adds the value of each key, `None` if the trie has no such key, in the order of the keys.
-    ///
-    /// The only error is that it is out of memory.
-    pub fn get_each(
-        &self,
-        alloc: Global,
-        keys: &[&[u8]],
-        values: &mut Vec<Option<usize>>,
-    ) -> Result<(), AllocError>
-        ensures { OnOk result ((m : Map) → Means (kind_of self.now.kind) self.now.bytes.now m
-            → values.new.items ≡ values.old.items
-            ++ map (λ key. look (kind_of self.now.kind) m key.now) keys.now) }
-    {
-        match self.kind {
-            TrieKind::Simple => get_each::<Simple, _>(alloc, self.bytes, keys, values),
-            TrieKind::Ignore => get_each::<Ignore, _>(alloc, self.bytes, keys, values),
-            TrieKind::Hash => get_each::<Hash, _>(alloc, self.bytes, keys, values),
-            TrieKind::Ext => get_each::<Ext, _>(alloc, self.bytes, keys, values),
-        }
-    }
-
     /// The longest key that the text begins with: its length in bytes, and its value. `None` if it begins with no key.
     pub fn longest(&self, text: &[u8]) -> Option<(usize, usize)>
-        ensures { (m : Map) → Means (kind_of self.now.kind) self.now.bytes.now m
+        ensures longest { (m : Map) → Means (kind_of self.now.kind) self.now.bytes.now m
             → IsLongestPrefix (kind_of self.now.kind) m text.now result }
+        ensures within { IfSome result (λ r. r.0 ≤ length text.now) }
     {
         match self.kind {
             TrieKind::Simple => longest_prefix::<Simple>(self.bytes, text),

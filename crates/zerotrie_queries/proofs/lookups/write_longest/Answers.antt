@@ -20,7 +20,7 @@ loop-text-preserved g c m means =
     let line : c.as_slice.result.now ≡ found_line text.now c.longest-found.result = search rules in
     finding_more (kind_of c.args.trie.now.kind) m (nows texts) (nows (drop i texts)) (nows (drop (i + 1) texts)) text.now
     (contents c.args.output.now) (contents c.loop-text.output) (contents c.write_all.new.self) c.loop-text.all (c.loop-text.all && c.is_some-all.result) c.longest-found.result c.as_slice.result.now
-    (ap nows (drop_more texts i no_key (omega arith))) (c.longest-found.ensures m means) line (ap (λ b. c.loop-text.all && b) c.is_some-all.ensures) c.in_ok-write_all.ensures.bytes
+    (ap nows (drop_more texts i no_key (omega arith))) (c.longest-found.ensures.longest m means) line (ap (λ b. c.loop-text.all && b) c.is_some-all.ensures) c.in_ok-write_all.ensures.bytes
     (c.loop-text.invariant m means)
 
 pub returns : goal.returns
