@@ -31,13 +31,10 @@ abbrev pub Belongs : Asked → Kind → Map → List (List ℕ) → (output : Li
 Belongs Value kind m keys output all = let answers = map (look kind m) keys in (output ≡ value_lines answers) × (all ≡ are_found answers)
 Belongs Longest kind m texts output all = LongestLines kind m texts output all
 
--- what was printed belongs to texts, to what was asked of them, and to the map that the bytes mean to the kind, if they mean one
-abbrev pub AnswersBy : Asked → Kind → (bytes : List ℕ) → (texts : List (List ℕ)) → (old new : Option (List ℕ)) → (all : Bool) → Type 0
-AnswersBy asked kind bytes texts old new all = (m : Map) → Means kind bytes m
-    → (printed : List ℕ) × Belongs asked kind m texts printed all × Appends old new printed
-
+-- what was printed belongs to texts, to what was asked of them, and to the map that the bytes mean, if they mean one
 abbrev pub AreAnswered : Asked → TrieKind → (bytes : List ℕ) → (texts : List (List ℕ)) → (old new : Option (List ℕ)) → (all : Bool) → Type 0
-AreAnswered asked kind bytes texts old new all = AnswersBy asked (kind_of kind) bytes texts old new all
+AreAnswered asked kind bytes texts old new all = (m : Map) → Means (kind_of kind) bytes m
+    → (printed : List ℕ) × Belongs asked (kind_of kind) m texts printed all × Appends old new printed
 
 -- the pairs whose keys begin with a prefix were printed, if the bytes list pairs
 abbrev pub AreListed : Form → (prefix : List ℕ) → TrieKind → (bytes : List ℕ) → (old new : Option (List ℕ)) → Type 0

@@ -1,4 +1,5 @@
 pub mod Kinds
+pub mod Batches
 pub mod Files
 pub mod Json
 pub mod Printed

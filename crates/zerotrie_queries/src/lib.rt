@@ -4,6 +4,7 @@
 //! longest keys that texts begin with, for its pairs, for source code, for what it is made of, and for its nodes.
 #![tactic(auto)]
 
+mod batch;
 pub mod code;
 mod file;
 mod json_listing;
@@ -15,6 +16,7 @@ mod reports;
 mod trie;
 mod views;
 
+pub use batch::TrieLookUps;
 pub use code::{Language, is_name, write_trie_code};
 pub use file::OpenError;
 pub use kind::TrieKind;

@@ -2,16 +2,15 @@
 
 ghost use Rattle.std.specs.Prelude.{◌≡◌, ◌++◌, map, IfOk};
 ghost use Rattle.zerotrie_queries.specs.Printed.{value_lines, are_found};
-ghost use Rattle.zerotrie_queries.specs.Answers.{AnswersBy, AreAnswered};
+ghost use Rattle.zerotrie_queries.specs.Answers.{AreAnswered};
 ghost use Rattle.zerotrie_queries.specs.declared.lookups.Asked.TheVariants.{Value, Longest};
 
-use crate::kind::TrieKind;
+use crate::batch::TrieLookUps;
 use crate::print::{add_found, add_value};
 use crate::trie::Trie;
 use std::alloc::{AllocError, Global};
 use std::io;
 use std::io::Write;
-use zerotrie_core::{BatchLookUps, Ext, Hash, Ignore, Simple, ZeroTrieWithOptions};
 
 /// How many keys are looked up before their lines are written.
 const BLOCK: usize = 4096;
@@ -39,16 +38,16 @@ fn add_values(lines: &mut Vec<u8>, values: &[Option<usize>]) -> Result<bool, All
 }
 
 /// Writes a line for each key, its value or `none`, and tells whether all are there. Lines are written many at once.
-fn write_values<K: ZeroTrieWithOptions, W: Write>(
+fn write_values<W: Write>(
     alloc: Global,
-    bytes: &[u8],
+    trie: &mut TrieLookUps<'_>,
     keys: &[&[u8]],
     output: &mut W,
 ) -> io::Result<bool>
-    ensures { IfOk result (AnswersBy Value K.kind bytes.now (map (λ key. key.now) keys.now)
-        (W.contents output.old) (W.contents output.new)) }
+    ensures answered { IfOk result (AreAnswered Value trie.old.0 trie.old.1
+        (map (λ key. key.now) keys.now) (W.contents output.old) (W.contents output.new)) }
+    ensures kept { trie.new ≡ trie.old }
 {
-    let mut trie = BatchLookUps::<K, Global>::new(alloc, bytes);
     let mut values = Vec::new(alloc);
     let mut lines = Vec::new(alloc);
     let mut all = true;
@@ -64,24 +63,6 @@ fn write_values<K: ZeroTrieWithOptions, W: Write>(
         begin += block.len();
     }
     Ok(all)
-}
-
-/// Writes the lines of keys, as `write_values` does, by the kind of the trie.
-fn write_values_of<W: Write>(
-    alloc: Global,
-    trie: &Trie<'_>,
-    keys: &[&[u8]],
-    output: &mut W,
-) -> io::Result<bool>
-    ensures { IfOk result (AreAnswered Value trie.now.kind trie.now.bytes.now
-        (map (λ key. key.now) keys.now) (W.contents output.old) (W.contents output.new)) }
-{
-    match trie.kind {
-        TrieKind::Simple => write_values::<Simple, W>(alloc, trie.bytes, keys, output),
-        TrieKind::Ignore => write_values::<Ignore, W>(alloc, trie.bytes, keys, output),
-        TrieKind::Hash => write_values::<Hash, W>(alloc, trie.bytes, keys, output),
-        TrieKind::Ext => write_values::<Ext, W>(alloc, trie.bytes, keys, output),
-    }
 }
 
 /// Writes a line for each text, the longest key that it begins with and its value or `none`, and tells whether each
@@ -113,16 +94,17 @@ fn write_longest<W: Write>(
 /// The answers are those of the map that the bytes of the trie mean. If these mean none, it returns too.
 pub fn write_answers<W: Write>(
     alloc: Global,
-    trie: &Trie<'_>,
+    trie: &mut TrieLookUps<'_>,
     asked: Asked,
     texts: &[&[u8]],
     output: &mut W,
 ) -> io::Result<bool>
-    ensures { IfOk result (AreAnswered asked trie.now.kind trie.now.bytes.now
+    ensures answered { IfOk result (AreAnswered asked trie.old.0 trie.old.1
         (map (λ t. t.now) texts.now) (W.contents output.old) (W.contents output.new)) }
+    ensures kept { trie.new ≡ trie.old }
 {
     match asked {
-        Asked::Value => write_values_of(alloc, trie, texts, output),
-        Asked::Longest => write_longest(alloc, trie, texts, output),
+        Asked::Value => write_values(alloc, trie, texts, output),
+        Asked::Longest => write_longest(alloc, &trie.trie(), texts, output),
     }
 }

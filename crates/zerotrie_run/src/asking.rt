@@ -19,8 +19,8 @@ use std::io::{BufWriter, Read, Write};
 use zerotrie_core::Fault;
 use zerotrie_files::Store;
 use zerotrie_queries::{
-    Asked, OpenError, Trie, write_answers, write_list, write_trie_code, write_trie_report,
-    write_trie_view,
+    Asked, OpenError, Trie, TrieLookUps, write_answers, write_list, write_trie_code,
+    write_trie_report, write_trie_view,
 };
 
 /// Why a question has no answer.
@@ -103,7 +103,10 @@ fn answer_keys<R: Read, W: Write>(
     ensures unread { are_lines keys.entry ≡ false → input.new ≡ input.old }
 {
     match keys {
-        Keys::Words(words) => Ok(write_answers(alloc, trie, asked, words, output)?),
+        Keys::Words(words) => {
+            let mut look_ups = TrieLookUps::new(alloc, *trie);
+            Ok(write_answers(alloc, &mut look_ups, asked, words, output)?)
+        }
         Keys::Lines => answer_lines(alloc, trie, asked, input, output),
     }
 }

@@ -12,7 +12,7 @@ use std::alloc::Global;
 use std::io;
 use std::io::{ErrorKind, Read, Write};
 use zerotrie_lines::{read_lines, read_more, whole_lines};
-use zerotrie_queries::{Asked, Trie, write_answers};
+use zerotrie_queries::{Asked, Trie, TrieLookUps, write_answers};
 
 /// Why there is no answer, or not all of it.
 #[derive(Debug, Drop)]
@@ -34,13 +34,14 @@ impl From<io::Error> for AnswerError {
 /// Answers some lines, hands the answers on, and tells whether all was found.
 fn answer_part<W: Write>(
     alloc: Global,
-    trie: &Trie<'_>,
+    trie: &mut TrieLookUps<'_>,
     asked: Asked,
     part: &[u8],
     output: &mut W,
 ) -> io::Result<bool>
-    ensures { IfOk result (AreAnswered asked trie.now.kind trie.now.bytes.now
+    ensures answered { IfOk result (AreAnswered asked trie.old.0 trie.old.1
         (lines_of part.now) (W.contents output.old) (W.contents output.new)) }
+    ensures kept { trie.new ≡ trie.old }
 {
     let lines = read_lines(alloc, part)?;
     let all = write_answers(alloc, trie, asked, lines.as_slice(), output)?;
@@ -81,6 +82,7 @@ pub fn answer_lines<R: Read, W: Write>(
     ensures { IfOk result (KeysAnswered asked Lines (R.remaining input.old)
         trie.now.kind trie.now.bytes.now (W.contents output.old) (W.contents output.new)) }
 {
+    let mut look_ups = TrieLookUps::new(alloc, *trie);
     let mut held = Vec::new(alloc);
     let mut all = true;
     // each loop has to end: no input has as many parts
@@ -91,7 +93,7 @@ pub fn answer_lines<R: Read, W: Write>(
             Err(error) => return Err(AnswerError::Untyped(error)),
         };
         let len = part_len(held.as_slice(), before, ended);
-        all &= answer_part(alloc, trie, asked, &held[..len], output)?;
+        all &= answer_part(alloc, &mut look_ups, asked, &held[..len], output)?;
         drop_front(&mut held, len);
         if ended {
             return Ok(all);

@@ -1,8 +1,8 @@
-use Rattle.std.proofs.Common.{◌≡◌, ◌+◌, ◌++◌, [], drop, length, sym, ◌∙◌, ap, subst, arith}
+use Rattle.std.proofs.Common.{◌≡◌, ◌+◌, ◌++◌, [], drop, length, sym, ◌∙◌, ap, arith}
 use Rattle.std.specs.Prelude.{◌&&◌}
 use Rattle.std.proofs.Math.ListN.{drop_of_length-le}
 use Rattle.zerotrie_core.specs.Maps.{look}
-use Rattle.zerotrie_core.specs.Texts.{Means}
+use Rattle.zerotrie_queries.specs.Kinds.{kind_of}
 use Rattle.zerotrie_queries.specs.Printed.{value_lines, are_found}
 use Rattle.zerotrie_queries.proofs.WriteLemmas.{wrote_more, wrote_all}
 use Rattle.zerotrie_queries.proofs.FoundLemmas.{answers_of, answers_are, cut_at, lines_cut, found_cut, and_true}
@@ -13,13 +13,13 @@ loop-begin-preserved g c = (
   c.in_ok-get_each.ensures.kept ∙ c.loop-begin.invariant.0,
   λ m means.
       let contents = g.W.Write.contents in
-      let f = look g.K.ZeroTrieWithOptions.kind m in
+      let f = look (kind_of c.args.trie.now.0) m in
       let keys = c.args.keys.now in
       let block = c.split_at-in-loop-begin.result.0.now in
       let rest = drop (c.loop-begin.begin + length block) keys in
       let old = c.loop-begin.invariant.1 m means in
       let cut = cut_at keys c.split_at.result.1.now block c.loop-begin.begin c.min.result c.split_at.ensures.back c.split_at-in-loop-begin.ensures.front c.split_at-in-loop-begin.ensures.front_len in
-      let given = c.as_slice.ensures.value ∙ c.in_ok-get_each.ensures.values m (subst (λ bytes. Means g.K.ZeroTrieWithOptions.kind bytes m) (sym c.loop-begin.invariant.0) means) ∙ ap (λ v. v ++ answers_of f block) c.clear.ensures.items in
+      let given = c.as_slice.ensures.value ∙ (rw (← c.loop-begin.invariant.0) c.in_ok-get_each.ensures.values) m means ∙ ap (λ v. v ++ answers_of f block) c.clear.ensures.items in
       let added = c.in_ok-all.ensures in
       let lines = c.as_slice-in-loop-begin.ensures.value ∙ added.0 ∙ ap (λ l. l ++ value_lines c.as_slice.result.now) c.clear-in-loop-begin.ensures.items ∙ ap value_lines given in
       let flag = added.1 ∙ ap are_found given in (
@@ -31,10 +31,10 @@ loop-begin-preserved g c = (
       ),
 )
 
-pub returns : goal.returns
-returns g c m means =
+pub returns-clause-answered : goal.returns-clause-answered
+returns-clause-answered g c m means =
     let contents = g.W.Write.contents in
-    let f = look g.K.ZeroTrieWithOptions.kind m in
+    let f = look (kind_of c.args.trie.now.0) m in
     let keys = c.args.keys.now in
     let old = c.loop-begin.invariant.1 m means in
     let none : drop c.loop-begin.begin keys ≡ [] = drop_of_length-le keys (omega arith) in (

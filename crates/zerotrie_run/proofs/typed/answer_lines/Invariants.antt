@@ -1,3 +1,4 @@
+use Rattle.std.proofs.Common.{◌≡◌}
 use Rattle.zerotrie_run.proofs.TypedLemmas.{Typed}
 use Rattle.zerotrie_run.proofs.typed.answer_lines.Given as goal
 
@@ -5,5 +6,6 @@ abbrev pub invariant-loop : goal.invariant-loop
 invariant-loop g l =
     let remaining = g.R.Read.remaining in
     let contents = g.W.Write.contents in
-    Typed l.asked l.trie.kind l.trie.bytes.now (remaining l.initial.input) (remaining l.input) l.held.items
+    (l.look_ups ≡ (l.trie.kind, l.trie.bytes.now))
+    × Typed l.asked l.trie.kind l.trie.bytes.now (remaining l.initial.input) (remaining l.input) l.held.items
     (contents l.initial.output) (contents l.output) l.all
