@@ -1,9 +1,11 @@
 //! Look-ups of many keys in a trie of a kind that is known when the program runs.
 
-ghost use Rattle.std.specs.Prelude.{◌≡◌, ◌++◌, map, OnOk};
+ghost use Rattle.std.specs.Prelude.{◌≡◌, ℕ, List, ◌++◌, map, OnOk};
 ghost use Rattle.zerotrie_core.specs.Maps.{Map, look};
 ghost use Rattle.zerotrie_core.specs.Texts.{Means};
 ghost use Rattle.zerotrie_queries.specs.Kinds.{kind_of};
+ghost use Rattle.zerotrie_queries.specs.Batches.{IsBatch};
+ghost use Rattle.zerotrie_queries.specs.declared.kind.TrieKind.{TrieKind};
 
 use crate::kind::TrieKind;
 use crate::trie::Trie;
@@ -18,6 +20,27 @@ enum Batch<'a> {
     Ignore(BatchLookUps<'a, Ignore>),
     Hash(BatchLookUps<'a, Hash>),
     Ext(BatchLookUps<'a, Ext>),
+}
+
+impl<'a> Batch<'a> {
+    /// Adds the value of each key, as `TrieLookUps::get_each` does.
+    fn get_each(
+        &mut self,
+        keys: &[&[u8]],
+        values: &mut Vec<Option<usize>>,
+    ) -> Result<(), AllocError>
+        ensures values { (kind : TrieKind) (bytes : List ℕ) → IsBatch kind bytes self.old
+            → OnOk result ((m : Map) → Means (kind_of kind) bytes m → values.new.items
+            ≡ values.old.items ++ map (λ key. look (kind_of kind) m key.now) keys.now) }
+        ensures kept { self.new ≡ self.old }
+    {
+        match self {
+            Batch::Simple(batch) => batch.get_each(keys, values),
+            Batch::Ignore(batch) => batch.get_each(keys, values),
+            Batch::Hash(batch) => batch.get_each(keys, values),
+            Batch::Ext(batch) => batch.get_each(keys, values),
+        }
+    }
 }
 
 /// Look-ups of many keys in one trie, which keep where the first bytes of keys lead.
@@ -42,7 +65,7 @@ impl<'a> Model for TrieLookUps<'a> {
 impl<'a> TrieLookUps<'a> {
     /// Look-ups in the trie. It takes no memory yet.
     pub fn new(alloc: Global, trie: Trie<'a>) -> Self
-        ensures { result ≡ (trie.kind, trie.bytes.now) }
+        ensures { result ≡ (trie.entry.kind, trie.entry.bytes.now) }
     {
         let bytes = trie.bytes;
         let batch = match trie.kind {
@@ -74,11 +97,6 @@ impl<'a> TrieLookUps<'a> {
             ++ map (λ key. look (kind_of self.old.0) m key.now) keys.now) }
         ensures kept { self.new ≡ self.old }
     {
-        match &mut self.batch {
-            Batch::Simple(batch) => batch.get_each(keys, values),
-            Batch::Ignore(batch) => batch.get_each(keys, values),
-            Batch::Hash(batch) => batch.get_each(keys, values),
-            Batch::Ext(batch) => batch.get_each(keys, values),
-        }
+        self.batch.get_each(keys, values)
     }
 }
