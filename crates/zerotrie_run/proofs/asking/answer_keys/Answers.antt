@@ -2,4 +2,4 @@ use Rattle.std.proofs.Common.{map, refl}
 use Rattle.zerotrie_run.proofs.asking.answer_keys.Goals as goal
 
 pub returns-in_ok-write_answers-in-Words-clause-answered : goal.returns-in_ok-write_answers-in-Words-clause-answered
-returns-in_ok-write_answers-in-Words-clause-answered g c = rw c.in-Words.is (map (λ word. word.now) c.in-Words.words.now, refl, rw (← c.new-look_ups.ensures) c.in_ok-write_answers-in-Words.ensures.answered)
+returns-in_ok-write_answers-in-Words-clause-answered g c = rw c.in-Words.is (map (λ word. word.now) c.in-Words.words.now, refl, rw c.new-look_ups.ensures at c.in_ok-write_answers-in-Words.ensures.answered)
