@@ -1,3 +1,4 @@
+mod batches;
 mod builder;
 mod caches;
 mod counting;

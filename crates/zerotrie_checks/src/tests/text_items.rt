@@ -8,7 +8,7 @@ use zerotrie_core::{
 };
 
 /// Pairs whose keys are the words of a text, with a space after each, and have their places as values.
-fn words(alloc: Global, text: &[u8]) -> Result<TextItems<'_>, Fail> {
+pub(super) fn words(alloc: Global, text: &[u8]) -> Result<TextItems<'_>, Fail> {
     let mut items = TextItems::new(alloc, text);
     let mut start = 0;
     for word in text.split(|byte| *byte == b' ') {
