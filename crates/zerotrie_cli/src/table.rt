@@ -94,7 +94,7 @@ pub const COMMANDS: &[Subcommand] = &[
     Subcommand {
         name: "get",
         about: "Print the values of keys",
-        help: "Example: zerotrie get names.trie amp lt\nIn memory: the file and the longest key.\nStatus: 1 if a key is not there, 2 if FILE is no trie.",
+        help: "Example: zerotrie get names.trie amp lt\nIn memory: the file, the longest key and a megabyte.\nStatus: 1 if a key is not there, 2 if FILE is no trie.",
         arguments: &[
             FILE,
             KIND,

@@ -71,7 +71,8 @@ fn drop_front(held: &mut Vec<u8>, len: usize)
 }
 
 /// Answers the lines of an input, and tells whether all was found. What one read gives is answered before the next, so a
-/// line is answered as soon as it is there, and memory holds no more than the longest line and some thousand answers.
+/// line is answered as soon as it is there, and memory holds no more than the longest line, some thousand answers, and where the
+/// first bytes of keys lead.
 pub fn answer_lines<R: Read, W: Write>(
     alloc: Global,
     trie: &Trie<'_>,
