@@ -129,15 +129,15 @@ fn are_open<K: ZeroTrieWithOptions>(look_ups: &[LookUp<'_, '_, K>]) -> bool {
     open
 }
 
-/// Goes on with all look-ups in turns.
+/// Goes on with all look-ups in turns, each time after where each goes on was read.
 fn go_on<K: ZeroTrieWithOptions>(look_ups: &mut [LookUp<'_, '_, K>])
     ensures { look_ups.new ≡ look_ups.old }
 {
     for _ in 0..TURNS {
-        take_turns(look_ups);
         if !are_open(look_ups) {
             return;
         }
+        take_turns(look_ups);
     }
 }
 
