@@ -1,6 +1,6 @@
 //! A text that is written from its last byte to its first.
 
-ghost use Rattle.std.specs.Prelude.{◌≡◌, ◌++◌, ◌<◌, ◌^◌, [], length, reverse, IfOk, OnOk};
+ghost use Rattle.std.specs.Prelude.{◌≡◌, ◌++◌, ◌<◌, ◌≤◌, ◌^◌, [], length, drop, reverse, IfOk, OnOk};
 ghost use Rattle.zerotrie_core.specs.Numbers.{value_form, spelled_as};
 ghost use Rattle.zerotrie_core.specs.plain.Encoding.{with_bits};
 
@@ -57,50 +57,72 @@ impl Backward {
     pub(crate) fn put_all(&mut self, bytes: &[u8]) -> Result<(), AllocError>
         ensures { OnOk result (self.new ≡ bytes.now ++ self.old) }
     {
-        self.written.reserve(bytes.len())?;
+        self.put_from(bytes, 0)
+    }
+
+    /// Puts the bytes from a place on in front. They are put eight at a time, the last eight with bytes in front of the place
+    /// if there are any, which are taken off again.
+    #[inline(always)]
+    pub(crate) fn put_from(&mut self, bytes: &[u8], from: usize) -> Result<(), AllocError>
+        requires { from ≤ length bytes.now }
+        ensures { OnOk result (self.new ≡ drop from bytes.now ++ self.old) }
+    {
         let mut count = bytes.len();
-        while count >= 8 {
+        while count >= 8 && count > from {
             let (_, last) = bytes[..count].split_at(count - 8);
             self.written.extend_from_slice(&turned(last))?;
             count -= 8;
         }
-        for index in (0..count).rev() {
+        if count <= from {
+            let len = self.written.len() - (from - count);
+            self.written.truncate(len);
+            return Ok(());
+        }
+        self.put_few(&bytes[from..count])?;
+        Ok(())
+    }
+
+    /// Puts bytes in front, one by one.
+    #[inline(always)]
+    fn put_few(&mut self, bytes: &[u8]) -> Result<(), AllocError>
+        ensures { OnOk result (self.new ≡ bytes.now ++ self.old) }
+    {
+        self.written.reserve(bytes.len())?;
+        for index in (0..bytes.len()).rev() {
             self.written.push_reserved(bytes[index]);
         }
         Ok(())
     }
 
-    /// Puts a value node in front. Most have one byte to four, which are put as they are found.
+    /// Puts a value node in front. Most have one byte to four, which are put at once.
     #[inline(always)]
     pub(crate) fn put_value(&mut self, value: usize) -> Result<(), AllocError>
         ensures puts { OnOk result (self.new ≡ spelled_as value_form value ++ self.old) }
         ensures small { value < 2 ^ 64 }
     {
-        self.written.reserve(4)?;
         if value < 16 {
-            self.written.push_reserved(VALUE + value as u8);
+            self.written.push(VALUE + value as u8)?;
             return Ok(());
         }
         let low = value - 16;
+        let last = (low % 128) as u8;
         if low < 2048 {
-            self.written.push_reserved((low % 128) as u8);
-            self.written.push_reserved(VALUE + 16 + (low / 128) as u8);
+            let lead = VALUE + 16 + (low / 128) as u8;
+            self.written.extend_from_slice(&[last, lead])?;
             return Ok(());
         }
         let middle = low / 128 - 16;
+        let third = 128 + (middle % 128) as u8;
         if middle < 2048 {
-            self.written.push_reserved((low % 128) as u8);
-            self.written.push_reserved(128 + (middle % 128) as u8);
-            self.written
-                .push_reserved(VALUE + 16 + (middle / 128) as u8);
+            let lead = VALUE + 16 + (middle / 128) as u8;
+            self.written.extend_from_slice(&[last, third, lead])?;
             return Ok(());
         }
         let high = middle / 128 - 16;
         if high < 2048 {
-            self.written.push_reserved((low % 128) as u8);
-            self.written.push_reserved(128 + (middle % 128) as u8);
-            self.written.push_reserved(128 + (high % 128) as u8);
-            self.written.push_reserved(VALUE + 16 + (high / 128) as u8);
+            let second = 128 + (high % 128) as u8;
+            let lead = VALUE + 16 + (high / 128) as u8;
+            self.written.extend_from_slice(&[last, third, second, lead])?;
             return Ok(());
         }
         self.put_long(value)

@@ -12,6 +12,7 @@ ghost use Rattle.zerotrie_build.specs.passes.Measured.{TargetWindows};
 ghost use Rattle.zerotrie_build.specs.passes.Writing.{window_at, edge_no, place_in, position_at, text_of, placed_next, next_of, IsHashedLayout, IsLayout, HasSlots};
 
 use crate::indexed::IndexedItems;
+use crate::last_table::LastTable;
 use crate::measuring::{Measured, is_hashed};
 use crate::windows::{Group, Window, byte_in, group_near, group_of};
 use std::alloc::{AllocError, Allocator, Global};
@@ -72,6 +73,7 @@ impl<'a> WriteInput<'a> {
 pub(crate) struct Layout<A: Allocator> {
     alloc: Global,
     cache: PerfectByteHashMapCacheOwned,
+    last: LastTable<A>,
     /// The windows of the targets, in the order of the edges.
     pub(crate) windows: Vec<Window, A>,
     /// The search table.
@@ -93,6 +95,7 @@ impl<A: Allocator + Copy> Layout<A> {
         Ok(Layout {
             alloc,
             cache: PerfectByteHashMapCacheOwned::new_empty(alloc),
+            last: LastTable::new(spare),
             windows: Vec::new(spare),
             table: Vec::new(spare),
             numbers: Vec::new(spare),
@@ -105,6 +108,7 @@ impl<A: Allocator + Copy> Layout<A> {
         Layout {
             alloc,
             cache: PerfectByteHashMapCacheOwned::new_empty(alloc),
+            last: LastTable::new(spare),
             windows: Vec::new(spare),
             table: Vec::new(spare),
             numbers: Vec::new(spare),
@@ -158,8 +162,23 @@ impl<A: Allocator + Copy> Layout<A> {
         Ok(())
     }
 
-    /// Lays the targets out in the order of a hashed table.
-    fn set_hashed(&mut self) -> Result<(), ZeroTrieBuildError>
+    /// Lays the targets out in the order of the hashed table that was made last.
+    fn set_last(&mut self) -> Result<(), AllocError>
+        requires { IsHashedLayout self.old.table.items self.old.last.table self.old.last.numbers }
+        ensures ok { OnOk result (IsHashedLayout self.old.table.items self.new.table.items
+            self.new.numbers.items) }
+        ensures windows { self.new.windows.items ≡ self.old.windows.items }
+        ensures pending { self.new.pending.items ≡ self.old.pending.items }
+    {
+        self.table.clear();
+        self.numbers.clear();
+        self.table.extend_from_slice(self.last.table())?;
+        self.numbers.extend_from_slice(self.last.numbers())?;
+        Ok(())
+    }
+
+    /// Lays the targets out in the order of a hashed table that is made.
+    fn set_new(&mut self) -> Result<(), ZeroTrieBuildError>
         requires { IsStrictlyIncreasing self.old.table.items }
         ensures ok { OnOk result (IsHashedLayout self.old.table.items self.new.table.items
             self.new.numbers.items) }
@@ -170,9 +189,28 @@ impl<A: Allocator + Copy> Layout<A> {
         let keys = Vec::from_slice(self.alloc, self.table.as_slice())?;
         let table = self.cache.try_get_or_insert(keys)?;
         set_places(&mut self.numbers, self.table.as_slice(), table.keys())?;
+        let bytes = table.as_bytes();
+        self.last
+            .keep(self.table.as_slice(), bytes, self.numbers.as_slice())?;
         self.table.clear();
-        self.table.extend_from_slice(table.as_bytes())?;
+        self.table.extend_from_slice(bytes)?;
         Ok(())
+    }
+
+    /// Lays the targets out in the order of a hashed table.
+    fn set_hashed(&mut self) -> Result<(), ZeroTrieBuildError>
+        requires { IsStrictlyIncreasing self.old.table.items }
+        ensures ok { OnOk result (IsHashedLayout self.old.table.items self.new.table.items
+            self.new.numbers.items) }
+        ensures refused { IfErr result (IsTableRefusal self.old.table.items) }
+        ensures windows { self.new.windows.items ≡ self.old.windows.items }
+        ensures pending { self.new.pending.items ≡ self.old.pending.items }
+    {
+        if self.last.is_of(self.table.as_slice()) {
+            self.set_last()?;
+            return Ok(());
+        }
+        self.set_new()
     }
 
     /// Lays the targets of the branch out that stands first in the window, and leaves the list of what is to be written

@@ -9,6 +9,7 @@ mod branch_layout;
 mod builder;
 mod indexed;
 mod konst;
+mod last_table;
 mod leaf;
 mod measuring;
 mod one_pass;

@@ -181,9 +181,9 @@ fn put_window<K: ZeroTrieWithOptions, J: LentItems, A: Allocator + Copy>(
     ensures deep { length levels.new.items ≤ length levels.old.items }
     ensures puts { OnOk result (PutsText K.kind (J.pairs items.now) window text.old text.new) }
 {
-    if let Some((literals, value)) = ascii_leaf::<&J>(items, window, ascii) {
+    if let Some((_, value)) = ascii_leaf::<&J>(items, window, ascii) {
         text.put_value(value)?;
-        text.put_all(literals)?;
+        text.put_from(items.lent(window.from).0, window.depth)?;
         return Ok(());
     }
     put_inner::<K, J, A>(items, ascii, window, levels, text, front)

@@ -3,10 +3,10 @@ use Rattle.std.proofs.Common.{◌≡◌, ℕ, zero, suc, ◌+◌, ◌-◌, ◌^�
 use Rattle.std.specs.Prelude.{slice_set, IsTrue, false}
 use Rattle.std.specs.List.{concat, range_with_len}
 use Rattle.std.proofs.Math.Nat.{pow-le-pow_right}
-use Rattle.std.proofs.Math.Seq.{drop-cons}
+use Rattle.std.proofs.Math.Seq.{drop-cons, drop-append_seam}
 use Rattle.std.proofs.lemmas.Bool.{cases_lt}
 use Rattle.std.proofs.Math.ListN.{drop_of_length-le}
-use Rattle.std.proofs.lemmas.List.{append-nil, drop-set, drop_more, drop-append-le, take-append-drop, length-take-le, length-map, reverse-append, reverse-reverse}
+use Rattle.std.proofs.lemmas.List.{append-nil, drop-set, drop_more, drop-append-le, drop-drop, take-append-drop, length-take-le, length-drop, length-map, length-reverse, reverse-append, reverse-reverse}
 use Rattle.std.proofs.lemmas.List.FromFn.{length-range_with_len, get_or-range_with_len}
 use Rattle.std.proofs.lemmas.List.Sorted.{length_permutation}
 use Rattle.std.specs.List.Sorted.{IsStrictlyIncreasing}
@@ -298,3 +298,28 @@ eight_more written now eight all bytes old count is was front part some within =
     ∙ ap (λ x. eight ++ x) was
     ∙ sym (append_assoc eight (drop count bytes) old)
     ∙ ap (λ x. x ++ old) (ap (λ x. x ++ drop count bytes) mine ∙ sym whole)
+
+-- what is taken off the end of a text is taken off the front of the text turned round
+taken_off : (w : List ℕ) (len off : ℕ) → len + off ≡ length w → reverse (take len w) ≡ drop off (reverse w)
+taken_off w len off sum =
+    let many : length (reverse (drop len w)) ≡ off = omega (arith, length-reverse (drop len w), length-drop len w, sum) in
+    let whole : reverse w ≡ reverse (drop len w) ++ reverse (take len w) = sym (ap reverse (take-append-drop len w)) ∙ reverse-append (take len w) (drop len w) in
+    sym (ap (drop off) whole ∙ ap (λ n. drop n (reverse (drop len w) ++ reverse (take len w))) (sym many) ∙ drop-append_seam (reverse (drop len w)) (reverse (take len w)))
+
+-- what was put of the bytes in front of the place is taken off
+pub cut_off : (w bytes old : List ℕ) (count from len : ℕ) → reverse w ≡ drop count bytes ++ old → count ≤ from → from ≤ length bytes → len + (from - count) ≡ length w
+    → reverse (take len w) ≡ drop from bytes ++ old
+cut_off w bytes old count from len is above within sum =
+    let short : from - count ≤ length (drop count bytes) = omega (arith, length-drop count bytes) in
+    taken_off w len (from - count) sum
+    ∙ ap (drop (from - count)) is
+    ∙ drop-append-le (from - count) (drop count bytes) old short
+    ∙ ap (λ x. x ++ old) (drop-drop (from - count) count bytes ∙ ap (λ n. drop n bytes) (let e : count + (from - count) ≡ from = omega arith in e))
+
+-- the few bytes from the place on stand in front of those that were put
+pub few_more : (bytes old : List ℕ) (count from : ℕ) → from ≤ count → take (count - from) (drop from bytes) ++ (drop count bytes ++ old) ≡ drop from bytes ++ old
+few_more bytes old count from above =
+    let next : drop (count - from) (drop from bytes) ≡ drop count bytes = drop-drop (count - from) from bytes ∙ ap (λ n. drop n bytes) (let e : from + (count - from) ≡ count = omega arith in e) in
+    sym (append_assoc (take (count - from) (drop from bytes)) (drop count bytes) old)
+    ∙ ap (λ x. take (count - from) (drop from bytes) ++ x ++ old) (sym next)
+    ∙ ap (λ x. x ++ old) (take-append-drop (count - from) (drop from bytes))

@@ -58,6 +58,12 @@ pub record IsHashedLayout (edges table numbers : List ℕ) : Type 0 where
   pub permutation : IsPermutation edges placed
   pub numbers_are : numbers ≡ map (λ b. place_in edges b) placed
 
+-- The edges of a branch, a search table, and numbers of the edges.
+pub record LaidTable : Type 0 where
+  pub edges : List ℕ
+  pub table : List ℕ
+  pub numbers : List ℕ
+
 -- The search table of a branch to this many targets, and their numbers in the order of the table.
 pub record IsLayout (kind : Kind) (edge : ℕ → ℕ) (count : ℕ) (table numbers : List ℕ) : Type 0 where
   pub is_table : IsTable kind (map edge numbers) table

@@ -1,13 +1,17 @@
-use Rattle.std.proofs.Common.{◌≡◌, ◌+◌, ◌-◌, ◌*◌, ◌^◌, ◌<◌, ◌≤◌, ◌∷◌, ◌++◌, [], length, refl, sym, ◌∙◌, ap, subst, arith, inl, drop, get_or, append_assoc, length-append}
+use Rattle.std.proofs.Common.{◌≡◌, ℕ, List, ◌+◌, ◌-◌, ◌*◌, ◌^◌, ◌<◌, ◌≤◌, ◌∷◌, ◌++◌, [], length, refl, sym, ◌∙◌, ap, subst, arith, inl, drop, get_or, append_assoc, length-append}
 use Rattle.std.proofs.lemmas.List.{length-set}
+use Rattle.std.proofs.lemmas.Option.{get_or_from_slice_get}
+use Rattle.std.specs.Prelude.{Some, slice_get}
 use Rattle.std.specs.List.{range_with_len}
 use Rattle.zerotrie_core.specs.Kind.{greatest_width}
 use Rattle.zerotrie_core.specs.Numbers.{value_form, spelled_as}
 use Rattle.zerotrie_core.specs.Branches.{total, branch_front}
+use Rattle.zerotrie_core.specs.Maps.{Pairs}
 use Rattle.zerotrie_core.proofs.CallerLemmas.{spells_spelled}
 use Rattle.zerotrie_build.specs.passes.Measured.{sizes_of}
 use Rattle.zerotrie_build.specs.passes.Walking.{IsPlaced}
-use Rattle.zerotrie_build.specs.passes.Writing.{window_at, target_lens}
+use Rattle.zerotrie_build.specs.passes.Windows.{window, item_no}
+use Rattle.zerotrie_build.specs.passes.Writing.{Listed, window_at, target_lens}
 use Rattle.zerotrie_build.specs.passes.Writes.{HasRoom}
 use Rattle.zerotrie_build.specs.passes.Backward.{PutsText, PutsTargets}
 use Rattle.zerotrie_build.proofs.WindowLemmas.NodeRuns.{stopped}
@@ -16,6 +20,9 @@ use Rattle.zerotrie_build.proofs.WriteLemmas.Fronts.{lone_listed}
 use Rattle.zerotrie_build.proofs.WriteLemmas.Backward.{placed_at, placed_after, targets_more, first_known, targets_placed, targets_rise, lens_known, lens_in_order, within_order, narrow_small, rest_size, rest_put, rest_none, fits_front, front_put, rest_whole, text_longer, not_above}
 use Rattle.zerotrie_build.proofs.WriteLemmas.Targets.{sizes_count}
 use Rattle.zerotrie_build.proofs.one_pass.+one_pass.Goals as goal
+
+lent_item : {all : Pairs} {i : ℕ} {key : List ℕ} {value : ℕ} → slice_get all i ≡ Some (key, value) → item_no all i ≡ (key, value)
+lent_item {all = all} {i = i} {key = key} {value = value} is = get_or_from_slice_get all i (key, value) ([], 0) is
 
 pub put_rest-returns-then-window-clause-puts : goal.put_rest-returns-then-window-clause-puts
 put_rest-returns-then-window-clause-puts g t c = rest_none g.K.ZeroTrieWithOptions.kind (g.J.LentItems.pairs c.args.items.now) c.args.window c.args.text.now (let h = c.if-window.true in omega arith)
@@ -199,16 +206,34 @@ put_targets-loop-index-preserved g t c =
       puts = targets_more kind all ws i numbers lens len c.args.text.now c.loop-index.text c.put_window.new.text (omega arith) v.long more text (omega arith);
     }
 
+pub put_window-lent-requires : goal.put_window-lent-requires
+put_window-lent-requires g t c κs =
+    let one = c.in-Some.ensures.is.one in
+    let within = c.requires.placed.within in
+    omega arith
+
+pub put_window-put_from-requires : goal.put_window-put_from-requires
+put_window-put_from-requires g t c κs =
+    let item = lent_item c.lent.ensures in
+    let deep = c.in-Some.ensures.is.deep in
+    let k = ap (λ e. length e.0) item in
+    omega arith
+
 pub put_window-returns-in-Some-clause-puts : goal.put_window-returns-in-Some-clause-puts
 put_window-returns-in-Some-clause-puts g t c =
     let kind = g.K.ZeroTrieWithOptions.kind in
     let all = g.J.LentItems.pairs c.args.items.now in
     let placed = c.requires.placed in
-    let literals = c.in-Some.literals.now in
+    let leaf = c.in-Some.ensures.is in
+    let key = c.lent.result.0.now in
+    let depth = c.args.window.depth in
+    let literals = drop depth key in
+    let same = ap (λ e. drop depth e.0) (lent_item c.lent.ensures) in
     let spelled = spelled_as value_form c.in-Some.value in (
       literals ++ spelled,
-      lone_listed literals c.in-Some.value placed.within c.requires.keys placed.ordered c.in-Some.ensures.is (spells_spelled 16 4 c.in-Some.value c.put_value.ensures.small (inl refl)),
-      c.in_ok-put_all.ensures ∙ ap (λ x. literals ++ x) c.in_ok-put_value.ensures.puts ∙ sym (append_assoc literals spelled c.args.text.now),
+      subst (λ x. Listed kind (x ++ spelled) (window all c.args.window)) (leaf.rest_is ∙ same)
+      (lone_listed _ c.in-Some.value placed.within c.requires.keys placed.ordered leaf (spells_spelled 16 4 c.in-Some.value c.put_value.ensures.small (inl refl))),
+      c.in_ok-put_from.ensures ∙ ap (λ x. literals ++ x) c.in_ok-put_value.ensures.puts ∙ sym (append_assoc literals spelled c.args.text.now),
     )
 
 pub put_inner-put_rest-requires : goal.put_inner-put_rest-requires

@@ -3,7 +3,7 @@ use Rattle.std.specs.Prelude.{nat_eq}
 use Rattle.std.specs.List.{IsDistinct}
 use Rattle.zerotrie_build.specs.passes.Writing.{place_in}
 use Rattle.zerotrie_build.proofs.WriteLemmas.Layouts.{up_of, up_distinct, placed}
-use Rattle.zerotrie_build.proofs.branch_layout.Layout.set_hashed.Goals as goal
+use Rattle.zerotrie_build.proofs.branch_layout.Layout.set_new.Goals as goal
 
 pub try_get_or_insert-requires : goal.try_get_or_insert-requires
 try_get_or_insert-requires g c = subst (IsDistinct nat_eq) (sym (c.in_ok-keys.ensures.items ∙ c.as_slice.ensures.value)) (up_distinct _ (up_of _ c.requires))
