@@ -122,7 +122,8 @@ impl Backward {
         if high < 2048 {
             let second = 128 + (high % 128) as u8;
             let lead = VALUE + 16 + (high / 128) as u8;
-            self.written.extend_from_slice(&[last, third, second, lead])?;
+            self.written
+                .extend_from_slice(&[last, third, second, lead])?;
             return Ok(());
         }
         self.put_long(value)

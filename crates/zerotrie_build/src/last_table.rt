@@ -21,9 +21,9 @@ impl<A: Allocator> Model for LastTable<A> {
     ghost Value = { LaidTable };
 
     ghost view = { λ t. record {
-        edges = t.edges.items;
-        table = t.table.items;
-        numbers = t.numbers.items;
+      edges = t.edges.items;
+      table = t.table.items;
+      numbers = t.numbers.items;
     } };
 
     ghost invariant = { λ t. (t.edges.items ≡ [])

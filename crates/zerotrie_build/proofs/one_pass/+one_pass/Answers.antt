@@ -21,8 +21,8 @@ use Rattle.zerotrie_build.proofs.WriteLemmas.Backward.{placed_at, placed_after, 
 use Rattle.zerotrie_build.proofs.WriteLemmas.Targets.{sizes_count}
 use Rattle.zerotrie_build.proofs.one_pass.+one_pass.Goals as goal
 
-lent_item : {all : Pairs} {i : ℕ} {key : List ℕ} {value : ℕ} → slice_get all i ≡ Some (key, value) → item_no all i ≡ (key, value)
-lent_item {all = all} {i = i} {key = key} {value = value} is = get_or_from_slice_get all i (key, value) ([], 0) is
+lent_item : (all : Pairs) (i : ℕ) (key : List ℕ) (value : ℕ) → slice_get all i ≡ Some (key, value) → item_no all i ≡ (key, value)
+lent_item all i key value is = get_or_from_slice_get all i (key, value) ([], 0) is
 
 pub put_rest-returns-then-window-clause-puts : goal.put_rest-returns-then-window-clause-puts
 put_rest-returns-then-window-clause-puts g t c = rest_none g.K.ZeroTrieWithOptions.kind (g.J.LentItems.pairs c.args.items.now) c.args.window c.args.text.now (let h = c.if-window.true in omega arith)
@@ -207,16 +207,17 @@ put_targets-loop-index-preserved g t c =
     }
 
 pub put_window-lent-requires : goal.put_window-lent-requires
-put_window-lent-requires g t c κs =
+put_window-lent-requires g t c =
     let one = c.in-Some.ensures.is.one in
     let within = c.requires.placed.within in
     omega arith
 
 pub put_window-put_from-requires : goal.put_window-put_from-requires
-put_window-put_from-requires g t c κs =
-    let item = lent_item c.lent.ensures in
+put_window-put_from-requires g t c =
+    let all = g.J.LentItems.pairs c.args.items.now in
+    let item = lent_item all c.args.window.from c.lent.result.0.now c.lent.result.1 c.lent.ensures in
     let deep = c.in-Some.ensures.is.deep in
-    let k = ap (λ e. length e.0) item in
+    let k : length (item_no all c.args.window.from).0 ≡ length c.lent.result.0.now = ap (λ e. length e.0) item in
     omega arith
 
 pub put_window-returns-in-Some-clause-puts : goal.put_window-returns-in-Some-clause-puts
@@ -228,11 +229,11 @@ put_window-returns-in-Some-clause-puts g t c =
     let key = c.lent.result.0.now in
     let depth = c.args.window.depth in
     let literals = drop depth key in
-    let same = ap (λ e. drop depth e.0) (lent_item c.lent.ensures) in
+    let same = ap (λ e. drop depth e.0) (lent_item all c.args.window.from key c.lent.result.1 c.lent.ensures) in
     let spelled = spelled_as value_form c.in-Some.value in (
       literals ++ spelled,
       subst (λ x. Listed kind (x ++ spelled) (window all c.args.window)) (leaf.rest_is ∙ same)
-      (lone_listed _ c.in-Some.value placed.within c.requires.keys placed.ordered leaf (spells_spelled 16 4 c.in-Some.value c.put_value.ensures.small (inl refl))),
+          (lone_listed _ c.in-Some.value placed.within c.requires.keys placed.ordered leaf (spells_spelled 16 4 c.in-Some.value c.put_value.ensures.small (inl refl))),
       c.in_ok-put_from.ensures ∙ ap (λ x. literals ++ x) c.in_ok-put_value.ensures.puts ∙ sym (append_assoc literals spelled c.args.text.now),
     )
 
