@@ -1,8 +1,9 @@
 -- Calls to a disk, one after another.
-use Rattle.std.proofs.Common.{◌≡◌, ◌≢◌, ◌⊎◌, ◌∙◌, ℕ, List, ◌++◌, Option, Some, None, Result, Ok, Err, inl, inr, sym, ap, append_assoc}
+use Rattle.std.proofs.Common.{◌≡◌, ◌≢◌, ◌⊎◌, ◌∙◌, ℕ, Bool, true, false, Decides, bytes_eq, refl, true≢false, List, ◌++◌, Option, Some, None, Result, Ok, Err, MatchResult, inl, inr, sym, ap, append_assoc}
 use Rattle.std.specs.declared.io.Error.{Error}
 use Rattle.std.proofs.lemmas.List.Elements.{All-append, All-weaker}
-use Rattle.zerotrie_files.specs.Disks.{Files, Story, Known, Passes, SameBeside, Same, Moved, WritesNew, Renames, Removes, IsWhole, Replaces}
+use Rattle.std.proofs.lemmas.Slice.Eq.{bytes_eq-Decides}
+use Rattle.zerotrie_files.specs.Disks.{Files, Story, Known, Passes, SameBeside, Same, Moved, Holds, WritesNew, Renames, Removes, IsWhole, Replaces}
 
 -- what holds over a call and over the next
 pub known_then : (F G H : Story → Story → Type 0) (x y z : Option Story) → ((a b c : Story) → F a b → G b c → H a c) → Known x y F → Known y z G → Known x z H
@@ -10,6 +11,11 @@ known_then F G H None y z join f g = tt
 known_then F G H (Some a) None z join f g = absurd f
 known_then F G H (Some a) (Some b) None join f g = absurd g
 known_then F G H (Some a) (Some b) (Some c) join f g = join a b c f g
+
+pub known_by : (F H : Story → Story → Type 0) (x y : Option Story) → ((a b : Story) → F a b → H a b) → Known x y F → Known x y H
+known_by F H None y by f = tt
+known_by F H (Some a) None by f = absurd f
+known_by F H (Some a) (Some b) by f = by a b f
 
 -- moments of a call and then those of the next
 pub passes_then : (Fact First Second : Files → Type 0) (a b c : Story) → ((f : Files) → First f → Fact f) → ((f : Files) → Second f → Fact f) → Passes First a b → Passes Second b c
@@ -53,29 +59,39 @@ whole_moved path beside bytes old now f apart same holds (inr moved) = record {
   others = λ other off far. moved.others other far off ∙ same other far;
 }
 
--- a new file was written, and it took the path or not
-abbrev pub Tried : List ℕ → List ℕ → List ℕ → Result (Unit {0}) Error → Story → Story → Type 0
-Tried path beside bytes r a d = (a.now beside ≡ None) × Replaces path beside bytes r a d
+decided : (b : Bool) (P : Type 0) → Decides b P → P ⊎ (P → ⊥)
+decided true P h = inl (h.0 refl)
+decided false P h = inr (λ p. absurd (true≢false (sym (h.1 p))))
 
--- a file that was not written whole has taken no path
-pub not_written : (path beside bytes : List ℕ) (w : Result (Unit {0}) Error) (e : Error) (a b : Story) → beside ≢ path → w ≡ Err e → WritesNew beside bytes w a b
-    → Replaces {T = Unit {0}} path beside bytes (Err e) a b
-not_written path beside bytes w e a b apart is h =
-    let failed = rw is at h in (
-      passes_by (IsWhole path beside bytes a.now) (SameBeside beside a.now) a b (λ f s. whole_beside path beside bytes a.now f apart s) failed.0,
-      (failed.0.ends path (λ i. apart (sym i)), failed.1),
-    )
+-- a path is another or not
+pub is_path_or_not : (path other : List ℕ) → (other ≡ path) ⊎ (other ≢ path)
+is_path_or_not path other = decided (bytes_eq other path) (other ≡ path) (bytes_eq-Decides other path)
+
+-- the file of the path holds the bytes, and there is none beside it as before
+holds_alone : (path beside bytes : List ℕ) (old f : Files) → IsWhole path beside bytes old f → old beside ≡ None → f beside ≡ None → f path ≡ Some bytes → Holds path bytes old f
+holds_alone path beside bytes old f w was is holds = (
+  holds,
+  λ other off. elim (is_path_or_not beside other) [
+    | inl e ↦ rw e (is ∙ sym was)
+    | inr far ↦ w.others other off far
+  ],
+)
+
+-- A new file was written, and it took the path or not.
+pub record Tried (path beside bytes : List ℕ) (r : Result (Unit {0}) Error) (a d : Story) : Type 0 where
+  pub free : a.now beside ≡ None
+  pub passes : Passes (IsWhole path beside bytes a.now) a d
+  pub ended : MatchResult r (λ _. Holds path bytes a.now d.now) (λ _. d.now path ≡ a.now path)
 
 -- one that was written and took no path is removed
 pub then_removed : (path beside bytes : List ℕ) (e : Error) (w : Result (Unit {0}) Error) (a b d : Story) → beside ≢ path → Tried path beside bytes (Err e) a b
     → Removes beside w b d
-    → Replaces {T = Unit {0}} path beside bytes (Err e) a d
-then_removed path beside bytes e w a b d apart tried r =
-    let h = tried.1 in (
-      passes_then (IsWhole path beside bytes a.now) (IsWhole path beside bytes a.now) (SameBeside beside b.now) a b d (λ f w. w)
-          (λ f s. whole_still path beside bytes a.now b.now f apart h.0.ends s) h.0 r.0,
-      (r.0.ends path (λ i. apart (sym i)) ∙ h.1.0, λ some. absurd (some tried.0)),
-    )
+    → Replaces path beside bytes (Err e) a d
+then_removed path beside bytes e w a b d apart h r = (
+  passes_then (IsWhole path beside bytes a.now) (IsWhole path beside bytes a.now) (SameBeside beside b.now) a b d (λ f w. w)
+      (λ f s. whole_still path beside bytes a.now b.now f apart h.passes.ends s) h.passes r.0,
+  (r.0.ends path (λ i. apart (sym i)) ∙ h.ended, λ some. absurd (some h.free)),
+)
 
 passes_moved : (path beside bytes : List ℕ) (r : Result (Unit {0}) Error) (a b d : Story) → beside ≢ path → Passes (SameBeside beside a.now) a b → b.now beside ≡ Some bytes
     → Renames beside path r b d → Passes (IsWhole path beside bytes a.now) a d
@@ -84,11 +100,27 @@ passes_moved path beside bytes r a b d apart p holds moves =
     (λ f s. whole_beside path beside bytes a.now f apart s) (λ f m. whole_moved path beside bytes a.now b.now f apart p.ends holds m) p moves.0
 
 -- a file that was written takes the path, or does not
-pub then_moved : (path beside bytes : List ℕ) (w r : Result (Unit {0}) Error) (a b d : Story) → beside ≢ path → w ≡ Ok tt → WritesNew beside bytes w a b → Renames beside path r b d
+pub then_moved : (path beside bytes : List ℕ) (r : Result (Unit {0}) Error) (a b d : Story) → beside ≢ path → WritesNew {E = Error} beside bytes (Ok true) a b → Renames beside path r b d
     → Tried path beside bytes r a d
-then_moved path beside bytes w (Ok u) a b d apart ok written moves =
-    let done = rw ok at written in
-    (done.1.0, (passes_moved path beside bytes (Ok u) a b d apart done.0 done.1.1 moves, (moves.1.there ∙ done.1.1, moves.1.gone apart ∙ sym done.1.0)))
-then_moved path beside bytes w (Err e) a b d apart ok written moves =
-    let done = rw ok at written in
-    (done.1.0, (passes_moved path beside bytes (Err e) a b d apart done.0 done.1.1 moves, (moves.1 path ∙ done.0.ends path (λ i. apart (sym i)), λ some. absurd (some done.1.0))))
+then_moved path beside bytes (Ok u) a b d apart done moves =
+    let p = passes_moved path beside bytes (Ok u) a b d apart done.0 done.1.1 moves in record {
+      free = done.1.0;
+      passes = p;
+      ended = holds_alone path beside bytes a.now d.now p.ends done.1.0 (moves.1.gone apart) (moves.1.there ∙ done.1.1);
+    }
+then_moved path beside bytes (Err e) a b d apart done moves = record {
+  free = done.1.0;
+  passes = passes_moved path beside bytes (Err e) a b d apart done.0 done.1.1 moves;
+  ended = moves.1 path ∙ done.0.ends path (λ i. apart (sym i));
+}
+
+pub known_tried : (path beside bytes : List ℕ) (r : Result (Unit {0}) Error) (x y z : Option Story) → beside ≢ path → Known x y (WritesNew {E = Error} beside bytes (Ok true))
+    → Known y z (Renames beside path r)
+    → Known x z (Tried path beside bytes r)
+known_tried path beside bytes r x y z apart w m =
+    known_then (WritesNew {E = Error} beside bytes (Ok true)) (Renames beside path r) (Tried path beside bytes r) x y z
+    (λ a b d done moves. then_moved path beside bytes r a b d apart done moves) w m
+
+-- one that took the path is whole
+pub replaced : (path beside bytes : List ℕ) (a d : Story) → Tried path beside bytes (Ok tt) a d → Replaces {E = Error} path beside bytes (Ok true) a d
+replaced path beside bytes a d h = (h.passes, (h.free, h.ended))

@@ -1,5 +1,5 @@
 -- A disk from moment to moment, and what the calls that replace a file do to it.
-use Rattle.std.specs.Prelude.{◌≡◌, ◌≢◌, ◌⊎◌, ℕ, List, ◌++◌, All, Option, Some, None, Result, MatchResult, OnOk}
+use Rattle.std.specs.Prelude.{◌≡◌, ◌≢◌, ◌⊎◌, ℕ, Bool, List, ◌++◌, All, Option, Some, None, Result, MatchBool, MatchResult, OnOk}
 
 -- what the file of each path holds, if there is one; each path is a file of its own, so links are left out
 abbrev pub Files : Type 0
@@ -45,11 +45,17 @@ pub record Moved (from to : List ℕ) (old new : Files) : Type 0 where
 abbrev pub Spares : List ℕ → Story → Story → Type 0
 Spares path old new = old.now path ≢ None → Stays old new
 
--- a new file is written: other files stay at each moment; if all went well there was none, and it holds the bytes; if there is one,
--- it fails, and no file changes
-abbrev pub WritesNew : {T E : Type 0} → List ℕ → List ℕ → Result T E → Story → Story → Type 0
+-- there is a file at the path, and no file changes
+abbrev pub IsTaken : List ℕ → Story → Story → Type 0
+IsTaken path old new = (old.now path ≢ None) × Stays old new
+
+-- a new file is written: other files stay at each moment; if the path was free, there was no file at it, and now one holds the
+-- bytes; else there is one, and no file changes, nor does one change if there is one and it fails
+abbrev pub WritesNew : {E : Type 0} → List ℕ → List ℕ → Result Bool E → Story → Story → Type 0
 WritesNew path bytes result old new = Passes (SameBeside path old.now) old new
-    × MatchResult result (λ _. (old.now path ≡ None) × (new.now path ≡ Some bytes)) (λ _. Spares path old new)
+    × MatchResult result
+    (λ free. MatchBool free ((old.now path ≡ None) × (new.now path ≡ Some bytes)) (IsTaken path old new))
+    (λ _. Spares path old new)
 
 -- a file is given another path, with no moment between before and after
 abbrev pub Renames : {T E : Type 0} → List ℕ → List ℕ → Result T E → Story → Story → Type 0
@@ -70,9 +76,11 @@ pub record IsWhole (path beside bytes : List ℕ) (old new : Files) : Type 0 whe
 abbrev pub Holds : List ℕ → List ℕ → Files → Files → Type 0
 Holds path bytes old new = (new path ≡ Some bytes) × SameBeside path old new
 
--- a file is replaced: it is whole at each moment; if all went well it holds the bytes, and what was beside it stays; else it holds
--- what it held, and if there was a file beside it, no file changed
-abbrev pub Replaces : {T E : Type 0} → List ℕ → List ℕ → List ℕ → Result T E → Story → Story → Type 0
+-- a file is replaced: it is whole at each moment; if the path beside it was free, the file holds the bytes, and all others what
+-- they held; else there is a file beside it, and no file changes; if it fails, the file holds what it held, and if there is a
+-- file beside it, no file changes
+abbrev pub Replaces : {E : Type 0} → List ℕ → List ℕ → List ℕ → Result Bool E → Story → Story → Type 0
 Replaces path beside bytes result old new = Passes (IsWhole path beside bytes old.now) old new
-    × MatchResult result (λ _. (new.now path ≡ Some bytes) × (new.now beside ≡ old.now beside))
+    × MatchResult result
+    (λ free. MatchBool free ((old.now beside ≡ None) × Holds path bytes old.now new.now) (IsTaken beside old new))
     (λ _. (new.now path ≡ old.now path) × Spares beside old new)

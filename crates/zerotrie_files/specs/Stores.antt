@@ -1,7 +1,7 @@
 -- What files hold before and after one of them is replaced.
-use Rattle.std.specs.Prelude.{◌≡◌, ◌⊎◌, ℕ, List, None, Result, MatchResult}
+use Rattle.std.specs.Prelude.{◌≡◌, ◌≢◌, ◌⊎◌, ℕ, List, Some, None, Result, MatchResult}
 use Rattle.std.specs.Io.{StartsWith}
-use Rattle.zerotrie_files.specs.Disks.{Files, Holds}
+use Rattle.zerotrie_files.specs.Disks.{Files, Story, Passes, Holds}
 
 -- the file of the path holds what it held, and so do all files, but that new ones may be left whose paths begin with that path
 abbrev pub Kept : List ℕ → Files → Files → Type 0
@@ -11,3 +11,13 @@ Kept path old new = (new path ≡ old path)
 -- the file of the path holds the bytes, and the files of all other paths what they held; or it failed, and the file holds what it held
 abbrev pub Rewrites : {T E : Type 0} → List ℕ → List ℕ → Result T E → Files → Files → Type 0
 Rewrites path bytes result old new = MatchResult result (λ _. Holds path bytes old new) (λ _. Kept path old new)
+
+-- The file of the path holds what it held or all of the bytes, and the files of other paths what they held, but that there may be
+-- new ones whose paths begin with that path.
+pub record IsWholeAlone (path bytes : List ℕ) (old new : Files) : Type 0 where
+  pub whole : (new path ≡ old path) ⊎ (new path ≡ Some bytes)
+  pub others : (other : List ℕ) → other ≢ path → (new other ≡ old other) ⊎ ((old other ≡ None) × StartsWith other path)
+
+-- a file is replaced by way of new ones beside it: it is whole at each moment, and in the end it is rewritten
+abbrev pub ReplacesBeside : {T E : Type 0} → List ℕ → List ℕ → Result T E → Story → Story → Type 0
+ReplacesBeside path bytes result old new = Passes (IsWholeAlone path bytes old.now) old new × Rewrites path bytes result old.now new.now

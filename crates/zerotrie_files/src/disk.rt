@@ -10,9 +10,9 @@ pub trait Disk {
     /// What the files hold, and held from moment to moment. `None` says nothing of them.
     ghost story: { Self → Option Story };
 
-    /// Writes a new file, and has it on the disk before it returns. If there is a file at the path, it fails, and that
-    /// file stays. After any other error what was written is removed, if that can be done.
-    fn write_new(&mut self, path: &str, bytes: &[u8]) -> io::Result<()>
+    /// Writes a new file, if the path is free, and has it on the disk before it returns. `false` if there is a file at
+    /// the path, and that file stays. After an error what was written is removed, if that can be done.
+    fn write_new(&mut self, path: &str, bytes: &[u8]) -> io::Result<bool>
         ensures { Known (story self.old) (story self.new) (WritesNew path.now bytes.now result) };
 
     /// Gives a file another path, in place of the file that has it. There is no moment between.

@@ -9,5 +9,5 @@ mod system;
 
 pub use disk::Disk;
 pub use output::write_output;
-pub use replacing::replace;
+pub use replacing::{replace, replace_beside};
 pub use store::{Store, SystemStore};

@@ -1,19 +1,12 @@
 //! The file that bytes go to.
 
-ghost use Rattle.std.specs.Prelude.{◌≢◌, IfOk};
-ghost use Rattle.std.specs.String.{string_bytes};
-
-use crate::replacing::replace;
+use crate::replacing::replace_beside;
 use crate::system::SystemDisk;
-use std::alloc::{AllocError, Global};
 use std::fs::{Metadata, OpenOptions, Permissions};
 use std::io::{ErrorKind, Write};
 use std::os::unix::fs::PermissionsExt;
 use std::rt::Files;
 use std::{fs, io};
-
-/// How many paths beside a file are tried.
-const MOST_TRIES: usize = 100;
 
 /// What stands at a path that bytes go to.
 #[derive(Drop)]
@@ -68,15 +61,6 @@ fn target_of<R: Files + AllocGlobal>(rt: &R, path: &str) -> io::Result<Target> {
     }
 }
 
-/// A path in the folder of a file, which is another than the file's.
-fn path_beside(alloc: Global, path: &str, number: usize) -> Result<String, AllocError>
-    ensures { IfOk result (λ beside. string_bytes beside ≢ path.now) }
-{
-    let mut beside = format!(in alloc; "{path}.{number}")?;
-    beside.push_str(".tmp")?;
-    Ok(beside)
-}
-
 /// Replaces a file by the bytes, or makes it.
 fn write_file<R: Files + AllocGlobal>(
     rt: &R,
@@ -85,14 +69,7 @@ fn write_file<R: Files + AllocGlobal>(
     bytes: &[u8],
 ) -> io::Result<()> {
     let mut disk = SystemDisk::new(rt, permissions);
-    for number in 0..MOST_TRIES {
-        let beside = path_beside(rt.alloc(), path, number)?;
-        match replace(&mut disk, path, beside.as_str(), bytes) {
-            Err(error) if error.kind() == ErrorKind::AlreadyExists => {}
-            done => return done,
-        }
-    }
-    Err(io::Error::from(ErrorKind::AlreadyExists))
+    replace_beside(rt.alloc(), &mut disk, path, bytes)
 }
 
 /// Writes the bytes to the file of a path, in place of what it held, or makes it. A fault leaves what it held.

@@ -1,27 +1,71 @@
 //! A file that is replaced as a whole.
 
-ghost use Rattle.std.specs.Prelude.{◌≢◌};
+ghost use Rattle.std.specs.Prelude.{◌≢◌, IfOk};
+ghost use Rattle.std.specs.Io.{StartsWith};
+ghost use Rattle.std.specs.String.{string_bytes};
 ghost use Rattle.zerotrie_files.specs.Disks.{Known, Replaces};
+ghost use Rattle.zerotrie_files.specs.Stores.{ReplacesBeside};
 
 use crate::disk::Disk;
+use std::alloc::{AllocError, Global};
 use std::io;
+use std::io::ErrorKind;
 
-/// Replaces the file of a path by these bytes, or makes it. They are written to a new file at the path `beside`, which
-/// is then given the path.
+/// How many paths beside a file are tried.
+const MOST_TRIES: usize = 100;
+
+/// Replaces the file of a path by these bytes, or makes it, if the path `beside` is free. They are written to a new
+/// file there, which is then given the path. `false` if there is a file at `beside`, and then no file changes.
 ///
 /// At each moment the file holds what it held or all of the bytes. After an error it holds what it held, and what was
-/// written beside it is removed, if that can be done. If there is a file at `beside`, it fails, and that file stays.
-pub fn replace<D: Disk>(disk: &mut D, path: &str, beside: &str, bytes: &[u8]) -> io::Result<()>
+/// written beside it is removed, if that can be done.
+pub fn replace<D: Disk>(disk: &mut D, path: &str, beside: &str, bytes: &[u8]) -> io::Result<bool>
     requires { beside.now ≢ path.now }
     ensures { Known (D.story disk.old) (D.story disk.new)
         (Replaces path.now beside.now bytes.now result) }
 {
-    disk.write_new(beside, bytes)?;
+    if !disk.write_new(beside, bytes)? {
+        return Ok(false);
+    }
     match disk.rename(beside, path) {
-        Ok(()) => Ok(()),
+        Ok(()) => Ok(true),
         Err(error) => {
             let _ = disk.remove(beside);
             Err(error)
         }
     }
+}
+
+/// A path in the folder of a file, which is another than the file's.
+fn path_beside(alloc: Global, path: &str, number: usize) -> Result<String, AllocError>
+    ensures begins { IfOk result (λ beside. StartsWith (string_bytes beside) path.now) }
+    ensures another { IfOk result (λ beside. string_bytes beside ≢ path.now) }
+{
+    let mut beside = format!(in alloc; "{path}.{number}")?;
+    beside.push_str(".tmp")?;
+    Ok(beside)
+}
+
+/// Replaces the file of a path by these bytes, or makes it. They are written to a new file in the same folder, whose
+/// path begins with that path, and which is then given the path.
+///
+/// At each moment the file holds what it held or all of the bytes, and no other file changes that was there. After an
+/// error it holds what it held, and what was written beside it is removed, if that can be done. If there are files at
+/// all of the paths that are tried, it fails with `AlreadyExists`.
+pub fn replace_beside<D: Disk>(
+    alloc: Global,
+    disk: &mut D,
+    path: &str,
+    bytes: &[u8],
+) -> io::Result<()>
+    ensures { Known (D.story disk.old) (D.story disk.new)
+        (ReplacesBeside path.now bytes.now result) }
+{
+    for number in 0..MOST_TRIES {
+        let beside = path_beside(alloc, path, number)?;
+        if replace(disk, path, beside.as_str(), bytes)? {
+            return Ok(());
+        }
+    }
+    Err(io::Error::from(ErrorKind::AlreadyExists))
 }

@@ -4,7 +4,7 @@ ghost use Rattle.std.specs.Prelude.{None};
 
 use crate::disk::Disk;
 use std::fs::{File, OpenFile, Permissions};
-use std::io::Write;
+use std::io::{ErrorKind, Write};
 use std::rt::Files;
 use std::{fs, io};
 
@@ -34,10 +34,14 @@ impl<'a, R: Files> SystemDisk<'a, R> {
 impl<'a, R: Files> Disk for SystemDisk<'a, R> {
     ghost story = { λ _. None };
 
-    fn write_new(&mut self, path: &str, bytes: &[u8]) -> io::Result<()> {
-        let mut file = File::create_new(self.files, path)?;
+    fn write_new(&mut self, path: &str, bytes: &[u8]) -> io::Result<bool> {
+        let mut file = match File::create_new(self.files, path) {
+            Ok(file) => file,
+            Err(error) if error.kind() == ErrorKind::AlreadyExists => return Ok(false),
+            Err(error) => return Err(error),
+        };
         match self.fill(&mut file, bytes) {
-            Ok(()) => Ok(()),
+            Ok(()) => Ok(true),
             Err(error) => {
                 let _ = self.remove(path);
                 Err(error)
