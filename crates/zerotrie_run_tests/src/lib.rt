@@ -1,6 +1,13 @@
 //! The tests of `zerotrie_run`, which has none of its own: tests are proved together with all of the crate that they
-//! stand in. Files are a fake in memory, and streams are lists of bytes.
+//! stand in. Streams are lists of bytes, and files are in memory, where it is known what they hold: so the clauses on files
+//! of `zerotrie_files` and `zerotrie_run` say something of them.
 #![tactic(auto)]
+
+mod fake;
+mod memory;
+
+pub use fake::Fake;
+pub use memory::MemoryDisk;
 
 #[cfg(test)]
 mod tests;

@@ -1,6 +1,6 @@
-mod fake;
+mod files;
 
-use fake::Fake;
+use crate::fake::Fake;
 use std::alloc::Global;
 use std::io::{BufWriter, Read};
 use std::process::Abort;

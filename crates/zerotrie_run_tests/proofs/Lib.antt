@@ -1,0 +1,2 @@
+mod FakeLemmas
+mod StepLemmas

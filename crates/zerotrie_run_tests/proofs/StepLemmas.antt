@@ -1,0 +1,74 @@
+-- What a step changes.
+use Rattle.std.proofs.Common.{◌≡◌, ◌≢◌, ◌∙◌, ℕ, List, [], ◌∷◌, ◌++◌, reverse, cond, Option, Some, None, bytes_eq, string_bytes, String, Vec, Global, Bor, is_some, false, option_map, append_assoc, sym, refl}
+use Rattle.std.proofs.lemmas.List.{reverse-append}
+use Rattle.std.proofs.lemmas.List.Elements.{All-nil, All-cons}
+use Rattle.std.proofs.lemmas.Slice.Eq.{bytes_eq-Decides}
+use Rattle.zerotrie_files.specs.Disks.{Files, Passes, SameBeside, Moved, Holds}
+use Rattle.zerotrie_run_tests.specs.declared.memory.Step.{Step}
+use Rattle.zerotrie_run_tests.specs.declared.memory.Step.TheVariants.{Wrote, Renamed, Removed}
+use Rattle.zerotrie_run_tests.specs.Steps.{after, files_after, moments_after, story_of}
+use Rattle.zerotrie_run_tests.proofs.FakeLemmas.{pick_first, pick_next}
+
+-- a step is a moment
+pub one_step : (Fact : Files → Type 0) (steps : List Step) (step : Step) → Fact (after step (files_after (reverse steps))) → Passes Fact (story_of steps) (story_of (steps ++ step ∷ []))
+one_step Fact steps step h = rw (reverse-append steps (step ∷ []))
+    (record { between = after step (files_after (reverse steps)) ∷ []; is = refl; each = All-cons Fact (after step (files_after (reverse steps))) [] h (All-nil Fact); ends = h })
+
+here : (path : List ℕ) (x y : Option (List ℕ)) → cond (bytes_eq path path) x y ≡ x
+here path x y = pick_first (bytes_eq path path) x y ((bytes_eq-Decides path path).1 refl)
+
+there : (path other : List ℕ) (x y : Option (List ℕ)) → other ≢ path → cond (bytes_eq path other) x y ≡ y
+there path other x y off = pick_next (bytes_eq path other) x y (λ e. off (sym ((bytes_eq-Decides path other).0 e)))
+
+pub written : (name : String Global) (bytes : Vec ℕ Global) (path : List ℕ) (old : Files) → string_bytes name ≡ path → Holds path bytes.items old (after (Wrote name bytes) old)
+written name bytes path old is = rw is (here path (Some bytes.items) (old path), λ other off. there path other (Some bytes.items) (old other) off)
+
+pub removed : (name : String Global) (path : List ℕ) (old : Files) → string_bytes name ≡ path → SameBeside path old (after (Removed name) old) × (after (Removed name) old path ≡ None)
+removed name path old is = rw is ((λ other off. there path other None (old other) off), here path None (old path))
+
+moved_by : (from to : List ℕ) (old : Files) → Moved from to old (λ path. cond (bytes_eq to path) (old from) (cond (bytes_eq from path) None (old path)))
+moved_by from to old = record {
+  there = here to (old from) (cond (bytes_eq from to) None (old to));
+  gone = λ apart. there to from (old from) (cond (bytes_eq from from) None (old from)) apart ∙ here from None (old from);
+  others = λ other off far. there to other (old from) (cond (bytes_eq from other) None (old other)) far ∙ there from other None (old other) off;
+}
+
+pub moved : (from to : String Global) (old_path new_path : List ℕ) (old : Files) → string_bytes from ≡ old_path → string_bytes to ≡ new_path → Moved old_path new_path old (after (Renamed from to) old)
+moved from to old_path new_path old is_from is_to = rw (← is_from, ← is_to) (moved_by (string_bytes from) (string_bytes to) old)
+
+-- what the files hold after a step
+pub now_after : (steps : List Step) (step : Step) (path : List ℕ) → files_after (reverse (steps ++ step ∷ [])) path ≡ after step (files_after (reverse steps)) path
+now_after steps step path = rw (reverse-append steps (step ∷ [])) refl
+
+pub moved_now : (steps : List Step) (step : Step) (from to : List ℕ) → Moved from to (files_after (reverse steps)) (after step (files_after (reverse steps)))
+    → Moved from to (files_after (reverse steps)) (files_after (reverse (steps ++ step ∷ [])))
+moved_now steps step from to m = rw (reverse-append steps (step ∷ [])) m
+
+-- two steps are two moments
+pub two_steps : (Fact : Files → Type 0) (steps : List Step) (one two : Step) → Fact (after one (files_after (reverse steps))) → Fact (after two (after one (files_after (reverse steps))))
+    → Passes Fact (story_of steps) (story_of ((steps ++ one ∷ []) ++ two ∷ []))
+two_steps Fact steps one two h k =
+    let first = after one (files_after (reverse steps)) in
+    let second = after two first in
+    rw (reverse-append (steps ++ one ∷ []) (two ∷ []), reverse-append steps (one ∷ []))
+    (record {
+      between = first ∷ second ∷ [];
+      is = append_assoc (moments_after (reverse steps)) (first ∷ []) (second ∷ []);
+      each = All-cons Fact first (second ∷ []) h (All-cons Fact second [] k (All-nil Fact));
+      ends = k;
+    })
+
+pub second_now : (steps : List Step) (one two : Step) (path : List ℕ) → files_after (reverse ((steps ++ one ∷ []) ++ two ∷ [])) path ≡ after two (after one (files_after (reverse steps))) path
+second_now steps one two path = rw (reverse-append (steps ++ one ∷ []) (two ∷ []), reverse-append steps (one ∷ [])) refl
+
+-- a file that is written twice
+pub written_twice : (one two : String Global) (empty bytes : Vec ℕ Global) (path : List ℕ) (old : Files) → string_bytes one ≡ path → string_bytes two ≡ path
+    → Holds path bytes.items old (after (Wrote two bytes) (after (Wrote one empty) old))
+written_twice one two empty bytes path old is_one is_two =
+    let first = written one empty path old is_one in
+    let second = written two bytes path (after (Wrote one empty) old) is_two in
+    (second.0, λ other off. second.1 other off ∙ first.1 other off)
+
+pub none_here : (found : Option (Bor (List ℕ))) (held : Option (List ℕ)) → is_some found ≡ false → option_map (λ b. b.now) found ≡ held → held ≡ None
+none_here None held none e = sym e
+none_here (Some b) held none e = cc

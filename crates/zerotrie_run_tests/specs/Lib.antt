@@ -1,0 +1,2 @@
+pub mod Fakes
+pub mod Steps

@@ -1,0 +1,114 @@
+//! A disk in memory, whose moments are known.
+
+ghost use Rattle.std.specs.Prelude.{◌≡◌, [], Some, option_map, reverse, string_bytes};
+ghost use Rattle.zerotrie_run_tests.specs.Steps.{files_after, story_of};
+
+use std::alloc::Global;
+use std::io;
+use std::io::ErrorKind;
+use zerotrie_files::Disk;
+
+/// What a disk did.
+#[derive(Drop)]
+enum Step {
+    /// A file at this path holds these bytes.
+    Wrote(String, Vec<u8>),
+    /// The file of the first path has the second.
+    Renamed(String, String),
+    /// There is no file at this path.
+    Removed(String),
+}
+
+/// A disk in memory: what it did, step by step, and there is a moment after each step.
+#[derive(Drop)]
+pub struct MemoryDisk {
+    alloc: Global,
+    steps: Vec<Step>,
+}
+
+/// What the file of a path holds after these steps.
+fn held_after<'s>(steps: &'s [Step], path: &str) -> Option<&'s [u8]>
+    ensures { option_map (λ bytes. bytes.now) result ≡ files_after (reverse steps.now) path.now }
+{
+    match steps.split_last() {
+        None => None,
+        Some((step, before)) => match step {
+            Step::Wrote(name, bytes) => {
+                if name.as_str() == path {
+                    Some(bytes.as_slice())
+                } else {
+                    held_after(before, path)
+                }
+            }
+            Step::Renamed(from, to) => {
+                if to.as_str() == path {
+                    held_after(before, from.as_str())
+                } else if from.as_str() == path {
+                    None
+                } else {
+                    held_after(before, path)
+                }
+            }
+            Step::Removed(name) => {
+                if name.as_str() == path {
+                    None
+                } else {
+                    held_after(before, path)
+                }
+            }
+        },
+    }
+}
+
+impl MemoryDisk {
+    /// A disk with no file.
+    pub fn new(alloc: Global) -> Self
+        ensures { result.steps.items ≡ [] }
+    {
+        MemoryDisk {
+            alloc,
+            steps: Vec::new(alloc),
+        }
+    }
+
+    /// What the file of a path holds. `None` if there is none.
+    pub fn held(&self, path: &str) -> Option<&[u8]>
+        ensures { option_map (λ bytes. bytes.now) result
+            ≡ files_after (reverse self.now.steps.items) path.now }
+    {
+        held_after(self.steps.as_slice(), path)
+    }
+}
+
+impl Disk for MemoryDisk {
+    ghost story = { λ disk. Some (story_of disk.steps.items) };
+
+    /// The file is empty for a moment.
+    fn write_new(&mut self, path: &str, bytes: &[u8]) -> io::Result<bool> {
+        if self.held(path).is_some() {
+            return Ok(false);
+        }
+        let made = String::from_str(self.alloc, path)?;
+        let filled = String::from_str(self.alloc, path)?;
+        let content = Vec::from_slice(self.alloc, bytes)?;
+        self.steps.push(Step::Wrote(made, Vec::new(self.alloc)))?;
+        self.steps.push(Step::Wrote(filled, content))?;
+        Ok(true)
+    }
+
+    fn rename(&mut self, from: &str, to: &str) -> io::Result<()> {
+        if self.held(from).is_none() {
+            return Err(io::Error::from(ErrorKind::NotFound));
+        }
+        let old = String::from_str(self.alloc, from)?;
+        let new = String::from_str(self.alloc, to)?;
+        self.steps.push(Step::Renamed(old, new))?;
+        Ok(())
+    }
+
+    fn remove(&mut self, path: &str) -> io::Result<()> {
+        let name = String::from_str(self.alloc, path)?;
+        self.steps.push(Step::Removed(name))?;
+        Ok(())
+    }
+}
