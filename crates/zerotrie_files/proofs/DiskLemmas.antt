@@ -124,3 +124,24 @@ known_tried path beside bytes r x y z apart w m =
 -- one that took the path is whole
 pub replaced : (path beside bytes : List ℕ) (a d : Story) → Tried path beside bytes (Ok tt) a d → Replaces {E = Error} path beside bytes (Ok true) a d
 replaced path beside bytes a d h = (h.passes, (h.free, h.ended))
+
+-- a file that was written took the path
+pub then_whole : (path beside bytes : List ℕ) (free : Bool) (r : Result (Unit {0}) Error) (x y z : Option Story) → beside ≢ path → Known x y (WritesNew {E = Error} beside bytes (Ok free)) → free ≡ true
+    → Known y z (Renames beside path r)
+    → r ≡ Ok tt
+    → Known x z (Replaces {E = Error} path beside bytes (Ok true))
+then_whole path beside bytes free r x y z apart written is moved done =
+    let tried = known_tried path beside bytes r x y z apart (rw is at written) moved in
+    known_by (Tried path beside bytes (Ok tt)) (Replaces {E = Error} path beside bytes (Ok true)) x z (replaced path beside bytes) (rw done at tried)
+
+-- a file that was written took no path, and was removed
+pub then_left : (path beside bytes : List ℕ) (free : Bool) (r w : Result (Unit {0}) Error) (e : Error) (x y z u : Option Story) → beside ≢ path
+    → Known x y (WritesNew {E = Error} beside bytes (Ok free))
+    → free ≡ true
+    → Known y z (Renames beside path r)
+    → r ≡ Err e
+    → Known z u (Removes beside w)
+    → Known x u (Replaces path beside bytes (Err e))
+then_left path beside bytes free r w e x y z u apart written is moved failed removed =
+    let tried = known_tried path beside bytes r x y z apart (rw is at written) moved in
+    known_then (Tried path beside bytes (Err e)) (Removes beside w) (Replaces path beside bytes (Err e)) x z u (λ a b d h r. then_removed path beside bytes e w a b d apart h r) (rw failed at tried) removed

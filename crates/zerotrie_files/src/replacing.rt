@@ -19,6 +19,7 @@ const MOST_TRIES: usize = 100;
 ///
 /// At each moment the file holds what it held or all of the bytes. After an error it holds what it held, and what was
 /// written beside it is removed, if that can be done.
+#[tactic(auto, using(crate::proofs::DiskLemmas::then_whole, crate::proofs::DiskLemmas::then_left))]
 pub fn replace<D: Disk>(disk: &mut D, path: &str, beside: &str, bytes: &[u8]) -> io::Result<bool>
     requires { beside.now ≢ path.now }
     ensures { Known (D.story disk.old) (D.story disk.new)
