@@ -28,20 +28,12 @@ const DEPTH: usize = 128;
 /// How many bytes the front of a window may have: its values, literals and spans, or its branch without the targets.
 const FRONT: usize = 1 << 12;
 
-/// How many items are read ahead of a branch, and how far one is from the next. Lines of some twenty bytes share memory that
-/// comes at once.
-const AHEAD: usize = 8;
-
-const STRIDE: usize = 3;
-
 /// What is known of a branch whose targets are written. Its memory serves one branch after another.
 #[derive(Drop)]
 struct Level<A: Allocator> {
     layout: Layout<A>,
     /// How long the targets are, in the order of the search table.
     lens: Vec<usize, A>,
-    /// What was read ahead. It says nothing: it is kept so that it is read.
-    ahead: u8,
 }
 
 /// The levels of this many branches one below the other.
@@ -54,25 +46,10 @@ fn levels<A: Allocator + Copy>(
         let level = Level {
             layout: Layout::empty(alloc, spare),
             lens: Vec::new(spare),
-            ahead: 0,
         };
         levels.push(Box::new(alloc, level)?)?;
     }
     Ok(levels)
-}
-
-/// Reads a byte of some of the items in front of a window, whose turn comes next, so that they are near by then.
-#[inline(always)]
-fn read_ahead<J: LentItems>(items: &J, window: Window) -> u8
-    requires { window.from < length (J.pairs items.now) }
-{
-    let mut index = window.from;
-    let mut seen = 0;
-    for _ in 0..AHEAD {
-        index = index.saturating_sub(STRIDE);
-        seen |= items.lent(index).0.first().copied().unwrap_or(0);
-    }
-    seen
 }
 
 /// Puts the targets of a branch that was laid out in front of the text, and tells how long they are. An error says that it
@@ -95,6 +72,7 @@ fn put_targets<K: ZeroTrieWithOptions, J: LentItems, A: Allocator + Copy>(
         layout.now.numbers.items lens.new.items text.old text.new) }
 {
     let count = layout.numbers.len();
+    lens.clear();
     lens.resize(count, 0)?;
     for index in (0..count).rev() {
         let window = layout.target(index);
@@ -131,7 +109,6 @@ fn put_rest<K: ZeroTrieWithOptions, J: LentItems, A: Allocator + Copy>(
         return Err(ZeroTrieBuildError::StackExceeded);
     };
     let inner = &mut *level;
-    inner.ahead = read_ahead(items, window);
     inner.layout.lay_out::<K, &J>(items, window)?;
     put_targets::<K, J, A>(
         items,
