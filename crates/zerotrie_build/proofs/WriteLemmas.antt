@@ -8,4 +8,5 @@ pub mod Numbers
 pub mod Puts
 pub mod Slots
 pub mod Targets
+pub mod Twins
 pub mod Writing

@@ -3,14 +3,17 @@
 //! The targets of a branch are written from the last of its table to the first, and then the branch in front of them,
 //! when their lengths are known. So nothing is measured beforehand, and each item is looked at once.
 
-ghost use Rattle.std.specs.Prelude.{◌≡◌, ◌+◌, ◌*◌, ◌^◌, ◌<◌, ◌≤◌, ℕ, List, length, map, All, IfOk, OnOk, IsTrue};
+ghost use Rattle.std.specs.Prelude.{◌≡◌, ◌+◌, ◌*◌, ◌^◌, ◌<◌, ◌≤◌, ◌++◌, ℕ, List, length, map, All, IfOk, OnOk, IsTrue};
+ghost use Rattle.std.specs.List.{range_with_len};
+ghost use Rattle.zerotrie_core.specs.Kind.{greatest_width};
+ghost use Rattle.zerotrie_core.specs.Branches.{branch_front, total as total_of};
 ghost use Rattle.zerotrie_core.specs.Maps.{map_of};
 ghost use Rattle.zerotrie_core.specs.Texts.{Means};
 ghost use Rattle.zerotrie_build.specs.Order.{Ordered, AreKeys, AreAsciiKeys};
 ghost use Rattle.zerotrie_build.specs.passes.Windows.{step_of};
 ghost use Rattle.zerotrie_build.specs.passes.Measured.{NoneFirst};
 ghost use Rattle.zerotrie_build.specs.passes.Walking.{IsPlaced};
-ghost use Rattle.zerotrie_build.specs.passes.Backward.{PutsText, PutsRest, PutsTargets, AreTargets};
+ghost use Rattle.zerotrie_build.specs.passes.Backward.{IsHeadOf, PutsText, PutsRest, PutsTargets, AreTargets};
 
 use crate::backward::Backward;
 use crate::branch_layout::Layout;
@@ -72,7 +75,6 @@ fn put_targets<K: ZeroTrieWithOptions, J: LentItems, A: Allocator + Copy>(
         layout.now.numbers.items lens.new.items text.old text.new) }
 {
     let count = layout.numbers.len();
-    lens.clear();
     lens.resize(count, 0)?;
     for index in (0..count).rev() {
         let window = layout.target(index);
@@ -80,6 +82,62 @@ fn put_targets<K: ZeroTrieWithOptions, J: LentItems, A: Allocator + Copy>(
         put_window::<K, J, A>(items, ascii, window, levels, text, front)?;
         lens[index] = text.len() - before;
     }
+    Ok(())
+}
+
+/// Puts a branch with this search table in front of its targets, which are so long and are in the order of the table. An
+/// error says that it gives up.
+#[inline(always)]
+fn put_head<K: ZeroTrieWithOptions>(
+    table: &[u8],
+    lens: &[usize],
+    numbers: &[usize],
+    text: &mut Backward,
+    front: &mut Writing,
+) -> Result<(), ZeroTrieBuildError>
+    requires two { 2 ≤ length lens.now }
+    requires few { length lens.now ≤ 256 }
+    requires order { numbers.now ≡ range_with_len 0 (length lens.now) }
+    requires sized { IsHeadOf K.kind table.now lens.now }
+    ensures narrow { IfOk result (λ _. total_of lens.now < 256 ^ (greatest_width K.kind + 1)) }
+    ensures puts { OnOk result (text.new ≡ branch_front table.now lens.now ++ text.old) }
+{
+    let total = total(lens)?;
+    if is_too_wide::<K>(total) || !front.clear_for(branch_len::<K>(lens.len(), total)) {
+        return Err(ZeroTrieBuildError::CapacityExceeded);
+    }
+    front.put_branch(table, lens, numbers);
+    text.put_all(front.as_slice())?;
+    Ok(())
+}
+
+/// Puts a branch to two targets of one item each in front of the text, if all keys are ASCII. Many branches are such. An error
+/// says that it gives up.
+fn put_pair<K: ZeroTrieWithOptions, J: LentItems>(
+    items: &J,
+    window: Window,
+    text: &mut Backward,
+    front: &mut Writing,
+) -> Result<(), ZeroTrieBuildError>
+    requires keys { AreKeys K.kind (J.pairs items.now) }
+    requires ascii { AreAsciiKeys (J.pairs items.now) }
+    requires placed { IsPlaced K.kind (J.pairs items.now) window }
+    requires branch { step_of K.kind (J.pairs items.now) window ≡ Step.Branch }
+    requires room { window.depth + 1 < 2 ^ 64 }
+    requires two { window.to ≡ window.from + 2 }
+    ensures { OnOk result (PutsRest K.kind (J.pairs items.now) window text.old text.new) }
+{
+    let (low, low_value) = items.lent(window.from);
+    let (high, high_value) = items.lent(window.from + 1);
+    let table = [low[window.depth], high[window.depth]];
+    let before = text.len();
+    text.put_value(high_value)?;
+    text.put_from(high, window.depth + 1)?;
+    let between = text.len();
+    text.put_value(low_value)?;
+    text.put_from(low, window.depth + 1)?;
+    let lens = [text.len() - between, between - before];
+    put_head::<K>(&table, &lens, &[0, 1], text, front)?;
     Ok(())
 }
 
@@ -105,6 +163,9 @@ fn put_rest<K: ZeroTrieWithOptions, J: LentItems, A: Allocator + Copy>(
     if window.from >= window.to {
         return Ok(());
     }
+    if ascii && window.to - window.from == 2 {
+        return put_pair::<K, J>(items, window, text, front);
+    }
     let Some(mut level) = levels.pop() else {
         return Err(ZeroTrieBuildError::StackExceeded);
     };
@@ -119,18 +180,14 @@ fn put_rest<K: ZeroTrieWithOptions, J: LentItems, A: Allocator + Copy>(
         text,
         front,
     )?;
-    let lens = inner.lens.as_slice();
-    let total = total(lens)?;
-    if is_too_wide::<K>(total) || !front.clear_for(branch_len::<K>(lens.len(), total)) {
-        return Err(ZeroTrieBuildError::CapacityExceeded);
-    }
     inner.layout.number_in_order::<K>()?;
-    front.put_branch(
+    put_head::<K>(
         inner.layout.table.as_slice(),
-        lens,
+        inner.lens.as_slice(),
         inner.layout.numbers.as_slice(),
-    );
-    text.put_all(front.as_slice())?;
+        text,
+        front,
+    )?;
     levels.push(level)?;
     Ok(())
 }

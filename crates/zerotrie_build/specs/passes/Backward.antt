@@ -3,13 +3,20 @@ use Rattle.std.specs.Prelude.{◌≡◌, ℕ, ◌<◌, ◌^◌, ◌+◌, List, �
 use Rattle.std.specs.List.{concat}
 use Rattle.zerotrie_core.specs.Kind.{Kind, greatest_width}
 use Rattle.zerotrie_core.specs.Maps.{Pairs}
-use Rattle.zerotrie_core.specs.Branches.{total}
+use Rattle.zerotrie_core.specs.Branches.{branch_front, total}
+use Rattle.zerotrie_core.specs.Canonical.{branch_size}
 use Rattle.zerotrie_build.specs.declared.windows.Window.{Window}
 use Rattle.zerotrie_build.specs.declared.windows.Step.TheVariants.{Branch}
 use Rattle.zerotrie_build.specs.passes.Windows.{window, step_of}
 use Rattle.zerotrie_build.specs.passes.Measured.{TargetWindows, sizes_of}
 use Rattle.zerotrie_build.specs.passes.Walking.{IsPlaced}
 use Rattle.zerotrie_build.specs.passes.Writing.{Listed, Texts, window_at}
+
+-- a branch with this search table, in front of targets that are so long, is as long as a branch to as many targets that have as many
+-- bytes in all
+abbrev pub IsHeadOf : Kind → List ℕ → List ℕ → Type 0
+IsHeadOf kind table lens = total lens < 256 ^ (greatest_width kind + 1)
+    → (n : ℕ) → ((lengths : List ℕ) → length lengths ≡ length lens → total lengths ≡ total lens → n ≡ branch_size kind lengths) → length (branch_front table lens) ≡ n
 
 -- a text of the window was put in front
 abbrev pub PutsText : Kind → Pairs → Window → List ℕ → List ℕ → Type 0

@@ -1,4 +1,4 @@
-use Rattle.std.proofs.Common.{◌≡◌, ℕ, List, ◌+◌, ◌-◌, ◌*◌, ◌^◌, ◌<◌, ◌≤◌, ◌∷◌, ◌++◌, [], length, refl, sym, ◌∙◌, ap, subst, arith, inl, drop, get_or, append_assoc, length-append}
+use Rattle.std.proofs.Common.{◌≡◌, ℕ, List, ◌+◌, ◌-◌, ◌*◌, ◌^◌, ◌<◌, ◌∷◌, ◌++◌, [], length, refl, sym, ◌∙◌, ap, subst, arith, inl, drop, get_or, append_assoc, length-append}
 use Rattle.std.proofs.lemmas.List.{length-set}
 use Rattle.std.proofs.lemmas.Option.{get_or_from_slice_get}
 use Rattle.std.specs.Prelude.{Some, slice_get}
@@ -8,17 +8,15 @@ use Rattle.zerotrie_core.specs.Numbers.{value_form, spelled_as}
 use Rattle.zerotrie_core.specs.Branches.{total, branch_front}
 use Rattle.zerotrie_core.specs.Maps.{Pairs}
 use Rattle.zerotrie_core.proofs.CallerLemmas.{spells_spelled}
-use Rattle.zerotrie_build.specs.passes.Measured.{sizes_of}
 use Rattle.zerotrie_build.specs.passes.Walking.{IsPlaced}
 use Rattle.zerotrie_build.specs.passes.Windows.{window, item_no}
-use Rattle.zerotrie_build.specs.passes.Writing.{Listed, window_at, target_lens}
-use Rattle.zerotrie_build.specs.passes.Writes.{HasRoom}
-use Rattle.zerotrie_build.specs.passes.Backward.{PutsText, PutsTargets}
+use Rattle.zerotrie_build.specs.passes.Writing.{Listed, window_at}
+use Rattle.zerotrie_build.specs.passes.Backward.{IsHeadOf, PutsText, PutsTargets}
 use Rattle.zerotrie_build.proofs.WindowLemmas.NodeRuns.{stopped}
 use Rattle.zerotrie_build.proofs.WriteLemmas.Layouts.{numbers_within}
 use Rattle.zerotrie_build.proofs.WriteLemmas.Fronts.{lone_listed}
-use Rattle.zerotrie_build.proofs.WriteLemmas.Backward.{placed_at, placed_after, targets_more, first_known, targets_placed, targets_rise, lens_known, lens_in_order, within_order, narrow_small, rest_size, rest_put, rest_none, fits_front, front_put, rest_whole, text_longer, not_above}
-use Rattle.zerotrie_build.proofs.WriteLemmas.Targets.{sizes_count}
+use Rattle.zerotrie_build.proofs.WriteLemmas.Backward.{placed_at, placed_after, targets_more, first_known, targets_placed, targets_rise, lens_known, rest_put, rest_none, fits_front, front_put, rest_whole, text_longer}
+use Rattle.zerotrie_build.proofs.WriteLemmas.Twins.{head_of}
 use Rattle.zerotrie_build.proofs.one_pass.+one_pass.Goals as goal
 
 lent_item : (all : Pairs) (i : ℕ) (key : List ℕ) (value : ℕ) → slice_get all i ≡ Some (key, value) → item_no all i ≡ (key, value)
@@ -67,40 +65,38 @@ put_rest-put_targets-requires g t c κs within =
       ),
     )
 
-pub put_rest-branch_len-requires-clause-some : goal.put_rest-branch_len-requires-clause-some
-put_rest-branch_len-requires-clause-some g t c =
+pub put_rest-put_head-requires-clause-two : goal.put_rest-put_head-requires-clause-two
+put_rest-put_head-requires-clause-two g t c =
     let kind = g.K.ZeroTrieWithOptions.kind in
     let all = g.J.LentItems.pairs c.args.items.now in
+    let placed = c.requires.placed in
+    let keys = c.requires.keys in
     let is = stopped kind all c.args.window c.requires.stops (let h = c.if-window.false in omega arith) in
-    let l = lens_known c.requires.placed c.requires.keys is c.in_ok-lay_out.ensures.parts c.in_ok-lay_out.ensures.laid c.in_ok-put_targets.ensures.puts in
-    let n = ap length c.as_slice-lens.ensures.value in
+    let parts = c.in_ok-lay_out.ensures.parts in
+    let laid = c.in_ok-lay_out.ensures.laid in
+    let l = lens_known placed keys is parts laid c.in_ok-put_targets.ensures.puts in
+    let n = ap length c.as_slice-2.ensures.value in
     let m = l.count in
     let two = l.two in
     omega arith
 
-pub put_rest-branch_len-requires-clause-few : goal.put_rest-branch_len-requires-clause-few
-put_rest-branch_len-requires-clause-few g t c =
+pub put_rest-put_head-requires-clause-few : goal.put_rest-put_head-requires-clause-few
+put_rest-put_head-requires-clause-few g t c =
     let kind = g.K.ZeroTrieWithOptions.kind in
     let all = g.J.LentItems.pairs c.args.items.now in
+    let placed = c.requires.placed in
+    let keys = c.requires.keys in
     let is = stopped kind all c.args.window c.requires.stops (let h = c.if-window.false in omega arith) in
-    let l = lens_known c.requires.placed c.requires.keys is c.in_ok-lay_out.ensures.parts c.in_ok-lay_out.ensures.laid c.in_ok-put_targets.ensures.puts in
-    let n = ap length c.as_slice-lens.ensures.value in
+    let parts = c.in_ok-lay_out.ensures.parts in
+    let laid = c.in_ok-lay_out.ensures.laid in
+    let l = lens_known placed keys is parts laid c.in_ok-put_targets.ensures.puts in
+    let n = ap length c.as_slice-2.ensures.value in
     let m = l.count in
     let few = l.few in
     omega arith
 
-pub put_rest-put_branch-requires-clause-within : goal.put_rest-put_branch-requires-clause-within
-put_rest-put_branch-requires-clause-within g t c =
-    let kind = g.K.ZeroTrieWithOptions.kind in
-    let all = g.J.LentItems.pairs c.args.items.now in
-    let is = stopped kind all c.args.window c.requires.stops (let h = c.if-window.false in omega arith) in
-    let l = lens_known c.requires.placed c.requires.keys is c.in_ok-lay_out.ensures.parts c.in_ok-lay_out.ensures.laid c.in_ok-put_targets.ensures.puts in
-    let n = ap length c.as_slice-lens.ensures.value in
-    let m = l.count in
-    within_order c.as_slice-lens.result.now c.as_slice-2.result.now (length c.lay_out.new.self.windows.items) (c.as_slice-2.ensures.value ∙ c.in_ok-number_in_order.ensures.numbers) (omega arith)
-
-pub put_rest-put_branch-requires-clause-small : goal.put_rest-put_branch-requires-clause-small
-put_rest-put_branch-requires-clause-small g t c =
+pub put_rest-put_head-requires-clause-order : goal.put_rest-put_head-requires-clause-order
+put_rest-put_head-requires-clause-order g t c =
     let kind = g.K.ZeroTrieWithOptions.kind in
     let all = g.J.LentItems.pairs c.args.items.now in
     let placed = c.requires.placed in
@@ -108,18 +104,11 @@ put_rest-put_branch-requires-clause-small g t c =
     let is = stopped kind all c.args.window c.requires.stops (let h = c.if-window.false in omega arith) in
     let parts = c.in_ok-lay_out.ensures.parts in
     let laid = c.in_ok-lay_out.ensures.laid in
-    let puts = c.in_ok-put_targets.ensures.puts in
-    let lens = c.put_targets.new.lens.items in
-    let l = lens_known placed keys is parts laid puts in
-    let narrow : total lens < 256 ^ (greatest_width kind + 1) = not_above _ _ (λ h. c.if-is_too_wide.ensures.1 (subst (λ n. 256 ^ (greatest_width kind + 1) ≤ n) (sym (c.in_ok-total.ensures.sum ∙ ap total c.as_slice-lens.ensures.value)) h)) in
-    let ls = c.as_slice-lens.result.now in
-    let ns = c.as_slice-2.result.now in
-    let order : target_lens ls ns ≡ lens = ap (λ x. target_lens x ns) c.as_slice-lens.ensures.value
-    ∙ lens_in_order lens ns (c.as_slice-2.ensures.value ∙ c.in_ok-number_in_order.ensures.numbers ∙ ap (range_with_len 0) (sym l.count)) in
-    subst (λ n. n < 2 ^ 64) (ap total (sym order)) (narrow_small kind (total lens) narrow)
+    let l = lens_known placed keys is parts laid c.in_ok-put_targets.ensures.puts in
+    c.as_slice-3.ensures.value ∙ c.in_ok-number_in_order.ensures.numbers ∙ ap (range_with_len 0) (sym l.count ∙ ap length (sym c.as_slice-2.ensures.value))
 
-pub put_rest-put_branch-requires-clause-room : goal.put_rest-put_branch-requires-clause-room
-put_rest-put_branch-requires-clause-room g t c =
+pub put_rest-put_head-requires-clause-sized : goal.put_rest-put_head-requires-clause-sized
+put_rest-put_head-requires-clause-sized g t c =
     let kind = g.K.ZeroTrieWithOptions.kind in
     let all = g.J.LentItems.pairs c.args.items.now in
     let placed = c.requires.placed in
@@ -127,20 +116,10 @@ put_rest-put_branch-requires-clause-room g t c =
     let is = stopped kind all c.args.window c.requires.stops (let h = c.if-window.false in omega arith) in
     let parts = c.in_ok-lay_out.ensures.parts in
     let laid = c.in_ok-lay_out.ensures.laid in
-    let puts = c.in_ok-put_targets.ensures.puts in
+    let l = lens_known placed keys is parts laid c.in_ok-put_targets.ensures.puts in
     let lens = c.put_targets.new.lens.items in
-    let l = lens_known placed keys is parts laid puts in
-    let narrow : total lens < 256 ^ (greatest_width kind + 1) = not_above _ _ (λ h. c.if-is_too_wide.ensures.1 (subst (λ n. 256 ^ (greatest_width kind + 1) ≤ n) (sym (c.in_ok-total.ensures.sum ∙ ap total c.as_slice-lens.ensures.value)) h)) in
-    let ls = c.as_slice-lens.result.now in
-    let ns = c.as_slice-2.result.now in
-    let order : target_lens ls ns ≡ lens = ap (λ x. target_lens x ns) c.as_slice-lens.ensures.value
-    ∙ lens_in_order lens ns (c.as_slice-2.ensures.value ∙ c.in_ok-number_in_order.ensures.numbers ∙ ap (range_with_len 0) (sym l.count)) in
     let table : c.as_slice.result.now ≡ c.lay_out.new.self.table.items = c.as_slice.ensures.value ∙ c.in_ok-number_in_order.ensures.table in
-    let long = rest_size placed keys is parts laid l narrow in
-    let count : length (sizes_of kind all c.lay_out.new.self.windows.items) ≡ length ls = sizes_count kind all c.lay_out.new.self.windows.items ∙ sym l.count ∙ ap length (sym c.as_slice-lens.ensures.value) in
-    let sum : total (sizes_of kind all c.lay_out.new.self.windows.items) ≡ c.in_ok-total.total = sym l.same ∙ ap total (sym c.as_slice-lens.ensures.value) ∙ sym c.in_ok-total.ensures.sum in
-    let size = c.branch_len.ensures (sizes_of kind all c.lay_out.new.self.windows.items) count sum in
-    subst (HasRoom c.clear_for.new.self) (size ∙ sym long ∙ ap (λ x. length (branch_front x lens)) (sym table) ∙ ap (λ x. length (branch_front c.as_slice.result.now x)) (sym order)) (c.if-not-clear_for.ensures.room refl)
+    subst (IsHeadOf kind c.as_slice.result.now) (sym c.as_slice-2.ensures.value) (subst (λ x. IsHeadOf kind x lens) (sym table) (head_of placed keys is parts laid l))
 
 pub put_rest-returns-clause-puts : goal.put_rest-returns-clause-puts
 put_rest-returns-clause-puts g t c =
@@ -151,19 +130,13 @@ put_rest-returns-clause-puts g t c =
     let is = stopped kind all c.args.window c.requires.stops (let h = c.if-window.false in omega arith) in
     let parts = c.in_ok-lay_out.ensures.parts in
     let laid = c.in_ok-lay_out.ensures.laid in
-    let puts = c.in_ok-put_targets.ensures.puts in
+    let l = lens_known placed keys is parts laid c.in_ok-put_targets.ensures.puts in
     let lens = c.put_targets.new.lens.items in
-    let l = lens_known placed keys is parts laid puts in
-    let narrow : total lens < 256 ^ (greatest_width kind + 1) = not_above _ _ (λ h. c.if-is_too_wide.ensures.1 (subst (λ n. 256 ^ (greatest_width kind + 1) ≤ n) (sym (c.in_ok-total.ensures.sum ∙ ap total c.as_slice-lens.ensures.value)) h)) in
-    let ls = c.as_slice-lens.result.now in
-    let ns = c.as_slice-2.result.now in
-    let order : target_lens ls ns ≡ lens = ap (λ x. target_lens x ns) c.as_slice-lens.ensures.value
-    ∙ lens_in_order lens ns (c.as_slice-2.ensures.value ∙ c.in_ok-number_in_order.ensures.numbers ∙ ap (range_with_len 0) (sym l.count)) in
+    let same = c.as_slice-2.ensures.value in
     let table : c.as_slice.result.now ≡ c.lay_out.new.self.table.items = c.as_slice.ensures.value ∙ c.in_ok-number_in_order.ensures.table in
-    let front : c.as_slice-3.result.now ≡ branch_front c.lay_out.new.self.table.items lens =
-    c.as_slice-3.ensures ∙ c.put_branch.ensures.is ∙ ap (λ x. x ++ branch_front c.as_slice.result.now (target_lens ls ns)) c.clear_for.ensures.empty
-    ∙ ap (λ x. branch_front x (target_lens ls ns)) table ∙ ap (branch_front c.lay_out.new.self.table.items) order in
-    rest_put placed keys is parts laid puts l narrow front c.in_ok-put_all.ensures
+    let narrow : total lens < 256 ^ (greatest_width kind + 1) = subst (λ x. total x < 256 ^ (greatest_width kind + 1)) same c.in_ok-put_head.ensures.narrow in
+    let front : branch_front c.as_slice.result.now c.as_slice-2.result.now ≡ branch_front c.lay_out.new.self.table.items lens = ap (λ x. branch_front x c.as_slice-2.result.now) table ∙ ap (branch_front c.lay_out.new.self.table.items) same in
+    rest_put placed keys is parts laid c.in_ok-put_targets.ensures.puts l narrow front c.in_ok-put_head.ensures.puts
 
 pub put_targets-put_window-requires : goal.put_targets-put_window-requires
 put_targets-put_window-requires g t c κs within =

@@ -1,4 +1,4 @@
-use Rattle.std.proofs.Common.{◌≡◌, ◌+◌, ◌-◌, ◌++◌, length, take, drop, reverse, refl, sym, ◌∙◌, ap, arith, length-append}
+use Rattle.std.proofs.Common.{◌-◌, ◌++◌, length, take, drop, reverse, refl, sym, ◌∙◌, ap, arith, length-append}
 use Rattle.std.proofs.lemmas.List.{drop_all, length-drop, length-reverse}
 use Rattle.zerotrie_build.proofs.WriteLemmas.Backward.{eight_more, cut_off, few_more}
 use Rattle.zerotrie_build.proofs.backward.Backward.put_from.Goals as goal

@@ -1,4 +1,4 @@
-use Rattle.std.proofs.Common.{◌≡◌, ◌+◌, ◌-◌, ◌/◌, ◌%◌, ◌∷◌, [], ◌++◌, reverse, refl, ◌∙◌, ap, arith, inl}
+use Rattle.std.proofs.Common.{◌+◌, ◌-◌, ◌/◌, ◌%◌, ◌∷◌, [], ◌++◌, reverse, refl, ◌∙◌, ap, arith, inl}
 use Rattle.std.proofs.lemmas.List.{reverse-append}
 use Rattle.zerotrie_build.proofs.WriteLemmas.Numbers.{one_byte, two_bytes, three_bytes, four_bytes}
 use Rattle.zerotrie_build.proofs.WriteLemmas.Backward.{turned}

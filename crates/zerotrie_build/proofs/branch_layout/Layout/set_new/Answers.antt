@@ -1,4 +1,4 @@
-use Rattle.std.proofs.Common.{refl, sym, ap, ◌∙◌, ◌++◌, map, subst}
+use Rattle.std.proofs.Common.{sym, ap, ◌∙◌, ◌++◌, map, subst}
 use Rattle.std.specs.Prelude.{nat_eq}
 use Rattle.std.specs.List.{IsDistinct}
 use Rattle.zerotrie_build.specs.passes.Writing.{place_in}
