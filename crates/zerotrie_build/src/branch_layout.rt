@@ -120,16 +120,14 @@ impl<A: Allocator + Copy> Layout<A> {
     fn clear(&mut self)
         ensures windows { self.new.windows.items ≡ [] }
         ensures table { self.new.table.items ≡ [] }
-        ensures numbers { self.new.numbers.items ≡ [] }
         ensures pending { self.new.pending.items ≡ self.old.pending.items }
     {
         self.windows.clear();
         self.table.clear();
-        self.numbers.clear();
     }
 
     /// Lays the targets of the branch that stands first in the window out in the order of their edges. The counts
-    /// of their items are guesses.
+    /// of their items are guesses. The targets have no numbers yet.
     fn set_sorted<'a, K: ZeroTrieWithOptions, I: IndexedItems<'a>>(
         &mut self,
         items: I,
@@ -143,8 +141,6 @@ impl<A: Allocator + Copy> Layout<A> {
         ensures parts { OnOk result (TargetWindows (I.pairs items) window self.new.windows.items) }
         ensures table { OnOk result (self.new.table.items
             ≡ map (edge_of (I.pairs items)) self.new.windows.items) }
-        ensures numbers { OnOk result (self.new.numbers.items
-            ≡ range_with_len 0 (length self.new.windows.items)) }
         ensures pending { self.new.pending.items ≡ self.old.pending.items }
     {
         self.clear();
@@ -154,7 +150,6 @@ impl<A: Allocator + Copy> Layout<A> {
             let group = target_group::<K, I>(items, rest, byte, counts, self.windows.len());
             let target = Window::new(rest.from, group.end, rest.depth + 1);
             self.table.push(byte.unwrap_or(0))?;
-            self.numbers.push(self.windows.len())?;
             self.windows.push(target)?;
             rest.from = group.end;
             byte = group.next;
@@ -233,6 +228,8 @@ impl<A: Allocator + Copy> Layout<A> {
         self.set_sorted::<K, I>(items, window, &[])?;
         if is_hashed::<K>(self.windows.len()) {
             self.set_hashed()?;
+        } else {
+            self.number_in_order()?;
         }
         Ok(())
     }
@@ -247,18 +244,14 @@ impl<A: Allocator + Copy> Layout<A> {
         self.windows[self.numbers[place]]
     }
 
-    /// Numbers the targets of a branch that was laid out anew, in the order of its table. Those of a sorted table are in order.
-    pub(crate) fn number_in_order<K: ZeroTrieWithOptions>(&mut self) -> Result<(), AllocError>
-        requires { is_hashed K.kind (length self.old.windows.items) ≡ false
-            → self.old.numbers.items ≡ range_with_len 0 (length self.old.windows.items) }
+    /// Numbers the targets in the order of their edges.
+    fn number_in_order(&mut self) -> Result<(), AllocError>
         ensures numbers { OnOk result (self.new.numbers.items
             ≡ range_with_len 0 (length self.old.windows.items)) }
         ensures windows { self.new.windows.items ≡ self.old.windows.items }
         ensures table { self.new.table.items ≡ self.old.table.items }
+        ensures pending { self.new.pending.items ≡ self.old.pending.items }
     {
-        if !is_hashed::<K>(self.windows.len()) {
-            return Ok(());
-        }
         self.numbers.clear();
         for number in 0..self.windows.len() {
             self.numbers.push(number)?;
@@ -370,6 +363,7 @@ impl<A: Allocator + Copy> Layout<A> {
             let end = slot + 2 * edges;
             self.push_hashed(&slots[slot + edges..end], end)?;
         } else {
+            self.number_in_order()?;
             self.push_sorted(slot + edges)?;
         }
         Ok(())

@@ -7,6 +7,7 @@
 mod backward;
 mod branch_layout;
 mod builder;
+mod in_order;
 mod indexed;
 mod konst;
 mod last_table;

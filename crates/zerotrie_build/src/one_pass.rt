@@ -17,6 +17,7 @@ ghost use Rattle.zerotrie_build.specs.passes.Backward.{IsHeadOf, PutsText, PutsR
 
 use crate::backward::Backward;
 use crate::branch_layout::Layout;
+use crate::in_order::InOrder;
 use crate::indexed::LentItems;
 use crate::leaf::ascii_leaf;
 use crate::measuring::{after_front, branch_len, is_too_wide, total};
@@ -37,6 +38,8 @@ struct Level<A: Allocator> {
     layout: Layout<A>,
     /// How long the targets are, in the order of the search table.
     lens: Vec<usize, A>,
+    /// The numbers of the targets in that order.
+    order: InOrder<A>,
 }
 
 /// The levels of this many branches one below the other.
@@ -49,6 +52,7 @@ fn levels<A: Allocator + Copy>(
         let level = Level {
             layout: Layout::empty(alloc, spare),
             lens: Vec::new(spare),
+            order: InOrder::new(spare),
         };
         levels.push(Box::new(alloc, level)?)?;
     }
@@ -180,11 +184,11 @@ fn put_rest<K: ZeroTrieWithOptions, J: LentItems, A: Allocator + Copy>(
         text,
         front,
     )?;
-    inner.layout.number_in_order::<K>()?;
+    let order = inner.order.first(inner.lens.len())?;
     put_head::<K>(
         inner.layout.table.as_slice(),
         inner.lens.as_slice(),
-        inner.layout.numbers.as_slice(),
+        order,
         text,
         front,
     )?;

@@ -7,7 +7,7 @@ use Rattle.std.specs.List.Sorted.{IsPermutation, IsStrictlyIncreasing}
 use Rattle.std.proofs.lemmas.Option.{unwrap_or-slice_get}
 use Rattle.std.proofs.lemmas.Bool.{eq-eqb, ne_eqb, cases_lt}
 use Rattle.std.proofs.lemmas.List.{take_more, take_all, map-append, drop_at, drop_more, get_or_default}
-use Rattle.std.proofs.lemmas.List.FromFn.{map-range_with_len_more, length-map-range_with_len, get_or-map-range_with_len, length-range_with_len, get_or-range_with_len}
+use Rattle.std.proofs.lemmas.List.FromFn.{map-range_with_len_more, take-map-range_with_len, length-map-range_with_len, get_or-map-range_with_len, length-range_with_len, get_or-range_with_len}
 use Rattle.std.specs.Ordering.{nat_cmp}
 use Rattle.std.specs.List.Sorted.{IsBinarySearchResult}
 use Rattle.std.proofs.lemmas.List.Sorted.{searched, IsPermutation-refl, IsPermutation-map, length_permutation, Contains-permutation, IsPermutation-sym}
@@ -244,13 +244,10 @@ pub range_more : (k : ℕ) → range_with_len 0 k ++ k ∷ [] ≡ range_with_len
 range_more k =
     ap (λ x. x ++ k ∷ []) (sym (same_range (range_with_len 0 k))) ∙ sym (map-range_with_len_more (λ x. x) 0 k k (omega arith)) ∙ same_range (range_with_len 0 (k + 1))
 
-pub numbers_more : (ws ws' : List Window) (c : Window) (ns ns' : List ℕ) (n : ℕ) → ws' ≡ ws ++ c ∷ [] → ns' ≡ ns ++ n ∷ [] → ns ≡ range_with_len 0 (length ws) → n ≡ length ws → ns' ≡ range_with_len 0 (length ws')
-numbers_more ws ws' c ns ns' n pushed more are is =
-    let k = length ws in
-    let long : length ws' ≡ k + 1 = (let a = ap length pushed in let b = length-append ws (c ∷ []) in omega arith) in
-    more ∙ ap (λ x. x ++ n ∷ []) are ∙ ap (λ x. range_with_len 0 k ++ x ∷ []) is
-    ∙ ap (λ x. x ++ k ∷ []) (sym (same_range (range_with_len 0 k)))
-    ∙ sym (map-range_with_len_more (λ x. x) 0 k k (omega arith)) ∙ same_range (range_with_len 0 (k + 1)) ∙ ap (range_with_len 0) (sym long)
+-- and the first of them are those of a shorter list
+pub range_front : (n k : ℕ) → k ≤ n → take k (range_with_len 0 n) ≡ range_with_len 0 k
+range_front n k few =
+    ap (take k) (sym (same_range (range_with_len 0 n))) ∙ take-map-range_with_len (λ x. x) 0 n k few ∙ same_range (range_with_len 0 k)
 
 -- a search among edges that rise finds each that is placed
 pub found : (edges placed : List ℕ) (i x : ℕ) (r : Result ℕ ℕ) → IsStrictlyIncreasing edges → IsPermutation edges placed → i < length placed → x ≡ get_or placed i 0 → IsBinarySearchResult (λ y. nat_cmp y x) edges r

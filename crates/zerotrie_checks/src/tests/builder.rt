@@ -164,23 +164,50 @@ fn many_keys(alloc: Global, step: u8) -> Result<Vec<u8>, Fail> {
     Ok(keys)
 }
 
-/// The items of these keys, with their numbers as values.
-fn numbered(alloc: Global, keys: &[u8]) -> Result<Vec<(&[u8], usize)>, Fail> {
+/// 8,192 keys of thirteen letters `a` or `b` in ascending order, one after another. Each branch is to two keys or more.
+fn keys_of_two_letters(alloc: Global) -> Result<Vec<u8>, Fail> {
+    let mut keys = Vec::new(alloc);
+    for number in 0..8192usize {
+        for bit in (0..13u32).rev() {
+            keys.push(if number >> bit & 1 == 1 { b'b' } else { b'a' })?;
+        }
+    }
+    Ok(keys)
+}
+
+/// The items of keys of so many bytes, with their numbers as values.
+fn numbered(alloc: Global, keys: &[u8], len: usize) -> Result<Vec<(&[u8], usize)>, Fail>
+    requires { 0 < len }
+{
     let mut items: Vec<(&[u8], usize)> = Vec::new(alloc);
-    for key in keys.chunks(3) {
+    for key in keys.chunks(len) {
         items.push((key, items.len()))?;
     }
     Ok(items)
 }
 
-/// Many items have a text as long as was told beforehand, which has the last of them.
+/// Items have a text as long as was told beforehand, which has each of the keys.
+fn has_all<K: ZeroTrieWithOptions>(alloc: Global, items: &[(&[u8], usize)]) -> Result<bool, Fail> {
+    let text = by_slice::<K>(alloc, items)?;
+    let mut all = has_len::<K>(alloc, items, text.len())?;
+    for (key, value) in items {
+        all &= get_counted::<K>(text.as_slice(), key).0 == Some(*value);
+    }
+    Ok(all)
+}
+
+/// Many items have a text with all of them.
 fn has_many<K: ZeroTrieWithOptions>(alloc: Global, step: u8) -> Result<bool, Fail> {
     let keys = many_keys(alloc, step)?;
-    let items = numbered(alloc, keys.as_slice())?;
-    let text = by_slice::<K>(alloc, items.as_slice())?;
-    let (last, value) = *items.last().ok_or("no items")?;
-    let told = has_len::<K>(alloc, items.as_slice(), text.len())?;
-    Ok(told && get_counted::<K>(text.as_slice(), last).0 == Some(value))
+    let items = numbered(alloc, keys.as_slice(), 3)?;
+    has_all::<K>(alloc, items.as_slice())
+}
+
+/// Many items that branch to two have a text with all of them.
+fn has_twos<K: ZeroTrieWithOptions>(alloc: Global) -> Result<bool, Fail> {
+    let keys = keys_of_two_letters(alloc)?;
+    let items = numbered(alloc, keys.as_slice(), 13)?;
+    has_all::<K>(alloc, items.as_slice())
 }
 
 #[test]
@@ -190,6 +217,15 @@ fn many_items(rt: HostRuntime) -> Result<(), Fail> {
     assert!(rt; has_many::<Ignore>(alloc, 3)?);
     assert!(rt; has_many::<Hash>(alloc, 15)?);
     assert!(rt; has_many::<Ext>(alloc, 15)?);
+    Ok(())
+}
+
+/// Branches to two items that have no others below them are put without a layout.
+#[test]
+fn many_branches_to_two(rt: HostRuntime) -> Result<(), Fail> {
+    let alloc = rt.alloc();
+    assert!(rt; has_twos::<Simple>(alloc)?);
+    assert!(rt; has_twos::<Hash>(alloc)?);
     Ok(())
 }
 

@@ -97,15 +97,8 @@ put_rest-put_head-requires-clause-few g t c =
 
 pub put_rest-put_head-requires-clause-order : goal.put_rest-put_head-requires-clause-order
 put_rest-put_head-requires-clause-order g t c =
-    let kind = g.K.ZeroTrieWithOptions.kind in
-    let all = g.J.LentItems.pairs c.args.items.now in
-    let placed = c.requires.placed in
-    let keys = c.requires.keys in
-    let is = stopped kind all c.args.window c.requires.stops (let h = c.if-window.false in omega arith) in
-    let parts = c.in_ok-lay_out.ensures.parts in
-    let laid = c.in_ok-lay_out.ensures.laid in
-    let l = lens_known placed keys is parts laid c.in_ok-put_targets.ensures.puts in
-    c.as_slice-3.ensures.value ∙ c.in_ok-number_in_order.ensures.numbers ∙ ap (range_with_len 0) (sym l.count ∙ ap length (sym c.as_slice-2.ensures.value))
+    let count : c.len.result ≡ length c.as_slice-2.result.now = (let n = c.len.ensures in let m = c.put_targets.new.lens.ok in let s = ap length c.as_slice-2.ensures.value in omega arith) in
+    c.in_ok-order.ensures ∙ ap (range_with_len 0) count
 
 pub put_rest-put_head-requires-clause-sized : goal.put_rest-put_head-requires-clause-sized
 put_rest-put_head-requires-clause-sized g t c =
@@ -118,7 +111,7 @@ put_rest-put_head-requires-clause-sized g t c =
     let laid = c.in_ok-lay_out.ensures.laid in
     let l = lens_known placed keys is parts laid c.in_ok-put_targets.ensures.puts in
     let lens = c.put_targets.new.lens.items in
-    let table : c.as_slice.result.now ≡ c.lay_out.new.self.table.items = c.as_slice.ensures.value ∙ c.in_ok-number_in_order.ensures.table in
+    let table : c.as_slice.result.now ≡ c.lay_out.new.self.table.items = c.as_slice.ensures.value in
     subst (IsHeadOf kind c.as_slice.result.now) (sym c.as_slice-2.ensures.value) (subst (λ x. IsHeadOf kind x lens) (sym table) (head_of placed keys is parts laid l))
 
 pub put_rest-returns-clause-puts : goal.put_rest-returns-clause-puts
@@ -133,7 +126,7 @@ put_rest-returns-clause-puts g t c =
     let l = lens_known placed keys is parts laid c.in_ok-put_targets.ensures.puts in
     let lens = c.put_targets.new.lens.items in
     let same = c.as_slice-2.ensures.value in
-    let table : c.as_slice.result.now ≡ c.lay_out.new.self.table.items = c.as_slice.ensures.value ∙ c.in_ok-number_in_order.ensures.table in
+    let table : c.as_slice.result.now ≡ c.lay_out.new.self.table.items = c.as_slice.ensures.value in
     let narrow : total lens < 256 ^ (greatest_width kind + 1) = subst (λ x. total x < 256 ^ (greatest_width kind + 1)) same c.in_ok-put_head.ensures.narrow in
     let front : branch_front c.as_slice.result.now c.as_slice-2.result.now ≡ branch_front c.lay_out.new.self.table.items lens = ap (λ x. branch_front x c.as_slice-2.result.now) table ∙ ap (branch_front c.lay_out.new.self.table.items) same in
     rest_put placed keys is parts laid c.in_ok-put_targets.ensures.puts l narrow front c.in_ok-put_head.ensures.puts

@@ -23,11 +23,12 @@ returns-in_ok-set_hashed-clause-laid g c =
     (branch_hashed_laid kind all ws _ _ _ (ap (is_hashed kind) (sym count) ∙ sym c.is_hashed.ensures ∙ c.if-is_hashed.true) (c.requires.rises ws c.in_ok-set_sorted.ensures.parts)
     c.in_ok-set_sorted.ensures.table c.in_ok-set_hashed.ensures.ok)
 
-pub returns-else-is_hashed-clause-laid : goal.returns-else-is_hashed-clause-laid
-returns-else-is_hashed-clause-laid g c =
+pub returns-in_ok-number_in_order-clause-laid : goal.returns-in_ok-number_in_order-clause-laid
+returns-in_ok-number_in_order-clause-laid g c =
     let kind = g.K.ZeroTrieWithOptions.kind in
     let all = g.I.IndexedItems.pairs c.args.items in
     let ws = c.set_sorted.new.self.windows.items in
     let count : c.len.result ≡ length ws = (let n = c.len.ensures in let m = c.set_sorted.new.self.windows.ok in omega arith) in
-    branch_sorted_laid kind all ws _ _ (ap (is_hashed kind) (sym count) ∙ sym c.is_hashed.ensures ∙ c.if-is_hashed.false) (c.requires.rises ws c.in_ok-set_sorted.ensures.parts)
-    c.in_ok-set_sorted.ensures.table c.in_ok-set_sorted.ensures.numbers
+    let e = c.number_in_order.ensures in
+    rw (e.windows, e.table) (branch_sorted_laid kind all ws _ _ (ap (is_hashed kind) (sym count) ∙ sym c.is_hashed.ensures ∙ c.if-is_hashed.false) (c.requires.rises ws c.in_ok-set_sorted.ensures.parts)
+    c.in_ok-set_sorted.ensures.table c.in_ok-number_in_order.ensures.numbers)

@@ -108,11 +108,14 @@ returns-in_ok-push_sorted-clause-laid g c =
     let count : n ≡ length ws = (let n = c.len-edges.ensures in let m = c.set_sorted.new.self.windows.ok in omega arith) in
     let k = branch_known c.requires.slots ws n c.in_ok-set_sorted.ensures.parts count in
     let e = c.push_sorted.ensures in
-    rw (e.windows, e.table, e.numbers) (branch_sorted_laid kind (g.I.IndexedItems.pairs c.args.items) ws _ _ (ap (is_hashed kind) (sym count) ∙ sym c.is_hashed.ensures ∙ c.if-is_hashed.false) k.3 c.in_ok-set_sorted.ensures.table c.in_ok-set_sorted.ensures.numbers)
+    let o = c.number_in_order.ensures in
+    rw (e.windows, e.table, e.numbers, o.windows, o.table) (branch_sorted_laid kind (g.I.IndexedItems.pairs c.args.items) ws _ _ (ap (is_hashed kind) (sym count) ∙ sym c.is_hashed.ensures ∙ c.if-is_hashed.false) k.3
+    c.in_ok-set_sorted.ensures.table c.in_ok-number_in_order.ensures.numbers)
 
 pub push_sorted-requires : goal.push_sorted-requires
 push_sorted-requires g c =
     let count : c.len-edges.result ≡ length c.set_sorted.new.self.windows.items = (let n = c.len-edges.ensures in let m = c.set_sorted.new.self.windows.ok in omega arith) in
     let k = branch_known c.requires.slots _ c.len-edges.result c.in_ok-set_sorted.ensures.parts count in
     let some = k.2 in
+    let same = ap length c.number_in_order.ensures.windows in
     omega arith

@@ -3,7 +3,7 @@ use Rattle.std.proofs.lemmas.List.{append-nil}
 use Rattle.zerotrie_build.specs.declared.windows.Window.{Window}
 use Rattle.zerotrie_build.specs.passes.Measured.{TargetWindows}
 use Rattle.zerotrie_build.proofs.WindowLemmas.Ends.{ordered_rest}
-use Rattle.zerotrie_build.proofs.WriteLemmas.Layouts.{parts_more, edges_more, numbers_more, edge_known}
+use Rattle.zerotrie_build.proofs.WriteLemmas.Layouts.{parts_more, edges_more, edge_known}
 use Rattle.zerotrie_build.proofs.branch_layout.Layout.set_sorted.Goals as goal
 
 pub loop-rest-preserved : goal.loop-rest-preserved
@@ -12,16 +12,14 @@ loop-rest-preserved g c =
     let rest = c.loop-rest.rest in
     let all = g.I.IndexedItems.pairs c.args.items in
     let ws = c.loop-rest.self.windows.items in
-    let ws' = c.push-in-loop-rest-2.new.self.items in
+    let ws' = c.push-in-loop-rest.new.self.items in
     let target : Window = record { from = rest.from; to = c.target_group-group.result.end; depth = rest.depth + 1 } in
-    let pushed = c.in_ok-push-3.ensures.items ∙ ap (λ t. ws ++ t ∷ []) c.new-target.ensures in
+    let pushed = c.in_ok-push-2.ensures.items ∙ ap (λ t. ws ++ t ∷ []) c.new-target.ensures in
     let edge = edge_known all rest c.loop-rest.byte target.to c.unwrap_or.result (v.byte c.loop-rest-test.true) c.unwrap_or.ensures in
     let group = c.target_group-group.ensures.0 in
     record {
       parts = λ cs p. parts_more all c.args.window ws ws' target cs pushed (v.parts (target ∷ cs) (refl, refl, group, p));
       table = edges_more all ws ws' target c.loop-rest.self.table.items c.push.new.self.items c.unwrap_or.result pushed c.in_ok-push.ensures.items v.table edge;
-      numbers = numbers_more ws ws' target c.loop-rest.self.numbers.items c.push-in-loop-rest.new.self.items c.len-in-loop-rest.result pushed c.in_ok-push-2.ensures.items v.numbers
-          (let n = c.len-in-loop-rest.ensures in let m = c.loop-rest.self.windows.ok in omega arith);
       pending = v.pending;
       order = group.within;
       to_is = v.to_is;

@@ -1,5 +1,4 @@
 use Rattle.std.proofs.Common.{◌≡◌, ◌-◌, ◌≤◌, List, ◌++◌, map, length}
-use Rattle.std.specs.List.{range_with_len}
 use Rattle.zerotrie_build.specs.declared.windows.Window.{Window}
 use Rattle.zerotrie_build.specs.Order.{Ordered}
 use Rattle.zerotrie_build.specs.passes.Windows.{window, edge_of, GoesOnWith}
@@ -10,7 +9,6 @@ abbrev pub invariant-loop-rest : goal.invariant-loop-rest
 invariant-loop-rest g l = record {
   parts : (cs : List Window) → TargetWindows (g.I.IndexedItems.pairs l.items) l.rest cs → TargetWindows (g.I.IndexedItems.pairs l.items) l.fn.window (l.self.windows.items ++ cs);
   table : l.self.table.items ≡ map (edge_of (g.I.IndexedItems.pairs l.items)) l.self.windows.items;
-  numbers : l.self.numbers.items ≡ range_with_len 0 (length l.self.windows.items);
   pending : l.self.pending.items ≡ l.initial.self.pending.items;
   order : l.rest.from ≤ l.rest.to;
   to_is : l.rest.to ≡ l.fn.window.to;
