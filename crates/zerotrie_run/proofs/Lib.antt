@@ -1,2 +1,3 @@
 mod AskLemmas
 mod TypedLemmas
+mod MadeLemmas

@@ -4,6 +4,7 @@
 mod asking;
 mod building;
 mod command;
+pub mod laws;
 mod messages;
 mod reading;
 mod running;
