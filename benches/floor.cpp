@@ -1,40 +1,15 @@
 // What a build and a listing of a file take in C++ that tests nothing and keeps no promise: a yardstick for `build --sorted --kind
 // simple --bare` and for `list --trust`, whose bytes and lines it has to give. Arguments: `build IN OUT` or `list FILE OUT`. It is
-// undefined what it does on lines that are no pairs, keys that do not ascend, and bytes that are no trie.
+// undefined what it does on lines that are no pairs, keys that do not ascend or are longer than its buffers, and bytes that are no trie.
 //
-// It is no second library. A build goes from the last key to the first and writes each target before the branch that it hangs on, so
-// that lengths are known when they are written; it calls itself once for each branch above a key.
+// It is no second library. A build holds nothing of the lines but the last key. Where a key parts from the one before it, all that was
+// open farther down is whole: each branch is put in front of its targets, which are moved for it.
 #include <cstdint>
 #include <cstdlib>
 #include <cstring>
 #include <fcntl.h>
 #include <sys/stat.h>
 #include <unistd.h>
-
-struct Item {
-    const uint8_t *key;
-    size_t len, value;
-};
-
-struct Bytes {
-    uint8_t *at;
-    size_t len;
-};
-
-static Bytes read_all(const char *path) {
-    int file = open(path, O_RDONLY);
-    struct stat told;
-    if (file < 0 || fstat(file, &told))
-        exit(3);
-    Bytes all = {(uint8_t *)malloc(told.st_size + 1), (size_t)told.st_size};
-    for (size_t got = 0; got < all.len;) {
-        ssize_t more = read(file, all.at + got, all.len - got);
-        if (more <= 0)
-            exit(3);
-        got += more;
-    }
-    return all;
-}
 
 static void write_all(int file, const uint8_t *at, size_t len) {
     while (len > 0) {
@@ -46,105 +21,176 @@ static void write_all(int file, const uint8_t *at, size_t len) {
     }
 }
 
-// The text, which grows at its front.
-static uint8_t *front;
+// The text as far as it is known.
+static uint8_t *text;
+static size_t text_len, text_room;
 
-static void put_number(size_t number, size_t latent, unsigned form) {
-    unsigned more = 0, trail = 0;
+static void make_room(size_t more) {
+    if (text_len + more > text_room)
+        text = (uint8_t *)realloc(text, text_room = 2 * text_room + more);
+}
+
+// The last key and its value.
+static uint8_t last[1 << 16];
+static size_t last_len, last_value;
+
+// What is open at a depth of the last key: a value after which longer keys go on, or a branch, whose targets end at these places.
+struct Open {
+    size_t depth, from, value;
+    unsigned edges;
+    uint8_t edge[256];
+    size_t end[256];
+};
+
+static Open *stack[1 << 16];
+static unsigned opened;
+
+static Open &open_at(size_t depth, size_t from, size_t value) {
+    if (!stack[opened])
+        stack[opened] = (Open *)malloc(sizeof(Open));
+    Open &node = *stack[opened++];
+    node.depth = depth;
+    node.from = from;
+    node.value = value;
+    node.edges = 0;
+    return node;
+}
+
+static uint8_t *put_number(uint8_t *at, size_t number, size_t latent, unsigned form) {
+    uint8_t digits[10];
+    unsigned first = 10, more = 0;
     while (number >= latent) {
         number -= latent;
-        *--front = (number & 127) | more;
+        digits[--first] = (number & 127) | more;
         number >>= 7;
         more = 128;
-        trail = 1;
     }
-    *--front = number + (trail ? latent : 0) + form * 2 * latent;
+    *at++ = number + (more ? latent : 0) + form * 2 * latent;
+    while (first < 10)
+        *at++ = digits[first++];
+    return at;
 }
 
-static void put_literals(const uint8_t *literals, size_t len) {
-    front -= len;
-    memcpy(front, literals, len);
+// Puts what the last key has from a depth on at the end of the text.
+static void put_leaf(size_t depth) {
+    size_t len = last_len - depth;
+    make_room(len + 16);
+    memcpy(text + text_len, last + depth, len);
+    text_len = put_number(text + text_len + len, last_value, 16, 4) - text;
 }
 
-// Where the items end that have the first one's byte at the depth.
-static size_t group_end(const Item *items, size_t from, size_t to, size_t depth) {
-    uint8_t byte = items[from].key[depth];
-    size_t low = from + 1, high = to, ahead = 0;
-    while (low < high) {
-        size_t half = (high - low) / 2, step = half < ahead ? half : ahead;
-        if (items[low + step].key[depth] == byte) {
-            low += step + 1;
-            ahead = 2 * step + 1;
-        } else {
-            high = low + step;
-        }
+// Puts a node and the literals from a depth on in front of all that comes after it.
+static void close_node(const Open &node, size_t depth) {
+    static uint8_t front[1 << 17];
+    memcpy(front, last + depth, node.depth - depth);
+    uint8_t *at = front + (node.depth - depth);
+    if (node.edges == 0) {
+        at = put_number(at, node.value, 16, 4);
+    } else {
+        unsigned width = 0;
+        for (size_t rest = text_len - node.from; rest >= 256; rest >>= 8)
+            width++;
+        at = put_number(at, 256 * width + node.edges % 256, 32, 3);
+        memcpy(at, node.edge, node.edges);
+        at += node.edges;
+        for (unsigned place = width + 1; place-- > 0;)
+            for (unsigned i = 0; i + 1 < node.edges; i++)
+                *at++ = (node.end[i] - node.from) >> (8 * place);
     }
-    return low;
+    size_t len = at - front;
+    make_room(len);
+    memmove(text + node.from + len, text + node.from, text_len - node.from);
+    memcpy(text + node.from, front, len);
+    text_len += len;
 }
 
-static void put_window(const Item *items, size_t from, size_t to, size_t depth);
-
-static void put_branch(const Item *items, size_t from, size_t to, size_t depth) {
-    size_t starts[257], ends[256], total = 0;
-    unsigned edges = 0, width = 0;
-    for (size_t i = from; i < to; i = group_end(items, i, to, depth))
-        starts[edges++] = i;
-    starts[edges] = to;
-    for (unsigned i = edges; i-- > 0;) {
-        uint8_t *behind = front;
-        put_window(items, starts[i], starts[i + 1], depth + 1);
-        ends[i] = behind - front;
-    }
-    for (unsigned i = 0; i < edges; i++)
-        ends[i] = total += ends[i];
-    for (size_t rest = total; rest >= 256; rest >>= 8)
-        width++;
-    for (unsigned place = 0; place <= width; place++)
-        for (unsigned i = edges - 1; i-- > 0;)
-            *--front = ends[i] >> (8 * place);
-    for (unsigned i = edges; i-- > 0;)
-        *--front = items[starts[i]].key[depth];
-    put_number(256 * width + edges % 256, 32, 3);
-}
-
-static void put_window(const Item *items, size_t from, size_t to, size_t depth) {
-    const Item &first = items[from], &last = items[to - 1];
-    size_t end = depth, most = first.len < last.len ? first.len : last.len;
-    if (to - from == 1)
-        end = first.len;
+// Puts the last key, or the node that was open farthest down, if it is given.
+static void put(const Open *node, size_t depth) {
+    if (node)
+        close_node(*node, depth);
     else
-        while (end < most && first.key[end] == last.key[end])
-            end++;
-    bool has_value = first.len == end;
-    size_t rest = from + has_value;
-    if (rest < to && items[rest].key[end] == last.key[end])
-        put_window(items, rest, to, end);
-    else if (rest < to)
-        put_branch(items, rest, to, end);
-    if (has_value)
-        put_number(first.value, 16, 4);
-    put_literals(first.key + depth, end - depth);
+        put_leaf(depth);
 }
 
-static void build(Bytes in, int out) {
-    size_t room = 1024, count = 0;
-    Item *items = (Item *)malloc(room * sizeof(Item));
-    const uint8_t *rest = in.at, *end = in.at + in.len;
-    while (rest < end) {
-        const uint8_t *tab = (const uint8_t *)memchr(rest, '\t', end - rest), *digit = tab + 1;
-        size_t value = 0;
-        while (digit < end && *digit != '\n')
-            value = 10 * value + (*digit++ - '0');
-        if (count == room)
-            items = (Item *)realloc(items, (room *= 2) * sizeof(Item));
-        items[count++] = {rest, (size_t)(tab - rest), value};
-        rest = digit + 1;
+// Ends all that is open below the depth at which a key parts from the last one, and opens a branch there if there is none. At the end
+// of all keys, nothing stays open.
+static void part(size_t depth, uint8_t edge, bool at_end) {
+    const Open *node = nullptr;
+    size_t from = text_len;
+    for (; opened > 0; opened--) {
+        Open &around = *stack[opened - 1];
+        if (!at_end && around.depth <= depth)
+            break;
+        put(node, around.depth + (around.edges > 0));
+        if (around.edges > 0)
+            around.end[around.edges - 1] = text_len;
+        node = &around;
+        from = around.from;
     }
-    uint8_t *text = (uint8_t *)malloc(in.len + 16 * count + 16), *behind = text + in.len + 16 * count + 16;
-    front = behind;
-    if (count > 0)
-        put_window(items, 0, count, 0);
-    write_all(out, front, behind - front);
+    if (at_end)
+        return put(node, 0);
+    put(node, depth + 1);
+    bool is_new = opened == 0 || stack[opened - 1]->depth < depth || stack[opened - 1]->edges == 0;
+    Open &branch = is_new ? open_at(depth, from, 0) : *stack[opened - 1];
+    if (is_new)
+        branch.edge[branch.edges++] = last[depth];
+    branch.end[branch.edges - 1] = text_len;
+    branch.edge[branch.edges++] = edge;
+}
+
+static void add(const uint8_t *key, size_t len, size_t value, bool is_first) {
+    size_t common = 0, most = len < last_len ? len : last_len;
+    while (common < most && last[common] == key[common])
+        common++;
+    if (!is_first && common == last_len)
+        open_at(common, text_len, last_value);
+    else if (!is_first)
+        part(common, key[common], false);
+    memcpy(last + common, key + common, len - common);
+    last_len = len;
+    last_value = value;
+}
+
+static void build(int in, int out) {
+    static uint8_t lines[1 << 17];
+    size_t held = 0;
+    bool is_first = true;
+    for (ssize_t more; (more = read(in, lines + held, 1 << 16)) > 0;) {
+        const uint8_t *rest = lines, *end = lines + held + more, *feed;
+        while ((feed = (const uint8_t *)memchr(rest, '\n', end - rest))) {
+            const uint8_t *tab = (const uint8_t *)memchr(rest, '\t', feed - rest);
+            size_t value = 0;
+            for (const uint8_t *digit = tab + 1; digit < feed; digit++)
+                value = 10 * value + (*digit - '0');
+            add(rest, tab - rest, value, is_first);
+            is_first = false;
+            rest = feed + 1;
+        }
+        held = end - rest;
+        memmove(lines, rest, held);
+    }
+    if (!is_first)
+        part(0, 0, true);
+    write_all(out, text, text_len);
+}
+
+struct Bytes {
+    uint8_t *at;
+    size_t len;
+};
+
+static Bytes read_all(int file) {
+    struct stat told;
+    if (fstat(file, &told))
+        exit(3);
+    Bytes all = {(uint8_t *)malloc(told.st_size + 1), (size_t)told.st_size};
+    for (size_t got = 0; got < all.len;) {
+        ssize_t more = read(file, all.at + got, all.len - got);
+        if (more <= 0)
+            exit(3);
+        got += more;
+    }
+    return all;
 }
 
 // The lines that are not written yet, and the key that leads to where the walk is.
@@ -207,13 +253,13 @@ static void walk(int out, const uint8_t *at, const uint8_t *end, size_t depth) {
 int main(int count, char **words) {
     if (count != 4)
         return 2;
-    Bytes in = read_all(words[2]);
-    int out = open(words[3], O_WRONLY | O_CREAT | O_TRUNC, 0644);
-    if (out < 0)
+    int in_file = open(words[2], O_RDONLY), out = open(words[3], O_WRONLY | O_CREAT | O_TRUNC, 0644);
+    if (in_file < 0 || out < 0)
         return 3;
     if (!strcmp(words[1], "build")) {
-        build(in, out);
+        build(in_file, out);
     } else {
+        Bytes in = read_all(in_file);
         walk(out, in.at, in.at + in.len, 0);
         write_all(out, lines, held);
     }
