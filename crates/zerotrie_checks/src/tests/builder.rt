@@ -1,5 +1,7 @@
 //! Builds.
 
+ghost use Rattle.std.specs.Prelude.{◌<◌};
+
 use super::*;
 use counting::Counting;
 use linked_list_allocator::LocalHeap;
