@@ -5,3 +5,4 @@ mod JsonLemmas
 mod CodeLemmas
 mod CountLemmas
 mod TextLemmas
+pub mod PartLemmas

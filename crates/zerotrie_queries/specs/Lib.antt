@@ -7,3 +7,4 @@ pub mod Answers
 pub mod code
 pub mod views
 pub mod reports
+pub mod Parts

@@ -1,6 +1,6 @@
 //! The pairs of a trie as one JSON value, printed as they come.
 
-ghost use Rattle.std.specs.Prelude.{◌≡◌, ◌++◌, map, false, OnOk, IfOk};
+ghost use Rattle.std.specs.Prelude.{◌≡◌, ◌++◌, map, false, OnOk, OnErr, IfOk};
 ghost use Rattle.std.specs.Str.{is_utf8};
 ghost use Rattle.std.specs.Io.KnownBytes.{Appends};
 ghost use Rattle.serde_json.specs.Written.{compact_text, comma_if};
@@ -9,7 +9,9 @@ ghost use Rattle.zerotrie_core.specs.Texts.{Lists};
 ghost use Rattle.zerotrie_any.specs.Json.{are_text, list_of, whole, pair_list};
 ghost use Rattle.zerotrie_queries.specs.Kinds.{kind_of};
 ghost use Rattle.zerotrie_queries.specs.Json.{json_line, item_text, item_texts, opening, closing};
+ghost use Rattle.zerotrie_queries.specs.Parts.{AppendsPart};
 
+use crate::output::write_bytes;
 use crate::trie::Trie;
 use std::alloc::{AllocError, Global};
 use std::io;
@@ -98,7 +100,9 @@ fn write_items<W: Write>(
     in_object: bool,
     output: &mut W,
 ) -> io::Result<()>
-    ensures { OnOk result (Appends (W.contents output.old) (W.contents output.new)
+    ensures all { OnOk result (Appends (W.contents output.old) (W.contents output.new)
+        (item_texts in_object false pairs.old.left.pairs)) }
+    ensures part { OnErr result (AppendsPart (W.contents output.old) (W.contents output.new)
         (item_texts in_object false pairs.old.left.pairs)) }
 {
     let mut text = Vec::new(alloc);
@@ -110,7 +114,7 @@ fn write_items<W: Write>(
         text.clear();
         add_comma(&mut text, later)?;
         add_item(&mut text, in_object, pairs.key(), pairs.value())?;
-        output.write_all(text.as_slice())?;
+        write_bytes(output, text.as_slice())?;
         later = true;
     }
 }
@@ -136,27 +140,36 @@ fn write_value<W: Write>(
     in_object: bool,
     output: &mut W,
 ) -> io::Result<()>
-    ensures { OnOk result (Appends (W.contents output.old) (W.contents output.new)
+    ensures all { OnOk result (Appends (W.contents output.old) (W.contents output.new)
+        ((opening in_object ++ item_texts in_object false pairs.old.left.pairs)
+        ++ closing in_object)) }
+    ensures part { OnErr result (AppendsPart (W.contents output.old) (W.contents output.new)
         ((opening in_object ++ item_texts in_object false pairs.old.left.pairs)
         ++ closing in_object)) }
 {
-    output.write_all(opening(in_object).as_bytes())?;
+    write_bytes(output, opening(in_object).as_bytes())?;
     write_items(alloc, pairs, in_object, output)?;
-    output.write_all(closing(in_object).as_bytes())
+    write_bytes(output, closing(in_object).as_bytes())
 }
 
 /// Writes the pairs whose keys begin with a prefix as one JSON value and a line feed: an object from key to value if all
 /// of these keys are UTF-8, and else a list of lists of two, the bytes of a key and its value.
 ///
-/// It goes over the pairs twice, first to see whether their keys are UTF-8. A pair takes no memory of its own.
+/// It goes over the pairs twice, first to see whether their keys are UTF-8. A pair takes no memory of
+/// its own. If it fails, a beginning of the value was written.
 pub fn write_json<W: Write>(
     alloc: Global,
     trie: &Trie<'_>,
     prefix: &[u8],
     output: &mut W,
 ) -> io::Result<()>
-    ensures { OnOk result ((pairs : Pairs) → Lists (kind_of trie.now.kind) trie.now.bytes.now pairs
+    ensures all { OnOk result ((pairs : Pairs)
+        → Lists (kind_of trie.now.kind) trie.now.bytes.now pairs
         → Appends (W.contents output.old) (W.contents output.new)
+        (json_line (beginning (kind_of trie.now.kind) prefix.now pairs))) }
+    ensures part { OnErr result ((pairs : Pairs)
+        → Lists (kind_of trie.now.kind) trie.now.bytes.now pairs
+        → AppendsPart (W.contents output.old) (W.contents output.new)
         (json_line (beginning (kind_of trie.now.kind) prefix.now pairs))) }
 {
     let mut seen = trie.stream_prefix(alloc, prefix)?;

@@ -1,14 +1,16 @@
 //! The pairs of a trie, printed as they come.
 
-ghost use Rattle.std.specs.Prelude.{◌≡◌, ◌++◌, ◌<◌, [], length, true, false, IfOk, OnOk};
+ghost use Rattle.std.specs.Prelude.{◌≡◌, ◌++◌, ◌<◌, [], length, true, false, IfOk, OnOk, OnErr};
 ghost use Rattle.std.specs.Io.KnownBytes.{Appends};
 ghost use Rattle.zerotrie_core.specs.Maps.{Pairs, beginning};
 ghost use Rattle.zerotrie_core.specs.Texts.{Lists};
 ghost use Rattle.zerotrie_queries.specs.Kinds.{kind_of};
-ghost use Rattle.zerotrie_queries.specs.Answers.{AreListed};
+ghost use Rattle.zerotrie_queries.specs.Answers.{AreListed, AreListedInPart};
+ghost use Rattle.zerotrie_queries.specs.Parts.{AppendsPart};
 ghost use Rattle.zerotrie_queries.specs.Printed.{pair_lines};
 
 use crate::json_listing::write_json;
+use crate::output::write_bytes;
 use crate::print::{Form, Style, add_pair};
 use crate::trie::Trie;
 use std::alloc::{AllocError, Global};
@@ -41,20 +43,23 @@ fn add_block(
     Ok(true)
 }
 
-/// Writes the pairs that a stream still has, many lines at once.
+/// Writes the pairs that a stream still has, many lines at once. If it fails, a beginning of
+/// them was written.
 fn write_stream<W: Write>(
     alloc: Global,
     pairs: &mut ZeroTrieStream<'_>,
     style: Style,
     output: &mut W,
 ) -> io::Result<()>
-    ensures { OnOk result (Appends (W.contents output.old) (W.contents output.new)
+    ensures all { OnOk result (Appends (W.contents output.old) (W.contents output.new)
+        (pair_lines style pairs.old.left.pairs)) }
+    ensures part { OnErr result (AppendsPart (W.contents output.old) (W.contents output.new)
         (pair_lines style pairs.old.left.pairs)) }
 {
     let mut lines = Vec::new(alloc);
     loop {
         let more = add_block(&mut lines, pairs, style)?;
-        output.write_all(lines.as_slice())?;
+        write_bytes(output, lines.as_slice())?;
         if !more {
             return Ok(());
         }
@@ -70,15 +75,21 @@ fn write_lines<W: Write>(
     prefix: &[u8],
     output: &mut W,
 ) -> io::Result<()>
-    ensures { OnOk result ((pairs : Pairs) → Lists (kind_of trie.now.kind) trie.now.bytes.now pairs
+    ensures all { OnOk result ((pairs : Pairs)
+        → Lists (kind_of trie.now.kind) trie.now.bytes.now pairs
         → Appends (W.contents output.old) (W.contents output.new)
+        (pair_lines style (beginning (kind_of trie.now.kind) prefix.now pairs))) }
+    ensures part { OnErr result ((pairs : Pairs)
+        → Lists (kind_of trie.now.kind) trie.now.bytes.now pairs
+        → AppendsPart (W.contents output.old) (W.contents output.new)
         (pair_lines style (beginning (kind_of trie.now.kind) prefix.now pairs))) }
 {
     let mut pairs = trie.stream_prefix(alloc, prefix)?;
     write_stream(alloc, &mut pairs, style, output)
 }
 
-/// Writes the pairs whose keys begin with a prefix, in the order of the trie. A pair takes no memory of its own.
+/// Writes the pairs whose keys begin with a prefix, in the order of the trie. A pair takes no memory
+/// of its own. If it fails, a beginning of what is to be written was written.
 pub fn write_list<W: Write>(
     alloc: Global,
     trie: &Trie<'_>,
@@ -86,7 +97,9 @@ pub fn write_list<W: Write>(
     prefix: &[u8],
     output: &mut W,
 ) -> io::Result<()>
-    ensures { OnOk result (AreListed form prefix.now trie.now.kind trie.now.bytes.now
+    ensures all { OnOk result (AreListed form prefix.now trie.now.kind trie.now.bytes.now
+        (W.contents output.old) (W.contents output.new)) }
+    ensures part { OnErr result (AreListedInPart form prefix.now trie.now.kind trie.now.bytes.now
         (W.contents output.old) (W.contents output.new)) }
 {
     match form {

@@ -1,11 +1,12 @@
 //! Keys and texts that are looked up, one after another.
 
-ghost use Rattle.std.specs.Prelude.{◌≡◌, ◌++◌, map, IfOk};
+ghost use Rattle.std.specs.Prelude.{◌≡◌, ◌++◌, map, IfOk, OnErr};
 ghost use Rattle.zerotrie_queries.specs.Printed.{value_lines, are_found};
-ghost use Rattle.zerotrie_queries.specs.Answers.{AreAnswered};
+ghost use Rattle.zerotrie_queries.specs.Answers.{AreAnswered, AreAnsweredInPart};
 ghost use Rattle.zerotrie_queries.specs.declared.lookups.Asked.TheVariants.{Value, Longest};
 
 use crate::batch::TrieLookUps;
+use crate::output::write_bytes;
 use crate::print::{add_found, add_value};
 use crate::trie::Trie;
 use std::alloc::{AllocError, Global};
@@ -46,6 +47,8 @@ fn write_values<W: Write>(
 ) -> io::Result<bool>
     ensures answered { IfOk result (AreAnswered Value trie.old.0 trie.old.1
         (map (λ key. key.now) keys.now) (W.contents output.old) (W.contents output.new)) }
+    ensures part { OnErr result (AreAnsweredInPart Value trie.old.0 trie.old.1
+        (map (λ key. key.now) keys.now) (W.contents output.old) (W.contents output.new)) }
     ensures kept { trie.new ≡ trie.old }
 {
     let mut values = Vec::new(alloc);
@@ -59,7 +62,7 @@ fn write_values<W: Write>(
         trie.get_each(block, &mut values)?;
         lines.clear();
         all &= add_values(&mut lines, values.as_slice())?;
-        output.write_all(lines.as_slice())?;
+        write_bytes(output, lines.as_slice())?;
         begin += block.len();
     }
     Ok(all)
@@ -73,7 +76,9 @@ fn write_longest<W: Write>(
     texts: &[&[u8]],
     output: &mut W,
 ) -> io::Result<bool>
-    ensures { IfOk result (AreAnswered Longest trie.now.kind trie.now.bytes.now
+    ensures answered { IfOk result (AreAnswered Longest trie.now.kind trie.now.bytes.now
+        (map (λ t. t.now) texts.now) (W.contents output.old) (W.contents output.new)) }
+    ensures part { OnErr result (AreAnsweredInPart Longest trie.now.kind trie.now.bytes.now
         (map (λ t. t.now) texts.now) (W.contents output.old) (W.contents output.new)) }
 {
     let mut line = Vec::new(alloc);
@@ -83,7 +88,7 @@ fn write_longest<W: Write>(
         all &= found.is_some();
         line.clear();
         add_found(&mut line, text, found)?;
-        output.write_all(line.as_slice())?;
+        write_bytes(output, line.as_slice())?;
     }
     Ok(all)
 }
@@ -91,7 +96,8 @@ fn write_longest<W: Write>(
 /// Writes a line for each text, what was asked of it or `none`, and tells whether all was found. Values are written many at
 /// once.
 ///
-/// The answers are those of the map that the bytes of the trie mean. If these mean none, it returns too.
+/// The answers are those of the map that the bytes of the trie mean. If these mean none, it returns too. If it fails, it has
+/// written a beginning of the lines of some of the texts, from the first on.
 pub fn write_answers<W: Write>(
     alloc: Global,
     trie: &mut TrieLookUps<'_>,
@@ -100,6 +106,8 @@ pub fn write_answers<W: Write>(
     output: &mut W,
 ) -> io::Result<bool>
     ensures answered { IfOk result (AreAnswered asked trie.old.0 trie.old.1
+        (map (λ t. t.now) texts.now) (W.contents output.old) (W.contents output.new)) }
+    ensures part { OnErr result (AreAnsweredInPart asked trie.old.0 trie.old.1
         (map (λ t. t.now) texts.now) (W.contents output.old) (W.contents output.new)) }
     ensures kept { trie.new ≡ trie.old }
 {

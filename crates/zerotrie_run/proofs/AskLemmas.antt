@@ -1,5 +1,5 @@
 -- A question that was answered, and the flush after it.
-use Rattle.std.proofs.Common.{◌≡◌, ◌⊎◌, ℕ, List, Option, Bool, true, false, IsTrue, refl, subst, inl, inr}
+use Rattle.std.proofs.Common.{◌≡◌, ◌⊎◌, ℕ, List, [], Option, None, Some, Bool, true, false, IsTrue, refl, sym, ◌∙◌, subst, inl, inr, append-nil}
 use Rattle.std.specs.Io.KnownBytes.{Keeps}
 use Rattle.std.proofs.KnownBytes.{Appends-kept}
 use Rattle.zerotrie_queries.specs.declared.kind.TrieKind.{TrieKind}
@@ -13,7 +13,9 @@ use Rattle.zerotrie_queries.specs.Printed.{listed}
 use Rattle.zerotrie_queries.specs.Answers.{AreAnswered}
 use Rattle.zerotrie_queries.specs.declared.lookups.Asked.{Asked}
 use Rattle.zerotrie_queries.specs.declared.lookups.Asked.TheVariants as asked
-use Rattle.zerotrie_run.specs.Runs.{Answers, AreKeys, are_lines, of_lines}
+use Rattle.zerotrie_queries.proofs.PartLemmas.{part_all}
+use Rattle.zerotrie_queries.proofs.AnswerLemmas.{begun_all}
+use Rattle.zerotrie_run.specs.Runs.{Answers, AnswersInPart, AreKeys, AreFirstKeys, KeysAnswered, KeysAnsweredInPart, are_lines, of_lines}
 use Rattle.zerotrie_run.specs.declared.command.Place.{Place}
 use Rattle.zerotrie_run.specs.declared.command.Place.TheVariants.{Stream}
 use Rattle.zerotrie_run.specs.declared.command.Keys.{Keys}
@@ -56,6 +58,43 @@ pub same_answer : {R : Type 0} (place : Place) (remaining : R → Option (List �
     → ((place ≡ Stream) × (of_lines q ≡ true) → ⊥) → (place ≡ Stream) ⊎ (new ≡ old) → Answers q (remaining new) kind bytes a b all → Answers q (remaining old) kind bytes a b all
 same_answer place remaining old new q kind bytes a b all apart (inl is) h = other_input q (remaining new) (remaining old) kind bytes a b all (λ lines. apart (is, lines)) h
 same_answer place remaining old new q kind bytes a b all apart (inr is) h = subst (λ r. Answers q (remaining r) kind bytes a b all) is h
+
+-- all keys are first keys
+first_keys : (keys : Keys) (input : Option (List ℕ)) (ks : List (List ℕ)) → AreKeys keys input ks → AreFirstKeys keys input ks
+first_keys (Words words) input ks h = h
+first_keys Lines None ks h = tt
+first_keys Lines (Some known) ks h = ([], sym h ∙ sym (append-nil ks))
+
+keys_in_part : (of : Asked) (keys : Keys) (input : Option (List ℕ)) (kind : TrieKind) (bytes : List ℕ) (a b : Option (List ℕ)) (all : Bool) → KeysAnswered of keys input kind bytes a b all
+    → KeysAnsweredInPart of keys input kind bytes a b
+keys_in_part of keys input kind bytes a b all h = (h.0, first_keys keys input h.0 h.1, begun_all of kind bytes h.0 a b all h.2)
+
+-- an answer is a beginning of itself
+pub answer_in_part : (q : Question) (input : Option (List ℕ)) (kind : TrieKind) (bytes : List ℕ) (a b : Option (List ℕ)) (all : Bool) → Answers q input kind bytes a b all → AnswersInPart q input kind bytes a b
+answer_in_part (Get keys) input kind bytes a b all h = keys_in_part asked.Value keys input kind bytes a b all h
+answer_in_part (Longest texts) input kind bytes a b all h = keys_in_part asked.Longest texts input kind bytes a b all h
+answer_in_part (Listing form prefix) input kind bytes a b all h = λ pairs lists. part_all a b (listed form (beginning (kind_of kind) prefix.now pairs)) (h.1 pairs lists)
+answer_in_part (Code language name) input kind bytes a b all h = part_all a b (code language kind name.now bytes) h.1
+answer_in_part Report input kind bytes a b all h = part_all a b (report_lines (report_of kind bytes)) h.1
+answer_in_part (View view) input kind bytes a b all h = part_all a b (shown view kind bytes) h.1
+
+-- a beginning of an answer whose keys are no lines is one whatever was typed
+other_first_keys : (keys : Keys) (i j : Option (List ℕ)) (ks : List (List ℕ)) → (are_lines keys ≡ true → ⊥) → AreFirstKeys keys i ks → AreFirstKeys keys j ks
+other_first_keys (Words words) i j ks apart h = h
+other_first_keys Lines i j ks apart h = absurd (apart refl)
+
+other_part : (q : Question) (i j : Option (List ℕ)) (kind : TrieKind) (bytes : List ℕ) (a b : Option (List ℕ)) → (of_lines q ≡ true → ⊥) → AnswersInPart q i kind bytes a b → AnswersInPart q j kind bytes a b
+other_part (Get keys) i j kind bytes a b apart h = (h.0, other_first_keys keys i j h.0 apart h.1, h.2)
+other_part (Longest texts) i j kind bytes a b apart h = (h.0, other_first_keys texts i j h.0 apart h.1, h.2)
+other_part (Listing form prefix) i j kind bytes a b apart h = h
+other_part (Code language name) i j kind bytes a b apart h = h
+other_part Report i j kind bytes a b apart h = h
+other_part (View view) i j kind bytes a b apart h = h
+
+pub same_part : {R : Type 0} (place : Place) (remaining : R → Option (List ℕ)) (old new : R) (q : Question) (kind : TrieKind) (bytes : List ℕ) (a b : Option (List ℕ))
+    → ((place ≡ Stream) × (of_lines q ≡ true) → ⊥) → (place ≡ Stream) ⊎ (new ≡ old) → AnswersInPart q (remaining new) kind bytes a b → AnswersInPart q (remaining old) kind bytes a b
+same_part place remaining old new q kind bytes a b apart (inl is) h = other_part q (remaining new) (remaining old) kind bytes a b (λ lines. apart (is, lines)) h
+same_part place remaining old new q kind bytes a b apart (inr is) h = subst (λ r. AnswersInPart q (remaining r) kind bytes a b) is h
 
 -- what is false is not so
 pub is_not : (b : Bool) → b ≡ false → IsTrue b → ⊥

@@ -3,7 +3,6 @@ use Rattle.std.proofs.Common.{◌≡◌, ℕ, List, Option, Some, None, Bool, tr
 use Rattle.std.specs.Prelude.{IfSome}
 use Rattle.std.proofs.lemmas.Option.{none-some, same_Some}
 use Rattle.zerotrie_core.specs.Kind.{Kind, simple_ascii, ignore_case, perfect_hash, extended_capacity, tag}
-use Rattle.zerotrie_core.specs.Maps.{Pairs, map_of}
 use Rattle.zerotrie_core.specs.Texts.{Means}
 use Rattle.zerotrie_any.specs.Tagged.{tagged}
 use Rattle.zerotrie_queries.specs.Kinds.{kind_of}
@@ -11,14 +10,11 @@ use Rattle.zerotrie_queries.specs.Files.{Holds}
 use Rattle.zerotrie_queries.specs.declared.kind.TrieKind.{TrieKind}
 use Rattle.zerotrie_files.specs.Disks as disks
 use Rattle.zerotrie_files.specs.Disks.{Files, Known}
-use Rattle.zerotrie_making.specs.Plans.{kind_for, file_of}
-use Rattle.zerotrie_making.specs.Made.{IsFileOf}
-use Rattle.zerotrie_run.specs.Runs.{World, Answers, IsRead, IsWritten}
-use Rattle.zerotrie_run.specs.Laws.{IsNamedAsMade, IsAnswerOf, MadeIsAsked}
+use Rattle.zerotrie_making.specs.Plans.{file_of}
+use Rattle.zerotrie_run.specs.Runs.{World, IsRead, IsWritten}
+use Rattle.zerotrie_run.specs.Laws.{IsNamedAsMade, MadeIsAsked}
 use Rattle.zerotrie_run.specs.declared.command.Place.{Place}
 use Rattle.zerotrie_run.specs.declared.command.Place.TheVariants.{File, Stream}
-use Rattle.zerotrie_run.specs.declared.command.Question.{Question}
-use Rattle.zerotrie_run.specs.declared.command.Build.{Build}
 
 -- no two kinds have one number
 tag_injective : (j k : Kind) → tag j ≡ tag k → j ≡ k

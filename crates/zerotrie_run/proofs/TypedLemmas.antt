@@ -1,5 +1,5 @@
 -- An input whose lines are answered part by part.
-use Rattle.std.proofs.Common.{◌≡◌, ℕ, List, [], ◌++◌, Option, Bool, true, refl, sym, ◌∙◌, ap, subst, append_assoc}
+use Rattle.std.proofs.Common.{◌≡◌, ℕ, List, [], ◌++◌, Option, None, Some, Bool, true, false, refl, sym, ◌∙◌, ap, subst, append_assoc, append-nil}
 use Rattle.std.specs.Prelude.{◌&&◌}
 use Rattle.std.specs.Io.KnownBytes.{Consumes, IsAtEnd}
 use Rattle.std.proofs.KnownBytes.{Consumes-nil, Consumes-trans, Consumes-whole}
@@ -7,9 +7,9 @@ use Rattle.zerotrie_lines.specs.Lines.{lines_of}
 use Rattle.zerotrie_lines.specs.Blocks.{AreWhole, Gives}
 use Rattle.zerotrie_queries.specs.declared.kind.TrieKind.{TrieKind}
 use Rattle.zerotrie_queries.specs.declared.lookups.Asked.{Asked}
-use Rattle.zerotrie_queries.specs.Answers.{AreAnswered}
-use Rattle.zerotrie_queries.proofs.AnswerLemmas.{none_answered, more_answered}
-use Rattle.zerotrie_run.specs.Runs.{KeysAnswered}
+use Rattle.zerotrie_queries.specs.Answers.{AreAnswered, AreAnsweredInPart}
+use Rattle.zerotrie_queries.proofs.AnswerLemmas.{none_answered, more_answered, begun_all, more_begun}
+use Rattle.zerotrie_run.specs.Runs.{KeysAnswered, KeysAnsweredInPart, AreFirstKeys}
 use Rattle.zerotrie_run.specs.declared.command.Keys.TheVariants.{Lines}
 
 -- What was read of an input and answered, and what was read and is held. What was answered is whole lines.
@@ -70,4 +70,50 @@ typed_ends of kind bytes input left held part old mid new all found next t same 
   lines_of (t.done ++ part),
   Consumes-whole input left (t.done ++ held) (λ known. lines_of (t.done ++ part) ≡ lines_of known) t.consumes end (ap (λ l. lines_of (t.done ++ l)) same),
   answered_part of kind bytes input left held part old mid new all found t h,
+)
+
+-- what was answered are the first lines of the input
+first_lines : (input left : Option (List ℕ)) (done held : List ℕ) → AreWhole done → Consumes input left (done ++ held) → AreFirstKeys Lines input (lines_of done)
+first_lines None left done held whole c = tt
+first_lines (Some known) None done held whole c = absurd c
+first_lines (Some known) (Some l) done held whole c = (lines_of (held ++ l), ap lines_of (c ∙ append_assoc done held l) ∙ whole (held ++ l))
+
+-- no more is answered
+pub typed_stops : (of : Asked) (kind : TrieKind) (bytes : List ℕ) (input left : Option (List ℕ)) (held : List ℕ) (old new : Option (List ℕ)) (all : Bool) → Typed of kind bytes input left held old new all
+    → KeysAnsweredInPart of Lines input kind bytes old new
+typed_stops of kind bytes input left held old new all t =
+    (lines_of t.done, first_lines input left t.done held t.whole t.consumes, begun_all of kind bytes (lines_of t.done) old new all t.answered)
+
+-- What of the bytes that are held is answered: whole lines, or all if no more come.
+pub record IsNext (ended : Bool) (left : Option (List ℕ)) (held part rest : List ℕ) : Type 0 where
+  pub cut : held ≡ part ++ rest
+  pub all : ended ≡ true → (part ≡ held) × IsAtEnd left
+  pub whole : ended ≡ false → AreWhole part
+
+next_lines : (ended : Bool) (input left : Option (List ℕ)) (done held part rest : List ℕ) → AreWhole done → Consumes input left (done ++ held) → IsNext ended left held part rest
+    → AreFirstKeys Lines input (lines_of done ++ lines_of part)
+next_lines ended None left done held part rest whole c n = tt
+next_lines ended (Some known) None done held part rest whole c n = absurd c
+next_lines true (Some known) (Some l) done held part rest whole c n =
+    let all = n.all refl in
+    let lines : lines_of known ≡ lines_of done ++ lines_of part =
+    ap lines_of (c ∙ ap (λ e. (done ++ held) ++ e) all.1 ∙ append-nil (done ++ held)) ∙ whole held ∙ ap (λ h. lines_of done ++ lines_of h) (sym all.0) in
+    ([], lines ∙ sym (append-nil (lines_of done ++ lines_of part)))
+next_lines false (Some known) (Some l) done held part rest whole c n =
+    let behind : held ++ l ≡ part ++ (rest ++ l) = ap (λ h. h ++ l) n.cut ∙ append_assoc part rest l in (
+      lines_of (rest ++ l),
+      ap lines_of (c ∙ append_assoc done held l)
+          ∙ whole (held ++ l)
+          ∙ ap (λ h. lines_of done ++ lines_of h) behind
+          ∙ ap (λ t. lines_of done ++ t) (n.whole refl (rest ++ l))
+          ∙ sym (append_assoc (lines_of done) (lines_of part) (lines_of (rest ++ l))),
+    )
+
+-- a beginning of the answers to what is next was printed
+pub typed_fails : (of : Asked) (kind : TrieKind) (bytes : List ℕ) (input left : Option (List ℕ)) (held part rest : List ℕ) (old mid new : Option (List ℕ)) (all ended : Bool)
+    → Typed of kind bytes input left held old mid all → IsNext ended left held part rest → AreAnsweredInPart of kind bytes (lines_of part) mid new → KeysAnsweredInPart of Lines input kind bytes old new
+typed_fails of kind bytes input left held part rest old mid new all ended t n h = (
+  lines_of t.done ++ lines_of part,
+  next_lines ended input left t.done held part rest t.whole t.consumes n,
+  more_begun of kind bytes (lines_of t.done) (lines_of part) old mid new all t.answered h,
 )

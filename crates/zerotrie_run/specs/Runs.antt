@@ -1,5 +1,5 @@
 -- What each command prints, what it leaves in files, and how it ends.
-use Rattle.std.specs.Prelude.{◌≡◌, ◌≢◌, ◌⊎◌, ℕ, List, [], Option, Some, None, IfSome, Result, Ok, Err, Bool, true, false, map, codes}
+use Rattle.std.specs.Prelude.{◌≡◌, ◌≢◌, ◌⊎◌, ◌++◌, ℕ, List, [], Option, Some, None, IfSome, Result, Ok, Err, Bool, true, false, map, codes}
 use Rattle.std.specs.Io.KnownBytes.{Appends}
 use Rattle.std.specs.Io.Buffered.{writer_buffer}
 use Rattle.std.specs.declared.io.buffered.BufWriter.{BufWriter}
@@ -12,7 +12,8 @@ use Rattle.zerotrie_queries.specs.Kinds.{kind_of}
 use Rattle.zerotrie_queries.specs.Files.{Holds, HasNoKind, Explains}
 use Rattle.zerotrie_queries.specs.declared.kind.TrieKind.{TrieKind}
 use Rattle.zerotrie_queries.specs.declared.file.OpenError.{OpenError}
-use Rattle.zerotrie_queries.specs.Answers.{AreAnswered, AreListed}
+use Rattle.zerotrie_queries.specs.Parts.{AppendsPart}
+use Rattle.zerotrie_queries.specs.Answers.{AreAnswered, AreAnsweredInPart, AreListed, AreListedInPart}
 use Rattle.zerotrie_queries.specs.declared.lookups.Asked.{Asked}
 use Rattle.zerotrie_queries.specs.declared.lookups.Asked.TheVariants as asked
 use Rattle.zerotrie_queries.specs.code.Code.{code}
@@ -117,6 +118,24 @@ Answers (Code language name) input kind bytes old new all = (all ≡ true) × Ap
 Answers Report input kind bytes old new all = (all ≡ true) × Appends old new (report_lines (report_of kind bytes))
 Answers (View view) input kind bytes old new all = (all ≡ true) × Appends old new (shown view kind bytes)
 
+-- the first keys of a question: all of its words, or the first lines of standard input
+abbrev pub AreFirstKeys : Keys → Option (List ℕ) → List (List ℕ) → Type 0
+AreFirstKeys (Words words) input keys = keys ≡ map (λ w. w.now) words.now
+AreFirstKeys Lines input keys = IfSome input (λ known. (more : List (List ℕ)) × (lines_of known ≡ keys ++ more))
+
+-- a beginning of what belongs to the first keys, and to the map that the bytes mean, if they mean one, was printed
+abbrev pub KeysAnsweredInPart : Asked → Keys → (input : Option (List ℕ)) → TrieKind → List ℕ → (old new : Option (List ℕ)) → Type 0
+KeysAnsweredInPart of keys input kind bytes old new = (ks : List (List ℕ)) × AreFirstKeys keys input ks × AreAnsweredInPart of kind bytes ks old new
+
+-- a beginning of what belongs to the question and to bytes of this kind was printed
+abbrev pub AnswersInPart : Question → (input : Option (List ℕ)) → TrieKind → List ℕ → (old new : Option (List ℕ)) → Type 0
+AnswersInPart (Get keys) input kind bytes old new = KeysAnsweredInPart asked.Value keys input kind bytes old new
+AnswersInPart (Longest texts) input kind bytes old new = KeysAnsweredInPart asked.Longest texts input kind bytes old new
+AnswersInPart (Listing form prefix) input kind bytes old new = AreListedInPart form prefix.now kind bytes old new
+AnswersInPart (Code language name) input kind bytes old new = AppendsPart old new (code language kind name.now bytes)
+AnswersInPart Report input kind bytes old new = AppendsPart old new (report_lines (report_of kind bytes))
+AnswersInPart (View view) input kind bytes old new = AppendsPart old new (shown view kind bytes)
+
 -- The trie of a file was asked: what was read, its bytes and their kind, and the answer.
 pub record IsAsked (file : TrieFile) (question : Question) (input : Option (List ℕ)) (files : Option Files) (old new : Option (List ℕ)) (all : Bool) : Type 0 where
   pub held : List ℕ
@@ -126,9 +145,14 @@ pub record IsAsked (file : TrieFile) (question : Question) (input : Option (List
   pub opens : Opens file held kind bytes
   pub answers : Answers question input kind bytes old new all
 
--- the file has a trie
-abbrev pub HasTrie : TrieFile → Option (List ℕ) → Option Files → Type 0
-HasTrie file input files = (held : List ℕ) × IsRead file.place input files held × (kind : TrieKind) × (bytes : List ℕ) × Opens file held kind bytes
+-- The trie of a file was asked, and a beginning of the answer was printed.
+pub record IsAskedInPart (file : TrieFile) (question : Question) (input : Option (List ℕ)) (files : Option Files) (old new : Option (List ℕ)) : Type 0 where
+  pub held : List ℕ
+  pub read : IsRead file.place input files held
+  pub kind : TrieKind
+  pub bytes : List ℕ
+  pub opens : Opens file held kind bytes
+  pub begun : AnswersInPart question input kind bytes old new
 
 -- the file has no trie
 abbrev pub HasNoTrie : TrieFile → Option (List ℕ) → Option Files → Type 0
@@ -138,23 +162,23 @@ HasNoTrie file input files = (held : List ℕ) × IsRead file.place input files 
 abbrev pub IsFaultIn : Option TrieKind → List ℕ → ByteFault → Type 0
 IsFaultIn named held fault = (kind : TrieKind) × (bytes : List ℕ) × Holds named held kind bytes × IsFirstFault (kind_of kind) bytes fault
 
--- what a file holds has no answer: it has no trie, and nothing was printed; or it has one, and printing failed
-abbrev pub IsUnanswered : TrieFile → List ℕ → (old new : Option (List ℕ)) → AskError → Type 0
-IsUnanswered file held old new ask.TwoInputs = ⊥
-IsUnanswered file held old new (ask.Unread e) = ⊥
-IsUnanswered file held old new (ask.NoTrie why fault) = IsUnopened file held why × (new ≡ old) × IfSome fault (IsFaultIn file.kind held)
-IsUnanswered file held old new (ask.Unanswered e) = (kind : TrieKind) × (bytes : List ℕ) × Opens file held kind bytes
+-- what a file holds has no answer: it has no trie, and nothing was printed; or it has one, and a beginning of the answer was printed
+abbrev pub IsUnanswered : TrieFile → Question → (input : Option (List ℕ)) → List ℕ → (old new : Option (List ℕ)) → AskError → Type 0
+IsUnanswered file question input held old new ask.TwoInputs = ⊥
+IsUnanswered file question input held old new (ask.Unread e) = ⊥
+IsUnanswered file question input held old new (ask.NoTrie why fault) = IsUnopened file held why × (new ≡ old) × IfSome fault (IsFaultIn file.kind held)
+IsUnanswered file question input held old new (ask.Unanswered e) = (kind : TrieKind) × (bytes : List ℕ) × Opens file held kind bytes × AnswersInPart question input kind bytes old new
 
 -- How a question to the trie of a file ends. The answer was printed, and all was found or not; the file and the keys are
 -- both standard input; the file has no trie; or it is out of memory, a file can't be read or output can't be written, and then
--- nothing was printed unless the file has a trie.
+-- nothing was printed, or the file has a trie and a beginning of the answer was.
 abbrev pub RunsAsk : TrieFile → Question → Option (List ℕ) → Option Files → (old new : Option (List ℕ)) → Status → Type 0
 RunsAsk file question input files old new Done = IsAsked file question input files old new true
 RunsAsk file question input files old new Absent = IsAsked file question input files old new false
 RunsAsk file question input files old new Refused = ⊥
 RunsAsk file question input files old new BadUsage = (file.place ≡ Stream) × (of_lines question ≡ true) × (new ≡ old)
 RunsAsk file question input files old new BadInput = HasNoTrie file input files × (new ≡ old)
-RunsAsk file question input files old new Fault = (new ≡ old) ⊎ HasTrie file input files
+RunsAsk file question input files old new Fault = (new ≡ old) ⊎ IsAskedInPart file question input files old new
 
 -- why a question has no answer, as the end of a run
 abbrev pub ask_status : AskError → Status
@@ -182,24 +206,28 @@ abbrev pub IsRefused : Build → Option (List ℕ) → World → World → Statu
 IsRefused build input before after status = (all : List ℕ) × IsRead build.from input before.files all
     × (e : MakeError) × made.Explains build.plan all e × (made_status e ≡ status) × Untouched before after
 
--- after a fault the file of a place holds what it held; of what was printed to a stream nothing is known
-abbrev pub IsKept : Place → World → World → Type 0
-IsKept (File path) before after = (after.printed ≡ before.printed) × Known before.files after.files (Kept path.now)
-IsKept Stream before after = after.files ≡ before.files
+-- after a fault the file of a place holds what it held, or a beginning of the bytes was printed
+abbrev pub IsKept : Place → List ℕ → World → World → Type 0
+IsKept (File path) bytes before after = (after.printed ≡ before.printed) × Known before.files after.files (Kept path.now)
+IsKept Stream bytes before after = AppendsPart before.printed after.printed bytes × (after.files ≡ before.files)
 
--- the input makes a file
-abbrev pub MakesFile : Build → Option (List ℕ) → Option Files → Type 0
-MakesFile build input files = (all : List ℕ) × IsRead build.from input files all × (file : List ℕ) × IsFile build.plan all file
+-- The file of a trie was made, and could not be written, or not to the end.
+pub record IsUnwritten (build : Build) (input : Option (List ℕ)) (before after : World) : Type 0 where
+  pub all : List ℕ
+  pub read : IsRead build.from input before.files all
+  pub file : List ℕ
+  pub made : IsFile build.plan all file
+  pub kept : IsKept build.to file before after
 
 -- How a build ends. The file was made; its keys are refused, or its input is no pairs; or it is out of memory, or a file can't be
--- read or written, and then nothing was touched, or the input makes a file and the place of it is as it was.
+-- read or written, and then nothing was touched, or the input makes a file, and its place is as it was or has a beginning of it.
 abbrev pub RunsBuild : Build → Option (List ℕ) → World → World → Status → Type 0
 RunsBuild build input before after Done = IsMade build input before after
 RunsBuild build input before after Absent = ⊥
 RunsBuild build input before after Refused = IsRefused build input before after Refused
 RunsBuild build input before after BadUsage = ⊥
 RunsBuild build input before after BadInput = IsRefused build input before after BadInput
-RunsBuild build input before after Fault = Untouched before after ⊎ (IsKept build.to before after × MakesFile build input before.files)
+RunsBuild build input before after Fault = Untouched before after ⊎ IsUnwritten build input before after
 
 -- why no file is made, as the end of a run
 abbrev pub build_status : BuildError → Status

@@ -1,9 +1,9 @@
 //! A question to the trie of a file.
 
-ghost use Rattle.std.specs.Prelude.{◌≡◌, ◌↔◌, ℕ, List, true, false, Ok, Err, IfOk, IfErr, IfSome, IsTrue};
+ghost use Rattle.std.specs.Prelude.{◌≡◌, ◌↔◌, ℕ, List, true, false, Ok, Err, IfOk, IfErr, IfSome, IsTrue, OnErr};
 ghost use Rattle.std.specs.Io.Buffered.{writer_contents};
 ghost use Rattle.zerotrie_queries.specs.declared.kind.TrieKind.{TrieKind};
-ghost use Rattle.zerotrie_run.specs.Runs.{Opens, IsUnopened, KeysAnswered, Answers, IsAsked, RunsAsk, IsUnanswered, IsDoubtful, IsFaultIn, ReadsTwice, LeavesKeys, LeavesInput, HandsOn, ask_status, asked_status, are_lines, of_lines};
+ghost use Rattle.zerotrie_run.specs.Runs.{Opens, IsUnopened, KeysAnswered, KeysAnsweredInPart, Answers, AnswersInPart, IsAsked, RunsAsk, IsUnanswered, IsDoubtful, IsFaultIn, ReadsTwice, LeavesKeys, LeavesInput, HandsOn, ask_status, asked_status, are_lines, of_lines};
 ghost use Rattle.zerotrie_run.specs.declared.command.Place.TheVariants.{Stream};
 ghost use Rattle.zerotrie_run.specs.declared.command.Command.TheVariants.{Ask};
 ghost use Rattle.zerotrie_run.specs.declared.asking.AskError.TheVariants.{TwoInputs};
@@ -100,6 +100,8 @@ fn answer_keys<R: Read, W: Write>(
 ) -> Result<bool, AnswerError>
     ensures answered { IfOk result (KeysAnswered asked keys.entry (R.remaining input.old)
         trie.now.kind trie.now.bytes.now (W.contents output.old) (W.contents output.new)) }
+    ensures part { OnErr result (KeysAnsweredInPart asked keys.entry (R.remaining input.old)
+        trie.now.kind trie.now.bytes.now (W.contents output.old) (W.contents output.new)) }
     ensures unread { are_lines keys.entry ≡ false → input.new ≡ input.old }
 {
     match keys {
@@ -121,6 +123,8 @@ fn answer<R: Read, W: Write>(
 ) -> Result<bool, AnswerError>
     ensures answered { IfOk result (Answers question.entry (R.remaining input.old)
         trie.now.kind trie.now.bytes.now (W.contents output.old) (W.contents output.new)) }
+    ensures part { OnErr result (AnswersInPart question.entry (R.remaining input.old)
+        trie.now.kind trie.now.bytes.now (W.contents output.old) (W.contents output.new)) }
     ensures unread { of_lines question.entry ≡ false → input.new ≡ input.old }
 {
     match question {
@@ -131,7 +135,7 @@ fn answer<R: Read, W: Write>(
             Ok(true)
         }
         Question::Code(language, name) => {
-            write_trie_code(trie, language, name, output)?;
+            write_trie_code(alloc, trie, language, name, output)?;
             Ok(true)
         }
         Question::Report => {
@@ -158,8 +162,8 @@ fn answer_held<R: Read, W: Write>(
         × Opens file.entry held.now kind bytes
         × Answers question.entry (R.remaining input.old) kind bytes
         (W.contents output.old) (W.contents output.new) all) }
-    ensures err { IfErr result (IsUnanswered file.entry held.now
-        (W.contents output.old) (W.contents output.new)) }
+    ensures err { IfErr result (IsUnanswered file.entry question.entry (R.remaining input.old)
+        held.now (W.contents output.old) (W.contents output.new)) }
     ensures unread { LeavesKeys question.entry (asked_status result) → input.new ≡ input.old }
 {
     let trie = match open(file, held) {

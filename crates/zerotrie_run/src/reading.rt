@@ -10,6 +10,7 @@ use std::alloc::Global;
 use std::io;
 use std::io::{BufWriter, Read, Write};
 use zerotrie_files::Store;
+use zerotrie_queries::write_bytes;
 
 /// All that a stream still has.
 pub fn read_all<R: Read>(alloc: Global, input: &mut R) -> io::Result<Vec<u8>>
@@ -37,7 +38,8 @@ pub fn read_place<F: Store, R: Read>(
     }
 }
 
-/// Puts bytes in a place: in place of what its file held, or on standard output, whose buffer hands them on.
+/// Puts bytes in a place: in place of what its file held, or on standard output, whose buffer hands them on. If that fails, the
+/// file holds what it held, or a beginning of them was printed.
 pub fn write_place<F: Store, W: Write + Drop>(
     place: Place<'_>,
     bytes: &[u8],
@@ -47,7 +49,7 @@ pub fn write_place<F: Store, W: Write + Drop>(
     ensures ok { OnOk result (IsWritten place.entry bytes.now
         (record { files = F.files files.old; printed = writer_contents W.contents output.old })
         (record { files = F.files files.new; printed = writer_contents W.contents output.new })) }
-    ensures err { OnErr result (IsKept place.entry
+    ensures err { OnErr result (IsKept place.entry bytes.now
         (record { files = F.files files.old; printed = writer_contents W.contents output.old })
         (record { files = F.files files.new; printed = writer_contents W.contents output.new })) }
     ensures handed { OnOk result (HandsOn output.old output.new) }
@@ -55,7 +57,7 @@ pub fn write_place<F: Store, W: Write + Drop>(
     match place {
         Place::File(path) => files.replace(path, bytes),
         Place::Stream => {
-            output.write_all(bytes)?;
+            write_bytes(output, bytes)?;
             output.flush()
         }
     }

@@ -1,10 +1,10 @@
 //! Lines of standard input, which are answered as they come.
 
-ghost use Rattle.std.specs.Prelude.{◌≡◌, ◌≤◌, length, take, drop, true, false, IfOk};
+ghost use Rattle.std.specs.Prelude.{◌≡◌, ◌≤◌, length, take, drop, true, false, IfOk, OnErr};
 ghost use Rattle.zerotrie_lines.specs.Lines.{lines_of};
 ghost use Rattle.zerotrie_lines.specs.Blocks.{AreWhole};
-ghost use Rattle.zerotrie_queries.specs.Answers.{AreAnswered};
-ghost use Rattle.zerotrie_run.specs.Runs.{KeysAnswered};
+ghost use Rattle.zerotrie_queries.specs.Answers.{AreAnswered, AreAnsweredInPart};
+ghost use Rattle.zerotrie_run.specs.Runs.{KeysAnswered, KeysAnsweredInPart};
 ghost use Rattle.zerotrie_run.specs.declared.command.Keys.TheVariants.{Lines};
 ghost use Rattle.zerotrie_run.specs.declared.typed.AnswerError.TheVariants.{Failed};
 
@@ -40,6 +40,8 @@ fn answer_part<W: Write>(
     output: &mut W,
 ) -> io::Result<bool>
     ensures answered { IfOk result (AreAnswered asked trie.old.0 trie.old.1
+        (lines_of part.now) (W.contents output.old) (W.contents output.new)) }
+    ensures part { OnErr result (AreAnsweredInPart asked trie.old.0 trie.old.1
         (lines_of part.now) (W.contents output.old) (W.contents output.new)) }
     ensures kept { trie.new ≡ trie.old }
 {
@@ -80,7 +82,9 @@ pub fn answer_lines<R: Read, W: Write>(
     input: &mut R,
     output: &mut W,
 ) -> Result<bool, AnswerError>
-    ensures { IfOk result (KeysAnswered asked Lines (R.remaining input.old)
+    ensures answered { IfOk result (KeysAnswered asked Lines (R.remaining input.old)
+        trie.now.kind trie.now.bytes.now (W.contents output.old) (W.contents output.new)) }
+    ensures part { OnErr result (KeysAnsweredInPart asked Lines (R.remaining input.old)
         trie.now.kind trie.now.bytes.now (W.contents output.old) (W.contents output.new)) }
 {
     let mut look_ups = TrieLookUps::new(alloc, *trie);

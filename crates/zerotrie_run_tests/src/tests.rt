@@ -2,7 +2,7 @@ mod files;
 
 use crate::fake::Fake;
 use std::alloc::Global;
-use std::io::{BufWriter, Read};
+use std::io::{BufWriter, Cursor, Read};
 use std::process::Abort;
 use std::test::Fail;
 use zerotrie_lines::Format;
@@ -305,4 +305,30 @@ fn a_trie_is_shown(rt: HostRuntime) -> Result<(), Fail> {
 #[test]
 fn what_is_no_trie_is_not_asked(rt: HostRuntime) -> Result<(), Fail> {
     are_run(&rt, rt.alloc(), UNANSWERED)
+}
+
+/// If output has no room for a listing, a beginning of it is written, and the run ends in a fault.
+#[test]
+fn a_beginning_is_printed_as_far_as_there_is_room(rt: HostRuntime) -> Result<(), Fail> {
+    let alloc = rt.alloc();
+    let given: [(&str, &[u8]); 1] = [("names.trie", TRIE)];
+    let mut files = Fake::with(alloc, &given);
+    let mut output = BufWriter::new(alloc, Cursor::new([0; 7]))?;
+    let mut messages = Vec::new(alloc);
+    let file = TrieFile {
+        place: Place::File("names.trie"),
+        kind: None,
+        trust: false,
+    };
+    let status = run(
+        alloc,
+        Command::Ask(file, Question::List(Form::Lines(Style::Tsv), b"")),
+        &mut files,
+        &mut b"".as_slice(),
+        &mut output,
+        &mut messages,
+    );
+    assert!(rt; status == Status::Fault);
+    assert!(rt; output.get_ref().get_ref().as_slice() == b"bar\t2\nb".as_slice());
+    Ok(())
 }

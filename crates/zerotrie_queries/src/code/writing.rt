@@ -1,14 +1,17 @@
 //! A trie as source code.
 
-ghost use Rattle.std.specs.Prelude.{OnOk};
+ghost use Rattle.std.specs.Prelude.{OnOk, OnErr};
 ghost use Rattle.std.specs.Io.KnownBytes.{Appends};
+ghost use Rattle.zerotrie_queries.specs.Parts.{AppendsPart};
 ghost use Rattle.zerotrie_queries.specs.code.Texts.{rust_front, c_front, rattle_front, c_len, c_get, c_behind, rattle_behind, front, behind};
 ghost use Rattle.zerotrie_queries.specs.code.Code.{code};
 
 use crate::code::items::write_items;
 use crate::code::language::{Language, c_kind, rattle_type, rust_kind};
 use crate::kind::TrieKind;
+use crate::output::write_bytes;
 use crate::trie::Trie;
+use std::alloc::Global;
 use std::io;
 use std::io::Write;
 
@@ -149,18 +152,27 @@ fn write_behind<W: Write>(
     }
 }
 
-/// Writes the bytes of a trie as source code: a constant, and the call that reads it, by this name. They may be any bytes,
-/// and the name has to be a word (`is_name`) that is no keyword of the language. It takes no memory.
+/// Writes the bytes of a trie as source code: a constant, and the call that reads it, by this name.
+/// They may be any bytes, and the name has to be a word (`is_name`) that is no keyword of the
+/// language. It takes memory for what stands around the bytes. If it fails, a beginning of the code
+/// was written.
 pub fn write_trie_code<W: Write>(
+    alloc: Global,
     trie: &Trie<'_>,
     language: Language,
     name: &str,
     output: &mut W,
 ) -> io::Result<()>
-    ensures { OnOk result (Appends (W.contents output.old) (W.contents output.new)
+    ensures all { OnOk result (Appends (W.contents output.old) (W.contents output.new)
+        (code language trie.now.kind name.now trie.now.bytes.now)) }
+    ensures part { OnErr result (AppendsPart (W.contents output.old) (W.contents output.new)
         (code language trie.now.kind name.now trie.now.bytes.now)) }
 {
-    write_front(language, trie.kind, name, output)?;
+    let mut front = Vec::new(alloc);
+    write_front(language, trie.kind, name, &mut front)?;
+    write_bytes(output, front.as_slice())?;
     write_items(trie.bytes, output)?;
-    write_behind(language, trie.kind, name, output)
+    let mut behind = Vec::new(alloc);
+    write_behind(language, trie.kind, name, &mut behind)?;
+    write_bytes(output, behind.as_slice())
 }

@@ -1,7 +1,8 @@
 //! The report of the trie of a file.
 
-ghost use Rattle.std.specs.Prelude.{◌≡◌, OnOk};
+ghost use Rattle.std.specs.Prelude.{◌≡◌, OnOk, OnErr};
 ghost use Rattle.std.specs.Io.KnownBytes.{Appends};
+ghost use Rattle.zerotrie_queries.specs.Parts.{AppendsPart};
 ghost use Rattle.zerotrie_queries.specs.reports.Reports.{report_of};
 ghost use Rattle.zerotrie_queries.specs.reports.Lines.{report_lines};
 
@@ -12,9 +13,11 @@ use std::alloc::Global;
 use std::io;
 use std::io::Write;
 
-/// Writes the report of a trie.
+/// Writes the report of a trie. If it fails, a beginning of it was written.
 pub fn write_trie_report<W: Write>(alloc: Global, trie: &Trie<'_>, output: &mut W) -> io::Result<()>
-    ensures { OnOk result (Appends (W.contents output.old) (W.contents output.new)
+    ensures all { OnOk result (Appends (W.contents output.old) (W.contents output.new)
+        (report_lines (report_of trie.now.kind trie.now.bytes.now))) }
+    ensures part { OnErr result (AppendsPart (W.contents output.old) (W.contents output.new)
         (report_lines (report_of trie.now.kind trie.now.bytes.now))) }
 {
     let report = Report::of(alloc, trie)?;

@@ -1,9 +1,11 @@
 //! The lines of a report: a name, a tab and a number each.
 
-ghost use Rattle.std.specs.Prelude.{◌≡◌, ◌++◌, ◌<◌, ◌*◌, ◌/◌, OnOk, codes};
+ghost use Rattle.std.specs.Prelude.{◌≡◌, ◌++◌, ◌<◌, ◌*◌, ◌/◌, OnOk, OnErr, codes};
 ghost use Rattle.std.specs.Io.KnownBytes.{Appends};
+ghost use Rattle.zerotrie_queries.specs.Parts.{AppendsPart};
 ghost use Rattle.zerotrie_queries.specs.reports.Lines.{text_line, number_line, option_text, ratio_text, group_text, group_name, cell_name, cell_line, cell_lines, size_lines, key_lines, node_lines, report_lines};
 
+use crate::output::write_bytes;
 use crate::reports::counting::Report;
 use std::alloc::{AllocError, Global};
 use std::io;
@@ -188,12 +190,14 @@ fn add_report(lines: &mut Vec<u8>, report: &Report) -> Result<(), AllocError>
     add_cells(lines, &report.branches.cells[..])
 }
 
-/// Writes the lines of a report.
+/// Writes the lines of a report. If it fails, a beginning of them was written.
 pub fn write_report<W: Write>(alloc: Global, report: &Report, output: &mut W) -> io::Result<()>
-    ensures { OnOk result (Appends (W.contents output.old) (W.contents output.new)
+    ensures all { OnOk result (Appends (W.contents output.old) (W.contents output.new)
+        (report_lines report.now)) }
+    ensures part { OnErr result (AppendsPart (W.contents output.old) (W.contents output.new)
         (report_lines report.now)) }
 {
     let mut lines = Vec::new(alloc);
     add_report(&mut lines, report)?;
-    output.write_all(lines.as_slice())
+    write_bytes(output, lines.as_slice())
 }

@@ -1,13 +1,15 @@
 //! The nodes of a trie as a drawing, as Graphviz reads it.
 
-ghost use Rattle.std.specs.Prelude.{◌≡◌, ◌++◌, OnOk, take};
+ghost use Rattle.std.specs.Prelude.{◌≡◌, ◌++◌, OnOk, OnErr, take};
 ghost use Rattle.std.specs.Io.KnownBytes.{Appends};
 ghost use Rattle.zerotrie_core.specs.Shapes.{shape};
 ghost use Rattle.zerotrie_core.specs.walk.Visits.{nodes_of};
 ghost use Rattle.zerotrie_core.specs.walk.Seen.{part_of, visit_of};
 ghost use Rattle.zerotrie_queries.specs.Kinds.{kind_of};
+ghost use Rattle.zerotrie_queries.specs.Parts.{AppendsPart};
 ghost use Rattle.zerotrie_queries.specs.views.Dots.{quoted_byte, quoted, shape_text, label, edge_label, ends_text, arrow, name_text, dot_node, dot_nodes, drawing};
 
+use crate::output::write_bytes;
 use crate::trie::Trie;
 use crate::views::meaning::add_text;
 use std::alloc::{AllocError, Global};
@@ -139,7 +141,9 @@ fn write_nodes<W: Write>(
     most: usize,
     output: &mut W,
 ) -> io::Result<()>
-    ensures { OnOk result (Appends (W.contents output.old) (W.contents output.new)
+    ensures all { OnOk result (Appends (W.contents output.old) (W.contents output.new)
+        (dot_nodes (take most nodes.old))) }
+    ensures part { OnErr result (AppendsPart (W.contents output.old) (W.contents output.new)
         (dot_nodes (take most nodes.old))) }
 {
     let mut line = Vec::new(alloc);
@@ -150,7 +154,7 @@ fn write_nodes<W: Write>(
         };
         line.clear();
         add_node(&mut line, &visit)?;
-        output.write_all(line.as_slice())?;
+        write_bytes(output, line.as_slice())?;
         left -= 1;
     }
     Ok(())
@@ -163,22 +167,27 @@ fn write_drawing<W: Write>(
     most: usize,
     output: &mut W,
 ) -> io::Result<()>
-    ensures { OnOk result (Appends (W.contents output.old) (W.contents output.new)
+    ensures all { OnOk result (Appends (W.contents output.old) (W.contents output.new)
+        (drawing most nodes.old)) }
+    ensures part { OnErr result (AppendsPart (W.contents output.old) (W.contents output.new)
         (drawing most nodes.old)) }
 {
-    output.write_all(b"digraph trie {\n  rankdir=LR;\n")?;
+    write_bytes(output, b"digraph trie {\n  rankdir=LR;\n")?;
     write_nodes(alloc, nodes, most, output)?;
-    output.write_all(b"}\n")
+    write_bytes(output, b"}\n")
 }
 
-/// Writes a drawing of the first nodes of a trie, at most this many.
+/// Writes a drawing of the first nodes of a trie, at most this many. If it fails, a beginning of it
+/// was written.
 pub fn write_dot<W: Write>(
     alloc: Global,
     trie: &Trie<'_>,
     most: usize,
     output: &mut W,
 ) -> io::Result<()>
-    ensures { OnOk result (Appends (W.contents output.old) (W.contents output.new)
+    ensures all { OnOk result (Appends (W.contents output.old) (W.contents output.new)
+        (drawing most (nodes_of (kind_of trie.now.kind) trie.now.bytes.now))) }
+    ensures part { OnErr result (AppendsPart (W.contents output.old) (W.contents output.new)
         (drawing most (nodes_of (kind_of trie.now.kind) trie.now.bytes.now))) }
 {
     let mut nodes = trie.nodes(alloc)?;

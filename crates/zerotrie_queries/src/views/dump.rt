@@ -1,13 +1,15 @@
 //! The nodes of a trie as lines.
 
-ghost use Rattle.std.specs.Prelude.{◌≡◌, ◌++◌, OnOk};
+ghost use Rattle.std.specs.Prelude.{◌≡◌, ◌++◌, OnOk, OnErr};
 ghost use Rattle.std.specs.Option.{option_map};
 ghost use Rattle.std.specs.Io.KnownBytes.{Appends};
 ghost use Rattle.zerotrie_core.specs.walk.Visits.{nodes_of};
 ghost use Rattle.zerotrie_core.specs.walk.Seen.{part_of, visit_of};
 ghost use Rattle.zerotrie_queries.specs.Kinds.{kind_of};
+ghost use Rattle.zerotrie_queries.specs.Parts.{AppendsPart};
 ghost use Rattle.zerotrie_queries.specs.views.Dumps.{edge_text, stand_text, dump_line, dump_lines};
 
+use crate::output::write_bytes;
 use crate::trie::Trie;
 use crate::views::meaning::{add_hex, add_meaning};
 use std::alloc::{AllocError, Global};
@@ -52,7 +54,9 @@ fn add_line(line: &mut Vec<u8>, visit: &Visit<'_>) -> Result<(), AllocError>
 
 /// Writes the lines of the nodes that a walk still has.
 fn write_lines<W: Write>(alloc: Global, nodes: &mut Nodes<'_>, output: &mut W) -> io::Result<()>
-    ensures { OnOk result (Appends (W.contents output.old) (W.contents output.new)
+    ensures all { OnOk result (Appends (W.contents output.old) (W.contents output.new)
+        (dump_lines nodes.old)) }
+    ensures part { OnErr result (AppendsPart (W.contents output.old) (W.contents output.new)
         (dump_lines nodes.old)) }
 {
     let mut line = Vec::new(alloc);
@@ -62,13 +66,16 @@ fn write_lines<W: Write>(alloc: Global, nodes: &mut Nodes<'_>, output: &mut W) -
         };
         line.clear();
         add_line(&mut line, &visit)?;
-        output.write_all(line.as_slice())?;
+        write_bytes(output, line.as_slice())?;
     }
 }
 
-/// Writes a line for each node of a trie, in the order in which they lie.
+/// Writes a line for each node of a trie, in the order in which they lie. If it fails, a beginning
+/// of the lines was written.
 pub fn write_dump<W: Write>(alloc: Global, trie: &Trie<'_>, output: &mut W) -> io::Result<()>
-    ensures { OnOk result (Appends (W.contents output.old) (W.contents output.new)
+    ensures all { OnOk result (Appends (W.contents output.old) (W.contents output.new)
+        (dump_lines (nodes_of (kind_of trie.now.kind) trie.now.bytes.now))) }
+    ensures part { OnErr result (AppendsPart (W.contents output.old) (W.contents output.new)
         (dump_lines (nodes_of (kind_of trie.now.kind) trie.now.bytes.now))) }
 {
     let mut nodes = trie.nodes(alloc)?;

@@ -1,7 +1,8 @@
 //! A look inside the trie in a file.
 
-ghost use Rattle.std.specs.Prelude.{OnOk};
+ghost use Rattle.std.specs.Prelude.{OnOk, OnErr};
 ghost use Rattle.std.specs.Io.KnownBytes.{Appends};
+ghost use Rattle.zerotrie_queries.specs.Parts.{AppendsPart};
 ghost use Rattle.zerotrie_queries.specs.views.Views.{shown};
 
 use crate::trie::Trie;
@@ -20,14 +21,17 @@ pub enum View {
     Dot(usize),
 }
 
-/// Writes what is shown of a trie. Its bytes may be any: of what is no node nothing is shown.
+/// Writes what is shown of a trie. Its bytes may be any: of what is no node nothing is shown. If it
+/// fails, a beginning of what is shown was written.
 pub fn write_trie_view<W: Write>(
     alloc: Global,
     trie: &Trie<'_>,
     view: View,
     output: &mut W,
 ) -> io::Result<()>
-    ensures { OnOk result (Appends (W.contents output.old) (W.contents output.new)
+    ensures all { OnOk result (Appends (W.contents output.old) (W.contents output.new)
+        (shown view trie.now.kind trie.now.bytes.now)) }
+    ensures part { OnErr result (AppendsPart (W.contents output.old) (W.contents output.new)
         (shown view trie.now.kind trie.now.bytes.now)) }
 {
     match view {

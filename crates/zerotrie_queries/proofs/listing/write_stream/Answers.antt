@@ -1,5 +1,6 @@
 use Rattle.std.proofs.Common.{◌++◌, ◌∙◌, ap, sym}
 use Rattle.zerotrie_queries.specs.Printed.{pair_lines}
+use Rattle.zerotrie_queries.proofs.PartLemmas.{part_next, on_err}
 use Rattle.zerotrie_queries.proofs.WriteLemmas.{wrote_more}
 use Rattle.zerotrie_queries.proofs.listing.write_stream.Goals as goal
 
@@ -9,7 +10,17 @@ loop-lines-preserved g c =
     let before = pair_lines c.args.style c.loop-lines.pairs.left.pairs in
     let left = pair_lines c.args.style c.add_block.new.pairs.left.pairs in
     let is = sym c.in_ok-more.ensures.lines ∙ ap (λ l. l ++ left) (sym c.as_slice.ensures.value) in (
-      wrote_more (contents c.args.output.now) (contents c.loop-lines.output) (contents c.write_all.new.self) c.as_slice.result.now before left
-          (pair_lines c.args.style c.args.pairs.now.left.pairs) c.loop-lines.invariant.0 c.in_ok-write_all.ensures.bytes is,
+      wrote_more (contents c.args.output.now) (contents c.loop-lines.output) (contents c.write_bytes.new.output) c.as_slice.result.now before left
+          (pair_lines c.args.style c.args.pairs.now.left.pairs) c.loop-lines.invariant.0 c.in_ok-write_bytes.ensures.all is,
       c.clear.ensures.items,
     )
+
+pub returns-in_err-write_bytes-clause-part : goal.returns-in_err-write_bytes-clause-part
+returns-in_err-write_bytes-clause-part g c =
+    let contents = g.W.Write.contents in
+    let before = pair_lines c.args.style c.loop-lines.pairs.left.pairs in
+    let left = pair_lines c.args.style c.add_block.new.pairs.left.pairs in
+    let is = sym c.in_ok-more.ensures.lines ∙ ap (λ l. l ++ left) (sym c.as_slice.ensures.value) in
+    on_err c.from_residual-in_err-write_bytes.result
+    (part_next (contents c.args.output.now) (contents c.loop-lines.output) (contents c.write_bytes.new.output) c.as_slice.result.now left before
+    (pair_lines c.args.style c.args.pairs.now.left.pairs) c.loop-lines.invariant.0 c.in_err-write_bytes.ensures.part is)

@@ -1,29 +1,46 @@
-use Rattle.std.proofs.Common.{rules, ◌≡◌, ◌+◌, drop, get_or, ap, arith}
-use Rattle.std.specs.Prelude.{◌&&◌}
-use Rattle.std.proofs.lemmas.List.{drop_more}
-use Rattle.std.proofs.Math.ListN.{drop_of_length-le}
-use Rattle.std.proofs.KnownBytes.{Appends-nil}
-use Rattle.zerotrie_queries.specs.Kinds.{kind_of}
+use Rattle.std.proofs.Common.{rules, ◌≡◌, ◌∷◌, [], take, get_or, subst, arith}
+use Rattle.std.proofs.lemmas.List.{take_all, length-map}
+use Rattle.zerotrie_queries.specs.declared.lookups.Asked.TheVariants.{Longest}
+use Rattle.zerotrie_queries.specs.Answers.{AreAnswered}
 use Rattle.zerotrie_queries.specs.Printed.{found_line}
-use Rattle.zerotrie_queries.proofs.FoundLemmas.{nows, finding_first, finding_more, finding_ends, no_key}
+use Rattle.zerotrie_queries.proofs.FoundLemmas.{nows, no_key}
+use Rattle.zerotrie_queries.proofs.PartLemmas.{on_err}
+use Rattle.zerotrie_queries.proofs.AnswerLemmas.{none_answered, next_text, one_found, more_answered, begun_done, begun_line}
 use Rattle.zerotrie_queries.proofs.lookups.write_longest.Goals as goal
 
 pub loop-text-init : goal.loop-text-init
-loop-text-init g c m means = finding_first (kind_of c.args.trie.now.kind) m (nows c.args.texts.now) (g.W.Write.contents c.args.output.now) (Appends-nil (g.W.Write.contents c.args.output.now))
+loop-text-init g c = none_answered Longest c.args.trie.now.kind c.args.trie.now.bytes.now (g.W.Write.contents c.args.output.now)
 
 pub loop-text-preserved : goal.loop-text-preserved
-loop-text-preserved g c m means =
+loop-text-preserved g c =
     let contents = g.W.Write.contents in
+    let kind = c.args.trie.now.kind in
+    let bytes = c.args.trie.now.bytes.now in
     let texts = c.args.texts.now in
     let i = c.loop-text.text-index in
     let text = get_or texts i no_key in
     let line : c.as_slice.result.now ≡ found_line text.now c.longest-found.result = search rules in
-    finding_more (kind_of c.args.trie.now.kind) m (nows texts) (nows (drop i texts)) (nows (drop (i + 1) texts)) text.now
-    (contents c.args.output.now) (contents c.loop-text.output) (contents c.write_all.new.self) c.loop-text.all (c.loop-text.all && c.is_some-all.result) c.longest-found.result c.as_slice.result.now
-    (ap nows (drop_more texts i no_key (omega arith))) (c.longest-found.ensures.longest m means) line (ap (λ b. c.loop-text.all && b) c.is_some-all.ensures) c.in_ok-write_all.ensures.bytes
-    (c.loop-text.invariant m means)
+    let one = one_found kind bytes text.now c.as_slice.result.now c.longest-found.result (contents c.loop-text.output) (contents c.write_bytes.new.output) c.longest-found.ensures.longest line c.in_ok-write_bytes.ensures.all in
+    let both = more_answered Longest kind bytes (take i (nows texts)) (text.now ∷ []) (contents c.args.output.now) (contents c.loop-text.output) (contents c.write_bytes.new.output) c.loop-text.all _ c.loop-text.invariant one in
+    rw (next_text texts i (omega arith), c.is_some-all.ensures) both
 
-pub returns : goal.returns
-returns g c m means =
-    finding_ends (kind_of c.args.trie.now.kind) m (nows c.args.texts.now) (nows (drop c.loop-text.text-index c.args.texts.now)) (g.W.Write.contents c.args.output.now)
-    (g.W.Write.contents c.loop-text.output) c.loop-text.all (ap nows (drop_of_length-le c.args.texts.now (omega arith))) (c.loop-text.invariant m means)
+pub returns-clause-answered : goal.returns-clause-answered
+returns-clause-answered g c =
+    let texts = c.args.texts.now in
+    let long = length-map texts (λ t. t.now) in
+    subst (λ t. AreAnswered Longest c.args.trie.now.kind c.args.trie.now.bytes.now t (g.W.Write.contents c.args.output.now) (g.W.Write.contents c.loop-text.output) c.loop-text.all)
+    (take_all c.loop-text.text-index (nows texts) (omega arith)) c.loop-text.invariant
+
+pub returns-in_err-add_found-clause-part : goal.returns-in_err-add_found-clause-part
+returns-in_err-add_found-clause-part g c = on_err c.from_residual.result
+    (begun_done Longest c.args.trie.now.kind c.args.trie.now.bytes.now (nows c.args.texts.now) c.loop-text.text-index _ _ c.loop-text.all c.loop-text.invariant)
+
+pub returns-in_err-write_bytes-clause-part : goal.returns-in_err-write_bytes-clause-part
+returns-in_err-write_bytes-clause-part g c =
+    let texts = c.args.texts.now in
+    let i = c.loop-text.text-index in
+    let text = get_or texts i no_key in
+    let line : c.as_slice.result.now ≡ found_line text.now c.longest-found.result = search rules in
+    on_err c.from_residual-in_err-write_bytes.result
+    (begun_line c.args.trie.now.kind c.args.trie.now.bytes.now (nows texts) i text.now c.as_slice.result.now c.longest-found.result _ _ _ c.loop-text.all (next_text texts i (omega arith))
+    c.longest-found.ensures.longest line c.in_err-write_bytes.ensures.part c.loop-text.invariant)

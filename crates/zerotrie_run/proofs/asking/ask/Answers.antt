@@ -1,5 +1,6 @@
+use Rattle.std.proofs.Common.{inr}
 use Rattle.std.specs.Io.Buffered.{writer_contents}
-use Rattle.zerotrie_run.proofs.AskLemmas.{kept_answer, same_answer, is_not}
+use Rattle.zerotrie_run.proofs.AskLemmas.{kept_answer, same_answer, answer_in_part, same_part, is_not}
 use Rattle.zerotrie_run.proofs.asking.ask.Goals as goal
 
 pub returns-in-Ok-flush-clause-ok : goal.returns-in-Ok-flush-clause-ok
@@ -27,3 +28,21 @@ returns-in-Ok-flush-clause-quiet g c = λ none.
 pub returns-clause-quiet : goal.returns-clause-quiet
 returns-clause-quiet g c = λ none.
     c.tell_number.ensures (λ both. none (c.as_slice-held.result.now, rw c.as_slice-held.ensures.value c.in-Ok.ensures.read, both))
+
+pub returns-clause-err : goal.returns-clause-err
+returns-clause-err g c =
+    let contents = writer_contents g.W.Write.contents in
+    let remaining = g.R.Read.remaining in
+    let old = contents c.args.output.now in
+    let answered = c.in_ok-all.ensures.ok in
+    let kept = kept_answer c.args.question (remaining c.read_place.new.input) answered.0 answered.1 old (contents c.answer_held.new.output) (contents c.flush.new.self) c.in_ok-all.all answered.3 c.flush.ensures.bytes in
+    inr (record {
+      held = c.as_slice-held.result.now;
+      read = rw c.as_slice-held.ensures.value c.in-Ok.ensures.read;
+      kind = answered.0;
+      bytes = answered.1;
+      opens = answered.2;
+      begun = same_part c.args.file.place remaining c.args.input.now c.read_place.new.input c.args.question answered.0 answered.1 old (contents c.flush.new.self)
+          (λ both. is_not c.reads_twice.result c.if-reads_twice.false (c.reads_twice.ensures.1 both)) c.read_place.ensures.untouched
+          (answer_in_part c.args.question (remaining c.read_place.new.input) answered.0 answered.1 old (contents c.flush.new.self) c.in_ok-all.all kept);
+    })

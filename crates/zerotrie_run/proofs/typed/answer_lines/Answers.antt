@@ -1,13 +1,14 @@
-use Rattle.std.proofs.Common.{◌++◌, length, take, refl, sym, ◌∙◌, ap, subst, arith}
+use Rattle.std.proofs.Common.{◌++◌, length, take, drop, refl, sym, ◌∙◌, ap, subst, arith}
 use Rattle.std.proofs.lemmas.List.{take_all, take-append-drop}
 use Rattle.zerotrie_lines.specs.Lines.{lines_of}
 use Rattle.zerotrie_lines.specs.Blocks.{AreWhole}
-use Rattle.zerotrie_queries.specs.Answers.{AreAnswered}
-use Rattle.zerotrie_run.proofs.TypedLemmas.{typed_read, typed_part, typed_ends}
+use Rattle.zerotrie_queries.specs.Answers.{AreAnswered, AreAnsweredInPart}
+use Rattle.zerotrie_queries.proofs.PartLemmas.{on_err}
+use Rattle.zerotrie_run.proofs.TypedLemmas.{IsNext, typed_read, typed_part, typed_ends, typed_stops, typed_fails}
 use Rattle.zerotrie_run.proofs.typed.answer_lines.Goals as goal
 
-pub returns-then-ended : goal.returns-then-ended
-returns-then-ended g c =
+pub returns-then-ended-clause-answered : goal.returns-then-ended-clause-answered
+returns-then-ended-clause-answered g c =
     let remaining = g.R.Read.remaining in
     let contents = g.W.Write.contents in
     let trie = c.args.trie.now in
@@ -37,3 +38,34 @@ loop-preserved g c =
           (subst (λ all. AreAnswered c.args.asked trie.kind trie.bytes.now (lines_of (take c.part_len-len.result all)) (contents c.loop.output) (contents c.answer_part.new.output) c.in_ok-all.field-0) c.deref.ensures.value (rw c.loop.invariant.0 at c.in_ok-all.ensures.answered))
           refl,
     )
+
+pub returns-in-Err-clause-part : goal.returns-in-Err-clause-part
+returns-in-Err-clause-part g c =
+    let trie = c.args.trie.now in
+    typed_stops c.args.asked trie.kind trie.bytes.now (g.R.Read.remaining c.args.input.now) (g.R.Read.remaining c.loop.input) c.loop.held.items (g.W.Write.contents c.args.output.now)
+    (g.W.Write.contents c.loop.output) c.loop.all c.loop.invariant.1
+
+pub returns-clause-part : goal.returns-clause-part
+returns-clause-part g c =
+    let trie = c.args.trie.now in
+    typed_stops c.args.asked trie.kind trie.bytes.now (g.R.Read.remaining c.args.input.now) (g.R.Read.remaining c.loop.input) c.loop.held.items (g.W.Write.contents c.args.output.now)
+    (g.W.Write.contents c.loop.output) c.loop.all c.loop.invariant.1
+
+pub returns-in_err-all-clause-part : goal.returns-in_err-all-clause-part
+returns-in_err-all-clause-part g c =
+    let remaining = g.R.Read.remaining in
+    let contents = g.W.Write.contents in
+    let trie = c.args.trie.now in
+    let held = c.read_more.new.held.items in
+    let len = c.part_len-len.result in
+    let read = typed_read c.args.asked trie.kind trie.bytes.now (remaining c.args.input.now) (remaining c.loop.input) (remaining c.read_more.new.input) c.loop.held.items held
+    (contents c.args.output.now) (contents c.loop.output) c.loop.all c.in-Ok.ended c.loop.invariant.1 c.in-Ok.ensures.gives in
+    let next : IsNext c.in-Ok.ended (remaining c.read_more.new.input) held (take len held) (drop len held) = record {
+      cut = sym (take-append-drop len held);
+      all = λ ended. (ap (λ n. take n held) (c.part_len-len.ensures.all ended ∙ ap length c.as_slice.ensures.value) ∙ take_all (length held) held (omega arith), c.in-Ok.ensures.gives.at_end ended);
+      whole = λ more. subst (λ all. AreWhole (take len all)) c.as_slice.ensures.value (c.part_len-len.ensures.whole more);
+    } in
+    on_err c.from_residual.result
+    (typed_fails c.args.asked trie.kind trie.bytes.now (remaining c.args.input.now) (remaining c.read_more.new.input) held (take len held) (drop len held)
+    (contents c.args.output.now) (contents c.loop.output) (contents c.answer_part.new.output) c.loop.all c.in-Ok.ended read next
+    (subst (λ all. AreAnsweredInPart c.args.asked trie.kind trie.bytes.now (lines_of (take len all)) (contents c.loop.output) (contents c.answer_part.new.output)) c.deref.ensures.value (rw c.loop.invariant.0 at c.in_err-all.ensures.part)))
