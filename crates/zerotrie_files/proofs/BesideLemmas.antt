@@ -1,10 +1,9 @@
 -- Tries to replace a file by way of a new one beside it, one after another.
 use Rattle.std.proofs.Common.{◌≡◌, ◌≢◌, ◌⊎◌, ◌∙◌, ℕ, true, false, List, [], Option, Some, None, Ok, Err, inl, inr, sym, refl, append-nil}
 use Rattle.std.proofs.lemmas.List.Elements.{All-nil}
-use Rattle.std.specs.Io.{StartsWith}
 use Rattle.std.specs.declared.io.Error.{Error}
 use Rattle.zerotrie_files.specs.Disks.{Files, Story, Known, Passes, Same, Stays, IsWhole, Replaces}
-use Rattle.zerotrie_files.specs.Stores.{Kept, IsWholeAlone, ReplacesBeside}
+use Rattle.zerotrie_files.specs.Stores.{IsBeside, Kept, IsWholeAlone, ReplacesBeside}
 use Rattle.zerotrie_files.proofs.DiskLemmas.{known_then, known_by, passes_then, passes_by, is_path_or_not}
 
 -- where nothing was done, nothing changed
@@ -28,11 +27,11 @@ same_alone : (path bytes : List ℕ) (a f : Files) → Same a f → IsWholeAlone
 same_alone path bytes a f same = record { whole = inl (same path); others = λ other off. inl (same other) }
 
 -- and where the path beside is free, it is whole too
-whole_alone : (path beside bytes : List ℕ) (a b f : Files) → StartsWith beside path → Same a b → b beside ≡ None → IsWhole path beside bytes b f → IsWholeAlone path bytes a f
-whole_alone path beside bytes a b f begins same free w = record {
+whole_alone : (path beside bytes : List ℕ) (a b f : Files) → IsBeside path beside → Same a b → b beside ≡ None → IsWhole path beside bytes b f → IsWholeAlone path bytes a f
+whole_alone path beside bytes a b f near same free w = record {
   whole = elim w.whole [ inl e ↦ inl (e ∙ same path) | inr e ↦ inr e ];
   others = λ other off. elim (is_path_or_not beside other) [
-    | inl e ↦ inr (rw e (sym (same beside) ∙ free), rw e begins)
+    | inl e ↦ inr (rw e (sym (same beside) ∙ free), rw e near)
     | inr far ↦ inl (w.others other off far ∙ same other)
   ];
 }
@@ -49,18 +48,18 @@ none_free path bytes e x y = known_by Stays (ReplacesBeside {T = Unit {0}} path 
       kept_alone path bytes a.now b.now (stays.ends path) (same_alone path bytes a.now b.now stays.ends),
     ))
 
-passes_alone : (path beside bytes : List ℕ) (a b d : Story) → StartsWith beside path → Stays a b → b.now beside ≡ None → Passes (IsWhole path beside bytes b.now) b d
+passes_alone : (path beside bytes : List ℕ) (a b d : Story) → IsBeside path beside → Stays a b → b.now beside ≡ None → Passes (IsWhole path beside bytes b.now) b d
     → Passes (IsWholeAlone path bytes a.now) a d
-passes_alone path beside bytes a b d begins stays free p =
+passes_alone path beside bytes a b d near stays free p =
     passes_then (IsWholeAlone path bytes a.now) (Same a.now) (IsWhole path beside bytes b.now) a b d (λ f s. same_alone path bytes a.now f s)
-    (λ f w. whole_alone path beside bytes a.now b.now f begins stays.ends free w) stays p
+    (λ f w. whole_alone path beside bytes a.now b.now f near stays.ends free w) stays p
 
 -- a path that is free, after others that are taken
-pub one_free : (path beside bytes : List ℕ) (x y z : Option Story) → StartsWith beside path → Known x y Stays → Known y z (Replaces {E = Error} path beside bytes (Ok true))
+pub one_free : (path beside bytes : List ℕ) (x y z : Option Story) → IsBeside path beside → Known x y Stays → Known y z (Replaces {E = Error} path beside bytes (Ok true))
     → Known x z (ReplacesBeside {T = Unit {0}} {E = Error} path bytes (Ok tt))
-one_free path beside bytes x y z begins = known_then Stays (Replaces {E = Error} path beside bytes (Ok true)) (ReplacesBeside {T = Unit {0}} {E = Error} path bytes (Ok tt)) x y z
+one_free path beside bytes x y z near = known_then Stays (Replaces {E = Error} path beside bytes (Ok true)) (ReplacesBeside {T = Unit {0}} {E = Error} path bytes (Ok tt)) x y z
     (λ a b d stays done. (
-      passes_alone path beside bytes a b d begins stays done.1.0 done.0,
+      passes_alone path beside bytes a b d near stays done.1.0 done.0,
       (done.1.1.0, λ other off. done.1.1.1 other off ∙ stays.ends other),
     ))
 
@@ -68,17 +67,17 @@ none_or_some : (o : Option (List ℕ)) → (o ≡ None) ⊎ (o ≢ None)
 none_or_some None = inl refl
 none_or_some (Some x) = inr (λ e. cc)
 
-fails_free : (path beside bytes : List ℕ) (e : Error) (a b d : Story) → StartsWith beside path → Stays a b → b.now beside ≡ None → Replaces path beside bytes (Err e) b d
+fails_free : (path beside bytes : List ℕ) (e : Error) (a b d : Story) → IsBeside path beside → Stays a b → b.now beside ≡ None → Replaces path beside bytes (Err e) b d
     → ReplacesBeside {T = Unit {0}} path bytes (Err e) a d
-fails_free path beside bytes e a b d begins stays free failed =
-    let p = passes_alone path beside bytes a b d begins stays free failed.0 in
+fails_free path beside bytes e a b d near stays free failed =
+    let p = passes_alone path beside bytes a b d near stays free failed.0 in
     (p, kept_alone path bytes a.now d.now (failed.1.0 ∙ stays.ends path) p.ends)
 
 -- one that fails, after others that are taken
-pub one_fails : (path beside bytes : List ℕ) (e : Error) (x y z : Option Story) → StartsWith beside path → Known x y Stays → Known y z (Replaces path beside bytes (Err e))
+pub one_fails : (path beside bytes : List ℕ) (e : Error) (x y z : Option Story) → IsBeside path beside → Known x y Stays → Known y z (Replaces path beside bytes (Err e))
     → Known x z (ReplacesBeside {T = Unit {0}} path bytes (Err e))
-one_fails path beside bytes e x y z begins = known_then Stays (Replaces path beside bytes (Err e)) (ReplacesBeside {T = Unit {0}} path bytes (Err e)) x y z
+one_fails path beside bytes e x y z near = known_then Stays (Replaces path beside bytes (Err e)) (ReplacesBeside {T = Unit {0}} path bytes (Err e)) x y z
     (λ a b d stays failed. elim (none_or_some (b.now beside)) [
-      | inl free ↦ fails_free path beside bytes e a b d begins stays free failed
+      | inl free ↦ fails_free path beside bytes e a b d near stays free failed
       | inr taken ↦ none_free path bytes e (Some a) (Some d) (stays_then a b d stays (failed.1.1 taken))
     ])

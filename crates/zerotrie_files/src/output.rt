@@ -72,11 +72,16 @@ fn write_file<R: Files + AllocGlobal>(
     replace_beside(rt.alloc(), &mut disk, path, bytes)
 }
 
-/// Writes the bytes to the file of a path, in place of what it held, or makes it. A fault leaves what it held.
+/// Writes the bytes to the file of a path, in place of what it held, or makes it.
 ///
-/// They are written to a new file in the same folder, which then takes the path. A symbolic link stays, and the file
-/// that it leads to is replaced; the file keeps who may read, write and run it, and no set-id bit. A device or a pipe is
-/// written to, and so is the end of a file that is open at `/dev/fd/N`. A folder, a link that leads nowhere and a file that can't be written are errors.
+/// They are written to a new file at `PATH.N.tmp`, where N is a number below 100, and that file then takes the path. After
+/// a fault the file of the path holds what it held. A symbolic link stays, and the file that it leads to is replaced; PATH
+/// is then the path of that file. The file keeps who may read, write and run it, and no set-id bit.
+///
+/// A device or a pipe is written in place, and so is a file that is open at `/dev/fd/N`, at its end. After a fault these
+/// may have got a beginning of the bytes.
+///
+/// A folder, a link that leads nowhere and a file that can't be written are errors.
 pub fn write_output<R: Files + AllocGlobal>(rt: &R, path: &str, bytes: &[u8]) -> io::Result<()> {
     match target_of(rt, path)? {
         Target::File(real, permissions) => write_file(rt, real.as_str(), permissions, bytes),

@@ -1,10 +1,9 @@
 //! A file that is replaced as a whole.
 
-ghost use Rattle.std.specs.Prelude.{◌≢◌, IfOk};
-ghost use Rattle.std.specs.Io.{StartsWith};
+ghost use Rattle.std.specs.Prelude.{◌≡◌, ◌≢◌, IfOk};
 ghost use Rattle.std.specs.String.{string_bytes};
 ghost use Rattle.zerotrie_files.specs.Disks.{Known, Replaces};
-ghost use Rattle.zerotrie_files.specs.Stores.{ReplacesBeside};
+ghost use Rattle.zerotrie_files.specs.Stores.{numbered_path, ReplacesBeside};
 
 use crate::disk::Disk;
 use std::alloc::{AllocError, Global};
@@ -37,9 +36,9 @@ pub fn replace<D: Disk>(disk: &mut D, path: &str, beside: &str, bytes: &[u8]) ->
     }
 }
 
-/// A path in the folder of a file, which is another than the file's.
+/// The path of a new file beside the file of a path: that path with `.N.tmp` after it, where N is the number.
 fn path_beside(alloc: Global, path: &str, number: usize) -> Result<String, AllocError>
-    ensures begins { IfOk result (λ beside. StartsWith (string_bytes beside) path.now) }
+    ensures exact { IfOk result (λ beside. string_bytes beside ≡ numbered_path path.now number) }
     ensures another { IfOk result (λ beside. string_bytes beside ≢ path.now) }
 {
     let mut beside = format!(in alloc; "{path}.{number}")?;
@@ -47,12 +46,12 @@ fn path_beside(alloc: Global, path: &str, number: usize) -> Result<String, Alloc
     Ok(beside)
 }
 
-/// Replaces the file of a path by these bytes, or makes it. They are written to a new file in the same folder, whose
-/// path begins with that path, and which is then given the path.
+/// Replaces the file of a path by these bytes, or makes it. They are written to a new file in the same folder, which is
+/// then given the path. The new file's path is `PATH.N.tmp`, where N is a number below 100.
 ///
 /// At each moment the file holds what it held or all of the bytes, and no other file changes that was there. After an
 /// error it holds what it held, and what was written beside it is removed, if that can be done. If there are files at
-/// all of the paths that are tried, it fails with `AlreadyExists`.
+/// all of these hundred paths, it fails with `AlreadyExists`.
 pub fn replace_beside<D: Disk>(
     alloc: Global,
     disk: &mut D,

@@ -19,8 +19,11 @@ pub trait Store {
         ensures { IfOk result (λ bytes.
             IfSome (files self.now) (λ held. held path.now ≡ Some bytes.items)) };
 
-    /// Replaces the file of a path by the bytes, or makes it. After an error it holds what it held; new files whose paths
-    /// begin with that path may be left beside it.
+    /// Replaces the file of a path by the bytes, or makes it. After an error it holds what it held, and there may be new
+    /// files at the paths `PATH.N.tmp`, where N is a number below 100.
+    ///
+    /// A device or a pipe is no such file: it is written in place, and so is a file that is open at `/dev/fd/N`. After an
+    /// error these may have got a beginning of the bytes.
     fn replace(&mut self, path: &str, bytes: &[u8]) -> io::Result<()>
         ensures { Known (files self.old) (files self.new)
             (Rewrites path.now bytes.now result) };

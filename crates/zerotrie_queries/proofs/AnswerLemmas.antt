@@ -1,10 +1,9 @@
 -- What is printed of texts that are answered part by part.
-use Rattle.std.proofs.Common.{◌≡◌, ℕ, ◌+◌, ◌<◌, List, [], ◌∷◌, ◌++◌, map, take, length, get_or, Option, Bool, true, refl, sym, ◌∙◌, ap, subst, arith, append_assoc, append-nil}
+use Rattle.std.proofs.Common.{◌≡◌, ℕ, ◌+◌, ◌<◌, List, [], ◌∷◌, ◌++◌, map, take, drop, length, get_or, Option, Bool, true, refl, sym, ◌∙◌, ap, subst, arith, append_assoc, append-nil}
 use Rattle.std.specs.Prelude.{◌&&◌, is_some}
 use Rattle.std.specs.Borrow.{Bor}
 use Rattle.std.specs.Io.KnownBytes.{Appends}
-use Rattle.std.proofs.Math.Seq.{take-append-add}
-use Rattle.std.proofs.lemmas.List.{map-append, take_more, take_all, get_or-map, length-map}
+use Rattle.std.proofs.lemmas.List.{map-append, take_more, take-append-drop, get_or-map, length-map}
 use Rattle.std.proofs.KnownBytes.{Appends-nil, Appends-trans}
 use Rattle.zerotrie_core.specs.Kind.{Kind}
 use Rattle.zerotrie_core.specs.Maps.{Map, look}
@@ -18,7 +17,8 @@ use Rattle.zerotrie_queries.specs.Printed.{value_lines, found_line, found_lines,
 use Rattle.zerotrie_queries.specs.Answers.{AreLongest, LongestLines, Belongs, AreAnswered, AreAnsweredInPart}
 use Rattle.zerotrie_queries.specs.Parts.{AppendsPart}
 use Rattle.zerotrie_queries.proofs.FoundLemmas.{answers_of, answers_are, nows, no_key, and_true, value_lines-append, are_found-append}
-use Rattle.zerotrie_queries.proofs.PartLemmas.{part_none, part_done, part_behind}
+use Rattle.zerotrie_queries.proofs.PartLemmas.{part_all, part_front, part_behind}
+use Rattle.zerotrie_queries.proofs.LongestLemmas.{each_found}
 
 longest-append : (kind : Kind) (m : Map) (a b : List (List ℕ)) (r s : List (Option (ℕ × ℕ))) → AreLongest kind m a r → AreLongest kind m b s → AreLongest kind m (a ++ b) (r ++ s)
 longest-append kind m [] b [] s h k = k
@@ -75,59 +75,59 @@ one_found kind bytes text line r b c longest is appends m means = (
   subst (Appends b c) is appends,
 )
 
--- all of the first texts, and no more
-pub begun_done : (of : Asked) (kind : TrieKind) (bytes : List ℕ) (texts : List (List ℕ)) (n : ℕ) (a b : Option (List ℕ)) (all : Bool) → AreAnswered of kind bytes (take n texts) a b all
-    → AreAnsweredInPart of kind bytes texts a b
-begun_done of kind bytes texts n a b all h m means =
-    let x = h m means in (n, x.0, all, x.1, part_done a b x.0 [] x.0 x.2 (sym (append-nil x.0)))
-
--- none of the texts
-pub begun_none : (of : Asked) (kind : TrieKind) (bytes : List ℕ) (texts : List (List ℕ)) (a : Option (List ℕ)) → AreAnsweredInPart of kind bytes texts a a
-begun_none of kind bytes texts a m means = (0, [], true, nothing_asked of (kind_of kind) m, part_none a [])
+-- any texts have an answer
+answered : (of : Asked) (kind : Kind) (m : Map) (texts : List (List ℕ)) → (printed : List ℕ) × (all : Bool) × Belongs of kind m texts printed all
+answered Value kind m texts = (value_lines (map (look kind m) texts), are_found (map (look kind m) texts), (refl, refl))
+answered Longest kind m texts =
+    let each = each_found kind m texts in (found_lines texts each.0, are_found each.0, record { found = each.0; longest = each.1; is = refl; tells = refl })
 
 -- all of them
 pub begun_all : (of : Asked) (kind : TrieKind) (bytes : List ℕ) (texts : List (List ℕ)) (a b : Option (List ℕ)) (all : Bool) → AreAnswered of kind bytes texts a b all → AreAnsweredInPart of kind bytes texts a b
-begun_all of kind bytes texts a b all h =
-    begun_done of kind bytes texts (length texts) a b all (subst (λ ts. AreAnswered of kind bytes ts a b all) (sym (take_all (length texts) texts (omega arith))) h)
+begun_all of kind bytes texts a b all h m means = let x = h m means in (x.0, all, x.1, part_all a b x.0 x.2)
 
--- texts, and then a beginning of the answers to more of them
+-- a beginning of the answers to the first texts is one of the answers to all
+pub begun_front : (of : Asked) (kind : TrieKind) (bytes : List ℕ) (texts more : List (List ℕ)) (a b : Option (List ℕ)) → AreAnsweredInPart of kind bytes texts a b → AreAnsweredInPart of kind bytes (texts ++ more) a b
+begun_front of kind bytes texts more a b h m means =
+    let x = h m means in
+    let y = answered of (kind_of kind) m more in
+    (x.0 ++ y.0, x.1 && y.1, more_asked of (kind_of kind) m texts more x.0 y.0 x.1 y.1 x.2 y.2, part_front a b x.0 y.0 (x.0 ++ y.0) x.3 refl)
+
+-- nothing was printed
+pub begun_none : (of : Asked) (kind : TrieKind) (bytes : List ℕ) (texts : List (List ℕ)) (a : Option (List ℕ)) → AreAnsweredInPart of kind bytes texts a a
+begun_none of kind bytes texts a = begun_front of kind bytes [] texts a a (begun_all of kind bytes [] a a true (none_answered of kind bytes a))
+
+-- all of the first texts, and a beginning of the answers to more of them
 pub more_begun : (of : Asked) (kind : TrieKind) (bytes : List ℕ) (texts more : List (List ℕ)) (a b c : Option (List ℕ)) (all : Bool) → AreAnswered of kind bytes texts a b all
     → AreAnsweredInPart of kind bytes more b c → AreAnsweredInPart of kind bytes (texts ++ more) a c
 more_begun of kind bytes texts more a b c all h k m means =
     let x = h m means in
     let y = k m means in
-    let cut : take (length texts + y.0) (texts ++ more) ≡ texts ++ take y.0 more = take-append-add texts more y.0 in (
-      length texts + y.0,
-      x.0 ++ y.1,
-      all && y.2,
-      subst (λ t. Belongs of (kind_of kind) m t (x.0 ++ y.1) (all && y.2)) (sym cut) (more_asked of (kind_of kind) m texts (take y.0 more) x.0 y.1 all y.2 x.1 y.3),
-      part_behind a b c x.0 y.1 (x.0 ++ y.1) x.2 y.4 refl,
-    )
+    (x.0 ++ y.0, all && y.1, more_asked of (kind_of kind) m texts more x.0 y.0 all y.1 x.1 y.2, part_behind a b c x.0 y.0 (x.0 ++ y.0) x.2 y.3 refl)
+
+-- all of the first texts, and nothing of the others
+pub begun_done : (of : Asked) (kind : TrieKind) (bytes : List ℕ) (texts : List (List ℕ)) (n : ℕ) (a b : Option (List ℕ)) (all : Bool) → AreAnswered of kind bytes (take n texts) a b all
+    → AreAnsweredInPart of kind bytes texts a b
+begun_done of kind bytes texts n a b all h =
+    subst (λ ts. AreAnsweredInPart of kind bytes ts a b) (take-append-drop n texts) (begun_front of kind bytes (take n texts) (drop n texts) a b (begun_all of kind bytes (take n texts) a b all h))
 
 -- all of the first texts, and a beginning of the line of the next
 pub begun_line : (kind : TrieKind) (bytes : List ℕ) (texts : List (List ℕ)) (n : ℕ) (text line : List ℕ) (r : Option (ℕ × ℕ)) (a b c : Option (List ℕ)) (all : Bool) → take (n + 1) texts ≡ take n texts ++ text ∷ []
     → ((m : Map) → Means (kind_of kind) bytes m → IsLongestPrefix (kind_of kind) m text r) → line ≡ found_line text r → AppendsPart b c line → AreAnswered Longest kind bytes (take n texts) a b all
     → AreAnsweredInPart Longest kind bytes texts a c
-begun_line kind bytes texts n text line r a b c all more longest is part h m means =
-    let x = h m means in
-    let one : LongestLines (kind_of kind) m (text ∷ []) line (is_some r) = record { found = r ∷ []; longest = (longest m means, tt); is = is ∙ sym (append-nil (found_line text r)); tells = sym (and_true (is_some r)) } in (
-      n + 1,
-      x.0 ++ line,
-      all && is_some r,
-      subst (λ t. LongestLines (kind_of kind) m t (x.0 ++ line) (all && is_some r)) (sym more) (more_asked Longest (kind_of kind) m (take n texts) (text ∷ []) x.0 line all (is_some r) x.1 one),
-      part_behind a b c x.0 line (x.0 ++ line) x.2 part refl,
-    )
+begun_line kind bytes texts n text line r a b c all more longest is part h =
+    let one : AreAnsweredInPart Longest kind bytes (text ∷ []) b c =
+    λ m means. (line, is_some r, record { found = r ∷ []; longest = (longest m means, tt); is = is ∙ sym (append-nil (found_line text r)); tells = sym (and_true (is_some r)) }, part) in
+    let first : AreAnsweredInPart Longest kind bytes (take (n + 1) texts) a c =
+    subst (λ ts. AreAnsweredInPart Longest kind bytes ts a c) (sym more) (more_begun Longest kind bytes (take n texts) (text ∷ []) a b c all h one) in
+    subst (λ ts. AreAnsweredInPart Longest kind bytes ts a c) (take-append-drop (n + 1) texts) (begun_front Longest kind bytes (take (n + 1) texts) (drop (n + 1) texts) a c first)
 
 -- a beginning of the values of all keys
 pub values_begun : (kind : TrieKind) (m : Map) (keys : List (Bor (List ℕ))) (a b : Option (List ℕ)) → AppendsPart a b (value_lines (answers_of (look (kind_of kind) m) keys))
-    → (n : ℕ) × (printed : List ℕ) × (all : Bool) × Belongs Value (kind_of kind) m (take n (nows keys)) printed all × AppendsPart a b printed
+    → (printed : List ℕ) × (all : Bool) × Belongs Value (kind_of kind) m (nows keys) printed all × AppendsPart a b printed
 values_begun kind m keys a b p =
-    let f = look (kind_of kind) m in
-    let texts = nows keys in
-    let whole : take (length texts) texts ≡ texts = take_all (length texts) texts (omega arith) in (
-      length texts,
-      value_lines (map f texts),
-      are_found (map f texts),
-      subst (λ ks. Belongs Value (kind_of kind) m ks (value_lines (map f texts)) (are_found (map f texts))) (sym whole) (refl, refl),
+    let f = look (kind_of kind) m in (
+      value_lines (map f (nows keys)),
+      are_found (map f (nows keys)),
+      (refl, refl),
       subst (AppendsPart a b) (ap value_lines (answers_are f keys)) p,
     )

@@ -9,7 +9,7 @@ use Rattle.zerotrie_queries.specs.declared.kind.TrieKind.TheVariants.{Simple, Ig
 use Rattle.zerotrie_queries.specs.declared.code.language.Language.{Language}
 use Rattle.zerotrie_queries.specs.declared.code.language.Language.TheVariants as lang
 use Rattle.zerotrie_queries.specs.code.Names.{is_letter, is_in_word, are_in_word, is_name}
-use Rattle.zerotrie_queries.specs.code.Texts.{rust_kind, c_kind, rattle_type, c_get, front, behind}
+use Rattle.zerotrie_queries.specs.code.Texts.{rust_kind, c_kind, rattle_type, c_get, front, end}
 use Rattle.zerotrie_queries.specs.code.Items.{before_item, item_number, items, is_hex, digit_value, seen_after, numbers_after}
 use Rattle.zerotrie_queries.specs.code.Items.Seen.{outside, inside, zero_seen, digit_seen}
 
@@ -127,15 +127,15 @@ front_read lang.C kind name rest is =
 front_read lang.Rattle kind name rest is = named name (codes "(key: &[u8]) -> Option<usize> {\n    static BYTES: &[u8] = &[") rest is
 
 -- and none after them
-pub behind_read : (language : Language) (kind : TrieKind) (name : List ℕ) → is_name name ≡ true → numbers_after outside (behind language kind name) ≡ []
-behind_read lang.Rust kind name is = refl
-behind_read lang.C kind name is =
-    let end = codes "_bytes - 1;\n" in
-    let size = codes "_len = sizeof " ++ (name ++ end) in
+pub end_read : (language : Language) (kind : TrieKind) (name : List ℕ) → is_name name ≡ true → numbers_after outside (end language kind name) ≡ []
+end_read lang.Rust kind name is = refl
+end_read lang.C kind name is =
+    let less = codes "_bytes - 1;\n" in
+    let size = codes "_len = sizeof " ++ (name ++ less) in
     let last = codes "_len, key, key_len, value);\n}\n" in
     let len = codes "_bytes, " ++ (name ++ last) in
     let bytes = codes "_kind, " ++ (name ++ len) in
     let call = codes "_get(const uint8_t *key, size_t key_len, size_t *value) {\n    return zerotrie_get(" ++ (name ++ bytes) in
     let get = c_get name in
-    named name size get is ∙ named name end get is ∙ name_read name call is ∙ name_read name bytes is ∙ name_read name len is ∙ name_read name last is
-behind_read lang.Rattle kind name is = rattle_type_read kind (codes "::from_bytes(BYTES).get(key)\n}\n")
+    named name size get is ∙ named name less get is ∙ name_read name call is ∙ name_read name bytes is ∙ name_read name len is ∙ name_read name last is
+end_read lang.Rattle kind name is = rattle_type_read kind (codes "::from_bytes(BYTES).get(key)\n}\n")

@@ -6,3 +6,4 @@ mod CodeLemmas
 mod CountLemmas
 mod TextLemmas
 pub mod PartLemmas
+mod LongestLemmas

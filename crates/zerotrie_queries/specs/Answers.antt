@@ -1,5 +1,5 @@
 -- What is printed of keys, texts and pairs that a trie is asked for.
-use Rattle.std.specs.Prelude.{◌≡◌, ℕ, List, [], ◌∷◌, map, take, Option, Bool}
+use Rattle.std.specs.Prelude.{◌≡◌, ℕ, List, [], ◌∷◌, map, Option, Bool}
 use Rattle.std.specs.Io.KnownBytes.{Appends}
 use Rattle.zerotrie_core.specs.Kind.{Kind}
 use Rattle.zerotrie_core.specs.Maps.{Map, Pairs, look, beginning}
@@ -37,15 +37,15 @@ abbrev pub AreAnswered : Asked → TrieKind → (bytes : List ℕ) → (texts : 
 AreAnswered asked kind bytes texts old new all = (m : Map) → Means (kind_of kind) bytes m
     → (printed : List ℕ) × Belongs asked (kind_of kind) m texts printed all × Appends old new printed
 
--- if the bytes mean a map, a beginning of the answers to some of the texts, from the first on, was printed
+-- a beginning of what belongs to texts, to what was asked of them, and to the map that the bytes mean, if they mean one, was printed
 abbrev pub AreAnsweredInPart : Asked → TrieKind → (bytes : List ℕ) → (texts : List (List ℕ)) → (old new : Option (List ℕ)) → Type 0
 AreAnsweredInPart asked kind bytes texts old new = (m : Map) → Means (kind_of kind) bytes m
-    → (n : ℕ) × (printed : List ℕ) × (all : Bool) × Belongs asked (kind_of kind) m (take n texts) printed all × AppendsPart old new printed
+    → (printed : List ℕ) × (all : Bool) × Belongs asked (kind_of kind) m texts printed all × AppendsPart old new printed
 
 -- the pairs whose keys begin with a prefix were printed, if the bytes list pairs
 abbrev pub AreListed : Form → (prefix : List ℕ) → TrieKind → (bytes : List ℕ) → (old new : Option (List ℕ)) → Type 0
 AreListed form prefix kind bytes old new = (pairs : Pairs) → Lists (kind_of kind) bytes pairs → Appends old new (listed form (beginning (kind_of kind) prefix pairs))
 
--- a beginning of the lines of these pairs was printed, if the bytes list pairs
+-- a beginning of what is printed of the pairs whose keys begin with a prefix was printed, if the bytes list pairs
 abbrev pub AreListedInPart : Form → (prefix : List ℕ) → TrieKind → (bytes : List ℕ) → (old new : Option (List ℕ)) → Type 0
 AreListedInPart form prefix kind bytes old new = (pairs : Pairs) → Lists (kind_of kind) bytes pairs → AppendsPart old new (listed form (beginning (kind_of kind) prefix pairs))

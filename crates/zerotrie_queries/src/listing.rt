@@ -43,8 +43,7 @@ fn add_block(
     Ok(true)
 }
 
-/// Writes the pairs that a stream still has, many lines at once. If it fails, a beginning of
-/// them was written.
+/// Writes the pairs that a stream still has, many lines at once. If it fails, a beginning of them was written.
 fn write_stream<W: Write>(
     alloc: Global,
     pairs: &mut ZeroTrieStream<'_>,
@@ -88,8 +87,8 @@ fn write_lines<W: Write>(
     write_stream(alloc, &mut pairs, style, output)
 }
 
-/// Writes the pairs whose keys begin with a prefix, in the order of the trie. A pair takes no memory
-/// of its own. If it fails, a beginning of what is to be written was written.
+/// Writes the pairs whose keys begin with a prefix, in the order of the trie. A pair takes no memory of its own. If it fails,
+/// a beginning of the answer was written.
 pub fn write_list<W: Write>(
     alloc: Global,
     trie: &Trie<'_>,

@@ -96,8 +96,8 @@ fn write_longest<W: Write>(
 /// Writes a line for each text, what was asked of it or `none`, and tells whether all was found. Values are written many at
 /// once.
 ///
-/// The answers are those of the map that the bytes of the trie mean. If these mean none, it returns too. If it fails, it has
-/// written a beginning of the lines of some of the texts, from the first on.
+/// The answers are those of the map that the bytes of the trie mean. If they mean no map, it still ends, but no clause says
+/// with which answers. If it fails, a beginning of the lines was written.
 pub fn write_answers<W: Write>(
     alloc: Global,
     trie: &mut TrieLookUps<'_>,

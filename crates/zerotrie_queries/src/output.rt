@@ -1,4 +1,4 @@
-//! Bytes that are written as far as can be.
+//! Bytes that are written whole, or, if that fails, a beginning of them.
 
 ghost use Rattle.std.specs.Prelude.{OnOk, OnErr};
 ghost use Rattle.std.specs.Io.KnownBytes.{Appends};

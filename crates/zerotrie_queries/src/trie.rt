@@ -1,7 +1,7 @@
 //! A trie of a kind that is known when the program runs.
 
 ghost use Rattle.std.specs.Prelude.{◌≡◌, ◌↔◌, ◌≤◌, length, IsTrue, IfOk, IfErr, IfSome, None};
-ghost use Rattle.zerotrie_core.specs.Maps.{Map, Pairs, look, beginning};
+ghost use Rattle.zerotrie_core.specs.Maps.{Map, Pairs, beginning};
 ghost use Rattle.zerotrie_core.specs.Texts.{Lists, Means};
 ghost use Rattle.zerotrie_core.specs.Listings.{to_come};
 ghost use Rattle.zerotrie_core.specs.Prefixes.{IsLongestPrefix};
@@ -16,8 +16,8 @@ use crate::kind::TrieKind;
 use std::alloc::{AllocError, Global};
 use zerotrie_any::TagError;
 use zerotrie_core::{
-    Ext, Fault, Hash, Ignore, Nodes, Simple, ZeroTrieStream, first_fault, get_counted,
-    is_well_formed, longest_prefix,
+    Ext, Fault, Hash, Ignore, Nodes, Simple, ZeroTrieStream, first_fault, is_well_formed,
+    longest_prefix,
 };
 
 /// The bytes of a trie, where they lie, and its kind.
@@ -75,20 +75,6 @@ impl<'a> Trie<'a> {
             TrieKind::Hash => first_fault::<Hash, _>(alloc, self.bytes),
             TrieKind::Ext => first_fault::<Ext, _>(alloc, self.bytes),
         }
-    }
-
-    /// The value of the key. `None` if the trie has no such key.
-    pub fn get(&self, key: &[u8]) -> Option<usize>
-        ensures { (m : Map) → Means (kind_of self.now.kind) self.now.bytes.now m
-            → result ≡ look (kind_of self.now.kind) m key.now }
-    {
-        let (value, _nodes) = match self.kind {
-            TrieKind::Simple => get_counted::<Simple>(self.bytes, key),
-            TrieKind::Ignore => get_counted::<Ignore>(self.bytes, key),
-            TrieKind::Hash => get_counted::<Hash>(self.bytes, key),
-            TrieKind::Ext => get_counted::<Ext>(self.bytes, key),
-        };
-        value
     }
 
     /// The longest key that the text begins with: its length in bytes, and its value. `None` if it begins with no key.

@@ -15,7 +15,7 @@ use Rattle.zerotrie_queries.specs.declared.lookups.Asked.{Asked}
 use Rattle.zerotrie_queries.specs.declared.lookups.Asked.TheVariants as asked
 use Rattle.zerotrie_queries.proofs.PartLemmas.{part_all}
 use Rattle.zerotrie_queries.proofs.AnswerLemmas.{begun_all}
-use Rattle.zerotrie_run.specs.Runs.{Answers, AnswersInPart, AreKeys, AreFirstKeys, KeysAnswered, KeysAnsweredInPart, are_lines, of_lines}
+use Rattle.zerotrie_run.specs.Runs.{Answers, AnswersInPart, AreKeys, KeysAnswered, KeysAnsweredInPart, are_lines, of_lines}
 use Rattle.zerotrie_run.specs.declared.command.Place.{Place}
 use Rattle.zerotrie_run.specs.declared.command.Place.TheVariants.{Stream}
 use Rattle.zerotrie_run.specs.declared.command.Keys.{Keys}
@@ -38,12 +38,12 @@ kept_answer (Code language name) input kind bytes a b c all h k = (h.0, Appends-
 kept_answer Report input kind bytes a b c all h k = (h.0, Appends-kept a b c (report_lines (report_of kind bytes)) h.1 k)
 kept_answer (View view) input kind bytes a b c all h k = (h.0, Appends-kept a b c (shown view kind bytes) h.1 k)
 
--- words are the same keys whatever was typed
+-- words are the same keys whatever standard input has
 other_keys : (keys : Keys) (i j : Option (List ℕ)) (ks : List (List ℕ)) → (are_lines keys ≡ true → ⊥) → AreKeys keys i ks → AreKeys keys j ks
 other_keys (Words words) i j ks apart h = h
 other_keys Lines i j ks apart h = absurd (apart refl)
 
--- an answer whose keys are no lines is one whatever was typed
+-- an answer whose keys are no lines is one whatever standard input has
 pub other_input : (q : Question) (i j : Option (List ℕ)) (kind : TrieKind) (bytes : List ℕ) (a b : Option (List ℕ)) (all : Bool) → (of_lines q ≡ true → ⊥) → Answers q i kind bytes a b all
     → Answers q j kind bytes a b all
 other_input (Get keys) i j kind bytes a b all apart h = (h.0, other_keys keys i j h.0 apart h.1, h.2)
@@ -59,15 +59,10 @@ pub same_answer : {R : Type 0} (place : Place) (remaining : R → Option (List �
 same_answer place remaining old new q kind bytes a b all apart (inl is) h = other_input q (remaining new) (remaining old) kind bytes a b all (λ lines. apart (is, lines)) h
 same_answer place remaining old new q kind bytes a b all apart (inr is) h = subst (λ r. Answers q (remaining r) kind bytes a b all) is h
 
--- all keys are first keys
-first_keys : (keys : Keys) (input : Option (List ℕ)) (ks : List (List ℕ)) → AreKeys keys input ks → AreFirstKeys keys input ks
-first_keys (Words words) input ks h = h
-first_keys Lines None ks h = tt
-first_keys Lines (Some known) ks h = ([], sym h ∙ sym (append-nil ks))
-
+-- an answer to keys is a beginning of itself
 keys_in_part : (of : Asked) (keys : Keys) (input : Option (List ℕ)) (kind : TrieKind) (bytes : List ℕ) (a b : Option (List ℕ)) (all : Bool) → KeysAnswered of keys input kind bytes a b all
     → KeysAnsweredInPart of keys input kind bytes a b
-keys_in_part of keys input kind bytes a b all h = (h.0, first_keys keys input h.0 h.1, begun_all of kind bytes h.0 a b all h.2)
+keys_in_part of keys input kind bytes a b all h = (h.0, h.1, begun_all of kind bytes h.0 a b all h.2)
 
 -- an answer is a beginning of itself
 pub answer_in_part : (q : Question) (input : Option (List ℕ)) (kind : TrieKind) (bytes : List ℕ) (a b : Option (List ℕ)) (all : Bool) → Answers q input kind bytes a b all → AnswersInPart q input kind bytes a b
@@ -78,14 +73,10 @@ answer_in_part (Code language name) input kind bytes a b all h = part_all a b (c
 answer_in_part Report input kind bytes a b all h = part_all a b (report_lines (report_of kind bytes)) h.1
 answer_in_part (View view) input kind bytes a b all h = part_all a b (shown view kind bytes) h.1
 
--- a beginning of an answer whose keys are no lines is one whatever was typed
-other_first_keys : (keys : Keys) (i j : Option (List ℕ)) (ks : List (List ℕ)) → (are_lines keys ≡ true → ⊥) → AreFirstKeys keys i ks → AreFirstKeys keys j ks
-other_first_keys (Words words) i j ks apart h = h
-other_first_keys Lines i j ks apart h = absurd (apart refl)
-
+-- a beginning of an answer whose keys are no lines is one whatever standard input has
 other_part : (q : Question) (i j : Option (List ℕ)) (kind : TrieKind) (bytes : List ℕ) (a b : Option (List ℕ)) → (of_lines q ≡ true → ⊥) → AnswersInPart q i kind bytes a b → AnswersInPart q j kind bytes a b
-other_part (Get keys) i j kind bytes a b apart h = (h.0, other_first_keys keys i j h.0 apart h.1, h.2)
-other_part (Longest texts) i j kind bytes a b apart h = (h.0, other_first_keys texts i j h.0 apart h.1, h.2)
+other_part (Get keys) i j kind bytes a b apart h = (h.0, other_keys keys i j h.0 apart h.1, h.2)
+other_part (Longest texts) i j kind bytes a b apart h = (h.0, other_keys texts i j h.0 apart h.1, h.2)
 other_part (Listing form prefix) i j kind bytes a b apart h = h
 other_part (Code language name) i j kind bytes a b apart h = h
 other_part Report i j kind bytes a b apart h = h

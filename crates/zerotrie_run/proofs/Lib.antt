@@ -1,3 +1,3 @@
 mod AskLemmas
-mod TypedLemmas
+mod LineLemmas
 mod MadeLemmas

@@ -1,5 +1,5 @@
 -- What each command prints, what it leaves in files, and how it ends.
-use Rattle.std.specs.Prelude.{◌≡◌, ◌≢◌, ◌⊎◌, ◌++◌, ℕ, List, [], Option, Some, None, IfSome, Result, Ok, Err, Bool, true, false, map, codes}
+use Rattle.std.specs.Prelude.{◌≡◌, ◌≢◌, ◌⊎◌, ℕ, List, [], Option, Some, None, IfSome, Result, Ok, Err, Bool, true, false, map, codes}
 use Rattle.std.specs.Io.KnownBytes.{Appends}
 use Rattle.std.specs.Io.Buffered.{writer_buffer}
 use Rattle.std.specs.declared.io.buffered.BufWriter.{BufWriter}
@@ -44,7 +44,7 @@ use Rattle.zerotrie_run.specs.declared.building.BuildError.TheVariants as build
 use Rattle.zerotrie_run.specs.declared.command.Command.{Command}
 use Rattle.zerotrie_run.specs.declared.command.Command.TheVariants as commands
 
--- What files hold and what was printed, each as far as it is known.
+-- What files hold, and what was printed: what a stream has, and then what its buffer still holds. Each as far as it is known.
 pub record World : Type 0 where
   pub files : Option Files
   pub printed : Option (List ℕ)
@@ -118,14 +118,9 @@ Answers (Code language name) input kind bytes old new all = (all ≡ true) × Ap
 Answers Report input kind bytes old new all = (all ≡ true) × Appends old new (report_lines (report_of kind bytes))
 Answers (View view) input kind bytes old new all = (all ≡ true) × Appends old new (shown view kind bytes)
 
--- the first keys of a question: all of its words, or the first lines of standard input
-abbrev pub AreFirstKeys : Keys → Option (List ℕ) → List (List ℕ) → Type 0
-AreFirstKeys (Words words) input keys = keys ≡ map (λ w. w.now) words.now
-AreFirstKeys Lines input keys = IfSome input (λ known. (more : List (List ℕ)) × (lines_of known ≡ keys ++ more))
-
--- a beginning of what belongs to the first keys, and to the map that the bytes mean, if they mean one, was printed
+-- a beginning of what belongs to the keys and to the map that the bytes mean, if they mean one, was printed
 abbrev pub KeysAnsweredInPart : Asked → Keys → (input : Option (List ℕ)) → TrieKind → List ℕ → (old new : Option (List ℕ)) → Type 0
-KeysAnsweredInPart of keys input kind bytes old new = (ks : List (List ℕ)) × AreFirstKeys keys input ks × AreAnsweredInPart of kind bytes ks old new
+KeysAnsweredInPart of keys input kind bytes old new = (ks : List (List ℕ)) × AreKeys keys input ks × AreAnsweredInPart of kind bytes ks old new
 
 -- a beginning of what belongs to the question and to bytes of this kind was printed
 abbrev pub AnswersInPart : Question → (input : Option (List ℕ)) → TrieKind → List ℕ → (old new : Option (List ℕ)) → Type 0
@@ -145,6 +140,17 @@ pub record IsAsked (file : TrieFile) (question : Question) (input : Option (List
   pub opens : Opens file held kind bytes
   pub answers : Answers question input kind bytes old new all
 
+-- the fault is the first in the bytes that a file has
+abbrev pub IsFaultIn : Option TrieKind → List ℕ → ByteFault → Type 0
+IsFaultIn named held fault = (kind : TrieKind) × (bytes : List ℕ) × Holds named held kind bytes × IsFirstFault (kind_of kind) bytes fault
+
+-- why there is no answer names the first fault in the bytes that a file has, if it names one
+abbrev pub NamesFault : TrieFile → (input : Option (List ℕ)) → Option Files → AskError → Type 0
+NamesFault file input files ask.TwoInputs = Unit {0}
+NamesFault file input files (ask.Unread e) = Unit {0}
+NamesFault file input files (ask.NoTrie why fault) = IfSome fault (λ f. (held : List ℕ) × IsRead file.place input files held × IsFaultIn file.kind held f)
+NamesFault file input files (ask.Unanswered e) = Unit {0}
+
 -- The trie of a file was asked, and a beginning of the answer was printed.
 pub record IsAskedInPart (file : TrieFile) (question : Question) (input : Option (List ℕ)) (files : Option Files) (old new : Option (List ℕ)) : Type 0 where
   pub held : List ℕ
@@ -157,10 +163,6 @@ pub record IsAskedInPart (file : TrieFile) (question : Question) (input : Option
 -- the file has no trie
 abbrev pub HasNoTrie : TrieFile → Option (List ℕ) → Option Files → Type 0
 HasNoTrie file input files = (held : List ℕ) × IsRead file.place input files held × (why : OpenError) × IsUnopened file held why
-
--- the fault is the first in the bytes that a file has
-abbrev pub IsFaultIn : Option TrieKind → List ℕ → ByteFault → Type 0
-IsFaultIn named held fault = (kind : TrieKind) × (bytes : List ℕ) × Holds named held kind bytes × IsFirstFault (kind_of kind) bytes fault
 
 -- what a file holds has no answer: it has no trie, and nothing was printed; or it has one, and a beginning of the answer was printed
 abbrev pub IsUnanswered : TrieFile → Question → (input : Option (List ℕ)) → List ℕ → (old new : Option (List ℕ)) → AskError → Type 0
@@ -220,7 +222,7 @@ pub record IsUnwritten (build : Build) (input : Option (List ℕ)) (before after
   pub kept : IsKept build.to file before after
 
 -- How a build ends. The file was made; its keys are refused, or its input is no pairs; or it is out of memory, or a file can't be
--- read or written, and then nothing was touched, or the input makes a file, and its place is as it was or has a beginning of it.
+-- read or written, and then nothing was touched, or the input makes a file, and the file at its place holds what it held, or a beginning of it was printed.
 abbrev pub RunsBuild : Build → Option (List ℕ) → World → World → Status → Type 0
 RunsBuild build input before after Done = IsMade build input before after
 RunsBuild build input before after Absent = ⊥

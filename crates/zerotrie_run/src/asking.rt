@@ -3,7 +3,7 @@
 ghost use Rattle.std.specs.Prelude.{◌≡◌, ◌↔◌, ℕ, List, true, false, Ok, Err, IfOk, IfErr, IfSome, IsTrue, OnErr};
 ghost use Rattle.std.specs.Io.Buffered.{writer_contents};
 ghost use Rattle.zerotrie_queries.specs.declared.kind.TrieKind.{TrieKind};
-ghost use Rattle.zerotrie_run.specs.Runs.{Opens, IsUnopened, KeysAnswered, KeysAnsweredInPart, Answers, AnswersInPart, IsAsked, RunsAsk, IsUnanswered, IsDoubtful, IsFaultIn, ReadsTwice, LeavesKeys, LeavesInput, HandsOn, ask_status, asked_status, are_lines, of_lines};
+ghost use Rattle.zerotrie_run.specs.Runs.{Opens, IsUnopened, KeysAnswered, KeysAnsweredInPart, Answers, AnswersInPart, IsAsked, RunsAsk, IsUnanswered, IsDoubtful, IsFaultIn, NamesFault, ReadsTwice, LeavesKeys, LeavesInput, HandsOn, ask_status, asked_status, are_lines, of_lines};
 ghost use Rattle.zerotrie_run.specs.declared.command.Place.TheVariants.{Stream};
 ghost use Rattle.zerotrie_run.specs.declared.command.Command.TheVariants.{Ask};
 ghost use Rattle.zerotrie_run.specs.declared.asking.AskError.TheVariants.{TwoInputs};
@@ -12,7 +12,7 @@ use crate::command::{Keys, Place, Question, TrieFile};
 use crate::messages::tell_number;
 use crate::reading::read_place;
 use crate::status::Status;
-use crate::typed::{AnswerError, answer_lines};
+use crate::stdin_lines::{AnswerError, answer_lines};
 use std::alloc::Global;
 use std::io;
 use std::io::{BufWriter, Read, Write};
@@ -191,6 +191,7 @@ pub fn ask<F: Store, R: Read, W: Write + Drop, M: Write>(
         (F.files files.now) (writer_contents W.contents output.old) (writer_contents W.contents output.new) all) }
     ensures err { IfErr result (λ e. RunsAsk file.entry question.entry (R.remaining input.old)
         (F.files files.now) (writer_contents W.contents output.old) (writer_contents W.contents output.new) (ask_status e)) }
+    ensures fault { IfErr result (NamesFault file.entry (R.remaining input.old) (F.files files.now)) }
     ensures handed { IfOk result (λ _. HandsOn output.old output.new) }
     ensures quiet { (IsDoubtful file.entry (R.remaining input.old) (F.files files.now) → ⊥)
         → messages.new ≡ messages.old }
@@ -210,6 +211,6 @@ pub fn ask<F: Store, R: Read, W: Write + Drop, M: Write>(
     let all = answer_held(alloc, file, held, question, input, output)?;
     match output.flush() {
         Ok(()) => Ok(all),
-        Err(error) => Err(AskError::Unanswered(AnswerError::Failed(error))),
+        Err(error) => Err(AskError::Unanswered(AnswerError::Output(error))),
     }
 }

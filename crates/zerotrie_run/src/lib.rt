@@ -9,7 +9,7 @@ mod messages;
 mod reading;
 mod running;
 mod status;
-mod typed;
+mod stdin_lines;
 
 pub use command::{Build, Command, Keys, Place, Question, TrieFile};
 pub use running::run;

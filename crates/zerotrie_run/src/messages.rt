@@ -6,7 +6,7 @@ ghost use Rattle.zerotrie_run.specs.Runs.{HasNumberToo};
 use crate::asking::AskError;
 use crate::building::BuildError;
 use crate::command::{Build, Place, TrieFile};
-use crate::typed::AnswerError;
+use crate::stdin_lines::AnswerError;
 use std::alloc::Global;
 use std::io;
 use std::io::{ErrorKind, Write};
@@ -127,10 +127,10 @@ pub fn tell_ask<M: Write>(
         ),
         AskError::Unread(error) => writeln!(messages, "zerotrie: {path}: {error}"),
         AskError::NoTrie(why, fault) => tell_no_trie(messages, file, why, fault),
-        AskError::Unanswered(AnswerError::Untyped(error)) => {
+        AskError::Unanswered(AnswerError::Input(error)) => {
             writeln!(messages, "zerotrie: standard input: {error}")
         }
-        AskError::Unanswered(AnswerError::Failed(error)) => {
+        AskError::Unanswered(AnswerError::Output(error)) => {
             tell_unwritten(messages, STANDARD_OUTPUT, error)
         }
     }

@@ -17,11 +17,12 @@ use zerotrie_files::Store;
 /// Does what a command asks, and tells how it ended. What is wrong is told by a message.
 ///
 /// What is printed is that of the command, the files and the input, and what is left in files too; see `Runs`. After a fault
-/// a beginning of it was printed, or nothing. If all went well, the buffer has handed all of it on to the writer beneath, if it
-/// was empty before. A message that can't be written is lost, and the status tells alone. If all went well, there is none but the steps of a build,
-/// if they were asked for, and a note on a file that is read as bare bytes though it begins with the number of a kind.
-/// If the file and the keys are both standard input, the usage is bad. Standard input is left alone unless the command reads
-/// it; keys are not read from it if the file has no trie.
+/// a beginning of it was printed, or nothing. A message that can't be written is lost, and the status tells alone.
+///
+/// After success, or if a key is absent, the buffer has handed all of the answer on to the writer beneath it, if it was empty
+/// before. There is then no message but the steps of a build, if they were asked for, and a note on a file that is read as bare
+/// bytes and begins with the number of a kind. If the file and the keys are both standard input, the usage is bad. Standard
+/// input is left alone unless the command reads it; keys are not read from it if the file has no trie.
 pub fn run<F: Store, R: Read, W: Write + Drop, M: Write>(
     alloc: Global,
     command: Command<'_>,

@@ -16,8 +16,8 @@ abbrev pub items : ℕ → List ℕ → List ℕ
 items i [] = []
 items i (b ∷ bytes) = before_item i ++ (item_number b ++ items (i + 1) bytes)
 
--- What was read last: no part of a word, part of a word that is no such number or is behind it, a 0 that begins a word,
--- the 0x that does, or that and its first digit of this value.
+-- What was read last: no part of a word, part of a word that is no such number or comes after it, a 0 that begins a
+-- word, the 0x that does, or that and its first digit of this value.
 pub data Seen : Type 0 where
   outside : Seen
   inside : Seen

@@ -71,12 +71,12 @@ c_get name =
     ++ codes "_len, key, key_len, value);\n}\n")))))))
 
 -- what C has after the bytes
-abbrev pub c_behind : List ℕ → List ℕ
-c_behind name = c_len name ++ c_get name
+abbrev pub c_end : List ℕ → List ℕ
+c_end name = c_len name ++ c_get name
 
 -- what Rattle has
-abbrev pub rattle_behind : TrieKind → List ℕ
-rattle_behind kind = codes "\n    ];\n    zerotrie::" ++ (rattle_type kind ++ codes "::from_bytes(BYTES).get(key)\n}\n")
+abbrev pub rattle_end : TrieKind → List ℕ
+rattle_end kind = codes "\n    ];\n    zerotrie::" ++ (rattle_type kind ++ codes "::from_bytes(BYTES).get(key)\n}\n")
 
 -- what stands in front of the bytes
 abbrev pub front : Language → TrieKind → List ℕ → List ℕ
@@ -85,7 +85,7 @@ front lang.C kind name = c_front kind name
 front lang.Rattle kind name = rattle_front name
 
 -- what stands after the bytes
-abbrev pub behind : Language → TrieKind → List ℕ → List ℕ
-behind lang.Rust kind name = codes "\n]);\n"
-behind lang.C kind name = c_behind name
-behind lang.Rattle kind name = rattle_behind kind
+abbrev pub end : Language → TrieKind → List ℕ → List ℕ
+end lang.Rust kind name = codes "\n]);\n"
+end lang.C kind name = c_end name
+end lang.Rattle kind name = rattle_end kind

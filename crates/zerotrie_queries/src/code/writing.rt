@@ -1,9 +1,9 @@
 //! A trie as source code.
 
-ghost use Rattle.std.specs.Prelude.{OnOk, OnErr};
+ghost use Rattle.std.specs.Prelude.{◌≡◌, ◌++◌, OnOk, OnErr};
 ghost use Rattle.std.specs.Io.KnownBytes.{Appends};
 ghost use Rattle.zerotrie_queries.specs.Parts.{AppendsPart};
-ghost use Rattle.zerotrie_queries.specs.code.Texts.{rust_front, c_front, rattle_front, c_len, c_get, c_behind, rattle_behind, front, behind};
+ghost use Rattle.zerotrie_queries.specs.code.Texts.{rust_front, c_front, rattle_front, c_len, c_get, c_end, rattle_end, front, end};
 ghost use Rattle.zerotrie_queries.specs.code.Code.{code};
 
 use crate::code::items::write_items;
@@ -11,32 +11,31 @@ use crate::code::language::{Language, c_kind, rattle_type, rust_kind};
 use crate::kind::TrieKind;
 use crate::output::write_bytes;
 use crate::trie::Trie;
-use std::alloc::Global;
+use std::alloc::{AllocError, Global};
 use std::io;
 use std::io::Write;
 
-/// Writes what Rust has in front of the bytes.
-fn write_rust_front<W: Write>(kind: TrieKind, name: &str, output: &mut W) -> io::Result<()>
-    ensures { OnOk result (Appends (W.contents output.old) (W.contents output.new)
-        (rust_front kind name.now)) }
+/// Adds what Rust has in front of the bytes.
+fn add_rust_front(text: &mut Vec<u8>, kind: TrieKind, name: &str) -> Result<(), AllocError>
+    ensures { OnOk result (text.new.items ≡ text.old.items ++ rust_front kind name.now) }
 {
     let kind = rust_kind(kind);
     write!(
-        output,
+        text,
         "/// The trie: `{name}.get(key)` is the value of a key.
 pub static {name}: zerotrie_proved::ZeroTrie<'static> =
     zerotrie_proved::ZeroTrie::from_bytes(zerotrie_proved::Kind::{kind}, &["
     )
+    .map_err(|_| AllocError)
 }
 
-/// Writes what C has in front of the bytes.
-fn write_c_front<W: Write>(kind: TrieKind, name: &str, output: &mut W) -> io::Result<()>
-    ensures { OnOk result (Appends (W.contents output.old) (W.contents output.new)
-        (c_front kind name.now)) }
+/// Adds what C has in front of the bytes.
+fn add_c_front(text: &mut Vec<u8>, kind: TrieKind, name: &str) -> Result<(), AllocError>
+    ensures { OnOk result (text.new.items ≡ text.old.items ++ c_front kind name.now) }
 {
     let kind = c_kind(kind);
     write!(
-        output,
+        text,
         "#include \"zerotrie.h\"
 
 /* The kind of the trie. */
@@ -45,15 +44,15 @@ static const uint32_t {name}_kind = {kind};
 /* Its bytes, and a zero. */
 static const uint8_t {name}_bytes[] = {{"
     )
+    .map_err(|_| AllocError)
 }
 
-/// Writes what C has right after the bytes: a zero, since an array there has an item, and how many bytes there are.
-fn write_c_len<W: Write>(name: &str, output: &mut W) -> io::Result<()>
-    ensures { OnOk result (Appends (W.contents output.old) (W.contents output.new)
-        (c_len name.now)) }
+/// Adds what C has right after the bytes: a zero, since an array there has an item, and how many bytes there are.
+fn add_c_len(text: &mut Vec<u8>, name: &str) -> Result<(), AllocError>
+    ensures { OnOk result (text.new.items ≡ text.old.items ++ c_len name.now) }
 {
     write!(
-        output,
+        text,
         "
     0
 }};
@@ -62,15 +61,15 @@ fn write_c_len<W: Write>(name: &str, output: &mut W) -> io::Result<()>
 static const size_t {name}_len = sizeof {name}_bytes - 1;
 "
     )
+    .map_err(|_| AllocError)
 }
 
-/// Writes the function of C.
-fn write_c_get<W: Write>(name: &str, output: &mut W) -> io::Result<()>
-    ensures { OnOk result (Appends (W.contents output.old) (W.contents output.new)
-        (c_get name.now)) }
+/// Adds the function of C.
+fn add_c_get(text: &mut Vec<u8>, name: &str) -> Result<(), AllocError>
+    ensures { OnOk result (text.new.items ≡ text.old.items ++ c_get name.now) }
 {
     write!(
-        output,
+        text,
         "
 /* Whether the trie has the key. If so, writes its value. */
 static inline bool {name}_get(const uint8_t *key, size_t key_len, size_t *value) {{
@@ -78,84 +77,82 @@ static inline bool {name}_get(const uint8_t *key, size_t key_len, size_t *value)
 }}
 "
     )
+    .map_err(|_| AllocError)
 }
 
-/// Writes what C has after the bytes.
-fn write_c_behind<W: Write>(name: &str, output: &mut W) -> io::Result<()>
-    ensures { OnOk result (Appends (W.contents output.old) (W.contents output.new)
-        (c_behind name.now)) }
+/// Adds what C has after the bytes.
+fn add_c_end(text: &mut Vec<u8>, name: &str) -> Result<(), AllocError>
+    ensures { OnOk result (text.new.items ≡ text.old.items ++ c_end name.now) }
 {
-    write_c_len(name, output)?;
-    write_c_get(name, output)
+    add_c_len(text, name)?;
+    add_c_get(text, name)
 }
 
-/// Writes what Rattle has in front of the bytes.
-fn write_rattle_front<W: Write>(name: &str, output: &mut W) -> io::Result<()>
-    ensures { OnOk result (Appends (W.contents output.old) (W.contents output.new)
-        (rattle_front name.now)) }
+/// Adds what Rattle has in front of the bytes.
+fn add_rattle_front(text: &mut Vec<u8>, name: &str) -> Result<(), AllocError>
+    ensures { OnOk result (text.new.items ≡ text.old.items ++ rattle_front name.now) }
 {
     write!(
-        output,
+        text,
         "/// The value of a key. `None` if the trie has no such key.
 pub fn {name}(key: &[u8]) -> Option<usize> {{
     static BYTES: &[u8] = &["
     )
+    .map_err(|_| AllocError)
 }
 
-/// Writes what Rattle has after the bytes.
-fn write_rattle_behind<W: Write>(kind: TrieKind, output: &mut W) -> io::Result<()>
-    ensures { OnOk result (Appends (W.contents output.old) (W.contents output.new)
-        (rattle_behind kind)) }
+/// Adds what Rattle has after the bytes.
+fn add_rattle_end(text: &mut Vec<u8>, kind: TrieKind) -> Result<(), AllocError>
+    ensures { OnOk result (text.new.items ≡ text.old.items ++ rattle_end kind) }
 {
     let kind = rattle_type(kind);
     write!(
-        output,
+        text,
         "
     ];
     zerotrie::{kind}::from_bytes(BYTES).get(key)
 }}
 "
     )
+    .map_err(|_| AllocError)
 }
 
-/// Writes what stands in front of the bytes.
-fn write_front<W: Write>(
+/// Adds what stands in front of the bytes.
+fn add_front(
+    text: &mut Vec<u8>,
     language: Language,
     kind: TrieKind,
     name: &str,
-    output: &mut W,
-) -> io::Result<()>
-    ensures { OnOk result (Appends (W.contents output.old) (W.contents output.new)
-        (front language kind name.now)) }
+) -> Result<(), AllocError>
+    ensures { OnOk result (text.new.items ≡ text.old.items ++ front language kind name.now) }
 {
     match language {
-        Language::Rust => write_rust_front(kind, name, output),
-        Language::C => write_c_front(kind, name, output),
-        Language::Rattle => write_rattle_front(name, output),
+        Language::Rust => add_rust_front(text, kind, name),
+        Language::C => add_c_front(text, kind, name),
+        Language::Rattle => add_rattle_front(text, name),
     }
 }
 
-/// Writes what stands after the bytes.
-fn write_behind<W: Write>(
+/// Adds what stands after the bytes.
+fn add_end(
+    text: &mut Vec<u8>,
     language: Language,
     kind: TrieKind,
     name: &str,
-    output: &mut W,
-) -> io::Result<()>
-    ensures { OnOk result (Appends (W.contents output.old) (W.contents output.new)
-        (behind language kind name.now)) }
+) -> Result<(), AllocError>
+    ensures { OnOk result (text.new.items ≡ text.old.items ++ end language kind name.now) }
 {
     match language {
-        Language::Rust => output.write_all(b"\n]);\n"),
-        Language::C => write_c_behind(name, output),
-        Language::Rattle => write_rattle_behind(kind, output),
+        Language::Rust => text.extend_from_slice(b"\n]);\n"),
+        Language::C => add_c_end(text, name),
+        Language::Rattle => add_rattle_end(text, kind),
     }
 }
 
 /// Writes the bytes of a trie as source code: a constant, and the call that reads it, by this name.
 /// They may be any bytes, and the name has to be a word (`is_name`) that is no keyword of the
-/// language. It takes memory for what stands around the bytes. If it fails, a beginning of the code
-/// was written.
+/// language. It takes memory for what stands around the bytes, and takes it before it writes. If it
+/// fails, a beginning of the code was written.
 pub fn write_trie_code<W: Write>(
     alloc: Global,
     trie: &Trie<'_>,
@@ -169,10 +166,10 @@ pub fn write_trie_code<W: Write>(
         (code language trie.now.kind name.now trie.now.bytes.now)) }
 {
     let mut front = Vec::new(alloc);
-    write_front(language, trie.kind, name, &mut front)?;
+    let mut end = Vec::new(alloc);
+    add_front(&mut front, language, trie.kind, name)?;
+    add_end(&mut end, language, trie.kind, name)?;
     write_bytes(output, front.as_slice())?;
     write_items(trie.bytes, output)?;
-    let mut behind = Vec::new(alloc);
-    write_behind(language, trie.kind, name, &mut behind)?;
-    write_bytes(output, behind.as_slice())
+    write_bytes(output, end.as_slice())
 }

@@ -7,20 +7,20 @@ use Rattle.zerotrie_queries.specs.code.Items.{before_item, item_number, items}
 use Rattle.zerotrie_queries.proofs.code.items.write_items.Goals.{After-item_number}
 use Rattle.zerotrie_queries.proofs.code.items.write_items.Goals as goal
 
--- the items from one on, behind what stands in front of it
-abbrev behind_blank : List ℕ → ℕ → List ℕ
-behind_blank bytes i = item_number (get_or bytes i 0) ++ items (i + 1) (drop (i + 1) bytes)
+-- the items from one on, after what stands in front of it
+abbrev after_blank : List ℕ → ℕ → List ℕ
+after_blank bytes i = item_number (get_or bytes i 0) ++ items (i + 1) (drop (i + 1) bytes)
 
-blank_first : (bytes blank : List ℕ) (i : ℕ) → i < length bytes → blank ≡ before_item i → items i (drop i bytes) ≡ blank ++ behind_blank bytes i
-blank_first bytes blank i inside is = ap (items i) (drop_more bytes i 0 inside) ∙ ap (λ l. l ++ behind_blank bytes i) (sym is)
+blank_first : (bytes blank : List ℕ) (i : ℕ) → i < length bytes → blank ≡ before_item i → items i (drop i bytes) ≡ blank ++ after_blank bytes i
+blank_first bytes blank i inside is = ap (items i) (drop_more bytes i 0 inside) ∙ ap (λ l. l ++ after_blank bytes i) (sym is)
 
-blank_wrote : (g : _) (c : After-item_number g) → Wrote (g.W.Write.contents c.args.output.now) (g.W.Write.contents c.write_bytes.new.output) (behind_blank c.args.bytes.now c.loop-index.index) (items 0 c.args.bytes.now)
+blank_wrote : (g : _) (c : After-item_number g) → Wrote (g.W.Write.contents c.args.output.now) (g.W.Write.contents c.write_bytes.new.output) (after_blank c.args.bytes.now c.loop-index.index) (items 0 c.args.bytes.now)
 blank_wrote g c =
     let contents = g.W.Write.contents in
     let bytes = c.args.bytes.now in
     let i = c.loop-index.index in
     wrote_more (contents c.args.output.now) (contents c.loop-index.output) (contents c.write_bytes.new.output) c.as_bytes.result.now
-    (items i (drop i bytes)) (behind_blank bytes i) (items 0 bytes) c.loop-index.invariant c.in_ok-write_bytes.ensures.all
+    (items i (drop i bytes)) (after_blank bytes i) (items 0 bytes) c.loop-index.invariant c.in_ok-write_bytes.ensures.all
     (blank_first bytes c.as_bytes.result.now i (omega arith) (c.as_bytes.ensures.value ∙ c.before_item.ensures))
 
 pub loop-index-preserved : goal.loop-index-preserved
@@ -30,7 +30,7 @@ loop-index-preserved g c =
     let i = c.loop-index.index in
     let left = items (i + 1) (drop (i + 1) bytes) in
     wrote_more (contents c.args.output.now) (contents c.write_bytes.new.output) (contents c.write_bytes-in-loop-index.new.output) c.item_number.result
-    (behind_blank bytes i) left (items 0 bytes) (blank_wrote g (goal.at.loop-index-preserved g c).After-item_number) c.in_ok-write_bytes-2.ensures.all
+    (after_blank bytes i) left (items 0 bytes) (blank_wrote g (goal.at.loop-index-preserved g c).After-item_number) c.in_ok-write_bytes-2.ensures.all
     (ap (λ l. l ++ left) (sym c.item_number.ensures))
 
 pub returns-in_err-write_bytes-clause-part : goal.returns-in_err-write_bytes-clause-part
@@ -40,7 +40,7 @@ returns-in_err-write_bytes-clause-part g c =
     let i = c.loop-index.index in
     let part : AppendsPart (contents c.args.output.now) (contents c.write_bytes.new.output) (items 0 bytes) =
     part_next (contents c.args.output.now) (contents c.loop-index.output) (contents c.write_bytes.new.output) c.as_bytes.result.now
-    (behind_blank bytes i) (items i (drop i bytes)) (items 0 bytes) c.loop-index.invariant c.in_err-write_bytes.ensures.part
+    (after_blank bytes i) (items i (drop i bytes)) (items 0 bytes) c.loop-index.invariant c.in_err-write_bytes.ensures.part
     (blank_first bytes c.as_bytes.result.now i (omega arith) (c.as_bytes.ensures.value ∙ c.before_item.ensures)) in
     search (rules, part)
 
@@ -52,6 +52,6 @@ returns-in_err-write_bytes-2-clause-part g c =
     let left = items (i + 1) (drop (i + 1) bytes) in
     let part : AppendsPart (contents c.args.output.now) (contents c.write_bytes-in-loop-index.new.output) (items 0 bytes) =
     part_next (contents c.args.output.now) (contents c.write_bytes.new.output) (contents c.write_bytes-in-loop-index.new.output) c.item_number.result
-    left (behind_blank bytes i) (items 0 bytes) (blank_wrote g (goal.at.returns-in_err-write_bytes-2-clause-part g c).After-item_number) c.in_err-write_bytes-2.ensures.part
+    left (after_blank bytes i) (items 0 bytes) (blank_wrote g (goal.at.returns-in_err-write_bytes-2-clause-part g c).After-item_number) c.in_err-write_bytes-2.ensures.part
     (ap (λ l. l ++ left) (sym c.item_number.ensures)) in
     search (rules, part)

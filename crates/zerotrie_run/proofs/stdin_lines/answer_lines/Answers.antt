@@ -4,8 +4,8 @@ use Rattle.zerotrie_lines.specs.Lines.{lines_of}
 use Rattle.zerotrie_lines.specs.Blocks.{AreWhole}
 use Rattle.zerotrie_queries.specs.Answers.{AreAnswered, AreAnsweredInPart}
 use Rattle.zerotrie_queries.proofs.PartLemmas.{on_err}
-use Rattle.zerotrie_run.proofs.TypedLemmas.{IsNext, typed_read, typed_part, typed_ends, typed_stops, typed_fails}
-use Rattle.zerotrie_run.proofs.typed.answer_lines.Goals as goal
+use Rattle.zerotrie_run.proofs.LineLemmas.{IsNext, lines_read, lines_part, lines_ends, lines_stops, lines_fails}
+use Rattle.zerotrie_run.proofs.stdin_lines.answer_lines.Goals as goal
 
 pub returns-then-ended-clause-answered : goal.returns-then-ended-clause-answered
 returns-then-ended-clause-answered g c =
@@ -13,9 +13,9 @@ returns-then-ended-clause-answered g c =
     let contents = g.W.Write.contents in
     let trie = c.args.trie.now in
     let held = c.read_more.new.held.items in
-    let read = typed_read c.args.asked trie.kind trie.bytes.now (remaining c.args.input.now) (remaining c.loop.input) (remaining c.read_more.new.input) c.loop.held.items held
+    let read = lines_read c.args.asked trie.kind trie.bytes.now (remaining c.args.input.now) (remaining c.loop.input) (remaining c.read_more.new.input) c.loop.held.items held
     (contents c.args.output.now) (contents c.loop.output) c.loop.all c.in-Ok.ended c.loop.invariant.1 c.in-Ok.ensures.gives in
-    typed_ends c.args.asked trie.kind trie.bytes.now (remaining c.args.input.now) (remaining c.read_more.new.input) held (take c.part_len-len.result held)
+    lines_ends c.args.asked trie.kind trie.bytes.now (remaining c.args.input.now) (remaining c.read_more.new.input) held (take c.part_len-len.result held)
     (contents c.args.output.now) (contents c.loop.output) (contents c.answer_part.new.output) c.loop.all c.in_ok-all.field-0 _ read
     (ap (λ n. take n held) (c.part_len-len.ensures.all c.if-ended.true ∙ ap length c.as_slice.ensures.value) ∙ take_all (length held) held (omega arith))
     (c.in-Ok.ensures.gives.at_end c.if-ended.true)
@@ -28,10 +28,10 @@ loop-preserved g c =
     let contents = g.W.Write.contents in
     let trie = c.args.trie.now in
     let held = c.read_more.new.held.items in
-    let read = typed_read c.args.asked trie.kind trie.bytes.now (remaining c.args.input.now) (remaining c.loop.input) (remaining c.read_more.new.input) c.loop.held.items held
+    let read = lines_read c.args.asked trie.kind trie.bytes.now (remaining c.args.input.now) (remaining c.loop.input) (remaining c.read_more.new.input) c.loop.held.items held
     (contents c.args.output.now) (contents c.loop.output) c.loop.all c.in-Ok.ended c.loop.invariant.1 c.in-Ok.ensures.gives in (
       c.in_ok-all.ensures.kept ∙ c.loop.invariant.0,
-      typed_part c.args.asked trie.kind trie.bytes.now (remaining c.args.input.now) (remaining c.read_more.new.input) held (take c.part_len-len.result held) _
+      lines_part c.args.asked trie.kind trie.bytes.now (remaining c.args.input.now) (remaining c.read_more.new.input) held (take c.part_len-len.result held) _
           (contents c.args.output.now) (contents c.loop.output) (contents c.answer_part.new.output) c.loop.all c.in_ok-all.field-0 _ read
           (sym (take-append-drop c.part_len-len.result held) ∙ ap (λ rest. take c.part_len-len.result held ++ rest) (sym c.drop_front.ensures))
           (subst (λ all. AreWhole (take c.part_len-len.result all)) c.as_slice.ensures.value (c.part_len-len.ensures.whole c.if-ended.false))
@@ -42,13 +42,13 @@ loop-preserved g c =
 pub returns-in-Err-clause-part : goal.returns-in-Err-clause-part
 returns-in-Err-clause-part g c =
     let trie = c.args.trie.now in
-    typed_stops c.args.asked trie.kind trie.bytes.now (g.R.Read.remaining c.args.input.now) (g.R.Read.remaining c.loop.input) c.loop.held.items (g.W.Write.contents c.args.output.now)
+    lines_stops c.args.asked trie.kind trie.bytes.now (g.R.Read.remaining c.args.input.now) (g.R.Read.remaining c.loop.input) c.loop.held.items (g.W.Write.contents c.args.output.now)
     (g.W.Write.contents c.loop.output) c.loop.all c.loop.invariant.1
 
 pub returns-clause-part : goal.returns-clause-part
 returns-clause-part g c =
     let trie = c.args.trie.now in
-    typed_stops c.args.asked trie.kind trie.bytes.now (g.R.Read.remaining c.args.input.now) (g.R.Read.remaining c.loop.input) c.loop.held.items (g.W.Write.contents c.args.output.now)
+    lines_stops c.args.asked trie.kind trie.bytes.now (g.R.Read.remaining c.args.input.now) (g.R.Read.remaining c.loop.input) c.loop.held.items (g.W.Write.contents c.args.output.now)
     (g.W.Write.contents c.loop.output) c.loop.all c.loop.invariant.1
 
 pub returns-in_err-all-clause-part : goal.returns-in_err-all-clause-part
@@ -58,7 +58,7 @@ returns-in_err-all-clause-part g c =
     let trie = c.args.trie.now in
     let held = c.read_more.new.held.items in
     let len = c.part_len-len.result in
-    let read = typed_read c.args.asked trie.kind trie.bytes.now (remaining c.args.input.now) (remaining c.loop.input) (remaining c.read_more.new.input) c.loop.held.items held
+    let read = lines_read c.args.asked trie.kind trie.bytes.now (remaining c.args.input.now) (remaining c.loop.input) (remaining c.read_more.new.input) c.loop.held.items held
     (contents c.args.output.now) (contents c.loop.output) c.loop.all c.in-Ok.ended c.loop.invariant.1 c.in-Ok.ensures.gives in
     let next : IsNext c.in-Ok.ended (remaining c.read_more.new.input) held (take len held) (drop len held) = record {
       cut = sym (take-append-drop len held);
@@ -66,6 +66,6 @@ returns-in_err-all-clause-part g c =
       whole = λ more. subst (λ all. AreWhole (take len all)) c.as_slice.ensures.value (c.part_len-len.ensures.whole more);
     } in
     on_err c.from_residual.result
-    (typed_fails c.args.asked trie.kind trie.bytes.now (remaining c.args.input.now) (remaining c.read_more.new.input) held (take len held) (drop len held)
+    (lines_fails c.args.asked trie.kind trie.bytes.now (remaining c.args.input.now) (remaining c.read_more.new.input) held (take len held) (drop len held)
     (contents c.args.output.now) (contents c.loop.output) (contents c.answer_part.new.output) c.loop.all c.in-Ok.ended read next
     (subst (λ all. AreAnsweredInPart c.args.asked trie.kind trie.bytes.now (lines_of (take len all)) (contents c.loop.output) (contents c.answer_part.new.output)) c.deref.ensures.value (rw c.loop.invariant.0 at c.in_err-all.ensures.part)))

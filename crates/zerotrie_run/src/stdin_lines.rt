@@ -6,7 +6,7 @@ ghost use Rattle.zerotrie_lines.specs.Blocks.{AreWhole};
 ghost use Rattle.zerotrie_queries.specs.Answers.{AreAnswered, AreAnsweredInPart};
 ghost use Rattle.zerotrie_run.specs.Runs.{KeysAnswered, KeysAnsweredInPart};
 ghost use Rattle.zerotrie_run.specs.declared.command.Keys.TheVariants.{Lines};
-ghost use Rattle.zerotrie_run.specs.declared.typed.AnswerError.TheVariants.{Failed};
+ghost use Rattle.zerotrie_run.specs.declared.stdin_lines.AnswerError.TheVariants.{Output};
 
 use std::alloc::Global;
 use std::io;
@@ -18,16 +18,16 @@ use zerotrie_queries::{Asked, Trie, TrieLookUps, write_answers};
 #[derive(Debug, Drop)]
 pub enum AnswerError {
     /// Standard input can't be read.
-    Untyped(io::Error),
+    Input(io::Error),
     /// Output can't be written, or it is out of memory.
-    Failed(io::Error),
+    Output(io::Error),
 }
 
 impl From<io::Error> for AnswerError {
-    ghost from_gives = { λ error e. e ≡ Failed error };
+    ghost from_gives = { λ error e. e ≡ Output error };
 
     fn from(error: io::Error) -> Self {
-        AnswerError::Failed(error)
+        AnswerError::Output(error)
     }
 }
 
@@ -73,8 +73,8 @@ fn drop_front(held: &mut Vec<u8>, len: usize)
 }
 
 /// Answers the lines of an input, and tells whether all was found. What one read gives is answered before the next, so a
-/// line is answered as soon as it is there, and memory holds no more than the longest line, some thousand answers, and where the
-/// first bytes of keys lead.
+/// line is answered as soon as it is there. In memory are one read and the longest line, the list of its lines, 4,096
+/// answers, and a table of the first bytes of keys.
 pub fn answer_lines<R: Read, W: Write>(
     alloc: Global,
     trie: &Trie<'_>,
@@ -95,7 +95,7 @@ pub fn answer_lines<R: Read, W: Write>(
         let before = held.len();
         let ended = match read_more(input, &mut held) {
             Ok(ended) => ended,
-            Err(error) => return Err(AnswerError::Untyped(error)),
+            Err(error) => return Err(AnswerError::Input(error)),
         };
         let len = part_len(held.as_slice(), before, ended);
         all &= answer_part(alloc, &mut look_ups, asked, &held[..len], output)?;
@@ -104,5 +104,5 @@ pub fn answer_lines<R: Read, W: Write>(
             return Ok(all);
         }
     }
-    Err(AnswerError::Untyped(io::Error::from(ErrorKind::TimedOut)))
+    Err(AnswerError::Input(io::Error::from(ErrorKind::TimedOut)))
 }

@@ -4,7 +4,7 @@ use Rattle.zerotrie_lines.specs.Lines.{lines_of}
 use Rattle.zerotrie_queries.proofs.PartLemmas.{on_err}
 use Rattle.zerotrie_queries.proofs.AnswerLemmas.{begun_none, begun_all}
 use Rattle.zerotrie_run.proofs.AskLemmas.{kept_texts}
-use Rattle.zerotrie_run.proofs.typed.answer_part.Goals as goal
+use Rattle.zerotrie_run.proofs.stdin_lines.answer_part.Goals as goal
 
 pub returns-clause-answered : goal.returns-clause-answered
 returns-clause-answered g c =
