@@ -3,6 +3,7 @@
 use crate::table::{COMMANDS, STATUSES};
 use clap::{Arg, ArgAction, ArgMatches, Command};
 use std::alloc::{AllocError, Global};
+use zerotrie_queries::TrieKind;
 use zerotrie_run::Place;
 
 /// What holds if an option is left out.
@@ -38,9 +39,31 @@ pub struct Argument {
     pub help: &'static str,
 }
 
-/// A command, with what it is for, the end of its help, and its arguments in the order of the help.
+/// What a trie is asked, each by the command of its name.
+#[derive(Clone, Copy)]
+pub enum Topic {
+    Get,
+    Longest,
+    List,
+    Check,
+    Dump,
+    Dot,
+    Code,
+}
+
+/// What a command does.
+#[derive(Clone, Copy)]
+pub enum Task {
+    /// It makes a trie.
+    Build,
+    /// It asks a trie.
+    Ask(Topic),
+}
+
+/// A command, with what it does and is for, the end of its help, and its arguments in the order of the help.
 pub struct Subcommand {
     pub name: &'static str,
+    pub task: Task,
     pub about: &'static str,
     pub help: &'static str,
     pub arguments: &'static [Argument],
@@ -106,6 +129,28 @@ pub fn command<'a>(alloc: Global) -> Result<Command<'a>, AllocError> {
         program = program.subcommand(row.to_clap(alloc)?)?;
     }
     Ok(program)
+}
+
+/// What the command of this name does. `None` if it names none.
+pub fn task_of(name: &str) -> Option<Task> {
+    for row in COMMANDS {
+        if row.name == name {
+            return Some(row.task);
+        }
+    }
+    None
+}
+
+/// The kind that is named. `None` if none is, or if it is left to the build. Refused, with what is told, if the word is no
+/// kind.
+pub fn kind_in(matches: &ArgMatches<'_>) -> Result<Option<TrieKind>, &'static str> {
+    match matches.get_str("kind") {
+        None | Some("auto") => Ok(None),
+        Some(name) => match TrieKind::named(name) {
+            Some(kind) => Ok(Some(kind)),
+            None => Err("--kind asks for a kind"),
+        },
+    }
 }
 
 /// The place that an argument names.

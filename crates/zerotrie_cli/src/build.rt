@@ -1,26 +1,31 @@
 //! The build that the command line asks for.
 
-use crate::arguments::{place_in, source_in};
+use crate::arguments::{kind_in, place_in, source_in};
 use clap::ArgMatches;
 use zerotrie_lines::Format;
 use zerotrie_making::{Plan, Source};
-use zerotrie_queries::TrieKind;
 use zerotrie_run::{Build, Place};
 
+/// How the input is pairs.
+fn format_in(matches: &ArgMatches<'_>) -> Result<Source, &'static str> {
+    match matches.get_str("format") {
+        Some("tsv") => Ok(Source::Text(Format::Tsv)),
+        Some("csv") => Ok(Source::Text(Format::Csv)),
+        Some("lines") => Ok(Source::Text(Format::Lines)),
+        Some("json") => Ok(Source::Json),
+        _ => Err("--format asks for a format"),
+    }
+}
+
 /// How the file is to be made.
-fn plan_in(matches: &ArgMatches<'_>) -> Plan {
-    Plan {
-        source: match matches.get_str("format") {
-            Some("csv") => Source::Text(Format::Csv),
-            Some("lines") => Source::Text(Format::Lines),
-            Some("json") => Source::Json,
-            _ => Source::Text(Format::Tsv),
-        },
-        kind: matches.get_str("kind").and_then(TrieKind::named),
+fn plan_in(matches: &ArgMatches<'_>) -> Result<Plan, &'static str> {
+    Ok(Plan {
+        source: format_in(matches)?,
+        kind: kind_in(matches)?,
         sorted: matches.get_flag("sorted"),
         lower_case: matches.get_flag("lower-case"),
         bare: matches.get_flag("bare"),
-    }
+    })
 }
 
 /// Where the file goes. A path of standard output is that stream: what it leads to is not replaced.
@@ -31,12 +36,16 @@ fn target_in<'a>(matches: &ArgMatches<'a>) -> Place<'a> {
     }
 }
 
-/// The build that is asked for. Its steps are told if that was asked for, or if messages go to a terminal.
-pub fn build_in<'a>(matches: &ArgMatches<'a>, to_terminal: bool) -> Build<'a> {
-    Build {
+/// The build that is asked for. Its steps are told if that was asked for, or if messages go to a terminal. Refused, with what is
+/// told, if a word of it is none.
+pub fn build_in<'a>(
+    matches: &ArgMatches<'a>,
+    to_terminal: bool,
+) -> Result<Build<'a>, &'static str> {
+    Ok(Build {
         from: source_in(matches, "IN"),
         to: target_in(matches),
-        plan: plan_in(matches),
+        plan: plan_in(matches)?,
         progress: to_terminal || matches.get_flag("progress"),
-    }
+    })
 }

@@ -1,8 +1,8 @@
 //! The command line as a command, which is run over the files and streams of the system.
 
-use crate::arguments::command;
+use crate::arguments::{Task, Topic, command, task_of};
 use crate::build::build_in;
-use crate::question::{file_in, question_in, words_in};
+use crate::question::{ask_in, words_in};
 use clap::ArgMatches;
 use clap::error::ErrorKind;
 use std::io::{BufWriter, IsTerminal};
@@ -10,10 +10,16 @@ use std::{env, fs, io};
 use zerotrie_files::SystemStore;
 use zerotrie_run::{Build, Command, Place, Status, run};
 
-/// Tells that something failed before a command was known. If that can't be told either, the status tells it alone.
+/// Tells that a fault stopped the program before the command ran. If that can't be told either, the status tells it alone.
 fn tell_fault(rt: &HostRuntime, error: &io::Error) -> Status {
-    let _ = eprintln!(rt; "zerotrie: arguments: {error}");
+    let _ = eprintln!(rt; "zerotrie: {error}");
     Status::Fault
+}
+
+/// Tells why a command is not run.
+fn refuse(rt: &HostRuntime, why: &str) -> Status {
+    let _ = eprintln!(rt; "zerotrie: {why}");
+    Status::BadUsage
 }
 
 /// Runs a command over the files and streams of the system.
@@ -33,18 +39,14 @@ fn run_here(rt: &HostRuntime, command: Command<'_>) -> Status {
 }
 
 /// Answers a command that asks a trie.
-fn run_question(rt: &HostRuntime, matches: &ArgMatches<'_>, name: &str) -> Status {
-    let argument = if name == "longest" { "TEXT" } else { "KEY" };
-    let words = match words_in(rt.alloc(), matches, argument) {
+fn run_question(rt: &HostRuntime, matches: &ArgMatches<'_>, topic: Topic) -> Status {
+    let words = match words_in(rt.alloc(), matches, topic) {
         Ok(words) => words,
         Err(error) => return tell_fault(rt, &io::Error::from(error)),
     };
-    match question_in(matches, name, &words) {
-        Ok(question) => run_here(rt, Command::Ask(file_in(matches), question)),
-        Err(why) => {
-            let _ = eprintln!(rt; "zerotrie: {why}");
-            Status::BadUsage
-        }
+    match ask_in(matches, topic, &words) {
+        Ok(command) => run_here(rt, command),
+        Err(why) => refuse(rt, why),
     }
 }
 
@@ -83,11 +85,22 @@ fn lead_to_one_file(rt: &HostRuntime, path: &str, other: &str) -> bool {
 fn run_build(rt: &HostRuntime, build: Build<'_>) -> Status {
     if let (Place::File(from), Place::File(to)) = (build.from, build.to) {
         if from == to || lead_to_one_file(rt, from, to) {
-            let _ = eprintln!(rt; "zerotrie: IN and OUT are the same file");
-            return Status::BadUsage;
+            return refuse(rt, "IN and OUT are the same file");
         }
     }
     run_here(rt, Command::Build(build))
+}
+
+/// Does the command of this name.
+fn run_named(rt: &HostRuntime, matches: &ArgMatches<'_>, name: &str) -> Status {
+    match task_of(name) {
+        Some(Task::Build) => match build_in(matches, rt.stderr().is_terminal()) {
+            Ok(build) => run_build(rt, build),
+            Err(why) => refuse(rt, why),
+        },
+        Some(Task::Ask(topic)) => run_question(rt, matches, topic),
+        None => Status::BadUsage,
+    }
 }
 
 /// Does what the words ask.
@@ -98,11 +111,7 @@ fn obey(rt: &HostRuntime, words: &[String]) -> Status {
     };
     match known.try_get_matches_from(words) {
         Ok(matches) => match matches.subcommand() {
-            Some(("build", matches)) => {
-                let to_terminal = rt.stderr().is_terminal();
-                run_build(rt, build_in(matches, to_terminal))
-            }
-            Some((name, matches)) => run_question(rt, matches, name),
+            Some((name, matches)) => run_named(rt, matches, name),
             None => Status::BadUsage,
         },
         Err(error) => show(rt, &error),

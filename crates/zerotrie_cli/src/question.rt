@@ -1,28 +1,37 @@
 //! The questions to a trie that the command line asks.
 
-use crate::arguments::source_in;
+use crate::arguments::{Topic, kind_in, source_in};
 use crate::keywords::is_taken;
+use crate::table::MOST;
 use clap::ArgMatches;
 use std::alloc::{AllocError, Global};
-use zerotrie_queries::{Form, Language, Style, TrieKind, View, is_name};
-use zerotrie_run::{Keys, Question, TrieFile};
+use zerotrie_queries::{Form, Language, Style, View, is_name};
+use zerotrie_run::{Command, Keys, Question, TrieFile};
 
-/// The file of the trie that is asked.
-pub fn file_in<'a>(matches: &ArgMatches<'a>) -> TrieFile<'a> {
-    TrieFile {
+/// The file of the trie that is asked. A check takes no bytes on trust.
+fn file_in<'a>(matches: &ArgMatches<'a>, topic: Topic) -> Result<TrieFile<'a>, &'static str> {
+    Ok(TrieFile {
         place: source_in(matches, "FILE"),
-        kind: matches.get_str("kind").and_then(TrieKind::named),
-        trust: matches.get_flag("trust"),
-    }
+        kind: kind_in(matches)?,
+        trust: match topic {
+            Topic::Check => false,
+            _ => matches.get_flag("trust"),
+        },
+    })
 }
 
-/// The words of an argument that takes many, as bytes. `None` if there are none.
+/// The keys or texts that are words of the command line, as bytes. `None` if there are none.
 pub fn words_in<'a>(
     alloc: Global,
     matches: &ArgMatches<'a>,
-    name: &str,
+    topic: Topic,
 ) -> Result<Option<Vec<&'a [u8]>>, AllocError> {
-    let Some(words) = matches.get_strs(name) else {
+    let given = match topic {
+        Topic::Get => matches.get_strs("KEY"),
+        Topic::Longest => matches.get_strs("TEXT"),
+        Topic::List | Topic::Check | Topic::Dump | Topic::Dot | Topic::Code => None,
+    };
+    let Some(words) = given else {
         return Ok(None);
     };
     let mut keys = Vec::new(alloc);
@@ -41,27 +50,29 @@ fn keys_of<'w, 'a: 'w>(words: &'w Option<Vec<&'a [u8]>>) -> Keys<'w> {
 }
 
 /// How pairs are to be printed.
-fn form_in(matches: &ArgMatches<'_>) -> Form {
+fn form_in(matches: &ArgMatches<'_>) -> Result<Form, &'static str> {
     match matches.get_str("format") {
-        Some("keys") => Form::Lines(Style::Keys),
-        Some("values") => Form::Lines(Style::Values),
-        Some("json") => Form::Json,
-        _ => Form::Lines(Style::Tsv),
+        Some("tsv") => Ok(Form::Lines(Style::Tsv)),
+        Some("keys") => Ok(Form::Lines(Style::Keys)),
+        Some("values") => Ok(Form::Lines(Style::Values)),
+        Some("json") => Ok(Form::Json),
+        _ => Err("--format asks for a format"),
     }
 }
 
 /// The language that is named.
-fn language_in(matches: &ArgMatches<'_>) -> Language {
+fn language_in(matches: &ArgMatches<'_>) -> Result<Language, &'static str> {
     match matches.get_str("lang") {
-        Some("c") => Language::C,
-        Some("rattle") => Language::Rattle,
-        _ => Language::Rust,
+        Some("rust") => Ok(Language::Rust),
+        Some("c") => Ok(Language::C),
+        Some("rattle") => Ok(Language::Rattle),
+        _ => Err("--lang asks for a language"),
     }
 }
 
 /// The code that is asked for. Refused, with what is told, if it can't have its name.
 fn code_in<'a>(matches: &ArgMatches<'a>) -> Result<Question<'a>, &'static str> {
-    let language = language_in(matches);
+    let language = language_in(matches)?;
     let name = matches.get_str("name").unwrap_or(language.usual_name());
     if !is_name(name) {
         return Err("--name asks for ASCII letters, digits and _, and no digit in front");
@@ -76,28 +87,39 @@ fn code_in<'a>(matches: &ArgMatches<'a>) -> Result<Question<'a>, &'static str> {
 
 /// The drawing that is asked for. Refused, with what is told, if its number of nodes is no number.
 fn dot_in<'a>(matches: &ArgMatches<'a>) -> Result<Question<'a>, &'static str> {
-    match matches.get_str("most").unwrap_or("100").parse() {
+    match matches.get_str("most").unwrap_or(MOST).parse() {
         Ok(most) => Ok(Question::View(View::Dot(most))),
         Err(_) => Err("--most asks for a number"),
     }
 }
 
-/// The question of a command of this name. Refused, with what is told, if a word of it is none.
-pub fn question_in<'w, 'a: 'w>(
+/// The question of a command. Refused, with what is told, if a word of it is none.
+fn question_in<'w, 'a: 'w>(
     matches: &ArgMatches<'a>,
-    name: &str,
+    topic: Topic,
     words: &'w Option<Vec<&'a [u8]>>,
 ) -> Result<Question<'w>, &'static str> {
-    match name {
-        "get" => Ok(Question::Get(keys_of(words))),
-        "longest" => Ok(Question::Longest(keys_of(words))),
-        "code" => code_in(matches),
-        "check" => Ok(Question::Report),
-        "dump" => Ok(Question::View(View::Dump)),
-        "dot" => dot_in(matches),
-        _ => {
+    match topic {
+        Topic::Get => Ok(Question::Get(keys_of(words))),
+        Topic::Longest => Ok(Question::Longest(keys_of(words))),
+        Topic::List => {
             let prefix = matches.get_str("prefix").unwrap_or("").as_bytes();
-            Ok(Question::List(form_in(matches), prefix))
+            Ok(Question::List(form_in(matches)?, prefix))
         }
+        Topic::Check => Ok(Question::Report),
+        Topic::Dump => Ok(Question::View(View::Dump)),
+        Topic::Dot => dot_in(matches),
+        Topic::Code => code_in(matches),
     }
+}
+
+/// The question of a command, with the file that it is put to. Refused, with what is told, if a word of it is none.
+pub fn ask_in<'w, 'a: 'w>(
+    matches: &ArgMatches<'a>,
+    topic: Topic,
+    words: &'w Option<Vec<&'a [u8]>>,
+) -> Result<Command<'w>, &'static str> {
+    let file = file_in(matches, topic)?;
+    let question = question_in(matches, topic, words)?;
+    Ok(Command::Ask(file, question))
 }

@@ -1,6 +1,6 @@
 //! The commands, as rows.
 
-use crate::arguments::{Argument, Form, Otherwise, Subcommand};
+use crate::arguments::{Argument, Form, Otherwise, Subcommand, Task, Topic};
 
 const KINDS: &[&str] = &["simple", "ignore", "hash", "ext"];
 
@@ -11,6 +11,9 @@ const INPUTS: &[&str] = &["tsv", "csv", "lines", "json"];
 const OUTPUTS: &[&str] = &["tsv", "keys", "values", "json"];
 
 const LANGUAGES: &[&str] = &["rust", "c", "rattle"];
+
+/// How many nodes are drawn if `--most` is left out.
+pub const MOST: &str = "100";
 
 /// The file of a trie.
 const FILE: Argument = Argument {
@@ -41,6 +44,7 @@ pub const STATUSES: &str =
 pub const COMMANDS: &[Subcommand] = &[
     Subcommand {
         name: "build",
+        task: Task::Build,
         about: "Make a trie from a file of pairs",
         help: "Example: zerotrie build names.tsv -o names.trie\nIn memory: \
             the input, the trie, and 12 bytes a pair of lines that ascend and have no escape; else 24 to 36, 24 more if they \
@@ -93,6 +97,7 @@ pub const COMMANDS: &[Subcommand] = &[
     },
     Subcommand {
         name: "get",
+        task: Task::Ask(Topic::Get),
         about: "Print the values of keys",
         help: "Example: zerotrie get names.trie amp lt\nIn memory: the file, the longest key and a megabyte.\nStatus: 1 if a key is not there, 2 if FILE is no trie.",
         arguments: &[
@@ -108,6 +113,7 @@ pub const COMMANDS: &[Subcommand] = &[
     },
     Subcommand {
         name: "longest",
+        task: Task::Ask(Topic::Longest),
         about: "Print the longest key that each text begins with, and its value",
         help: "Example: zerotrie longest names.trie ampersand\nIn memory: the file and the longest text.\n\
             Status: 1 if a text begins with no key, 2 if FILE is no trie.",
@@ -124,6 +130,7 @@ pub const COMMANDS: &[Subcommand] = &[
     },
     Subcommand {
         name: "list",
+        task: Task::Ask(Topic::List),
         about: "Print the pairs",
         help: "Example: zerotrie list names.trie --prefix am\nIn memory: the file and the longest key.\n\
             Status: 0 also if no key begins so, 2 if FILE is no trie.",
@@ -145,6 +152,7 @@ pub const COMMANDS: &[Subcommand] = &[
     },
     Subcommand {
         name: "check",
+        task: Task::Ask(Topic::Check),
         about: "Test the bytes, and print what the trie is made of, or where and why they are no trie",
         help: "Example: zerotrie check names.trie\nIn memory: the file and the open \
             branches. Places are counted after the number of the kind.\nStatus: 2 if FILE is no trie.",
@@ -152,12 +160,14 @@ pub const COMMANDS: &[Subcommand] = &[
     },
     Subcommand {
         name: "dump",
+        task: Task::Ask(Topic::Dump),
         about: "Print a line for each node: place, depth, edge, meaning and bytes",
         help: "Example: zerotrie dump names.trie\nIn memory: the file and the open branches.",
         arguments: &[FILE, KIND, TRUST],
     },
     Subcommand {
         name: "dot",
+        task: Task::Ask(Topic::Dot),
         about: "Print a drawing of the first nodes, for Graphviz",
         help: "Example: zerotrie dot names.trie --most 40 | dot -Tsvg -o names.svg\n\
             In memory: the file and the open branches.",
@@ -167,13 +177,14 @@ pub const COMMANDS: &[Subcommand] = &[
             TRUST,
             Argument {
                 name: "most",
-                form: Form::Text("N", None, Otherwise::Is("100")),
+                form: Form::Text("N", None, Otherwise::Is(MOST)),
                 help: "At most this many nodes",
             },
         ],
     },
     Subcommand {
         name: "code",
+        task: Task::Ask(Topic::Code),
         about: "Print the bytes as a constant of a program, with the call that reads it",
         help: "Example: zerotrie code names.trie --lang c --name names\nIn memory: the file.",
         arguments: &[
