@@ -96,9 +96,8 @@ pub mod bytes {
         bytes_within, encoded_len, fill_from_end,
     };
     pub use zerotrie_core::{
-        BatchLookUps, Branch, Fault, FaultCause, LookUps, Node, Nodes, Part, SpanCursor, Visit,
-        count_pairs, first_fault, get_counted, get_each, is_well_formed, is_well_formed_counted,
-        longest_prefix, plain_encode, probe, read_varint_meta2, read_varint_meta3, step,
+        Branch, Fault, FaultCause, LookUps, Node, Nodes, Part, SpanCursor, Visit, count_pairs,
+        first_fault, get_counted, is_well_formed, is_well_formed_counted, longest_prefix, plain_encode, probe, read_varint_meta2, read_varint_meta3, step,
         take_value, write_varint_meta2, write_varint_meta3,
     };
 }

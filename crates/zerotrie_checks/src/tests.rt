@@ -1,4 +1,3 @@
-mod batches;
 mod builder;
 mod caches;
 mod counting;

@@ -1,10 +1,8 @@
 -- Look-ups.
 pub mod Counts
 pub mod Edges
-pub mod Fronts
 pub mod Lanes
 pub mod Literals
 pub mod LookUps
 pub mod LowerCase
 pub mod Starts
-pub mod Turns

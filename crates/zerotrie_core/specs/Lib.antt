@@ -1,5 +1,6 @@
 pub mod Kind
 pub mod Options
+pub mod Kinds
 pub mod Numbers
 pub mod Maps
 pub mod Branches

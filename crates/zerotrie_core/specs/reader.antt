@@ -4,5 +4,3 @@ pub mod Reading
 pub mod Descending
 pub mod Literals
 pub mod Starts
-pub mod Fronts
-pub mod Turns

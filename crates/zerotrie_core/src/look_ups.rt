@@ -1,7 +1,7 @@
 //! Many look-ups in one trie.
 //!
-//! All keys begin at its first node, which as a rule is its largest branch. So where a first byte leads is found
-//! once, and every other key with this byte begins there.
+//! All keys begin at the first node, which usually is the largest branch. So the target of each
+//! first byte is found once, and later keys with this byte begin there.
 
 ghost use Rattle.std.specs.Prelude.{◌≡◌, IfSome};
 ghost use Rattle.zerotrie_core.specs.Maps.{Map, look};
@@ -24,8 +24,8 @@ use std::marker::{Model, PhantomData};
 /// assert_eq!(rt; trie.get(b"b"), None);
 /// ```
 ///
-/// It keeps where each first byte leads, once a key with it was asked for, in 4 kilobytes of its own, and takes no
-/// memory. So it answers more quickly than `get_counted` if there are some dozens of keys or more.
+/// It keeps the target of each first byte that a key began with, in an array of 4 KB, and does not
+/// allocate. From some dozens of keys on it is faster than `get_counted`.
 #[derive(Drop)]
 pub struct LookUps<'a, K: ZeroTrieWithOptions> {
     bytes: &'a [u8],
@@ -44,9 +44,9 @@ impl<'a, K: ZeroTrieWithOptions> Model for LookUps<'a, K> {
     ghost invariant = { λ s. AreTargets K.kind s.bytes.now s.targets };
 }
 
-/// The trie after a first byte, which is empty if no key begins with it. `None` if a span has more bytes after it.
+/// Returns the trie after a first byte: empty if no key begins with it, `None` inside a span.
 #[inline(never)]
-pub(crate) fn target_of<K: ZeroTrieWithOptions>(bytes: &[u8], byte: u8) -> Option<&[u8]>
+fn target_of<K: ZeroTrieWithOptions>(bytes: &[u8], byte: u8) -> Option<&[u8]>
     ensures { IfSome result (λ target. LeadsTo K.kind bytes.now byte target.now) }
 {
     steps_look_ahead();
@@ -56,7 +56,7 @@ pub(crate) fn target_of<K: ZeroTrieWithOptions>(bytes: &[u8], byte: u8) -> Optio
 }
 
 impl<'a, K: ZeroTrieWithOptions> LookUps<'a, K> {
-    /// Look-ups in the trie of these bytes.
+    /// Creates look-ups in the trie of these bytes.
     #[inline(always)]
     pub fn new(bytes: &'a [u8]) -> Self
         ensures { result ≡ bytes.now }
@@ -69,16 +69,9 @@ impl<'a, K: ZeroTrieWithOptions> LookUps<'a, K> {
         }
     }
 
-    /// The bytes of the trie.
-    pub(crate) fn bytes(&self) -> &'a [u8]
-        ensures { result.now ≡ self.now }
-    {
-        self.bytes
-    }
-
-    /// The trie after a first byte, which is kept unless it is empty.
+    /// Returns the trie after a first byte, and keeps it unless it is empty.
     #[inline(always)]
-    pub(crate) fn target(&mut self, byte: u8) -> Option<&'a [u8]>
+    fn target(&mut self, byte: u8) -> Option<&'a [u8]>
         ensures some { IfSome result (λ target. LeadsTo K.kind self.old byte target.now) }
         ensures kept { self.new ≡ self.old }
     {
@@ -91,9 +84,9 @@ impl<'a, K: ZeroTrieWithOptions> LookUps<'a, K> {
         Some(target)
     }
 
-    /// The bytes in which the look-up of a key begins, and what is left of the key there.
+    /// Returns the bytes in which the look-up of a key begins, and the rest of the key there.
     #[inline(always)]
-    pub(crate) fn start<'k>(&mut self, key: &'k [u8]) -> (&'a [u8], &'k [u8])
+    fn start<'k>(&mut self, key: &'k [u8]) -> (&'a [u8], &'k [u8])
         ensures start { AnswersAs K.kind self.old key.now result.0.now result.1.now }
         ensures kept { self.new ≡ self.old }
     {
@@ -105,9 +98,9 @@ impl<'a, K: ZeroTrieWithOptions> LookUps<'a, K> {
         (self.bytes, key)
     }
 
-    /// The value of a key.
+    /// Returns the value of a key, or `None` if the trie does not have it.
     ///
-    /// It returns on any bytes, and takes no memory.
+    /// On malformed bytes the result is unspecified. It does not allocate.
     #[inline(always)]
     pub fn get(&mut self, key: &[u8]) -> Option<usize>
         ensures value { (m : Map) → Means K.kind self.old m → result ≡ look K.kind m key.now }

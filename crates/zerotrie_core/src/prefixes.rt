@@ -9,8 +9,9 @@ ghost use Rattle.zerotrie_core.specs.Texts.{Means};
 ghost use Rattle.zerotrie_core.specs.Prefixes.{IsLongestPrefix, along, at_front, LeavesAt, NextFront};
 ghost use Rattle.zerotrie_core.specs.cursor.Fronts.{noted};
 
+use crate::by_kind;
 use crate::laws::steps_look_ahead;
-use crate::options::{Ext, Hash, Ignore, Simple, ZeroTrieBuilderOptions, ZeroTrieWithOptions};
+use crate::options::{ZeroTrieBuilderOptions, ZeroTrieWithOptions};
 use crate::span_cursor::SpanCursor;
 use std::marker::Model;
 
@@ -62,15 +63,7 @@ fn step_of(options: ZeroTrieBuilderOptions, cursor: &mut SpanCursor<'_>, byte: u
     ensures { let kind = kind_with options in
         IsStep kind (ListsAt kind cursor.old) byte result (ListsAt kind cursor.new) }
 {
-    if options.ignore_case() {
-        cursor.step::<Ignore>(byte)
-    } else if options.extended() {
-        cursor.step::<Ext>(byte)
-    } else if options.use_phf() {
-        cursor.step::<Hash>(byte)
-    } else {
-        cursor.step::<Simple>(byte)
-    }
+    by_kind!(options.kind(), SpanCursor::step::<_>(cursor, byte))
 }
 
 /// The value where a cursor stands, unless it was looked for there before. It is taken.

@@ -22,10 +22,11 @@ ghost use Rattle.zerotrie_core.specs.reader.Going.{AlwaysStops};
 mod opened;
 
 use crate::branch::Branch;
+use crate::by_kind;
 use crate::fold::folded;
 use crate::here::Here;
 use crate::node::{Node, first_node};
-use crate::options::{Ext, Hash, Ignore, Simple, ZeroTrieBuilderOptions, ZeroTrieWithOptions};
+use crate::options::{ZeroTrieBuilderOptions, ZeroTrieWithOptions};
 use crate::span_cursor::SpanCursor;
 use opened::OpenBranch;
 use std::alloc::{AllocError, Allocator, Global};
@@ -658,13 +659,5 @@ fn next_value_of<'a, A: Allocator>(
         (pairs_left kind key.old.items here.old.rest.now (top.old ∷ reverse branches.old.items)) key.new.items
         (pairs_left kind key.new.items here.new.rest.now (top.new ∷ reverse branches.new.items))) }
 {
-    if options.ignore_case() {
-        next_value::<Ignore, A>(here, key, top, branches)
-    } else if options.extended() {
-        next_value::<Ext, A>(here, key, top, branches)
-    } else if options.use_phf() {
-        next_value::<Hash, A>(here, key, top, branches)
-    } else {
-        next_value::<Simple, A>(here, key, top, branches)
-    }
+    by_kind!(options.kind(), next_value::<_, A>(here, key, top, branches))
 }

@@ -18,9 +18,10 @@ ghost use Rattle.zerotrie_core.specs.walk.Seen.{part_of, visits_left, IsNext, Li
 mod part;
 
 use crate::branch::Branch;
+use crate::by_kind;
 use crate::count::row_behind;
 use crate::node::{Node, first_node};
-use crate::options::{Ext, Hash, Ignore, Simple, ZeroTrieBuilderOptions, ZeroTrieWithOptions};
+use crate::options::{ZeroTrieBuilderOptions, ZeroTrieWithOptions};
 pub use part::Part;
 use std::alloc::{AllocError, Allocator, Global};
 use std::marker::Model;
@@ -53,15 +54,7 @@ impl<'a> Visit<'a> {
 fn read_node(options: ZeroTrieBuilderOptions, bytes: &[u8]) -> Option<Node<'_>>
     ensures { node_of (kind_with options) bytes.now ≡ option_map shape result }
 {
-    if options.ignore_case() {
-        first_node::<Ignore>(bytes)
-    } else if options.extended() {
-        first_node::<Ext>(bytes)
-    } else if options.use_phf() {
-        first_node::<Hash>(bytes)
-    } else {
-        first_node::<Simple>(bytes)
-    }
+    by_kind!(options.kind(), first_node::<_>(bytes))
 }
 
 /// Adds the targets of a branch with which a part begins, the first of them first, up to the first whose offsets fall.

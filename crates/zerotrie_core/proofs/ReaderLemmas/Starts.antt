@@ -9,7 +9,7 @@ use Rattle.zerotrie_core.specs.Texts.{Lists, Means}
 use Rattle.zerotrie_core.specs.Machine.{behind}
 use Rattle.zerotrie_core.specs.Places.{Place, ListsAt, IsStep}
 use Rattle.zerotrie_core.specs.CursorLaws.{StepsAnswer}
-use Rattle.zerotrie_core.specs.reader.Starts.{AnswersAs, LeadsTo, LeadsAlong}
+use Rattle.zerotrie_core.specs.reader.Starts.{AnswersAs, LeadsTo}
 use Rattle.zerotrie_core.proofs.CursorLemmas.Calls.{before_text}
 use Rattle.zerotrie_core.proofs.MapLemmas.Maps.{look-map_of}
 
@@ -28,21 +28,6 @@ pub led_to : (kind : Kind) (bytes : List ℕ) (b : ℕ) (answer : Option ℕ) (p
     → IfSome rest (λ trie. (k : Kind) (pairs : Pairs) → ListsAt k place pairs → Lists k trie.now pairs) → IfSome rest (λ trie. LeadsTo kind bytes b trie.now)
 led_to kind bytes b answer place None law step text = tt
 led_to kind bytes b answer place (Some trie) law step text = after_step kind bytes b answer place trie.now law step (text kind)
-
--- one beginning after another
-pub begins_further : (kind : Kind) (bytes key rest left further after : List ℕ) → AnswersAs kind bytes key rest left → AnswersAs kind rest left further after
-    → AnswersAs kind bytes key further after
-begins_further kind bytes key rest left further after one other pairs lists =
-    let a = one pairs lists in
-    let b = other a.0 a.1 in (b.0, b.1, a.2 ∙ b.2)
-
--- three bytes, one after another
-pub led_along : (kind : Kind) (bytes one two : List ℕ) (a b c : ℕ) (target : Option (Bor (List ℕ))) → LeadsTo kind bytes a one → LeadsTo kind one b two
-    → IfSome target (λ three. LeadsTo kind two c three.now) → IfSome target (λ three. LeadsAlong kind bytes (a ∷ b ∷ c ∷ []) three.now)
-led_along kind bytes one two a b c None first second third = tt
-led_along kind bytes one two a b c (Some three) first second third =
-    λ key. begins_further kind bytes (a ∷ b ∷ c ∷ key) one (b ∷ c ∷ key) three.now key (first (b ∷ c ∷ key))
-    (begins_further kind one (b ∷ c ∷ key) two (c ∷ key) three.now key (second (c ∷ key)) (third key))
 
 -- a look-up that begins there answers as one from the front
 pub value_from : (kind : Kind) (bytes key rest left : List ℕ) (answer : Option ℕ) → AnswersAs kind bytes key rest left → length rest < 2 ^ 64

@@ -1,5 +1,5 @@
 -- Where a look-up may begin.
-use Rattle.std.specs.Prelude.{◌≡◌, ◌≢◌, ℕ, List, [], ◌∷◌, ◌++◌, IfSome, slice_get}
+use Rattle.std.specs.Prelude.{◌≡◌, ◌≢◌, ℕ, List, [], ◌∷◌, IfSome, slice_get}
 use Rattle.std.specs.Borrow.{Bor}
 use Rattle.zerotrie_core.specs.Kind.{Kind}
 use Rattle.zerotrie_core.specs.Maps.{Pairs, value_at}
@@ -13,10 +13,6 @@ AnswersAs kind bytes key rest left = (pairs : Pairs) → Lists kind bytes pairs
 -- the rest answers for each key what the bytes do for the key with the byte b in front
 abbrev pub LeadsTo : Kind → List ℕ → ℕ → List ℕ → Type 0
 LeadsTo kind bytes b rest = (key : List ℕ) → AnswersAs kind bytes (b ∷ key) rest key
-
--- the same for keys with these bytes in front
-abbrev pub LeadsAlong : Kind → List ℕ → List ℕ → List ℕ → Type 0
-LeadsAlong kind bytes front rest = (key : List ℕ) → AnswersAs kind bytes (front ++ key) rest key
 
 -- each target that is not empty is what its place, a first byte, leads to
 abbrev pub AreTargets : Kind → List ℕ → List (Bor (List ℕ)) → Type 0
