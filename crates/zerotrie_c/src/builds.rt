@@ -9,12 +9,13 @@ ghost use Rattle.zerotrie_c.specs.Numbers.{kind_of};
 ghost use Rattle.zerotrie_c.specs.Statuses.{unknown_kind};
 ghost use Rattle.zerotrie_c.specs.Builds.{given, IsHandedOut, IsBuildTold, IsLengthTold};
 
+use crate::kinds::kind_of;
 use crate::statuses::{BUFFER_TOO_SMALL, DONE, UNKNOWN_KIND, status_of};
 use std::alloc::{AllocError, Global};
 use zerotrie_any::{bytes_from_slice, bytes_from_unsorted_slice};
 use zerotrie_build::{ByteSliceWithIndices, encoded_len};
 use zerotrie_core::{
-    Ext, Hash, Ignore, Simple, ZeroTrieBuildError, ZeroTrieBuilderOptions, ZeroTrieWithOptions,
+    TrieKind, ZeroTrieBuildError, ZeroTrieBuilderOptions, ZeroTrieWithOptions, by_kind,
 };
 
 /// A pair, as C gives it.
@@ -118,12 +119,9 @@ pub extern "C" fn zerotrie_build_sorted(
     ensures unknown { IfNone (kind_of kind) ((result ≡ unknown_kind) × (len.new ≡ len.old)
         × (out.new ≡ out.old)) }
 {
-    match kind {
-        0 => build_sorted::<Simple>(alloc, pairs, out, len),
-        3 => build_sorted::<Hash>(alloc, pairs, out, len),
-        7 => build_sorted::<Ext>(alloc, pairs, out, len),
-        8 => build_sorted::<Ignore>(alloc, pairs, out, len),
-        _ => UNKNOWN_KIND,
+    match kind_of(kind) {
+        Some(kind) => by_kind!(kind, build_sorted::<_>(alloc, pairs, out, len)),
+        None => UNKNOWN_KIND,
     }
 }
 
@@ -142,12 +140,9 @@ pub extern "C" fn zerotrie_build(
     ensures unknown { IfNone (kind_of kind) ((result ≡ unknown_kind) × (len.new ≡ len.old)
         × (out.new ≡ out.old)) }
 {
-    match kind {
-        0 => build_unsorted::<Simple>(alloc, pairs, out, len),
-        3 => build_unsorted::<Hash>(alloc, pairs, out, len),
-        7 => build_unsorted::<Ext>(alloc, pairs, out, len),
-        8 => build_unsorted::<Ignore>(alloc, pairs, out, len),
-        _ => UNKNOWN_KIND,
+    match kind_of(kind) {
+        Some(kind) => by_kind!(kind, build_unsorted::<_>(alloc, pairs, out, len)),
+        None => UNKNOWN_KIND,
     }
 }
 
@@ -188,12 +183,9 @@ pub extern "C" fn zerotrie_encoded_len(
         IsLengthTold ascending k (given pairs.now) result len.old len.new) }
     ensures unknown { IfNone (kind_of kind) ((result ≡ unknown_kind) × (len.new ≡ len.old)) }
 {
-    match kind {
-        0 => tell_len::<Simple>(alloc, pairs, len),
-        3 => tell_len::<Hash>(alloc, pairs, len),
-        7 => tell_len::<Ext>(alloc, pairs, len),
-        8 => tell_len::<Ignore>(alloc, pairs, len),
-        _ => UNKNOWN_KIND,
+    match kind_of(kind) {
+        Some(kind) => by_kind!(kind, tell_len::<_>(alloc, pairs, len)),
+        None => UNKNOWN_KIND,
     }
 }
 
@@ -210,9 +202,10 @@ fn are_ascii(pairs: &[Pair<'_>]) -> bool
 pub extern "C" fn zerotrie_auto_kind(pairs: &[Pair<'_>]) -> u32
     ensures { result ≡ tag (auto_kind (given pairs.now)) }
 {
-    if pairs.len() < 512 && are_ascii(pairs) {
-        0
+    let kind = if pairs.len() < TrieKind::SIMPLE_LIMIT && are_ascii(pairs) {
+        TrieKind::Simple
     } else {
-        3
-    }
+        TrieKind::Hash
+    };
+    u32::from(kind.tag())
 }

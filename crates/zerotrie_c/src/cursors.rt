@@ -11,7 +11,8 @@ ghost use Rattle.zerotrie_c.specs.Numbers.{kind_of};
 ghost use Rattle.zerotrie_c.specs.Answers.{told, told_both};
 ghost use Rattle.zerotrie_c.specs.Places.{place};
 
-use zerotrie_core::{ByteProbeResult, Ext, Hash, Ignore, Simple, SpanCursor, ZeroTrieWithOptions};
+use crate::kinds::kind_of;
+use zerotrie_core::{ByteProbeResult, SpanCursor, ZeroTrieWithOptions, by_kind};
 
 /// A cursor, as C keeps it: the rest of a run, and the trie after it. Both lie in the bytes of the trie.
 ///
@@ -40,12 +41,9 @@ fn step_as(kind: u32, cursor: &mut SpanCursor<'_>, byte: u8) -> Option<u8>
     ensures unknown { IfNone (kind_of kind) (IfSome result (λ _. ⊥)) }
     ensures empty { IfNone result (cursor.new ≡ nowhere) }
 {
-    match kind {
-        0 => cursor.step::<Simple>(byte),
-        3 => cursor.step::<Hash>(byte),
-        7 => cursor.step::<Ext>(byte),
-        8 => cursor.step::<Ignore>(byte),
-        _ => {
+    match kind_of(kind) {
+        Some(kind) => by_kind!(kind, SpanCursor::step::<_>(cursor, byte)),
+        None => {
             *cursor = SpanCursor::new(&[]);
             None
         }
@@ -61,12 +59,9 @@ fn probe_as(kind: u32, cursor: &mut SpanCursor<'_>, index: usize) -> Option<Byte
     ensures unknown { IfNone (kind_of kind) (IfSome result (λ _. ⊥)) }
     ensures empty { IfNone result (cursor.new ≡ nowhere) }
 {
-    match kind {
-        0 => cursor.probe::<Simple>(index),
-        3 => cursor.probe::<Hash>(index),
-        7 => cursor.probe::<Ext>(index),
-        8 => cursor.probe::<Ignore>(index),
-        _ => {
+    match kind_of(kind) {
+        Some(kind) => by_kind!(kind, SpanCursor::probe::<_>(cursor, index)),
+        None => {
             *cursor = SpanCursor::new(&[]);
             None
         }
@@ -192,12 +187,9 @@ pub extern "C" fn zerotrie_with_prefix<'a>(
     ensures unknown { IfNone (kind_of kind) (result ≡ false) }
     ensures empty { result ≡ false → place cursor.new ≡ nowhere }
 {
-    let here = match kind {
-        0 => behind_prefix::<Simple>(bytes, prefix),
-        3 => behind_prefix::<Hash>(bytes, prefix),
-        7 => behind_prefix::<Ext>(bytes, prefix),
-        8 => behind_prefix::<Ignore>(bytes, prefix),
-        _ => SpanCursor::new(&[]),
+    let here = match kind_of(kind) {
+        Some(kind) => by_kind!(kind, behind_prefix::<_>(bytes, prefix)),
+        None => SpanCursor::new(&[]),
     };
     *cursor = kept(&here);
     !here.is_empty()

@@ -9,9 +9,10 @@ ghost use Rattle.zerotrie_c.specs.Numbers.{kind_of};
 ghost use Rattle.zerotrie_c.specs.Statuses.{unknown_kind};
 ghost use Rattle.zerotrie_c.specs.Listed.{joined, ends_from, values_of, status_if, left_of, IsFlat, IsPut, IsWritten, IsGiven, IsListed, IsListedSome};
 
+use crate::kinds::kind_of;
 use crate::statuses::{BUFFER_TOO_SMALL, DONE, OUT_OF_MEMORY, UNKNOWN_KIND};
 use std::alloc::{AllocError, Global};
-use zerotrie_core::{Ext, Hash, Ignore, ListError, Simple, ZeroTrieStream, ZeroTrieWithOptions};
+use zerotrie_core::{ListError, ZeroTrieStream, ZeroTrieWithOptions, by_kind};
 
 /// Keys that lie one after another, where each ends, and their values.
 #[derive(Drop)]
@@ -151,12 +152,12 @@ pub extern "C" fn zerotrie_list(
         key_bytes.new count.new) }
     ensures unknown { IfNone (kind_of kind) (result ≡ unknown_kind) }
 {
-    match kind {
-        0 => list_out::<Simple>(alloc, bytes, prefix, keys, ends, values, key_bytes, count),
-        3 => list_out::<Hash>(alloc, bytes, prefix, keys, ends, values, key_bytes, count),
-        7 => list_out::<Ext>(alloc, bytes, prefix, keys, ends, values, key_bytes, count),
-        8 => list_out::<Ignore>(alloc, bytes, prefix, keys, ends, values, key_bytes, count),
-        _ => UNKNOWN_KIND,
+    match kind_of(kind) {
+        Some(kind) => by_kind!(
+            kind,
+            list_out::<_>(alloc, bytes, prefix, keys, ends, values, key_bytes, count)
+        ),
+        None => UNKNOWN_KIND,
     }
 }
 
@@ -275,19 +276,13 @@ pub extern "C" fn zerotrie_list_some(
     ensures unknown { IfNone (kind_of kind) ((result ≡ unknown_kind) × (keys.new ≡ keys.old)
         × (ends.new ≡ ends.old) × (values.new ≡ values.old) × (count.new ≡ count.old)) }
 {
-    match kind {
-        0 => list_some::<Simple>(
-            alloc, bytes, prefix, goes_on, last, keys, ends, values, count, next_len,
+    match kind_of(kind) {
+        Some(kind) => by_kind!(
+            kind,
+            list_some::<_>(
+                alloc, bytes, prefix, goes_on, last, keys, ends, values, count, next_len
+            )
         ),
-        3 => list_some::<Hash>(
-            alloc, bytes, prefix, goes_on, last, keys, ends, values, count, next_len,
-        ),
-        7 => list_some::<Ext>(
-            alloc, bytes, prefix, goes_on, last, keys, ends, values, count, next_len,
-        ),
-        8 => list_some::<Ignore>(
-            alloc, bytes, prefix, goes_on, last, keys, ends, values, count, next_len,
-        ),
-        _ => UNKNOWN_KIND,
+        None => UNKNOWN_KIND,
     }
 }

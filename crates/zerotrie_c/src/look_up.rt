@@ -9,10 +9,9 @@ ghost use Rattle.zerotrie_c.specs.Answers.{told, told_both};
 ghost use Rattle.zerotrie_c.specs.Keys.{keys_from, or_else, values_or, written_over};
 ghost use Rattle.zerotrie_c.specs.Statuses.{done, unknown_kind};
 
+use crate::kinds::kind_of;
 use crate::statuses::{DONE, UNKNOWN_KIND};
-use zerotrie_core::{
-    Ext, Hash, Ignore, LookUps, Simple, ZeroTrieWithOptions, get_counted, longest_prefix,
-};
+use zerotrie_core::{LookUps, ZeroTrieWithOptions, by_kind, get_counted, longest_prefix};
 
 /// From how many keys on it pays to keep where first bytes lead.
 const MANY: usize = 64;
@@ -23,12 +22,9 @@ fn look_up(kind: u32, bytes: &[u8], key: &[u8]) -> Option<usize>
         (m : Map) → Means k bytes.now m → result ≡ look k m key.now) }
     ensures unknown { IfNone (kind_of kind) (result ≡ None) }
 {
-    match kind {
-        0 => get_counted::<Simple>(bytes, key).0,
-        3 => get_counted::<Hash>(bytes, key).0,
-        7 => get_counted::<Ext>(bytes, key).0,
-        8 => get_counted::<Ignore>(bytes, key).0,
-        _ => None,
+    match kind_of(kind) {
+        Some(kind) => by_kind!(kind, get_counted::<_>(bytes, key)).0,
+        None => None,
     }
 }
 
@@ -175,12 +171,9 @@ pub extern "C" fn zerotrie_get_many(
         values.old)) }
     ensures unknown { IfNone (kind_of kind) ((result ≡ unknown_kind) × (values.new ≡ values.old)) }
 {
-    match kind {
-        0 => look_up_all::<Simple>(bytes, keys, ends, missing, values),
-        3 => look_up_all::<Hash>(bytes, keys, ends, missing, values),
-        7 => look_up_all::<Ext>(bytes, keys, ends, missing, values),
-        8 => look_up_all::<Ignore>(bytes, keys, ends, missing, values),
-        _ => return UNKNOWN_KIND,
+    match kind_of(kind) {
+        Some(kind) => by_kind!(kind, look_up_all::<_>(bytes, keys, ends, missing, values)),
+        None => return UNKNOWN_KIND,
     }
     DONE
 }
@@ -192,12 +185,9 @@ fn longest_as(kind: u32, bytes: &[u8], text: &[u8]) -> Option<(usize, usize)>
     ensures within { IfSome result (λ r. r.0 ≤ length text.now) }
     ensures unknown { IfNone (kind_of kind) (result ≡ None) }
 {
-    match kind {
-        0 => longest_prefix::<Simple>(bytes, text),
-        3 => longest_prefix::<Hash>(bytes, text),
-        7 => longest_prefix::<Ext>(bytes, text),
-        8 => longest_prefix::<Ignore>(bytes, text),
-        _ => None,
+    match kind_of(kind) {
+        Some(kind) => by_kind!(kind, longest_prefix::<_>(bytes, text)),
+        None => None,
     }
 }
 
