@@ -10,3 +10,10 @@ mod ReciprocalLemmas
 mod PlacedLemmas
 mod SolveLemmas
 mod CacheLemmas
+pub mod NumberLemmas
+pub mod MapLemmas
+pub mod NodeLemmas
+pub mod CanonicalLemmas
+pub mod PlainLemmas
+pub mod CallerLemmas
+mod LowerCase

@@ -8,12 +8,12 @@ use Rattle.zerotrie_base.specs.Hashes.{IsPerfectTable}
 abbrev pub Tables : Type 0
 Tables = List (List ℕ × List ℕ)
 
--- the table that is held for the keys
+-- the table of the keys
 abbrev pub find : List ℕ → Tables → Option (List ℕ)
 find keys [] = None
 find keys (t ∷ tables) = cond (is_eq (slice_cmp nat_cmp keys t.0)) (Some t.1) (find keys tables)
 
--- the tables with one more, in its order
+-- the tables with one more, in order
 abbrev pub put : List ℕ → List ℕ → Tables → Tables
 put keys table [] = (keys, table) ∷ []
 put keys table (t ∷ tables) =

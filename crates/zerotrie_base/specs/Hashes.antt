@@ -24,7 +24,7 @@ f2 b q (suc n) = turned (q - 95) (bit_xor b q) % suc n
 abbrev pub place_of : ℕ → List ℕ → ℕ → ℕ → ℕ
 place_of p qs n b = f2 b (slice_index qs (f1 b p n)) n
 
--- Each key stands at its place.
+-- Each key is at its place.
 pub record IsPerfect (p : ℕ) (qs keys : List ℕ) : Type 0 where
   pub p_byte : p < 256
   pub q_bytes : All (λ q. q < 256) qs
@@ -40,13 +40,13 @@ pub record IsPerfectTable (keys bytes : List ℕ) : Type 0 where
   pub perfect : IsPerfect p qs placed
   pub permutation : IsPermutation keys placed
 
--- what the bytes of a table answer for the byte b, after p and with n keys
+-- the result of a look-up of the byte b in a table of n keys, whose bytes after p are the rest
 abbrev pub number_behind : ℕ → ℕ → List ℕ → ℕ → Option ℕ
 number_behind p n rest b =
     let place = place_of p rest (n % 256) b in
     if nat_lt 0 n && (slice_index rest (n + place) == b) then Some place else None
 
--- what the bytes of a table answer for the byte b: its place, if it is the key there
+-- the result of a look-up of the byte b in the bytes of a table: its place, if it is the key there
 abbrev pub number_of : List ℕ → ℕ → Option ℕ
 number_of [] b = None
 number_of (p ∷ rest) b = number_behind p (length rest / 2) rest b

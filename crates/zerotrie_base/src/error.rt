@@ -1,4 +1,4 @@
-//! Why a build is refused.
+//! Errors of builds.
 
 ghost use Rattle.std.specs.Prelude.{◌≡◌};
 ghost use Rattle.zerotrie_base.specs.declared.error.ZeroTrieBuildError.TheVariants.{OutOfMemory};
@@ -6,55 +6,56 @@ ghost use Rattle.zerotrie_base.specs.declared.error.ZeroTrieBuildError.TheVarian
 use std::alloc::{AllocError, AllocFailed};
 use thiserror::Error;
 
-/// Why a trie was not built.
+/// Why a build of a trie failed.
 ///
 /// ```
 /// let text = format!(in rt.alloc(); "{}", ZeroTrieBuildError::BufferTooLarge(17))?;
-/// assert_eq!(rt; text.as_str(), "the array is too large for the trie: take one of this many bytes: 17");
+/// let expected = "the array is too large for the trie: take one of this many bytes: 17";
+/// assert_eq!(rt; text.as_str(), expected);
 /// ```
 ///
-/// A build that answers one of the first ten cases was given pairs of which the condition beside it is true.
-/// The last comes only if memory was refused, whatever else is true of the pairs.
-/// Of `NonAsciiError`, `MixedCase`, `DuplicateKey` and `Unsorted`, `why_slice_refused` and `why_iter_refused` say which
-/// keys show it.
+/// Each of the first ten variants is returned only if its condition is true of the pairs given.
+/// `OutOfMemory` is returned only if an allocation failed, whatever else is true of the pairs. For
+/// `NonAsciiError`, `MixedCase`, `DuplicateKey` and `Unsorted`, `why_slice_refused` and
+/// `why_iter_refused` return the keys that cause the error.
 #[derive(Clone, PartialEq, Eq, Debug, Drop, Error)]
 pub enum ZeroTrieBuildError {
-    /// A key holds a byte of 128 or more, and the kind of trie is for ASCII alone.
+    /// A key has a byte of 128 or more, and this kind of trie takes only ASCII keys.
     #[error("a key has a byte that is not ASCII: take a kind of trie for keys of any bytes")]
     NonAsciiError,
-    /// A branch would have targets of 2^32 bytes or more and the kind's offsets have at most four bytes,
-    /// or the whole text would reach 2^64 bytes.
+    /// The targets of a branch would have 2^32 bytes or more, and the kind has offsets of at most
+    /// four bytes; or the whole encoding would have 2^64 bytes or more.
     #[error("the text of the trie would be too long for its kind: take ZeroTrieExtendedCapacity, or fewer pairs")]
     CapacityExceeded,
-    /// No parameters of a perfect hash were found for the edges of a branch.
+    /// The search found no parameters of a perfect hash for the edges of a branch.
     #[error("no perfect hash was found for the edges of a branch: take a kind without hashed tables, or change a key")]
     CouldNotSolvePerfectHash,
-    /// Two keys begin alike up to case but not byte by byte, and the kind of trie ignores case.
+    /// At the first byte where two keys differ, they differ only in case, and the kind ignores
+    /// case.
     ///
-    /// So `Accept` and `accept` are refused together. So are `Accept-CH` and `Accept-Charset`, which begin with
-    /// `Accept-CH` and `Accept-Ch`, and `DAV` and `Date`, which begin with `DA` and `Da`. The way out is to
-    /// lower-case the keys first, which loses nothing for look-ups.
+    /// Examples are `Accept` and `accept`, `Accept-CH` and `Accept-Charset`, and `DAV` and `Date`.
+    /// To avoid the error, lower-case the keys first; look-ups return the same.
     #[error("two keys begin alike but for the case of a letter: lower-case the keys first")]
     MixedCase,
-    /// A text of a dense table holds the delimiter.
+    /// A string of a dense table contains the delimiter.
     #[error("a text has the delimiter in it: take a delimiter that none has")]
     IllegalDelimiter,
-    /// An iterator gave one key twice.
+    /// An iterator returned a key twice.
     #[error("a key was given twice: give each key once")]
     DuplicateKey,
-    /// A slice or map is not strictly ascending by the bytes of its keys.
+    /// The keys of a slice or map do not strictly ascend by their bytes.
     #[error("the keys do not ascend: sort them by their bytes, each once")]
     Unsorted,
-    /// The text is longer than the array.
+    /// The encoding is longer than the array.
     #[error("the array is too small for the trie: take a larger one")]
     BufferTooSmall,
-    /// The text is shorter than the array: it has this many bytes.
+    /// The encoding is shorter than the array. The field is its length in bytes.
     #[error("the array is too large for the trie: take one of this many bytes: {0}")]
     BufferTooLarge(usize),
-    /// The array builder's stack is too small for the branches that are open at once.
+    /// The stack of the array builder is too small for the branches that are open at once.
     #[error("the stack is too small for the trie: take a larger one")]
     StackExceeded,
-    /// Memory was refused.
+    /// An allocation failed.
     #[error("out of memory")]
     OutOfMemory,
 }

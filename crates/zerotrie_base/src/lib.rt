@@ -1,12 +1,20 @@
-//! What all of a trie's crates share: errors, stores, keys, and the perfect hash of bytes.
+//! What readers and builders share: the kinds, the grammar of the bytes with its laws, numbers,
+//! errors, stores, keys, and the perfect hash of bytes.
 #![tactic(auto)]
 
 mod byte_phf;
 mod error;
+mod fold;
+mod kind;
+pub mod laws;
+mod options;
 mod store;
+mod varint;
 
-pub use byte_phf::{
-    HeldTables, PerfectByteHashMap, PerfectByteHashMapCacheOwned, are_distinct, f1, f2,
-};
+pub use byte_phf::{PerfectByteHashMap, PerfectByteHashMapCacheOwned, are_distinct, f1, f2};
 pub use error::ZeroTrieBuildError;
+pub use fold::{both_cases, folded};
+pub use kind::TrieKind;
+pub use options::{Ext, Hash, Ignore, Simple, ZeroTrieBuilderOptions, ZeroTrieWithOptions};
 pub use store::{ConvertStore, TrieKey, TrieStore};
+pub use varint::{read_varint_meta2, read_varint_meta3, write_varint_meta2, write_varint_meta3};

@@ -8,19 +8,19 @@ ghost use Rattle.std.specs.String.{string_bytes};
 use std::borrow::CowSlice;
 use std::boxed::BoxedSlice;
 
-/// What holds a list of bytes.
+/// A container of bytes, for example of a trie or a table.
 ///
 /// ```
 /// let store = [0x61, 0x81];
 /// assert_eq!(rt; store.bytes().len(), 2);
 /// ```
 ///
-/// Its bytes do not change from look to look. Tries and tables read any store: borrowed bytes, a
-/// vector, a boxed slice, bytes that are borrowed or owned, and an array.
+/// `bytes` returns the same bytes at each call. Slices, vectors, boxed slices, `CowSlice` and
+/// arrays are stores.
 pub trait TrieStore {
     ghost stored: { Self → List ℕ };
 
-    /// The bytes of the store. It takes no memory and copies nothing.
+    /// Returns the bytes of the store. Does not allocate or copy.
     fn bytes(&self) -> &[u8]
         ensures { result.now ≡ stored self.now };
 }
@@ -65,16 +65,16 @@ impl<const N: usize> TrieStore for [u8; N] {
     }
 }
 
-/// A store that another store turns into, with the same bytes.
+/// A store that another store converts into, with the same bytes.
 ///
 /// ```
 /// let store: CowSlice<u8> = ConvertStore::convert(Vec::from_slice(rt.alloc(), b"a\x81")?);
 /// assert_eq!(rt; store.bytes(), b"a\x81".as_slice());
 /// ```
 ///
-/// Each store turns into itself, and a vector or borrowed bytes turn into a `CowSlice`. It takes no memory.
+/// Each store converts into itself, and a vector or a borrowed slice into a `CowSlice`.
 pub trait ConvertStore<S: TrieStore>: TrieStore {
-    /// The store with these bytes.
+    /// Returns a store with the bytes of `store`. Does not allocate.
     fn convert(store: S) -> Self
         ensures { Self.stored result ≡ S.stored store };
 }
@@ -121,16 +121,18 @@ impl<'a> ConvertStore<&'a [u8]> for CowSlice<'a, u8> {
     }
 }
 
-/// What lends the bytes of a key, the same at every look: text or bytes, borrowed or owned.
+/// A key: a string or bytes, borrowed or owned.
 ///
 /// ```
 /// assert_eq!(rt; "ad".key_bytes(), b"ad".as_slice());
 /// assert_eq!(rt; b"ad".key_bytes(), b"ad".as_slice());
 /// ```
+///
+/// `key_bytes` returns the same bytes at each call.
 pub trait TrieKey {
     ghost key: { Self → List ℕ };
 
-    /// The bytes of the key. It takes no memory and copies nothing.
+    /// Returns the bytes of the key. Does not allocate or copy.
     fn key_bytes(&self) -> &[u8]
         ensures { result.now ≡ key self.now };
 }

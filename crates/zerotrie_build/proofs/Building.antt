@@ -2,16 +2,16 @@
 use Rattle.std.proofs.Common.{◌≡◌, ◌≢◌, ℕ, zero, suc, ◌<◌, ◌≤◌, ◌⊎◌, inl, inr, List, [], ◌∷◌, length, refl, sym, ◌∙◌, subst, arith, get_or, All, Result, Ok, Err}
 use Rattle.std.proofs.lemmas.Bool.{cases_lt}
 use Rattle.std.specs.Prelude.{Any, IfOk, IfErr}
-use Rattle.zerotrie_core.specs.Kind.{Kind, IsAscii, edge_limit}
-use Rattle.zerotrie_core.specs.Maps.{Pairs, map_of, Ascends, RepeatsKey}
-use Rattle.zerotrie_core.specs.Texts.{Means}
-use Rattle.zerotrie_core.specs.Fits.{ExceedsCapacity}
-use Rattle.zerotrie_core.specs.Laws.{MeansFits, MeansCanonical}
-use Rattle.zerotrie_core.specs.Causes.{Cause}
-use Rattle.zerotrie_core.specs.Routes.{any_order, ascending, HasCause, IsBuild, IsRefusal}
-use Rattle.zerotrie_core.specs.declared.ZeroTrieBuildError.{ZeroTrieBuildError}
-use Rattle.zerotrie_core.specs.declared.ZeroTrieBuildError.TheVariants.{NonAsciiError, CapacityExceeded, CouldNotSolvePerfectHash, MixedCase, IllegalDelimiter, DuplicateKey, Unsorted, BufferTooSmall, BufferTooLarge, StackExceeded, OutOfMemory}
-use Rattle.zerotrie_core.proofs.CallerLemmas.{ascends_apart}
+use Rattle.zerotrie_base.specs.Kind.{Kind, IsAscii, edge_limit}
+use Rattle.zerotrie_base.specs.Maps.{Pairs, map_of, Ascends, RepeatsKey}
+use Rattle.zerotrie_base.specs.Texts.{Means}
+use Rattle.zerotrie_base.specs.Fits.{ExceedsCapacity}
+use Rattle.zerotrie_base.specs.Laws.{MeansFits, MeansCanonical}
+use Rattle.zerotrie_base.specs.Causes.{Cause}
+use Rattle.zerotrie_base.specs.Routes.{any_order, ascending, HasCause, IsBuild, IsRefusal}
+use Rattle.zerotrie_base.specs.declared.error.ZeroTrieBuildError.{ZeroTrieBuildError}
+use Rattle.zerotrie_base.specs.declared.error.ZeroTrieBuildError.TheVariants.{NonAsciiError, CapacityExceeded, CouldNotSolvePerfectHash, MixedCase, IllegalDelimiter, DuplicateKey, Unsorted, BufferTooSmall, BufferTooLarge, StackExceeded, OutOfMemory}
+use Rattle.zerotrie_base.proofs.CallerLemmas.{ascends_apart}
 use Rattle.zerotrie_build.specs.Order.{AreKeys}
 
 module _ {X : Type 0} (P Q : X → Type 0) (decide : (x : X) → P x ⊎ Q x) where

@@ -11,9 +11,9 @@ use Rattle.std.specs.Cmp.Lexicographic.{slice_cmp}
 use Rattle.std.specs.Ordering.{nat_cmp}
 use Rattle.std.specs.Prelude.{option_map, is_some, not, IfSome, IfNone}
 use Rattle.std.specs.declared.cmp.Ordering.TheVariants.{Less}
-use Rattle.zerotrie_core.specs.Kind.{Kind, simple_ascii, ignore_case, perfect_hash, extended_capacity, flags, edge_limit}
-use Rattle.zerotrie_core.specs.Maps.{Pairs, Ascends}
-use Rattle.zerotrie_core.specs.Items.{Items, pairs_of}
+use Rattle.zerotrie_base.specs.Kind.{Kind, simple_ascii, ignore_case, perfect_hash, extended_capacity, flags, edge_limit}
+use Rattle.zerotrie_base.specs.Maps.{Pairs, Ascends}
+use Rattle.zerotrie_base.specs.Items.{Items, pairs_of}
 use Rattle.zerotrie_build.specs.Order.{Before, Ordered}
 
 pub count_pairs : (items : Items) → length (pairs_of items) ≡ length items
@@ -75,15 +75,6 @@ follows_on R pairs j i a b e p q h before k below =
       | inr less ↦ before k (omega arith)
     ]
 
--- if two items follow one another and their keys are not in this order, not all are
-pub not_following : (R : List ℕ → List ℕ → Type 0) (pairs : Pairs) (j i : ℕ) (a b : List ℕ × ℕ) → suc j ≡ i → slice_get pairs j ≡ Some a → slice_get pairs i ≡ Some b
-    → (R a.0 b.0 → ⊥) → ((k : ℕ) → suc k < length pairs → Follows R pairs k) → ⊥
-not_following R pairs j i a b e p q h each =
-    let at_i : get_or pairs (suc j) ([], 0) ≡ b = rw e (got pairs i ([], 0) b q) in
-    let within : i < length pairs = slice_get_within pairs i b q in
-    let here : Follows R pairs j = each j (omega (arith, e, within)) in
-    h (subst (λ y. R a.0 y.0) at_i (subst (λ x. R x.0 (get_or pairs (suc j) ([], 0)).0) (got pairs j ([], 0) a p) here))
-
 abbrev pub AsciiAt : Pairs → ℕ → Type 0
 AsciiAt pairs k = (d : List ℕ × ℕ) → All (λ b. b < 128) (get_or pairs k d).0
 
@@ -138,10 +129,6 @@ ascii_by false key h = (
     | inr past ↦ let zero_there : get_or key h.0 0 ≡ 0 = get_or_past key h.0 0 past in let high : 128 ≤ get_or key h.0 0 = h.1 in absurd (omega arith)
   ],
 )
-
--- the key of one item, and the keys up to it
-pub key_here : (limit : ℕ) (pairs : Pairs) (i : ℕ) (a : List ℕ × ℕ) → slice_get pairs i ≡ Some a → All (λ e. All (λ b. b < limit) e.0) pairs → All (λ b. b < limit) a.0
-key_here limit pairs i a p all = subst (λ x. All (λ b. b < limit) x.0) (got pairs i a a p) (all i a (slice_get_within pairs i a p))
 
 -- what held of the keys so far and holds of the next
 pub each_on : (P : List ℕ → Type 0) (pairs : Pairs) (i : ℕ) (a : List ℕ × ℕ) → slice_get pairs i ≡ Some a → ((k : ℕ) (d : List ℕ × ℕ) → k < i → P (get_or pairs k d).0)

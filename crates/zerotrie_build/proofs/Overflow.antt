@@ -4,12 +4,12 @@ use Rattle.std.specs.Prelude.{filter}
 use Rattle.std.specs.List.{range_with_len}
 use Rattle.std.specs.FinMap.{entries}
 use Rattle.std.proofs.Math.Path.{fun_ext}
-use Rattle.zerotrie_core.specs.Kind.{Kind}
-use Rattle.zerotrie_core.specs.Maps.{Pairs, map_of, begins_some, edges, residual, behind_all}
-use Rattle.zerotrie_core.specs.Branches.{total}
-use Rattle.zerotrie_core.specs.Canonical.{size_of}
-use Rattle.zerotrie_core.specs.Fits.{targets_size, OverflowsAt, ExceedsCapacity}
-use Rattle.zerotrie_core.proofs.CallerLemmas.{same-entries, same-sym, same-behind, same-edges, same-targets, some_pair, begins_behind, map_agree}
+use Rattle.zerotrie_base.specs.Kind.{Kind}
+use Rattle.zerotrie_base.specs.Maps.{Pairs, map_of, begins_some, edges, residual, behind_all}
+use Rattle.zerotrie_base.specs.Branches.{total}
+use Rattle.zerotrie_base.specs.Canonical.{size_of}
+use Rattle.zerotrie_base.specs.Fits.{targets_size, OverflowsAt, ExceedsCapacity}
+use Rattle.zerotrie_base.proofs.CallerLemmas.{same-entries, same-sym, same-behind, same-edges, same-targets, some_pair, begins_behind, map_agree}
 
 filter_agree : (p q : ℕ → Bool) (zs : List ℕ) → ((b : ℕ) → p b ≡ q b) → filter p zs ≡ filter q zs
 filter_agree p q zs h = ap (λ t. filter t zs) (fun_ext h)

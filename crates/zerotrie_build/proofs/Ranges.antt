@@ -6,7 +6,7 @@ use Rattle.std.proofs.lemmas.List.FromFn.{length-range_with_len, get_or-range_wi
 use Rattle.std.proofs.Common.{length-append}
 use Rattle.std.specs.List.{concat, range_with_len, sum_by}
 use Rattle.std.specs.List.Sorted.{IsPermutation}
-use Rattle.zerotrie_core.specs.Branches.{total}
+use Rattle.zerotrie_base.specs.Branches.{total}
 use Rattle.zerotrie_build.specs.Ranges.{range_at}
 
 -- the items before a place and the one there are no more than all

@@ -1,7 +1,7 @@
 -- Runs of bytes in front of keys.
 use Rattle.std.proofs.Common.{◌≡◌, ℕ, zero, suc, ◌<◌, ◌≤◌, List, [], ◌∷◌, ◌++◌, length, refl, sym, ◌∙◌, ap, arith, take, get_or, append_assoc}
-use Rattle.zerotrie_core.specs.Maps.{Pairs, with_front, with_run, residual, behind_all}
-use Rattle.zerotrie_core.proofs.CallerLemmas.{residual-front, residual-other, behind_all-nil}
+use Rattle.zerotrie_base.specs.Maps.{Pairs, with_front, with_run, residual, behind_all}
+use Rattle.zerotrie_base.proofs.CallerLemmas.{residual-front, residual-other, behind_all-nil}
 
 pub with_run-nil : (pairs : Pairs) → with_run [] pairs ≡ pairs
 with_run-nil [] = refl

@@ -3,8 +3,8 @@ use Rattle.std.proofs.Common.{◌≡◌, ◌↔◌, ℕ, ◌-◌, ◌<◌, suc, 
 use Rattle.std.proofs.lemmas.List.Elements.{All-map, All-take, All-drop, All-push, All-contains, Contains-push}
 use Rattle.std.proofs.lemmas.Option.{slice_get_within, get_or_from_slice_get}
 use Rattle.std.proofs.Math.Seq.{take-append_seam}
-use Rattle.zerotrie_core.specs.Kind.{Kind, simple_ascii, edge_limit}
-use Rattle.zerotrie_core.specs.Maps.{Pairs, Ascends}
+use Rattle.zerotrie_base.specs.Kind.{Kind, simple_ascii, edge_limit}
+use Rattle.zerotrie_base.specs.Maps.{Pairs, Ascends}
 use Rattle.zerotrie_build.proofs.OrderLemmas.Below.{ordered_ascends}
 use Rattle.zerotrie_build.proofs.OrderLemmas.Sorting.{ascends_ordered}
 use Rattle.zerotrie_build.specs.Order.{Before, Ordered, AreKeys, AreAsciiKeys}

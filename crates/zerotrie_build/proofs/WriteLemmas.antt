@@ -1,5 +1,4 @@
 -- The second pass.
-pub mod Backward
 pub mod Branches
 pub mod Fronts
 pub mod Layouts
@@ -8,5 +7,4 @@ pub mod Numbers
 pub mod Puts
 pub mod Slots
 pub mod Targets
-pub mod Twins
 pub mod Writing

@@ -1,6 +1,6 @@
 -- Slices of items, as pairs.
-use Rattle.zerotrie_core.specs.Maps.{Pairs}
-use Rattle.zerotrie_core.specs.Items.{pairs_of}
+use Rattle.zerotrie_base.specs.Maps.{Pairs}
+use Rattle.zerotrie_base.specs.Items.{pairs_of}
 use Rattle.zerotrie_build.specs.declared.slice_indices.ByteSliceWithIndices.{ByteSliceWithIndices}
 use Rattle.zerotrie_build.specs.declared.slice_indices.ByteSliceWithIndices.TheVariants.{Bytes, Str}
 

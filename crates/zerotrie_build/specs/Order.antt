@@ -4,8 +4,8 @@ use Rattle.std.proofs.Common.{suc, zero}
 use Rattle.std.specs.Cmp.Lexicographic.{slice_cmp}
 use Rattle.std.specs.Ordering.{nat_cmp, ordering_then}
 use Rattle.std.specs.declared.cmp.Ordering.{Ordering}
-use Rattle.zerotrie_core.specs.Kind.{Kind, fold_byte, edge_limit}
-use Rattle.zerotrie_core.specs.Maps.{Pairs}
+use Rattle.zerotrie_base.specs.Kind.{Kind, fold_byte, edge_limit}
+use Rattle.zerotrie_base.specs.Maps.{Pairs}
 
 -- The key comes before the next in a text of the kind: where they part, it ends or has a byte that is lower to the kind.
 abbrev pub Before : Kind → List ℕ → List ℕ → Type 0

@@ -1,7 +1,7 @@
 -- A list cut at its front into ranges, and the ranges laid out in another order.
 use Rattle.std.specs.Prelude.{ℕ, List, ◌++◌, map, take, drop, slice_index}
 use Rattle.std.specs.List.{concat}
-use Rattle.zerotrie_core.specs.Branches.{total}
+use Rattle.zerotrie_base.specs.Branches.{total}
 
 -- the range of number i
 abbrev pub range_at : List ℕ → List ℕ → ℕ → List ℕ

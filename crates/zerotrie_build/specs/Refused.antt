@@ -3,10 +3,11 @@ use Rattle.std.specs.Prelude.{◌≡◌, ◌≢◌, ◌==◌, ℕ, ◌+◌, ◌<
 use Rattle.std.specs.Cmp.Lexicographic.{slice_cmp}
 use Rattle.std.specs.Ordering.{nat_cmp}
 use Rattle.std.specs.declared.cmp.Ordering.TheVariants.{Less}
-use Rattle.zerotrie_core.specs.Kind.{Kind, edge_limit, same_byte}
-use Rattle.zerotrie_core.specs.Maps.{Pairs, IsCaseConsistent, common_front}
-use Rattle.zerotrie_core.specs.Routes.{Route, Takes, HasCause}
-use Rattle.zerotrie_core.specs.Causes.{ZeroTrieBuildError, NonAsciiError, CapacityExceeded, CouldNotSolvePerfectHash, MixedCase, IllegalDelimiter, DuplicateKey, Unsorted, BufferTooSmall, BufferTooLarge, StackExceeded, OutOfMemory}
+use Rattle.zerotrie_base.specs.Kind.{Kind, edge_limit, same_byte}
+use Rattle.zerotrie_base.specs.Maps.{Pairs, IsCaseConsistent, common_front}
+use Rattle.zerotrie_base.specs.Routes.{Route, Takes, HasCause}
+use Rattle.zerotrie_base.specs.declared.error.ZeroTrieBuildError.{ZeroTrieBuildError}
+use Rattle.zerotrie_base.specs.declared.error.ZeroTrieBuildError.TheVariants.{NonAsciiError, CapacityExceeded, CouldNotSolvePerfectHash, MixedCase, IllegalDelimiter, DuplicateKey, Unsorted, BufferTooSmall, BufferTooLarge, StackExceeded, OutOfMemory}
 use Rattle.zerotrie_build.specs.declared.refusal.Refusal.{Refusal}
 
 -- the key of the pair of this number

@@ -1,7 +1,7 @@
 -- Pairs whose keys lie in one text.
 use Rattle.std.specs.Prelude.{ℕ, ◌+◌, ◌^◌, ◌<◌, ◌≤◌, ◌⊎◌, List, [], ◌∷◌, length, map, take, drop, All}
-use Rattle.zerotrie_core.specs.Kind.{simple_ascii}
-use Rattle.zerotrie_core.specs.Maps.{Pairs}
+use Rattle.zerotrie_base.specs.Kind.{simple_ascii}
+use Rattle.zerotrie_base.specs.Maps.{Pairs}
 use Rattle.zerotrie_build.specs.Order.{Before}
 use Rattle.zerotrie_build.specs.declared.text_items.Mark.{Mark}
 

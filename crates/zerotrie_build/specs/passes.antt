@@ -1,6 +1,5 @@
 -- Words of the sort and of the two passes.
 pub mod Windows
-pub mod Backward
 pub mod Measured
 pub mod Writing
 pub mod Writes

@@ -4,39 +4,36 @@ ghost use Rattle.std.specs.Prelude.{◌≡◌, ◌≢◌, ℕ, List, [], ◌∷�
 ghost use Rattle.std.specs.List.{range_with_len};
 ghost use Rattle.std.specs.List.Sorted.{IsPermutation, IsStrictlyIncreasing};
 ghost use Rattle.zerotrie_base.specs.Refusals.{IsTableRefusal};
-ghost use Rattle.zerotrie_core.specs.Kind.{fold_byte, is_hashed};
-ghost use Rattle.zerotrie_core.specs.Causes.{AreCrooked};
+ghost use Rattle.zerotrie_base.specs.Kind.{fold_byte, is_hashed};
+ghost use Rattle.zerotrie_base.specs.Causes.{AreCrooked};
 ghost use Rattle.zerotrie_build.specs.Order.{Ordered};
-ghost use Rattle.zerotrie_build.specs.passes.Windows.{window as window_of, edge_of, GoesOnWith, IsGroupTo};
+ghost use Rattle.zerotrie_build.specs.passes.Windows.{window as window_of, edge_of};
 ghost use Rattle.zerotrie_build.specs.passes.Measured.{TargetWindows};
 ghost use Rattle.zerotrie_build.specs.passes.Writing.{window_at, edge_no, place_in, position_at, text_of, placed_next, next_of, IsHashedLayout, IsLayout, HasSlots};
 
 use crate::indexed::IndexedItems;
 use crate::last_table::LastTable;
-use crate::measuring::{Measured, is_hashed};
-use crate::windows::{Group, Window, byte_in, group_near, group_of};
+use crate::measuring::{HASHED_FROM, Measured, is_hashed};
+use crate::windows::{Window, byte_in, group_of};
 use std::alloc::{AllocError, Allocator, Global};
-use zerotrie_core::{PerfectByteHashMapCacheOwned, ZeroTrieBuildError, ZeroTrieWithOptions};
-
-/// The most edges that a sorted table has in the kinds with hashed ones.
-const SORTED: usize = 15;
+use zerotrie_base::{PerfectByteHashMapCacheOwned, ZeroTrieBuildError, ZeroTrieWithOptions};
 
 /// Where the next window begins: with which item, and with which slot.
-#[derive(Clone, Copy, Debug)]
+#[derive(Clone, Copy)]
 pub(crate) struct Position {
     pub(crate) from: usize,
     pub(crate) slot: usize,
 }
 
 /// A window that begins where the one before it ended.
-#[derive(Clone, Copy, Debug)]
+#[derive(Clone, Copy)]
 pub(crate) struct PendingWindow {
     pub(crate) to: usize,
     pub(crate) depth: usize,
 }
 
 /// What is written next.
-#[derive(Clone, Copy, Debug)]
+#[derive(Clone, Copy)]
 pub(crate) enum Next {
     /// The next window begins at this place.
     Go(Position),
@@ -45,11 +42,9 @@ pub(crate) enum Next {
 }
 
 /// What the second pass goes by besides the items: what the first pass found of them.
-#[derive(Clone, Copy, Debug)]
+#[derive(Clone, Copy)]
 pub(crate) struct WriteInput<'a> {
-    /// The slots, and beside them guesses how many items the targets have.
     pub(crate) slots: &'a [usize],
-    pub(crate) counts: &'a [u8],
     /// If it is true, all keys are ASCII.
     pub(crate) ascii: bool,
 }
@@ -62,13 +57,13 @@ impl<'a> WriteInput<'a> {
     {
         WriteInput {
             slots: measured.slots.as_slice(),
-            counts: measured.counts.as_slice(),
             ascii,
         }
     }
 }
 
-/// The layout of a branch. Its memory serves one branch after another. Hashed tables have memory of their own.
+/// The layout of a branch. Its memory is reused for each branch. Hashed tables have memory of their
+/// own.
 #[derive(Drop)]
 pub(crate) struct Layout<A: Allocator> {
     alloc: Global,
@@ -103,19 +98,6 @@ impl<A: Allocator + Copy> Layout<A> {
         })
     }
 
-    /// No branch, and nothing that is to be written.
-    pub(crate) fn empty(alloc: Global, spare: A) -> Self {
-        Layout {
-            alloc,
-            cache: PerfectByteHashMapCacheOwned::new_empty(alloc),
-            last: LastTable::new(spare),
-            windows: Vec::new(spare),
-            table: Vec::new(spare),
-            numbers: Vec::new(spare),
-            pending: Vec::new(spare),
-        }
-    }
-
     /// No branch, as at first.
     fn clear(&mut self)
         ensures windows { self.new.windows.items ≡ [] }
@@ -126,13 +108,12 @@ impl<A: Allocator + Copy> Layout<A> {
         self.table.clear();
     }
 
-    /// Lays the targets of the branch that stands first in the window out in the order of their edges. The counts
-    /// of their items are guesses. The targets have no numbers yet.
+    /// Arranges the targets of the branch at the beginning of the window in the order of their
+    /// edges. They have no numbers yet.
     fn set_sorted<'a, K: ZeroTrieWithOptions, I: IndexedItems<'a>>(
         &mut self,
         items: I,
         window: Window,
-        counts: &[u8],
     ) -> Result<(), AllocError>
         requires order { window.from ≤ window.to }
         requires items { window.to ≤ length (I.pairs items) }
@@ -147,7 +128,7 @@ impl<A: Allocator + Copy> Layout<A> {
         let mut rest = window;
         let mut byte = byte_in(items, window, window.from);
         while rest.from < rest.to {
-            let group = target_group::<K, I>(items, rest, byte, counts, self.windows.len());
+            let group = group_of::<K, I>(items, rest, byte);
             let target = Window::new(rest.from, group.end, rest.depth + 1);
             self.table.push(byte.unwrap_or(0))?;
             self.windows.push(target)?;
@@ -157,7 +138,7 @@ impl<A: Allocator + Copy> Layout<A> {
         Ok(())
     }
 
-    /// Lays the targets out in the order of the hashed table that was made last.
+    /// Arranges the targets in the order of the last hashed table.
     fn set_last(&mut self) -> Result<(), AllocError>
         requires { IsHashedLayout self.old.table.items self.old.last.table self.old.last.numbers }
         ensures ok { OnOk result (IsHashedLayout self.old.table.items self.new.table.items
@@ -172,7 +153,7 @@ impl<A: Allocator + Copy> Layout<A> {
         Ok(())
     }
 
-    /// Lays the targets out in the order of a hashed table that is made.
+    /// Arranges the targets in the order of a new hashed table.
     fn set_new(&mut self) -> Result<(), ZeroTrieBuildError>
         requires { IsStrictlyIncreasing self.old.table.items }
         ensures ok { OnOk result (IsHashedLayout self.old.table.items self.new.table.items
@@ -192,7 +173,7 @@ impl<A: Allocator + Copy> Layout<A> {
         Ok(())
     }
 
-    /// Lays the targets out in the order of a hashed table.
+    /// Arranges the targets in the order of a hashed table.
     fn set_hashed(&mut self) -> Result<(), ZeroTrieBuildError>
         requires { IsStrictlyIncreasing self.old.table.items }
         ensures ok { OnOk result (IsHashedLayout self.old.table.items self.new.table.items
@@ -206,42 +187,6 @@ impl<A: Allocator + Copy> Layout<A> {
             return Ok(());
         }
         self.set_new()
-    }
-
-    /// Lays the targets of the branch out that stands first in the window, and leaves the list of what is to be written
-    /// alone.
-    pub(crate) fn lay_out<'a, K: ZeroTrieWithOptions, I: IndexedItems<'a>>(
-        &mut self,
-        items: I,
-        window: Window,
-    ) -> Result<(), ZeroTrieBuildError>
-        requires order { window.from ≤ window.to }
-        requires items { window.to ≤ length (I.pairs items) }
-        requires room { window.depth + 1 < 2 ^ 64 }
-        requires ordered { Ordered K.kind (window_of (I.pairs items) window) }
-        requires rises { (cs : List Window) → TargetWindows (I.pairs items) window cs
-            → IsStrictlyIncreasing (map (fold_byte K.kind) (map (edge_of (I.pairs items)) cs)) }
-        ensures parts { OnOk result (TargetWindows (I.pairs items) window self.new.windows.items) }
-        ensures laid { OnOk result (IsLayout K.kind (edge_no (I.pairs items) self.new.windows.items)
-            (length self.new.windows.items) self.new.table.items self.new.numbers.items) }
-    {
-        self.set_sorted::<K, I>(items, window, &[])?;
-        if is_hashed::<K>(self.windows.len()) {
-            self.set_hashed()?;
-        } else {
-            self.number_in_order()?;
-        }
-        Ok(())
-    }
-
-    /// The window of the target at this place of the table.
-    #[inline(always)]
-    pub(crate) fn target(&self, place: usize) -> Window
-        requires place { place < length self.now.numbers.items }
-        requires within { All (λ i. i < length self.now.windows.items) self.now.numbers.items }
-        ensures { result ≡ window_at self.now.windows.items (slice_index_or self.now.numbers.items place 0) }
-    {
-        self.windows[self.numbers[place]]
     }
 
     /// Numbers the targets in the order of their edges.
@@ -259,7 +204,7 @@ impl<A: Allocator + Copy> Layout<A> {
         Ok(())
     }
 
-    /// Puts the windows on the list of what is to be written, the first on top, if its slots begin at `slot`.
+    /// Adds the windows to the list of pending writes, the first on top. Its slots begin at `slot`.
     fn push_sorted(&mut self, slot: usize) -> Result<(), AllocError>
         requires { 0 < length self.old.windows.items }
         ensures pushed { OnOk result (reverse self.new.pending.items
@@ -277,8 +222,8 @@ impl<A: Allocator + Copy> Layout<A> {
         Ok(())
     }
 
-    /// Puts the window of this number on the list of what is to be written, with its place. The slots of the first window
-    /// begin at `slot`, and `ends` tells how many slots there are up to each.
+    /// Adds the window of this number and its place to the list of pending writes, the place on
+    /// top. `ends` and `slot` are those of `push_hashed`.
     fn push_placed(&mut self, number: usize, ends: &[usize], slot: usize) -> Result<(), AllocError>
         requires window { number < length self.old.windows.items }
         requires each { length ends.now ≡ length self.old.windows.items }
@@ -297,9 +242,10 @@ impl<A: Allocator + Copy> Layout<A> {
         Ok(())
     }
 
-    /// Puts the windows on the list of what is to be written, in the order of the table, the first on top, each with its
-    /// place, if the slots of the first window begin at `slot`, and beneath them the place after all. `ends` tells
-    /// how many slots there are up to each window.
+    /// Adds the windows to the list of pending writes, each with its place, and beneath them the
+    /// place after the last. They are in the order of the table, the first on top. The slots of the
+    /// first edge's window begin at `slot`, and `ends` has for each window the number of slots up
+    /// to its end.
     fn push_hashed(&mut self, ends: &[usize], slot: usize) -> Result<(), AllocError>
         requires some { 0 < length ends.now }
         requires each { length ends.now ≡ length self.old.windows.items }
@@ -318,7 +264,7 @@ impl<A: Allocator + Copy> Layout<A> {
         let count = self.numbers.len();
         // So there is room too for the targets of a sorted table below the first of them.
         self.pending
-            .reserve(count.saturating_mul(2).saturating_add(SORTED))?;
+            .reserve(count.saturating_mul(2).saturating_add(HASHED_FROM - 1))?;
         let last = self.windows[self.windows.len() - 1];
         self.pending.push(go(last.to, slot + ends[ends.len() - 1]))?;
         for index in (0..count).rev() {
@@ -328,7 +274,8 @@ impl<A: Allocator + Copy> Layout<A> {
         Ok(())
     }
 
-    /// Lays the targets of the branch out that stands first in the window, whose slots begin at `slot`.
+    /// Arranges the targets of the branch at the beginning of the window, whose slots begin at
+    /// `slot`, and adds them to the list of pending writes.
     pub(crate) fn set<'a, K: ZeroTrieWithOptions, I: IndexedItems<'a>>(
         &mut self,
         items: I,
@@ -356,7 +303,7 @@ impl<A: Allocator + Copy> Layout<A> {
         let slots = input.slots;
         // That a length is below 2^64 tells the proof that so are the places of the slots.
         let _len = slots.len();
-        self.set_sorted::<K, I>(items, window, input.counts.get(slot..).unwrap_or(&[]))?;
+        self.set_sorted::<K, I>(items, window)?;
         let edges = self.windows.len();
         if is_hashed::<K>(edges) {
             self.set_hashed()?;
@@ -367,29 +314,6 @@ impl<A: Allocator + Copy> Layout<A> {
             self.push_sorted(slot + edges)?;
         }
         Ok(())
-    }
-}
-
-/// The items of the branch's next target, which has this number and goes on with this byte. The counts of the items are
-/// guesses, and the kinds with hashed tables have none.
-#[inline(always)]
-fn target_group<'a, K: ZeroTrieWithOptions, I: IndexedItems<'a>>(
-    items: I,
-    rest: Window,
-    byte: Option<u8>,
-    counts: &[u8],
-    number: usize,
-) -> Group
-    requires within { rest.from < rest.to }
-    requires items { rest.to ≤ length (I.pairs items) }
-    requires ordered { Ordered K.kind (window_of (I.pairs items) rest) }
-    requires byte { GoesOnWith (I.pairs items) rest byte }
-    ensures { IsGroupTo (I.pairs items) rest result }
-{
-    if K::USE_PHF {
-        group_of::<K, I>(items, rest, byte)
-    } else {
-        group_near::<K, I>(items, rest, byte, counts.get(number).copied().unwrap_or(0))
     }
 }
 

@@ -1,20 +1,18 @@
 //! The builder.
 
-ghost use Rattle.std.specs.Prelude.{◌≡◌, ◌≢◌, ◌<◌, IfOk, IfErr, IfSome, IsTrue, length};
+ghost use Rattle.std.specs.Prelude.{◌≡◌, ◌≢◌, ◌<◌, IfOk, IfErr, IsTrue, length};
 ghost use Rattle.std.specs.List.Sorted.{IsPermutation};
 ghost use Rattle.std.specs.Iterator.{IsFiniteIterable};
-ghost use Rattle.zerotrie_core.specs.Items.{pairs_of, keyed};
-ghost use Rattle.zerotrie_core.specs.Kind.{kind_with};
-ghost use Rattle.zerotrie_core.specs.Maps.{Ascends, map_of};
-ghost use Rattle.zerotrie_core.specs.Texts.{Means};
-ghost use Rattle.zerotrie_core.specs.Routes.{ascending, any_order, IsRefusal, IsBuild, IsLength, HoldsOfItsPairs, IsBuildOfAll};
+ghost use Rattle.zerotrie_base.specs.Items.{pairs_of, keyed};
+ghost use Rattle.zerotrie_base.specs.Kind.{kind_with};
+ghost use Rattle.zerotrie_base.specs.Maps.{Ascends};
+ghost use Rattle.zerotrie_base.specs.Routes.{ascending, any_order, IsRefusal, IsBuild, IsLength, HoldsOfItsPairs, IsBuildOfAll};
 ghost use Rattle.zerotrie_build.specs.Items.{pairs};
 ghost use Rattle.zerotrie_build.specs.Order.{Ordered, AreKeys, AreAsciiKeys, AreValues};
 
 use crate::branch_layout::{Layout, WriteInput};
-use crate::indexed::{IndexedItems, LentItems};
+use crate::indexed::IndexedItems;
 use crate::measuring::measure_all;
-use crate::one_pass::bytes_in_one_pass;
 use crate::order::{are_ascii, are_in_order, are_keys, is_ordered};
 use crate::slice_indices::ByteSliceWithIndices;
 use crate::sort::sorted_by_fold;
@@ -23,9 +21,8 @@ use crate::text_items::TextItems;
 use crate::writing::Writing;
 use std::alloc::{AllocError, Allocator, Global};
 use std::collections::VecDeque;
-use zerotrie_core::{
-    Ext, Hash, Ignore, Simple, TrieKey, ZeroTrieBuildError, ZeroTrieBuilderOptions,
-    ZeroTrieWithOptions, laws,
+use zerotrie_base::{
+    TrieKey, ZeroTrieBuildError, ZeroTrieBuilderOptions, ZeroTrieWithOptions, by_kind, laws,
 };
 
 /// The items in the order of the kind.
@@ -53,9 +50,9 @@ fn in_order<K: ZeroTrieWithOptions, Key: TrieKey, A: Allocator + Copy>(
     Ok(items)
 }
 
-/// The bytes of the trie of items in the order of the kind, which are measured first. They and hashed tables take their
-/// memory from `alloc`. If `ascii` is true, all keys are ASCII.
-fn build_in_two_passes<
+/// Builds the trie of items in the order of the kind: measures it and then writes it. Its bytes and
+/// hashed tables are allocated from `alloc`. If `ascii` is true, all keys are ASCII.
+fn build_ordered<
     'a,
     K: ZeroTrieWithOptions,
     I: IndexedItems<'a>,
@@ -78,53 +75,6 @@ fn build_in_two_passes<
     Ok(store)
 }
 
-/// How many items are worth a build in one pass, which sets up memory for branches one below the other.
-const MANY: usize = 1 << 12;
-
-/// The bytes of the trie of items in the order of the kind, if there are many and one pass builds it. If `ascii` is true,
-/// all keys are ASCII.
-fn build_many<K: ZeroTrieWithOptions, J: LentItems, A: Allocator + Copy>(
-    alloc: Global,
-    spare: A,
-    items: &J,
-    ascii: bool,
-) -> Option<Vec<u8>>
-    requires ordered { Ordered K.kind (J.pairs items.now) }
-    requires keys { AreKeys K.kind (J.pairs items.now) }
-    requires ascii { IsTrue ascii → AreAsciiKeys (J.pairs items.now) }
-    ensures { IfSome result (λ bytes. Means K.kind bytes.items (map_of (J.pairs items.now))) }
-{
-    if items.lent_len() < MANY {
-        return None;
-    }
-    bytes_in_one_pass::<K, J, A>(alloc, spare, items, ascii).ok()
-}
-
-/// The bytes of the trie of items in the order of the kind: in one pass if they are many, and else, or if that gives up,
-/// in two. They and hashed tables take their memory from `alloc`. If `ascii` is true, all keys are ASCII.
-fn build_ordered<
-    K: ZeroTrieWithOptions,
-    J: LentItems,
-    S: TrieBuilderStore + Drop,
-    A: Allocator + Copy,
->(alloc: Global, spare: A, items: &J, ascii: bool) -> Result<S, ZeroTrieBuildError>
-    requires ordered { Ordered K.kind (J.pairs items.now) }
-    requires keys { AreKeys K.kind (J.pairs items.now) }
-    requires ascii { IsTrue ascii → AreAsciiKeys (J.pairs items.now) }
-    ensures { IsBuild any_order K.kind S.list (J.pairs items.now) result }
-{
-    laws::canonical_exactly();
-    laws::meant_fits();
-    match build_many::<K, J, A>(alloc, spare, items, ascii) {
-        Some(bytes) => {
-            let mut store = S::atbs_new_empty(alloc);
-            store.atbs_fill(bytes)?;
-            Ok(store)
-        }
-        None => build_in_two_passes::<K, &J, S, A>(alloc, spare, items, ascii),
-    }
-}
-
 /// The bytes of the trie of items in any order, which are put in the order of the kind.
 fn build_sorted<
     K: ZeroTrieWithOptions,
@@ -137,11 +87,11 @@ fn build_sorted<
     let items = in_order::<K, Key, A>(spare, given)?;
     let ascii = are_ascii::<K, _>(given);
     let items = ByteSliceWithIndices::from_byte_slice(items.as_slice());
-    build_ordered::<K, _, S, A>(alloc, spare, &items, ascii)
+    build_ordered::<K, _, S, A>(alloc, spare, items, ascii)
 }
 
-/// The bytes of the trie of items that ascend by the bytes of their keys. If the kind has another order,
-/// they are sorted once more, unless they are in that order too.
+/// The bytes of the trie of items that ascend by the bytes of their keys. If the kind has another
+/// order, they are sorted once more, unless they are in that order too.
 fn build_ascending<K: ZeroTrieWithOptions, S: TrieBuilderStore + Drop, A: Allocator + Copy>(
     alloc: Global,
     spare: A,
@@ -151,7 +101,7 @@ fn build_ascending<K: ZeroTrieWithOptions, S: TrieBuilderStore + Drop, A: Alloca
     ensures { IsBuild any_order K.kind S.list (pairs items.entry) result }
 {
     if are_in_order::<K>(items)? {
-        return build_ordered::<K, _, S, A>(alloc, spare, &items, are_ascii::<K, _>(items));
+        return build_ordered::<K, _, S, A>(alloc, spare, items, are_ascii::<K, _>(items));
     }
     match items {
         ByteSliceWithIndices::Bytes(items) => build_sorted::<K, &[u8], S, A>(alloc, spare, items),
@@ -159,8 +109,8 @@ fn build_ascending<K: ZeroTrieWithOptions, S: TrieBuilderStore + Drop, A: Alloca
     }
 }
 
-/// The bytes of the trie of items that ascend by the bytes of their keys, in the kind of the options. What it takes
-/// beside the store comes from the allocator `spare`.
+/// The bytes of the trie of items that ascend by the bytes of their keys, in the kind of the
+/// options. What it takes beside the store comes from the allocator `spare`.
 ///
 /// A build is refused as one by `ZeroTrieBuilder` is.
 pub fn build_slice<S: TrieBuilderStore + Drop, A: Allocator + Copy>(
@@ -172,19 +122,14 @@ pub fn build_slice<S: TrieBuilderStore + Drop, A: Allocator + Copy>(
     requires { Ascends (pairs items) }
     ensures { IsBuild any_order (kind_with options) S.list (pairs items.entry) result }
 {
-    if options.ignore_case() {
-        build_ascending::<Ignore, S, A>(alloc, spare, items)
-    } else if options.extended() {
-        build_ascending::<Ext, S, A>(alloc, spare, items)
-    } else if options.use_phf() {
-        build_ascending::<Hash, S, A>(alloc, spare, items)
-    } else {
-        build_ascending::<Simple, S, A>(alloc, spare, items)
-    }
+    by_kind!(
+        options.kind(),
+        build_ascending::<_, S, A>(alloc, spare, items)
+    )
 }
 
-/// The bytes of the trie of items in any order. If they are in the order of the kind, they are read where they stand, and
-/// else they are sorted.
+/// The bytes of the trie of items in any order. If they are in the order of the kind, they are read
+/// where they stand, and else they are sorted.
 fn build_given<
     K: ZeroTrieWithOptions,
     Key: TrieKey,
@@ -199,7 +144,7 @@ fn build_given<
     if !are_keys::<K, _>(given) {
         return Err(ZeroTrieBuildError::NonAsciiError);
     }
-    build_ordered::<K, _, S, A>(alloc, spare, &given, are_ascii::<K, _>(given))
+    build_ordered::<K, _, S, A>(alloc, spare, given, are_ascii::<K, _>(given))
 }
 
 /// The bytes of the trie of items in any order, in the kind of the options.
@@ -211,15 +156,10 @@ fn build_any<Key: TrieKey, S: TrieBuilderStore + Drop, A: Allocator + Copy>(
 ) -> Result<S, ZeroTrieBuildError>
     ensures { IsBuild any_order (kind_with options) S.list (keyed Key.key given.now) result }
 {
-    if options.ignore_case() {
-        build_given::<Ignore, Key, S, A>(alloc, spare, given)
-    } else if options.extended() {
-        build_given::<Ext, Key, S, A>(alloc, spare, given)
-    } else if options.use_phf() {
-        build_given::<Hash, Key, S, A>(alloc, spare, given)
-    } else {
-        build_given::<Simple, Key, S, A>(alloc, spare, given)
-    }
+    by_kind!(
+        options.kind(),
+        build_given::<_, Key, S, A>(alloc, spare, given)
+    )
 }
 
 /// How long the text of items in the order of the kind is.
@@ -267,7 +207,8 @@ fn len_ascending<K: ZeroTrieWithOptions, A: Allocator + Copy>(
     }
 }
 
-/// How long the text of items that ascend by the bytes of their keys is, in the kind of the options.
+/// How long the text of items that ascend by the bytes of their keys is, in the kind of the
+/// options.
 fn len_slice<A: Allocator + Copy>(
     alloc: A,
     items: ByteSliceWithIndices<'_>,
@@ -276,19 +217,11 @@ fn len_slice<A: Allocator + Copy>(
     requires { Ascends (pairs items) }
     ensures { IsLength any_order (kind_with options) (pairs items.entry) result }
 {
-    if options.ignore_case() {
-        len_ascending::<Ignore, A>(alloc, items)
-    } else if options.extended() {
-        len_ascending::<Ext, A>(alloc, items)
-    } else if options.use_phf() {
-        len_ascending::<Hash, A>(alloc, items)
-    } else {
-        len_ascending::<Simple, A>(alloc, items)
-    }
+    by_kind!(options.kind(), len_ascending::<_, A>(alloc, items))
 }
 
-/// How many bytes a build of the items has, whose keys ascend strictly by their bytes. It writes none of
-/// them. No items have no bytes.
+/// How many bytes a build of the items has, whose keys ascend strictly by their bytes. It writes
+/// none of them. No items have no bytes.
 ///
 /// ```
 /// let items = [("ad", 22), ("adef", 33)];
@@ -296,9 +229,9 @@ fn len_slice<A: Allocator + Copy>(
 /// assert_eq!(rt; encoded_len(rt.alloc(), items, ZeroTrieBuilderOptions::of::<Simple>())?, 8);
 /// ```
 ///
-/// It is refused with `Unsorted`, `NonAsciiError`, `MixedCase`, `CapacityExceeded` or `OutOfMemory`, each for
-/// the reason that `ZeroTrieBuildError` gives, and so exactly if a build is, but for a hashed table that
-/// isn't found.
+/// It is refused with `Unsorted`, `NonAsciiError`, `MixedCase`, `CapacityExceeded` or
+/// `OutOfMemory`, each for the reason that `ZeroTrieBuildError` gives, and so exactly if a build
+/// is, but for a hashed table that isn't found.
 pub fn encoded_len(
     alloc: Global,
     items: ByteSliceWithIndices<'_>,
@@ -313,8 +246,9 @@ pub fn encoded_len(
     Ok(len)
 }
 
-/// A builder of tries, which measures their bytes and then writes them into memory of their length. A `VecDeque` takes
-/// that over; a store that keeps the trait's `atbs_fill` grows once, and takes in byte after byte.
+/// A builder of tries, which measures their bytes and then writes them into memory of their length.
+/// A `VecDeque` takes that over; a store that keeps the trait's `atbs_fill` grows once, and takes
+/// in byte after byte.
 ///
 /// ```
 /// let items = [("ad", 22), ("adef", 33)];
@@ -333,15 +267,16 @@ pub struct ZeroTrieBuilder<S> {
 }
 
 impl<S: TrieBuilderStore + Drop> ZeroTrieBuilder<S> {
-    /// Builds the trie of the items, whose keys ascend strictly by their bytes, in the kind without case too.
-    /// An empty input gives an empty trie.
+    /// Builds the trie of the items, whose keys ascend strictly by their bytes, in the kind without
+    /// case too. An empty input gives an empty trie.
     ///
-    /// The bytes mean the map of the items, and for a kind whose tables are all sorted they are the map's
-    /// one text.
+    /// The bytes mean the map of the items, and for a kind whose tables are all sorted they are the
+    /// map's one text.
     ///
-    /// A build of any kind is refused with `Unsorted`, `CapacityExceeded` or `OutOfMemory`. The kinds over
-    /// ASCII refuse with `NonAsciiError` too, the kind without case with `MixedCase`, and the hashed kinds
-    /// with `CouldNotSolvePerfectHash`. Each has the reason that `ZeroTrieBuildError` gives.
+    /// A build of any kind is refused with `Unsorted`, `CapacityExceeded` or `OutOfMemory`. The
+    /// kinds over ASCII refuse with `NonAsciiError` too, the kind without case with `MixedCase`,
+    /// and the hashed kinds with `CouldNotSolvePerfectHash`. Each has the reason that
+    /// `ZeroTrieBuildError` gives.
     pub fn from_sorted_tuple_slice(
         alloc: Global,
         items: ByteSliceWithIndices<'_>,
@@ -357,10 +292,12 @@ impl<S: TrieBuilderStore + Drop> ZeroTrieBuilder<S> {
         Ok(ZeroTrieBuilder { data })
     }
 
-    /// Builds the trie of the items of a slice, in any order. An empty input gives an empty trie. If they are in the
-    /// order of the kind, they are read where they stand, and else a sorted copy of the items is made.
+    /// Builds the trie of the items of a slice, in any order. An empty input gives an empty trie.
+    /// If they are in the order of the kind, they are read where they stand, and else a sorted copy
+    /// of the items is made.
     ///
-    /// A build is refused as `from_bytes_iter` is, each time for the reason that `ZeroTrieBuildError` gives.
+    /// A build is refused as `from_bytes_iter` is, each time for the reason that
+    /// `ZeroTrieBuildError` gives.
     pub fn from_tuple_slice<K: TrieKey>(
         alloc: Global,
         items: &[(K, usize)],
@@ -373,11 +310,11 @@ impl<S: TrieBuilderStore + Drop> ZeroTrieBuilder<S> {
         Ok(ZeroTrieBuilder { data })
     }
 
-    /// Builds the trie of all pairs that the iterator gives, in any order. An empty input gives an empty
-    /// trie.
+    /// Builds the trie of all pairs that the iterator gives, in any order. An empty input gives an
+    /// empty trie.
     ///
-    /// A build is refused as one of a slice is, each time for the reason that `ZeroTrieBuildError` gives, but
-    /// with `DuplicateKey` in place of `Unsorted`.
+    /// A build is refused as one of a slice is, each time for the reason that `ZeroTrieBuildError`
+    /// gives, but with `DuplicateKey` in place of `Unsorted`.
     pub fn from_bytes_iter<K: TrieKey + Drop, U: IntoIterator<Item = (K, usize)>>(
         alloc: Global,
         iter: U,
@@ -404,7 +341,8 @@ impl<S: TrieBuilderStore + Drop> ZeroTrieBuilder<S> {
     }
 }
 
-/// The bytes of the trie of pairs in a text whose keys ascend. If the kind has another order, the pairs are copied first.
+/// The bytes of the trie of pairs in a text whose keys ascend. If the kind has another order, the
+/// pairs are copied first.
 fn build_marked<K: ZeroTrieWithOptions>(
     alloc: Global,
     items: &TextItems<'_>,
@@ -420,7 +358,7 @@ fn build_marked<K: ZeroTrieWithOptions>(
         let copied = items.to_vec_u8(alloc)?;
         return build_given::<K, &[u8], VecDeque<u8>, Global>(alloc, alloc, copied.as_slice());
     }
-    build_ordered::<K, _, VecDeque<u8>, Global>(alloc, alloc, &items.items(), ascii)
+    build_ordered::<K, _, VecDeque<u8>, Global>(alloc, alloc, items.items(), ascii)
 }
 
 /// The bytes of the trie of pairs in a text whose keys ascend, in the kind of the options.
@@ -432,20 +370,12 @@ fn build_ascending_text(
     requires { Ascends items.now.pairs }
     ensures { IsBuild any_order (kind_with options) (λ bytes. bytes.items) items.now.pairs result }
 {
-    if options.ignore_case() {
-        build_marked::<Ignore>(alloc, items)
-    } else if options.extended() {
-        build_marked::<Ext>(alloc, items)
-    } else if options.use_phf() {
-        build_marked::<Hash>(alloc, items)
-    } else {
-        build_marked::<Simple>(alloc, items)
-    }
+    by_kind!(options.kind(), build_marked::<_>(alloc, items))
 }
 
-/// Builds the trie of the pairs of a text, whose keys ascend strictly by their bytes, and answers its bytes. No pairs give
-/// none. If there are 4,096 pairs or more, no memory is taken for each; fewer take some 12 bytes each besides, and so do all
-/// if more than 128 branches stand one below the other. If the kind ignores case, the pairs are copied, with 24 bytes each.
+/// Builds the trie of the pairs of a text, whose keys ascend strictly by their bytes, and returns
+/// its bytes. No pairs give none. The build allocates some 12 bytes for each pair besides, and if
+/// the kind ignores case it copies the pairs first, with 24 bytes each.
 ///
 /// ```
 /// let mut items = TextItems::new(rt.alloc(), b"ad 22, adef 33");
@@ -455,8 +385,8 @@ fn build_ascending_text(
 /// assert_eq!(rt; bytes.as_slice(), b"ad\x90\x06ef\x90\x11".as_slice());
 /// ```
 ///
-/// A build is refused with the errors with which `ZeroTrieBuilder::from_sorted_tuple_slice` refuses one, each for the reason
-/// that `ZeroTrieBuildError` gives.
+/// A build is refused with the errors with which `ZeroTrieBuilder::from_sorted_tuple_slice` refuses
+/// one, each for the reason that `ZeroTrieBuildError` gives.
 pub fn build_text(
     alloc: Global,
     items: &TextItems<'_>,

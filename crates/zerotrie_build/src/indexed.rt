@@ -1,13 +1,13 @@
 //! Items that are asked for by number, however they are kept.
 
 ghost use Rattle.std.specs.Prelude.{◌≡◌, ◌<◌, Some, length, slice_get};
-ghost use Rattle.zerotrie_core.specs.Items.{keyed};
-ghost use Rattle.zerotrie_core.specs.Maps.{Pairs};
+ghost use Rattle.zerotrie_base.specs.Items.{keyed};
+ghost use Rattle.zerotrie_base.specs.Maps.{Pairs};
 ghost use Rattle.zerotrie_build.specs.Items.{pairs};
 ghost use Rattle.zerotrie_build.specs.passes.Windows.{item_no};
 
 use crate::slice_indices::ByteSliceWithIndices;
-use zerotrie_core::TrieKey;
+use zerotrie_base::TrieKey;
 
 /// Items, each a key and its value, that are asked for by number. They are the same at every look.
 pub(crate) trait IndexedItems<'a>: Copy {
@@ -45,57 +45,6 @@ impl<'a, Key: TrieKey> IndexedItems<'a> for &'a [(Key, usize)] {
     fn get(self, index: usize) -> (&'a [u8], usize) {
         let (key, value) = &self[index];
         (key.key_bytes(), *value)
-    }
-}
-
-/// Items whose keys are lent for as long as they are. So a function that calls itself can take any of them.
-pub(crate) trait LentItems {
-    ghost pairs: { Self → Pairs };
-
-    /// How many items there are.
-    fn lent_len(&self) -> usize
-        ensures { result ≡ length (pairs self.now) };
-
-    /// The item of number `index`, counted from 0: the bytes of its key, and its value.
-    fn lent(&self, index: usize) -> (&[u8], usize)
-        requires { index < length (pairs self.now) }
-        ensures { slice_get (pairs self.now) index ≡ Some (result.0.now, result.1) };
-}
-
-impl<'a> LentItems for ByteSliceWithIndices<'a> {
-    ghost pairs = { λ items. pairs items };
-
-    fn lent_len(&self) -> usize {
-        ByteSliceWithIndices::len(*self)
-    }
-
-    fn lent(&self, index: usize) -> (&[u8], usize) {
-        ByteSliceWithIndices::get(*self, index)
-    }
-}
-
-impl<'a, Key: TrieKey> LentItems for &'a [(Key, usize)] {
-    ghost pairs = { λ items. keyed Key.key items.now };
-
-    fn lent_len(&self) -> usize {
-        (**self).len()
-    }
-
-    fn lent(&self, index: usize) -> (&[u8], usize) {
-        let (key, value) = &self[index];
-        (key.key_bytes(), *value)
-    }
-}
-
-impl<'a, J: LentItems> IndexedItems<'a> for &'a J {
-    ghost pairs = { λ items. J.pairs items.now };
-
-    fn len(self) -> usize {
-        self.lent_len()
-    }
-
-    fn get(self, index: usize) -> (&'a [u8], usize) {
-        self.lent(index)
     }
 }
 

@@ -1,4 +1,5 @@
-//! The hashed table that was laid out last. The next branch often has the same edges, and then needs no other.
+//! The hashed table that was laid out last. The next branch often has the same edges, and then
+//! needs no other.
 
 ghost use Rattle.std.specs.Prelude.{◌≡◌, IsTrue, OnOk};
 ghost use Rattle.zerotrie_build.specs.passes.Writing.{IsHashedLayout};

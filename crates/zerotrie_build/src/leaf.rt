@@ -1,4 +1,4 @@
-//! Windows of one item, whose texts are told at once.
+//! Windows of one item, which are measured and written at once.
 
 ghost use Rattle.std.specs.Prelude.{◌≡◌, ◌+◌, ◌^◌, ◌<◌, ◌≤◌, IfSome, All, IsTrue, false, length};
 ghost use Rattle.zerotrie_build.specs.Order.{AreAsciiKeys};
@@ -6,20 +6,7 @@ ghost use Rattle.zerotrie_build.specs.passes.Windows.{byte_size, short_size, IsS
 
 use crate::indexed::IndexedItems;
 use crate::windows::Window;
-use zerotrie_core::ZeroTrieWithOptions;
-
-/// Whether all bytes are below 128.
-#[inline(always)]
-fn are_literals(bytes: &[u8]) -> bool
-    ensures { IsTrue result → All (λ b. b < 128) bytes.now }
-{
-    for byte in bytes {
-        if *byte >= 128 {
-            return false;
-        }
-    }
-    true
-}
+use zerotrie_base::ZeroTrieWithOptions;
 
 /// The rest of the key and the value of the one item of a window, if there is but one.
 #[inline(always)]
@@ -42,8 +29,8 @@ pub(crate) fn single_item<'a, I: IndexedItems<'a>>(
     Some((rest, value))
 }
 
-/// Like `single_item`, and only if the rest is ASCII: then rest and value are all of the window's text, as literals and a
-/// value. If all keys are known to be ASCII, the rest is not looked at.
+/// Like `single_item`, and only if the rest is ASCII: then rest and value are all of the window's
+/// text, as literals and a value. If all keys are known to be ASCII, the rest is not looked at.
 #[inline(always)]
 pub(crate) fn ascii_leaf<'a, I: IndexedItems<'a>>(
     items: I,
@@ -56,14 +43,14 @@ pub(crate) fn ascii_leaf<'a, I: IndexedItems<'a>>(
     ensures room { IfSome result (λ r. window.depth + length r.0.now < 2 ^ 64) }
 {
     let (rest, value) = single_item(items, window)?;
-    if !ascii && !are_literals(rest) {
+    if !ascii && !rest.is_ascii() {
         return None;
     }
     Some((rest, value))
 }
 
-/// How many bytes a byte of a short rest makes, after one from 128 on or not: if it begins a span, it has the
-/// length of that in front.
+/// Returns the encoded length of one byte of a short rest. `high` tells whether the byte before it
+/// is 128 or more. A byte that begins a span has the byte of the span's length before it.
 #[inline(always)]
 fn byte_len(high: bool, byte: u8) -> usize
     ensures is { result ≡ byte_size high byte }
@@ -72,8 +59,8 @@ fn byte_len(high: bool, byte: u8) -> usize
     if byte < 128 || high { 1 } else { 2 }
 }
 
-/// How many bytes the literals and spans of a rest have that has itself less than 16, so that the length of each span
-/// has one.
+/// How many bytes the literals and spans of a rest have that has itself less than 16, so that the
+/// length of each span has one.
 #[inline(always)]
 fn short_len(rest: &[u8]) -> usize
     requires { length rest.now < 16 }
@@ -88,8 +75,8 @@ fn short_len(rest: &[u8]) -> usize
     len
 }
 
-/// How many bytes the literals and spans of the rest of a key have, if its spans need not be told one by one. If
-/// `ascii` is true, it has none.
+/// How many bytes the literals and spans of the rest of a key have, if its spans need not be told
+/// one by one. If `ascii` is true, it has none.
 #[inline(always)]
 pub(crate) fn rest_len<K: ZeroTrieWithOptions>(rest: &[u8], ascii: bool) -> Option<usize>
     requires { IsTrue ascii → All (λ b. b < 128) rest.now }

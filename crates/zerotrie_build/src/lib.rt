@@ -1,19 +1,17 @@
-//! The builders of a trie's bytes. `ZeroTrieBuilder` measures them first, which `encoded_len` does alone, and then
-//! writes them from the first to the last into memory of their length, which a `VecDeque` takes over.
-//! `ZeroTrieBuilderConst` and `fill_from_end` take no memory: they write them from the last to the first into an array
-//! or a buffer.
+//! The builders of a trie's bytes. `ZeroTrieBuilder` measures them first, which `encoded_len` does
+//! alone, and then writes them from the first to the last into memory of their length, which a
+//! `VecDeque` takes over. `ZeroTrieBuilderConst` and `fill_from_end` take no memory: they write
+//! them from the last to the first into an array or a buffer.
 #![tactic(auto)]
 
-mod backward;
 mod branch_layout;
 mod builder;
-mod in_order;
 mod indexed;
 mod konst;
 mod last_table;
 mod leaf;
 mod measuring;
-mod one_pass;
+mod number;
 mod order;
 mod refusal;
 mod slice_indices;

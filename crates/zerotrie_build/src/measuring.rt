@@ -1,12 +1,12 @@
 //! The first pass: the lengths of the text and of the targets of its branches.
 
 ghost use Rattle.std.specs.Prelude.{◌≡◌, ◌≢◌, ◌↔◌, ℕ, List, [], ◌∷◌, ◌+◌, ◌-◌, ◌*◌, ◌%◌, ◌^◌, ◌<◌, ◌≤◌, ◌⊎◌, ◌++◌, length, replicate, reverse, slice_index, IfOk, OnOk, IfErr, IfSome, IsTrue};
-ghost use Rattle.zerotrie_core.specs.Kind.{is_hashed, greatest_width};
-ghost use Rattle.zerotrie_core.specs.Numbers.{Form, value_form, spelled_as};
-ghost use Rattle.zerotrie_core.specs.Maps.{map_of};
-ghost use Rattle.zerotrie_core.specs.Branches.{IsWidth, total as sum};
-ghost use Rattle.zerotrie_core.specs.Canonical.{size_of, branch_size};
-ghost use Rattle.zerotrie_core.specs.Fits.{ExceedsCapacity};
+ghost use Rattle.zerotrie_base.specs.Kind.{is_hashed, greatest_width};
+ghost use Rattle.zerotrie_base.specs.Numbers.{value_form, spelled_as};
+ghost use Rattle.zerotrie_base.specs.Maps.{map_of};
+ghost use Rattle.zerotrie_base.specs.Branches.{total as sum};
+ghost use Rattle.zerotrie_base.specs.Canonical.{size_of, branch_size};
+ghost use Rattle.zerotrie_base.specs.Fits.{ExceedsCapacity};
 ghost use Rattle.zerotrie_build.specs.Order.{Ordered, AreKeys, AreAsciiKeys};
 ghost use Rattle.zerotrie_build.specs.passes.Windows.{window as window_of, step_of};
 ghost use Rattle.zerotrie_build.specs.passes.Measured.{Passes, NoneFirst, TargetWindows, IsMeasured};
@@ -14,41 +14,41 @@ ghost use Rattle.zerotrie_build.specs.passes.Walking.{item_ends, spare_len, with
 
 use crate::indexed::IndexedItems;
 use crate::leaf::{rest_len, single_item};
+use crate::number::{number_len, width_of};
 use crate::windows::{Step, Window, byte_in, first_step, group_of, literals_end};
 use std::alloc::{AllocError, Allocator};
-use zerotrie_core::{ZeroTrieBuildError, ZeroTrieWithOptions};
+use zerotrie_base::{ZeroTrieBuildError, ZeroTrieWithOptions};
 
-/// The lengths that are kept for the second pass, in slots. A branch has a slot for each target, in the order of
-/// the edges, with the length of its text. If its table is hashed, as many follow, with how many slots the
-/// targets up to each have below them. Then come the slots below the first target, the second, and so on.
+/// The lengths that are kept for the second pass, in slots. A branch has a slot for each target, in
+/// the order of the edges, with the length of its text. If its table is hashed, as many follow,
+/// with how many slots the targets up to each have below them. Then come the slots below the first
+/// target, the second, and so on.
 #[derive(Drop)]
 pub(crate) struct Measured<A: Allocator> {
     pub(crate) slots: Vec<usize, A>,
-    /// In the kinds without hashed tables, for each slot how many items its target has, if they are few. The
-    /// second pass tries that count first. In the other kinds there are none, to save memory.
-    pub(crate) counts: Vec<u8, A>,
     /// How long the text is.
     pub(crate) len: usize,
 }
 
 /// A branch whose targets are measured, one after another.
-#[derive(Clone, Copy, Debug)]
+#[derive(Clone, Copy)]
 struct OpenBranch {
-    /// Where the items of the target that is measured begin, and how many bytes of their keys stand in front
-    /// of its edge.
+    /// Where the items of the target that is measured begin, and how many bytes of their keys stand
+    /// in front of its edge.
     from: usize,
     depth: usize,
     /// How many bytes of the text stand in front of the branch.
     len: usize,
-    /// The slots of the targets are those from `first` to below `end`, and `next` is that of the target that is
-    /// measured.
+    /// The slots of the targets are those from `first` to below `end`, and `next` is that of the
+    /// target that is measured.
     first: usize,
     next: usize,
     end: usize,
 }
 
 impl OpenBranch {
-    /// The branch that stands first in the window, after `len` bytes, whose slots are those from `first` to below `end`.
+    /// The branch that stands first in the window, after `len` bytes, whose slots are those from
+    /// `first` to below `end`.
     #[inline(always)]
     fn new(window: Window, len: usize, first: usize, end: usize) -> Self
         ensures { result ≡ record {
@@ -82,7 +82,7 @@ impl OpenBranch {
 }
 
 /// What follows on a window that was measured.
-#[derive(Clone, Copy, Debug)]
+#[derive(Clone, Copy)]
 enum Turn {
     /// This window is measured.
     Window(Window),
@@ -95,7 +95,6 @@ enum Turn {
 struct FirstPass<I, A: Allocator> {
     items: I,
     slots: Vec<usize, A>,
-    counts: Vec<u8, A>,
     branches: Vec<OpenBranch, A>,
 }
 
@@ -108,22 +107,6 @@ fn checked_sum(a: usize, b: usize) -> Result<usize, ZeroTrieBuildError>
     a.checked_add(b).ok_or(ZeroTrieBuildError::CapacityExceeded)
 }
 
-/// How many bytes a number has in the form whose shortest number of two bytes is `latent`.
-fn number_len(latent: usize, number: usize) -> usize
-    requires { (latent ≡ 16) ⊎ (latent ≡ 32) }
-    ensures len { (form : Form) → form.latent_value ≡ latent
-        → result ≡ length (spelled_as form number) }
-    ensures few { result ≤ 10 }
-{
-    let mut len = 1;
-    let mut rest = number;
-    while rest >= latent {
-        rest = (rest - latent) / 128;
-        len += 1;
-    }
-    len
-}
-
 /// How many bytes a value node has.
 fn value_len(value: usize) -> usize
     ensures { result ≡ length (spelled_as value_form value) }
@@ -131,8 +114,9 @@ fn value_len(value: usize) -> usize
     number_len(16, value)
 }
 
-/// The end of a window of one item, as most are, and how many bytes its text has. `None` if there are more items, or if
-/// the rest of the key has spans that are told one by one. If `ascii` is true, all keys are ASCII.
+/// The end of a window of one item, as most are, and how many bytes its text has. `None` if there
+/// are more items, or if the rest of the key has spans that are told one by one. If `ascii` is
+/// true, all keys are ASCII.
 #[inline(always)]
 fn after_leaf<'a, K: ZeroTrieWithOptions, I: IndexedItems<'a>>(
     items: I,
@@ -162,7 +146,7 @@ fn after_leaf<'a, K: ZeroTrieWithOptions, I: IndexedItems<'a>>(
 
 /// The window after the values, literals and spans that stand first, and how many bytes these have.
 #[inline(always)]
-pub(crate) fn after_front<'a, K: ZeroTrieWithOptions, I: IndexedItems<'a>>(
+fn after_front<'a, K: ZeroTrieWithOptions, I: IndexedItems<'a>>(
     items: I,
     start: Window,
 ) -> Result<(Window, usize), ZeroTrieBuildError>
@@ -199,7 +183,8 @@ pub(crate) fn after_front<'a, K: ZeroTrieWithOptions, I: IndexedItems<'a>>(
     }
 }
 
-/// Like `after_front`, but tells a window of one item at once. If `ascii` is true, all keys are ASCII.
+/// Like `after_front`, but tells a window of one item at once. If `ascii` is true, all keys are
+/// ASCII.
 #[inline(always)]
 fn after_nodes<'a, K: ZeroTrieWithOptions, I: IndexedItems<'a>>(
     items: I,
@@ -224,7 +209,7 @@ fn after_nodes<'a, K: ZeroTrieWithOptions, I: IndexedItems<'a>>(
 }
 
 /// The sum of these lengths.
-pub(crate) fn total(lens: &[usize]) -> Result<usize, ZeroTrieBuildError>
+fn total(lens: &[usize]) -> Result<usize, ZeroTrieBuildError>
     ensures sum { IfOk result (λ n. n ≡ sum lens.now) }
     ensures refused { IfErr result (λ e.
         (e ≡ ZeroTrieBuildError.CapacityExceeded) × (2 ^ 64 ≤ sum lens.now)) }
@@ -237,7 +222,7 @@ pub(crate) fn total(lens: &[usize]) -> Result<usize, ZeroTrieBuildError>
 }
 
 /// Whether this length is beyond every offset of the kind.
-pub(crate) fn is_too_wide<K: ZeroTrieWithOptions>(total: usize) -> bool
+fn is_too_wide<K: ZeroTrieWithOptions>(total: usize) -> bool
     ensures { IsTrue result ↔ (256 ^ (greatest_width K.kind + 1) ≤ total) }
 {
     !K::EXTENDED && total >= 1 << 32
@@ -264,28 +249,19 @@ fn with_branch<K: ZeroTrieWithOptions>(
     checked_sum(front, sum)
 }
 
-/// The least number w with `total` below 256^(w + 1).
-pub(crate) fn width_of(total: usize) -> usize
-    ensures { IsWidth total result }
-{
-    let mut width = 0;
-    let mut rest = total;
-    while rest >= 256 {
-        rest /= 256;
-        width += 1;
-    }
-    width
-}
+/// The fewest edges that a hashed table has.
+pub(crate) const HASHED_FROM: usize = 16;
 
 /// Whether a branch with this number of edges has a hashed table.
 pub(crate) fn is_hashed<K: ZeroTrieWithOptions>(edges: usize) -> bool
     ensures { result ≡ is_hashed K.kind edges }
 {
-    K::USE_PHF && edges >= 16
+    K::USE_PHF && edges >= HASHED_FROM
 }
 
-/// How many bytes a branch with this number of edges has in front of its targets, which together have `total` bytes.
-pub(crate) fn branch_len<K: ZeroTrieWithOptions>(edges: usize, total: usize) -> usize
+/// How many bytes a branch with this number of edges has in front of its targets, which together
+/// have `total` bytes.
+fn branch_len<K: ZeroTrieWithOptions>(edges: usize, total: usize) -> usize
     requires some { 1 ≤ edges }
     requires few { edges ≤ 256 }
     ensures { (lengths : List ℕ) → length lengths ≡ edges → sum lengths ≡ total
@@ -302,7 +278,7 @@ pub(crate) fn branch_len<K: ZeroTrieWithOptions>(edges: usize, total: usize) -> 
 
 impl<'a, I: IndexedItems<'a>, A: Allocator + Copy> FirstPass<I, A> {
     /// No branch. Most sets of keys have fewer targets than there is room for.
-    fn new<K: ZeroTrieWithOptions>(alloc: A, items: I) -> Result<Self, AllocError>
+    fn new(alloc: A, items: I) -> Result<Self, AllocError>
         ensures items { IfOk result (λ m. m.items ≡ items) }
         ensures slots { IfOk result (λ m. m.slots.items ≡ []) }
         ensures branches { IfOk result (λ m. m.branches.items ≡ []) }
@@ -311,30 +287,12 @@ impl<'a, I: IndexedItems<'a>, A: Allocator + Copy> FirstPass<I, A> {
         Ok(FirstPass {
             items,
             slots: Vec::with_capacity(alloc, room)?,
-            counts: Vec::with_capacity(alloc, if K::USE_PHF { 0 } else { room })?,
             branches: Vec::new(alloc),
         })
     }
 
-    /// Adds a slot for a target, with where its items end and how many they are.
-    fn push_end<K: ZeroTrieWithOptions>(
-        &mut self,
-        end: usize,
-        count: usize,
-    ) -> Result<(), AllocError>
-        ensures slots { OnOk result (self.new.slots.items ≡ self.old.slots.items ++ end ∷ []) }
-        ensures items { self.new.items ≡ self.old.items }
-        ensures branches { self.new.branches.items ≡ self.old.branches.items }
-    {
-        if !K::USE_PHF {
-            self.counts.push(count.min(255) as u8)?;
-        }
-        self.slots.push(end)?;
-        Ok(())
-    }
-
-    /// Adds a slot for each target of the branch that stands first in the window. Until the target is measured,
-    /// it tells where its items end.
+    /// Adds a slot for each target of the branch that stands first in the window. Until the target
+    /// is measured, it tells where its items end.
     fn push_ends<K: ZeroTrieWithOptions>(&mut self, window: Window) -> Result<(), AllocError>
         requires within { window.to ≤ length (I.pairs self.old.items) }
         requires order { window.from ≤ window.to }
@@ -349,7 +307,7 @@ impl<'a, I: IndexedItems<'a>, A: Allocator + Copy> FirstPass<I, A> {
         let mut byte = byte_in(self.items, window, window.from);
         while rest.from < rest.to {
             let group = group_of::<K, I>(self.items, rest, byte);
-            self.push_end::<K>(group.end, group.end - rest.from)?;
+            self.slots.push(group.end)?;
             rest.from = group.end;
             byte = group.next;
         }
@@ -369,7 +327,8 @@ impl<'a, I: IndexedItems<'a>, A: Allocator + Copy> FirstPass<I, A> {
         Window::new(branch.from, self.slots[branch.next], branch.depth + 1)
     }
 
-    /// Opens the branch that stands first in the window, after `len` bytes. Returns the window of its first target.
+    /// Opens the branch that stands first in the window, after `len` bytes. Returns the window of
+    /// its first target.
     fn push_branch<K: ZeroTrieWithOptions>(
         &mut self,
         window: Window,
@@ -420,13 +379,13 @@ impl<'a, I: IndexedItems<'a>, A: Allocator + Copy> FirstPass<I, A> {
         ensures len { result.len ≡ len }
     {
         drop(self.branches);
-        let (mut slots, mut counts) = (self.slots, self.counts);
+        let mut slots = self.slots;
         slots.shrink_to_fit();
-        counts.shrink_to_fit();
-        Measured { slots, counts, len }
+        Measured { slots, len }
     }
 
-    /// Takes in how long the window is that was measured, and the branches whose last target it ends.
+    /// Takes in how long the window is that was measured, and the branches whose last target it
+    /// ends.
     fn close<K: ZeroTrieWithOptions>(&mut self, measured: usize) -> Result<Turn, ZeroTrieBuildError>
         requires keys { AreKeys K.kind (I.pairs self.old.items) }
         requires ordered { Ordered K.kind (I.pairs self.old.items) }
@@ -472,7 +431,7 @@ pub(crate) fn measure_all<'a, K: ZeroTrieWithOptions, I: IndexedItems<'a>, A: Al
         → (e ≡ ZeroTrieBuildError.CapacityExceeded)
         × ExceedsCapacity K.kind (map_of (I.pairs items))) }
 {
-    let mut pass = FirstPass::new::<K>(alloc, items)?;
+    let mut pass = FirstPass::new(alloc, items)?;
     let mut window = Window::new(0, items.len(), 0);
     loop {
         let (rest, len) = after_nodes::<K, I>(items, window, ascii)?;

@@ -5,10 +5,10 @@ ghost use Rattle.std.specs.Cmp.Lexicographic.{slice_cmp};
 ghost use Rattle.std.specs.Prelude.{◌≡◌, ◌↔◌, ◌+◌, ◌<◌, ◌++◌, [], ◌∷◌, length, min, max, IsTrue, IfOk, IfSome, IfNone};
 ghost use Rattle.std.specs.List.{range_with_len};
 ghost use Rattle.std.specs.List.Sorted.{IsPermutation};
-ghost use Rattle.zerotrie_core.specs.Items.{keyed, pairs_of};
-ghost use Rattle.zerotrie_core.specs.Maps.{Ascends, IsCaseConsistent};
-ghost use Rattle.zerotrie_core.specs.Kind.{simple_ascii};
-ghost use Rattle.zerotrie_core.specs.Routes.{ascending, any_order};
+ghost use Rattle.zerotrie_base.specs.Items.{keyed, pairs_of};
+ghost use Rattle.zerotrie_base.specs.Maps.{Ascends, IsCaseConsistent};
+ghost use Rattle.zerotrie_base.specs.Kind.{simple_ascii};
+ghost use Rattle.zerotrie_base.specs.Routes.{ascending, any_order};
 ghost use Rattle.zerotrie_build.specs.Order.{AreKeys, RepeatsNext};
 ghost use Rattle.zerotrie_build.specs.passes.Sorts.{AreSortedItems, items_by_number, numbers_of};
 ghost use Rattle.zerotrie_build.specs.passes.OtherCase.{BeginsThen, NoneBeginsThen, NoneHasOtherCase};
@@ -19,9 +19,10 @@ use crate::order::{common_front_len, first_foreign, first_unordered};
 use crate::sort::{KeyPrefix, items_at, sorted_prefixes};
 use std::alloc::{AllocError, Global};
 use std::fmt;
-use zerotrie_core::{Simple, TrieKey, ZeroTrieBuildError, ZeroTrieWithOptions, folded};
+use zerotrie_base::{Simple, TrieKey, ZeroTrieBuildError, ZeroTrieWithOptions, folded};
 
-/// Which keys show why a build is refused, by their numbers, counted from 0 in the order in which they are given.
+/// Which keys show why a build is refused, by their numbers, counted from 0 in the order in which
+/// they are given.
 ///
 /// ```
 /// let refusal = why_slice_refused::<Simple, _>(&[("to", 1), ("in", 2)]).ok_or("taken")?;
@@ -34,7 +35,8 @@ pub struct Refusal {
     pub error: ZeroTrieBuildError,
     /// The number of the key, or of the first of two.
     pub first: usize,
-    /// The number of the second key. For `NonAsciiError`, which one key shows, it is that of the first.
+    /// The number of the second key. For `NonAsciiError`, which one key shows, it is that of the
+    /// first.
     pub second: usize,
 }
 
@@ -149,8 +151,8 @@ fn key_after<Key: TrieKey>(items: &[(Key, usize)], front: &[u8], byte: u8) -> Op
     }
 }
 
-/// The number of a key that goes on with the other case of the letter by which the key parts from the next, of keys
-/// that ascend.
+/// The number of a key that goes on with the other case of the letter by which the key parts from
+/// the next, of keys that ascend.
 fn other_case<K: ZeroTrieWithOptions, Key: TrieKey>(
     items: &[(Key, usize)],
     key: &[u8],
@@ -173,8 +175,9 @@ fn other_case<K: ZeroTrieWithOptions, Key: TrieKey>(
     key_after(items, &key[..common], fold)
 }
 
-/// Two keys that differ in case, of keys that ascend. It takes no memory: if a key parts from the next by a letter
-/// in upper case, those that go on with this letter in lower case stand together, and are searched for.
+/// Two keys that differ in case, of keys that ascend. It takes no memory: if a key parts from the
+/// next by a letter in upper case, those that go on with this letter in lower case stand together,
+/// and are searched for.
 fn mixed<K: ZeroTrieWithOptions, Key: TrieKey>(items: &[(Key, usize)]) -> Option<Refusal>
     requires { Ascends (keyed Key.key items.now) }
     ensures some { IfSome result (λ r. (r.error ≡ ZeroTrieBuildError.MixedCase)
@@ -192,8 +195,8 @@ fn mixed<K: ZeroTrieWithOptions, Key: TrieKey>(items: &[(Key, usize)]) -> Option
     None
 }
 
-/// Which keys show why a build of a slice is refused, as `try_from_sorted_slice` of the kind's tries, whose keys are to
-/// ascend strictly by their bytes. `None` if none do.
+/// Which keys show why a build of a slice is refused, as `try_from_sorted_slice` of the kind's
+/// tries, whose keys are to ascend strictly by their bytes. `None` if none do.
 ///
 /// ```
 /// let items = [("Accept-CH", 1), ("Accept-Charset", 2), ("Host", 3)];
@@ -202,12 +205,13 @@ fn mixed<K: ZeroTrieWithOptions, Key: TrieKey>(items: &[(Key, usize)]) -> Option
 /// assert_eq!(rt; (refusal.first, refusal.second), (0, 1));
 /// ```
 ///
-/// It asks first for keys that do not ascend, `Unsorted`, then for one with a byte from 128 on in a kind for ASCII,
-/// `NonAsciiError`, and then for two that the kind without case refuses together, `MixedCase`. On `None` a build
-/// is refused only for its length, for a hashed table or as out of memory.
+/// It asks first for keys that do not ascend, `Unsorted`, then for one with a byte from 128 on in a
+/// kind for ASCII, `NonAsciiError`, and then for two that the kind without case refuses together,
+/// `MixedCase`. On `None` a build is refused only for its length, for a hashed table or as out of
+/// memory.
 ///
-/// It takes no memory, and time as the keys' bytes in kinds with case. In the kind without case, each key that parts
-/// from the next by an upper-case letter costs a binary search besides.
+/// It takes no memory, and time as the keys' bytes in kinds with case. In the kind without case,
+/// each key that parts from the next by an upper-case letter costs a binary search besides.
 pub fn why_slice_refused<K: ZeroTrieWithOptions, Key: TrieKey>(
     items: &[(Key, usize)],
 ) -> Option<Refusal>
@@ -238,8 +242,8 @@ fn first_repeated(items: &[(&[u8], usize)]) -> Option<usize>
     None
 }
 
-/// Which keys show why a build of items in any order is refused, by the items in the order of these prefixes, which is that
-/// of the folds of their keys.
+/// Which keys show why a build of items in any order is refused, by the items in the order of these
+/// prefixes, which is that of the folds of their keys.
 fn why_sorted_refused<K: ZeroTrieWithOptions, Key: TrieKey>(
     items: &[(Key, usize)],
     prefixes: &[KeyPrefix],
@@ -264,8 +268,8 @@ fn why_sorted_refused<K: ZeroTrieWithOptions, Key: TrieKey>(
     Some(Refusal::between(error, prefixes[place].index, prefixes[place + 1].index))
 }
 
-/// Which keys show why a build of the pairs that an iterator gives is refused, as `try_from_iter` of the kind's tries,
-/// which takes them in any order. `None` if none do.
+/// Which keys show why a build of the pairs that an iterator gives is refused, as `try_from_iter`
+/// of the kind's tries, which takes them in any order. `None` if none do.
 ///
 /// ```
 /// let items = [("to", 1), ("in", 2), ("to", 3)];
@@ -274,11 +278,13 @@ fn why_sorted_refused<K: ZeroTrieWithOptions, Key: TrieKey>(
 /// assert_eq!(rt; (refusal.first, refusal.second), (0, 2));
 /// ```
 ///
-/// It asks first for two keys that are the same, `DuplicateKey`, then for one with a byte from 128 on in a kind for
-/// ASCII, `NonAsciiError`, and then for two that the kind without case refuses together, `MixedCase`. On `None` a build
-/// is refused only for its length, for a hashed table or as out of memory.
+/// It asks first for two keys that are the same, `DuplicateKey`, then for one with a byte from 128
+/// on in a kind for ASCII, `NonAsciiError`, and then for two that the kind without case refuses
+/// together, `MixedCase`. On `None` a build is refused only for its length, for a hashed table or
+/// as out of memory.
 ///
-/// It sorts the keys as a build does, in about the same time and memory. The only error is out of memory.
+/// It sorts the keys as a build does, in about the same time and memory. The only error is out of
+/// memory.
 pub fn why_iter_refused<K: ZeroTrieWithOptions, Key: TrieKey>(
     alloc: Global,
     items: &[(Key, usize)],

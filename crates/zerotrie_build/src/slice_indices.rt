@@ -1,13 +1,13 @@
 //! Slices of items whose keys are bytes or text, as one type.
 
 ghost use Rattle.std.specs.Prelude.{◌≡◌, ◌-◌, ◌<◌, ◌↔◌, length, IfOk, IsTrue, All, Some, slice_get, option_map};
-ghost use Rattle.zerotrie_core.specs.Maps.{Ascends};
-ghost use Rattle.zerotrie_core.specs.Items.{pairs_of};
+ghost use Rattle.zerotrie_base.specs.Maps.{Ascends};
+ghost use Rattle.zerotrie_base.specs.Items.{pairs_of};
 ghost use Rattle.zerotrie_build.specs.Items.{pairs};
 
-use crate::order::{is_all_ascii, is_ordered};
+use crate::order::{are_keys, is_ordered};
 use std::alloc::{AllocError, Global};
-use zerotrie_core::Simple;
+use zerotrie_base::Simple;
 
 /// A slice of items, each a key and its value, whose keys are bytes or text.
 ///
@@ -17,8 +17,8 @@ use zerotrie_core::Simple;
 /// assert_eq!(rt; items.get(1), (b"adef".as_slice(), 33));
 /// ```
 ///
-/// Every call answers as the list of pairs of key bytes and value, in the order of the slice. None but
-/// `to_vec_u8` takes memory.
+/// Every call answers as the list of pairs of key bytes and value, in the order of the slice. None
+/// but `to_vec_u8` takes memory.
 #[derive(Clone, Copy, Debug)]
 pub enum ByteSliceWithIndices<'a> {
     /// Items whose keys are bytes.
@@ -99,6 +99,6 @@ impl<'a> ByteSliceWithIndices<'a> {
     pub fn is_all_ascii(self) -> bool
         ensures { IsTrue result ↔ All (λ e. All (λ b. b < 128) e.0) (pairs self.entry) }
     {
-        is_all_ascii(self)
+        are_keys::<Simple, Self>(self)
     }
 }

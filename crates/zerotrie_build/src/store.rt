@@ -3,7 +3,7 @@
 ghost use Rattle.std.specs.Prelude.{◌≡◌, ℕ, ◌<◌, ◌≤◌, List, [], ◌∷◌, ◌++◌, length, map, replicate, All, IfOk, OnOk, OnErr, slice_set, slice_index, bit_or, take, drop, ◌^◌};
 ghost use Rattle.std.specs.List.{concat, range_with_len};
 ghost use Rattle.std.specs.List.Sorted.{IsPermutation};
-ghost use Rattle.zerotrie_core.specs.Branches.{total};
+ghost use Rattle.zerotrie_base.specs.Branches.{total};
 ghost use Rattle.zerotrie_build.specs.Ranges.{range_at, laid_out};
 
 use std::alloc::{AllocError, Global};
@@ -50,8 +50,9 @@ pub trait TrieBuilderStore: Sized {
         ensures { list self.new ≡ slice_set (list self.old) index
             (bit_or (slice_index (list self.old) index) bits) };
 
-    /// Takes in all of these bytes, if there are none so far. The list grows once, and then each byte is set at its place,
-    /// from the first to the last. A store that keeps its bytes in a `Vec` can take this one as it is, as `VecDeque` does.
+    /// Takes in all of these bytes, if there are none so far. The list grows once, and then each
+    /// byte is set at its place, from the first to the last. A store that keeps its bytes in a
+    /// `Vec` can take this one as it is, as `VecDeque` does.
     ///
     /// ```
     /// let mut store: VecDeque<u8> = TrieBuilderStore::atbs_new_empty(rt.alloc());
@@ -80,8 +81,8 @@ pub trait TrieBuilderStore: Sized {
         ensures ok { OnOk result (list self.new ≡ replicate count 0 ++ list self.old) }
         ensures err { OnErr result (list self.new ≡ list self.old) };
 
-    /// Cuts the front into ranges of these lengths, in bytes, and lays them out in this order: the range
-    /// of number `order[0]` comes first. What lies after the ranges stays.
+    /// Cuts the front into ranges of these lengths, in bytes, and lays them out in this order: the
+    /// range of number `order[0]` comes first. What lies after the ranges stays.
     ///
     /// ```
     /// let mut store: VecDeque<u8> = TrieBuilderStore::atbs_new_empty(rt.alloc());

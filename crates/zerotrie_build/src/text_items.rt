@@ -1,17 +1,17 @@
 //! Pairs whose keys lie in one text.
 
 ghost use Rattle.std.specs.Prelude.{◌≡◌, ◌+◌, ◌<◌, ◌↔◌, ◌++◌, ◌∷◌, [], Some, false, length, slice_get, take, drop, All, IsTrue, IfOk, IfSome, IfNone, OnErr};
-ghost use Rattle.zerotrie_core.specs.Items.{pairs_of};
-ghost use Rattle.zerotrie_core.specs.Maps.{Ascends};
-ghost use Rattle.zerotrie_core.specs.Kind.{simple_ascii};
+ghost use Rattle.zerotrie_base.specs.Items.{pairs_of};
+ghost use Rattle.zerotrie_base.specs.Maps.{Ascends};
+ghost use Rattle.zerotrie_base.specs.Kind.{simple_ascii};
 ghost use Rattle.zerotrie_build.specs.Order.{Ordered, AreAsciiKeys};
 ghost use Rattle.zerotrie_build.specs.TextItems.{marked_pairs, LiesIn, LieIn, IsAboveLast, IsTooWide, HasNoMark};
 
-use crate::indexed::LentItems;
+use crate::indexed::IndexedItems;
 use crate::order::precedes;
 use std::alloc::{AllocError, Global};
 use std::marker::Model;
-use zerotrie_core::Simple;
+use zerotrie_base::Simple;
 
 /// Where a key lies in a text, and its value.
 #[derive(Clone, Copy, Debug)]
@@ -65,8 +65,8 @@ fn is_above_last(text: &[u8], marks: &[Mark], key: &[u8]) -> bool
 
 /// Pairs whose keys lie in one text, in the order in which they were added.
 ///
-/// A pair takes twelve bytes. What a build asks of its pairs is looked at as each is added: whether the keys ascend, and
-/// whether they are ASCII.
+/// A pair takes twelve bytes. What a build asks of its pairs is looked at as each is added: whether
+/// the keys ascend, and whether they are ASCII.
 ///
 /// ```
 /// let mut items = TextItems::new(rt.alloc(), b"ad 22, adef 33");
@@ -84,7 +84,7 @@ pub struct TextItems<'a> {
 
 impl<'a> Model for TextItems<'a> {
     ghost use Rattle.std.specs.Prelude.{◌↔◌, IsTrue};
-    ghost use Rattle.zerotrie_core.specs.Kind.{simple_ascii};
+    ghost use Rattle.zerotrie_base.specs.Kind.{simple_ascii};
     ghost use Rattle.zerotrie_build.specs.Order.{Ordered, AreAsciiKeys};
     ghost use Rattle.zerotrie_build.specs.TextItems.{TextPairs, marked_pairs, LieIn};
 
@@ -129,10 +129,11 @@ impl<'a> TextItems<'a> {
         self.ascii && key.is_ascii()
     }
 
-    /// Adds the pair of a value and the key of `len` bytes that begins at the place `start` of the text.
+    /// Adds the pair of a value and the key of `len` bytes that begins at the place `start` of the
+    /// text.
     ///
-    /// The answer is `false`, and no pair is added, exactly if the text ends before the key does, or one of the numbers has
-    /// more than 32 bits. The only error is that it is out of memory.
+    /// The answer is `false`, and no pair is added, exactly if the text ends before the key does,
+    /// or one of the numbers has more than 32 bits. The only error is that it is out of memory.
     #[inline(always)]
     pub fn push(&mut self, start: usize, len: usize, value: usize) -> Result<bool, AllocError>
         ensures text { self.new.text ≡ self.old.text }
@@ -165,7 +166,8 @@ impl<'a> TextItems<'a> {
         self.marks.len()
     }
 
-    /// Whether the keys are strictly ascending by their bytes, so that none comes twice. It was found as they were added.
+    /// Whether the keys are strictly ascending by their bytes, so that none comes twice. It was
+    /// found as they were added.
     #[inline(always)]
     pub fn ascend(&self) -> bool
         ensures { IsTrue result ↔ Ascends self.now.pairs }
@@ -225,16 +227,16 @@ impl<'a> MarkedItems<'a> {
     }
 }
 
-impl<'a> LentItems for MarkedItems<'a> {
+impl<'a> IndexedItems<'a> for MarkedItems<'a> {
     ghost pairs = { λ items. marked_pairs items.text.now items.marks.now };
 
     #[inline(always)]
-    fn lent_len(&self) -> usize {
+    fn len(self) -> usize {
         self.marks.len()
     }
 
     #[inline(always)]
-    fn lent(&self, index: usize) -> (&[u8], usize) {
+    fn get(self, index: usize) -> (&'a [u8], usize) {
         let mark = self.marks[index];
         (marked_key(self.text, mark), mark.value as usize)
     }

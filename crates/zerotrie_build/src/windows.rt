@@ -5,10 +5,10 @@ ghost use Rattle.zerotrie_build.specs.Order.{Ordered};
 ghost use Rattle.zerotrie_build.specs.passes.Windows.{window as window_of, step_of, item_no, byte_of, high_front, HasLiteralAt, GoesOnWith, IsGroupTo};
 
 use crate::indexed::IndexedItems;
-use zerotrie_core::ZeroTrieWithOptions;
+use zerotrie_base::ZeroTrieWithOptions;
 
 /// The items from one number to below another, each key without its first `depth` bytes.
-#[derive(Clone, Copy, Debug)]
+#[derive(Clone, Copy)]
 pub(crate) struct Window {
     pub(crate) from: usize,
     pub(crate) to: usize,
@@ -26,7 +26,7 @@ impl Window {
 }
 
 /// What stands first in the text of a window.
-#[derive(Clone, Copy, Debug)]
+#[derive(Clone, Copy)]
 pub(crate) enum Step {
     /// There are no items.
     End,
@@ -87,7 +87,8 @@ fn low_end(key: &[u8], other: &[u8], from: usize) -> usize
     end
 }
 
-/// The depth at which the literals end with which the text of the window begins. There is one at least.
+/// The depth at which the literals end with which the text of the window begins. There is one at
+/// least.
 pub(crate) fn literals_end<'a, I: IndexedItems<'a>>(items: I, window: Window) -> usize
     requires some { window.from < window.to }
     requires items { window.to ≤ length (I.pairs items) }
@@ -105,7 +106,8 @@ pub(crate) fn literals_end<'a, I: IndexedItems<'a>>(items: I, window: Window) ->
     low_end(first, last, window.depth)
 }
 
-/// How many bytes from 128 on all keys of the window have in common in front, if they go on with this byte.
+/// How many bytes from 128 on all keys of the window have in common in front, if they go on with
+/// this byte.
 fn span_len<'a, I: IndexedItems<'a>>(items: I, window: Window, byte: u8) -> usize
     requires some { window.from < window.to }
     requires items { window.to ≤ length (I.pairs items) }
@@ -125,7 +127,8 @@ fn span_len<'a, I: IndexedItems<'a>>(items: I, window: Window, byte: u8) -> usiz
     high_front_len(rest, &last[window.depth..])
 }
 
-/// What stands first in the text of the window, if its first and its last key both go on with this byte.
+/// What stands first in the text of the window, if its first and its last key both go on with this
+/// byte.
 fn common_step<'a, K: ZeroTrieWithOptions, I: IndexedItems<'a>>(
     items: I,
     window: Window,
@@ -168,7 +171,7 @@ pub(crate) fn first_step<'a, K: ZeroTrieWithOptions, I: IndexedItems<'a>>(
 }
 
 /// The first items of a window, which have one byte at its depth.
-#[derive(Clone, Copy, Debug)]
+#[derive(Clone, Copy)]
 pub(crate) struct Group {
     /// The number of the item after them.
     pub(crate) end: usize,
@@ -187,8 +190,8 @@ pub(crate) fn byte_in<'a, I: IndexedItems<'a>>(items: I, window: Window, index: 
     byte_at(items, index, window.depth)
 }
 
-/// The first items that have one byte at the depth. It looks ever further ahead, and halves what is left once it was too
-/// far.
+/// The first items that have one byte at the depth. It looks ever further ahead, and halves what is
+/// left once it was too far.
 pub(crate) fn group_of<'a, K: ZeroTrieWithOptions, I: IndexedItems<'a>>(
     items: I,
     window: Window,
@@ -218,30 +221,4 @@ pub(crate) fn group_of<'a, K: ZeroTrieWithOptions, I: IndexedItems<'a>>(
         }
     }
     Group { end: low, next }
-}
-
-/// Like `group_of`, but tries `count` items first.
-pub(crate) fn group_near<'a, K: ZeroTrieWithOptions, I: IndexedItems<'a>>(
-    items: I,
-    window: Window,
-    byte: Option<u8>,
-    count: u8,
-) -> Group
-    requires within { window.from < window.to }
-    requires items { window.to ≤ length (I.pairs items) }
-    requires ordered { Ordered K.kind (window_of (I.pairs items) window) }
-    requires byte { GoesOnWith (I.pairs items) window byte }
-    ensures { IsGroupTo (I.pairs items) window result }
-{
-    let end = window.from.saturating_add(count as usize);
-    if count == 0 || end > window.to {
-        return group_of::<K, I>(items, window, byte);
-    }
-    let next = byte_in(items, window, end);
-    let is_last = end == window.to || next != byte;
-    if is_last && byte_at(items, end - 1, window.depth) == byte {
-        Group { end, next }
-    } else {
-        group_of::<K, I>(items, window, byte)
-    }
 }

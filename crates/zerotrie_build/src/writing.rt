@@ -1,13 +1,13 @@
 //! The second pass: the bytes of the text, from the first to the last.
 
 ghost use Rattle.std.specs.Prelude.{vec_capacity, ◌≡◌, ◌≢◌, ℕ, List, [], ◌∷◌, ◌+◌, ◌-◌, ◌*◌, ◌/◌, ◌%◌, ◌^◌, ◌<◌, ◌≤◌, ◌++◌, length, map, replicate, slice_index, slice_index_or, take, drop, reverse, All, IfOk, OnOk, IfErr, IfSome, IfNone, IsTrue};
-ghost use Rattle.zerotrie_core.specs.Maps.{map_of};
-ghost use Rattle.zerotrie_core.specs.Numbers.{value_form, span_form, SpellsAs, spelled_as};
-ghost use Rattle.zerotrie_core.specs.Branches.{total as total_of, ends, blocks, branch_front};
-ghost use Rattle.zerotrie_core.specs.Canonical.{size_of};
-ghost use Rattle.zerotrie_core.specs.Texts.{Means};
-ghost use Rattle.zerotrie_core.specs.Causes.{Cause};
-ghost use Rattle.zerotrie_core.specs.plain.Encoding.{with_bits};
+ghost use Rattle.zerotrie_base.specs.Maps.{map_of};
+ghost use Rattle.zerotrie_base.specs.Numbers.{value_form, span_form, SpellsAs, spelled_as};
+ghost use Rattle.zerotrie_base.specs.Branches.{total as total_of, ends, blocks, branch_front};
+ghost use Rattle.zerotrie_base.specs.Canonical.{size_of};
+ghost use Rattle.zerotrie_base.specs.Texts.{Means};
+ghost use Rattle.zerotrie_base.specs.Causes.{Cause};
+ghost use Rattle.zerotrie_base.specs.plain.Encoding.{with_bits};
 ghost use Rattle.zerotrie_build.specs.Order.{Ordered, AreKeys, AreAsciiKeys};
 ghost use Rattle.zerotrie_build.specs.passes.Windows.{window as window_of, item_no, step_of};
 ghost use Rattle.zerotrie_build.specs.passes.Measured.{NoneFirst, HasFirstTargets, IsMeasured};
@@ -16,21 +16,10 @@ ghost use Rattle.zerotrie_build.specs.passes.Writing.{IsLead, spelled_with_bits,
 use crate::branch_layout::{Layout, Next, PendingWindow, Position, WriteInput};
 use crate::indexed::IndexedItems;
 use crate::leaf::ascii_leaf;
-use crate::measuring::width_of;
+use crate::number::{BRANCH, SPAN, VALUE, number_bytes, width_of};
 use crate::windows::{Step, Window, first_step, literals_end};
 use std::alloc::{AllocError, Allocator, Global};
-use zerotrie_core::{
-    ZeroTrieBuildError, ZeroTrieWithOptions, write_varint_meta2, write_varint_meta3,
-};
-
-/// The bits of the lead of a value node.
-pub(crate) const VALUE: u8 = 0b1000_0000;
-
-/// The bits of the lead of a span.
-const SPAN: u8 = 0b1010_0000;
-
-/// The bits of the lead of a branch.
-pub(crate) const BRANCH: u8 = 0b1100_0000;
+use zerotrie_base::{ZeroTrieBuildError, ZeroTrieWithOptions};
 
 /// A text that is written from its first byte on, in room for all of it.
 #[derive(Drop)]
@@ -51,24 +40,6 @@ impl Writing {
     {
         let bytes = Vec::with_capacity(alloc, len)?;
         Ok(Writing { bytes, len })
-    }
-
-    /// Forgets what was written, and tells whether there is room for this many bytes.
-    #[inline(always)]
-    pub(crate) fn clear_for(&mut self, len: usize) -> bool
-        ensures empty { self.new.bytes.items ≡ [] }
-        ensures room { IsTrue result → HasRoom self.new len }
-    {
-        self.bytes.clear();
-        len <= self.len
-    }
-
-    /// The bytes that are written.
-    #[inline(always)]
-    pub(crate) fn as_slice(&self) -> &[u8]
-        ensures { result.now ≡ self.now.bytes.items }
-    {
-        self.bytes.as_slice()
     }
 
     /// The bytes that are written.
@@ -99,33 +70,8 @@ impl Writing {
         let _ = self.bytes.extend_from_slice(bytes);
     }
 
-    /// Writes a spelling, with these bits added to its lead.
-    fn put_spelling(&mut self, bits: u8, spelling: &[u8])
-        requires room { HasRoom self.old (length spelling.now) }
-        requires bits { bits + slice_index spelling.now 0 < 256 }
-        ensures { Writes self.old self.new (with_bits bits spelling.now) }
-    {
-        if let Some((lead, trail)) = spelling.split_first() {
-            self.put(bits + *lead);
-            self.put_all(trail);
-        }
-    }
-
-    /// Writes a number of any length, in the form whose shortest number of two bytes is `latent`.
-    fn put_long(&mut self, bits: u8, latent: u8, number: usize)
-        requires form { IsLead bits latent }
-        requires room { HasRoom self.old (length (spelled_with_bits bits latent number)) }
-        ensures { Writes self.old self.new (spelled_with_bits bits latent number) }
-    {
-        if latent == 16 {
-            self.put_spelling(bits, &write_varint_meta3(number));
-        } else {
-            self.put_spelling(bits, &write_varint_meta2(number));
-        }
-    }
-
-    /// Writes a number in the form whose shortest number of two bytes is `latent`, after these bits. Most have one byte or
-    /// two, which are written as they are found.
+    /// Writes a number in the form whose shortest number of two bytes is `latent`, with these bits
+    /// in its lead. Most have one byte or two, which are written at once.
     #[inline(always)]
     fn put_number(&mut self, bits: u8, latent: u8, number: usize)
         requires form { IsLead bits latent }
@@ -185,7 +131,7 @@ impl Writing {
             self.put((low % 128) as u8);
             return;
         }
-        self.put_long(bits, latent, number);
+        self.put_all(&number_bytes(bits, latent, number));
     }
 
     /// Writes a value node.
@@ -244,8 +190,8 @@ impl Writing {
         }
     }
 
-    /// Writes `bytes` bytes of each offset of a branch to the targets of these numbers, the highest of them
-    /// first.
+    /// Writes `bytes` bytes of each offset of a branch to the targets of these numbers, the highest
+    /// of them first.
     #[inline(always)]
     fn put_offsets(&mut self, lens: &[usize], numbers: &[usize], bytes: usize)
         requires bytes { bytes ≤ 8 }
@@ -260,9 +206,10 @@ impl Writing {
         }
     }
 
-    /// Writes a branch with this search table in front of the targets of these numbers, which are so long.
+    /// Writes a branch with this search table in front of the targets of these numbers, which are
+    /// so long.
     #[inline(always)]
-    pub(crate) fn put_branch(&mut self, table: &[u8], lens: &[usize], numbers: &[usize])
+    fn put_branch(&mut self, table: &[u8], lens: &[usize], numbers: &[usize])
         requires within { All (λ i. i < length lens.now) numbers.now }
         requires small { total_of (target_lens lens.now numbers.now) < 2 ^ 64 }
         requires room { HasRoom self.old (length (branch_front table.now (target_lens lens.now numbers.now))) }
@@ -275,9 +222,10 @@ impl Writing {
         self.put_offsets(lens, numbers, width + 1);
     }
 
-    /// Writes the values, literals and spans that stand first in the window. Returns the window after them.
+    /// Writes the values, literals and spans that stand first in the window. Returns the window
+    /// after them.
     #[inline(always)]
-    pub(crate) fn put_front<'a, K: ZeroTrieWithOptions, I: IndexedItems<'a>>(
+    fn put_front<'a, K: ZeroTrieWithOptions, I: IndexedItems<'a>>(
         &mut self,
         items: I,
         window: Window,
@@ -313,8 +261,9 @@ impl Writing {
         }
     }
 
-    /// Writes a window, whose slots begin at `slot`, node after node up to the targets of its first branch, and lays
-    /// these out. A window of one item whose rest is ASCII, as most are, is written at once.
+    /// Writes a window, whose slots begin at `slot`, node after node up to the targets of its first
+    /// branch, and lays these out. A window of one item whose rest is ASCII, as most are, is
+    /// written at once.
     #[inline(always)]
     fn put_nodes<'a, K: ZeroTrieWithOptions, I: IndexedItems<'a>, A: Allocator + Copy>(
         &mut self,

@@ -1,13 +1,9 @@
-pub mod CallerLemmas
+pub use Rattle.zerotrie_base.proofs.CallerLemmas
 mod Chosen
-mod NumberLemmas
-mod MapLemmas
 mod NodeLemmas
 mod ReaderLemmas
 mod ListingLemmas
 mod WalkLemmas
 mod CursorLemmas
 mod WellFormedLemmas
-mod CanonicalLemmas
-mod PlainLemmas
 mod FaultLemmas

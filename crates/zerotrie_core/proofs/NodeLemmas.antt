@@ -1,9 +1,2 @@
--- Nodes, read and of the grammar.
-pub mod Fronts
-pub mod Heads
-pub mod Nodes
-pub mod Offsets
-pub mod Opened
-pub mod Places
+-- Nodes, as they are read.
 pub mod Read
-pub mod Tables

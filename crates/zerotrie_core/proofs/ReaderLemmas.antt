@@ -4,5 +4,4 @@ pub mod Edges
 pub mod Lanes
 pub mod Literals
 pub mod LookUps
-pub mod LowerCase
 pub mod Starts

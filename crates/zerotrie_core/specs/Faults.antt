@@ -1,17 +1,19 @@
--- Where bytes are no trie, and which rule of the format fails there.
+-- Where bytes are malformed, and which rule of the format fails there.
 use Rattle.std.specs.Prelude.{◌≡◌, ◌≢◌, ℕ, ◌-◌, ◌<◌, ◌≤◌, List, [], length, All, take, false}
 use Rattle.std.specs.List.{Contains}
-use Rattle.zerotrie_core.specs.Kind.{Kind, edge_limit, has_spans}
-use Rattle.zerotrie_core.specs.Branches.{IsTable, IsWidth}
-use Rattle.zerotrie_core.specs.Texts.{NoSpanFirst, AreHigh}
-use Rattle.zerotrie_core.specs.Nodes.{Shape, Begins, targets_behind, begin_of, end_of}
-use Rattle.zerotrie_core.specs.Nodes.Shape.{value, literal, span, branch}
+use Rattle.zerotrie_base.specs.Kind.{Kind, edge_limit, has_spans}
+use Rattle.zerotrie_base.specs.Branches.{IsTable, IsWidth}
+use Rattle.zerotrie_base.specs.Texts.{NoSpanFirst, AreHigh}
+use Rattle.zerotrie_base.specs.Nodes.{Shape, Begins, targets_behind, begin_of, end_of}
+use Rattle.zerotrie_base.specs.Nodes.Shape.{value, literal, span, branch}
+use Rattle.zerotrie_core.specs.WellFormed.{IsWellFormed}
 use Rattle.zerotrie_core.specs.walk.Visits.{Part, whole, parts_behind}
 pub use Rattle.zerotrie_core.specs.declared.faults.Fault.{Fault}
 pub use Rattle.zerotrie_core.specs.declared.faults.FaultCause.{FaultCause}
 pub use Rattle.zerotrie_core.specs.declared.faults.FaultCause.TheVariants.{NoNode, NoSpans, UnexpectedEnd, ValueAfterValue, SpanAfterSpan, EmptySpan, AsciiInSpan, WrongTable, WrongWidth, WrongOffsets}
 
--- What stands before some bytes of a text: nothing, a value, a span, or a byte, be it a literal or an edge.
+-- What is before some bytes of an encoding: nothing, a value, a span, or a byte, which is a literal
+-- or an edge.
 pub data Before : Type 0 where
   nothing : Before
   a_value : Before
@@ -25,7 +27,7 @@ after (literal b rest) = a_byte
 after (span run rest) = a_span
 after (branch n w table behind) = a_byte
 
--- the text may not end after this
+-- the encoding may not end after this
 abbrev pub MustGoOn : Before → Type 0
 MustGoOn nothing = ⊥
 MustGoOn a_value = ⊥
@@ -50,7 +52,7 @@ abbrev pub BeginsBranchWith : Kind → List ℕ → (ℕ → ℕ → List ℕ �
 BeginsBranchWith kind bytes Fact =
     (n : ℕ) × (w : ℕ) × (table : List ℕ) × (behind : List ℕ) × Begins kind bytes (branch n w table behind) × Fact n w table behind
 
--- the rule that the cause names fails at the front of bytes that stand after this
+-- the rule of the cause fails at the beginning of bytes that come after this
 abbrev pub Fails : Kind → Before → List ℕ → FaultCause → Type 0
 Fails kind before bytes NoNode = (bytes ≢ []) × ((node : Shape) → Begins kind bytes node → ⊥) × (has_spans kind ≡ false → NoSpanFirst bytes)
 Fails kind before bytes NoSpans = (has_spans kind ≡ false) × (NoSpanFirst bytes → ⊥)
@@ -63,16 +65,21 @@ Fails kind before bytes WrongTable = BeginsBranchWith kind bytes (λ n w table b
 Fails kind before bytes WrongWidth = BeginsBranchWith kind bytes (λ n w table behind. IsRightWidth n w behind → ⊥)
 Fails kind before bytes WrongOffsets = BeginsBranchWith kind bytes (λ n w table behind. AreRightOffsets n w behind → ⊥)
 
--- The fault is in a part that stands after this: a rule fails at the front, or the fault is in what follows the first node.
+-- The fault is in a part that comes after this: a rule fails at its beginning, or the fault is in
+-- what follows its first node.
 pub data FaultIn (kind : Kind) (fault : Fault) : Before → Part → Type 0 where
   here : {before : Before} {at : Part} → fault.place ≡ at.place → Fails kind before at.bytes fault.cause → FaultIn kind fault before at
   further : {before : Before} {at next : Part} (node : Shape) → Begins kind at.bytes node → Contains (parts_behind at node) next
       → FaultIn kind fault (after node) next → FaultIn kind fault before at
 
--- it is one of the bytes
+-- it is a fault of the bytes
 abbrev pub IsFault : Kind → List ℕ → Fault → Type 0
 IsFault kind bytes fault = FaultIn kind fault nothing (whole bytes)
 
--- and none stands before it
+-- it is the first fault of the bytes
 abbrev pub IsFirstFault : Kind → List ℕ → Fault → Type 0
 IsFirstFault kind bytes fault = IsFault kind bytes fault × ((other : Fault) → IsFault kind bytes other → fault.place ≤ other.place)
+
+-- bytes that mean a map have no fault
+abbrev pub NoFaultInTrie : Type 0
+NoFaultInTrie = (kind : Kind) (bytes : List ℕ) (f : Fault) → IsWellFormed kind bytes → IsFault kind bytes f → ⊥

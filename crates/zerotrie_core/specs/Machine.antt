@@ -1,11 +1,11 @@
 -- A cursor, as a machine over a list of pairs.
 use Rattle.std.specs.Prelude.{ℕ, List, [], ◌∷◌, length, Option, Some, None, slice_get}
 use Rattle.std.specs.Option.{option_map}
-use Rattle.zerotrie_core.specs.Kind.{Kind}
-use Rattle.zerotrie_core.specs.Maps.{Pairs, value_at, residual}
-use Rattle.zerotrie_core.specs.Cursors.{met, edge_like}
+use Rattle.zerotrie_base.specs.Kind.{Kind}
+use Rattle.zerotrie_base.specs.Maps.{Pairs, value_at, residual}
+use Rattle.zerotrie_base.specs.Cursors.{met, edge_like}
 
--- the pairs after an edge, and none if there is no edge
+-- the pairs after an edge; none if there is no edge
 abbrev pub behind : Option ℕ → Pairs → Pairs
 behind None pairs = []
 behind (Some b) pairs = residual b pairs
@@ -16,35 +16,35 @@ without_value [] = []
 without_value (([], v) ∷ pairs) = pairs
 without_value ((b ∷ key, v) ∷ pairs) = (b ∷ key, v) ∷ without_value pairs
 
--- edge number i, and how many there are
+-- edge number i, and the number of edges
 abbrev pub nth_edge : ℕ → List ℕ → Option (ℕ × ℕ)
 nth_edge i edges = option_map (λ b. (b, length edges)) (slice_get edges i)
 
--- what a cursor is asked
+-- a call of a cursor
 pub data Op : Type 0 where
-  -- to go along the edge that is this byte to the kind
+  -- follow the edge that equals this byte in the kind
   step : ℕ → Op
-  -- for the value of the empty key, which it gives up
+  -- take the value of the empty key
   take_value : Op
-  -- to go along the edge of this number
+  -- follow the edge with this number
   probe : ℕ → Op
 
--- what it answers
+-- the result of a call
 pub data Answer : Type 0 where
   -- the edge
   stepped : Option ℕ → Answer
   -- the value
   taken : Option ℕ → Answer
-  -- the edge, and how many there are
+  -- the edge, and the number of edges
   probed : Option (ℕ × ℕ) → Answer
 
--- the answer to one call, and the pairs that it leaves
+-- the result of one call, and the pairs that it leaves
 abbrev pub run_one : Kind → Op → Pairs → Answer × Pairs
 run_one kind (step c) pairs = let edge = edge_like kind c (met pairs) in (stepped edge, behind edge pairs)
 run_one kind take_value pairs = (taken (value_at kind pairs []), without_value pairs)
 run_one kind (probe i) pairs = let edge = nth_edge i (met pairs) in (probed edge, behind (option_map (λ e. e.0) edge) pairs)
 
--- the answers to a list of calls, each on what the one before it leaves
+-- the results of calls, each on what the one before it leaves
 abbrev pub run : Kind → List Op → Pairs → List Answer
 run kind [] pairs = []
 run kind (op ∷ ops) pairs = let one = run_one kind op pairs in one.0 ∷ run kind ops one.1

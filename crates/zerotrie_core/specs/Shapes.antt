@@ -1,6 +1,6 @@
 -- The shapes of nodes that were read.
-use Rattle.zerotrie_core.specs.Nodes.{Shape}
-use Rattle.zerotrie_core.specs.Nodes.Shape.{value, literal, span, branch}
+use Rattle.zerotrie_base.specs.Nodes.{Shape}
+use Rattle.zerotrie_base.specs.Nodes.Shape.{value, literal, span, branch}
 use Rattle.zerotrie_core.specs.declared.branch.Branch as declared
 use Rattle.zerotrie_core.specs.declared.node.Node.{Node}
 use Rattle.zerotrie_core.specs.declared.node.Node.TheVariants.{Value, Literal, Span, Branch}

@@ -1,12 +1,12 @@
--- Well-formed bytes, and how deep the test of them goes.
+-- Valid bytes, and how deep validation goes.
 use Rattle.std.proofs.Common.{zero, suc}
 use Rattle.std.specs.Prelude.{ℕ, ◌+◌, ◌^◌, ◌<◌, ◌≤◌, List, [], ◌∷◌, length, map, max, nat_lt}
 use Rattle.std.specs.List.{prefix_len}
-use Rattle.zerotrie_core.specs.Kind.{Kind}
-use Rattle.zerotrie_core.specs.Maps.{Pairs, Map}
-use Rattle.zerotrie_core.specs.Texts.{Lists, ListEach, Means}
-use Rattle.zerotrie_core.specs.Texts.Lists.{nothing, value, literal, span, branch}
-use Rattle.zerotrie_core.specs.Texts.ListEach.{no_edge, edge}
+use Rattle.zerotrie_base.specs.Kind.{Kind}
+use Rattle.zerotrie_base.specs.Maps.{Pairs, Map}
+use Rattle.zerotrie_base.specs.Texts.{Lists, ListEach, Means}
+use Rattle.zerotrie_base.specs.Texts.Lists.{nothing, value, literal, span, branch}
+use Rattle.zerotrie_base.specs.Texts.ListEach.{no_edge, edge}
 
 -- the bytes mean some map
 abbrev pub IsWellFormed : Kind → List ℕ → Type 0
@@ -17,7 +17,8 @@ abbrev pub greatest : List ℕ → ℕ
 greatest [] = 0
 greatest (n ∷ more) = max n (greatest more)
 
--- the place of the longest target, of equal ones the first: how many stand before the first that none is longer than
+-- the place of the longest target, of equal ones the first: the number of targets before the first
+-- that no target is longer than
 abbrev pub longest_place : List (List ℕ) → ℕ
 longest_place targets = prefix_len (λ target. nat_lt (length target) (greatest (map (λ t. length t) targets))) targets
 
@@ -27,8 +28,8 @@ one_more_but place [] = []
 one_more_but zero (n ∷ more) = n ∷ map (λ k. 1 + k) more
 one_more_but (suc place) (n ∷ more) = (1 + n) ∷ one_more_but place more
 
--- How many calls of the test are open at once on a text: one call goes through all of it but the targets of a
--- branch that are not the longest, and each of those has a call of its own.
+-- How many calls of validation are open at once on an encoding. One call reads all of it but the
+-- targets of a branch that are not the longest, and each of those has a call of its own.
 abbrev mutual
   pub deep : {kind : Kind} {bytes : List ℕ} {pairs : Pairs} → Lists kind bytes pairs → ℕ
   deep nothing = 1
@@ -37,7 +38,7 @@ abbrev mutual
   deep (span run s some high n r f text) = deep text
   deep (branch {targets = targets} b each) = greatest (one_more_but (longest_place targets) (deeps each))
 
-  -- the same of each target
+  -- the same for each target
   pub deeps : {kind : Kind} {edges : List ℕ} {targets : List (List ℕ)} {pairs : Pairs} → ListEach kind edges targets pairs → List ℕ
   deeps no_edge = []
   deeps (edge n text each) = deep text ∷ deeps each

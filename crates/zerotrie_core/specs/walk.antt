@@ -1,4 +1,4 @@
--- The nodes of bytes, each where it stands.
+-- The nodes of bytes, each with its place.
 pub mod Visits
 pub mod Texts
 pub mod Seen

@@ -1,3 +1,3 @@
--- Words of the private functions of the test of bytes.
+-- Words of the private functions of validation.
 pub mod Branching
 pub mod Testing

@@ -1,27 +1,25 @@
-//! A branch, where it lies.
+//! A branch in the bytes of a trie.
 //!
-//! After its head a branch has its search table, a table of offsets, and its targets, one after another. A
-//! sorted search table is the edges. A hashed one has the parameters of a perfect hash in front of them. The
-//! table of offsets has one for each edge but the first, where its target begins: the highest bytes of all
-//! of them first, then the next, and so on.
+//! After its head a branch has its search table, its offsets and its targets, one after another. A
+//! sorted search table is the edges; a hashed one is the parameters of a perfect hash, then the
+//! edges. Each target but the first has an offset, which is where it begins. The highest bytes of
+//! all offsets come first, then the next bytes, and so on.
 
 ghost use Rattle.std.specs.Prelude.{◌≡◌, ◌↔◌, ℕ, ◌+◌, ◌-◌, ◌*◌, ◌<◌, ◌≤◌, ◌⊎◌, length, take, drop, IfSome, IfNone, slice_index};
 ghost use Rattle.std.specs.Char.{to_ascii_lowercase};
-ghost use Rattle.zerotrie_core.specs.Kind.{fold_byte};
-ghost use Rattle.zerotrie_core.specs.Branches.{IsTable};
-ghost use Rattle.zerotrie_core.specs.Nodes.{number_from, offset_in, end_of, targets_behind, IsTargetResult};
-ghost use Rattle.zerotrie_core.specs.reader.Reading.{AlwaysRises, IsPlace, HasNoPlace};
+ghost use Rattle.zerotrie_base.specs.Kind.{fold_byte};
+ghost use Rattle.zerotrie_base.specs.Branches.{IsTable};
+ghost use Rattle.zerotrie_base.specs.Nodes.{number_from, offset_in, end_of, targets_behind, IsTargetResult};
+ghost use Rattle.zerotrie_base.specs.reader.Reading.{AlwaysRises, IsPlace, HasNoPlace};
 ghost use Rattle.zerotrie_core.specs.reader.Going.{AlwaysGoes, AlwaysStops};
 
-use crate::edge_search::{before_end, place_in};
-use crate::fold::{both_cases, folded};
-use crate::lanes::{first_in_16, first_in_32, first_in_64};
 use crate::offsets::{end_at, offset_at, offsets_and_targets, short_offset_at};
-use crate::options::ZeroTrieWithOptions;
-use zerotrie_base::PerfectByteHashMap;
+use crate::simd::edge_search::{before_end, place_in};
+use crate::simd::lanes::{first_in_16, first_in_32, first_in_64};
+use zerotrie_base::{PerfectByteHashMap, ZeroTrieWithOptions, both_cases, folded};
 
-/// A branch: how many edges it has, how many bytes an offset has, its search table, and all bytes from the
-/// edges on, which are the last bytes of the table.
+/// A branch: the number of its edges, the width of an offset in bytes, its search table, and all
+/// bytes from the edges on. The edges are the last bytes of the table.
 #[derive(Clone, Copy, Debug)]
 pub struct Branch<'a> {
     pub edges: usize,
@@ -38,7 +36,7 @@ pub struct Branch<'a> {
 impl<'a> Branch<'a> {
     ghost use Rattle.zerotrie_core.specs.Shapes.{branch_shape};
 
-    /// The targets, one after another.
+    /// Returns the targets, one after another.
     #[inline(always)]
     pub(crate) fn targets(&self) -> &'a [u8]
         ensures { result.now ≡ targets_behind self.now.edges self.now.width self.now.behind.now }
@@ -47,7 +45,7 @@ impl<'a> Branch<'a> {
         targets
     }
 
-    /// The byte of an edge.
+    /// Returns the byte of an edge.
     #[inline(always)]
     pub fn edge_at(&self, index: usize) -> u8
         requires { index < self.now.edges }
@@ -56,7 +54,7 @@ impl<'a> Branch<'a> {
         self.behind[index]
     }
 
-    /// The place of the edge that is the byte to the kind, if there are two edges.
+    /// Like `place_of`, for two edges.
     #[inline(always)]
     fn place_of_two<K: ZeroTrieWithOptions>(&self, byte: u8) -> Option<usize>
         requires { self.now.edges ≡ 2 }
@@ -68,8 +66,7 @@ impl<'a> Branch<'a> {
         (folded::<K>(self.behind[place]) == sought).then_some(place)
     }
 
-    /// The place of the edge that is the byte to the kind, as the search table tells it: one of more bytes than edges
-    /// is hashed, in the kinds that have hashed tables, and any other is halved.
+    /// Like `place_of`, by the perfect hash of the table or by binary search.
     #[inline(always)]
     fn place_by_table<K: ZeroTrieWithOptions>(&self, byte: u8) -> Option<usize>
         ensures some { IfSome result (IsPlace K.kind self.now.edges self.now.behind.now byte) }
@@ -84,10 +81,10 @@ impl<'a> Branch<'a> {
         place_in::<K>(edges, byte)
     }
 
-    /// The place of the edge that is the byte to the kind.
+    /// Returns the place of the edge that equals the byte in this kind.
     ///
-    /// Two edges are each held against the byte. Up to 64 are looked at all at once, whatever their order, with
-    /// what bytes follow them. If there are more, or too few bytes are left, the search table is asked.
+    /// Compares two edges one by one, and up to 64 at once, in any order, if enough bytes follow.
+    /// Otherwise uses the search table.
     #[inline(always)]
     pub fn place_of<K: ZeroTrieWithOptions>(&self, byte: u8) -> Option<usize>
         ensures some { IfSome result (IsPlace K.kind self.now.edges self.now.behind.now byte) }
@@ -111,9 +108,8 @@ impl<'a> Branch<'a> {
         self.place_by_table::<K>(byte)
     }
 
-    /// The target of one of two edges, which lies before or after the one offset, if it does.
-    ///
-    /// The offset is read whichever edge it is, so that it need not wait for the place.
+    /// Like `target_at`, for two edges. The offset is read in any case, so as not to wait for the
+    /// place.
     #[inline(always)]
     fn target_of_two(&self, index: usize) -> Option<&'a [u8]>
         requires two { self.now.edges ≡ 2 }
@@ -127,10 +123,9 @@ impl<'a> Branch<'a> {
         targets.get(begin..end)
     }
 
-    /// The offsets in front of an edge and of the next one, of up to three bytes each. In front of the first edge there
-    /// is none, nor after the last one, and any number is answered there.
-    ///
-    /// The byte in front of the offsets is read as if it were one, so that no place waits for a test of the edge.
+    /// Returns where the target of an edge begins and ends, by offsets of up to three bytes. Where
+    /// there is no offset, the result is unspecified: the byte before the offsets is read as if it
+    /// were one, so that no place waits for a test of the edge.
     #[inline(always)]
     fn short_offsets(&self, index: usize, width: usize) -> (usize, usize)
         requires index { index < self.now.edges }
@@ -148,7 +143,8 @@ impl<'a> Branch<'a> {
         (before, next)
     }
 
-    /// Like `short_offsets`, for offsets of more bytes. Where there is no offset, that of the nearest edge is answered.
+    /// Like `short_offsets`, for wider ones. Where there is no offset, returns that of the nearest
+    /// edge.
     #[inline(always)]
     fn long_offsets(&self, index: usize) -> (usize, usize)
         requires index { index < self.now.edges }
@@ -164,7 +160,7 @@ impl<'a> Branch<'a> {
         (before, next)
     }
 
-    /// Like `short_offsets`, for offsets of any number of bytes.
+    /// Like `short_offsets`, for offsets of any width.
     #[inline(always)]
     fn offsets_at(&self, index: usize) -> (usize, usize)
         requires index { index < self.now.edges }
@@ -181,10 +177,7 @@ impl<'a> Branch<'a> {
         }
     }
 
-    /// The target of an edge, which lies between two offsets, if it does.
-    ///
-    /// If there are more than two edges, two offsets are read whichever edge it is, so that nothing waits for a
-    /// test of its place.
+    /// Returns the target of an edge, or `None` if its offsets fall or are beyond the last target.
     #[inline(always)]
     pub fn target_at(&self, index: usize) -> Option<&'a [u8]>
         requires { index < self.now.edges }
@@ -204,7 +197,7 @@ impl<'a> Branch<'a> {
         targets.get(from..to)
     }
 
-    /// Where the target of an edge ends among the targets, as its offset says.
+    /// Returns where the target of an edge ends among the targets, by its offset.
     #[inline(always)]
     pub fn end_at(&self, index: usize) -> usize
         requires { index < self.now.edges }
@@ -213,7 +206,7 @@ impl<'a> Branch<'a> {
         end_at(self.behind, self.edges, self.width, index)
     }
 
-    /// The edge that is the byte to the kind, and its target.
+    /// Returns the edge that equals the byte in this kind, and its target.
     #[inline(always)]
     pub fn follow<K: ZeroTrieWithOptions>(&self, byte: u8) -> Option<(u8, &'a [u8])>
         ensures shorter { IfSome result (λ r. length r.1.now ≤ length self.now.behind.now) }

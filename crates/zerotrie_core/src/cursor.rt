@@ -1,31 +1,29 @@
-//! The calls of a cursor, which is the bytes that are left of a trie.
+//! The calls of a cursor over ASCII keys. The cursor is the bytes that are left of a trie.
 //!
-//! A cursor goes down a trie edge by edge. Where it stands, the bytes that are left are a trie of what all
-//! keys have after the edges so far, and in the kinds over ASCII keys each of these tries is bytes of the
-//! store. Nothing is copied, and nothing allocated.
+//! A cursor follows the edges of a trie. The bytes that are left are again a trie: its keys are the
+//! rests of all keys that begin with the edges so far. Nothing is copied or allocated.
 
 ghost use Rattle.std.specs.Prelude.{◌≡◌, ℕ, [], IfSome, IfNone};
 ghost use Rattle.std.specs.Option.{option_map};
-ghost use Rattle.zerotrie_core.specs.Kind.{Kind, IsAscii};
-ghost use Rattle.zerotrie_core.specs.Numbers.{BeginsWith};
-ghost use Rattle.zerotrie_core.specs.Texts.{Lists};
+ghost use Rattle.zerotrie_base.specs.Kind.{Kind, IsAscii};
+ghost use Rattle.zerotrie_base.specs.Numbers.{BeginsWith};
+ghost use Rattle.zerotrie_base.specs.Texts.{Lists};
 ghost use Rattle.zerotrie_core.specs.Places.{IsStep, IsTake, IsProbe};
 ghost use Rattle.zerotrie_core.specs.cursor.Edges.{NoValue};
 
 use crate::edges::{edge_like, edge_numbered};
-use crate::options::ZeroTrieWithOptions;
-use crate::varint::read_varint_meta3;
+use zerotrie_base::{ZeroTrieWithOptions, read_varint_meta3};
 
-/// What a probe of a trie over ASCII keys answers.
+/// The result of a probe in a trie over ASCII keys.
 #[derive(Clone, Copy, Debug, PartialEq, Eq)]
 pub struct AsciiProbeResult {
     /// The byte of the edge.
     pub byte: u8,
-    /// How many edges there are, itself among them.
+    /// The number of edges, this one included.
     pub total_siblings: u8,
 }
 
-/// The value in front of a trie of any kind, and what is left without it.
+/// Returns the value at the beginning of the bytes, and the bytes after it.
 #[inline(always)]
 fn first_value(bytes: &[u8]) -> Option<(usize, &[u8])>
     ensures some { IfSome result (λ r. BeginsWith 16 4 r.0 bytes.now r.1.now) }
@@ -39,7 +37,7 @@ fn first_value(bytes: &[u8]) -> Option<(usize, &[u8])>
     read_varint_meta3(lead, rest)
 }
 
-/// Goes along the edge that is the byte to the kind, and answers its byte.
+/// Follows the edge that equals the byte in this kind, and returns the byte of the edge.
 ///
 /// ```
 /// let mut trie = &[0x61, 0x42, 0x85][..];      // the key "aB" with value 5
@@ -50,11 +48,11 @@ fn first_value(bytes: &[u8]) -> Option<(usize, &[u8])>
 /// assert!(rt; trie.is_empty());
 /// ```
 ///
-/// A value is passed over. If no edge is the byte, the answer is `None`, and no byte is left. In `Ignore`
-/// an ASCII letter is either case of it, and the answer is the byte as it is stored.
+/// Skips a value before the edge. If no edge equals the byte, returns `None` and leaves no bytes.
+/// In `Ignore` an ASCII letter equals both its cases, and the result is the byte as stored.
 ///
-/// It returns on any bytes, and takes no memory. Only a kind over ASCII keys is stepped so; `SpanCursor` is
-/// the cursor of any kind.
+/// On malformed bytes the result is unspecified; it never panics or reads outside them. Does not
+/// allocate. The kind must be over ASCII keys; `SpanCursor` is the cursor of any kind.
 #[inline(always)]
 pub fn step<K: ZeroTrieWithOptions>(bytes: &mut &[u8], byte: u8) -> Option<u8>
     requires { IsAscii K.kind }
@@ -70,8 +68,8 @@ pub fn step<K: ZeroTrieWithOptions>(bytes: &mut &[u8], byte: u8) -> Option<u8>
     Some(along.edge)
 }
 
-/// Takes the value of the empty key off the front of the bytes of a trie of any kind. `None` if there is
-/// none, and then nothing changes.
+/// Takes the value of the empty key from the beginning of a trie of any kind. Returns `None` if
+/// there is none, and then changes nothing.
 ///
 /// ```
 /// let mut trie = &[0x85, 0x61, 0x86][..];      // the keys "" and "a" with values 5 and 6
@@ -80,7 +78,8 @@ pub fn step<K: ZeroTrieWithOptions>(bytes: &mut &[u8], byte: u8) -> Option<u8>
 /// assert_eq!(rt; take_value(&mut trie), None);
 /// ```
 ///
-/// It returns on any bytes, and takes no memory.
+/// On malformed bytes the result is unspecified; it never panics or reads outside them. Does not
+/// allocate.
 #[inline]
 pub fn take_value(bytes: &mut &[u8]) -> Option<usize>
     ensures meaning { (kind : Kind)
@@ -92,7 +91,7 @@ pub fn take_value(bytes: &mut &[u8]) -> Option<usize>
     Some(value)
 }
 
-/// Goes along the edge of this number, and answers its byte and how many edges there are.
+/// Follows the edge with this number, and returns its byte and the number of edges.
 ///
 /// ```
 /// let mut trie = &[0xC2, 0x61, 0x62, 0x01, 0x85, 0x86][..];    // "a" and "b" with values 5 and 6
@@ -102,10 +101,12 @@ pub fn take_value(bytes: &mut &[u8]) -> Option<usize>
 /// assert!(rt; trie.is_empty());
 /// ```
 ///
-/// A value is passed over. The edges of a branch are numbered as they stand, and a literal is one edge.
-/// If there is no edge of this number, the answer is `None`, and no byte is left.
+/// Skips a value before the edge. The edges of a branch are numbered in the order of their table,
+/// and a literal is one edge. If there is no edge with this number, returns `None` and leaves no
+/// bytes.
 ///
-/// It returns on any bytes, and takes no memory.
+/// On malformed bytes the result is unspecified; it never panics or reads outside them. Does not
+/// allocate.
 #[inline]
 pub fn probe<K: ZeroTrieWithOptions>(bytes: &mut &[u8], index: usize) -> Option<AsciiProbeResult>
     requires { IsAscii K.kind }

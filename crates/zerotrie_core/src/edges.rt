@@ -1,23 +1,22 @@
 //! The edges of a trie, by byte and by number.
 //!
-//! A literal is one edge, and so is each byte of a span, which has the rest of the run after it. A branch
-//! has one edge for each of its targets. A value in front of a node is passed over.
+//! A literal is one edge. So is each byte of a span, which has the rest of the run after it. A
+//! branch has one edge for each target. A value before an edge is skipped.
 
 ghost use Rattle.std.specs.Prelude.{◌≡◌, ◌≤◌, ℕ, [], ◌∷◌, IfSome, IfNone, false};
 ghost use Rattle.std.specs.Option.{option_map};
-ghost use Rattle.zerotrie_core.specs.Kind.{Kind, has_spans};
-ghost use Rattle.zerotrie_core.specs.Texts.{Lists};
+ghost use Rattle.zerotrie_base.specs.Kind.{Kind, has_spans};
+ghost use Rattle.zerotrie_base.specs.Texts.{Lists};
 ghost use Rattle.zerotrie_core.specs.Places.{ListsAt, IsStep, IsProbe, FollowsRun};
-ghost use Rattle.zerotrie_core.specs.Nodes.Shape.{literal};
+ghost use Rattle.zerotrie_base.specs.Nodes.Shape.{literal};
 ghost use Rattle.zerotrie_core.specs.Shapes.{branch_shape};
 ghost use Rattle.zerotrie_core.specs.cursor.Edges.{ListsInside, StepsFrom, ProbesFrom, place_along, place_after};
 
 use crate::branch::Branch;
-use crate::fold::folded;
 use crate::node::{Node, first_node};
-use crate::options::ZeroTrieWithOptions;
+use zerotrie_base::{ZeroTrieWithOptions, folded};
 
-/// An edge, and what follows it: the rest of a run of bytes that all keys go on with, and a trie.
+/// An edge, and what follows it: the rest of a run, then a trie.
 #[derive(Clone, Copy)]
 pub(crate) struct Along<'a> {
     pub edge: u8,
@@ -26,7 +25,6 @@ pub(crate) struct Along<'a> {
 }
 
 impl<'a> Along<'a> {
-    /// An edge with no run after it.
     #[inline(always)]
     fn plain(edge: u8, trie: &'a [u8]) -> Self
         ensures edge { result.edge ≡ edge }
@@ -38,7 +36,7 @@ impl<'a> Along<'a> {
     }
 }
 
-/// The next byte of a run, if it is the byte to the kind.
+/// Returns the next byte of a run, if it equals the byte in this kind.
 #[inline(always)]
 pub(crate) fn run_edge_like<'a, K: ZeroTrieWithOptions>(
     run: &'a [u8],
@@ -54,7 +52,6 @@ pub(crate) fn run_edge_like<'a, K: ZeroTrieWithOptions>(
     (folded::<K>(edge) == folded::<K>(byte)).then_some(Along { edge, run, trie })
 }
 
-/// The one edge of a literal, if it is the byte to the kind.
 #[inline(always)]
 fn literal_like<K: ZeroTrieWithOptions>(edge: u8, trie: &[u8], byte: u8) -> Option<Along<'_>>
     ensures step { StepsFrom K.kind (literal edge trie.now) byte result }
@@ -63,7 +60,6 @@ fn literal_like<K: ZeroTrieWithOptions>(edge: u8, trie: &[u8], byte: u8) -> Opti
     (folded::<K>(edge) == folded::<K>(byte)).then_some(Along::plain(edge, trie))
 }
 
-/// The edge of a branch that is the byte to the kind.
 #[inline(always)]
 fn branch_edge_like<K: ZeroTrieWithOptions>(branch: Branch<'_>, byte: u8) -> Option<Along<'_>>
     ensures step { StepsFrom K.kind (branch_shape branch.entry) byte result }
@@ -73,7 +69,7 @@ fn branch_edge_like<K: ZeroTrieWithOptions>(branch: Branch<'_>, byte: u8) -> Opt
     Some(Along::plain(edge, trie))
 }
 
-/// The edge that is the byte to the kind, past a value in front.
+/// Returns the edge that equals the byte in this kind. Skips values before it.
 #[inline(always)]
 pub(crate) fn edge_like<K: ZeroTrieWithOptions>(bytes: &[u8], byte: u8) -> Option<Along<'_>>
     ensures step { IsStep K.kind (Lists K.kind bytes.now) byte
@@ -94,7 +90,7 @@ pub(crate) fn edge_like<K: ZeroTrieWithOptions>(bytes: &[u8], byte: u8) -> Optio
     None
 }
 
-/// The next byte of a run, which is edge number 0 of one.
+/// Returns the next byte of a run as the only edge, and the number of edges, which is 1.
 #[inline(always)]
 pub(crate) fn run_edge_numbered<'a>(
     run: &'a [u8],
@@ -113,7 +109,6 @@ pub(crate) fn run_edge_numbered<'a>(
     (index == 0).then_some((Along { edge, run, trie }, 1))
 }
 
-/// The edge of a literal, which is number 0 of one.
 #[inline(always)]
 fn literal_numbered(edge: u8, trie: &[u8], index: usize) -> Option<(Along<'_>, usize)>
     ensures probe { (kind : Kind) → ProbesFrom kind (literal edge trie.now) index result }
@@ -123,7 +118,6 @@ fn literal_numbered(edge: u8, trie: &[u8], index: usize) -> Option<(Along<'_>, u
     (index == 0).then_some((Along::plain(edge, trie), 1))
 }
 
-/// The edge of this number of a branch, and how many edges it has.
 #[inline(always)]
 fn branch_edge_numbered(branch: Branch<'_>, index: usize) -> Option<(Along<'_>, usize)>
     ensures probe { (kind : Kind) → ProbesFrom kind (branch_shape branch.entry) index result }
@@ -137,7 +131,7 @@ fn branch_edge_numbered(branch: Branch<'_>, index: usize) -> Option<(Along<'_>, 
     Some((Along::plain(branch.edge_at(index), trie), branch.edges))
 }
 
-/// The edge of this number, and how many edges there are, past a value in front.
+/// Returns the edge with this number, and the number of edges. Skips values before it.
 #[inline(always)]
 pub(crate) fn edge_numbered<K: ZeroTrieWithOptions>(
     bytes: &[u8],

@@ -1,16 +1,16 @@
-//! Where bytes are no trie, and which rule of the format fails there.
+//! Finds the first fault of malformed bytes, and the rule of the format that fails there.
 //!
-//! The search goes over the parts of the bytes as a walk does, and tests the first node of each. The parts come in the
-//! order in which they lie, so the first fault that it meets is the first of all.
+//! The search visits the parts of the bytes in their order, as a walk does, and tests the first
+//! node of each.
 
 ghost use Rattle.std.specs.Prelude.{◌≡◌, ◌↔◌, ◌≤◌, ℕ, length, IsTrue, IfOk, OnOk, IfSome, IfNone, None, List, ◌++◌, map, reverse};
 ghost use Rattle.std.specs.Option.{option_map};
-ghost use Rattle.zerotrie_core.specs.Nodes.{Shape, Begins};
-ghost use Rattle.zerotrie_core.specs.Nodes.Shape.{span};
+ghost use Rattle.zerotrie_base.specs.Nodes.{Shape, Begins};
+ghost use Rattle.zerotrie_base.specs.Nodes.Shape.{span};
 ghost use Rattle.zerotrie_core.specs.Shapes.{shape, branch_shape};
 ghost use Rattle.zerotrie_core.specs.WellFormed.{IsWellFormed};
 ghost use Rattle.zerotrie_core.specs.Faults.{Before, Fails, IsFirstFault};
-ghost use Rattle.zerotrie_core.specs.Kind.{Kind};
+ghost use Rattle.zerotrie_base.specs.Kind.{Kind};
 ghost use Rattle.zerotrie_core.specs.listing.Listed.{node_of};
 ghost use Rattle.zerotrie_core.specs.walk.Seen.{part_of};
 ghost use Rattle.zerotrie_core.specs.well_formed.Branching.{InOrder};
@@ -19,33 +19,34 @@ ghost use Rattle.zerotrie_core.specs.fault_search.Rules.{before_of, AlwaysFails,
 
 use crate::branch::Branch;
 use crate::node::{Node, first_node};
-use crate::options::ZeroTrieWithOptions;
 use crate::walk::{Part, push_behind};
 use crate::well_formed::branches::{has_table, has_width};
 use crate::well_formed::known_table::KnownTable;
 use crate::well_formed::{Expected, is_run};
 use std::alloc::{AllocError, Allocator};
 use thiserror::Error;
+use zerotrie_base::ZeroTrieWithOptions;
 
-/// Which rule of the format fails.
+/// The rule of the format that fails.
 #[derive(Clone, Copy, PartialEq, Eq, Debug, Error)]
 pub enum FaultCause {
     /// No node of the kind begins with these bytes.
     ///
-    /// They are cut off, a number in them is too large, or they are a branch of one edge, or one whose offsets are wider
-    /// than any of the kind.
+    /// They are cut off, a number in them is too large, or they are a branch with one edge or with
+    /// offsets that are wider than the kind allows.
     #[error("no whole node of this kind of trie begins here")]
     NoNode,
-    /// A span begins, and the kind has none.
+    /// A span begins, and the kind has no spans.
     #[error("a span stands in a kind of trie that has none")]
     NoSpans,
-    /// The bytes end where a text has to go on: after a literal or a span, or where a target is to begin.
+    /// The bytes end where a key has to continue: after a literal or a span, or at the beginning of
+    /// a target.
     #[error("the bytes end where a key has to go on")]
     UnexpectedEnd,
     /// A value follows a value.
     #[error("a value follows a value")]
     ValueAfterValue,
-    /// A span follows a span, with which it should be one.
+    /// A span follows a span. They should be one.
     #[error("a span follows a span")]
     SpanAfterSpan,
     /// A span has no bytes.
@@ -54,31 +55,32 @@ pub enum FaultCause {
     /// A span has a byte below 128.
     #[error("a span has an ASCII byte")]
     AsciiInSpan,
-    /// The search table of a branch is none of the kind.
+    /// The search table of a branch is invalid.
     ///
-    /// Its edges do not ascend, or it is hashed and does not find each edge at its place, or an edge is not ASCII and the
-    /// kind is for ASCII alone.
+    /// Its edges do not ascend, or it is hashed and does not find each edge at its place, or an
+    /// edge is not ASCII in a kind over ASCII keys.
     #[error("the search table of a branch is not one of this kind of trie")]
     WrongTable,
-    /// The offsets of a branch have not the least width that reaches all its targets.
+    /// The offsets of a branch do not have the least width that reaches all its targets.
     #[error("the offsets of a branch do not have the least width")]
     WrongWidth,
-    /// The offsets of a branch do not ascend, or one is beyond the last target, so that a target is empty or not there.
+    /// The offsets of a branch do not ascend, or one is beyond the last target, so a target is
+    /// empty or missing.
     #[error("the offsets of a branch do not ascend within its targets")]
     WrongOffsets,
 }
 
-/// Where bytes are no trie, and why.
+/// The first fault of malformed bytes.
 #[derive(Clone, Copy, PartialEq, Eq, Debug, Error)]
 #[error("{cause}, at byte {place}")]
 pub struct Fault {
-    /// How many bytes stand before the node that is wrong, or before the end that comes too early.
+    /// The number of bytes before the malformed node, or before the end that comes too early.
     pub place: usize,
     /// The rule that fails there.
     pub cause: FaultCause,
 }
 
-/// What is wrong at a place at which no node begins.
+/// Returns the fault where no node begins, or `None` at a valid end.
 fn no_node_fault<K: ZeroTrieWithOptions>(expected: Expected, bytes: &[u8]) -> Option<FaultCause>
     requires { (node : Shape) → Begins K.kind bytes.now node → ⊥ }
     ensures some { IfSome result (Fails K.kind (before_of expected) bytes.now) }
@@ -93,7 +95,6 @@ fn no_node_fault<K: ZeroTrieWithOptions>(expected: Expected, bytes: &[u8]) -> Op
     Some(FaultCause::NoNode)
 }
 
-/// What is wrong with a span of this run.
 fn span_fault<K: ZeroTrieWithOptions>(expected: Expected, run: &[u8]) -> Option<FaultCause>
     ensures some { IfSome result (λ cause. (rest : List ℕ)
         → AlwaysFails K.kind (before_of expected) (span run.now rest) cause) }
@@ -110,7 +111,7 @@ fn span_fault<K: ZeroTrieWithOptions>(expected: Expected, run: &[u8]) -> Option<
     }
 }
 
-/// Whether the offsets of a branch ascend within its targets, so that each target has bytes.
+/// Returns whether the offsets ascend within the targets, so that no target is empty.
 fn has_offsets(branch: &Branch<'_>) -> bool
     ensures { IsTrue result
         ↔ InOrder branch.now.edges branch.now.width branch.now.behind.now branch.now.edges }
@@ -127,7 +128,6 @@ fn has_offsets(branch: &Branch<'_>) -> bool
     true
 }
 
-/// What is wrong with a branch itself.
 fn branch_fault<K: ZeroTrieWithOptions>(branch: Branch<'_>) -> Option<FaultCause>
     requires { (bytes : List ℕ) × Begins K.kind bytes (branch_shape branch) }
     ensures some { (before : Before)
@@ -147,7 +147,6 @@ fn branch_fault<K: ZeroTrieWithOptions>(branch: Branch<'_>) -> Option<FaultCause
     }
 }
 
-/// What is wrong with a node where this may stand.
 fn node_fault<K: ZeroTrieWithOptions>(expected: Expected, node: Node<'_>) -> Option<FaultCause>
     requires { (bytes : List ℕ) × Begins K.kind bytes (shape node) }
     ensures some { IfSome result (AlwaysFails K.kind (before_of expected) (shape node.entry)) }
@@ -161,7 +160,7 @@ fn node_fault<K: ZeroTrieWithOptions>(expected: Expected, node: Node<'_>) -> Opt
     }
 }
 
-/// What is wrong at the front of bytes that begin with the node, or with none.
+/// Returns the fault at the beginning of bytes whose first node is `node`.
 fn front_fault<K: ZeroTrieWithOptions>(
     expected: Expected,
     bytes: &[u8],
@@ -178,7 +177,7 @@ fn front_fault<K: ZeroTrieWithOptions>(
     }
 }
 
-/// What may stand first in the part that comes next, after a node or after none.
+/// Returns what may begin the part after this node, or after none.
 fn expected_next(node: Option<Node<'_>>) -> Expected
     ensures { result ≡ expected_next (option_map shape node.entry) }
 {
@@ -189,7 +188,7 @@ fn expected_next(node: Option<Node<'_>>) -> Expected
     }
 }
 
-/// Adds what follows the first node of a part, if it has one.
+/// Adds the parts that follow the first node of a part, if it has one.
 fn push_next<'a, A: Allocator>(
     parts: &mut Vec<Part<'a>, A>,
     at: Part<'a>,
@@ -206,20 +205,21 @@ fn push_next<'a, A: Allocator>(
     }
 }
 
-/// The first place where bytes are no trie of the kind, and which rule fails there. `None` exactly if they are a trie.
+/// Returns the first place where the bytes are malformed and the rule that fails there, or `None`
+/// if they are valid.
 ///
 /// ```
-/// assert_eq!(rt; first_fault::<Hash, _>(rt.alloc(), b"a\x85")?, None);      // the key "a" with value 5
+/// assert_eq!(rt; first_fault::<Hash, _>(rt.alloc(), b"a\x85")?, None);  // "a" with value 5
 /// let faults: [(&[u8], usize, FaultCause); 9] = [
-///     (b"ab\x90", 2, FaultCause::NoNode),                               // the value needs one more byte
+///     (b"ab\x90", 2, FaultCause::NoNode),                          // the value is cut off
 ///     (b"ab", 2, FaultCause::UnexpectedEnd),
 ///     (b"a\x81\x82", 2, FaultCause::ValueAfterValue),
 ///     (b"\xA1\xC3\xA1\xA4\x85", 2, FaultCause::SpanAfterSpan),
 ///     (b"\xA0\x85", 0, FaultCause::EmptySpan),
 ///     (b"\xA1a\x85", 0, FaultCause::AsciiInSpan),
-///     (b"a\xC2cb\x01\x81\x82", 1, FaultCause::WrongTable),               // the edges are "c" and "b"
-///     (b"a\xE1\x62bc\x00\x01\x81\x82", 1, FaultCause::WrongWidth),       // the offset has two bytes
-///     (b"a\xC2bc\x02\x81\x82", 1, FaultCause::WrongOffsets),             // the target of "c" is empty
+///     (b"a\xC2cb\x01\x81\x82", 1, FaultCause::WrongTable),         // the edges are "c" and "b"
+///     (b"a\xE1\x62bc\x00\x01\x81\x82", 1, FaultCause::WrongWidth), // the offset has two bytes
+///     (b"a\xC2bc\x02\x81\x82", 1, FaultCause::WrongOffsets),       // the target of "c" is empty
 /// ];
 /// for (bytes, place, cause) in faults {
 ///     let fault = first_fault::<Hash, _>(rt.alloc(), bytes)?;
@@ -229,8 +229,9 @@ fn push_next<'a, A: Allocator>(
 /// assert_eq!(rt; of_another_kind, Some(Fault { place: 1, cause: FaultCause::NoSpans }));
 /// ```
 ///
-/// If more than one rule fails there, it is one of them. It returns on any bytes. It reads each byte a few times at most,
-/// and takes memory as branches lie in one another; the only error is that it is out of memory.
+/// If several rules fail there, returns one of them. Works on any bytes, and reads each of them at
+/// most a few times. Allocates memory for the branches that are nested. The only error is that an
+/// allocation failed.
 pub fn first_fault<K: ZeroTrieWithOptions, A: Allocator>(
     alloc: A,
     bytes: &[u8],

@@ -1,4 +1,4 @@
-//! A part of a text that is to be gone over.
+//! A part of the bytes that is still to be read, with the bytes after it.
 
 ghost use Rattle.std.specs.Prelude.{◌≡◌, ℕ, ◌≤◌, ◌<◌, length, take, drop, slice_index, []};
 ghost use Rattle.std.specs.Option.{option_map};
@@ -6,11 +6,11 @@ ghost use Rattle.std.specs.Slice.{IsGetRangeResult};
 ghost use Rattle.zerotrie_core.specs.listing.Runs.{EndsWith};
 ghost use Rattle.zerotrie_core.specs.well_formed.Testing.{BeginsValue};
 
-use crate::lanes::{first_other_in_16, highs_in_16};
+use crate::simd::lanes::{first_other_in_16, highs_in_16};
 
-/// The bytes that are to be gone over, and all that stand in the text from there on.
+/// The bytes that are still to be read, and all bytes from there on.
 ///
-/// Sixteen bytes are looked at at once as long as there are sixteen in the text, also past the end of a target.
+/// Sixteen bytes are read at once as long as sixteen are left, even past the end of a target.
 #[derive(Clone, Copy, Debug)]
 pub(crate) struct Here<'a> {
     pub rest: &'a [u8],
@@ -19,7 +19,7 @@ pub(crate) struct Here<'a> {
 }
 
 impl<'a> Here<'a> {
-    /// In front of these bytes.
+    /// Returns a part that is all of these bytes.
     #[inline(always)]
     pub(crate) fn at(bytes: &'a [u8]) -> Self
         ensures { result.rest.now ≡ bytes.now }
@@ -30,7 +30,7 @@ impl<'a> Here<'a> {
         }
     }
 
-    /// In front of the first bytes of these, of which the text has more.
+    /// Returns a part that is the first `len` of these bytes.
     #[inline(always)]
     pub(crate) fn first_of(tail: &'a [u8], len: usize) -> Self
         requires { len ≤ length tail.now }
@@ -40,7 +40,7 @@ impl<'a> Here<'a> {
         Here { rest, tail }
     }
 
-    /// Where nothing is to be gone over.
+    /// Returns an empty part.
     #[inline(always)]
     pub(crate) fn nowhere() -> Self
         ensures { result.rest.now ≡ [] }
@@ -48,8 +48,8 @@ impl<'a> Here<'a> {
         Here::at(&[])
     }
 
-    /// In front of these bytes, with which the rest ends. Both parts are cut from one, so a register is enough for where they
-    /// begin.
+    /// Skips to these bytes, with which the rest ends. Both slices are cut from one, so that one
+    /// register holds where they begin.
     #[inline(always)]
     pub(crate) fn behind(self, after: &'a [u8]) -> Self
         requires { EndsWith self.rest.now after.now }
@@ -60,7 +60,8 @@ impl<'a> Here<'a> {
         Here { rest, tail }
     }
 
-    /// How many literals the rest begins with, as far as sixteen bytes tell; none if the text has fewer left.
+    /// Returns the number of literals at the beginning of the rest, as far as sixteen bytes show; 0
+    /// if fewer bytes are left.
     #[inline(always)]
     pub(crate) fn literals(&self) -> usize
         ensures within { result ≤ length self.now.rest.now }
@@ -76,7 +77,7 @@ impl<'a> Here<'a> {
             .min(self.rest.len())
     }
 
-    /// After this many bytes of the rest.
+    /// Skips this many bytes of the rest.
     #[inline(always)]
     pub(crate) fn after(self, count: usize) -> Self
         requires { count ≤ length self.rest.now }
@@ -86,10 +87,11 @@ impl<'a> Here<'a> {
         self.behind(after)
     }
 
-    /// How many bytes the value has that the rest begins with, as far as sixteen bytes tell; 0 if they tell of none.
+    /// Returns the length of the value at the beginning of the rest; 0 if there is none, or if the
+    /// first sixteen bytes do not show it.
     ///
-    /// The lead says whether bytes follow it, and of these all but the last are 128 or more, so nothing is read byte by
-    /// byte. A value of ten bytes is not told, since it might be too large.
+    /// After the lead all bytes of a value but the last are 128 or more, so no loop is needed. The
+    /// result for a value of ten bytes is 0, since it might be too large.
     #[inline(always)]
     pub(crate) fn value_len(&self) -> usize
         ensures within { result ≤ length self.now.rest.now }
@@ -109,7 +111,7 @@ impl<'a> Here<'a> {
         }
     }
 
-    /// The bytes of the rest from one place to another, if these are in order and in it.
+    /// Returns a range of the rest, if the range is valid.
     #[inline(always)]
     pub(crate) fn part(self, begin: usize, end: usize) -> Option<Here<'a>>
         ensures { IsGetRangeResult self.entry.rest.now begin end

@@ -1,26 +1,26 @@
-//! The pairs of a trie as an iterator, each key in memory of its own.
+//! An iterator over the pairs of a trie that allocates each key.
 
 ghost use Rattle.std.specs.Prelude.{◌≡◌, ◌≤◌, length, IfOk, false};
 ghost use Rattle.std.specs.Iterator.{at_most};
-ghost use Rattle.zerotrie_core.specs.Maps.{Pairs, beginning};
+ghost use Rattle.zerotrie_base.specs.Maps.{Pairs, beginning};
 ghost use Rattle.zerotrie_core.specs.Places.{ListsAt};
-ghost use Rattle.zerotrie_core.specs.Texts.{Lists};
+ghost use Rattle.zerotrie_base.specs.Texts.{Lists};
 ghost use Rattle.zerotrie_core.specs.declared.listing.ListError.TheVariants.{OutOfMemory};
 
-use crate::options::ZeroTrieWithOptions;
 use crate::span_cursor::SpanCursor;
 use crate::stream::ZeroTrieStream;
 use std::alloc::{AllocError, AllocFailed, Allocator, Global};
 use std::marker::Model;
 use thiserror::Error;
+use zerotrie_base::ZeroTrieWithOptions;
 
-/// Why a listing ended early.
+/// Why an iteration ended early.
 #[derive(Clone, PartialEq, Eq, Debug, Drop, Error)]
 pub enum ListError {
-    /// Memory was refused.
+    /// An allocation failed.
     #[error("out of memory")]
     OutOfMemory,
-    /// A key is no text, which is so on bytes alone that mean no map of an ASCII kind.
+    /// A key is not a string. This happens only if the bytes are valid in no kind over ASCII keys.
     #[error("a key is not text: the bytes are no trie, so ask is_well_formed of them first")]
     NotText,
 }
@@ -41,8 +41,7 @@ impl<T: Drop> From<AllocFailed<T>> for ListError {
     }
 }
 
-/// The pairs of a text, one after another, each key in memory of its own: a value comes before what follows it, and the
-/// targets of a branch come in the order of its table.
+/// An iterator over the pairs of a trie, each key in memory of its own.
 ///
 /// ```
 /// let bytes = [0x61, 0x85, 0x62, 0x86];   // the keys "a" with value 5 and "ab" with value 6
@@ -53,9 +52,12 @@ impl<T: Drop> From<AllocFailed<T>> for ListError {
 /// }
 /// ```
 ///
-/// An item is a key with its value, or `ListError::OutOfMemory` if memory was refused. After an error, and after the
-/// end, nothing more comes. Of n bytes, whatever they are, come at most n pairs. A `ZeroTrieStream` lists the same
-/// pairs with no memory for each.
+/// A value comes before what follows it, and the targets of a branch come in the order of its
+/// table.
+///
+/// An item is a key and its value, or `ListError::OutOfMemory` if an allocation failed. After an
+/// error or the end, the iterator returns `None`. Over n bytes, valid or not, it returns at most n
+/// pairs. A `ZeroTrieStream` returns the same pairs without allocating each key.
 #[derive(Debug, Drop)]
 pub struct ZeroTrieIterator<'a, A: Allocator = Global> {
     stream: ZeroTrieStream<'a, A>,
@@ -72,7 +74,8 @@ impl<'a, A: Allocator> Model for ZeroTrieIterator<'a, A> {
 impl<'a, A: Allocator + Copy> ZeroTrieIterator<'a, A> {
     ghost use Rattle.zerotrie_core.specs.Listings.{to_come};
 
-    /// The pairs of these bytes. It takes no memory before the first `next`.
+    /// Returns an iterator over the pairs of these bytes. Does not allocate before the first
+    /// `next`.
     pub fn new<K: ZeroTrieWithOptions>(alloc: A, bytes: &'a [u8]) -> Self
         ensures lists { (pairs : Pairs) → Lists K.kind bytes.now pairs → result ≡ to_come pairs }
         ensures most { length result.pairs ≤ length bytes.now }
@@ -83,7 +86,7 @@ impl<'a, A: Allocator + Copy> ZeroTrieIterator<'a, A> {
         }
     }
 
-    /// The pairs at a cursor, as `ZeroTrieStream::from_cursor` lists them.
+    /// Returns an iterator over the pairs at a cursor, as `ZeroTrieStream::from_cursor` does.
     pub fn from_cursor<K: ZeroTrieWithOptions>(
         alloc: A,
         cursor: SpanCursor<'a>,
@@ -96,7 +99,8 @@ impl<'a, A: Allocator + Copy> ZeroTrieIterator<'a, A> {
         })
     }
 
-    /// The pairs whose keys begin with a prefix, as `ZeroTrieStream::with_prefix` lists them.
+    /// Returns an iterator over the pairs whose keys begin with a prefix, as
+    /// `ZeroTrieStream::with_prefix` does.
     pub fn with_prefix<K: ZeroTrieWithOptions>(
         alloc: A,
         bytes: &'a [u8],

@@ -4,15 +4,15 @@
 //! first byte is found once, and later keys with this byte begin there.
 
 ghost use Rattle.std.specs.Prelude.{◌≡◌, IfSome};
-ghost use Rattle.zerotrie_core.specs.Maps.{Map, look};
-ghost use Rattle.zerotrie_core.specs.Texts.{Means};
+ghost use Rattle.zerotrie_base.specs.Maps.{Map, look};
+ghost use Rattle.zerotrie_base.specs.Texts.{Means};
 ghost use Rattle.zerotrie_core.specs.reader.Starts.{AnswersAs, LeadsTo};
 
 use crate::laws::steps_look_ahead;
-use crate::options::ZeroTrieWithOptions;
-use crate::reader::get_counted;
+use crate::reader::get;
 use crate::span_cursor::SpanCursor;
 use std::marker::{Model, PhantomData};
+use zerotrie_base::ZeroTrieWithOptions;
 
 /// Look-ups of many keys in one trie, of the kind `K`.
 ///
@@ -25,7 +25,7 @@ use std::marker::{Model, PhantomData};
 /// ```
 ///
 /// It keeps the target of each first byte that a key began with, in an array of 4 KB, and does not
-/// allocate. From some dozens of keys on it is faster than `get_counted`.
+/// allocate. From some dozens of keys on it is faster than `get`.
 #[derive(Drop)]
 pub struct LookUps<'a, K: ZeroTrieWithOptions> {
     bytes: &'a [u8],
@@ -107,6 +107,6 @@ impl<'a, K: ZeroTrieWithOptions> LookUps<'a, K> {
         ensures kept { self.new ≡ self.old }
     {
         let (trie, left) = self.start(key);
-        get_counted::<K>(trie, left).0
+        get::<K>(trie, left)
     }
 }

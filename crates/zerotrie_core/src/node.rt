@@ -1,34 +1,32 @@
-//! The first node of a text, as a value.
+//! The first node of some bytes, as a value.
 
 ghost use Rattle.std.specs.Prelude.{◌≡◌, ℕ, ◌+◌, ◌-◌, ◌*◌, ◌/◌, ◌%◌, ◌<◌, ◌≤◌, List, length, take, drop, IfSome, IfNone, ◌∷◌};
 ghost use Rattle.std.specs.Option.{option_map};
-ghost use Rattle.zerotrie_core.specs.Kind.{greatest_width};
-ghost use Rattle.zerotrie_core.specs.Branches.{before_edges, table_size};
-ghost use Rattle.zerotrie_core.specs.Numbers.{BeginsWith};
-ghost use Rattle.zerotrie_core.specs.Nodes.{Shape, Begins, BeginsSpan, BeginsBranch};
+ghost use Rattle.zerotrie_base.specs.Kind.{greatest_width};
+ghost use Rattle.zerotrie_base.specs.Branches.{before_edges, table_size};
+ghost use Rattle.zerotrie_base.specs.Numbers.{BeginsWith};
+ghost use Rattle.zerotrie_base.specs.Nodes.{Shape, Begins, BeginsSpan, BeginsBranch};
 ghost use Rattle.zerotrie_core.specs.listing.Listed.{node_of};
 ghost use Rattle.zerotrie_core.specs.Shapes.{shape, branch_shape};
+ghost use Rattle.zerotrie_core.specs.count.Row.{row_behind};
 
 use crate::branch::Branch;
-use crate::options::ZeroTrieWithOptions;
-use crate::varint::read_varint_meta3;
+use zerotrie_base::{ZeroTrieWithOptions, read_varint_meta3};
 
-/// A node, and what follows it.
+/// A node, and the bytes after it.
 #[derive(Clone, Copy, Debug)]
 pub enum Node<'a> {
-    /// A value, and what follows it.
+    /// A value, and the bytes after it.
     Value(usize, &'a [u8]),
-    /// A byte that all keys go on with, and what follows it.
+    /// A byte that all keys continue with, and the bytes after it.
     Literal(u8, &'a [u8]),
-    /// A run of bytes that all keys go on with, and what follows it.
+    /// A run of bytes that all keys continue with, and the bytes after it.
     Span(&'a [u8], &'a [u8]),
     /// A branch.
     Branch(Branch<'a>),
 }
 
-/// The head of a branch, and what follows it.
-///
-/// It has one byte or two: a longer one gives a width that no kind has.
+/// Reads the head of a branch, of one byte or two. A longer one has a width that no kind has.
 #[inline(always)]
 fn read_head(lead: u8, rest: &[u8]) -> Option<(usize, &[u8])>
     requires { 192 ≤ lead }
@@ -44,7 +42,6 @@ fn read_head(lead: u8, rest: &[u8]) -> Option<(usize, &[u8])>
     (*next < 128).then_some((digit * 128 + *next as usize + 32, behind))
 }
 
-/// The greatest width field of a branch.
 #[inline(always)]
 fn greatest_width<K: ZeroTrieWithOptions>() -> usize
     ensures { result ≡ greatest_width K.kind }
@@ -52,8 +49,7 @@ fn greatest_width<K: ZeroTrieWithOptions>() -> usize
     if K::EXTENDED { 7 } else { 3 }
 }
 
-/// Splits off a hashed table: the parameters of the perfect hash, and the edges. Returns it and all bytes from the first
-/// edge on; `None` if the bytes are shorter than the table and `more`.
+/// Like `table_in`, for a hashed table: the parameters of the perfect hash, then the edges.
 #[inline(always)]
 fn hashed_table_in(edges: usize, more: usize, body: &[u8]) -> Option<(&[u8], &[u8])>
     requires { (edges ≤ 256) × (more ≤ 2048) }
@@ -69,8 +65,7 @@ fn hashed_table_in(edges: usize, more: usize, body: &[u8]) -> Option<(&[u8], &[u
     Some((table, behind))
 }
 
-/// Splits off a sorted table, which is the edges. Returns it and all bytes from the first edge on; `None` if the bytes
-/// are shorter than the table and `more`.
+/// Like `table_in`, for a sorted table, which is the edges.
 #[inline(always)]
 fn sorted_table_in(edges: usize, more: usize, body: &[u8]) -> Option<(&[u8], &[u8])>
     requires { (edges ≤ 256) × (more ≤ 2048) }
@@ -85,10 +80,11 @@ fn sorted_table_in(edges: usize, more: usize, body: &[u8]) -> Option<(&[u8], &[u
     Some((table, body))
 }
 
-/// Splits off the search table of a branch. Returns it and all bytes from the first edge on; `None` if the bytes are
-/// shorter than the table and `more`.
+/// Splits off the search table of a branch. Returns it and all bytes from the first edge on, or
+/// `None` if the bytes are shorter than the table and `more`.
 ///
-/// Each form of a table has a path of its own, so that where the edges lie needs no arithmetic on their number.
+/// Each form of table has its own path, so that finding the edges needs no arithmetic on their
+/// number.
 #[inline(always)]
 fn table_in<K: ZeroTrieWithOptions>(
     edges: usize,
@@ -111,8 +107,8 @@ fn table_in<K: ZeroTrieWithOptions>(
     }
 }
 
-/// How many edges a branch has, how many bytes an offset has, and what follows its head, if this has one
-/// byte, or two of which the second alone tells the edges, as most have.
+/// Reads a head of one byte, or of two if the second alone holds the number of edges, as most do.
+/// Returns the number of edges, the width of an offset, and the bytes after the head.
 #[inline(always)]
 fn read_plain_head(lead: u8, rest: &[u8]) -> Option<(usize, usize, &[u8])>
     requires { 192 ≤ lead }
@@ -135,8 +131,8 @@ fn read_plain_head(lead: u8, rest: &[u8]) -> Option<(usize, usize, &[u8])>
     }
 }
 
-/// The branch with this number of edges and of bytes an offset. `None` if the bytes after its head are shorter than its
-/// table and offsets.
+/// Returns the branch with this number of edges and this width, or `None` if it is cut off or not
+/// of the kind.
 #[inline(always)]
 fn branch_in<K: ZeroTrieWithOptions>(edges: usize, width: usize, body: &[u8]) -> Option<Branch<'_>>
     requires edges { (1 ≤ edges) × (edges ≤ 256) }
@@ -160,7 +156,7 @@ fn branch_in<K: ZeroTrieWithOptions>(edges: usize, width: usize, body: &[u8]) ->
     })
 }
 
-/// The branch that begins with a lead, if the bytes after it have all its table and offsets.
+/// Returns the branch that begins with `lead`, or `None` if it is cut off or not of the kind.
 #[inline(always)]
 fn branch_at<K: ZeroTrieWithOptions>(lead: u8, rest: &[u8]) -> Option<Branch<'_>>
     requires { 192 ≤ lead }
@@ -176,7 +172,7 @@ fn branch_at<K: ZeroTrieWithOptions>(lead: u8, rest: &[u8]) -> Option<Branch<'_>
     branch_in::<K>(edges, head / 256 + 1, body)
 }
 
-/// The run of the span that begins with a lead, and what follows it, if the bytes have all of the run.
+/// Returns the run of the span that begins with `lead`, and the bytes after it.
 #[inline(always)]
 fn span_at(lead: u8, rest: &[u8]) -> Option<(&[u8], &[u8])>
     requires { (160 ≤ lead) × (lead < 192) }
@@ -191,7 +187,7 @@ fn span_at(lead: u8, rest: &[u8]) -> Option<(&[u8], &[u8])>
     Some(behind.split_at(len))
 }
 
-/// The first node of the bytes. `None` exactly if no node of the kind begins.
+/// Returns the first node of the bytes, or `None` if they begin with no node of the kind.
 #[inline(always)]
 pub(crate) fn first_node<K: ZeroTrieWithOptions>(bytes: &[u8]) -> Option<Node<'_>>
     ensures node { node_of K.kind bytes.now ≡ option_map shape result }
@@ -212,5 +208,15 @@ pub(crate) fn first_node<K: ZeroTrieWithOptions>(bytes: &[u8]) -> Option<Node<'_
         }
         let (run, after) = span_at(lead, rest)?;
         Some(Node::Span(run, after))
+    }
+}
+
+/// Returns what follows a node: for a branch its targets, one after another.
+pub(crate) fn row_behind<'a>(node: Node<'a>) -> &'a [u8]
+    ensures { result.now ≡ row_behind (shape node.entry) }
+{
+    match node {
+        Node::Value(_, after) | Node::Literal(_, after) | Node::Span(_, after) => after,
+        Node::Branch(branch) => branch.targets(),
     }
 }

@@ -1,10 +1,11 @@
-//! The offsets of a branch, whose bytes stand in blocks: the highest bytes of all of them first, then the next, and so on.
+//! The offsets of a branch. Their bytes are in blocks: the highest bytes of all offsets, then the
+//! next bytes, and so on.
 
 ghost use Rattle.std.specs.Prelude.{◌≡◌, ◌+◌, ◌-◌, ◌*◌, ◌<◌, ◌≤◌, length, take, drop};
-ghost use Rattle.zerotrie_core.specs.Branches.{IsWidth};
-ghost use Rattle.zerotrie_core.specs.Nodes.{number_from, targets_behind, begin_of, end_of};
+ghost use Rattle.zerotrie_base.specs.Branches.{IsWidth};
+ghost use Rattle.zerotrie_base.specs.Nodes.{number_from, targets_behind, begin_of, end_of};
 
-/// The number whose bytes stand at one place of each of up to three blocks, the highest first.
+/// Reads an offset of up to three bytes, the highest first, one from each block.
 #[inline(always)]
 pub(crate) fn short_offset_at(table: &[u8], place: usize, count: usize, width: usize) -> usize
     requires place { place + (width - 1) * count < length table.now }
@@ -22,8 +23,7 @@ pub(crate) fn short_offset_at(table: &[u8], place: usize, count: usize, width: u
     middle * 256 + table[2 * count + place] as usize
 }
 
-/// The number whose bytes stand at one place of each block, the highest first. Few tries have offsets of more than
-/// three bytes, so no caller has this loop in its own code.
+/// Like `offset_at`, for any width. Not inlined: few tries have offsets of more than three bytes.
 #[inline(never)]
 fn long_offset_at(table: &[u8], place: usize, count: usize, width: usize) -> usize
     requires place { place < count }
@@ -41,7 +41,7 @@ fn long_offset_at(table: &[u8], place: usize, count: usize, width: usize) -> usi
     value
 }
 
-/// The number whose bytes stand at one place of each block, the highest first.
+/// Reads an offset, the highest byte first, one from each block.
 #[inline(always)]
 pub(crate) fn offset_at(table: &[u8], place: usize, count: usize, width: usize) -> usize
     requires place { place < count }
@@ -56,7 +56,7 @@ pub(crate) fn offset_at(table: &[u8], place: usize, count: usize, width: usize) 
     }
 }
 
-/// The offsets of a branch and its targets, out of all bytes from its edges on.
+/// Returns the offsets and the targets of a branch, out of all bytes from its edges on.
 #[inline(always)]
 pub(crate) fn offsets_and_targets(behind: &[u8], edges: usize, width: usize) -> (&[u8], &[u8])
     requires some { 1 ≤ edges }
@@ -69,7 +69,7 @@ pub(crate) fn offsets_and_targets(behind: &[u8], edges: usize, width: usize) -> 
     body.split_at(width * (edges - 1))
 }
 
-/// Where the target of an edge begins among the targets, as the offset in front of it says.
+/// Returns where the target of an edge begins among the targets, by the offset before it.
 #[inline(always)]
 pub(crate) fn begin_at(behind: &[u8], edges: usize, width: usize, index: usize) -> usize
     requires index { index < edges }
@@ -84,7 +84,7 @@ pub(crate) fn begin_at(behind: &[u8], edges: usize, width: usize, index: usize) 
     offset_at(table, index - 1, edges - 1, width)
 }
 
-/// Where it ends, as the next offset says. After the last target there is none.
+/// Returns where the target of an edge ends, by the next offset; the last one ends with the bytes.
 #[inline(always)]
 pub(crate) fn end_at(behind: &[u8], edges: usize, width: usize, index: usize) -> usize
     requires index { index < edges }
@@ -99,7 +99,7 @@ pub(crate) fn end_at(behind: &[u8], edges: usize, width: usize, index: usize) ->
     offset_at(table, index, edges - 1, width)
 }
 
-/// The least width field of a branch whose targets have this number of bytes together.
+/// Returns the least width field of a branch whose targets have this many bytes in total.
 pub(crate) fn least_width(total: usize) -> usize
     ensures width { IsWidth total result }
     ensures small { result ≤ 7 }

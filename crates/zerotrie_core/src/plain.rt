@@ -5,11 +5,11 @@ ghost use Rattle.std.specs.List.{list_all};
 ghost use Rattle.std.specs.Ordering.{nat_cmp};
 ghost use Rattle.std.specs.Cmp.Lexicographic.{slice_cmp};
 ghost use Rattle.std.specs.declared.cmp.Ordering.TheVariants.{Less};
-ghost use Rattle.zerotrie_core.specs.Kind.{simple_ascii};
-ghost use Rattle.zerotrie_core.specs.Maps.{Ascends};
-ghost use Rattle.zerotrie_core.specs.Items.{pairs_of};
-ghost use Rattle.zerotrie_core.specs.Routes.{ascending, IsBuild};
-ghost use Rattle.zerotrie_core.specs.plain.Encoding.{pairs_from, AsciiKeys, Deep, BeginsAll, BeginsNone, IsBranching, CannotWrite, Writes, WritesFront};
+ghost use Rattle.zerotrie_base.specs.Kind.{simple_ascii};
+ghost use Rattle.zerotrie_base.specs.Maps.{Ascends};
+ghost use Rattle.zerotrie_base.specs.Items.{pairs_of};
+ghost use Rattle.zerotrie_base.specs.Routes.{ascending, IsBuild};
+ghost use Rattle.zerotrie_base.specs.plain.Encoding.{pairs_from, AsciiKeys, Deep, BeginsAll, BeginsNone, IsBranching, CannotWrite, Writes, WritesFront};
 
 mod nodes;
 
@@ -17,7 +17,6 @@ use nodes::{push_branch, push_value};
 use std::alloc::Global;
 use zerotrie_base::ZeroTrieBuildError;
 
-/// Whether each key is below the next.
 fn is_ascending(items: &[(&[u8], usize)]) -> bool
     ensures { IsTrue result ↔ Ascends (pairs_of items.now) }
 {
@@ -31,21 +30,20 @@ fn is_ascending(items: &[(&[u8], usize)]) -> bool
     true
 }
 
-/// Whether each byte of each key is ASCII.
 fn are_ascii(items: &[(&[u8], usize)]) -> bool
     ensures { result ≡ list_all (λ e. list_all (λ b. nat_lt b 128) e.0.now) items.now }
 {
     items.iter().all(|(key, _)| key.is_ascii())
 }
 
-/// How many bytes the key has. A caller's proof learns here that they are fewer than 2^64.
+/// Returns the length of the key. From this call a proof learns that it is below 2^64.
 fn key_len(key: &[u8]) -> usize
     ensures { result ≡ length key.now }
 {
     key.len()
 }
 
-/// How many of the first items have the byte at the place.
+/// Returns how many of the first items have this byte at `depth`.
 fn group_len(items: &[(&[u8], usize)], depth: usize, byte: u8) -> usize
     ensures within { result ≤ length items.now }
     ensures same { BeginsAll depth byte (take result items.now) }
@@ -59,7 +57,8 @@ fn group_len(items: &[(&[u8], usize)], depth: usize, byte: u8) -> usize
     items.len()
 }
 
-/// The byte that the first key has at the place, the items in front of the first key that has another, and those from it on.
+/// Splits off the first items that have the same byte at `depth`. Returns the byte, these items and
+/// the others.
 fn first_group<'a, 'k>(
     items: &'a [(&'k [u8], usize)],
     depth: usize,
@@ -77,8 +76,8 @@ fn first_group<'a, 'k>(
     (byte, group, others)
 }
 
-/// Writes the value nodes and literals in front of the first branch. Answers how many items end
-/// there, and where the keys of the others go on.
+/// Writes the values and literals before the first branch. Returns the number of items that end
+/// there, and the depth of the branch.
 fn push_run(
     out: &mut Vec<u8>,
     items: &[(&[u8], usize)],
@@ -117,7 +116,7 @@ fn push_run(
     Ok((at, depth))
 }
 
-/// Writes the text of the items, of whose keys the first bytes are left out.
+/// Writes the encoding of the items without the first `depth` bytes of their keys.
 fn encode(
     alloc: Global,
     out: &mut Vec<u8>,
@@ -149,30 +148,31 @@ fn encode(
     push_branch(out, &edges, offsets, &targets)
 }
 
-/// The bytes of the SimpleAscii trie of these items.
+/// Returns the encoding of these items as a SimpleAscii trie.
 ///
 /// ```
 /// let items: [(&[u8], usize); 3] = [(b"a", 1), (b"abc", 2), (b"abd", 3)];
 /// let text = plain_encode(rt.alloc(), &items)?;
-/// assert_eq!(rt; text.as_slice(), [b'a', 0x81, b'b', 0xC2, b'c', b'd', 0x01, 0x82, 0x83].as_slice());
+/// assert_eq!(rt; text.as_slice(), b"a\x81b\xC2cd\x01\x82\x83".as_slice());
 /// ```
 ///
-/// Each item is a key, of bytes, and its value. The text is the canonical one: no other bytes mean the
-/// map of the items. For no items it has no bytes. A value stands after its key, in one to ten bytes,
-/// and a byte that all keys have in common there stands for itself. Where keys part there is a branch: a
-/// head that tells the number of edges and the width of an offset, the edges in ascending order, where
+/// Each item is a key and its value. The encoding is canonical: no other bytes mean the map of the
+/// items. It is empty if there are no items. A value comes after its key, in one to ten bytes. A
+/// byte that all keys share at a place is stored as it is. Where keys differ there is a branch: a
+/// head with the number of edges and the width of an offset, the edges in ascending order, where
 /// each target but the first begins, in bytes from the first one on, and the targets.
 ///
-/// The time is that of reading each key's bytes a few times and copying each target once for each branch that
-/// it lies below. A call goes as deep as there are branches on one key's path, however long the keys are.
+/// Reads the bytes of each key a few times, and copies each target once for each branch above it.
+/// Recursion is as deep as there are branches on the path of one key, however long the keys are.
 ///
 /// # Errors
 ///
-/// - `Unsorted`: the keys are not strictly ascending by their bytes, as if one comes twice.
+/// - `Unsorted`: the keys do not strictly ascend by their bytes; for example, if one is there
+///   twice.
 /// - `NonAsciiError`: the keys ascend, and one has a byte of 128 or more.
-/// - `CapacityExceeded`: else, if the targets of a branch together have 2^32 bytes or more, past what an
-///   offset of four bytes reaches.
-/// - `OutOfMemory`: the text or a part of it could not grow.
+/// - `CapacityExceeded`: otherwise, if the targets of a branch have 2^32 bytes or more in total,
+///   which offsets of four bytes can't reach.
+/// - `OutOfMemory`: an allocation failed.
 pub fn plain_encode(alloc: Global, items: &[(&[u8], usize)]) -> Result<Vec<u8>, ZeroTrieBuildError>
     ensures { IsBuild ascending simple_ascii (λ text. text.items) (pairs_of items.now) result }
 {

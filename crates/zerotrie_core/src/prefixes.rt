@@ -1,21 +1,20 @@
-//! The keys that a text begins with.
+//! The keys that some text begins with.
 
 ghost use Rattle.std.specs.Prelude.{◌≡◌, ◌≤◌, ◌<◌, length, IfSome, true, false};
 ghost use Rattle.std.specs.Iterator.{at_most};
-ghost use Rattle.zerotrie_core.specs.Kind.{Kind, kind_with};
-ghost use Rattle.zerotrie_core.specs.Maps.{Map};
+ghost use Rattle.zerotrie_base.specs.Kind.{Kind, kind_with};
+ghost use Rattle.zerotrie_base.specs.Maps.{Map};
 ghost use Rattle.zerotrie_core.specs.Places.{ListsAt, IsStep, IsTake};
-ghost use Rattle.zerotrie_core.specs.Texts.{Means};
+ghost use Rattle.zerotrie_base.specs.Texts.{Means};
 ghost use Rattle.zerotrie_core.specs.Prefixes.{IsLongestPrefix, along, at_front, LeavesAt, NextFront};
 ghost use Rattle.zerotrie_core.specs.cursor.Fronts.{noted};
 
-use crate::by_kind;
 use crate::laws::steps_look_ahead;
-use crate::options::{ZeroTrieBuilderOptions, ZeroTrieWithOptions};
 use crate::span_cursor::SpanCursor;
 use std::marker::Model;
+use zerotrie_base::{ZeroTrieBuilderOptions, ZeroTrieWithOptions, by_kind};
 
-/// The longest key so far, once a value was looked for after this many bytes.
+/// Returns the longest key so far, once a value was looked for after `len` bytes.
 #[inline(always)]
 fn noted(
     taken: Option<usize>,
@@ -30,7 +29,8 @@ fn noted(
     }
 }
 
-/// The longest key that a text begins with: its length in bytes, and its value. `None` if the text begins with no key.
+/// Returns the length and the value of the longest key that `text` begins with, or `None` if it
+/// begins with no key.
 ///
 /// ```
 /// let bytes = b"a\x81bc\x82";                 // the keys "a" with value 1 and "abc" with value 2
@@ -39,10 +39,12 @@ fn noted(
 /// assert_eq!(rt; longest_prefix::<Simple>(bytes, b"b"), None);
 /// ```
 ///
-/// It reads the text once, up to the first byte with which no key goes on, and takes no memory. It returns on any bytes, and the
-/// length is never beyond the text.
+/// Reads `text` once, up to the first byte that continues no key, and does not allocate. On
+/// malformed bytes the result is unspecified; it never panics or reads outside them, and the length
+/// is at most that of `text`.
 pub fn longest_prefix<K: ZeroTrieWithOptions>(bytes: &[u8], text: &[u8]) -> Option<(usize, usize)>
-    ensures longest { (m : Map) → Means K.kind bytes.now m → IsLongestPrefix K.kind m text.now result }
+    ensures longest { (m : Map) → Means K.kind bytes.now m
+        → IsLongestPrefix K.kind m text.now result }
     ensures within { IfSome result (λ r. r.0 ≤ length text.now) }
 {
     steps_look_ahead();
@@ -57,7 +59,6 @@ pub fn longest_prefix<K: ZeroTrieWithOptions>(bytes: &[u8], text: &[u8]) -> Opti
     longest
 }
 
-/// Steps a cursor of the kind that the options are of.
 #[inline]
 fn step_of(options: ZeroTrieBuilderOptions, cursor: &mut SpanCursor<'_>, byte: u8) -> Option<u8>
     ensures { let kind = kind_with options in
@@ -66,7 +67,7 @@ fn step_of(options: ZeroTrieBuilderOptions, cursor: &mut SpanCursor<'_>, byte: u
     by_kind!(options.kind(), SpanCursor::step::<_>(cursor, byte))
 }
 
-/// The value where a cursor stands, unless it was looked for there before. It is taken.
+/// Takes the value at a cursor, unless it was looked for before.
 #[inline]
 fn value_here(cursor: &mut SpanCursor<'_>, looked: &mut bool) -> Option<usize>
     ensures take { (kind : Kind) → IsTake kind
@@ -81,7 +82,7 @@ fn value_here(cursor: &mut SpanCursor<'_>, looked: &mut bool) -> Option<usize>
     cursor.take_value()
 }
 
-/// Goes on along the text to the next value.
+/// Follows the text to the next value.
 fn next_front(
     options: ZeroTrieBuilderOptions,
     cursor: &mut SpanCursor<'_>,
@@ -108,7 +109,8 @@ fn next_front(
     }
 }
 
-/// The keys that a text begins with, the shortest first: the length of each in bytes, and its value.
+/// An iterator over the keys that `text` begins with, the shortest first: the length of each and
+/// its value.
 ///
 /// ```
 /// let bytes = b"a\x81bc\x82";                 // the keys "a" with value 1 and "abc" with value 2
@@ -118,7 +120,8 @@ fn next_front(
 /// assert_eq!(rt; keys.next(), None);
 /// ```
 ///
-/// It reads the text once, up to the first byte with which no key goes on, and takes no memory.
+/// Reads `text` once, up to the first byte that continues no key, and does not allocate. On
+/// malformed bytes the result is unspecified; it never panics or reads outside them.
 #[derive(Clone, Debug, Drop)]
 pub struct CommonPrefixes<'a, 't> {
     options: ZeroTrieBuilderOptions,
@@ -130,7 +133,7 @@ pub struct CommonPrefixes<'a, 't> {
 
 impl<'a, 't> Model for CommonPrefixes<'a, 't> {
     ghost use Rattle.std.specs.Prelude.{◌≤◌, length};
-    ghost use Rattle.zerotrie_core.specs.Kind.{kind_with};
+    ghost use Rattle.zerotrie_base.specs.Kind.{kind_with};
     ghost use Rattle.zerotrie_core.specs.Prefixes.{Along};
 
     ghost Value = { Along };
@@ -147,7 +150,7 @@ impl<'a, 't> Model for CommonPrefixes<'a, 't> {
 }
 
 impl<'a, 't> CommonPrefixes<'a, 't> {
-    /// The keys of a trie that a text begins with.
+    /// Returns an iterator over the keys of a trie that `text` begins with.
     pub fn new<K: ZeroTrieWithOptions>(bytes: &'a [u8], text: &'t [u8]) -> Self
         ensures { result ≡ at_front K.kind bytes.now text.now }
     {

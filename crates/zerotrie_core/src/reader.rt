@@ -1,34 +1,34 @@
-//! Looking up a key in the bytes of a trie, where they lie.
+//! Looks up a key in the bytes of a trie.
 //!
-//! The look-up goes from node to node with the key in hand. It passes over value nodes until the key is used
-//! up, and then a value node is its answer. A literal has to be the next byte of the key, a span the next
-//! bytes, and a branch leads on by the next byte; if the kind ignores case, an ASCII letter is the same
-//! byte in either case. Bytes that are no trie get some answer, and nothing outside them is read.
+//! The look-up reads node by node. A value is the result if no byte of the key is left; otherwise
+//! it is skipped. A literal must equal the next byte of the key, and a span the next bytes. A
+//! branch continues with the target of the next byte. If the kind ignores case, an ASCII letter
+//! equals both its cases. On malformed bytes the result is unspecified; it never panics or reads
+//! outside them.
 
 ghost use Rattle.std.specs.Prelude.{◌≡◌, ℕ, ◌+◌, ◌<◌, ◌≤◌, length, IsTrue};
-ghost use Rattle.zerotrie_core.specs.Maps.{Map, look};
-ghost use Rattle.zerotrie_core.specs.Texts.{Means, nodes};
-ghost use Rattle.zerotrie_core.specs.Kind.{Kind};
-ghost use Rattle.zerotrie_core.specs.Nodes.Shape.{literal, span};
+ghost use Rattle.zerotrie_base.specs.Maps.{Map, look};
+ghost use Rattle.zerotrie_base.specs.Texts.{Means, nodes};
+ghost use Rattle.zerotrie_base.specs.Kind.{Kind};
+ghost use Rattle.zerotrie_base.specs.Nodes.Shape.{literal, span};
 ghost use Rattle.zerotrie_core.specs.Shapes.{shape, branch_shape};
 ghost use Rattle.zerotrie_core.specs.reader.Descending.{Descends};
 ghost use Rattle.zerotrie_core.specs.reader.Literals.{AreCommon, AreSame};
 
 use crate::branch::Branch;
-use crate::fold::folded;
-use crate::literals::common_literals;
 use crate::node::{Node, first_node};
-use crate::options::ZeroTrieWithOptions;
+use crate::simd::literals::common_literals;
+use zerotrie_base::{ZeroTrieWithOptions, folded};
 
-/// What reading one node comes to.
+/// What the look-up does after it read a node.
 pub(crate) enum Descent<'a, 'k> {
-    /// The look-up ends with this answer.
+    /// It ends with this result.
     Answer(Option<usize>),
-    /// The look-up goes on in these bytes, with this rest of the key, after this number of nodes.
+    /// It continues in these bytes, with this rest of the key, after this number of nodes.
     Down(&'a [u8], &'k [u8], usize),
 }
 
-/// Goes on after a literal, and over the literals after it that the key goes on with.
+/// Skips a literal, and the literals after it that match the key.
 #[inline(always)]
 fn over_literals<'a, 'k, K: ZeroTrieWithOptions>(
     edge: u8,
@@ -49,7 +49,7 @@ fn over_literals<'a, 'k, K: ZeroTrieWithOptions>(
     Descent::Down(rest, after, 1 + more)
 }
 
-/// Goes on after a span, which the key has to go on with.
+/// Skips a span, which must match the key.
 #[inline(always)]
 fn over_span<'a, 'k>(run: &'a [u8], rest: &'a [u8], key: &'k [u8]) -> Descent<'a, 'k>
     ensures { (kind : Kind) → Descends kind (span run.now rest.now) key.now result }
@@ -62,7 +62,7 @@ fn over_span<'a, 'k>(run: &'a [u8], rest: &'a [u8], key: &'k [u8]) -> Descent<'a
     }
 }
 
-/// Goes on in the target of a branch whose edge is the next byte of the key.
+/// Follows the edge of a branch that is the next byte of the key.
 #[inline(always)]
 fn into_target<'a, 'k, K: ZeroTrieWithOptions>(branch: Branch<'a>, key: &'k [u8]) -> Descent<'a, 'k>
     ensures { Descends K.kind (branch_shape branch.entry) key.now result }
@@ -76,7 +76,7 @@ fn into_target<'a, 'k, K: ZeroTrieWithOptions>(branch: Branch<'a>, key: &'k [u8]
     }
 }
 
-/// Goes on after one node.
+/// Continues after one node.
 #[inline(always)]
 pub(crate) fn descend<'a, 'k, K: ZeroTrieWithOptions>(
     node: Node<'a>,
@@ -98,7 +98,7 @@ pub(crate) fn descend<'a, 'k, K: ZeroTrieWithOptions>(
     }
 }
 
-/// The value of a key, and how many nodes the look-up read.
+/// Returns the value of a key, and the number of nodes that the look-up read.
 ///
 /// ```
 /// let bytes = [0x61, 0x85];               // the key "a" with value 5
@@ -111,13 +111,13 @@ pub(crate) fn descend<'a, 'k, K: ZeroTrieWithOptions>(
 /// assert_eq!(rt; get_counted::<Hash>(&bytes, "é".as_bytes()), (Some(5), 2));
 /// ```
 ///
-/// In `Ignore` an ASCII letter of the key matches in either case. Every other byte, and in the other kinds
-/// each, matches itself alone. `Hash` and `Ext` also read spans, which are one node each, and find an edge
-/// of a branch of 16 edges or more by a perfect hash, unless all edges are compared at once.
+/// In `Ignore` an ASCII letter of the key matches both its cases. Any other byte, and in the other
+/// kinds each byte, matches only itself. `Hash` and `Ext` also read spans, which are one node each.
+/// They find an edge of a branch of 16 edges or more by a perfect hash, unless all edges are
+/// compared at once.
 ///
-/// It returns on any bytes, and takes no memory. On bytes that mean a map the first part is the key's value
-/// in that map, and the second is at most 2n + 1 for a key of n bytes. On other bytes it may be more: in
-/// `[0x80, 0x80, 0x80, 0x80]`, four values one after another, it is 4 for the key "a".
+/// Does not allocate. On valid bytes the number of nodes is at most 2n + 1 for a key of n bytes. On
+/// malformed bytes the result is unspecified; it never panics or reads outside them.
 #[inline(always)]
 pub fn get_counted<K: ZeroTrieWithOptions>(bytes: &[u8], key: &[u8]) -> (Option<usize>, usize)
     ensures value { (m : Map) → Means K.kind bytes.now m → result.0 ≡ look K.kind m key.now }
@@ -138,4 +138,14 @@ pub fn get_counted<K: ZeroTrieWithOptions>(bytes: &[u8], key: &[u8]) -> (Option<
         }
     }
     (None, count)
+}
+
+/// Returns the value of a key, or `None` if the trie does not have it.
+///
+/// On malformed bytes the result is unspecified. It does not allocate.
+#[inline(always)]
+pub fn get<K: ZeroTrieWithOptions>(bytes: &[u8], key: &[u8]) -> Option<usize>
+    ensures { (m : Map) → Means K.kind bytes.now m → result ≡ look K.kind m key.now }
+{
+    get_counted::<K>(bytes, key).0
 }

@@ -1,33 +1,35 @@
-//! The cursor of any kind, which may stand inside a span.
+//! The cursor of any kind, which may be inside a span.
 
 ghost use Rattle.std.specs.Prelude.{◌≡◌, ◌≢◌, ◌↔◌, ◌≤◌, ℕ, [], IfSome, IfNone, IsTrue};
 ghost use Rattle.std.specs.Option.{option_map};
-ghost use Rattle.zerotrie_core.specs.Kind.{Kind};
-ghost use Rattle.zerotrie_core.specs.Maps.{Pairs};
-ghost use Rattle.zerotrie_core.specs.Texts.{Lists};
+ghost use Rattle.zerotrie_base.specs.Kind.{Kind};
+ghost use Rattle.zerotrie_base.specs.Maps.{Pairs};
+ghost use Rattle.zerotrie_base.specs.Texts.{Lists};
 ghost use Rattle.zerotrie_core.specs.Places.{Place, nowhere, ListsBehind, ListsAt, IsStep, IsTake, IsProbe, FollowsRun};
 ghost use Rattle.zerotrie_core.specs.cursor.Edges.{place_along, place_after};
 
 use crate::cursor::take_value;
 use crate::edges::{Along, edge_like, edge_numbered, run_edge_like, run_edge_numbered};
-use crate::options::ZeroTrieWithOptions;
 use std::marker::Model;
+use zerotrie_base::ZeroTrieWithOptions;
 
-/// What a probe of a trie of any kind answers.
+/// The result of a probe in a trie of any kind.
 #[derive(Clone, Copy, Debug, PartialEq, Eq)]
 pub struct ByteProbeResult {
     /// The byte of the edge.
     pub byte: u8,
-    /// How many edges there are, itself among them.
+    /// The number of edges, this one included.
     pub total_siblings: u16,
 }
 
 /// A cursor in a trie of any kind.
 ///
-/// It stands between two bytes of a key, which may be inside the run of a span. Then the rest of the run is
-/// one edge after another, with no value between them.
+/// It is between two bytes of a key, and may be inside the run of a span. There each byte of the
+/// rest of the run is one edge, with no value between them.
 ///
-/// It keeps two slices of the store, the rest of the run and the trie after it, and takes no memory.
+/// It borrows two slices of the store, the rest of the run and the trie after it, and never
+/// allocates. On malformed bytes its results are unspecified; it never panics or reads outside
+/// them.
 #[derive(Clone, Debug, Drop)]
 pub struct SpanCursor<'a> {
     run: &'a [u8],
@@ -42,7 +44,7 @@ impl<'a> Model for SpanCursor<'a> {
     ghost view = { λ c. record { run = c.run.now; trie = c.trie.now } };
 }
 
-/// The edge that is the byte to the kind, if a run and then a trie are left.
+/// Like `edge_like`, after the rest of a run.
 #[inline(always)]
 fn like_at<'a, K: ZeroTrieWithOptions>(run: &'a [u8], trie: &'a [u8], byte: u8) -> Option<Along<'a>>
     ensures step { IsStep K.kind (ListsBehind K.kind run.now trie.now) byte
@@ -57,7 +59,7 @@ fn like_at<'a, K: ZeroTrieWithOptions>(run: &'a [u8], trie: &'a [u8], byte: u8) 
     }
 }
 
-/// The edge of this number, and how many edges there are, if a run and then a trie are left.
+/// Like `edge_numbered`, after the rest of a run.
 #[inline(always)]
 fn numbered_at<'a, K: ZeroTrieWithOptions>(
     run: &'a [u8],
@@ -79,7 +81,6 @@ fn numbered_at<'a, K: ZeroTrieWithOptions>(
 }
 
 impl<'a> SpanCursor<'a> {
-    /// A cursor after an edge.
     #[inline(always)]
     fn behind(along: Along<'a>) -> Self
         ensures { result ≡ record { run = along.entry.run.now; trie = along.entry.trie.now } }
@@ -90,7 +91,7 @@ impl<'a> SpanCursor<'a> {
         }
     }
 
-    /// A cursor in front of all keys of a trie.
+    /// Returns a cursor at the beginning of a trie.
     #[inline]
     pub fn new(bytes: &'a [u8]) -> Self
         ensures { result ≡ record { run = []; trie = bytes.now } }
@@ -101,7 +102,8 @@ impl<'a> SpanCursor<'a> {
         }
     }
 
-    /// A cursor in front of a run, each byte of which is an edge, and of the trie after it.
+    /// Returns a cursor at the beginning of a run, each byte of which is an edge, and of the trie
+    /// after it.
     #[inline]
     pub fn from_parts(run: &'a [u8], trie: &'a [u8]) -> Self
         ensures { result ≡ record { run = run.now; trie = trie.now } }
@@ -109,7 +111,8 @@ impl<'a> SpanCursor<'a> {
         SpanCursor { run, trie }
     }
 
-    /// The rest of the run that the cursor stands in, which is empty outside of spans, and the trie after it.
+    /// Returns the rest of the run that the cursor is in, which is empty outside of spans, and the
+    /// trie after it.
     #[inline]
     pub fn parts(&self) -> (&'a [u8], &'a [u8])
         ensures run { result.0.now ≡ self.now.run }
@@ -118,7 +121,7 @@ impl<'a> SpanCursor<'a> {
         (self.run, self.trie)
     }
 
-    /// Whether no key goes on from here. An empty cursor has no value either.
+    /// Returns whether no key continues from here. An empty cursor has no value either.
     #[inline]
     pub fn is_empty(&self) -> bool
         ensures exact { IsTrue result ↔ (self.now ≡ nowhere) }
@@ -128,7 +131,7 @@ impl<'a> SpanCursor<'a> {
         self.run.is_empty() && self.trie.is_empty()
     }
 
-    /// The trie of what all keys have from here on. `None` while a byte of a span is left.
+    /// Returns the trie of what all keys have from here on, or `None` inside a span.
     #[inline]
     pub fn rest(&self) -> Option<&'a [u8]>
         ensures some { IfSome result (λ trie. (self.now.run ≡ []) × (trie.now ≡ self.now.trie)) }
@@ -139,7 +142,7 @@ impl<'a> SpanCursor<'a> {
         self.run.is_empty().then_some(self.trie)
     }
 
-    /// Takes the value of the empty key. `None` if there is none, and then nothing changes.
+    /// Takes the value of the empty key. Returns `None` if there is none, and then changes nothing.
     #[inline]
     pub fn take_value(&mut self) -> Option<usize>
         ensures meaning { (kind : Kind)
@@ -154,7 +157,10 @@ impl<'a> SpanCursor<'a> {
         }
     }
 
-    /// Goes along the edge that is the byte to the kind, and answers its byte.
+    /// Follows the edge that equals the byte in this kind, and returns the byte of the edge.
+    ///
+    /// Skips a value before the edge. If no edge equals the byte, returns `None` and leaves the
+    /// cursor empty.
     #[inline(always)]
     pub fn step<K: ZeroTrieWithOptions>(&mut self, byte: u8) -> Option<u8>
         ensures meaning { IsStep K.kind (ListsAt K.kind self.old) byte result
@@ -170,7 +176,10 @@ impl<'a> SpanCursor<'a> {
         Some(along.edge)
     }
 
-    /// Goes along the edge of this number, and answers its byte and how many edges there are.
+    /// Follows the edge with this number, and returns its byte and the number of edges.
+    ///
+    /// Skips a value before the edge. If there is no edge with this number, returns `None` and
+    /// leaves the cursor empty.
     #[inline]
     pub fn probe<K: ZeroTrieWithOptions>(&mut self, index: usize) -> Option<ByteProbeResult>
         ensures meaning { IsProbe (ListsAt K.kind self.old) index

@@ -1,14 +1,14 @@
-//! The nodes of a trie, one after another in the order in which they lie, each with its place.
+//! The nodes of a trie in the order of their bytes, each with its place.
 //!
-//! A walk keeps the parts that are to be gone over: what follows a node, and the targets of a branch. The part that comes
-//! next is the last of them.
+//! A walk keeps the parts that are still to be read: what follows a node, and the targets of a
+//! branch. The next part is the last of them.
 
 ghost use Rattle.std.specs.Prelude.{◌≡◌, ℕ, List, Some, ◌+◌, ◌-◌, ◌*◌, ◌<◌, ◌≤◌, ◌++◌, length, take, drop, map, reverse, vec_len, All, OnOk, IfOk, None, ◌^◌};
 ghost use Rattle.std.specs.Option.{option_map};
-ghost use Rattle.zerotrie_core.specs.Kind.{Kind, kind_with};
-ghost use Rattle.zerotrie_core.specs.Maps.{Pairs};
-ghost use Rattle.zerotrie_core.specs.Nodes.{Begins, targets_behind};
-ghost use Rattle.zerotrie_core.specs.Texts.{Lists};
+ghost use Rattle.zerotrie_base.specs.Kind.{Kind, kind_with};
+ghost use Rattle.zerotrie_base.specs.Maps.{Pairs};
+ghost use Rattle.zerotrie_base.specs.Nodes.{Begins, targets_behind};
+ghost use Rattle.zerotrie_base.specs.Texts.{Lists};
 ghost use Rattle.zerotrie_core.specs.Shapes.{shape, branch_shape};
 ghost use Rattle.zerotrie_core.specs.listing.Listed.{node_of};
 ghost use Rattle.zerotrie_core.specs.walk.Visits.{Visit, nodes_of, target_parts, parts_behind};
@@ -18,15 +18,13 @@ ghost use Rattle.zerotrie_core.specs.walk.Seen.{part_of, visits_left, IsNext, Li
 mod part;
 
 use crate::branch::Branch;
-use crate::by_kind;
-use crate::count::row_behind;
-use crate::node::{Node, first_node};
-use crate::options::{ZeroTrieBuilderOptions, ZeroTrieWithOptions};
+use crate::node::{Node, first_node, row_behind};
 pub use part::Part;
 use std::alloc::{AllocError, Allocator, Global};
 use std::marker::Model;
+use zerotrie_base::{ZeroTrieBuilderOptions, ZeroTrieWithOptions, by_kind};
 
-/// A node, and where it stands.
+/// A node and its place.
 #[derive(Clone, Copy, Debug)]
 pub struct Visit<'a> {
     /// The part that begins with the node.
@@ -39,7 +37,7 @@ impl<'a> Visit<'a> {
     ghost use Rattle.zerotrie_core.specs.walk.Visits.{own_bytes};
     ghost use Rattle.zerotrie_core.specs.walk.Seen.{visit_of};
 
-    /// The bytes of the node alone: of a branch, those in front of its targets.
+    /// Returns the bytes of the node alone: of a branch, those before its targets.
     pub fn own_bytes(&self) -> &'a [u8]
         ensures { result.now ≡ own_bytes (visit_of self.now) }
     {
@@ -50,21 +48,21 @@ impl<'a> Visit<'a> {
     }
 }
 
-/// The first node of the bytes, by the kind that the options are of.
 fn read_node(options: ZeroTrieBuilderOptions, bytes: &[u8]) -> Option<Node<'_>>
     ensures { node_of (kind_with options) bytes.now ≡ option_map shape result }
 {
     by_kind!(options.kind(), first_node::<_>(bytes))
 }
 
-/// Adds the targets of a branch with which a part begins, the first of them first, up to the first whose offsets fall.
+/// Adds the targets of the branch at the beginning of a part, in their order, up to the first whose
+/// offsets fall.
 fn push_targets<'a, A: Allocator>(
     parts: &mut Vec<Part<'a>, A>,
     at: Part<'a>,
     branch: Branch<'a>,
 ) -> Result<(), AllocError>
-    requires { branch.edges + length (targets_behind branch.edges branch.width branch.behind.now) + 1
-        < length at.bytes.now }
+    requires { let targets = targets_behind branch.edges branch.width branch.behind.now in
+        branch.edges + length targets + 1 < length at.bytes.now }
     ensures { OnOk result (map part_of parts.new.items ≡ map part_of parts.old.items
         ++ target_parts (part_of at.entry) branch.entry.edges branch.entry.width branch.entry.behind.now
         branch.entry.edges) }
@@ -81,7 +79,7 @@ fn push_targets<'a, A: Allocator>(
     Ok(())
 }
 
-/// Turns the order of all parts after the first `len` round.
+/// Reverses the order of all parts after the first `len`.
 fn reverse_from<T: Drop, A: Allocator>(parts: &mut Vec<T, A>, len: usize)
     requires { len ≤ vec_len parts.old }
     ensures { parts.new.items ≡ take len parts.old.items ++ reverse (drop len parts.old.items) }
@@ -90,7 +88,7 @@ fn reverse_from<T: Drop, A: Allocator>(parts: &mut Vec<T, A>, len: usize)
     last.reverse();
 }
 
-/// Adds what follows the node with which a part begins. What is to come first is added last.
+/// Adds the parts that follow the node at the beginning of a part. The next one is added last.
 #[inline(always)]
 pub(crate) fn push_behind<'a, A: Allocator>(
     parts: &mut Vec<Part<'a>, A>,
@@ -99,7 +97,8 @@ pub(crate) fn push_behind<'a, A: Allocator>(
 ) -> Result<(), AllocError>
     requires { (kind : Kind) × (node_of kind at.bytes.now ≡ Some (shape node)) }
     ensures { OnOk result (map part_of (reverse parts.new.items)
-        ≡ parts_behind (part_of at.entry) (shape node.entry) ++ map part_of (reverse parts.old.items)) }
+        ≡ parts_behind (part_of at.entry) (shape node.entry)
+        ++ map part_of (reverse parts.old.items)) }
 {
     match node {
         Node::Value(_value, after) => parts.push(at.after(after))?,
@@ -114,7 +113,7 @@ pub(crate) fn push_behind<'a, A: Allocator>(
     Ok(())
 }
 
-/// Goes on to the next node of the parts. Out of memory no part is left.
+/// Returns the next node of the parts. After an error no part is left.
 fn next_of<'a, A: Allocator>(
     options: ZeroTrieBuilderOptions,
     parts: &mut Vec<Part<'a>, A>,
@@ -135,10 +134,11 @@ fn next_of<'a, A: Allocator>(
     Ok(None)
 }
 
-/// The nodes of bytes, one after another in the order in which they lie.
+/// The nodes of a trie, in the order of their bytes.
 ///
 /// ```
-/// let mut nodes = Nodes::new::<Simple>(rt.alloc(), b"a\xC2bc\x01\x81\x82")?;     // the keys "ab" and "ac"
+/// let bytes = b"a\xC2bc\x01\x81\x82";                     // the keys "ab" and "ac"
+/// let mut nodes = Nodes::new::<Simple>(rt.alloc(), bytes)?;
 /// let mut places = Vec::new(rt.alloc());
 /// while let Some(visit) = nodes.next_node()? {
 ///     places.push((visit.part.place, visit.part.depth, visit.part.edge))?;
@@ -147,8 +147,9 @@ fn next_of<'a, A: Allocator>(
 /// assert_eq!(rt; places.as_slice(), listed.as_slice());
 /// ```
 ///
-/// On any bytes it gives the nodes that are there, up to where none begins: in a branch up to the first target whose
-/// offsets fall. So no byte is gone over twice. It takes memory as branches lie in one another.
+/// On malformed bytes it returns the nodes up to where none begins, and in a branch up to the first
+/// target whose offsets fall. So no byte is read twice. Allocates memory for the branches that are
+/// nested.
 #[derive(Debug, Drop)]
 pub struct Nodes<'a, A: Allocator = Global> {
     options: ZeroTrieBuilderOptions,
@@ -157,7 +158,7 @@ pub struct Nodes<'a, A: Allocator = Global> {
 
 impl<'a, A: Allocator> Model for Nodes<'a, A> {
     ghost use Rattle.std.specs.Prelude.{List};
-    ghost use Rattle.zerotrie_core.specs.Kind.{kind_with};
+    ghost use Rattle.zerotrie_base.specs.Kind.{kind_with};
     ghost use Rattle.zerotrie_core.specs.walk.Visits.{Visit};
     ghost use Rattle.zerotrie_core.specs.walk.Seen.{visits_left};
 
@@ -167,7 +168,7 @@ impl<'a, A: Allocator> Model for Nodes<'a, A> {
 }
 
 impl<'a, A: Allocator> Nodes<'a, A> {
-    /// All nodes of the bytes.
+    /// Returns all nodes of the bytes.
     pub fn new<K: ZeroTrieWithOptions>(alloc: A, bytes: &'a [u8]) -> Result<Self, AllocError>
         ensures nodes { IfOk result (λ s. s ≡ nodes_of K.kind bytes.now) }
         ensures most { IfOk result (λ s. length s ≤ length bytes.now) }
@@ -183,9 +184,9 @@ impl<'a, A: Allocator> Nodes<'a, A> {
         })
     }
 
-    /// Goes on to the next node. `None` if there is none left.
+    /// Returns the next node, or `None` if there is none left.
     ///
-    /// The only error is that it is out of memory. No node is left after it.
+    /// The only error is that an allocation failed. After it no node is left.
     pub fn next_node(&mut self) -> Result<Option<Visit<'a>>, AllocError>
         ensures { IsNext self.old result self.new }
     {

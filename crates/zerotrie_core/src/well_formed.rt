@@ -1,14 +1,15 @@
-//! The test of bytes: whether they are a trie at all.
+//! Validation of bytes.
 //!
-//! It goes over the nodes as a look-up does, in one call for all of a text but the shorter targets of a branch: each of
-//! those that is more than a leaf has a call of its own, and with the longest one the call itself goes on. A shorter target
-//! has less than half of the bytes, so few calls are open at once, and no memory is taken.
+//! It reads nodes as a look-up does, in one call for all of a trie but the shorter targets of a
+//! branch. Each of those that is more than a leaf has a call of its own, and the loop continues
+//! with the longest one. A shorter target has less than half of the bytes, so few calls are open at
+//! once. Nothing is allocated.
 
 ghost use Rattle.std.specs.Prelude.{◌≡◌, ◌≢◌, ◌↔◌, ℕ, ◌<◌, ◌≤◌, IsTrue, IfSome, IfNone, List, [], length, take};
-ghost use Rattle.zerotrie_core.specs.Kind.{Kind};
-ghost use Rattle.zerotrie_core.specs.Maps.{Map};
-ghost use Rattle.zerotrie_core.specs.Texts.{AreHigh, Means};
-ghost use Rattle.zerotrie_core.specs.Nodes.Shape.{value, span};
+ghost use Rattle.zerotrie_base.specs.Kind.{Kind};
+ghost use Rattle.zerotrie_base.specs.Maps.{Map};
+ghost use Rattle.zerotrie_base.specs.Texts.{AreHigh, Means};
+ghost use Rattle.zerotrie_base.specs.Nodes.Shape.{value, span};
 ghost use Rattle.zerotrie_core.specs.Shapes.{shape, branch_shape};
 ghost use Rattle.zerotrie_core.specs.WellFormed.{IsWellFormed, IsShallow, deep};
 ghost use Rattle.zerotrie_core.specs.listing.Runs.{EndsWith};
@@ -20,20 +21,20 @@ pub(crate) mod known_table;
 use crate::branch::Branch;
 use crate::here::Here;
 use crate::node::{Node, first_node};
-use crate::options::ZeroTrieWithOptions;
 use branches::{has_front, target_from};
 use known_table::KnownTable;
+use zerotrie_base::ZeroTrieWithOptions;
 
-/// What may stand next in a text.
+/// What may come next.
 #[derive(Clone, Copy)]
 pub(crate) enum Expected {
     /// Anything, also the end.
     Anything,
-    /// No value, since one stands before it.
+    /// Anything but a value, since one came before it.
     NoValue,
-    /// No span, since one stands before it, and not the end.
+    /// Neither a span, since one came before it, nor the end.
     NoSpan,
-    /// Not the end.
+    /// Anything but the end.
     Something,
 }
 
@@ -41,21 +42,18 @@ impl Expected {
     ghost use Rattle.zerotrie_core.specs.declared.well_formed.Expected.TheVariants.{NoValue, NoSpan};
     ghost use Rattle.zerotrie_core.specs.well_formed.Testing.{IsAllowed};
 
-    /// Whether a value may stand next.
     pub(crate) fn takes_value(self) -> bool
         ensures { IsTrue result ↔ (self ≢ NoValue) }
     {
         !matches!(self, Expected::NoValue)
     }
 
-    /// Whether a span may stand next.
     pub(crate) fn takes_span(self) -> bool
         ensures { IsTrue result ↔ (self ≢ NoSpan) }
     {
         !matches!(self, Expected::NoSpan)
     }
 
-    /// Whether the end may stand next.
     pub(crate) fn takes_end(self) -> bool
         ensures { IsTrue result ↔ IsAllowed self [] }
     {
@@ -63,20 +61,20 @@ impl Expected {
     }
 }
 
-/// What a node of the bytes comes to.
+/// The next step of validation.
 #[derive(Clone, Copy)]
 pub(crate) enum Step<'a> {
-    /// It may not stand there.
+    /// The node may not be there.
     Wrong,
-    /// Literals stand there, at least one.
+    /// Skip literals, at least one.
     Literals,
-    /// The text goes on in these bytes, and this may stand there.
+    /// Continue in these bytes, which this may begin.
     Over(&'a [u8], Expected),
-    /// It goes on after a branch.
+    /// Continue in the targets of a branch.
     Behind(Branch<'a>),
 }
 
-/// Whether the bytes may stand in a span.
+/// Returns whether the bytes can be the run of a span.
 pub(crate) fn is_run(run: &[u8]) -> bool
     ensures { IsTrue result ↔ ((run.now ≢ []) × AreHigh run.now) }
 {
@@ -91,7 +89,6 @@ pub(crate) fn is_run(run: &[u8]) -> bool
     true
 }
 
-/// What a value comes to, after which these bytes stand.
 #[inline(always)]
 fn value_step(rest: &[u8], expected: Expected) -> Step<'_>
     ensures { (kind : Kind) (v : ℕ) → Steps kind (value v rest.now) expected result }
@@ -103,7 +100,6 @@ fn value_step(rest: &[u8], expected: Expected) -> Step<'_>
     }
 }
 
-/// What a span of this run comes to, after which these bytes stand.
 #[inline(always)]
 fn span_step<'a>(run: &[u8], rest: &'a [u8], expected: Expected) -> Step<'a>
     ensures { (kind : Kind) → Steps kind (span run.now rest.now) expected result }
@@ -115,7 +111,7 @@ fn span_step<'a>(run: &[u8], rest: &'a [u8], expected: Expected) -> Step<'a>
     }
 }
 
-/// What a node comes to, if this may stand there.
+/// Returns the next step after a node, given what may be there.
 #[inline(always)]
 fn next_step<'a, K: ZeroTrieWithOptions>(node: Node<'a>, expected: Expected) -> Step<'a>
     ensures { Steps K.kind (shape node.entry) expected result }
@@ -128,7 +124,7 @@ fn next_step<'a, K: ZeroTrieWithOptions>(node: Node<'a>, expected: Expected) -> 
     }
 }
 
-/// After a value, as far as sixteen bytes tell of one, and what may stand there.
+/// Skips a value, if the first sixteen bytes show one, and returns what may follow.
 #[inline(always)]
 fn past_value(here: Here<'_>) -> (Here<'_>, Expected)
     ensures { IsPastValue here.entry.rest.now result.0.rest.now result.1 }
@@ -142,9 +138,8 @@ fn past_value(here: Here<'_>) -> (Here<'_>, Expected)
     (here.after(len), expected)
 }
 
-/// After literals and a value, as far as sixteen bytes of each tell, and what may stand there, in bytes that are not empty.
-///
-/// No jump in it depends on how many literals there are, on how long the value is, or on whether there is one.
+/// Skips literals and a value, up to sixteen bytes of each, and returns what may follow. The bytes
+/// must not be empty. No jump depends on the number of literals or on the value.
 #[inline(always)]
 fn pass(here: Here<'_>) -> (Here<'_>, Expected)
     ensures shorter { length result.0.rest.now ≤ length here.entry.rest.now }
@@ -154,7 +149,8 @@ fn pass(here: Here<'_>) -> (Here<'_>, Expected)
     past_value(here.after(here.literals()))
 }
 
-/// The same, twice if literals go on after the first value, as they do after a word that longer words begin with.
+/// Like `pass`, and again if literals follow the first value, as in a word that longer words begin
+/// with.
 #[inline(always)]
 fn pass_twice(here: Here<'_>) -> (Here<'_>, Expected)
     ensures shorter { length result.0.rest.now ≤ length here.entry.rest.now }
@@ -168,7 +164,7 @@ fn pass_twice(here: Here<'_>) -> (Here<'_>, Expected)
     }
 }
 
-/// Two targets, the longer one last, or the first if none is longer.
+/// Returns the shorter and the longer of two targets. Of equal ones the first is the longer.
 #[inline(always)]
 fn by_length<'a>(first: Here<'a>, next: Here<'a>) -> (Here<'a>, Here<'a>)
     ensures { IsFirstLonger first.entry.rest.now next.entry.rest.now
@@ -181,11 +177,8 @@ fn by_length<'a>(first: Here<'a>, next: Here<'a>) -> (Here<'a>, Here<'a>)
     }
 }
 
-/// The longest target of a branch, if the branch and all other targets are well-formed, and the depth that these give to
-/// the branch.
-///
-/// Each offset is read once: of the targets so far, all but the longest are tested, and that one comes to its turn when a
-/// longer one is met.
+/// Validates a branch and all its targets but the longest. Returns that one, and the depth so far.
+/// Reads each offset once: of the targets so far, all but the longest are validated.
 #[cycle(tested)]
 fn go_behind<'a, K: ZeroTrieWithOptions>(
     here: Here<'a>,
@@ -221,9 +214,8 @@ fn go_behind<'a, K: ZeroTrieWithOptions>(
     Some((longest, most))
 }
 
-/// Whether the bytes of a target, which are not empty, are a trie of the kind, and its depth.
-///
-/// Most of the shorter targets are literals and a value: they take no call.
+/// Returns whether a target, which must not be empty, is a trie of the kind, and its depth. Most of
+/// the shorter targets are literals and a value, and need no call.
 #[inline(always)]
 #[cycle(tested)]
 fn is_target_counted<'a, K: ZeroTrieWithOptions>(
@@ -243,7 +235,7 @@ fn is_target_counted<'a, K: ZeroTrieWithOptions>(
     is_text_counted::<K>(at.tail, at.rest.len(), expected, known)
 }
 
-/// Whether the first `len` of these bytes are a trie of the kind and begin as they may, and the depth of the trie.
+/// Returns whether the first `len` bytes are a trie of the kind that may be there, and its depth.
 #[cycle(tested)]
 fn is_text_counted<'a, K: ZeroTrieWithOptions>(
     tail: &'a [u8],
@@ -283,8 +275,7 @@ fn is_text_counted<'a, K: ZeroTrieWithOptions>(
     (at.rest.is_empty() && next.takes_end(), most)
 }
 
-/// Whether the bytes are a trie of the kind, and its depth, which no count of calls of this test that are open at once
-/// passes.
+/// Returns whether the bytes are valid, and a bound on the depth of recursion that the test used.
 ///
 /// ```
 /// assert_eq!(rt; is_well_formed_counted::<Simple>(&[0x61, 0x85]), (true, 1));
@@ -292,9 +283,11 @@ fn is_text_counted<'a, K: ZeroTrieWithOptions>(
 /// assert!(rt; !is_well_formed_counted::<Simple>(&[0x61]).0);
 /// ```
 ///
-/// The test calls itself for each target of a branch but the longest, unless it is a leaf, and goes on with that one; of
-/// equal ones it is the first. A leaf counts as a call. On any bytes, fewer than 2^d with d at least 1 give a depth from
-/// 1 to d, so it is never more than 64. It returns on any bytes, and takes no memory.
+/// The test calls itself for each target of a branch but the longest, unless it is a leaf, and
+/// continues with the longest; of equal ones that is the first. A leaf counts as a call. Fewer than
+/// 2^d bytes, with d at least 1, give a depth from 1 to d, so never more than 64.
+///
+/// Works on any bytes and does not allocate.
 pub fn is_well_formed_counted<K: ZeroTrieWithOptions>(bytes: &[u8]) -> (bool, u32)
     ensures yes { IsTrue result.0 ↔ IsWellFormed K.kind bytes.now }
     ensures count { (m : Map) (means : Means K.kind bytes.now m) → result.1 ≡ deep means.lists }
@@ -304,7 +297,7 @@ pub fn is_well_formed_counted<K: ZeroTrieWithOptions>(bytes: &[u8]) -> (bool, u3
     is_text_counted::<K>(bytes, bytes.len(), Expected::Anything, &mut known)
 }
 
-/// Whether the bytes are a trie of the kind, every rule of the format kept.
+/// Returns whether the bytes are valid: a trie of the kind that keeps every rule of the format.
 ///
 /// ```
 /// assert!(rt; is_well_formed::<Simple>(&[0x61, 0x85]));   // the key "a" with value 5
@@ -312,7 +305,8 @@ pub fn is_well_formed_counted<K: ZeroTrieWithOptions>(bytes: &[u8]) -> (bool, u3
 /// assert!(rt; is_well_formed::<Simple>(&[]));             // no keys
 /// ```
 ///
-/// Yes exactly if the bytes mean some map. It returns on any bytes, and takes no memory.
+/// The result is `true` exactly if the bytes mean some map. Works on any bytes and does not
+/// allocate.
 pub fn is_well_formed<K: ZeroTrieWithOptions>(bytes: &[u8]) -> bool
     ensures { IsTrue result ↔ IsWellFormed K.kind bytes.now }
 {

@@ -1,7 +1,8 @@
 //! Perfect hashes of bytes.
 //!
-//! A table of n keys is a byte `p`, then n bytes `q`, then the n keys, each at its place. To find a byte:
-//! [`f1`] gives its bucket by `p`, [`f2`] its place by the bucket's `q`, and the key there is compared.
+//! A table of n keys is a byte `p`, then n bytes `q`, then the n keys, each at its place. To find a
+//! byte, [`f1`] computes its bucket from `p`, [`f2`] computes its place from the bucket's `q`, and
+//! the key at that place is compared.
 
 mod builder;
 mod cached_owned;
@@ -20,22 +21,23 @@ ghost use Rattle.zerotrie_base.specs.Refusals.{IsTableRefusal};
 use crate::error::ZeroTrieBuildError;
 use crate::store::TrieStore;
 use builder::{find, placed_keys};
-pub use cached_owned::{HeldTables, PerfectByteHashMapCacheOwned};
+pub use cached_owned::PerfectByteHashMapCacheOwned;
 use reciprocals::remainder;
 use std::alloc::{AllocError, Allocator, Global};
 
-/// From the next `q` on, [`f2`] turns its result.
+/// The greatest `q` for which [`f2`] turns nothing.
 const Q_FAST_MAX: u8 = 95;
 
-/// The bucket of the byte among `n`, by the parameter `p`.
+/// Returns the bucket of the byte among `n`, by the parameter `p`.
 ///
 /// ```
 /// assert_eq!(rt; f1(10, 0, 10), 0);
 /// assert_eq!(rt; f1(10, 1, 10), 4);
 /// ```
 ///
-/// The remainder by `n` of the byte if `p` is 0, and else of the byte, `p` and the byte shifted right
-/// by `p` modulo 8, in exclusive or. An `n` of 0 stands for 256: every byte is its own bucket.
+/// If `p` is 0, the bucket is the remainder of the byte by `n`. Otherwise it is that of the
+/// exclusive or of the byte, `p`, and the byte shifted right by `p` modulo 8. An `n` of 0 means
+/// 256: every byte is its own bucket.
 pub fn f1(byte: u8, p: u8, n: u8) -> u8
     ensures { result ≡ f1 byte p n }
 {
@@ -46,7 +48,7 @@ pub fn f1(byte: u8, p: u8, n: u8) -> u8
     }
 }
 
-/// The number whose remainder is the bucket of the byte, by the parameter `p`.
+/// Returns the number whose remainder by `n` is the bucket of the byte.
 #[inline]
 fn mixed(byte: u8, p: u8) -> u8
     ensures { (n : ℕ) → 0 < n → f1 byte p n ≡ result % n }
@@ -58,16 +60,16 @@ fn mixed(byte: u8, p: u8) -> u8
     }
 }
 
-/// The place of the byte among `n`, by the parameter `q` of its bucket.
+/// Returns the place of the byte among `n`, by the parameter `q` of its bucket.
 ///
 /// ```
 /// assert_eq!(rt; f2(2, 0, 10), 2);
 /// assert_eq!(rt; f2(2, 1, 10), 3);
 /// ```
 ///
-/// The remainder by `n` of the byte and `q` in exclusive or. That number is first turned `q - 95` times
-/// if `q` is above 95: one turn is its exclusive or with itself shifted left and right by one, in
-/// eight bits. An `n` of 0 stands for 256: every byte is its own place.
+/// The place is the remainder by `n` of the exclusive or of the byte and `q`. If `q` is above 95,
+/// that number is first turned `q - 95` times: a turn is its exclusive or with itself shifted left
+/// by one and right by one, in eight bits. An `n` of 0 means 256: every byte is its own place.
 pub fn f2(byte: u8, q: u8, n: u8) -> u8
     ensures { result ≡ f2 byte q n }
 {
@@ -78,7 +80,7 @@ pub fn f2(byte: u8, q: u8, n: u8) -> u8
     }
 }
 
-/// The number whose remainder is the place of the byte, by the parameter `q`.
+/// Returns the number whose remainder by `n` is the place of the byte.
 #[inline]
 #[tactic(auto, using(crate::proofs::HashLemmas::turned_more))]
 fn turned(byte: u8, q: u8) -> u8
@@ -91,14 +93,14 @@ fn turned(byte: u8, q: u8) -> u8
     turned
 }
 
-/// Whether no byte comes twice.
+/// Returns whether no byte occurs twice.
 ///
 /// ```
 /// assert!(rt; are_distinct(b"aceg"));
 /// assert!(rt; !are_distinct(b"abca"));
 /// ```
 ///
-/// It takes no memory. No bytes at all are distinct.
+/// Does not allocate. Returns `true` if there are no bytes.
 pub fn are_distinct(keys: &[u8]) -> bool
     ensures { IsTrue result ↔ IsDistinct nat_eq keys.now }
 {
@@ -112,7 +114,7 @@ pub fn are_distinct(keys: &[u8]) -> bool
     true
 }
 
-/// What the bytes of a table answer for the key.
+/// Returns the place of the key, by the bytes of a table.
 fn number_of(bytes: &[u8], key: u8) -> Option<usize>
     ensures { result ≡ number_of bytes.now key }
 {
@@ -132,7 +134,7 @@ fn number_of(bytes: &[u8], key: u8) -> Option<usize>
     }
 }
 
-/// The bytes of a perfect table of the keys, in memory of any allocator.
+/// Builds the bytes of a perfect table of the keys, in memory of any allocator.
 fn table_of<A: Allocator + Copy>(alloc: A, keys: &[u8]) -> Result<Vec<u8, A>, ZeroTrieBuildError>
     requires { IsDistinct nat_eq keys.now }
     ensures table { IfOk result (λ table. IsPerfectTable keys.now table.items) }
@@ -159,23 +161,27 @@ fn table_of<A: Allocator + Copy>(alloc: A, keys: &[u8]) -> Result<Vec<u8, A>, Ze
 /// assert_eq!(rt; table.get(b'd'), None);
 /// ```
 ///
-/// A table of n keys has `1 + 2 * n` bytes: `p`, a `q` for each bucket, and the keys. It is perfect if
-/// each key stands at its own place. Bytes from elsewhere need not be: every call answers on any bytes.
+/// A table of n keys has `1 + 2 * n` bytes: `p`, a `q` for each bucket, and the keys. It is perfect
+/// if each key is at its own place. Each call also returns on bytes that are not a perfect table.
 #[derive(Debug, Drop)]
 pub struct PerfectByteHashMap<S> {
     pub store: S,
 }
 
 impl PerfectByteHashMap<Vec<u8>> {
-    /// A perfect table of the keys, in an order of its own.
+    /// Builds a perfect table of the keys, in an order of its own.
     ///
-    /// The keys have to be distinct, which [`are_distinct`] tells; so there are at most 256. The search
-    /// takes `p` from 0 to 95 and each bucket's `q` from 0 to 95, then once more with each `q` to 127. No
-    /// keys, 256 keys, and keys whose remainders by their number are distinct get 0 for every parameter.
+    /// The keys must be distinct, which [`are_distinct`] tests; so there are at most 256. The
+    /// search tries `p` from 0 to 95 and each bucket's `q` from 0 to 95, then again with each `q`
+    /// to 127. If there are no keys or 256, or the remainders of the keys by their number are
+    /// distinct, every parameter is 0.
     ///
-    /// `CouldNotSolvePerfectHash` is answered only for 1 to 255 keys that are not straight: for no `p`
-    /// can the buckets, the largest first, each be given the least `q` at which the places of its keys
-    /// are distinct and free. `OutOfMemory` is answered if memory runs out.
+    /// # Errors
+    ///
+    /// - `CouldNotSolvePerfectHash`: there are 1 to 255 keys, and for no `p` can the buckets, the
+    ///   largest first, each be given the least `q` by which the places of its keys are distinct
+    ///   and free.
+    /// - `OutOfMemory`: an allocation failed.
     pub fn try_new(
         alloc: Global,
         keys: &[u8],
@@ -193,7 +199,7 @@ impl PerfectByteHashMap<Vec<u8>> {
 }
 
 impl<S> PerfectByteHashMap<S> {
-    /// The table whose bytes the store has, whatever they are.
+    /// Returns the table in a store, whose bytes are not validated.
     pub fn from_store(store: S) -> Self
         ensures { result.store ≡ store }
     {
@@ -202,7 +208,7 @@ impl<S> PerfectByteHashMap<S> {
 }
 
 impl<'a> PerfectByteHashMap<&'a [u8]> {
-    /// The table of the bytes, whatever they are.
+    /// Returns the table in these bytes, which are not validated.
     pub fn from_bytes(bytes: &'a [u8]) -> Self
         ensures { result.store.now ≡ bytes.now }
     {
@@ -211,11 +217,11 @@ impl<'a> PerfectByteHashMap<&'a [u8]> {
 }
 
 impl<S: TrieStore> PerfectByteHashMap<S> {
-    /// The place of the key, or `None` if the table does not have it.
+    /// Returns the place of the key, or `None` if the table does not have it.
     ///
-    /// On a perfect table key number i is at the place i. On any other bytes: with n half the number of
-    /// bytes after the first one, rounded down, the place comes from the first n of them, and it is
-    /// answered if the byte n further on is the key.
+    /// On a perfect table, key number i is at place i. On any bytes, let n be half the number of
+    /// bytes after the first one, rounded down. The first n of these give a place, which is
+    /// returned if the byte n further on is the key.
     pub fn get(&self, key: u8) -> Option<usize>
         ensures any { result ≡ number_of (S.stored self.now.store) key }
         ensures perfect { (p : ℕ) (qs keys : List ℕ) → S.stored self.now.store ≡ p ∷ (qs ++ keys)
@@ -225,15 +231,15 @@ impl<S: TrieStore> PerfectByteHashMap<S> {
         number_of(self.store.bytes(), key)
     }
 
-    /// The number of keys: half the number of bytes, rounded down.
+    /// Returns the number of keys: half the number of bytes, rounded down.
     pub fn num_items(&self) -> usize
         ensures { result ≡ length (S.stored self.now.store) / 2 }
     {
         self.store.bytes().len() / 2
     }
 
-    /// The keys in the order of their places: what follows the first `1 + num_items` bytes, and nothing
-    /// if there are fewer.
+    /// Returns the keys in the order of their places: the bytes after the first `1 + num_items`, or
+    /// none if there are fewer.
     pub fn keys(&self) -> &[u8]
         ensures { let bytes = S.stored self.now.store in result.now
             ≡ drop (1 + length bytes / 2) bytes }
@@ -242,14 +248,14 @@ impl<S: TrieStore> PerfectByteHashMap<S> {
         bytes.get(1 + bytes.len() / 2..).unwrap_or(&[])
     }
 
-    /// The bytes of the table. [`Self::from_store`] and [`Self::from_bytes`] read them again.
+    /// Returns the bytes of the table, which [`Self::from_store`] and [`Self::from_bytes`] take.
     pub fn as_bytes(&self) -> &[u8]
         ensures { result.now ≡ S.stored self.now.store }
     {
         S::bytes(&self.store)
     }
 
-    /// The same table over borrowed bytes. It takes no memory.
+    /// Returns the same table over borrowed bytes. Does not allocate.
     pub fn as_borrowed(&self) -> PerfectByteHashMap<&[u8]>
         ensures { result.store.now ≡ S.stored self.now.store }
     {

@@ -1,8 +1,8 @@
-//! Remainders of bytes with no division.
+//! Remainders of bytes without division.
 
 ghost use Rattle.std.specs.Prelude.{◌≡◌, ◌<◌, ◌/◌, ◌%◌};
 
-/// How often each number goes into 65535. A 0 stands for 0.
+/// 65535 divided by each number, rounded down. The entry of 0 is 0.
 const QUOTIENTS: [u16; 256] = [
     0, 65535, 32767, 21845, 16383, 13107, 10922, 9362, 8191, 7281, 6553, 5957, 5461, 5041, 4681,
     4369, 4095, 3855, 3640, 3449, 3276, 3120, 2978, 2849, 2730, 2621, 2520, 2427, 2340, 2259, 2184,
@@ -21,7 +21,6 @@ const QUOTIENTS: [u16; 256] = [
     260, 259, 258, 257,
 ];
 
-/// How often `n` goes into 65535.
 #[inline]
 fn quotient(n: u8) -> u16
     requires { 0 < n }
@@ -30,7 +29,7 @@ fn quotient(n: u8) -> u16
     QUOTIENTS[n as usize]
 }
 
-/// The remainder of the byte by `n`. A product has their quotient in its upper bits.
+/// Returns `byte % n`. The upper bits of the product are the quotient.
 #[inline]
 pub(crate) fn remainder(byte: u8, n: u8) -> u8
     requires { 0 < n }

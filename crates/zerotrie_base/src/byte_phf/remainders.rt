@@ -1,4 +1,4 @@
-//! Buckets and places with no division.
+//! Buckets and places without division.
 
 ghost use Rattle.std.specs.Prelude.{◌≡◌, ◌<◌, ℕ, slice_index};
 ghost use Rattle.zerotrie_base.specs.Hashes.{f1, f2};
@@ -6,7 +6,7 @@ ghost use Rattle.zerotrie_base.specs.Hashes.{f1, f2};
 use super::{f1, mixed, turned};
 use std::marker::Model;
 
-/// The remainders of all bytes by a number, so that each is worked out once.
+/// The remainders of all bytes by a number, each computed once.
 #[derive(Drop)]
 pub(crate) struct Remainders {
     n: u8,
@@ -22,7 +22,7 @@ impl Model for Remainders {
 }
 
 impl Remainders {
-    /// The remainders by `n`, or the bytes themselves if that is 0.
+    /// Computes the remainders by `n`. If `n` is 0, they are the bytes themselves.
     pub(crate) fn by(n: u8) -> Self
         ensures { result ≡ n }
     {
@@ -33,7 +33,7 @@ impl Remainders {
         Remainders { n, of }
     }
 
-    /// As [`f1`].
+    /// Like [`f1`].
     #[inline]
     pub(crate) fn bucket(&self, byte: u8, p: u8) -> u8
         ensures { result ≡ f1 byte p self.now }
@@ -45,7 +45,7 @@ impl Remainders {
         }
     }
 
-    /// As [`super::f2`].
+    /// Like [`super::f2`].
     #[inline]
     pub(crate) fn place(&self, byte: u8, q: u8) -> u8
         ensures { result ≡ f2 byte q self.now }

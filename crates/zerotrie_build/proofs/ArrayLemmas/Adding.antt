@@ -2,15 +2,15 @@
 use Rattle.std.proofs.Common.{◌≡◌, ℕ, zero, suc, ◌-◌, ◌<◌, ◌≤◌, inl, inr, List, [], ◌∷◌, ◌++◌, length, refl, sym, ◌∙◌, ap, subst, arith, take, drop, get_or, All, Some, slice_get}
 use Rattle.std.proofs.lemmas.List.{take-append-drop, drop_all}
 use Rattle.std.proofs.lemmas.Option.{slice_get_within}
-use Rattle.zerotrie_core.specs.Kind.{simple_ascii}
-use Rattle.zerotrie_core.specs.Numbers.{value_form, SpellsAs, spelled_as}
-use Rattle.zerotrie_core.specs.Maps.{Pairs, residual, behind_all}
-use Rattle.zerotrie_core.specs.Texts.{Lists}
-use Rattle.zerotrie_core.specs.Texts.Lists.{nothing}
-use Rattle.zerotrie_core.specs.Fits.{OverflowsAt}
-use Rattle.zerotrie_core.specs.Stack.{stack_of}
-use Rattle.zerotrie_core.specs.Causes.{ZeroTrieBuildError}
-use Rattle.zerotrie_core.proofs.CallerLemmas.{residual-append, stack_none}
+use Rattle.zerotrie_base.specs.Kind.{simple_ascii}
+use Rattle.zerotrie_base.specs.Numbers.{value_form, SpellsAs, spelled_as}
+use Rattle.zerotrie_base.specs.Maps.{Pairs, residual, behind_all}
+use Rattle.zerotrie_base.specs.Texts.{Lists}
+use Rattle.zerotrie_base.specs.Texts.Lists.{nothing}
+use Rattle.zerotrie_base.specs.Fits.{OverflowsAt}
+use Rattle.zerotrie_base.specs.Stack.{stack_of}
+use Rattle.zerotrie_base.specs.declared.error.ZeroTrieBuildError.{ZeroTrieBuildError}
+use Rattle.zerotrie_base.proofs.CallerLemmas.{residual-append, stack_none}
 use Rattle.zerotrie_build.specs.declared.konst.text.Sibling.{Sibling}
 use Rattle.zerotrie_build.specs.declared.konst.text.Text.{Text}
 use Rattle.zerotrie_build.specs.Order.{Before, Ordered}

@@ -2,13 +2,13 @@
 use Rattle.std.proofs.Common.{◌≡◌, ℕ, zero, suc, ◌+◌, ◌^◌, ◌<◌, ◌≤◌, ◌⊎◌, inl, inr, List, [], ◌∷◌, ◌++◌, length, refl, sym, ◌∙◌, ap, subst, arith, map, take, get_or, append_assoc, length-append}
 use Rattle.std.proofs.lemmas.Bool.{cases_lt}
 use Rattle.std.specs.List.{concat}
-use Rattle.zerotrie_core.specs.Kind.{simple_ascii}
-use Rattle.zerotrie_core.specs.Maps.{Pairs, with_front, with_run, behind_all, edges}
-use Rattle.zerotrie_core.specs.Branches.{total}
-use Rattle.zerotrie_core.specs.Texts.{ListEach}
-use Rattle.zerotrie_core.specs.Texts.ListEach.{no_edge, edge}
-use Rattle.zerotrie_core.specs.Stack.{branch_need, stack_of}
-use Rattle.zerotrie_core.proofs.CallerLemmas.{Rises, AllAbove, behind_all-nil, lists_some, edge_once, residual_first, residual_later, not_first, branch_agree, above, above_edge}
+use Rattle.zerotrie_base.specs.Kind.{simple_ascii}
+use Rattle.zerotrie_base.specs.Maps.{Pairs, with_front, with_run, behind_all, edges}
+use Rattle.zerotrie_base.specs.Branches.{total}
+use Rattle.zerotrie_base.specs.Texts.{ListEach}
+use Rattle.zerotrie_base.specs.Texts.ListEach.{no_edge, edge}
+use Rattle.zerotrie_base.specs.Stack.{branch_need, stack_of}
+use Rattle.zerotrie_base.proofs.CallerLemmas.{Rises, AllAbove, behind_all-nil, lists_some, edge_once, residual_first, residual_later, not_first, branch_agree, above, above_edge}
 use Rattle.zerotrie_build.specs.declared.konst.text.Sibling.{Sibling}
 use Rattle.zerotrie_build.specs.konst.Texts.{Counts, bytes_of, lens_of}
 use Rattle.zerotrie_build.specs.konst.Growing.{DepthsBelow, NoneAt, AllAt, ComesBefore, Aside, SomeBegins, AreAmong}

@@ -1,15 +1,16 @@
 -- What a build into an array, or into another buffer, answers.
 use Rattle.std.proofs.Common.{◌≡◌, ℕ, ◌+◌, ◌-◌, ◌^◌, ◌<◌, ◌≤◌, inl, inr, List, length, refl, sym, ◌∙◌, ap, subst, arith, All, drop}
 use Rattle.std.proofs.lemmas.Bool.{cases_lt}
-use Rattle.zerotrie_core.specs.Kind.{Kind, IsAscii, simple_ascii}
-use Rattle.zerotrie_core.specs.Maps.{Pairs, map_of, Ascends}
-use Rattle.zerotrie_core.specs.Texts.{Lists, Means}
-use Rattle.zerotrie_core.specs.Canonical.{size, size_of}
-use Rattle.zerotrie_core.specs.Stack.{stack, stack_of}
-use Rattle.zerotrie_core.specs.Laws.{MeansFits, MeansCanonical}
-use Rattle.zerotrie_core.specs.ArrayRoutes.{IsArrayBuilt, IsRefusalWithin}
-use Rattle.zerotrie_core.specs.Causes.{ZeroTrieBuildError, NonAsciiError, BufferTooSmall}
-use Rattle.zerotrie_core.proofs.CallerLemmas.{ascends_apart, entries-map_of, listed_size}
+use Rattle.zerotrie_base.specs.Kind.{Kind, IsAscii, simple_ascii}
+use Rattle.zerotrie_base.specs.Maps.{Pairs, map_of, Ascends}
+use Rattle.zerotrie_base.specs.Texts.{Lists, Means}
+use Rattle.zerotrie_base.specs.Canonical.{size, size_of}
+use Rattle.zerotrie_base.specs.Stack.{stack, stack_of}
+use Rattle.zerotrie_base.specs.Laws.{MeansFits, MeansCanonical}
+use Rattle.zerotrie_base.specs.ArrayRoutes.{IsArrayBuilt, IsRefusalWithin}
+use Rattle.zerotrie_base.specs.declared.error.ZeroTrieBuildError.{ZeroTrieBuildError}
+use Rattle.zerotrie_base.specs.declared.error.ZeroTrieBuildError.TheVariants.{NonAsciiError, BufferTooSmall}
+use Rattle.zerotrie_base.proofs.CallerLemmas.{ascends_apart, entries-map_of, listed_size}
 use Rattle.zerotrie_build.specs.konst.Texts.{EndsIn}
 use Rattle.zerotrie_build.specs.konst.Growing.{IsRefusedBuild, IsWritten}
 use Rattle.zerotrie_build.proofs.Building.{some_foreign}

@@ -4,17 +4,17 @@ use Rattle.std.specs.List.{concat}
 use Rattle.std.proofs.lemmas.List.{append-nil}
 use Rattle.std.proofs.Math.Seq.{take-length}
 use Rattle.std.proofs.Math.Nat.{eq-or-lt_of_le}
-use Rattle.zerotrie_core.specs.Kind.{simple_ascii}
-use Rattle.zerotrie_core.specs.Numbers.{value_form, SpellsAs}
-use Rattle.zerotrie_core.specs.Maps.{Pairs, with_front, with_run, behind_all, edges}
-use Rattle.zerotrie_core.specs.Texts.{Lists, ListEach}
-use Rattle.zerotrie_core.specs.Texts.Lists.{nothing, value, literal}
-use Rattle.zerotrie_core.specs.Texts.ListEach.{no_edge, edge}
-use Rattle.zerotrie_core.specs.Branches.{total, branch_front}
-use Rattle.zerotrie_core.specs.Canonical.{node}
-use Rattle.zerotrie_core.specs.Fits.{OverflowsAt}
-use Rattle.zerotrie_core.specs.Stack.{branch_need, stack_of}
-use Rattle.zerotrie_core.proofs.CallerLemmas.{Rises, lists_some, node_many, node_lists, not_empty_text, rises_distinct, bytes_all, targets_each, edges_count, edges_listed, stack_none, stack_value, stack_literal, stack_branch, stack_edges, above_edge, above_edges}
+use Rattle.zerotrie_base.specs.Kind.{simple_ascii}
+use Rattle.zerotrie_base.specs.Numbers.{value_form, SpellsAs}
+use Rattle.zerotrie_base.specs.Maps.{Pairs, with_front, with_run, behind_all, edges}
+use Rattle.zerotrie_base.specs.Texts.{Lists, ListEach}
+use Rattle.zerotrie_base.specs.Texts.Lists.{nothing, value, literal}
+use Rattle.zerotrie_base.specs.Texts.ListEach.{no_edge, edge}
+use Rattle.zerotrie_base.specs.Branches.{total, branch_front}
+use Rattle.zerotrie_base.specs.Canonical.{node}
+use Rattle.zerotrie_base.specs.Fits.{OverflowsAt}
+use Rattle.zerotrie_base.specs.Stack.{branch_need, stack_of}
+use Rattle.zerotrie_base.proofs.CallerLemmas.{Rises, lists_some, node_many, node_lists, not_empty_text, rises_distinct, bytes_all, targets_each, edges_count, edges_listed, stack_none, stack_value, stack_literal, stack_branch, stack_edges, above_edge, above_edges}
 use Rattle.zerotrie_build.specs.declared.konst.text.Sibling.{Sibling}
 use Rattle.zerotrie_build.specs.konst.Texts.{Counts, bytes_of, lens_of}
 use Rattle.zerotrie_build.specs.konst.Growing.{DepthsBelow, NoneAt, AllAt, ComesBefore, Aside, ReadyFor, ClosedTo, SomeBegins, AreAmong}

@@ -1,9 +1,9 @@
 -- Where a key parts from the key before it, in the order of bytes.
 use Rattle.std.proofs.Common.{◌≡◌, ℕ, zero, suc, ◌+◌, ◌<◌, ◌≤◌, ◌⊎◌, inl, inr, List, [], ◌∷◌, ◌++◌, length, refl, ◌∙◌, ap, arith, take, get_or}
 use Rattle.std.proofs.lemmas.Bool.{eq-eqb, ne_eqb}
-use Rattle.zerotrie_core.specs.Kind.{simple_ascii}
-use Rattle.zerotrie_core.specs.Maps.{Pairs, residual, behind_all}
-use Rattle.zerotrie_core.proofs.CallerLemmas.{residual-append, behind_all-nil}
+use Rattle.zerotrie_base.specs.Kind.{simple_ascii}
+use Rattle.zerotrie_base.specs.Maps.{Pairs, residual, behind_all}
+use Rattle.zerotrie_base.proofs.CallerLemmas.{residual-append, behind_all-nil}
 use Rattle.zerotrie_build.specs.Order.{Before, Ordered}
 use Rattle.zerotrie_build.specs.konst.Growing.{AtMost}
 use Rattle.zerotrie_build.proofs.OrderLemmas.Parting.{common}

@@ -2,9 +2,9 @@
 use Rattle.std.proofs.Common.{◌≡◌, ℕ, zero, suc, ◌+◌, ◌<◌, ◌≤◌, List, [], ◌∷◌, ◌++◌, length, refl, sym, ◌∙◌, ap, subst, arith, take, get_or, Bool, true, false, eqb}
 use Rattle.std.specs.Prelude.{◌||◌}
 use Rattle.std.proofs.lemmas.Bool.{eq-eqb}
-use Rattle.zerotrie_core.specs.Maps.{Pairs, with_front, with_run, begins_some, edges, residual, behind_all}
-use Rattle.zerotrie_core.specs.Stack.{stack_of}
-use Rattle.zerotrie_core.proofs.CallerLemmas.{residual-append, behind_all-nil, begins_some-append, begins_some-front, begins_behind, some_pair, member, member-edges, above, stack_behind}
+use Rattle.zerotrie_base.specs.Maps.{Pairs, with_front, with_run, begins_some, edges, residual, behind_all}
+use Rattle.zerotrie_base.specs.Stack.{stack_of}
+use Rattle.zerotrie_base.proofs.CallerLemmas.{residual-append, behind_all-nil, begins_some-append, begins_some-front, begins_behind, some_pair, member, member-edges, above, stack_behind}
 use Rattle.zerotrie_build.specs.konst.Growing.{SomeBegins, AreAmong}
 use Rattle.zerotrie_build.proofs.Runs.{with_run-push, take_one_more, behind_all-run}
 

@@ -3,12 +3,12 @@ use Rattle.std.proofs.Common.{◌≡◌, ℕ, zero, suc, ◌+◌, ◌-◌, ◌*�
 use Rattle.std.proofs.lemmas.List.{append-nil, length-map, length-set, take_all}
 use Rattle.std.specs.Prelude.{slice_set, slice_index, if◌then◌else◌}
 use Rattle.std.specs.List.{concat}
-use Rattle.zerotrie_core.specs.Kind.{Kind, greatest_width, is_hashed}
-use Rattle.zerotrie_core.specs.Maps.{Pairs, map_of, behind_all, edges}
-use Rattle.zerotrie_core.specs.Branches.{total}
-use Rattle.zerotrie_core.specs.Canonical.{size_of, branch_size}
-use Rattle.zerotrie_core.specs.Fits.{ExceedsCapacity}
-use Rattle.zerotrie_core.proofs.CallerLemmas.{rises_increasing, length-ordered}
+use Rattle.zerotrie_base.specs.Kind.{Kind, greatest_width, is_hashed}
+use Rattle.zerotrie_base.specs.Maps.{Pairs, map_of, behind_all, edges}
+use Rattle.zerotrie_base.specs.Branches.{total}
+use Rattle.zerotrie_base.specs.Canonical.{size_of, branch_size}
+use Rattle.zerotrie_base.specs.Fits.{ExceedsCapacity}
+use Rattle.zerotrie_base.proofs.CallerLemmas.{rises_increasing, length-ordered}
 use Rattle.zerotrie_build.specs.Order.{AreKeys}
 use Rattle.zerotrie_build.specs.declared.windows.Window.{Window}
 use Rattle.zerotrie_build.specs.declared.windows.Step.TheVariants.{Branch}

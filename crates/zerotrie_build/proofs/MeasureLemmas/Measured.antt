@@ -3,12 +3,12 @@ use Rattle.std.proofs.Common.{◌≡◌, ℕ, ◌+◌, ◌^◌, ◌<◌, ◌≤�
 use Rattle.std.proofs.lemmas.Bool.Decides.{eqb_tells}
 use Rattle.std.specs.FinMap.{entries}
 use Rattle.std.specs.Prelude.{All}
-use Rattle.zerotrie_core.specs.Kind.{Kind, greatest_width, edge_limit}
-use Rattle.zerotrie_core.specs.Maps.{Pairs, map_of, with_front, residual}
-use Rattle.zerotrie_core.specs.Branches.{total}
-use Rattle.zerotrie_core.specs.Canonical.{size}
-use Rattle.zerotrie_core.specs.Fits.{Fits, targets_size}
-use Rattle.zerotrie_core.proofs.CallerLemmas.{Rises, NarrowBehind, narrow_none, narrow_value, narrow_at, narrow_front, narrow-same, all_entries, by_fronts, increasing_rises, consistent_entries, same-entries, same-size_of, residual-append, residual-other}
+use Rattle.zerotrie_base.specs.Kind.{Kind, greatest_width, edge_limit}
+use Rattle.zerotrie_base.specs.Maps.{Pairs, map_of, with_front, residual}
+use Rattle.zerotrie_base.specs.Branches.{total}
+use Rattle.zerotrie_base.specs.Canonical.{size}
+use Rattle.zerotrie_base.specs.Fits.{Fits, targets_size}
+use Rattle.zerotrie_base.proofs.CallerLemmas.{Rises, NarrowBehind, narrow_none, narrow_value, narrow_at, narrow_front, narrow-same, all_entries, by_fronts, increasing_rises, consistent_entries, same-entries, same-size_of, residual-append, residual-other}
 use Rattle.zerotrie_build.specs.Order.{Ordered, AreKeys, AreValues}
 use Rattle.zerotrie_build.specs.declared.windows.Window.{Window}
 use Rattle.zerotrie_build.specs.declared.windows.Step.TheVariants.{Branch}

@@ -4,11 +4,11 @@ use Rattle.std.proofs.lemmas.List.{append-nil, length-map}
 use Rattle.std.specs.Prelude.{slice_set, if◌then◌else◌}
 use Rattle.std.specs.List.{concat}
 use Rattle.std.specs.FinMap.{entries}
-use Rattle.zerotrie_core.specs.Kind.{Kind, fold_byte, edge_limit, greatest_width, is_hashed, ordered as in_order, simple_ascii, ignore_case, perfect_hash, extended_capacity}
-use Rattle.zerotrie_core.specs.Maps.{Pairs, map_of, behind_all, edges}
-use Rattle.zerotrie_core.specs.Canonical.{size, size_of}
-use Rattle.zerotrie_core.specs.Fits.{ExceedsCapacity}
-use Rattle.zerotrie_core.proofs.CallerLemmas.{Rises, AllAbove, rises_increasing, fold_ascii, size_none, same-size_of, same-entries}
+use Rattle.zerotrie_base.specs.Kind.{Kind, fold_byte, edge_limit, greatest_width, is_hashed, ordered as in_order, simple_ascii, ignore_case, perfect_hash, extended_capacity}
+use Rattle.zerotrie_base.specs.Maps.{Pairs, map_of, behind_all, edges}
+use Rattle.zerotrie_base.specs.Canonical.{size, size_of}
+use Rattle.zerotrie_base.specs.Fits.{ExceedsCapacity}
+use Rattle.zerotrie_base.proofs.CallerLemmas.{Rises, AllAbove, rises_increasing, fold_ascii, size_none, same-size_of, same-entries}
 use Rattle.zerotrie_build.specs.Order.{AreKeys}
 use Rattle.zerotrie_build.specs.declared.windows.Window.{Window}
 use Rattle.zerotrie_build.specs.declared.windows.Step.TheVariants.{End, Branch}

@@ -2,8 +2,8 @@
 use Rattle.std.proofs.Common.{◌≡◌, ℕ, zero, suc, ◌+◌, ◌<◌, List, [], ◌∷◌, length, refl, sym, ap, arith, get_or, inl, inr}
 use Rattle.std.specs.Prelude.{◌==◌}
 use Rattle.std.proofs.lemmas.Bool.{eq-eqb, ne_eqb}
-use Rattle.zerotrie_core.specs.Kind.{Kind, fold_byte, same_byte}
-use Rattle.zerotrie_core.specs.Maps.{Pairs, common_front, IsCaseConsistent}
+use Rattle.zerotrie_base.specs.Kind.{Kind, fold_byte, same_byte}
+use Rattle.zerotrie_base.specs.Maps.{Pairs, common_front, IsCaseConsistent}
 use Rattle.zerotrie_build.specs.Order.{Before, BeforeFirst, Ordered}
 use Rattle.zerotrie_build.proofs.OrderLemmas.Sorting.{before_trans}
 

@@ -1,8 +1,8 @@
 -- Keys that are below others by their bytes come before them if case is kept.
 use Rattle.std.proofs.Common.{ℕ, inl, inr, List, [], ◌∷◌, refl, arith}
 use Rattle.std.proofs.lemmas.Bool.{cases_lt, cases_eq}
-use Rattle.zerotrie_core.specs.Kind.{simple_ascii}
-use Rattle.zerotrie_core.specs.Maps.{Pairs, Ascends}
+use Rattle.zerotrie_base.specs.Kind.{simple_ascii}
+use Rattle.zerotrie_base.specs.Maps.{Pairs, Ascends}
 use Rattle.zerotrie_build.specs.Order.{Before, Ordered}
 use Rattle.zerotrie_build.proofs.Items.{Below, ascends_each, each_ordered}
 use Rattle.zerotrie_build.proofs.OrderLemmas.Sorting.{less_is, equal_is, greater_is}

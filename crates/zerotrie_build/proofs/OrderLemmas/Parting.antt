@@ -2,8 +2,8 @@
 use Rattle.std.proofs.Common.{◌≡◌, ℕ, zero, suc, ◌+◌, ◌<◌, ◌≤◌, inl, inr, List, [], ◌∷◌, length, refl, ◌∙◌, ap, arith, drop, get_or}
 use Rattle.std.specs.Prelude.{◌==◌}
 use Rattle.std.proofs.lemmas.Bool.{eq-eqb, ne_eqb, cases_eq}
-use Rattle.zerotrie_core.specs.Kind.{Kind, fold_byte}
-use Rattle.zerotrie_core.specs.Maps.{common_front}
+use Rattle.zerotrie_base.specs.Kind.{Kind, fold_byte}
+use Rattle.zerotrie_base.specs.Maps.{common_front}
 use Rattle.zerotrie_build.specs.Order.{Before}
 
 abbrev pub common : List ℕ → List ℕ → ℕ

@@ -5,9 +5,9 @@ use Rattle.std.specs.Prelude.{◌==◌, ◌≢◌}
 use Rattle.std.specs.Char.{to_ascii_lowercase}
 use Rattle.std.proofs.lemmas.Bool.{eq-eqb, ne_eqb, cases_eq}
 use Rattle.std.proofs.lemmas.Str.Ascii.{lowercase_is, lowercase-lowercase}
-use Rattle.zerotrie_core.specs.Kind.{Kind, simple_ascii, ignore_case, perfect_hash, extended_capacity, fold_byte, same_byte}
-use Rattle.zerotrie_core.specs.Maps.{Pairs, Ascends, IsCaseConsistent, common_front}
-use Rattle.zerotrie_core.proofs.CallerLemmas.{compare_first}
+use Rattle.zerotrie_base.specs.Kind.{Kind, simple_ascii, ignore_case, perfect_hash, extended_capacity, fold_byte, same_byte}
+use Rattle.zerotrie_base.specs.Maps.{Pairs, Ascends, IsCaseConsistent, common_front}
+use Rattle.zerotrie_base.proofs.CallerLemmas.{compare_first}
 use Rattle.zerotrie_build.specs.Refused.{key_at, DifferInCase}
 use Rattle.zerotrie_build.specs.passes.OtherCase.{BeginsThen, HasOtherCase, NoneHasOtherCase}
 use Rattle.zerotrie_build.proofs.Items.{Below}

@@ -2,12 +2,12 @@
 use Rattle.std.proofs.Common.{◌≡◌, ℕ, suc, ◌+◌, ◌*◌, ◌<◌, ◌≤◌, List, [], ◌∷◌, ◌++◌, length, refl, sym, ◌∙◌, ap, arith, map, None, Bool, true, false, inl, inr}
 use Rattle.std.proofs.lemmas.Bool.{cases_lt}
 use Rattle.std.proofs.lemmas.List.{length-map, append-nil}
-use Rattle.zerotrie_core.specs.Kind.{Kind, ordered, is_hashed}
-use Rattle.zerotrie_core.specs.Maps.{Pairs, with_front, value_at, begins_some, residual, edges}
-use Rattle.zerotrie_core.specs.Branches.{total, table_size}
-use Rattle.zerotrie_core.specs.Canonical.{size_of, branch_size}
-use Rattle.zerotrie_core.specs.Fits.{targets_size}
-use Rattle.zerotrie_core.proofs.CallerLemmas.{Rises, member, member_head, member_later, begins_some-append, begins_some-front, residual-front, residual-append, residual-other, some_pair, begins_behind, ordered_is, edges_rise, member-edges, member-edges_past, length-ordered, total-ordered, edge_once, not_first, front_len, length-branch_front, size_branch}
+use Rattle.zerotrie_base.specs.Kind.{Kind, ordered, is_hashed}
+use Rattle.zerotrie_base.specs.Maps.{Pairs, with_front, value_at, begins_some, residual, edges}
+use Rattle.zerotrie_base.specs.Branches.{total, table_size}
+use Rattle.zerotrie_base.specs.Canonical.{size_of, branch_size}
+use Rattle.zerotrie_base.specs.Fits.{targets_size}
+use Rattle.zerotrie_base.proofs.CallerLemmas.{Rises, member, member_head, member_later, begins_some-append, begins_some-front, residual-front, residual-append, residual-other, some_pair, begins_behind, ordered_is, edges_rise, member-edges, member-edges_past, length-ordered, total-ordered, edge_once, not_first, front_len, length-branch_front, size_branch}
 
 abbrev pub grouped : List ℕ → List Pairs → Pairs
 grouped [] ps = []

@@ -5,9 +5,9 @@ use Rattle.std.proofs.lemmas.Bool.Decides.{leb_tells}
 use Rattle.std.proofs.lemmas.List.{length-drop, drop-drop, drop_all}
 use Rattle.std.proofs.lemmas.Option.{slice_get_past, slice_get-get_or}
 use Rattle.std.proofs.Math.Seq.{drop-cons}
-use Rattle.zerotrie_core.specs.Kind.{Kind, has_spans}
-use Rattle.zerotrie_core.specs.Numbers.{value_form, span_form, spelled_as}
-use Rattle.zerotrie_core.specs.Maps.{Pairs}
+use Rattle.zerotrie_base.specs.Kind.{Kind, has_spans}
+use Rattle.zerotrie_base.specs.Numbers.{value_form, span_form, spelled_as}
+use Rattle.zerotrie_base.specs.Maps.{Pairs}
 use Rattle.zerotrie_build.specs.declared.windows.Window.{Window}
 use Rattle.zerotrie_build.specs.declared.windows.Step.TheVariants.{Value, Literal, Span}
 use Rattle.zerotrie_build.specs.passes.Windows.{item_no, byte_of, high_front, short_size, step_of, IsSingleItem, IsRestLen}

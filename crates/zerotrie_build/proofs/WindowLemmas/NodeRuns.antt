@@ -5,11 +5,11 @@ use Rattle.std.proofs.lemmas.Bool.{eq-eqb, lt-ltb, lt-leb, le-ltb}
 use Rattle.std.proofs.lemmas.Bool.Decides.{eqb_tells}
 use Rattle.std.proofs.lemmas.List.{length-drop, get_or-drop}
 use Rattle.std.proofs.lemmas.Option.{slice_get-get_or, slice_get_past}
-use Rattle.zerotrie_core.specs.Kind.{Kind, has_spans}
-use Rattle.zerotrie_core.specs.Numbers.{value_form, span_form, spelled_as}
-use Rattle.zerotrie_core.specs.Maps.{Pairs, with_run, begins_some, residual, behind_all, edges, run_of}
-use Rattle.zerotrie_core.specs.Canonical.{size_of}
-use Rattle.zerotrie_core.proofs.CallerLemmas.{residual-front, size_value, size_literal, size_span, run_of-literal, run_of-value, run_of-many, member, member-edges, edge_limit_to}
+use Rattle.zerotrie_base.specs.Kind.{Kind, has_spans}
+use Rattle.zerotrie_base.specs.Numbers.{value_form, span_form, spelled_as}
+use Rattle.zerotrie_base.specs.Maps.{Pairs, with_run, begins_some, residual, behind_all, edges, run_of}
+use Rattle.zerotrie_base.specs.Canonical.{size_of}
+use Rattle.zerotrie_base.proofs.CallerLemmas.{residual-front, size_value, size_literal, size_span, run_of-literal, run_of-value, run_of-many, member, member-edges, edge_limit_to}
 use Rattle.zerotrie_build.specs.Order.{Before, BeforeFirst, Ordered, AreKeys}
 use Rattle.zerotrie_build.specs.declared.windows.Window.{Window}
 use Rattle.zerotrie_build.specs.declared.windows.Step.{Step}

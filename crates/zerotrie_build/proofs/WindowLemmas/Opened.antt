@@ -4,10 +4,10 @@ use Rattle.std.specs.Prelude.{◌||◌}
 use Rattle.std.proofs.lemmas.Bool.Decides.{eqb_tells}
 use Rattle.std.proofs.lemmas.Option.{get_or_from_slice_get}
 use Rattle.std.proofs.lemmas.List.{length-map}
-use Rattle.zerotrie_core.specs.Kind.{Kind, fold_byte, edge_limit, ordered as in_order}
-use Rattle.zerotrie_core.specs.Maps.{Pairs, with_front, residual, edges}
-use Rattle.zerotrie_core.specs.Canonical.{size_of}
-use Rattle.zerotrie_core.proofs.CallerLemmas.{Rises, AllAbove, member, edge_limit_to}
+use Rattle.zerotrie_base.specs.Kind.{Kind, fold_byte, edge_limit, ordered as in_order}
+use Rattle.zerotrie_base.specs.Maps.{Pairs, with_front, residual, edges}
+use Rattle.zerotrie_base.specs.Canonical.{size_of}
+use Rattle.zerotrie_base.proofs.CallerLemmas.{Rises, AllAbove, member, edge_limit_to}
 use Rattle.zerotrie_build.specs.Order.{Before, Ordered, AreKeys}
 use Rattle.zerotrie_build.specs.declared.windows.Window.{Window}
 use Rattle.zerotrie_build.specs.declared.windows.Step.TheVariants.{Branch}

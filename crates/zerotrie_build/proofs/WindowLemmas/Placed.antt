@@ -2,11 +2,11 @@
 use Rattle.std.proofs.Common.{◌≡◌, ℕ, ◌≤◌, List, [], ◌∷◌, ◌++◌, length, refl, sym, ◌∙◌, ap, subst, arith, map, append_assoc, Some}
 use Rattle.std.proofs.lemmas.List.{append-nil}
 use Rattle.std.proofs.lemmas.List.Sums.{sum_by-cons}
-use Rattle.zerotrie_core.specs.Kind.{Kind}
-use Rattle.zerotrie_core.specs.Maps.{Pairs, residual}
-use Rattle.zerotrie_core.specs.Branches.{total}
-use Rattle.zerotrie_core.specs.Canonical.{size_of}
-use Rattle.zerotrie_core.proofs.CallerLemmas.{Rises}
+use Rattle.zerotrie_base.specs.Kind.{Kind}
+use Rattle.zerotrie_base.specs.Maps.{Pairs, residual}
+use Rattle.zerotrie_base.specs.Branches.{total}
+use Rattle.zerotrie_base.specs.Canonical.{size_of}
+use Rattle.zerotrie_base.proofs.CallerLemmas.{Rises}
 use Rattle.zerotrie_build.specs.Order.{Ordered, AreKeys}
 use Rattle.zerotrie_build.specs.declared.windows.Window.{Window}
 use Rattle.zerotrie_build.specs.declared.windows.Step.TheVariants.{Branch}

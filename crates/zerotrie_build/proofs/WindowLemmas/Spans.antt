@@ -4,9 +4,9 @@ use Rattle.std.specs.Prelude.{◌&&◌}
 use Rattle.std.proofs.lemmas.Bool.{cases_lt, lt-leb, le-leb, eq-eqb}
 use Rattle.std.proofs.lemmas.Bool.Decides.{eqb_tells}
 use Rattle.std.proofs.lemmas.List.{drop-drop, get_or-drop}
-use Rattle.zerotrie_core.specs.Kind.{Kind, has_spans, edge_limit, simple_ascii, ignore_case, perfect_hash, extended_capacity}
-use Rattle.zerotrie_core.specs.Maps.{Pairs, with_front, with_run}
-use Rattle.zerotrie_core.specs.Texts.{AreHigh}
+use Rattle.zerotrie_base.specs.Kind.{Kind, has_spans, edge_limit, simple_ascii, ignore_case, perfect_hash, extended_capacity}
+use Rattle.zerotrie_base.specs.Maps.{Pairs, with_front, with_run}
+use Rattle.zerotrie_base.specs.Texts.{AreHigh}
 use Rattle.zerotrie_build.specs.Order.{Ordered, AreKeys}
 use Rattle.zerotrie_build.specs.declared.windows.Window.{Window}
 use Rattle.zerotrie_build.specs.declared.windows.Step.TheVariants.{Literal, Span}

@@ -5,7 +5,7 @@ use Rattle.std.proofs.Common.{Some, slice_get, get_or, subst, sym, ◌-◌}
 use Rattle.std.specs.Prelude.{◌&&◌}
 use Rattle.std.proofs.lemmas.List.{drop_all}
 use Rattle.std.proofs.lemmas.Option.{slice_get_within, slice_get-get_or, get_or_from_slice_get}
-use Rattle.zerotrie_core.specs.Maps.{Pairs}
+use Rattle.zerotrie_base.specs.Maps.{Pairs}
 use Rattle.zerotrie_build.specs.passes.Windows.{byte_of, high_front, HasLiteralAt}
 use Rattle.zerotrie_build.specs.declared.windows.Window.{Window}
 

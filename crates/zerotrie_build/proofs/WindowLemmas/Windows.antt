@@ -6,8 +6,8 @@ use Rattle.std.proofs.lemmas.Bool.Decides.{eqb_tells}
 use Rattle.std.proofs.lemmas.Option.{slice_get_cases, slice_get_within, get_or_from_slice_get}
 use Rattle.std.proofs.lemmas.List.{drop_all, drop_more, drop-drop, get_or-drop, map-append, take_all}
 use Rattle.std.proofs.Math.Seq.{take-add, drop-cons}
-use Rattle.zerotrie_core.specs.Kind.{Kind, fold_byte, has_spans, edge_limit, simple_ascii, ignore_case, perfect_hash, extended_capacity}
-use Rattle.zerotrie_core.specs.Maps.{Pairs, with_front, value_at}
+use Rattle.zerotrie_base.specs.Kind.{Kind, fold_byte, has_spans, edge_limit, simple_ascii, ignore_case, perfect_hash, extended_capacity}
+use Rattle.zerotrie_base.specs.Maps.{Pairs, with_front, value_at}
 use Rattle.zerotrie_build.specs.Order.{Before, Ordered, AreKeys}
 use Rattle.zerotrie_build.specs.declared.windows.Window.{Window}
 use Rattle.zerotrie_build.specs.declared.windows.Step.{Step}

@@ -7,13 +7,15 @@ use Rattle.std.specs.FinMap.{entries}
 use Rattle.std.proofs.lemmas.List.FromFn.{length-range_with_len}
 use Rattle.std.proofs.lemmas.List.Sorted.{IsPermutation-map, IsPermutation-sym, length_permutation, sum_by-IsPermutation}
 use Rattle.std.proofs.lemmas.Map.Views.{All-map-IsPermutation}
-use Rattle.zerotrie_core.specs.Kind.{Kind, simple_ascii, ignore_case, perfect_hash, extended_capacity, edge_limit, greatest_width, is_hashed, ordered as in_order}
-use Rattle.zerotrie_core.specs.Maps.{Pairs, map_of, edges, behind_all}
-use Rattle.zerotrie_core.specs.Branches.{IsTable, total, width, branch_front, table_size}
-use Rattle.zerotrie_core.specs.Texts.Lists.{branch}
-use Rattle.zerotrie_core.specs.Canonical.{size_of, branch_size}
-use Rattle.zerotrie_core.specs.Causes.{AreCrooked, Cause, ZeroTrieBuildError, CouldNotSolvePerfectHash, OutOfMemory}
-use Rattle.zerotrie_core.proofs.CallerLemmas.{table_distinct, length-table, front_len, length-branch_front, total-lengths, greatest_width_most, same-entries, same-behind, same-edges}
+use Rattle.zerotrie_base.specs.Kind.{Kind, simple_ascii, ignore_case, perfect_hash, extended_capacity, edge_limit, greatest_width, is_hashed, ordered as in_order}
+use Rattle.zerotrie_base.specs.Maps.{Pairs, map_of, edges, behind_all}
+use Rattle.zerotrie_base.specs.Branches.{IsTable, total, width, branch_front, table_size}
+use Rattle.zerotrie_base.specs.Texts.Lists.{branch}
+use Rattle.zerotrie_base.specs.Canonical.{size_of, branch_size}
+use Rattle.zerotrie_base.specs.Causes.{AreCrooked, Cause}
+use Rattle.zerotrie_base.specs.declared.error.ZeroTrieBuildError.{ZeroTrieBuildError}
+use Rattle.zerotrie_base.specs.declared.error.ZeroTrieBuildError.TheVariants.{CouldNotSolvePerfectHash, OutOfMemory}
+use Rattle.zerotrie_base.proofs.CallerLemmas.{table_distinct, length-table, front_len, length-branch_front, total-lengths, greatest_width_most, same-entries, same-behind, same-edges}
 use Rattle.zerotrie_build.specs.Order.{Ordered}
 use Rattle.zerotrie_build.specs.declared.windows.Window.{Window}
 use Rattle.zerotrie_build.specs.declared.branch_layout.Position.{Position}
@@ -99,7 +101,7 @@ branch_text {kind = kind} {all = all} {cs = cs} {table = table} {numbers = numbe
     let made = branch_made kind es table texts (omega arith) b.most (texts_are ∙ sym es_are) b.low b.is_table (omega arith) in
     record {
       listed = each.listed;
-      lists = subst (λ x. Rattle.zerotrie_core.specs.Texts.Lists kind (branch_front table x ++ concat texts) each.listed) (sym lens) (branch made each.each);
+      lists = subst (λ x. Rattle.zerotrie_base.specs.Texts.Lists kind (branch_front table x ++ concat texts) each.listed) (sym lens) (branch made each.each);
       same = answers_same all vs cs each.listed (window all last) (IsPermutation-sym cs vs b.perm) each.answers window_answers.1;
     }
 

@@ -1,14 +1,14 @@
 -- A window is written up to its first branch.
 use Rattle.std.proofs.Common.{◌≡◌, ℕ, zero, suc, ◌+◌, ◌-◌, ◌<◌, ◌≤◌, inl, inr, List, [], ◌∷◌, ◌++◌, length, refl, sym, ◌∙◌, ap, subst, arith, take, drop, append_assoc, length-append, length-drop, None}
 use Rattle.std.proofs.lemmas.Bool.{cases_lt}
-use Rattle.std.proofs.lemmas.List.{append-nil, take_all, length-take-le}
-use Rattle.zerotrie_core.specs.Kind.{Kind, simple_ascii}
-use Rattle.zerotrie_core.specs.Numbers.{value_form, span_form, SpellsAs, spelled_as}
-use Rattle.zerotrie_core.specs.Maps.{Pairs, value_at}
-use Rattle.zerotrie_core.specs.Canonical.{size_of}
+use Rattle.std.proofs.lemmas.List.{take_all, length-take-le}
+use Rattle.zerotrie_base.specs.Kind.{Kind, simple_ascii}
+use Rattle.zerotrie_base.specs.Numbers.{value_form, span_form, SpellsAs, spelled_as}
+use Rattle.zerotrie_base.specs.Maps.{Pairs, value_at}
+use Rattle.zerotrie_base.specs.Canonical.{size_of}
 use Rattle.zerotrie_build.specs.Order.{Ordered, AreKeys}
 use Rattle.zerotrie_build.specs.declared.windows.Window.{Window}
-use Rattle.zerotrie_build.specs.declared.windows.Step.TheVariants.{End, Value, Literal, Span}
+use Rattle.zerotrie_build.specs.declared.windows.Step.TheVariants.{Value, Literal, Span}
 use Rattle.zerotrie_build.specs.passes.Windows.{cut, window, item_no, high_front, step_of, HasLiteralAt, IsAsciiLeaf}
 use Rattle.zerotrie_build.specs.passes.Measured.{Passes, NoneFirst, HasFirstTargets}
 use Rattle.zerotrie_build.specs.passes.Measured.Passes.{here, value as run_value, literal as run_literal, span as run_span}
@@ -16,10 +16,10 @@ use Rattle.zerotrie_build.specs.declared.writing.Writing.{Writing}
 use Rattle.zerotrie_build.specs.passes.Writes.{HasRoom, FrontFits, Writes, FrontWritten}
 use Rattle.zerotrie_build.specs.passes.Writing.{Listed}
 use Rattle.zerotrie_build.proofs.WriteLemmas.Puts.{puts_nothing, puts_then, grows}
-use Rattle.zerotrie_build.proofs.WindowLemmas.NodeRuns.{low_literal, literal_low, lone_low, lone_value, lone_run, lone_end, along}
-use Rattle.zerotrie_build.proofs.WindowLemmas.Windows.{cut_first, cut_none, key_cut, last_key, last_cut, step_value, none_empty, ordered_front}
+use Rattle.zerotrie_build.proofs.WindowLemmas.NodeRuns.{low_literal, literal_low, lone_low, lone_value, along}
+use Rattle.zerotrie_build.proofs.WindowLemmas.Windows.{cut_first, key_cut, last_key, last_cut, step_value, none_empty, ordered_front}
 use Rattle.zerotrie_build.proofs.WindowLemmas.Spans.{step_literal, step_span}
-use Rattle.zerotrie_build.proofs.WriteLemmas.Listed.{listed_nothing, listed_value, listed_literal, listed_span}
+use Rattle.zerotrie_build.proofs.WriteLemmas.Listed.{listed_value, listed_literal, listed_span}
 
 -- The window was written as far as the rest, in front of what is after its values, literals and spans.
 pub record Going (kind : Kind) (all : Pairs) (w : Window) (bytes : ℕ) (behind : Window) (old new : Writing) (rest : Window) : Type 0 where
@@ -230,26 +230,6 @@ going_lone {kind = kind} {all = all} {w = w} {behind = behind} {rest = rest} new
       ordered = up.1;
       to_is = g.to_is;
     }
-
--- the rest and the value of the one key of a window are a text of it
-pub lone_listed : {kind : Kind} {all : Pairs} {w : Window} (rest : List ℕ) (v : ℕ) → w.to ≤ length all → AreKeys kind all → Ordered kind (window all w) → IsAsciiLeaf all w rest v
-    → SpellsAs value_form v (spelled_as value_form v) → Listed kind (rest ++ spelled_as value_form v) (window all w)
-lone_listed {kind = kind} {all = all} {w = w} rest v within keys up lone s =
-    let one = lone.one in
-    let n = length rest in
-    let behind : Window = record { from = w.to; to = w.to; depth = w.depth + n } in
-    let end : step_of kind all behind ≡ End = subst (λ f. step_of kind all (record { from = f; to = w.to; depth = w.depth + n }) ≡ End) (sym one) (lone_end kind all w rest v (w.depth + n) lone) in
-    let o = literals n kind all w behind (length rest + length (spelled_as value_form v)) (lone_run kind all w rest v lone) (inl end) (omega arith) within keys up (lone_low all w rest v lone) in
-    let mid : Window = record w { depth = w.depth + n } in
-    let st = step_value kind all mid v within (lone_value kind all w rest v lone) in
-    let sp = spelled_as value_form v in
-    let pairs = window all (record mid { from = w.from + 1 }) in
-    let up' : Ordered kind (([], v) ∷ pairs) = subst (Ordered kind) st.1 o.ordered in
-    let none : pairs ≡ [] = cut_none all (w.from + 1) w.to (w.depth + n) (omega arith) in
-    let whole : take n (drop w.depth (item_no all w.from).0) ≡ rest = ap (take n) (sym lone.rest_is) ∙ take_all n rest (omega arith) in
-    let last = listed_value kind v sp [] pairs s (exact_none kind pairs (none_empty kind v pairs up')) (subst (Listed kind []) (sym none) (listed_nothing kind)) in
-    subst (λ x. Listed kind x (window all w)) (ap (λ x. x ++ (sp ++ [])) whole ∙ ap (λ x. rest ++ x) (append-nil sp))
-    (o.lists (sp ++ []) (subst (Listed kind (sp ++ [])) (sym st.1) last))
 
 run_some : (n : ℕ) (run : List ℕ) → 0 < n → length run ≡ n → run ≡ [] → ⊥
 run_some n run some long none = let l = ap length none in omega arith

@@ -7,18 +7,20 @@ use Rattle.std.specs.List.Sorted.{IsPermutation, IsStrictlyIncreasing}
 use Rattle.std.proofs.lemmas.Option.{unwrap_or-slice_get}
 use Rattle.std.proofs.lemmas.Bool.{eq-eqb, ne_eqb, cases_lt}
 use Rattle.std.proofs.lemmas.List.{take_more, take_all, map-append, drop_at, drop_more, get_or_default}
-use Rattle.std.proofs.lemmas.List.FromFn.{map-range_with_len_more, take-map-range_with_len, length-map-range_with_len, get_or-map-range_with_len, length-range_with_len, get_or-range_with_len}
+use Rattle.std.proofs.lemmas.List.FromFn.{map-range_with_len_more, length-map-range_with_len, get_or-map-range_with_len, length-range_with_len, get_or-range_with_len}
 use Rattle.std.specs.Ordering.{nat_cmp}
 use Rattle.std.specs.List.Sorted.{IsBinarySearchResult}
 use Rattle.std.proofs.lemmas.List.Sorted.{searched, IsPermutation-refl, IsPermutation-map, length_permutation, Contains-permutation, IsPermutation-sym}
 use Rattle.zerotrie_base.specs.Hashes.{IsPerfectTable}
 use Rattle.zerotrie_base.specs.Refusals.{IsTableRefusal}
-use Rattle.zerotrie_core.specs.Kind.{Kind, fold_byte, is_hashed}
-use Rattle.zerotrie_core.specs.Maps.{Pairs}
-use Rattle.zerotrie_core.specs.Branches.IsTable.{sorted, hashed}
-use Rattle.zerotrie_core.specs.Branches.{IsTable}
-use Rattle.zerotrie_core.specs.Causes.{AreCrooked, ZeroTrieBuildError, NonAsciiError, CapacityExceeded, CouldNotSolvePerfectHash, MixedCase, IllegalDelimiter, DuplicateKey, Unsorted, BufferTooSmall, BufferTooLarge, StackExceeded, OutOfMemory}
-use Rattle.zerotrie_core.proofs.CallerLemmas.{hashed_spans, spans_fold}
+use Rattle.zerotrie_base.specs.Kind.{Kind, fold_byte, is_hashed}
+use Rattle.zerotrie_base.specs.Maps.{Pairs}
+use Rattle.zerotrie_base.specs.Branches.IsTable.{sorted, hashed}
+use Rattle.zerotrie_base.specs.Branches.{IsTable}
+use Rattle.zerotrie_base.specs.Causes.{AreCrooked}
+use Rattle.zerotrie_base.specs.declared.error.ZeroTrieBuildError.{ZeroTrieBuildError}
+use Rattle.zerotrie_base.specs.declared.error.ZeroTrieBuildError.TheVariants.{NonAsciiError, CapacityExceeded, CouldNotSolvePerfectHash, MixedCase, IllegalDelimiter, DuplicateKey, Unsorted, BufferTooSmall, BufferTooLarge, StackExceeded, OutOfMemory}
+use Rattle.zerotrie_base.proofs.CallerLemmas.{hashed_spans, spans_fold}
 use Rattle.zerotrie_build.specs.declared.windows.Window.{Window}
 use Rattle.zerotrie_build.specs.passes.Windows.{byte_of, edge_of}
 use Rattle.zerotrie_build.specs.passes.Measured.{TargetWindows}
@@ -243,11 +245,6 @@ edges_more all ws ws' c es es' e pushed more are is =
 pub range_more : (k : ℕ) → range_with_len 0 k ++ k ∷ [] ≡ range_with_len 0 (k + 1)
 range_more k =
     ap (λ x. x ++ k ∷ []) (sym (same_range (range_with_len 0 k))) ∙ sym (map-range_with_len_more (λ x. x) 0 k k (omega arith)) ∙ same_range (range_with_len 0 (k + 1))
-
--- and the first of them are those of a shorter list
-pub range_front : (n k : ℕ) → k ≤ n → take k (range_with_len 0 n) ≡ range_with_len 0 k
-range_front n k few =
-    ap (take k) (sym (same_range (range_with_len 0 n))) ∙ take-map-range_with_len (λ x. x) 0 n k few ∙ same_range (range_with_len 0 k)
 
 -- a search among edges that rise finds each that is placed
 pub found : (edges placed : List ℕ) (i x : ℕ) (r : Result ℕ ℕ) → IsStrictlyIncreasing edges → IsPermutation edges placed → i < length placed → x ≡ get_or placed i 0 → IsBinarySearchResult (λ y. nat_cmp y x) edges r

@@ -1,13 +1,13 @@
 -- Texts of pairs, in whatever order they list them, by what stands first.
 use Rattle.std.proofs.Common.{◌≡◌, ℕ, ◌+◌, ◌*◌, ◌/◌, ◌<◌, ◌≤◌, ◌⊎◌, inl, inr, List, [], ◌∷◌, ◌++◌, length, refl, sym, ◌∙◌, ap, subst, arith, Option, Some, None, true, false, cond, Bool}
 use Rattle.std.proofs.lemmas.Bool.{cases_eq, eq-eqb, ne_eqb, le-leb}
-use Rattle.zerotrie_core.specs.Kind.{Kind, simple_ascii, has_spans}
-use Rattle.zerotrie_core.specs.Numbers.{value_form, span_form, Spells, SpellsAs}
-use Rattle.zerotrie_core.specs.Maps.{Pairs, with_front, with_run, value_at, same_key}
-use Rattle.zerotrie_core.specs.Texts.{Lists, NoValueFirst, NoSpanFirst, AreHigh}
-use Rattle.zerotrie_core.specs.Texts.Lists.{nothing, value, literal, span, branch}
-use Rattle.zerotrie_core.specs.Canonical.{size_of}
-use Rattle.zerotrie_core.proofs.CallerLemmas.{below_metadata, value_at-no_key, value_at-front, value_at-other, first_found, not_empty_text, listed_size, same-size_of}
+use Rattle.zerotrie_base.specs.Kind.{Kind, simple_ascii, has_spans}
+use Rattle.zerotrie_base.specs.Numbers.{value_form, span_form, Spells, SpellsAs}
+use Rattle.zerotrie_base.specs.Maps.{Pairs, with_front, with_run, value_at, same_key}
+use Rattle.zerotrie_base.specs.Texts.{Lists, NoValueFirst, NoSpanFirst, AreHigh}
+use Rattle.zerotrie_base.specs.Texts.Lists.{nothing, value, literal, span, branch}
+use Rattle.zerotrie_base.specs.Canonical.{size_of}
+use Rattle.zerotrie_base.proofs.CallerLemmas.{below_metadata, value_at-no_key, value_at-front, value_at-other, first_found, not_empty_text, listed_size, same-size_of}
 use Rattle.zerotrie_build.specs.passes.Windows.{high_front}
 use Rattle.zerotrie_build.specs.passes.Writing.{Listed}
 use Rattle.zerotrie_build.proofs.Runs.{with_run-nil, with_run-front}

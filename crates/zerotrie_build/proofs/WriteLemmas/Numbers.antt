@@ -1,9 +1,13 @@
--- The spellings of one byte to four.
-use Rattle.std.proofs.Common.{◌≡◌, ℕ, ◌+◌, ◌-◌, ◌*◌, ◌/◌, ◌%◌, ◌^◌, ◌<◌, ◌≤◌, ◌⊎◌, inl, inr, List, [], ◌∷◌, length, refl, ap, arith}
-use Rattle.zerotrie_core.specs.Numbers.{Spells}
-use Rattle.zerotrie_core.proofs.CallerLemmas.{spelling_is}
-use Rattle.zerotrie_build.proofs.WriteLemmas.Puts.{number_is, number_len}
-use Rattle.zerotrie_core.specs.plain.Encoding.{with_bits}
+-- The spellings of numbers.
+use Rattle.std.proofs.Common.{◌≡◌, ℕ, ◌+◌, ◌-◌, ◌*◌, ◌/◌, ◌%◌, ◌^◌, ◌<◌, ◌≤◌, ◌⊎◌, inl, inr, List, [], ◌∷◌, ◌++◌, length, take, drop, refl, ap, ◌∙◌, arith}
+use Rattle.std.specs.Prelude.{slice_set, slice_index}
+use Rattle.std.specs.List.{refill}
+use Rattle.std.proofs.Math.Seq.{take-length, drop-length}
+use Rattle.std.proofs.lemmas.List.{append-nil}
+use Rattle.zerotrie_base.specs.Numbers.{Spells}
+use Rattle.zerotrie_base.proofs.CallerLemmas.{spelling_is}
+use Rattle.zerotrie_build.proofs.WriteLemmas.Puts.{number_is}
+use Rattle.zerotrie_base.specs.plain.Encoding.{with_bits}
 use Rattle.zerotrie_build.specs.passes.Writing.{IsLead, spelled_with_bits}
 
 pub known : (bits L : ℕ) → IsLead bits L → (L ≡ 16) ⊎ (L ≡ 32)
@@ -70,9 +74,13 @@ four_bytes bits L v is below long short =
 pub spelling_behind : (bits L v : ℕ) (bytes : List ℕ) → IsLead bits L → Spells L 0 v bytes → with_bits bits bytes ≡ spelled_with_bits bits L v
 spelling_behind bits L v bytes is s = number_is (record { latent_value = L; metadata = bits / (2 * L) }) v bits bytes (known bits L is) (bits_are bits L is) s
 
-pub length_behind : (bits L v : ℕ) (bytes : List ℕ) → IsLead bits L → Spells L 0 v bytes → length bytes ≡ length (spelled_with_bits bits L v)
-length_behind bits L v bytes is s = number_len (record { latent_value = L; metadata = bits / (2 * L) }) v bits bytes (known bits L is) (bits_are bits L is) s
+pub other_form : (L : ℕ) → (L ≡ 16) ⊎ (L ≡ 32) → (L ≡ 16 → ⊥) → L ≡ 32
+other_form L (inl is) not = absurd (not is)
+other_form L (inr is) not = is
 
-pub other_form : (bits L : ℕ) → IsLead bits L → (L ≡ 16 → ⊥) → L ≡ 32
-other_form bits L (inl is) not = absurd (not is.0)
-other_form bits L (inr is) not = is.0
+-- the bits come into the first byte
+pub bits_added : (bits : ℕ) (bytes : List ℕ) → 0 < length bytes → refill (length bytes) bytes (slice_set bytes 0 (slice_index bytes 0 + bits)) ≡ with_bits bits bytes
+bits_added bits [] some = absurd (omega arith)
+bits_added bits (b ∷ bytes) some =
+    ap (λ x. x ∷ take (length bytes) (bytes ++ drop (length bytes) bytes)) (let e : b + bits ≡ bits + b = omega arith in e)
+    ∙ ap (λ x. (bits + b) ∷ x) (ap (λ d. take (length bytes) (bytes ++ d)) (drop-length bytes) ∙ ap (take (length bytes)) (append-nil bytes) ∙ take-length bytes)

@@ -6,14 +6,14 @@ use Rattle.std.specs.List.Sorted.{IsPermutation, IsStrictlyIncreasing}
 use Rattle.std.proofs.lemmas.Bool.{cases_eq, eq-eqb, ne_eqb}
 use Rattle.std.proofs.lemmas.List.{get_or_default, get_or-map}
 use Rattle.std.proofs.lemmas.List.Sorted.{IsPermutation-sym, Contains-permutation}
-use Rattle.zerotrie_core.specs.Kind.{Kind, simple_ascii, ignore_case, perfect_hash, extended_capacity, fold_byte, edge_limit, greatest_width}
-use Rattle.zerotrie_core.specs.Numbers.{branch_form, spelled_as}
-use Rattle.zerotrie_core.specs.Maps.{Pairs, with_front, value_at}
-use Rattle.zerotrie_core.specs.Branches.{IsBranch, IsTable, width, branch_front}
-use Rattle.zerotrie_core.specs.Texts.{ListEach}
-use Rattle.zerotrie_core.specs.Texts.ListEach.{no_edge, edge}
-use Rattle.zerotrie_core.specs.Canonical.{size_of}
-use Rattle.zerotrie_core.proofs.CallerLemmas.{Distinct, NoneLike, value_at-no_key, value_at-front, value_at-other, value_at-append, value_at-some, spells_spelled, IsWidth-width, front_targets, fold_ascii, greatest_width_most}
+use Rattle.zerotrie_base.specs.Kind.{Kind, simple_ascii, ignore_case, perfect_hash, extended_capacity, fold_byte, edge_limit, greatest_width}
+use Rattle.zerotrie_base.specs.Numbers.{branch_form, spelled_as}
+use Rattle.zerotrie_base.specs.Maps.{Pairs, with_front, value_at}
+use Rattle.zerotrie_base.specs.Branches.{IsBranch, IsTable, width, branch_front}
+use Rattle.zerotrie_base.specs.Texts.{ListEach}
+use Rattle.zerotrie_base.specs.Texts.ListEach.{no_edge, edge}
+use Rattle.zerotrie_base.specs.Canonical.{size_of}
+use Rattle.zerotrie_base.proofs.CallerLemmas.{Distinct, NoneLike, value_at-no_key, value_at-front, value_at-other, value_at-append, value_at-some, spells_spelled, IsWidth-width, front_targets, fold_ascii, greatest_width_most}
 use Rattle.zerotrie_build.specs.declared.windows.Window.{Window}
 use Rattle.zerotrie_build.specs.passes.Windows.{cut, window, edge_of}
 use Rattle.zerotrie_build.specs.passes.Measured.{Groups, sizes_of}

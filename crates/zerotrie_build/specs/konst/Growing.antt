@@ -1,13 +1,14 @@
 -- What is built of a trie while its items are gone through from the last to the first.
 use Rattle.std.specs.Prelude.{◌≡◌, ◌≢◌, ℕ, ◌+◌, ◌^◌, ◌<◌, ◌≤◌, ◌⊎◌, List, [], ◌∷◌, ◌++◌, length, take, drop, slice_index, slice_index_or, true}
 use Rattle.std.proofs.Common.{suc, zero}
-use Rattle.zerotrie_core.specs.Kind.{simple_ascii}
-use Rattle.zerotrie_core.specs.Maps.{Pairs, Ascends, map_of, with_run, begins_some, behind_all}
-use Rattle.zerotrie_core.specs.Branches.{total, branch_front}
-use Rattle.zerotrie_core.specs.Texts.{Lists, NoValueFirst}
-use Rattle.zerotrie_core.specs.Fits.{OverflowsAt, ExceedsCapacity}
-use Rattle.zerotrie_core.specs.Stack.{stack_of}
-use Rattle.zerotrie_core.specs.Causes.{ZeroTrieBuildError, CapacityExceeded, StackExceeded}
+use Rattle.zerotrie_base.specs.Kind.{simple_ascii}
+use Rattle.zerotrie_base.specs.Maps.{Pairs, Ascends, map_of, with_run, begins_some, behind_all}
+use Rattle.zerotrie_base.specs.Branches.{total, branch_front}
+use Rattle.zerotrie_base.specs.Texts.{Lists, NoValueFirst}
+use Rattle.zerotrie_base.specs.Fits.{OverflowsAt, ExceedsCapacity}
+use Rattle.zerotrie_base.specs.Stack.{stack_of}
+use Rattle.zerotrie_base.specs.declared.error.ZeroTrieBuildError.{ZeroTrieBuildError}
+use Rattle.zerotrie_base.specs.declared.error.ZeroTrieBuildError.TheVariants.{CapacityExceeded, StackExceeded}
 use Rattle.zerotrie_build.specs.declared.konst.text.Sibling.{Sibling}
 use Rattle.zerotrie_build.specs.declared.konst.text.Text.{Text}
 use Rattle.zerotrie_build.specs.konst.Texts.{Counts, EndsIn, Has, newest_first, bytes_of, lens_of}

@@ -2,11 +2,11 @@
 use Rattle.std.specs.Prelude.{◌≡◌, ℕ, ◌+◌, ◌<◌, ◌≤◌, ◌^◌, ◌⊎◌, List, [], ◌∷◌, ◌++◌, length, map, All, if◌then◌else◌}
 use Rattle.std.specs.List.{concat}
 use Rattle.std.specs.List.Sorted.{IsStrictlyIncreasing}
-use Rattle.zerotrie_core.specs.Kind.{Kind, fold_byte, edge_limit, greatest_width, is_hashed, ordered as in_order}
-use Rattle.zerotrie_core.specs.Numbers.{value_form, span_form, spelled_as}
-use Rattle.zerotrie_core.specs.Maps.{Pairs, with_front, edges, behind_all}
-use Rattle.zerotrie_core.specs.Branches.{total}
-use Rattle.zerotrie_core.specs.Canonical.{size_of, branch_size}
+use Rattle.zerotrie_base.specs.Kind.{Kind, fold_byte, edge_limit, greatest_width, is_hashed, ordered as in_order}
+use Rattle.zerotrie_base.specs.Numbers.{value_form, span_form, spelled_as}
+use Rattle.zerotrie_base.specs.Maps.{Pairs, with_front, edges, behind_all}
+use Rattle.zerotrie_base.specs.Branches.{total}
+use Rattle.zerotrie_base.specs.Canonical.{size_of, branch_size}
 use Rattle.zerotrie_build.specs.Order.{Ordered, AreKeys}
 use Rattle.zerotrie_build.specs.passes.Windows.{window, cut, edge_of, step_of, IsGroup}
 use Rattle.zerotrie_build.specs.declared.windows.Window.{Window}

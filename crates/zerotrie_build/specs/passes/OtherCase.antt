@@ -1,7 +1,7 @@
 -- Where a key parts from the next by a letter, and another goes on with the letter's other case.
 use Rattle.std.specs.Prelude.{◌≡◌, ◌≢◌, ◌==◌, ℕ, List, [], ◌∷◌, All, MatchBool}
-use Rattle.zerotrie_core.specs.Kind.{Kind, fold_byte}
-use Rattle.zerotrie_core.specs.Maps.{Pairs}
+use Rattle.zerotrie_base.specs.Kind.{Kind, fold_byte}
+use Rattle.zerotrie_base.specs.Maps.{Pairs}
 
 -- the key begins with the front and then the byte
 abbrev pub BeginsThen : List ℕ → ℕ → List ℕ → Type 0

@@ -1,9 +1,9 @@
 -- What is known while the first pass goes on.
 use Rattle.std.specs.Prelude.{◌≡◌, ℕ, ◌+◌, ◌-◌, ◌^◌, ◌<◌, ◌≤◌, List, [], ◌∷◌, ◌++◌, length, map, replicate, slice_set, if◌then◌else◌}
 use Rattle.std.specs.List.{concat}
-use Rattle.zerotrie_core.specs.Kind.{Kind, is_hashed}
-use Rattle.zerotrie_core.specs.Maps.{Pairs, residual, behind_all}
-use Rattle.zerotrie_core.specs.Canonical.{size_of}
+use Rattle.zerotrie_base.specs.Kind.{Kind, is_hashed}
+use Rattle.zerotrie_base.specs.Maps.{Pairs, residual, behind_all}
+use Rattle.zerotrie_base.specs.Canonical.{size_of}
 use Rattle.zerotrie_build.specs.Order.{Ordered}
 use Rattle.zerotrie_build.specs.declared.windows.Window.{Window}
 use Rattle.zerotrie_build.specs.declared.windows.Step.TheVariants.{Branch}

@@ -1,7 +1,7 @@
 -- Windows of the items, and what stands first in their texts.
 use Rattle.std.specs.Prelude.{Bool, true, false, ◌⊎◌, ◌≡◌, ◌≢◌, ℕ, ◌+◌, ◌-◌, ◌<◌, ◌≤◌, ◌==◌, ◌&&◌, nat_lt, nat_le, if◌then◌else◌, List, [], ◌∷◌, length, map, take, drop, All, slice_get, slice_index, slice_index_or, Option, Some, None}
-use Rattle.zerotrie_core.specs.Kind.{Kind, has_spans}
-use Rattle.zerotrie_core.specs.Maps.{Pairs}
+use Rattle.zerotrie_base.specs.Kind.{Kind, has_spans}
+use Rattle.zerotrie_base.specs.Maps.{Pairs}
 use Rattle.zerotrie_build.specs.declared.windows.Window.{Window}
 use Rattle.zerotrie_build.specs.declared.windows.Group.{Group}
 use Rattle.zerotrie_build.specs.declared.windows.Step.{Step}

@@ -3,11 +3,11 @@ use Rattle.std.specs.Prelude.{◌≡◌, ℕ, ◌+◌, ◌-◌, ◌*◌, ◌/◌
 use Rattle.std.specs.List.{range_with_len}
 use Rattle.std.specs.List.Sorted.{IsPermutation, IsStrictlyIncreasing}
 use Rattle.zerotrie_base.specs.Hashes.{IsPerfect}
-use Rattle.zerotrie_core.specs.Kind.{Kind, simple_ascii, fold_byte, is_hashed}
-use Rattle.zerotrie_core.specs.Numbers.{spelled}
-use Rattle.zerotrie_core.specs.Maps.{Pairs, value_at}
-use Rattle.zerotrie_core.specs.Branches.{IsTable}
-use Rattle.zerotrie_core.specs.Texts.{Lists}
+use Rattle.zerotrie_base.specs.Kind.{Kind, simple_ascii, fold_byte, is_hashed}
+use Rattle.zerotrie_base.specs.Numbers.{spelled}
+use Rattle.zerotrie_base.specs.Maps.{Pairs, value_at}
+use Rattle.zerotrie_base.specs.Branches.{IsTable}
+use Rattle.zerotrie_base.specs.Texts.{Lists}
 use Rattle.zerotrie_build.specs.declared.windows.Window.{Window}
 use Rattle.zerotrie_build.specs.declared.branch_layout.Position.{Position}
 use Rattle.zerotrie_build.specs.declared.branch_layout.Next.{Next}

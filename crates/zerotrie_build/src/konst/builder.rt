@@ -2,16 +2,16 @@
 
 ghost use Rattle.std.specs.Prelude.{◌≡◌, ℕ, ◌<◌, ◌≤◌, ◌^◌, ◌↔◌, List, length, drop, IsOk, IfOk, IfErr};
 ghost use Rattle.zerotrie_base.specs.declared.error.ZeroTrieBuildError.TheVariants.{BufferTooLarge};
-ghost use Rattle.zerotrie_core.specs.ArrayRoutes.{IsBuildWithin};
+ghost use Rattle.zerotrie_base.specs.ArrayRoutes.{IsBuildWithin};
 ghost use Rattle.zerotrie_build.specs.Items.{pairs};
 
 use crate::konst::fill::fill_from_end;
 use crate::slice_indices::ByteSliceWithIndices;
 use std::marker::Model;
-use zerotrie_core::ZeroTrieBuildError;
+use zerotrie_base::ZeroTrieBuildError;
 
-/// A builder of a trie over ASCII keys in an array of `N` bytes, which it fills from the end. It takes no
-/// memory.
+/// A builder of a trie over ASCII keys in an array of `N` bytes, which it fills from the end. It
+/// takes no memory.
 ///
 /// ```
 /// let items = [("ad", 22), ("adef", 33)];
@@ -34,21 +34,23 @@ impl<const N: usize> Model for ZeroTrieBuilderConst<N> {
 }
 
 impl<const N: usize> ZeroTrieBuilderConst<N> {
-    /// Builds the trie of the items, whose keys ascend strictly by their bytes, with a stack of 100.
+    /// Builds the trie of the items, whose keys ascend strictly by their bytes, with a stack of
+    /// 100.
     ///
-    /// It is `from_tuple_slice_with_stack` with room for 100 targets that wait for their branch, and is
-    /// refused as that is.
+    /// It is `from_tuple_slice_with_stack` with room for 100 targets that wait for their branch,
+    /// and is refused as that is.
     pub fn from_tuple_slice(items: ByteSliceWithIndices<'_>) -> Result<Self, ZeroTrieBuildError>
         ensures { IsBuildWithin N 100 (λ bytes. bytes) (pairs items.entry) result }
     {
         Self::from_tuple_slice_with_stack::<100>(items)
     }
 
-    /// Builds the trie of the items, whose keys ascend strictly by their bytes, with a stack of `K`. The bytes
-    /// are the one text of the map of the items, and need not fill the array. It takes no memory. `K` has to be
-    /// below 2^58, as a stack that fits a machine is.
+    /// Builds the trie of the items, whose keys ascend strictly by their bytes, with a stack of
+    /// `K`. The bytes are the one text of the map of the items, and need not fill the array. It
+    /// takes no memory. `K` has to be below 2^58, as a stack that fits a machine is.
     ///
-    /// It is `fill_from_end` over an array, which says how large the stack has to be, and is refused as that is.
+    /// It is `fill_from_end` over an array, which says how large the stack has to be, and is
+    /// refused as that is.
     pub fn from_tuple_slice_with_stack<const K: usize>(
         items: ByteSliceWithIndices<'_>,
     ) -> Result<Self, ZeroTrieBuildError>

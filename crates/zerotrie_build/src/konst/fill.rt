@@ -1,18 +1,19 @@
 //! Texts that are written from their end into a buffer, or into memory of their own.
 
 ghost use Rattle.std.specs.Prelude.{◌≡◌, ℕ, ◌+◌, ◌<◌, ◌≤◌, ◌^◌, length, take, drop, IfOk, IfErr};
-ghost use Rattle.zerotrie_core.specs.ArrayRoutes.{IsBuildWithin, IsBuildCopied, IsRefusalWithin};
+ghost use Rattle.zerotrie_base.specs.ArrayRoutes.{IsBuildWithin, IsBuildCopied, IsRefusalWithin};
 ghost use Rattle.zerotrie_build.specs.Items.{pairs};
 ghost use Rattle.zerotrie_build.specs.konst.Growing.{IsWritten};
 
 use crate::konst::walk::build_text;
 use crate::slice_indices::ByteSliceWithIndices;
 use std::alloc::Global;
-use zerotrie_core::{ZeroTrieBuildError, laws};
+use zerotrie_base::{ZeroTrieBuildError, laws};
 
-/// Writes the text of the trie of the items, whose keys ascend strictly by their bytes, at the end of a buffer,
-/// with a stack of `K`, and answers where it begins. The bytes from there on are the one text of the map of the
-/// items, and those before stay. If it is refused, any of the buffer's bytes may have changed. It takes no memory.
+/// Writes the text of the trie of the items, whose keys ascend strictly by their bytes, at the end
+/// of a buffer, with a stack of `K`, and answers where it begins. The bytes from there on are the
+/// one text of the map of the items, and those before stay. If it is refused, any of the buffer's
+/// bytes may have changed. It takes no memory.
 ///
 /// ```
 /// let items = [("ad", 22), ("adef", 33)];
@@ -21,12 +22,13 @@ use zerotrie_core::{ZeroTrieBuildError, laws};
 /// assert_eq!(rt; &buffer[start..], b"ad\x90\x06ef\x90\x11".as_slice());
 /// ```
 ///
-/// The text is written from its end, with the targets of a branch from the last to the first, so each
-/// target waits for those before it. As many of them as wait at once the stack has to hold. `K` has to be
-/// below 2^58, as a stack that fits a machine is.
+/// The text is written from its end, with the targets of a branch from the last to the first, so
+/// each target waits for those before it. As many of them as wait at once the stack has to hold.
+/// `K` has to be below 2^58, as a stack that fits a machine is.
 ///
 /// A build is refused with `Unsorted`, `NonAsciiError`, `CapacityExceeded`, `BufferTooSmall` or
-/// `StackExceeded`, each for the reason that `ZeroTrieBuildError` gives, and never if there is none.
+/// `StackExceeded`, each for the reason that `ZeroTrieBuildError` gives, and never if there is
+/// none.
 pub fn fill_from_end<const K: usize>(
     buffer: &mut [u8],
     items: ByteSliceWithIndices<'_>,
@@ -46,11 +48,11 @@ pub fn fill_from_end<const K: usize>(
     Ok(buffer.len() - len)
 }
 
-/// Builds the trie of the items as `fill_from_end`, in memory of its own, and answers its bytes, of which there
-/// may be `most`.
+/// Builds the trie of the items as `fill_from_end`, in memory of its own, and answers its bytes, of
+/// which there may be `most`.
 ///
-/// They are counted first, and then it takes memory for as many. A build is refused as one in a buffer of
-/// `most` bytes is, or with `OutOfMemory`.
+/// They are counted first, and then it takes memory for as many. A build is refused as one in a
+/// buffer of `most` bytes is, or with `OutOfMemory`.
 pub fn bytes_within<const K: usize>(
     alloc: Global,
     most: usize,
@@ -70,8 +72,8 @@ pub fn bytes_within<const K: usize>(
     Ok(bytes)
 }
 
-/// Writes the text of the trie of the items at the end of the buffer, if it has room for it, and answers how
-/// many bytes the text has, or the greatest number if it has more.
+/// Writes the text of the trie of the items at the end of the buffer, if it has room for it, and
+/// answers how many bytes the text has, or the greatest number if it has more.
 fn write<const K: usize>(
     buffer: &mut [u8],
     items: ByteSliceWithIndices<'_>,

@@ -1,14 +1,11 @@
 //! A text that is written from its last byte to its first.
 
-ghost use Rattle.std.specs.Prelude.{◌≡◌, ℕ, ◌+◌, ◌-◌, ◌/◌, ◌%◌, ◌^◌, ◌<◌, ◌≤◌, [], ◌∷◌, length, map, slice_index};
-ghost use Rattle.zerotrie_core.specs.Numbers.{value_form, spelled_as, SpellsAs};
-ghost use Rattle.zerotrie_core.specs.Branches.{total as total_of, ends, blocks, branch_front};
-ghost use Rattle.zerotrie_core.specs.plain.Encoding.{with_bits};
+ghost use Rattle.std.specs.Prelude.{◌≡◌, ℕ, ◌+◌, ◌-◌, ◌/◌, ◌%◌, ◌^◌, ◌<◌, ◌≤◌, [], ◌∷◌, length, map};
+ghost use Rattle.zerotrie_base.specs.Numbers.{value_form, spelled_as, SpellsAs};
+ghost use Rattle.zerotrie_base.specs.Branches.{total as total_of, ends, blocks, branch_front};
 ghost use Rattle.zerotrie_build.specs.konst.Texts.{Prepends, Counts, newest_first, bytes_of, lens_of};
 
-use crate::measuring::width_of;
-use crate::writing::{BRANCH, VALUE};
-use zerotrie_core::{write_varint_meta2, write_varint_meta3};
+use crate::number::{BRANCH, VALUE, number_bytes, width_of};
 
 /// A target of a branch that is not written yet.
 #[derive(Clone, Copy, Debug, Default)]
@@ -21,8 +18,8 @@ pub(crate) struct Sibling {
     pub(crate) len: usize,
 }
 
-/// A text at the end of a buffer. Bytes for which the buffer has no room are counted and lost, so that a text
-/// is known to be too long only once all of it was written.
+/// A text at the end of a buffer. Bytes for which the buffer has no room are counted and lost, so
+/// that a text is known to be too long only once all of it was written.
 #[derive(Drop)]
 pub(crate) struct Text<'a> {
     pub(crate) buffer: &'a mut [u8],
@@ -53,23 +50,12 @@ impl Text<'_> {
         }
     }
 
-    /// Puts a number in front, with these bits added to its lead.
-    fn put_number(&mut self, bits: u8, number: &[u8])
-        requires { bits + slice_index number.now 0 < 256 }
-        ensures { Prepends self.old self.new (with_bits bits number.now) }
-    {
-        if let Some((lead, trail)) = number.split_first() {
-            self.put_all(trail);
-            self.put(bits + *lead);
-        }
-    }
-
     /// Puts a value node in front.
     pub(crate) fn put_value(&mut self, value: usize)
         ensures puts { Prepends self.old self.new (spelled_as value_form value) }
         ensures spells { SpellsAs value_form value (spelled_as value_form value) }
     {
-        self.put_number(VALUE, &write_varint_meta3(value));
+        self.put_all(&number_bytes(VALUE, 16, value));
     }
 
     /// Puts the bytes of this weight of the offsets of a branch to these targets in front.
@@ -107,8 +93,8 @@ impl Text<'_> {
         }
     }
 
-    /// Puts the head, the edges and the offsets of a branch to these targets in front. Together the targets
-    /// have `total` bytes.
+    /// Puts the head, the edges and the offsets of a branch to these targets in front. Together the
+    /// targets have `total` bytes.
     pub(crate) fn put_branch(&mut self, siblings: &[Sibling], total: usize)
         requires total { total ≡ total_of (lens_of (newest_first siblings.now)) }
         ensures { Prepends self.old self.new
@@ -118,10 +104,7 @@ impl Text<'_> {
         let width = width_of(total);
         self.put_offsets(siblings, total, width + 1);
         self.put_edges(siblings);
-        self.put_number(
-            BRANCH,
-            &write_varint_meta2(256 * width + siblings.len() % 256),
-        );
+        self.put_all(&number_bytes(BRANCH, 32, 256 * width + siblings.len() % 256));
     }
 }
 

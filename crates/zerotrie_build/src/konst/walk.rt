@@ -1,14 +1,14 @@
 //! The items, from the last to the first, and the branches where they part.
 //!
-//! In front stands the text of what lies under the first bytes of one key, and after it the targets of open
-//! branches, the siblings, of which the one that was set aside last stands in front.
+//! In front stands the text of what lies under the first bytes of one key, and after it the targets
+//! of open branches, the siblings, of which the one that was set aside last stands in front.
 
 ghost use Rattle.std.specs.Prelude.{◌≡◌, ◌≢◌, ℕ, ◌+◌, ◌^◌, ◌<◌, ◌≤◌, ◌∷◌, length, take, drop, All, IfOk, IfErr, OnOk, true, false, suc, List};
-ghost use Rattle.zerotrie_core.specs.Kind.{simple_ascii};
-ghost use Rattle.zerotrie_core.specs.Maps.{Pairs};
-ghost use Rattle.zerotrie_core.specs.Texts.{Lists};
-ghost use Rattle.zerotrie_core.specs.Stack.{stack_of};
-ghost use Rattle.zerotrie_core.specs.Causes.{CapacityExceeded, StackExceeded};
+ghost use Rattle.zerotrie_base.specs.Kind.{simple_ascii};
+ghost use Rattle.zerotrie_base.specs.Maps.{Pairs};
+ghost use Rattle.zerotrie_base.specs.Texts.{Lists};
+ghost use Rattle.zerotrie_base.specs.Stack.{stack_of};
+ghost use Rattle.zerotrie_base.specs.declared.error.ZeroTrieBuildError.TheVariants.{CapacityExceeded, StackExceeded};
 ghost use Rattle.zerotrie_build.specs.Items.{pairs};
 ghost use Rattle.zerotrie_build.specs.Order.{Before, Ordered};
 ghost use Rattle.zerotrie_build.specs.konst.Texts.{EndsIn, Keeps, newest_first};
@@ -18,7 +18,7 @@ use crate::konst::text::{Sibling, Text, total};
 use crate::order::common_front_len;
 use crate::slice_indices::ByteSliceWithIndices;
 use arrayvec::ArrayVec;
-use zerotrie_core::ZeroTrieBuildError;
+use zerotrie_base::ZeroTrieBuildError;
 
 /// Sets the text in front aside as the target of a branch at this depth.
 fn set_aside<const K: usize>(
@@ -144,7 +144,8 @@ fn close_to<const K: usize>(
     Ok(())
 }
 
-/// Goes from the text of the whole key to where the key before it is added.
+/// Closes the levels below the common prefix with the previous key, and saves what is built as a
+/// sibling, unless the previous key is that prefix.
 fn go_before<const K: usize>(
     text: &mut Text<'_>,
     siblings: &mut ArrayVec<Sibling, K>,
@@ -194,8 +195,9 @@ fn add<const K: usize>(
     go_before(text, siblings, before, key)
 }
 
-/// Writes the text of the trie of the items at the end of the buffer, if it has room for it, and answers how
-/// many bytes the text has, or the greatest number if it has more. What stands before the text stays.
+/// Writes the text of the trie of the items at the end of the buffer, if it has room for it, and
+/// answers how many bytes the text has, or the greatest number if it has more. What stands before
+/// the text stays.
 pub(crate) fn build_text<const K: usize>(
     buffer: &mut [u8],
     items: ByteSliceWithIndices<'_>,

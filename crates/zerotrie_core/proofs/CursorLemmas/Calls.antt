@@ -4,31 +4,31 @@ use Rattle.std.specs.Prelude.{IsTrue, ◌↔◌, min, slice_get, IfNone}
 use Rattle.std.specs.Borrow.{Bor}
 use Rattle.std.specs.Option.{option_map, option_map_or}
 use Rattle.std.proofs.lemmas.Option.{slice_get-get_or, slice_get_past}
-use Rattle.zerotrie_core.specs.Kind.{Kind, IsAscii, fold_byte}
-use Rattle.zerotrie_core.specs.Maps.{Pairs, value_at, residual, with_front, with_run}
-use Rattle.zerotrie_core.specs.Numbers.{BeginsWith}
-use Rattle.zerotrie_core.specs.Texts.{Lists, ListEach, NoValueFirst}
-use Rattle.zerotrie_core.specs.Texts.Lists.{nothing, value, literal, span, branch}
-use Rattle.zerotrie_core.specs.Texts.ListEach.{no_edge, edge}
-use Rattle.zerotrie_core.specs.Nodes.{Shape, Begins, IsTargetResult}
-use Rattle.zerotrie_core.specs.Nodes as shapes
-use Rattle.zerotrie_core.specs.Cursors.{met, edge_like}
+use Rattle.zerotrie_base.specs.Kind.{Kind, IsAscii, fold_byte}
+use Rattle.zerotrie_base.specs.Maps.{Pairs, value_at, residual, with_front, with_run}
+use Rattle.zerotrie_base.specs.Numbers.{BeginsWith}
+use Rattle.zerotrie_base.specs.Texts.{Lists, ListEach, NoValueFirst}
+use Rattle.zerotrie_base.specs.Texts.Lists.{nothing, value, literal, span, branch}
+use Rattle.zerotrie_base.specs.Texts.ListEach.{no_edge, edge}
+use Rattle.zerotrie_base.specs.Nodes.{Shape, Begins, IsTargetResult}
+use Rattle.zerotrie_base.specs.Nodes as shapes
+use Rattle.zerotrie_base.specs.Cursors.{met, edge_like}
 use Rattle.zerotrie_core.specs.Machine.{behind, without_value, nth_edge}
 use Rattle.zerotrie_core.specs.Places.{Place, nowhere, ListsBehind, ListsAt, IsStep, IsTake, IsProbe}
 use Rattle.zerotrie_core.specs.reader.Going.{AlwaysGoes, AlwaysStops}
 use Rattle.zerotrie_core.specs.cursor.Edges.{NoValue, HasTheEdges, ListsInside}
-use Rattle.zerotrie_core.proofs.NumberLemmas.Numbers.{some_bytes}
-use Rattle.zerotrie_core.proofs.NodeLemmas.Nodes.{value_begins}
-use Rattle.zerotrie_core.proofs.MapLemmas.Kinds.{one_fold, two_folds, edge_limit_is, ascii_spanless, ascii_sorted}
-use Rattle.zerotrie_core.proofs.MapLemmas.Values.{value_at-front, value_at-other, value_at-no_key, behind_none}
-use Rattle.zerotrie_core.proofs.NodeLemmas.Tables.{NoneLike, Distinct, table_distinct, table_rises}
-use Rattle.zerotrie_core.proofs.MapLemmas.Edges.{residual-front}
-use Rattle.zerotrie_core.proofs.MapLemmas.Spans.{with_run-none, with_run-front, value_at-no_run, run_none}
-use Rattle.zerotrie_core.proofs.CanonicalLemmas.Canonical.{nil_end, lists_some}
-use Rattle.zerotrie_core.proofs.CanonicalLemmas.Encoded.{rises_count}
-use Rattle.zerotrie_core.proofs.NodeLemmas.Offsets.{target_is}
-use Rattle.zerotrie_core.proofs.MapLemmas.Targets.{like_none, like_some, each_none, each_behind, met_each, met_front}
-use Rattle.zerotrie_core.proofs.NodeLemmas.Opened.{Opens, held_edge, value_opens, literal_opens, span_opens, branch_opens, nothing_listed, no_node}
+use Rattle.zerotrie_base.proofs.NumberLemmas.Numbers.{some_bytes}
+use Rattle.zerotrie_base.proofs.NodeLemmas.Nodes.{value_begins}
+use Rattle.zerotrie_base.proofs.MapLemmas.Kinds.{one_fold, two_folds, edge_limit_is, ascii_spanless, ascii_sorted}
+use Rattle.zerotrie_base.proofs.MapLemmas.Values.{value_at-front, value_at-other, value_at-no_key, behind_none}
+use Rattle.zerotrie_base.proofs.NodeLemmas.Tables.{NoneLike, Distinct, table_distinct, table_rises}
+use Rattle.zerotrie_base.proofs.MapLemmas.Edges.{residual-front}
+use Rattle.zerotrie_base.proofs.MapLemmas.Spans.{with_run-none, with_run-front, value_at-no_run, run_none}
+use Rattle.zerotrie_base.proofs.CanonicalLemmas.Canonical.{nil_end, lists_some}
+use Rattle.zerotrie_base.proofs.CanonicalLemmas.Encoded.{rises_count}
+use Rattle.zerotrie_base.proofs.NodeLemmas.Offsets.{target_is}
+use Rattle.zerotrie_base.proofs.MapLemmas.Targets.{like_none, like_some, each_none, each_behind, met_each, met_front}
+use Rattle.zerotrie_base.proofs.NodeLemmas.Opened.{Opens, held_edge, value_opens, literal_opens, span_opens, branch_opens, nothing_listed, no_node}
 
 -- The edges of pairs, and where each leads.
 pub record Parts (kind : Kind) (pairs : Pairs) (edges : List ℕ) (places : ℕ → Place) : Type 0 where

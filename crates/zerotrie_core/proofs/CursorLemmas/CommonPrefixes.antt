@@ -3,9 +3,9 @@ use Rattle.std.proofs.Common.{◌≡◌, ℕ, ◌+◌, ◌<◌, ◌≤◌, List,
 use Rattle.std.specs.Option.{option_map, option_to_list}
 use Rattle.std.proofs.lemmas.List.{append-nil, drop_more}
 use Rattle.std.proofs.Math.ListN.{drop_of_length-le}
-use Rattle.zerotrie_core.specs.Kind.{Kind}
-use Rattle.zerotrie_core.specs.Maps.{Pairs, value_at}
-use Rattle.zerotrie_core.specs.Cursors.{met, edge_like}
+use Rattle.zerotrie_base.specs.Kind.{Kind}
+use Rattle.zerotrie_base.specs.Maps.{Pairs, value_at}
+use Rattle.zerotrie_base.specs.Cursors.{met, edge_like}
 use Rattle.zerotrie_core.specs.Machine.{behind, without_value}
 use Rattle.zerotrie_core.specs.Places.{Place, ListsAt, IsStep, IsTake}
 use Rattle.zerotrie_core.specs.Prefixes.{fronts, Along, along, LeavesAt, Leaves, fronts_left, NextFront}

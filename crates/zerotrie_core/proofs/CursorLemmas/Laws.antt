@@ -2,20 +2,20 @@
 use Rattle.std.proofs.Common.{◌≡◌, ℕ, zero, suc, ◌<◌, List, [], ◌∷◌, ◌++◌, length, refl, sym, ◌∙◌, ap, subst, arith, Some, None, Bool, true, false, get_or, inl, inr, ◌⊎◌}
 use Rattle.std.specs.Prelude.{filter, not, ◌==◌, ◌&&◌, slice_index_or}
 use Rattle.std.proofs.lemmas.Bool.{eq-eqb, eqb-true, ne_eqb, cases_eq}
-use Rattle.zerotrie_core.specs.Kind.{Kind, fold_byte, same_byte}
-use Rattle.zerotrie_core.specs.Maps.{Pairs, value_at, same_key, look, residual, with_front}
-use Rattle.zerotrie_core.specs.Texts.{Lists}
-use Rattle.zerotrie_core.specs.Texts.Lists.{nothing, value, literal, span, branch}
-use Rattle.zerotrie_core.specs.Cursors.{met, edge_like}
+use Rattle.zerotrie_base.specs.Kind.{Kind, fold_byte, same_byte}
+use Rattle.zerotrie_base.specs.Maps.{Pairs, value_at, same_key, look, residual, with_front}
+use Rattle.zerotrie_base.specs.Texts.{Lists}
+use Rattle.zerotrie_base.specs.Texts.Lists.{nothing, value, literal, span, branch}
+use Rattle.zerotrie_base.specs.Cursors.{met, edge_like}
 use Rattle.zerotrie_core.specs.Machine.{Answer, behind, without_value, run}
 use Rattle.zerotrie_core.specs.Places.{Place, nowhere, ListsBehind, ListsAt}
 use Rattle.zerotrie_core.specs.CursorLaws.{steps_by, stepped_along, StepsAnswer, SuffixAnswers, NoSecondValue, StoredBytes}
-use Rattle.zerotrie_core.proofs.NumberLemmas.Numbers.{cons_parts}
-use Rattle.zerotrie_core.proofs.NodeLemmas.Tables.{NoneLike, table_distinct}
-use Rattle.zerotrie_core.proofs.MapLemmas.Values.{value_at-no_key, behind_none}
-use Rattle.zerotrie_core.proofs.MapLemmas.Spans.{value_at-no_run}
-use Rattle.zerotrie_core.proofs.CanonicalLemmas.Canonical.{lists_some}
-use Rattle.zerotrie_core.proofs.MapLemmas.Maps.{look-map_of}
+use Rattle.zerotrie_base.proofs.NumberLemmas.Numbers.{cons_parts}
+use Rattle.zerotrie_base.proofs.NodeLemmas.Tables.{NoneLike, table_distinct}
+use Rattle.zerotrie_base.proofs.MapLemmas.Values.{value_at-no_key, behind_none}
+use Rattle.zerotrie_base.proofs.MapLemmas.Spans.{value_at-no_run}
+use Rattle.zerotrie_base.proofs.CanonicalLemmas.Canonical.{lists_some}
+use Rattle.zerotrie_base.proofs.MapLemmas.Maps.{look-map_of}
 use Rattle.zerotrie_core.proofs.CursorLemmas.Calls.{Parts, before_text, opens_parts, front_parts, inside_span, along, along_none, no_value_first, no_value, front_without, run_without, each_without}
 
 -- The edges that a place has.

@@ -3,15 +3,15 @@ use Rattle.std.proofs.Common.{◌≡◌, ℕ, ◌+◌, ◌<◌, ◌≤◌, zero,
 use Rattle.std.proofs.lemmas.Bool.Decides.{eqb_tells, leb_tells}
 use Rattle.std.proofs.lemmas.List.{append-nil}
 use Rattle.std.specs.Prelude.{is_some, not, true, IfSome}
-use Rattle.zerotrie_core.specs.Kind.{Kind}
-use Rattle.zerotrie_core.specs.Maps.{Pairs, Map, look, value_at}
-use Rattle.zerotrie_core.specs.Texts.{Means}
+use Rattle.zerotrie_base.specs.Kind.{Kind}
+use Rattle.zerotrie_base.specs.Maps.{Pairs, Map, look, value_at}
+use Rattle.zerotrie_base.specs.Texts.{Means}
 use Rattle.zerotrie_core.specs.Machine.{behind, without_value, after_steps}
 use Rattle.zerotrie_core.specs.Places.{Place, ListsAt, IsStep, IsTake}
 use Rattle.zerotrie_core.specs.CursorLaws.{StepsAnswer}
 use Rattle.zerotrie_core.specs.Prefixes.{IsLongest, IsLongestPrefix}
 use Rattle.zerotrie_core.specs.cursor.Fronts.{noted}
-use Rattle.zerotrie_core.proofs.MapLemmas.Maps.{look-map_of}
+use Rattle.zerotrie_base.proofs.MapLemmas.Maps.{look-map_of}
 
 pub others_stay : (kind : Kind) (pairs : Pairs) (c : ℕ) (key : List ℕ) → value_at kind (without_value pairs) (c ∷ key) ≡ value_at kind pairs (c ∷ key)
 others_stay kind [] c key = refl

@@ -1,11 +1,11 @@
 -- Which run a cursor stands in.
 use Rattle.std.proofs.Common.{◌≡◌, ℕ, List, [], ◌∷◌, refl, sym, ◌∙◌, ap, subst}
-use Rattle.zerotrie_core.specs.Kind.{Kind}
-use Rattle.zerotrie_core.specs.Nodes.{Shape, Begins}
-use Rattle.zerotrie_core.specs.Nodes.Shape.{value, literal, span, branch}
+use Rattle.zerotrie_base.specs.Kind.{Kind}
+use Rattle.zerotrie_base.specs.Nodes.{Shape, Begins}
+use Rattle.zerotrie_base.specs.Nodes.Shape.{value, literal, span, branch}
 use Rattle.zerotrie_core.specs.Places.{Place, MeetsSpan, HasRun, FollowsRun}
 use Rattle.zerotrie_core.specs.Places.MeetsSpan.{at_once, after_value}
-use Rattle.zerotrie_core.proofs.NumberLemmas.Numbers.{cons_parts}
+use Rattle.zerotrie_base.proofs.NumberLemmas.Numbers.{cons_parts}
 use Rattle.zerotrie_core.proofs.NodeLemmas.Read.{node_begun}
 
 -- bytes begin with one node

@@ -2,9 +2,9 @@
 use Rattle.std.proofs.Common.{◌≡◌, ℕ, zero, suc, ◌+◌, ◌-◌, ◌<◌, ◌≤◌, List, [], ◌∷◌, ◌++◌, length, drop, refl, sym, ◌∙◌, ap, subst, arith, All}
 use Rattle.std.proofs.lemmas.List.{length-take-le, length-drop}
 use Rattle.std.proofs.lemmas.List.Elements.{All-nil, All-cons, All-contains}
-use Rattle.zerotrie_core.specs.Kind.{Kind}
-use Rattle.zerotrie_core.specs.Nodes.{Shape, begin_of, end_of, targets_behind}
-use Rattle.zerotrie_core.specs.Nodes.Shape.{value, literal, span, branch}
+use Rattle.zerotrie_base.specs.Kind.{Kind}
+use Rattle.zerotrie_base.specs.Nodes.{Shape, begin_of, end_of, targets_behind}
+use Rattle.zerotrie_base.specs.Nodes.Shape.{value, literal, span, branch}
 use Rattle.zerotrie_core.specs.Faults.{Before, FaultIn, after, Fault}
 use Rattle.zerotrie_core.specs.Faults.FaultIn.{here, further}
 use Rattle.zerotrie_core.specs.declared.well_formed.Expected.{Expected}

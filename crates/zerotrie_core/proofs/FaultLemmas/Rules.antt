@@ -1,10 +1,10 @@
 -- What breaks a rule: no node that keeps the rules, and no text.
 use Rattle.std.proofs.Common.{◌≡◌, ℕ, zero, suc, ◌-◌, ◌≤◌, List, [], ◌∷◌, refl, sym, ◌∙◌, subst, arith, Option, Some, None, false, All, get_or, IfSome, option_map}
 use Rattle.std.proofs.lemmas.List.Elements.{All-nil, All-cons, All-contains}
-use Rattle.zerotrie_core.specs.Kind.{Kind, has_spans}
-use Rattle.zerotrie_core.specs.Texts.{NoSpanFirst}
-use Rattle.zerotrie_core.specs.Nodes.{Shape, Begins, BeginsBranch}
-use Rattle.zerotrie_core.specs.Nodes.Shape.{value, literal, span, branch}
+use Rattle.zerotrie_base.specs.Kind.{Kind, has_spans}
+use Rattle.zerotrie_base.specs.Texts.{NoSpanFirst}
+use Rattle.zerotrie_base.specs.Nodes.{Shape, Begins, BeginsBranch}
+use Rattle.zerotrie_base.specs.Nodes.Shape.{value, literal, span, branch}
 use Rattle.zerotrie_core.specs.Shapes.{shape}
 use Rattle.zerotrie_core.specs.declared.node.Node.{Node}
 use Rattle.zerotrie_core.specs.Faults.{Before, Fails, FaultIn, after, Fault, FaultCause}
@@ -19,8 +19,8 @@ use Rattle.zerotrie_core.specs.well_formed.Testing.{IsText, IsAllowed}
 use Rattle.zerotrie_core.specs.listing.Listed.{node_of, is_in_order, target_of}
 use Rattle.zerotrie_core.specs.walk.Visits.{Part, after_node, target_part, target_parts, parts_behind}
 use Rattle.zerotrie_core.specs.fault_search.Rules.{before_of, Keeps, KeepsFirst}
-use Rattle.zerotrie_core.proofs.NodeLemmas.Nodes.{none_empty, branch_begins}
-use Rattle.zerotrie_core.proofs.NumberLemmas.Numbers.{IsBytes, some_bytes}
+use Rattle.zerotrie_base.proofs.NodeLemmas.Nodes.{none_empty, branch_begins}
+use Rattle.zerotrie_base.proofs.NumberLemmas.Numbers.{IsBytes, some_bytes}
 use Rattle.zerotrie_core.proofs.NodeLemmas.Read.{node_begun, node_found, InSome, by_test}
 use Rattle.zerotrie_core.proofs.WellFormedLemmas.Depth.{deep_no_node, each_at}
 use Rattle.zerotrie_core.proofs.WellFormedLemmas.Steps.{value_first, literal_allowed, value_reduces, literal_reduces, span_reduces, span_high, span_unfit}

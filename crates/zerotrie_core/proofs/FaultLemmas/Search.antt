@@ -2,11 +2,11 @@
 use Rattle.std.proofs.Common.{◌≡◌, ℕ, zero, suc, ◌+◌, ◌-◌, ◌*◌, ◌<◌, ◌≤◌, List, [], ◌∷◌, ◌++◌, length, take, map, reverse, refl, sym, ◌∙◌, ap, subst, arith, Option, Some, None, Contains, get_or, ◌⊎◌, inl, inr}
 use Rattle.std.proofs.lemmas.List.{length-take-le, length-drop, reverse-append}
 use Rattle.std.proofs.lemmas.Bool.{cases_lt}
-use Rattle.zerotrie_core.specs.Kind.{Kind}
-use Rattle.zerotrie_core.specs.Branches.{before_edges}
-use Rattle.zerotrie_core.specs.Texts as texts
-use Rattle.zerotrie_core.specs.Nodes.{Shape, Begins, BeginsBranch}
-use Rattle.zerotrie_core.specs.Nodes.Shape.{value, literal, span, branch}
+use Rattle.zerotrie_base.specs.Kind.{Kind}
+use Rattle.zerotrie_base.specs.Branches.{before_edges}
+use Rattle.zerotrie_base.specs.Texts as texts
+use Rattle.zerotrie_base.specs.Nodes.{Shape, Begins, BeginsBranch}
+use Rattle.zerotrie_base.specs.Nodes.Shape.{value, literal, span, branch}
 use Rattle.zerotrie_core.specs.Faults.{Before, Fails, FaultIn, IsFault, IsFirstFault, after, Fault}
 use Rattle.zerotrie_core.specs.Faults.Before.{a_value, a_span, a_byte}
 use Rattle.zerotrie_core.specs.Faults.FaultIn.{here, further}
@@ -19,7 +19,7 @@ use Rattle.zerotrie_core.specs.walk.Seen.{part_of}
 use Rattle.zerotrie_core.specs.declared.walk.part.Part as parts
 use Rattle.zerotrie_core.specs.walk.Visits.{Part, whole, after_node, target_parts, parts_behind}
 use Rattle.zerotrie_core.specs.fault_search.Rules.{before_of, expected_after, Keeps, KeepsFirst, parts_next, expected_next}
-use Rattle.zerotrie_core.proofs.NodeLemmas.Tables.{table_parts}
+use Rattle.zerotrie_base.proofs.NodeLemmas.Tables.{table_parts}
 use Rattle.zerotrie_core.proofs.NodeLemmas.Read.{InSome}
 use Rattle.zerotrie_core.proofs.WalkLemmas.Visits.{behind_within}
 use Rattle.zerotrie_core.proofs.WellFormedLemmas.Depth.{each_from}

@@ -4,16 +4,16 @@ use Rattle.std.specs.Cmp.{nat_cmp_total, nat_cmp_is, tied_itself}
 use Rattle.std.specs.Cmp.Lexicographic.{slice_cmp}
 use Rattle.std.specs.Ordering.{nat_cmp, ordering_then}
 use Rattle.std.specs.List.{AllByRecursion}
-use Rattle.zerotrie_core.specs.Kind.{Kind, simple_ascii, IsAscii, fold_byte}
-use Rattle.zerotrie_core.specs.Maps.{Pairs, Map, map_of, with_front, Ascends, FirstAbove, RepeatsKey}
-use Rattle.zerotrie_core.specs.Texts.{Lists, ListEach, Means, NoValueFirst}
-use Rattle.zerotrie_core.specs.Texts.Lists.{nothing, value, literal, span, branch}
-use Rattle.zerotrie_core.specs.Texts.ListEach.{no_edge, edge}
-use Rattle.zerotrie_core.specs.Laws.{folded}
-use Rattle.zerotrie_core.proofs.MapLemmas.Kinds.{ascii_spanless, ascii_sorted}
-use Rattle.zerotrie_core.proofs.MapLemmas.Cases.{OtherKey, keys_some, lists_apart, apart_distinct}
-use Rattle.zerotrie_core.proofs.CanonicalLemmas.Texts.{lists_once}
-use Rattle.zerotrie_core.proofs.NodeLemmas.Tables.{Rises, AllAbove, table_rises}
+use Rattle.zerotrie_base.specs.Kind.{Kind, simple_ascii, IsAscii, fold_byte}
+use Rattle.zerotrie_base.specs.Maps.{Pairs, Map, map_of, with_front, Ascends, FirstAbove, RepeatsKey}
+use Rattle.zerotrie_base.specs.Texts.{Lists, ListEach, Means, NoValueFirst}
+use Rattle.zerotrie_base.specs.Texts.Lists.{nothing, value, literal, span, branch}
+use Rattle.zerotrie_base.specs.Texts.ListEach.{no_edge, edge}
+use Rattle.zerotrie_base.specs.Laws.{folded}
+use Rattle.zerotrie_base.proofs.MapLemmas.Kinds.{ascii_spanless, ascii_sorted}
+use Rattle.zerotrie_base.proofs.MapLemmas.Cases.{OtherKey, keys_some, lists_apart, apart_distinct}
+use Rattle.zerotrie_base.proofs.CanonicalLemmas.Texts.{lists_once}
+use Rattle.zerotrie_base.proofs.NodeLemmas.Tables.{Rises, AllAbove, table_rises}
 
 -- the first key is longer than none
 pub keys_above : {kind : Kind} {bytes : List ℕ} {pairs : Pairs} → Lists kind bytes pairs → NoValueFirst bytes → FirstAbove [] (folded kind pairs)

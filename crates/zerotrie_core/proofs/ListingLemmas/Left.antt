@@ -1,32 +1,25 @@
 -- What is left of a listing, as it goes from node to node.
 use Rattle.std.proofs.Common.{◌≡◌, ℕ, suc, ◌+◌, ◌-◌, ◌<◌, ◌≤◌, List, [], ◌∷◌, ◌++◌, length, refl, sym, ◌∙◌, ap, subst, arith, Option, Some, None, Bool, true, false, take, drop, inl, inr, ◌⊎◌, length-append, append_assoc}
-use Rattle.std.specs.Prelude.{slice_index, if◌then◌else◌, IsTrue}
-use Rattle.std.proofs.lemmas.Bool.{cases_lt}
+use Rattle.std.specs.Prelude.{slice_index, nat_lt, if◌then◌else◌}
+use Rattle.std.proofs.lemmas.Bool.{cases_lt, ltb-true, ltb-false}
 use Rattle.std.specs.Borrow.{Bor}
-use Rattle.std.proofs.lemmas.List.{append-nil, take-append-le, take-append-drop, take_all, length-take, length-take-le, length-drop, drop_at, drop-take, take-take, get_or-take, take_at}
+use Rattle.std.proofs.lemmas.List.{append-nil, take-append-le, take-append-drop, take_all, length-take, length-take-le, length-drop, drop_at, drop-take, take-take, get_or-take}
 use Rattle.std.proofs.Math.Seq.{take-append-add}
-use Rattle.zerotrie_core.specs.Kind.{Kind}
-use Rattle.zerotrie_core.specs.Maps.{Pairs, with_front, with_run}
-use Rattle.zerotrie_core.specs.Nodes.{Shape, Begins, targets_behind, begin_of, end_of, IsTargetResult}
-use Rattle.zerotrie_core.specs.Nodes as shapes
-use Rattle.zerotrie_core.specs.Branches.{before_edges}
+use Rattle.zerotrie_base.specs.Kind.{Kind}
+use Rattle.zerotrie_base.specs.Maps.{Pairs, with_front, with_run}
+use Rattle.zerotrie_base.specs.Nodes.{Shape, Begins, targets_behind, begin_of, end_of, IsTargetResult}
+use Rattle.zerotrie_base.specs.Nodes as shapes
+use Rattle.zerotrie_base.specs.Branches.{before_edges}
 use Rattle.zerotrie_core.specs.listing.Listed.{listed, of_node, of_targets, node_of, is_in_order, target_of}
-use Rattle.zerotrie_core.specs.listing.Opened.{pairs_behind, pairs_open, pairs_left, IsOpen, Nested, Stands, work_open, work_left}
-use Rattle.zerotrie_core.specs.listing.Runs.{EndsWith, MovesLiterals, MovesAny}
+use Rattle.zerotrie_core.specs.listing.Opened.{pairs_behind, pairs_open, pairs_left, IsOpen, Nested, Stands, still_open, work_open, work_left}
+use Rattle.zerotrie_core.specs.listing.Runs.{EndsWith, Moves, MovesLiterals, MovesAny}
 use Rattle.zerotrie_core.specs.declared.stream.opened.OpenBranch.{OpenBranch}
 use Rattle.zerotrie_core.proofs.ListingLemmas.Nodes.{listed_node, listed_read, order_is, is_order, next_begin}
-use Rattle.zerotrie_core.proofs.NodeLemmas.Read.{InSome, Within, node_within, node_begun}
+use Rattle.zerotrie_core.proofs.NodeLemmas.Read.{InSome, Within, by_test, node_within, node_begun}
 
 -- nothing is after a branch that has no edge left
 pub none_behind : (kind : Kind) (o : OpenBranch) → o.edges ≤ o.next → pairs_behind kind o ≡ []
 none_behind kind o h = let none : o.edges - o.next ≡ 0 = omega arith in rw none refl
-
-listed_nothing : (kind : Kind) (prefix : List ℕ) (o : OpenBranch) → o.edges ≤ o.next → pairs_open kind prefix (o ∷ []) ≡ []
-listed_nothing kind prefix o h = rw (none_behind kind o h) refl
-
--- at the start everything is left
-pub fresh_left : (kind : Kind) (prefix bytes : List ℕ) (o : OpenBranch) → o.edges ≤ o.next → pairs_left kind prefix bytes (o ∷ []) ≡ with_run prefix (listed kind bytes)
-fresh_left kind prefix bytes o h = ap (λ ps. with_run prefix (listed kind bytes) ++ ps) (listed_nothing kind prefix o h) ∙ append-nil (with_run prefix (listed kind bytes))
 
 -- runs in front, one after another
 pub run_run : (front run : List ℕ) (pairs : Pairs) → with_run front (with_run run pairs) ≡ with_run (front ++ run) pairs
@@ -52,6 +45,10 @@ FirstLow depth (o ∷ branches) = o.depth ≤ depth
 pub first_low : (depth : ℕ) (branches : List OpenBranch) → Nested depth branches → FirstLow depth branches
 first_low depth [] nested = tt
 first_low depth (o ∷ branches) nested = nested.0.low
+
+pub first_open : (depth : ℕ) (branches : List OpenBranch) → Stands depth branches → FirstLow depth branches
+first_open depth [] stands = tt
+first_open depth (o ∷ branches) stands = stands.0.low
 
 first_longer : (d e : ℕ) (branches : List OpenBranch) → d ≤ e → FirstLow d branches → FirstLow e branches
 first_longer d e [] h low = tt
@@ -239,7 +236,7 @@ target_ends o t begin g =
 -- a branch whose next target was gone into
 pub entered : (prefix : List ℕ) (outer : List OpenBranch) (o p : OpenBranch) (t : Bor (List ℕ)) (edge : ℕ) → IsOpen (length prefix) o → o.next < o.edges → IsTargetResult o.edges o.width o.behind.now o.next (Some t)
     → p.edges ≡ o.edges → p.width ≡ o.width → p.behind.now ≡ o.behind.now → p.next ≡ suc o.next → p.begin ≡ o.begin + length t.now → p.depth ≡ o.depth
-    → Nested o.depth outer → Stands (length (take o.depth prefix ++ edge ∷ [])) p outer
+    → Nested o.depth outer → Stands (length (take o.depth prefix ++ edge ∷ [])) (p ∷ outer)
 entered prefix outer o p t edge branches some g edges width behind next begin depth nested =
     let len = length-append (take o.depth prefix) (edge ∷ []) in
     let front : length (take o.depth prefix) ≡ o.depth = length-take-le o.depth prefix branches.low in
@@ -255,20 +252,8 @@ entered prefix outer o p t edge branches some g edges width behind next begin de
       subst (λ d. Nested d outer) (sym depth) nested,
     )
 
--- what is to be gone over gets less
-pub enter_less : (outer : List OpenBranch) (o p : OpenBranch) (t : Bor (List ℕ)) → o.next < o.edges → o.begin ≡ begin_of o.edges o.width o.behind.now o.next → IsTargetResult o.edges o.width o.behind.now o.next (Some t)
-    → p.edges ≡ o.edges → p.width ≡ o.width → p.behind.now ≡ o.behind.now → p.next ≡ suc o.next → p.begin ≡ o.begin + length t.now
-    → work_left t.now (p ∷ outer) < work_open (o ∷ outer)
-enter_less outer o p t some begins g edges width behind next begin =
-    let ends = target_ends o t begins g in
-    let same : length (targets_behind p.edges p.width p.behind.now) ≡ length (targets_behind o.edges o.width o.behind.now) = rw (edges, width, behind) refl in
-    omega (arith, ends.1)
-
-pub no_less : (a b : ℕ) → (a < b → IsTrue false) → b ≤ a
-no_less a b never = elim (cases_lt a b) [ inl less ↦ absurd (let f = never less in cc) | inr more ↦ more ]
-
 -- the innermost branch has no target left, and is left
-pub leave : (kind : Kind) (prefix : List ℕ) (outer : List OpenBranch) (o : OpenBranch) → Stands (length prefix) o outer → o.edges ≤ o.next → pairs_open kind prefix outer ≡ pairs_open kind prefix (o ∷ outer)
+leave : (kind : Kind) (prefix : List ℕ) (outer : List OpenBranch) (o : OpenBranch) → Stands (length prefix) (o ∷ outer) → o.edges ≤ o.next → pairs_open kind prefix outer ≡ pairs_open kind prefix (o ∷ outer)
 leave kind prefix outer o stands over =
     let front = take o.depth prefix in
     sym (open_shorter kind prefix o.depth outer stands.0.low (first_low o.depth outer stands.1))
@@ -278,15 +263,35 @@ nested_longer : (d e : ℕ) (branches : List OpenBranch) → d ≤ e → Nested 
 nested_longer d e [] h nested = tt
 nested_longer d e (o ∷ branches) h nested = (let low = nested.0.low in record { low = omega arith; inside = nested.0.inside; begins = nested.0.begins }, nested.1, nested.2)
 
-pub stands_longer : (d e : ℕ) (top : OpenBranch) (branches : List OpenBranch) → d ≤ e → Stands d top branches → Stands e top branches
-stands_longer d e top branches h stands = (let low = stands.0.low in record { low = omega arith; inside = stands.0.inside; begins = stands.0.begins }, stands.1)
+pub stands_longer : (d e : ℕ) (branches : List OpenBranch) → d ≤ e → Stands d branches → Stands e branches
+stands_longer d e [] h stands = tt
+stands_longer d e (o ∷ branches) h stands = (let low = stands.0.low in record { low = omega arith; inside = stands.0.inside; begins = stands.0.begins }, stands.1)
 
--- what is around it is nested
-pub nested_around : (depth : ℕ) (top : OpenBranch) (branches : List OpenBranch) → Stands depth top branches → Nested depth branches
-nested_around depth top branches stands = nested_longer top.depth depth branches stands.0.low stands.1
+pub stands_run : (key run : List ℕ) (branches : List OpenBranch) → Stands (length key) branches → Stands (length (key ++ run)) branches
+stands_run key run branches stands = let len = length-append key run in stands_longer (length key) (length (key ++ run)) branches (omega arith) stands
 
-pub nested_with : (depth : ℕ) (top : OpenBranch) (branches : List OpenBranch) → Stands depth top branches → top.next < top.edges → Nested depth (top ∷ branches)
-nested_with depth top branches stands some = (stands.0, some, stands.1)
+-- An innermost branch that has no target left does not matter.
+pub still_nested : (depth : ℕ) (branches : List OpenBranch) → Stands depth branches → Nested depth (still_open branches)
+still_nested depth [] stands = tt
+still_nested depth (o ∷ branches) stands = by_test (Nested depth) (nat_lt o.next o.edges) (o ∷ branches) branches
+    (λ some. (stands.0, ltb-true o.next o.edges some, stands.1))
+    (λ none. nested_longer o.depth depth branches stands.0.low stands.1)
+
+pub still_pairs : (kind : Kind) (prefix : List ℕ) (branches : List OpenBranch) → Stands (length prefix) branches → pairs_open kind prefix (still_open branches) ≡ pairs_open kind prefix branches
+still_pairs kind prefix [] stands = refl
+still_pairs kind prefix (o ∷ branches) stands = by_test (λ bs. pairs_open kind prefix bs ≡ pairs_open kind prefix (o ∷ branches)) (nat_lt o.next o.edges) (o ∷ branches) branches
+    (λ some. refl)
+    (λ none. leave kind prefix branches o stands (ltb-false o.next o.edges none))
+
+pub still_less : (branches : List OpenBranch) → work_open (still_open branches) ≤ work_open branches
+still_less [] = omega arith
+still_less (o ∷ branches) = by_test (λ bs. work_open bs ≤ work_open (o ∷ branches)) (nat_lt o.next o.edges) (o ∷ branches) branches (λ some. omega arith) (λ none. omega arith)
+
+-- with no target left anywhere, nothing is left after the bytes
+pub fresh_left : (kind : Kind) (prefix bytes : List ℕ) (branches : List OpenBranch) → Stands (length prefix) branches → still_open branches ≡ [] → pairs_left kind prefix bytes branches ≡ with_run prefix (listed kind bytes)
+fresh_left kind prefix bytes branches stands none =
+    let run = with_run prefix (listed kind bytes) in
+    ap (λ ps. run ++ ps) (sym (still_pairs kind prefix branches stands) ∙ ap (pairs_open kind prefix) none) ∙ append-nil run
 
 -- what stands after a node that was read is shorter
 pub read_shorter : (kind : Kind) (bytes : List ℕ) (s : Shape) → node_of kind bytes ≡ Some s → Within (length bytes) s
@@ -355,31 +360,32 @@ lies_part tail targets target from to lies low high is =
     ∙ take-take (to - from) more rest (omega arith)
     ∙ ap (λ m. take m rest) (sym len)
 
--- Literals that were copied with the bytes after them.
-pub moves_sixteen : (rest tail key rest' key' sixteen : List ℕ) (n : ℕ) → rest ≡ take (length rest) tail → sixteen ≡ take 16 tail → 0 < n → n ≤ 16 → n ≤ length rest
-    → ((k : ℕ) → k < n → slice_index rest k < 128)
-    → rest' ≡ drop n rest → key' ≡ take (length key + n) (key ++ sixteen) → MovesLiterals rest key rest' key'
-moves_sixteen rest tail key rest' key' sixteen n lies is some most within low rest_is key_is =
-    let len : length (take n rest) ≡ n = length-take-le n rest within in
+-- sixteen bytes were copied, and cut to a part of the rest
+pub copied : (rest tail key key' sixteen : List ℕ) (n : ℕ) → rest ≡ take (length rest) tail → sixteen ≡ take 16 tail → n ≤ 16 → n ≤ length rest → key' ≡ take (length key + n) (key ++ sixteen)
+    → key' ≡ key ++ take n rest
+copied rest tail key key' sixteen n lies is most within key_is =
     let same : take n sixteen ≡ take n rest = ap (take n) is ∙ take-take n 16 tail most ∙ sym (take-take n (length rest) tail within) ∙ ap (take n) (sym lies) in
+    key_is ∙ take-append-add key sixteen n ∙ ap (λ x. key ++ x) same
+
+-- literals went to the end of the key
+pub moves_some : (rest key rest' key' : List ℕ) (n : ℕ) → 0 < n → n ≤ length rest → ((k : ℕ) → k < n → slice_index rest k < 128) → Moves n rest key rest' key' → MovesLiterals rest key rest' key'
+moves_some rest key rest' key' n some within low moves =
+    let len : length (take n rest) ≡ n = length-take-le n rest within in
     record {
       run = take n rest;
       some = omega arith;
       literal = λ k h. subst (λ b. b < 128) (sym (get_or-take n rest k 0 (omega arith))) (low k (omega arith));
-      rest_is = sym (take-append-drop n rest) ∙ ap (λ x. take n rest ++ x) (sym rest_is);
-      key_is = key_is ∙ take-append-add key sixteen n ∙ ap (λ x. key ++ x) same;
+      rest_is = sym (take-append-drop n rest) ∙ ap (λ x. take n rest ++ x) (sym moves.0);
+      key_is = moves.1;
     }
 
--- up to sixteen literals go, or none
-pub moves_any : (rest tail key rest' key' sixteen : List ℕ) (n : ℕ) → rest ≡ take (length rest) tail → sixteen ≡ take 16 tail → n ≤ 16 → n ≤ length rest
-    → ((k : ℕ) → k < n → slice_index rest k < 128)
-    → rest' ≡ drop n rest → key' ≡ take (length key + n) (key ++ sixteen) → MovesAny rest key rest' key'
-moves_any rest tail key rest' key' sixteen n lies is most within low rest_is key_is = elim (cases_lt 0 n) [
-  | inl some ↦ inr (moves_sixteen rest tail key rest' key' sixteen n lies is some most within low rest_is key_is)
+-- or none did
+pub moves_any : (rest key rest' key' : List ℕ) (n : ℕ) → n ≤ length rest → ((k : ℕ) → k < n → slice_index rest k < 128) → Moves n rest key rest' key' → MovesAny rest key rest' key'
+moves_any rest key rest' key' n within low moves = elim (cases_lt 0 n) [
+  | inl some ↦ inr (moves_some rest key rest' key' n some within low moves)
   | inr none ↦
       let zero : n ≡ 0 = omega (arith, none) in
-      let no_more : length key + n ≡ length key = omega (arith, zero) in
-      inl (rest_is ∙ ap (λ m. drop m rest) zero, key_is ∙ (ap (λ m. take m (key ++ sixteen)) no_more ∙ take_at key sixteen (length key) refl))
+      inl (moves.0 ∙ ap (λ m. drop m rest) zero, moves.1 ∙ ap (λ m. key ++ take m rest) zero ∙ append-nil key)
 ]
 
 -- and what is left stays
@@ -388,4 +394,10 @@ pub at_any : (kind : Kind) (prefix rest prefix' rest' : List ℕ) (branches : Li
 at_any kind prefix rest prefix' rest' branches low moves = elim moves [
   | inl same ↦ rw (same.0, same.1) refl
   | inr some ↦ sym (at_literals kind prefix rest prefix' rest' branches low some)
+]
+
+pub any_longer : (prefix rest prefix' rest' : List ℕ) → MovesAny rest prefix rest' prefix' → (length rest' ≤ length rest) × (length prefix ≤ length prefix')
+any_longer prefix rest prefix' rest' moves = elim moves [
+  | inl same ↦ rw (same.0, same.1) (omega arith, omega arith)
+  | inr some ↦ let less = literals_shorter prefix rest prefix' rest' some in (omega (arith, less.0), less.1)
 ]

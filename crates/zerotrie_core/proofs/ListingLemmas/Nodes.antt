@@ -3,19 +3,19 @@ use Rattle.std.proofs.Common.{◌≡◌, ℕ, zero, suc, ◌+◌, ◌-◌, ◌<�
 use Rattle.std.specs.Prelude.{◌&&◌, slice_index, if◌then◌else◌}
 use Rattle.std.proofs.lemmas.List.{length-take, length-drop}
 use Rattle.std.proofs.lemmas.Bool.{le-leb, leb-true, ne_eqb}
-use Rattle.zerotrie_core.specs.Kind.{Kind}
-use Rattle.zerotrie_core.specs.Maps.{Pairs, with_front, with_run}
-use Rattle.zerotrie_core.specs.Texts.{Lists, ListEach}
-use Rattle.zerotrie_core.specs.Texts.Lists.{nothing, value, literal, span, branch}
-use Rattle.zerotrie_core.specs.Texts.ListEach.{no_edge, edge}
-use Rattle.zerotrie_core.specs.Nodes.{Shape, Begins, targets_behind, begin_of, end_of, offset_in}
-use Rattle.zerotrie_core.specs.Nodes as shapes
+use Rattle.zerotrie_base.specs.Kind.{Kind}
+use Rattle.zerotrie_base.specs.Maps.{Pairs, with_front, with_run}
+use Rattle.zerotrie_base.specs.Texts.{Lists, ListEach}
+use Rattle.zerotrie_base.specs.Texts.Lists.{nothing, value, literal, span, branch}
+use Rattle.zerotrie_base.specs.Texts.ListEach.{no_edge, edge}
+use Rattle.zerotrie_base.specs.Nodes.{Shape, Begins, targets_behind, begin_of, end_of, offset_in}
+use Rattle.zerotrie_base.specs.Nodes as shapes
 use Rattle.zerotrie_core.specs.listing.Listed.{listed, listed_to, of_node, of_targets, node_of, is_in_order, target_of}
 use Rattle.zerotrie_core.proofs.NodeLemmas.Read.{node_begun, node_within, InSome, Within, by_test}
-use Rattle.zerotrie_core.proofs.NodeLemmas.Offsets.{target_between, in_order}
-use Rattle.zerotrie_core.proofs.NodeLemmas.Opened.{is_begun, is_held, held_edge}
+use Rattle.zerotrie_base.proofs.NodeLemmas.Offsets.{target_between, in_order}
+use Rattle.zerotrie_base.proofs.NodeLemmas.Opened.{is_begun, is_held, held_edge}
 
-length-target : (n w : ℕ) (behind : List ℕ) (i : ℕ) → length (target_of n w behind i) ≤ length (targets_behind n w behind)
+pub length-target : (n w : ℕ) (behind : List ℕ) (i : ℕ) → length (target_of n w behind i) ≤ length (targets_behind n w behind)
 length-target n w behind i =
     let all = targets_behind n w behind in
     let from = begin_of n w behind i in

@@ -5,29 +5,29 @@ use Rattle.std.specs.Borrow.{Bor}
 use Rattle.std.specs.List.{AllByRecursion}
 use Rattle.std.proofs.lemmas.List.{append-nil, take_all, take-append-drop, drop_more, take_more}
 use Rattle.std.proofs.lemmas.Bool.{eq-eqb, ne_eqb}
-use Rattle.zerotrie_core.specs.Kind.{Kind, fold_byte, same_byte}
-use Rattle.zerotrie_core.specs.Maps.{Pairs, with_front, with_run, same_key, value_at, beginning}
-use Rattle.zerotrie_core.specs.Texts.{Lists}
-use Rattle.zerotrie_core.specs.Nodes.{Shape, Begins, IsTargetResult}
-use Rattle.zerotrie_core.specs.Nodes as shapes
+use Rattle.zerotrie_base.specs.Kind.{Kind, fold_byte, same_byte}
+use Rattle.zerotrie_base.specs.Maps.{Pairs, with_front, with_run, same_key, value_at, beginning}
+use Rattle.zerotrie_base.specs.Texts.{Lists}
+use Rattle.zerotrie_base.specs.Nodes.{Shape, Begins, IsTargetResult, targets_behind, begin_of}
+use Rattle.zerotrie_base.specs.Nodes as shapes
 use Rattle.zerotrie_core.specs.Listings.{Left, to_come, rest_after}
 use Rattle.zerotrie_core.specs.Places.{ListsBehind}
-use Rattle.zerotrie_core.specs.reader.Reading.{Comes, AlwaysFinds, AlwaysComes}
+use Rattle.zerotrie_base.specs.reader.Reading.{Comes, AlwaysFinds, AlwaysComes}
 use Rattle.zerotrie_core.specs.reader.Going.{AlwaysGoes}
 use Rattle.zerotrie_core.specs.reader.Descending.{NodeEnds}
 use Rattle.zerotrie_core.specs.listing.Listed.{listed, of_targets, node_of, is_in_order, target_of}
-use Rattle.zerotrie_core.specs.listing.Opened.{pairs_behind, pairs_open, pairs_left}
+use Rattle.zerotrie_core.specs.listing.Opened.{pairs_behind, pairs_open, pairs_left, IsOpen, Nested, Stands, still_open}
 use Rattle.zerotrie_core.specs.listing.Passed.{IsAfterEdge, LeavesAfter, IsPast, GoesInto, LeadsOn}
 use Rattle.zerotrie_core.specs.declared.stream.opened.OpenBranch.{OpenBranch}
-use Rattle.zerotrie_core.proofs.MapLemmas.Spans.{with_run-none, with_run-front}
-use Rattle.zerotrie_core.proofs.MapLemmas.Cases.{OtherKey, Apart, lists_apart, same_equiv}
+use Rattle.zerotrie_base.proofs.MapLemmas.Spans.{with_run-none, with_run-front}
+use Rattle.zerotrie_base.proofs.MapLemmas.Cases.{OtherKey, Apart, lists_apart, same_equiv}
 use Rattle.zerotrie_core.proofs.NodeLemmas.Read.{node_begun}
 use Rattle.zerotrie_core.proofs.ReaderLemmas.Edges.{literal_along, literal_past}
-use Rattle.zerotrie_core.proofs.NodeLemmas.Opened.{branch_opens}
-use Rattle.zerotrie_core.proofs.NodeLemmas.Offsets.{in_order}
+use Rattle.zerotrie_base.proofs.NodeLemmas.Opened.{branch_opens}
+use Rattle.zerotrie_base.proofs.NodeLemmas.Offsets.{in_order}
 use Rattle.zerotrie_core.proofs.ReaderLemmas.LookUps.{value_goes, span_goes, literal_ends, node_ends, comes_nowhere, comes_more, finds_at_end, finds_nothing}
-use Rattle.zerotrie_core.proofs.ListingLemmas.Nodes.{listed_behind, listed_pairs, is_order}
-use Rattle.zerotrie_core.proofs.ListingLemmas.Left.{FirstLow, fresh_left, run_append, at_value, at_literal, at_span, opened, target_says, at_next}
+use Rattle.zerotrie_core.proofs.ListingLemmas.Nodes.{listed_behind, listed_pairs, is_order, length-target}
+use Rattle.zerotrie_core.proofs.ListingLemmas.Left.{first_open, stands_run, fresh_left, still_nested, still_pairs, entered, run_append, read_shorter, at_value, at_literal, at_span, opened, target_says, at_next}
 
 both_of : (a b : Bool) → (a && b) ≡ true → (a ≡ true) × (b ≡ true)
 both_of true b e = (refl, e)
@@ -162,13 +162,14 @@ module _ {kind : Kind} {bytes : List ℕ} {pairs : Pairs} (text : Lists kind byt
       let s = skip (listed kind) n w behind place (omega arith) (λ j less. (let o = in_order targets j (omega arith) in is_order n w behind j o.0 o.1)) in
       (s.0, listed_behind kind bytes (shapes.Shape.branch n w table behind) begins ∙ s.1)
 
-  pub branch_last : (key : List ℕ) (branches outer : List OpenBranch) (o p : OpenBranch) (target : Bor (List ℕ)) → pairs_open kind key outer ≡ pairs_open kind key branches
+  pub branch_last : (key : List ℕ) (branches : List OpenBranch) (o p : OpenBranch) (target : Bor (List ℕ)) → Stands (length key) branches
       → o.edges ≡ n → o.width ≡ w → o.behind.now ≡ behind → o.next ≡ place → o.depth ≡ length key
       → p.edges ≡ o.edges → p.width ≡ o.width → p.behind.now ≡ o.behind.now → p.next ≡ suc o.next → p.depth ≡ o.depth
       → IsTargetResult o.edges o.width o.behind.now o.next (Some target)
-      → (before : Pairs) × (pairs_left kind key bytes branches ≡ before ++ pairs_left kind (key ++ slice_index behind place ∷ []) target.now (p ∷ outer))
-  branch_last key branches outer o p target same edges width behind_is next depth edges' width' behind' next' depth' got =
+      → (before : Pairs) × (pairs_left kind key bytes branches ≡ before ++ pairs_left kind (key ++ slice_index behind place ∷ []) target.now (p ∷ still_open branches))
+  branch_last key branches o p target stands edges width behind_is next depth edges' width' behind' next' depth' got =
       let s = last_targets in
+      let outer = still_open branches in
       let own : of_targets (listed kind) n w behind (n - place) ≡ pairs_behind kind o = rw (edges, width, behind_is, next) refl in
       let front : take o.depth key ≡ key = take_all o.depth key (omega arith) in
       let edge : slice_index o.behind.now o.next ≡ slice_index behind place = rw (behind_is, next) refl in
@@ -176,7 +177,7 @@ module _ {kind : Kind} {bytes : List ℕ} {pairs : Pairs} (text : Lists kind byt
       let into = at_next kind key outer o target.now (omega arith) says p edges' width' behind' next' depth' in
       let later = pairs_open kind key outer in (
         with_run key s.0,
-        ap (λ ps. with_run key (listed kind bytes) ++ ps) (sym same)
+        ap (λ ps. with_run key (listed kind bytes) ++ ps) (sym (still_pairs kind key branches stands))
             ∙ ap (λ ps. with_run key ps ++ later) (s.1 ∙ ap (λ ps. s.0 ++ ps) own)
             ∙ ap (λ ps. ps ++ later) (run_append key s.0 (pairs_behind kind o))
             ∙ append_assoc (with_run key s.0) (with_run key (pairs_behind kind o)) later
@@ -185,6 +186,38 @@ module _ {kind : Kind} {bytes : List ℕ} {pairs : Pairs} (text : Lists kind byt
             ∙ ap (λ k. with_run key s.0 ++ pairs_left kind (k ++ slice_index o.behind.now o.next ∷ []) target.now (p ∷ outer)) front
             ∙ ap (λ e. with_run key s.0 ++ pairs_left kind (key ++ e ∷ []) target.now (p ∷ outer)) edge,
       )
+
+-- A branch is opened, and the target of an edge that is the byte entered.
+module _ (kind : Kind) (bytes : List ℕ) (n w : ℕ) (table behind : List ℕ) (begins : Begins kind bytes (shapes.Shape.branch n w table behind)) (place : ℕ) (inside : place < n) (byte : ℕ)
+    (same : fold_byte kind (slice_index behind place) ≡ fold_byte kind byte) (key : List ℕ) (branches : List OpenBranch) (stands : Stands (length key) branches)
+    (o : OpenBranch) (edges : o.edges ≡ n) (width : o.width ≡ w) (behind_is : o.behind.now ≡ behind) (next : o.next ≡ place) (begin : o.begin ≡ begin_of o.edges o.width o.behind.now o.next) (depth : o.depth ≡ length key)
+    (target : Bor (List ℕ)) (got : IsTargetResult o.edges o.width o.behind.now o.next (Some target)) where
+  shorter_target : length target.now < length bytes
+  shorter_target =
+      let short = read_shorter kind bytes _ (node_begun kind bytes (shapes.Shape.branch n w table behind) begins) in
+      let is : targets_behind o.edges o.width o.behind.now ≡ targets_behind n w behind = rw (edges, width, behind_is) refl in
+      let len : length target.now ≤ length (targets_behind n w behind) =
+      subst (λ ts. length target.now ≤ length ts) is (subst (λ t. length t ≤ length (targets_behind o.edges o.width o.behind.now)) (sym got.0.2) (length-target o.edges o.width o.behind.now o.next)) in
+      omega arith
+
+  pub opens_into : (p : OpenBranch) → p.edges ≡ o.edges → p.width ≡ o.width → p.behind.now ≡ o.behind.now → p.next ≡ suc o.next → p.begin ≡ o.begin + length target.now → p.depth ≡ o.depth
+      → AlwaysGoes kind (shapes.Shape.branch n w table behind) byte (slice_index behind place) target.now
+      → GoesInto kind (shapes.Shape.branch n w table behind) byte bytes key branches target.now (key ++ slice_index behind place ∷ []) (p ∷ still_open branches)
+  opens_into p edges' width' behind' next' begin' depth' goes =
+      let outer = still_open branches in
+      let edge = slice_index behind place in
+      let front : take o.depth key ≡ key = take_all o.depth key (omega arith) in
+      let is_open : IsOpen (length key) o = record { low = omega arith; inside = omega arith; begins = λ _. begin } in
+      record {
+        edge = edge;
+        key_is = refl;
+        same = same;
+        goes = goes;
+        shorter = shorter_target;
+        stands = subst (λ k. Stands (length (k ++ edge ∷ [])) (p ∷ outer)) front
+            (entered key outer o p target edge is_open (omega arith) got edges' width' behind' next' begin' depth' (subst (λ d. Nested d outer) (sym depth) (still_nested (length key) branches stands)));
+        last = λ pairs text. branch_last text n w table behind begins place inside key branches o p target stands edges width behind_is next depth edges' width' behind' next' depth' got;
+      }
 
 -- Where a walk stands that goes down to a key: at these bytes, with the rest of the key, and with these branches open.
 pub record Passing (kind : Kind) (bytes front whole at left key : List ℕ) (branches : List OpenBranch) : Type 0 where
@@ -197,10 +230,12 @@ pub record Passing (kind : Kind) (bytes front whole at left key : List ℕ) (bra
   pub taken : List ℕ
   pub whole_is : whole ≡ taken ++ left
   pub same : same_key kind key taken ≡ true
+  pub stands : Stands (length key) branches
   pub last : (pairs : Pairs) → Lists kind bytes pairs → (before : Pairs) × (with_run front pairs ≡ before ++ pairs_left kind key at branches)
 
-pub pass_starts : (kind : Kind) (bytes front whole left first : List ℕ) (o : OpenBranch) → o.edges ≤ o.next → whole ≡ first ++ left → same_key kind front first ≡ true → Passing kind bytes front whole bytes left front (o ∷ [])
-pass_starts kind bytes front whole left first o over is same = record {
+pub pass_starts : (kind : Kind) (bytes front whole left first : List ℕ) (branches : List OpenBranch) → Stands (length front) branches → still_open branches ≡ [] → whole ≡ first ++ left → same_key kind front first ≡ true
+    → Passing kind bytes front whole bytes left front branches
+pass_starts kind bytes front whole left first branches stands none is same = record {
   first = first;
   sought = left;
   whole_first = is;
@@ -210,7 +245,8 @@ pass_starts kind bytes front whole left first o over is same = record {
   taken = first;
   whole_is = is;
   same = same;
-  last = λ pairs text. ([], sym (fresh_left kind front bytes o over ∙ ap (with_run front) (listed_pairs text)));
+  stands = stands;
+  last = λ pairs text. ([], sym (fresh_left kind front bytes branches stands none ∙ ap (with_run front) (listed_pairs text)));
 }
 
 module _ {kind : Kind} {bytes front whole at left key : List ℕ} {branches : List OpenBranch} (p : Passing kind bytes front whole at left key branches) where
@@ -226,6 +262,7 @@ module _ {kind : Kind} {bytes front whole at left key : List ℕ} {branches : Li
     taken = p.taken ++ on.taken;
     whole_is = p.whole_is ∙ ap (λ l. p.taken ++ l) on.left_is ∙ sym (append_assoc p.taken on.taken after);
     same = ap (λ k. same_key kind k (p.taken ++ on.taken)) on.key_is ∙ same_behind kind key p.taken on.run on.taken p.same ∙ on.same;
+    stands = on.stands;
     last = λ pairs text. (
         let all = p.last pairs text in
         let m = p.came pairs text in
@@ -233,18 +270,6 @@ module _ {kind : Kind} {bytes front whole at left key : List ℕ} {branches : Li
         (all.0 ++ b.0, all.1 ∙ ap (λ ps. all.0 ++ ps) b.1 ∙ sym (append_assoc all.0 b.0 (pairs_left kind key' rest branches')))
         );
   }
-
-  pub pass_value : (v : ℕ) (rest : List ℕ) → Begins kind at (shapes.Shape.value v rest) → (length left ≡ 0 → ⊥) → Passing kind bytes front whole rest left key branches
-  pass_value v rest begins some = pass_on (record {
-    run = [];
-    taken = [];
-    key_is = sym (append-nil key);
-    left_is = refl;
-    same = refl;
-    count = 1;
-    comes = (value_goes kind v rest left some at begins).2;
-    last = λ pairs text. ((key, v) ∷ [], at_value kind key at rest v branches (node_begun kind at _ begins));
-  })
 
   -- it comes to the value of the key
   pub pass_found : (v : ℕ) (rest : List ℕ) → Begins kind at (shapes.Shape.value v rest) → left ≡ [] → (pairs : Pairs) → Lists kind bytes pairs
@@ -273,11 +298,25 @@ module _ {kind : Kind} {bytes front whole at left key : List ℕ} {branches : Li
       ∙ value_behind kind front p.first p.sought pairs p.same_first
       ∙ (finds_nothing kind bytes p.sought at left p.count p.came (λ s b. (let is = node_begun kind at s b in absurd (cc))) pairs text).answers
 
--- along an edge
-module _ (kind : Kind) {at left key : List ℕ} {branches : List OpenBranch} where
-  pub leads_literal : (edge : ℕ) (rest after : List ℕ) → FirstLow (length key) branches → Begins kind at (shapes.Shape.literal edge rest) → IsAfterEdge kind edge left (Some after)
+-- past a node, or along an edge
+module _ (kind : Kind) {at left key : List ℕ} {branches : List OpenBranch} (stands : Stands (length key) branches) where
+  pub leads_value : (v : ℕ) (rest : List ℕ) → Begins kind at (shapes.Shape.value v rest) → (length left ≡ 0 → ⊥) → LeadsOn kind at left key branches rest left key branches
+  leads_value v rest begins some = let read = node_begun kind at _ begins in record {
+    run = [];
+    taken = [];
+    key_is = sym (append-nil key);
+    left_is = refl;
+    same = refl;
+    count = 1;
+    comes = (value_goes kind v rest left some at begins).2;
+    shorter = read_shorter kind at _ read;
+    stands = stands;
+    last = λ pairs text. ((key, v) ∷ [], at_value kind key at rest v branches read);
+  }
+
+  pub leads_literal : (edge : ℕ) (rest after : List ℕ) → Begins kind at (shapes.Shape.literal edge rest) → IsAfterEdge kind edge left (Some after)
       → LeadsOn kind at left key branches rest after (key ++ edge ∷ []) branches
-  leads_literal edge rest after low begins h = record {
+  leads_literal edge rest after begins h = let read = node_begun kind at _ begins in record {
     run = edge ∷ [];
     taken = h.0 ∷ [];
     key_is = refl;
@@ -285,12 +324,14 @@ module _ (kind : Kind) {at left key : List ℕ} {branches : List OpenBranch} whe
     same = rw (eq-eqb _ _ h.2) refl;
     count = 1;
     comes = comes_into kind (shapes.Shape.literal edge rest) h.0 edge at left after rest h.1 (literal_along kind edge h.0 rest h.2) begins;
-    last = λ pairs text. ([], at_literal kind key at rest edge branches low (node_begun kind at _ begins));
+    shorter = read_shorter kind at _ read;
+    stands = stands_run key (edge ∷ []) branches stands;
+    last = λ pairs text. ([], at_literal kind key at rest edge branches (first_open (length key) branches stands) read);
   }
 
-  pub leads_span : (run rest after : List ℕ) → FirstLow (length key) branches → Begins kind at (shapes.Shape.span run rest) → left ≡ run ++ after
+  pub leads_span : (run rest after : List ℕ) → Begins kind at (shapes.Shape.span run rest) → left ≡ run ++ after
       → LeadsOn kind at left key branches rest after (key ++ run) branches
-  leads_span run rest after low begins is = record {
+  leads_span run rest after begins is = let read = node_begun kind at _ begins in record {
     run = run;
     taken = run;
     key_is = refl;
@@ -298,18 +339,23 @@ module _ (kind : Kind) {at left key : List ℕ} {branches : List OpenBranch} whe
     same = (same_equiv kind).refl run;
     count = 1;
     comes = (span_goes kind run rest left after is at begins).2;
-    last = λ pairs text. ([], at_span kind key at run rest branches low (node_begun kind at _ begins));
+    shorter = read_shorter kind at _ read;
+    stands = stands_run key run branches stands;
+    last = λ pairs text. ([], at_span kind key at run rest branches (first_open (length key) branches stands) read);
   }
 
-  pub leads_branch : (node : Shape) (byte : ℕ) (rest after key' : List ℕ) (branches' : List OpenBranch) → Begins kind at node → left ≡ byte ∷ after → GoesInto kind node byte at key branches rest key' branches'
-      → LeadsOn kind at left key branches rest after key' branches'
-  leads_branch node byte rest after key' branches' begins is g = record {
-    run = g.edge ∷ [];
-    taken = byte ∷ [];
-    key_is = g.key_is;
-    left_is = is;
-    same = rw (eq-eqb _ _ g.same) refl;
-    count = 1;
-    comes = comes_into kind node byte g.edge at left after rest is g.goes begins;
-    last = g.last;
-  }
+-- into a target of a branch
+pub leads_branch : {kind : Kind} {at left key : List ℕ} {branches : List OpenBranch} (node : Shape) (byte : ℕ) (rest after key' : List ℕ) (branches' : List OpenBranch) → Begins kind at node → left ≡ byte ∷ after
+    → GoesInto kind node byte at key branches rest key' branches' → LeadsOn kind at left key branches rest after key' branches'
+leads_branch {kind} {at} {left} node byte rest after key' branches' begins is g = record {
+  run = g.edge ∷ [];
+  taken = byte ∷ [];
+  key_is = g.key_is;
+  left_is = is;
+  same = rw (eq-eqb _ _ g.same) refl;
+  count = 1;
+  comes = comes_into kind node byte g.edge at left after rest is g.goes begins;
+  shorter = g.shorter;
+  stands = g.stands;
+  last = g.last;
+}

@@ -4,14 +4,14 @@ use Rattle.std.specs.Prelude.{filter, not, ◌==◌}
 use Rattle.std.specs.List.{AllByRecursion}
 use Rattle.std.proofs.lemmas.Bool.{eq-eqb, ne_eqb, cases_eq}
 use Rattle.std.proofs.Math.ListN.{drop_of_length-le}
-use Rattle.zerotrie_core.specs.Kind.{Kind, fold_byte, same_byte}
-use Rattle.zerotrie_core.specs.Maps.{Pairs, residual, with_front, with_run, begins_with, beginning}
-use Rattle.zerotrie_core.specs.Texts.{Lists}
-use Rattle.zerotrie_core.specs.Cursors.{met, edge_like}
+use Rattle.zerotrie_base.specs.Kind.{Kind, fold_byte, same_byte}
+use Rattle.zerotrie_base.specs.Maps.{Pairs, residual, with_front, with_run, begins_with, beginning}
+use Rattle.zerotrie_base.specs.Texts.{Lists}
+use Rattle.zerotrie_base.specs.Cursors.{met, edge_like}
 use Rattle.zerotrie_core.specs.Machine.{behind}
 use Rattle.zerotrie_core.specs.Places.{Place, ListsAt}
-use Rattle.zerotrie_core.proofs.NodeLemmas.Tables.{NoneLike, Distinct}
-use Rattle.zerotrie_core.proofs.MapLemmas.Spans.{with_run-none}
+use Rattle.zerotrie_base.proofs.NodeLemmas.Tables.{NoneLike, Distinct}
+use Rattle.zerotrie_base.proofs.MapLemmas.Spans.{with_run-none}
 use Rattle.zerotrie_core.proofs.ListingLemmas.Left.{run_front}
 use Rattle.zerotrie_core.proofs.CursorLemmas.Laws.{place_has}
 

@@ -2,21 +2,21 @@
 use Rattle.std.proofs.Common.{◌≡◌, ℕ, ◌+◌, ◌-◌, ◌*◌, ◌<◌, ◌≤◌, List, [], ◌∷◌, ◌++◌, length, refl, sym, ◌∙◌, ap, subst, arith, drop, Option, Some, None, length-append, append_assoc}
 use Rattle.std.specs.List.{concat}
 use Rattle.std.proofs.lemmas.List.{take_at, drop_at, append-nil, length-map}
-use Rattle.zerotrie_core.specs.Kind.{Kind}
-use Rattle.zerotrie_core.specs.Maps.{Pairs, with_front, with_run}
-use Rattle.zerotrie_core.specs.Branches.{IsBranch, table_size, blocks, offsets}
-use Rattle.zerotrie_core.specs.Texts.{Lists, ListEach}
-use Rattle.zerotrie_core.specs.Texts.Lists.{nothing, value, literal, span, branch}
-use Rattle.zerotrie_core.specs.Texts.ListEach.{no_edge, edge}
-use Rattle.zerotrie_core.specs.Nodes.{Shape, Begins, BeginsBranch, targets_behind}
-use Rattle.zerotrie_core.specs.Nodes as shapes
+use Rattle.zerotrie_base.specs.Kind.{Kind}
+use Rattle.zerotrie_base.specs.Maps.{Pairs, with_front, with_run}
+use Rattle.zerotrie_base.specs.Branches.{IsBranch, table_size, blocks, offsets}
+use Rattle.zerotrie_base.specs.Texts.{Lists, ListEach}
+use Rattle.zerotrie_base.specs.Texts.Lists.{nothing, value, literal, span, branch}
+use Rattle.zerotrie_base.specs.Texts.ListEach.{no_edge, edge}
+use Rattle.zerotrie_base.specs.Nodes.{Shape, Begins, BeginsBranch, targets_behind}
+use Rattle.zerotrie_base.specs.Nodes as shapes
 use Rattle.zerotrie_core.specs.listing.Listed.{node_of}
 use Rattle.zerotrie_core.specs.count.Row.{row_behind, values_in}
 use Rattle.zerotrie_core.proofs.NodeLemmas.Read.{node_begun}
-use Rattle.zerotrie_core.proofs.NodeLemmas.Tables.{length-table}
+use Rattle.zerotrie_base.proofs.NodeLemmas.Tables.{length-table}
 use Rattle.zerotrie_core.proofs.ListingLemmas.Left.{read_shorter}
-use Rattle.zerotrie_core.proofs.NodeLemmas.Offsets.{length-blocks, length-offsets}
-use Rattle.zerotrie_core.proofs.NodeLemmas.Opened.{body_of, body_long, from_edges}
+use Rattle.zerotrie_base.proofs.NodeLemmas.Offsets.{length-blocks, length-offsets}
+use Rattle.zerotrie_base.proofs.NodeLemmas.Opened.{body_of, body_long, from_edges}
 
 -- The bytes are texts one after another, which list this many pairs together.
 pub data Counts (kind : Kind) : List ℕ → ℕ → Type 0 where

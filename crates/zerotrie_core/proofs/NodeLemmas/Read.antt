@@ -3,16 +3,16 @@ use Rattle.std.proofs.Common.{◌≡◌, ℕ, suc, ◌+◌, ◌-◌, ◌*◌, �
 use Rattle.std.specs.Prelude.{◌&&◌, nat_lt, nat_le, ◌==◌, if◌then◌else◌}
 use Rattle.std.proofs.lemmas.List.{take_at, drop_at, length-drop, length-take-le, take-append-drop}
 use Rattle.std.proofs.lemmas.Bool.{ltb-true, ltb-false, lt-ltb, le-ltb, le-leb, leb-true, eq-eqb, ne_eqb, cases_lt, cases_eq}
-use Rattle.zerotrie_core.specs.Kind.{Kind, has_spans, greatest_width}
-use Rattle.zerotrie_core.specs.Numbers.{BeginsWith}
-use Rattle.zerotrie_core.specs.Branches.{table_size, before_edges}
-use Rattle.zerotrie_core.specs.Nodes.{Shape, Begins, targets_behind}
-use Rattle.zerotrie_core.specs.Nodes.Shape.{value, literal, span, branch}
+use Rattle.zerotrie_base.specs.Kind.{Kind, has_spans, greatest_width}
+use Rattle.zerotrie_base.specs.Numbers.{BeginsWith}
+use Rattle.zerotrie_base.specs.Branches.{table_size, before_edges}
+use Rattle.zerotrie_base.specs.Nodes.{Shape, Begins, targets_behind}
+use Rattle.zerotrie_base.specs.Nodes.Shape.{value, literal, span, branch}
 use Rattle.zerotrie_core.specs.listing.Listed.{trail_read, number_read, as_value, as_span, as_branch, is_whole, node_of}
-use Rattle.zerotrie_core.proofs.NumberLemmas.Numbers.{IsBytes, read_from, read, read_alone, read_on, read_is, is_read, some_bytes, cons_parts}
-use Rattle.zerotrie_core.proofs.MapLemmas.Kinds.{greatest_width_most}
-use Rattle.zerotrie_core.proofs.NodeLemmas.Tables.{table_parts}
-use Rattle.zerotrie_core.proofs.NodeLemmas.Nodes.{value_begins, span_begins, branch_begins}
+use Rattle.zerotrie_base.proofs.NumberLemmas.Numbers.{IsBytes, read_from, read, read_alone, read_on, read_is, is_read, some_bytes, cons_parts}
+use Rattle.zerotrie_base.proofs.MapLemmas.Kinds.{greatest_width_most}
+use Rattle.zerotrie_base.proofs.NodeLemmas.Tables.{table_parts}
+use Rattle.zerotrie_base.proofs.NodeLemmas.Nodes.{value_begins, span_begins, branch_begins}
 
 trail_is : (L a : ℕ) (ts : List ℕ) → trail_read L a ts ≡ read_from L a ts
 trail_is L a [] = refl

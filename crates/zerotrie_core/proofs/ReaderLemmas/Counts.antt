@@ -1,14 +1,14 @@
 -- How many nodes a look-up reads at most.
 use Rattle.std.proofs.Common.{◌≡◌, ℕ, ◌+◌, ◌-◌, ◌*◌, ◌≤◌, List, [], ◌∷◌, ◌++◌, length, length-append, refl, ap, subst, arith, Bool, true, false, cond, Option, Some, None}
 use Rattle.std.specs.Option.{option_map_or}
-use Rattle.zerotrie_core.specs.Kind.{Kind, same_byte}
-use Rattle.zerotrie_core.specs.Maps.{Pairs, after_run}
-use Rattle.zerotrie_core.specs.Texts.{Lists, ListEach, nodes, nodes_behind, NoValueFirst}
-use Rattle.zerotrie_core.specs.Texts.Lists.{nothing, value, literal, span, branch}
-use Rattle.zerotrie_core.specs.Texts.ListEach.{no_edge, edge}
-use Rattle.zerotrie_core.specs.Numbers.{value_form, SpellsAs}
-use Rattle.zerotrie_core.proofs.NumberLemmas.Numbers.{extender_one}
-use Rattle.zerotrie_core.proofs.MapLemmas.Spans.{after_is}
+use Rattle.zerotrie_base.specs.Kind.{Kind, same_byte}
+use Rattle.zerotrie_base.specs.Maps.{Pairs, after_run}
+use Rattle.zerotrie_base.specs.Texts.{Lists, ListEach, nodes, nodes_behind, NoValueFirst}
+use Rattle.zerotrie_base.specs.Texts.Lists.{nothing, value, literal, span, branch}
+use Rattle.zerotrie_base.specs.Texts.ListEach.{no_edge, edge}
+use Rattle.zerotrie_base.specs.Numbers.{value_form, SpellsAs}
+use Rattle.zerotrie_base.proofs.NumberLemmas.Numbers.{extender_one}
+use Rattle.zerotrie_base.proofs.MapLemmas.Spans.{after_is}
 
 chosen_small : (b : Bool) (x y n : ℕ) → x ≤ n → y ≤ n → cond b x y ≤ n
 chosen_small true x y n h k = h

@@ -1,20 +1,20 @@
 -- What lies after a byte of a node.
 use Rattle.std.proofs.Common.{◌≡◌, ℕ, ◌+◌, ◌-◌, ◌*◌, ◌<◌, ◌≤◌, List, [], ◌∷◌, length, sym, ◌∙◌, ap, subst, arith, Some, None, get_or, take, drop}
 use Rattle.std.specs.Borrow.{Bor}
-use Rattle.zerotrie_core.specs.Kind.{Kind, fold_byte}
-use Rattle.zerotrie_core.specs.Branches.{IsTable}
-use Rattle.zerotrie_core.specs.Maps.{Pairs, value_at, residual}
-use Rattle.zerotrie_core.specs.Texts.{Lists}
-use Rattle.zerotrie_core.specs.Nodes.{IsTargetResult}
-use Rattle.zerotrie_core.specs.Nodes.Shape.{literal, branch}
-use Rattle.zerotrie_core.specs.Cursors.{met, edge_like}
-use Rattle.zerotrie_core.specs.reader.Reading.{IsPlace, HasNoPlace}
+use Rattle.zerotrie_base.specs.Kind.{Kind, fold_byte}
+use Rattle.zerotrie_base.specs.Branches.{IsTable}
+use Rattle.zerotrie_base.specs.Maps.{Pairs, value_at, residual}
+use Rattle.zerotrie_base.specs.Texts.{Lists}
+use Rattle.zerotrie_base.specs.Nodes.{IsTargetResult}
+use Rattle.zerotrie_base.specs.Nodes.Shape.{literal, branch}
+use Rattle.zerotrie_base.specs.Cursors.{met, edge_like}
+use Rattle.zerotrie_base.specs.reader.Reading.{IsPlace, HasNoPlace}
 use Rattle.zerotrie_core.specs.reader.Going.{Goes, Stops, AlwaysGoes, AlwaysStops}
-use Rattle.zerotrie_core.proofs.NodeLemmas.Tables.{NoneLike, Each-at}
-use Rattle.zerotrie_core.proofs.MapLemmas.Targets.{like_none, like_some, each_none, each_behind, met_each}
-use Rattle.zerotrie_core.proofs.NodeLemmas.Offsets.{target_is}
-use Rattle.zerotrie_core.proofs.NodeLemmas.Nodes.{dropped}
-use Rattle.zerotrie_core.proofs.NodeLemmas.Opened.{Opens, held_edge, literal_opens, branch_opens}
+use Rattle.zerotrie_base.proofs.NodeLemmas.Tables.{NoneLike, Each-at}
+use Rattle.zerotrie_base.proofs.MapLemmas.Targets.{like_none, like_some, each_none, each_behind, met_each}
+use Rattle.zerotrie_base.proofs.NodeLemmas.Offsets.{target_is}
+use Rattle.zerotrie_base.proofs.NodeLemmas.Nodes.{dropped}
+use Rattle.zerotrie_base.proofs.NodeLemmas.Opened.{Opens, held_edge, literal_opens, branch_opens}
 
 -- after an edge stands its target, and a byte that is no edge leads nowhere
 pub opens_goes : {kind : Kind} {bytes : List ℕ} {pairs : Pairs} {edges : List ℕ} {targets : List (List ℕ)} (text : Lists kind bytes pairs) → (o : Opens text edges targets)

@@ -2,12 +2,12 @@
 use Rattle.std.proofs.Common.{◌≡◌, ℕ, zero, suc, ◌+◌, ◌-◌, ◌<◌, ◌≤◌, List, [], ◌∷◌, length, drop, slice_index, refl, sym, ap, subst, ◌∙◌, arith, inl, inr}
 use Rattle.std.proofs.lemmas.Bool.{cases_lt}
 use Rattle.std.proofs.lemmas.List.{get_or-drop, length-drop}
-use Rattle.zerotrie_core.specs.Kind.{Kind, fold_byte}
-use Rattle.zerotrie_core.specs.Nodes.Shape.{literal}
-use Rattle.zerotrie_core.specs.reader.Reading.{AlwaysComes}
+use Rattle.zerotrie_base.specs.Kind.{Kind, fold_byte}
+use Rattle.zerotrie_base.specs.Nodes.Shape.{literal}
+use Rattle.zerotrie_base.specs.reader.Reading.{AlwaysComes}
 use Rattle.zerotrie_core.specs.reader.Descending.{NodeGoes}
 use Rattle.zerotrie_core.specs.reader.Literals.{AreCommon}
-use Rattle.zerotrie_core.proofs.NodeLemmas.Nodes.{literal_shorter}
+use Rattle.zerotrie_base.proofs.NodeLemmas.Nodes.{literal_shorter}
 use Rattle.zerotrie_core.proofs.ReaderLemmas.Edges.{literal_along}
 use Rattle.zerotrie_core.proofs.ReaderLemmas.LookUps.{comes_nowhere, comes_more, node_goes}
 

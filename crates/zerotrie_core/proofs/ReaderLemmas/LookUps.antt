@@ -2,20 +2,20 @@
 use Rattle.std.proofs.Common.{◌≡◌, ℕ, ◌+◌, ◌<◌, List, [], ◌∷◌, ◌++◌, length, refl, sym, ◌∙◌, ap, subst, arith, Option, Some, None}
 use Rattle.std.specs.Option.{option_map_or}
 use Rattle.std.proofs.lemmas.Bool.{eq-eqb}
-use Rattle.zerotrie_core.specs.Kind.{Kind}
-use Rattle.zerotrie_core.specs.Maps.{Pairs, value_at, after_run}
-use Rattle.zerotrie_core.specs.Texts.{Lists, nodes}
-use Rattle.zerotrie_core.specs.Nodes.{Shape, Begins}
-use Rattle.zerotrie_core.specs.Nodes.Shape.{value, literal, span, branch}
-use Rattle.zerotrie_core.specs.reader.Reading.{Finds, Comes, AlwaysFinds, AlwaysComes}
+use Rattle.zerotrie_base.specs.Kind.{Kind}
+use Rattle.zerotrie_base.specs.Maps.{Pairs, value_at, after_run}
+use Rattle.zerotrie_base.specs.Texts.{Lists, nodes}
+use Rattle.zerotrie_base.specs.Nodes.{Shape, Begins}
+use Rattle.zerotrie_base.specs.Nodes.Shape.{value, literal, span, branch}
+use Rattle.zerotrie_base.specs.reader.Reading.{Finds, Comes, AlwaysFinds, AlwaysComes}
 use Rattle.zerotrie_core.specs.reader.Going.{AlwaysGoes, AlwaysStops}
 use Rattle.zerotrie_core.specs.reader.Descending.{NodeEnds, NodeGoes}
-use Rattle.zerotrie_core.proofs.NumberLemmas.Numbers.{after_shorter}
-use Rattle.zerotrie_core.proofs.MapLemmas.Kinds.{spans_fold}
-use Rattle.zerotrie_core.proofs.NodeLemmas.Nodes.{span_shorter}
-use Rattle.zerotrie_core.proofs.MapLemmas.Spans.{after_is, value_at-run}
-use Rattle.zerotrie_core.proofs.MapLemmas.Values.{behind_none}
-use Rattle.zerotrie_core.proofs.NodeLemmas.Opened.{Opens, HasSpan, value_opens, literal_opens, span_opens, branch_opens, no_node}
+use Rattle.zerotrie_base.proofs.NumberLemmas.Numbers.{after_shorter}
+use Rattle.zerotrie_base.proofs.MapLemmas.Kinds.{spans_fold}
+use Rattle.zerotrie_base.proofs.NodeLemmas.Nodes.{span_shorter}
+use Rattle.zerotrie_base.proofs.MapLemmas.Spans.{after_is, value_at-run}
+use Rattle.zerotrie_base.proofs.MapLemmas.Values.{behind_none}
+use Rattle.zerotrie_base.proofs.NodeLemmas.Opened.{Opens, HasSpan, value_opens, literal_opens, span_opens, branch_opens, no_node}
 
 -- the key ends at a node: only a value answers
 opens_ends : {kind : Kind} {bytes : List ℕ} {pairs : Pairs} {edges : List ℕ} {targets : List (List ℕ)} (text : Lists kind bytes pairs) → Opens text edges targets → Finds text [] None 1

@@ -3,15 +3,15 @@ use Rattle.std.proofs.Common.{◌≡◌, ℕ, zero, suc, ◌<◌, ◌^◌, List,
 use Rattle.std.proofs.Math.ListN.{set, replicate}
 use Rattle.std.specs.Prelude.{IfSome, slice_get}
 use Rattle.std.specs.Borrow.{Bor}
-use Rattle.zerotrie_core.specs.Kind.{Kind}
-use Rattle.zerotrie_core.specs.Maps.{Pairs, Map, map_of, value_at, look}
-use Rattle.zerotrie_core.specs.Texts.{Lists, Means}
+use Rattle.zerotrie_base.specs.Kind.{Kind}
+use Rattle.zerotrie_base.specs.Maps.{Pairs, Map, map_of, value_at, look}
+use Rattle.zerotrie_base.specs.Texts.{Lists, Means}
 use Rattle.zerotrie_core.specs.Machine.{behind}
 use Rattle.zerotrie_core.specs.Places.{Place, ListsAt, IsStep}
 use Rattle.zerotrie_core.specs.CursorLaws.{StepsAnswer}
 use Rattle.zerotrie_core.specs.reader.Starts.{AnswersAs, LeadsTo}
 use Rattle.zerotrie_core.proofs.CursorLemmas.Calls.{before_text}
-use Rattle.zerotrie_core.proofs.MapLemmas.Maps.{look-map_of}
+use Rattle.zerotrie_base.proofs.MapLemmas.Maps.{look-map_of}
 
 -- a step leads to what it leaves, if that is a text
 pub after_step : (kind : Kind) (bytes : List ℕ) (b : ℕ) (answer : Option ℕ) (place : Place) (rest : List ℕ) → StepsAnswer

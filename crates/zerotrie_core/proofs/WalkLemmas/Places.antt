@@ -4,14 +4,14 @@ use Rattle.std.specs.Prelude.{All}
 use Rattle.std.proofs.lemmas.List.{length-drop, length-take-le, drop-drop, take_all, get_or-take, get_or-drop, get_or_past}
 use Rattle.std.proofs.lemmas.List.Elements.{All-nil, All-cons, All-head, All-tail, All-append}
 use Rattle.std.proofs.lemmas.Bool.{cases_lt}
-use Rattle.zerotrie_core.specs.Kind.{Kind}
-use Rattle.zerotrie_core.specs.Nodes.{Shape, Begins, targets_behind, begin_of, end_of}
-use Rattle.zerotrie_core.specs.Nodes as shapes
+use Rattle.zerotrie_base.specs.Kind.{Kind}
+use Rattle.zerotrie_base.specs.Nodes.{Shape, Begins, targets_behind, begin_of, end_of}
+use Rattle.zerotrie_base.specs.Nodes as shapes
 use Rattle.zerotrie_core.specs.listing.Listed.{node_of, is_in_order, target_of}
 use Rattle.zerotrie_core.specs.listing.Runs.{EndsWith}
 use Rattle.zerotrie_core.specs.walk.Visits.{Part, Visit, visits, visits_to, nodes_of, whole, of_first, of_parts, parts_behind, after_node, target_parts, target_part}
 use Rattle.zerotrie_core.specs.walk.Seen.{LiesIn}
-use Rattle.zerotrie_core.proofs.NumberLemmas.Numbers.{IsBytes}
+use Rattle.zerotrie_base.proofs.NumberLemmas.Numbers.{IsBytes}
 use Rattle.zerotrie_core.proofs.NodeLemmas.Read.{InSome, node_found, by_test}
 use Rattle.zerotrie_core.proofs.ListingLemmas.Nodes.{order_is}
 use Rattle.zerotrie_core.proofs.ListingLemmas.Left.{value_end, span_end, branch_end, ends_drop, ends_len, lies_behind, lies_part}

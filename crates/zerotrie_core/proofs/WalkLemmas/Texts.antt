@@ -3,20 +3,20 @@ use Rattle.std.proofs.Common.{◌≡◌, ℕ, suc, ◌+◌, ◌-◌, ◌*◌, �
 use Rattle.std.specs.Prelude.{slice_index}
 use Rattle.std.specs.List.{concat}
 use Rattle.std.proofs.lemmas.List.{append-nil, drop_at, length-drop, length-take-le}
-use Rattle.zerotrie_core.specs.Kind.{Kind}
-use Rattle.zerotrie_core.specs.Maps.{Pairs}
-use Rattle.zerotrie_core.specs.Branches.{IsBranch, blocks, offsets}
-use Rattle.zerotrie_core.specs.Texts.{Lists, ListEach}
-use Rattle.zerotrie_core.specs.Texts.Lists.{nothing, value, literal, span, branch}
-use Rattle.zerotrie_core.specs.Texts.ListEach.{no_edge, edge}
-use Rattle.zerotrie_core.specs.Nodes.{Shape, targets_behind, begin_of, end_of}
-use Rattle.zerotrie_core.specs.Nodes as shapes
+use Rattle.zerotrie_base.specs.Kind.{Kind}
+use Rattle.zerotrie_base.specs.Maps.{Pairs}
+use Rattle.zerotrie_base.specs.Branches.{IsBranch, blocks, offsets}
+use Rattle.zerotrie_base.specs.Texts.{Lists, ListEach}
+use Rattle.zerotrie_base.specs.Texts.Lists.{nothing, value, literal, span, branch}
+use Rattle.zerotrie_base.specs.Texts.ListEach.{no_edge, edge}
+use Rattle.zerotrie_base.specs.Nodes.{Shape, targets_behind, begin_of, end_of}
+use Rattle.zerotrie_base.specs.Nodes as shapes
 use Rattle.zerotrie_core.specs.listing.Listed.{node_of, is_in_order, target_of}
 use Rattle.zerotrie_core.specs.walk.Visits.{Part, visits, of_first, of_parts, parts_behind, after_node, target_parts, target_part, targets_place}
 use Rattle.zerotrie_core.specs.walk.Texts.{from_edges_on, branch_read, front_size, visit, text_visits, target_visits}
 use Rattle.zerotrie_core.proofs.NodeLemmas.Read.{node_begun}
-use Rattle.zerotrie_core.proofs.NodeLemmas.Offsets.{target_between, in_order, length-blocks, length-offsets}
-use Rattle.zerotrie_core.proofs.NodeLemmas.Opened.{is_begun, is_held, held_edge}
+use Rattle.zerotrie_base.proofs.NodeLemmas.Offsets.{target_between, in_order, length-blocks, length-offsets}
+use Rattle.zerotrie_base.proofs.NodeLemmas.Opened.{is_begun, is_held, held_edge}
 use Rattle.zerotrie_core.proofs.ListingLemmas.Nodes.{order_is, is_order, next_begin}
 use Rattle.zerotrie_core.proofs.WalkLemmas.Visits.{visits_node, parts_at, part_is}
 

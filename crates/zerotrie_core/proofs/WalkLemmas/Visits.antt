@@ -3,9 +3,9 @@ use Rattle.std.proofs.Common.{◌≡◌, ℕ, zero, suc, ◌+◌, ◌-◌, ◌<�
 use Rattle.std.specs.Prelude.{slice_index, if◌then◌else◌}
 use Rattle.std.specs.Borrow.{Bor}
 use Rattle.std.proofs.lemmas.List.{length-take, length-drop, length-take-le, reverse-append, reverse-reverse, map-append, length-map, take-map, drop-map, take_at, drop_at}
-use Rattle.zerotrie_core.specs.Kind.{Kind}
-use Rattle.zerotrie_core.specs.Nodes.{Shape, targets_behind, begin_of, end_of, IsTargetResult}
-use Rattle.zerotrie_core.specs.Nodes as shapes
+use Rattle.zerotrie_base.specs.Kind.{Kind}
+use Rattle.zerotrie_base.specs.Nodes.{Shape, targets_behind, begin_of, end_of, IsTargetResult}
+use Rattle.zerotrie_base.specs.Nodes as shapes
 use Rattle.zerotrie_core.specs.listing.Listed.{node_of, is_in_order, target_of}
 use Rattle.zerotrie_core.specs.walk.Visits.{Part, Visit, visits, visits_to, of_first, of_parts, parts_behind, after_node, target_parts, below_edge, target_part, targets_place}
 use Rattle.zerotrie_core.specs.walk.Seen.{part_of, visits_left}

@@ -2,22 +2,22 @@
 use Rattle.std.proofs.Common.{◌≡◌, ℕ, ◌+◌, ◌-◌, ◌*◌, ◌%◌, ◌^◌, ◌<◌, ◌≤◌, List, ◌++◌, length, refl, sym, ◌∙◌, ap, subst, arith, take, drop}
 use Rattle.std.specs.List.{concat}
 use Rattle.std.proofs.lemmas.List.{take-append-drop, length-take-le, drop-drop}
-use Rattle.zerotrie_core.specs.Kind.{Kind}
-use Rattle.zerotrie_core.specs.Maps.{Pairs}
-use Rattle.zerotrie_core.specs.Numbers.{branch_form, SpellsAs}
-use Rattle.zerotrie_core.specs.Branches.{IsBranch, IsWidth, table_size, before_edges, blocks, offsets}
-use Rattle.zerotrie_core.specs.Texts.{Lists, ListEach}
-use Rattle.zerotrie_core.specs.Texts.Lists.{nothing, value, literal, span, branch}
-use Rattle.zerotrie_core.specs.Nodes.{Shape, BeginsBranch, targets_behind}
-use Rattle.zerotrie_core.specs.Nodes as shapes
+use Rattle.zerotrie_base.specs.Kind.{Kind}
+use Rattle.zerotrie_base.specs.Maps.{Pairs}
+use Rattle.zerotrie_base.specs.Numbers.{branch_form, SpellsAs}
+use Rattle.zerotrie_base.specs.Branches.{IsBranch, IsWidth, table_size, before_edges, blocks, offsets}
+use Rattle.zerotrie_base.specs.Texts.{Lists, ListEach}
+use Rattle.zerotrie_base.specs.Texts.Lists.{nothing, value, literal, span, branch}
+use Rattle.zerotrie_base.specs.Nodes.{Shape, BeginsBranch, targets_behind}
+use Rattle.zerotrie_base.specs.Nodes as shapes
 use Rattle.zerotrie_core.specs.WellFormed.{deep, deeps, greatest, one_more_but, longest_place}
 use Rattle.zerotrie_core.specs.well_formed.Branching.{HasTable, HasFront, InOrder}
 use Rattle.zerotrie_core.specs.well_formed.Testing.{AlwaysNoText}
-use Rattle.zerotrie_core.proofs.NumberLemmas.Numbers.{some_bytes, one_reading}
-use Rattle.zerotrie_core.proofs.NodeLemmas.Tables.{table_parts}
-use Rattle.zerotrie_core.proofs.NodeLemmas.Offsets.{HasTargets, targets_are}
-use Rattle.zerotrie_core.proofs.NodeLemmas.Nodes.{branch_begins, value_no_branch, span_no_branch}
-use Rattle.zerotrie_core.proofs.NodeLemmas.Opened.{Holds, head_begins, width_is, is_held}
+use Rattle.zerotrie_base.proofs.NumberLemmas.Numbers.{some_bytes, one_reading}
+use Rattle.zerotrie_base.proofs.NodeLemmas.Tables.{table_parts}
+use Rattle.zerotrie_base.proofs.NodeLemmas.Offsets.{HasTargets, targets_are}
+use Rattle.zerotrie_base.proofs.NodeLemmas.Nodes.{branch_begins, value_no_branch, span_no_branch}
+use Rattle.zerotrie_base.proofs.NodeLemmas.Opened.{Holds, head_begins, width_is, is_held}
 use Rattle.zerotrie_core.proofs.WellFormedLemmas.Depth.{each_at}
 use Rattle.zerotrie_core.proofs.WellFormedLemmas.Pieces.{pieces, length-pieces, concat_pieces, has_pieces, in_order}
 

@@ -2,15 +2,15 @@
 use Rattle.std.proofs.Common.{◌≡◌, ℕ, zero, suc, ◌+◌, ◌*◌, ◌^◌, ◌<◌, ◌≤◌, List, [], ◌∷◌, ◌++◌, length, refl, ap, arith, map, get_or, take}
 use Rattle.std.specs.Prelude.{max}
 use Rattle.std.specs.List.{concat}
-use Rattle.zerotrie_core.specs.Kind.{Kind}
-use Rattle.zerotrie_core.specs.Branches.{blocks, offsets}
-use Rattle.zerotrie_core.specs.Nodes.{Shape, Begins}
-use Rattle.zerotrie_core.specs.Nodes as shapes
-use Rattle.zerotrie_core.proofs.NodeLemmas.Opened.{is_begun}
-use Rattle.zerotrie_core.specs.Maps.{Pairs}
-use Rattle.zerotrie_core.specs.Texts.{Lists, ListEach}
-use Rattle.zerotrie_core.specs.Texts.Lists.{nothing, value, literal, span, branch}
-use Rattle.zerotrie_core.specs.Texts.ListEach.{no_edge, edge}
+use Rattle.zerotrie_base.specs.Kind.{Kind}
+use Rattle.zerotrie_base.specs.Branches.{blocks, offsets}
+use Rattle.zerotrie_base.specs.Nodes.{Shape, Begins}
+use Rattle.zerotrie_base.specs.Nodes as shapes
+use Rattle.zerotrie_base.proofs.NodeLemmas.Opened.{is_begun}
+use Rattle.zerotrie_base.specs.Maps.{Pairs}
+use Rattle.zerotrie_base.specs.Texts.{Lists, ListEach}
+use Rattle.zerotrie_base.specs.Texts.Lists.{nothing, value, literal, span, branch}
+use Rattle.zerotrie_base.specs.Texts.ListEach.{no_edge, edge}
 use Rattle.zerotrie_core.specs.WellFormed.{deep, deeps, greatest, one_more_but, longest_place, IsShallow}
 
 some_more : (place d : ℕ) (ds : List ℕ) → 1 ≤ d → 1 ≤ greatest (one_more_but place (d ∷ ds))

@@ -6,15 +6,15 @@ use Rattle.std.proofs.lemmas.List.{length-take, take-take, get_or-map, get_or-ta
 use Rattle.std.proofs.lemmas.Bool.{cases_lt, leb-true, le-leb}
 use Rattle.std.proofs.lemmas.Str.Ascii.{lowercase_ascii, lowercase_is}
 use Rattle.zerotrie_base.specs.Hashes.{f1, f2, place_of, number_behind, IsPerfect}
-use Rattle.zerotrie_core.specs.Kind.{Kind, simple_ascii, ignore_case, perfect_hash, extended_capacity, IsAscii, flags, fold_byte, edge_limit, is_hashed, has_spans}
-use Rattle.zerotrie_core.specs.Branches.{IsTable, table_size}
-use Rattle.zerotrie_core.specs.Branches.IsTable.{sorted, hashed}
-use Rattle.zerotrie_core.specs.Texts.{AreHigh}
-use Rattle.zerotrie_core.specs.Nodes.{begin_of, end_of, targets_behind}
+use Rattle.zerotrie_base.specs.Kind.{Kind, simple_ascii, ignore_case, perfect_hash, extended_capacity, IsAscii, flags, fold_byte, edge_limit, is_hashed, has_spans}
+use Rattle.zerotrie_base.specs.Branches.{IsTable, table_size}
+use Rattle.zerotrie_base.specs.Branches.IsTable.{sorted, hashed}
+use Rattle.zerotrie_base.specs.Texts.{AreHigh}
+use Rattle.zerotrie_base.specs.Nodes.{begin_of, end_of, targets_behind}
 use Rattle.zerotrie_core.specs.listing.Listed.{target_of}
 use Rattle.zerotrie_core.specs.well_formed.Branching.{extent, InOrder, AnswersEach, HasTable}
-use Rattle.zerotrie_core.proofs.MapLemmas.Kinds.{hashed_spans, edge_limit_is}
-use Rattle.zerotrie_core.proofs.NumberLemmas.Numbers.{IsBytes}
+use Rattle.zerotrie_base.proofs.MapLemmas.Kinds.{hashed_spans, edge_limit_is}
+use Rattle.zerotrie_base.proofs.NumberLemmas.Numbers.{IsBytes}
 
 -- edges that rise, from neighbour to neighbour
 pub rises_from : (f : ℕ → ℕ) (edges : List ℕ) → ((k : ℕ) → k + 1 < length edges → f (get_or edges k 0) < f (get_or edges (k + 1) 0)) → IsStrictlyIncreasing (map f edges)

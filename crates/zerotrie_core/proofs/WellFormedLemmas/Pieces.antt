@@ -8,13 +8,13 @@ use Rattle.std.proofs.lemmas.Bool.{ne_eqb, eq-eqb, lt-ltb, le-ltb}
 use Rattle.std.proofs.Math.Seq.{take-add}
 use Rattle.std.proofs.Math.Arith.{mod-mul, digits_mod, digits_div}
 use Rattle.std.proofs.Math.Nat.{pow-suc, mul_comm, mod-lt, mod-eq_of_lt, mul-le-mul_right, one-le-pow}
-use Rattle.zerotrie_core.specs.Branches.{blocks, offsets}
-use Rattle.zerotrie_core.specs.Nodes.{number_from, offset_in, targets_behind, begin_of, end_of}
+use Rattle.zerotrie_base.specs.Branches.{blocks, offsets}
+use Rattle.zerotrie_base.specs.Nodes.{number_from, offset_in, targets_behind, begin_of, end_of}
 use Rattle.zerotrie_core.specs.WellFormed.{greatest, longest_place}
 use Rattle.zerotrie_core.specs.listing.Listed.{target_of}
 use Rattle.zerotrie_core.specs.well_formed.Branching.{extent, InOrder, IsLongest}
-use Rattle.zerotrie_core.proofs.NumberLemmas.Numbers.{IsBytes}
-use Rattle.zerotrie_core.proofs.NodeLemmas.Offsets.{HasTargets, length-offsets, get_or-offsets, begin_is, end_is, next_end, ends_within, targets_are, target_between}
+use Rattle.zerotrie_base.proofs.NumberLemmas.Numbers.{IsBytes}
+use Rattle.zerotrie_base.proofs.NodeLemmas.Offsets.{HasTargets, length-offsets, get_or-offsets, begin_is, end_is, next_end, ends_within, targets_are, target_between}
 
 -- numbers that are read
 

@@ -1,20 +1,20 @@
 -- What a node comes to in the test of bytes.
 use Rattle.std.proofs.Common.{◌≡◌, ℕ, zero, suc, ◌+◌, ◌*◌, ◌%◌, ◌<◌, ◌≤◌, List, [], ◌∷◌, ◌++◌, length, drop, slice_index, get_or, refl, sym, subst, ap, arith, inl, inr}
 use Rattle.std.specs.Prelude.{max}
-use Rattle.zerotrie_core.specs.Kind.{Kind}
-use Rattle.zerotrie_core.specs.Maps.{Pairs, with_front, with_run}
-use Rattle.zerotrie_core.specs.Numbers.{BeginsWith}
-use Rattle.zerotrie_core.specs.Texts.{Lists, NoValueFirst, NoSpanFirst, AreHigh}
-use Rattle.zerotrie_core.specs.Texts.Lists.{nothing, value, literal, span, branch}
-use Rattle.zerotrie_core.specs.Nodes.{Shape, Begins, BeginsSpan, BeginsBranch}
-use Rattle.zerotrie_core.specs.Nodes as shapes
+use Rattle.zerotrie_base.specs.Kind.{Kind}
+use Rattle.zerotrie_base.specs.Maps.{Pairs, with_front, with_run}
+use Rattle.zerotrie_base.specs.Numbers.{BeginsWith}
+use Rattle.zerotrie_base.specs.Texts.{Lists, NoValueFirst, NoSpanFirst, AreHigh}
+use Rattle.zerotrie_base.specs.Texts.Lists.{nothing, value, literal, span, branch}
+use Rattle.zerotrie_base.specs.Nodes.{Shape, Begins, BeginsSpan, BeginsBranch}
+use Rattle.zerotrie_base.specs.Nodes as shapes
 use Rattle.zerotrie_core.specs.WellFormed.{deep}
 use Rattle.zerotrie_core.specs.well_formed.Testing.{IsText, IsAllowed, HasRest, ReducesTo, AlwaysReducesTo, AlwaysAllowed, BeginsValue, IsPastValue}
 use Rattle.zerotrie_core.specs.declared.well_formed.Expected.{Expected}
 use Rattle.zerotrie_core.specs.declared.well_formed.Expected.TheVariants.{Anything, NoValue, NoSpan, Something}
-use Rattle.zerotrie_core.proofs.NumberLemmas.Numbers.{some_bytes, one_reading, cons_parts, after_shorter}
-use Rattle.zerotrie_core.proofs.NodeLemmas.Nodes.{value_begins, span_begins, branch_begins, value_no_branch, value_no_span, span_no_branch}
-use Rattle.zerotrie_core.proofs.NodeLemmas.Opened.{body_of, head_begins, same_parts}
+use Rattle.zerotrie_base.proofs.NumberLemmas.Numbers.{some_bytes, one_reading, cons_parts, after_shorter}
+use Rattle.zerotrie_base.proofs.NodeLemmas.Nodes.{value_begins, span_begins, branch_begins, value_no_branch, value_no_span, span_no_branch}
+use Rattle.zerotrie_base.proofs.NodeLemmas.Opened.{body_of, head_begins, same_parts}
 use Rattle.zerotrie_core.proofs.WellFormedLemmas.Depth.{deep_some}
 
 one_at_least : {kind : Kind} {bytes : List ℕ} {pairs : Pairs} (text : Lists kind bytes pairs) → deep text ≡ max 1 (deep text)

@@ -6,18 +6,18 @@ use Rattle.std.specs.Borrow.{Bor}
 use Rattle.std.proofs.lemmas.List.{length-take-le, length-drop}
 use Rattle.std.proofs.lemmas.Bool.{cases_lt}
 use Rattle.std.proofs.lemmas.Bool.Decides.{eqb_tells}
-use Rattle.zerotrie_core.specs.Kind.{Kind}
-use Rattle.zerotrie_core.specs.Maps.{Pairs, map_of}
-use Rattle.zerotrie_core.specs.Texts.{Lists, ListEach, Means}
-use Rattle.zerotrie_core.specs.Texts.Lists.{branch}
-use Rattle.zerotrie_core.specs.Nodes.{Shape, BeginsBranch, targets_behind, begin_of, end_of, IsTargetResult}
-use Rattle.zerotrie_core.specs.Nodes as shapes
+use Rattle.zerotrie_base.specs.Kind.{Kind}
+use Rattle.zerotrie_base.specs.Maps.{Pairs, map_of}
+use Rattle.zerotrie_base.specs.Texts.{Lists, ListEach, Means}
+use Rattle.zerotrie_base.specs.Texts.Lists.{branch}
+use Rattle.zerotrie_base.specs.Nodes.{Shape, BeginsBranch, targets_behind, begin_of, end_of, IsTargetResult}
+use Rattle.zerotrie_base.specs.Nodes as shapes
 use Rattle.zerotrie_core.specs.WellFormed.{IsWellFormed, deep, deeps, greatest, one_more_but, IsShallow}
 use Rattle.zerotrie_core.specs.listing.Listed.{target_of}
 use Rattle.zerotrie_core.specs.well_formed.Branching.{extent, InOrder, IsLongest, HasFront, IsTarget, IsSound}
 use Rattle.zerotrie_core.specs.well_formed.Testing.{IsText, HasRest, IsFirstLonger, AlwaysNoText, AlwaysReducesTo}
 use Rattle.zerotrie_core.specs.declared.well_formed.Expected.TheVariants.{Something}
-use Rattle.zerotrie_core.proofs.NodeLemmas.Offsets.{HasTargets, got}
+use Rattle.zerotrie_base.proofs.NodeLemmas.Offsets.{HasTargets, got}
 use Rattle.zerotrie_core.proofs.WellFormedLemmas.Depth.{deep_some, at_place, at_other, greatest_at, length-one_more_but, length-deeps, each_at, each_from, shallow_one, shallow_max, shallow_more}
 use Rattle.zerotrie_core.proofs.WellFormedLemmas.Pieces.{pieces, length-pieces, get_or-pieces, piece_is, extent_is, longest_is, begins_at_end}
 use Rattle.zerotrie_core.proofs.WellFormedLemmas.Parts.{order_more, target_long}

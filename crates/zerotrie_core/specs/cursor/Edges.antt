@@ -1,17 +1,17 @@
--- A step or a probe, past the value in front.
+-- Steps and probes, after a value.
 use Rattle.std.specs.Prelude.{◌≡◌, ◌≢◌, ℕ, List, [], Option, Some, None}
 use Rattle.std.specs.Option.{option_map}
-use Rattle.zerotrie_core.specs.Kind.{Kind}
-use Rattle.zerotrie_core.specs.Maps.{Pairs}
-use Rattle.zerotrie_core.specs.Numbers.{BeginsWith}
-use Rattle.zerotrie_core.specs.Texts.{Lists}
+use Rattle.zerotrie_base.specs.Kind.{Kind}
+use Rattle.zerotrie_base.specs.Maps.{Pairs}
+use Rattle.zerotrie_base.specs.Numbers.{BeginsWith}
+use Rattle.zerotrie_base.specs.Texts.{Lists}
 use Rattle.zerotrie_core.specs.Machine.{behind}
-use Rattle.zerotrie_core.specs.Cursors.{met}
-use Rattle.zerotrie_core.specs.Nodes.{Shape, Begins}
+use Rattle.zerotrie_base.specs.Cursors.{met}
+use Rattle.zerotrie_base.specs.Nodes.{Shape, Begins}
 use Rattle.zerotrie_core.specs.Places.{Place, nowhere, ListsBehind, ListsAt, IsStep, IsProbe}
 use Rattle.zerotrie_core.specs.declared.edges.Along as declared
 
--- no value stands in front of the bytes
+-- the bytes do not begin with a value
 abbrev pub NoValue : List ℕ → Type 0
 NoValue bytes = (v : ℕ) (rest : List ℕ) → BeginsWith 16 4 v bytes rest → ⊥
 
@@ -33,12 +33,12 @@ abbrev pub place_along : Option declared.Along → Place
 place_along None = nowhere
 place_along (Some along) = place_after along
 
--- whichever bytes begin with the node: the edge that is the byte c
+-- whichever bytes begin with the node: the edge that equals the byte c
 abbrev pub StepsFrom : Kind → Shape → ℕ → Option declared.Along → Type 0
 StepsFrom kind node c found = (bytes : List ℕ) → Begins kind bytes node
     → IsStep kind (Lists kind bytes) c (option_map (λ a. a.edge) found) (ListsAt kind (place_along found))
 
--- whichever bytes begin with the node: edge number i, and how many there are
+-- whichever bytes begin with the node: edge number i, and the number of edges
 abbrev pub ProbesFrom : Kind → Shape → ℕ → Option (declared.Along × ℕ) → Type 0
 ProbesFrom kind node i found = (bytes : List ℕ) → Begins kind bytes node
     → IsProbe (Lists kind bytes) i (option_map {U = ℕ × ℕ} (λ r. (r.0.edge, r.1)) found) (ListsAt kind (place_along (option_map (λ r. r.0) found)))

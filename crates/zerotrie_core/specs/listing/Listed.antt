@@ -1,11 +1,11 @@
 -- What any bytes list: the pairs by the nodes that are there, up to where none begins.
 use Rattle.std.proofs.Common.{zero, suc}
 use Rattle.std.specs.Prelude.{ℕ, ◌+◌, ◌-◌, ◌*◌, ◌/◌, ◌%◌, ◌^◌, ◌==◌, ◌&&◌, List, [], ◌∷◌, ◌++◌, Bool, length, take, drop, nat_lt, nat_le, slice_index, Option, Some, None, if◌then◌else◌}
-use Rattle.zerotrie_core.specs.Kind.{Kind, has_spans, greatest_width}
-use Rattle.zerotrie_core.specs.Maps.{Pairs, with_front, with_run}
-use Rattle.zerotrie_core.specs.Branches.{table_size, before_edges}
-use Rattle.zerotrie_core.specs.Nodes.{Shape, targets_behind, begin_of, end_of}
-use Rattle.zerotrie_core.specs.Nodes.Shape.{value, literal, span, branch}
+use Rattle.zerotrie_base.specs.Kind.{Kind, has_spans, greatest_width}
+use Rattle.zerotrie_base.specs.Maps.{Pairs, with_front, with_run}
+use Rattle.zerotrie_base.specs.Branches.{table_size, before_edges}
+use Rattle.zerotrie_base.specs.Nodes.{Shape, targets_behind, begin_of, end_of}
+use Rattle.zerotrie_base.specs.Nodes.Shape.{value, literal, span, branch}
 
 -- the number whose first digit is a, in the form of L, at the front of its trail bytes, and what follows it
 abbrev pub trail_read : ℕ → ℕ → List ℕ → Option (ℕ × List ℕ)

@@ -1,8 +1,8 @@
 -- The state of a listing: the text that it stands in, and the branches that are open.
-use Rattle.std.specs.Prelude.{◌≡◌, ℕ, Option, Some, None, ◌+◌, ◌-◌, ◌<◌, ◌≤◌, List, [], ◌∷◌, ◌++◌, length, take, Bool, if◌then◌else◌}
-use Rattle.zerotrie_core.specs.Kind.{Kind}
-use Rattle.zerotrie_core.specs.Maps.{Pairs, with_run}
-use Rattle.zerotrie_core.specs.Nodes.{targets_behind, begin_of}
+use Rattle.std.specs.Prelude.{◌≡◌, ℕ, Option, Some, None, ◌+◌, ◌-◌, ◌<◌, ◌≤◌, List, [], ◌∷◌, ◌++◌, length, take, Bool, nat_lt, if◌then◌else◌}
+use Rattle.zerotrie_base.specs.Kind.{Kind}
+use Rattle.zerotrie_base.specs.Maps.{Pairs, with_run}
+use Rattle.zerotrie_base.specs.Nodes.{targets_behind, begin_of}
 use Rattle.zerotrie_core.specs.Listings.{Left, to_come, over}
 use Rattle.zerotrie_core.specs.listing.Listed.{listed, of_targets}
 use Rattle.zerotrie_core.specs.declared.stream.opened.OpenBranch.{OpenBranch}
@@ -35,8 +35,14 @@ Nested depth [] = Unit {0}
 Nested depth (o ∷ branches) = IsOpen depth o × (o.next < o.edges) × Nested o.depth branches
 
 -- the same, if the innermost one may have none left
-abbrev pub Stands : ℕ → OpenBranch → List OpenBranch → Type 0
-Stands depth top branches = IsOpen depth top × Nested top.depth branches
+abbrev pub Stands : ℕ → List OpenBranch → Type 0
+Stands depth [] = Unit {0}
+Stands depth (o ∷ branches) = IsOpen depth o × Nested o.depth branches
+
+-- the open branches without the innermost one, if that has no target left
+abbrev pub still_open : List OpenBranch → List OpenBranch
+still_open [] = []
+still_open (o ∷ branches) = if nat_lt o.next o.edges then o ∷ branches else branches
 
 -- how many bytes of targets, edges and branches are still to be gone over
 abbrev pub work_open : List OpenBranch → ℕ
@@ -46,7 +52,12 @@ work_open (o ∷ branches) = length (targets_behind o.edges o.width o.behind.now
 abbrev pub work_left : List ℕ → List OpenBranch → ℕ
 work_left rest branches = length rest + work_open branches
 
--- What going on to the next value comes to: the first pair with the key in hand, or the end.
+-- What a search for the next value finds: the first pair that was left, whose key is at hand, or the end.
 abbrev pub IsFound : Pairs → List ℕ → Pairs → Option ℕ → Type 0
 IsFound before key after None = before ≡ []
 IsFound before key after (Some v) = before ≡ (key, v) ∷ after
+
+-- A stream moves to the next value, with these bytes, key and branches before it, and those after it.
+abbrev pub MovesOn : Kind → List ℕ → List ℕ → List OpenBranch → List ℕ → List ℕ → List OpenBranch → Option ℕ → Type 0
+MovesOn kind key rest branches key' rest' branches' found =
+    Stands (length key') branches' × IsFound (pairs_left kind key rest branches) key' (pairs_left kind key' rest' branches') found

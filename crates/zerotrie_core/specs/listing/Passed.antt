@@ -1,14 +1,14 @@
 -- Going down to a prefix, and to a key and past it.
-use Rattle.std.specs.Prelude.{◌≡◌, ◌≢◌, ℕ, List, [], ◌∷◌, ◌++◌, Option, Some, None, true, false}
+use Rattle.std.specs.Prelude.{◌≡◌, ◌≢◌, ℕ, ◌<◌, List, length, [], ◌∷◌, ◌++◌, Option, Some, None, true, false}
 use Rattle.std.specs.Borrow.{Bor}
-use Rattle.zerotrie_core.specs.Kind.{Kind, fold_byte}
-use Rattle.zerotrie_core.specs.Maps.{Pairs, with_run, same_key, value_at}
-use Rattle.zerotrie_core.specs.Texts.{Lists}
-use Rattle.zerotrie_core.specs.Nodes.{Shape}
+use Rattle.zerotrie_base.specs.Kind.{Kind, fold_byte}
+use Rattle.zerotrie_base.specs.Maps.{Pairs, with_run, same_key, value_at}
+use Rattle.zerotrie_base.specs.Texts.{Lists}
+use Rattle.zerotrie_base.specs.Nodes.{Shape}
 use Rattle.zerotrie_core.specs.Listings.{Left, to_come}
-use Rattle.zerotrie_core.specs.reader.Reading.{AlwaysFinds, AlwaysComes}
-use Rattle.zerotrie_core.specs.reader.Going.{AlwaysGoes}
-use Rattle.zerotrie_core.specs.listing.Opened.{pairs_left}
+use Rattle.zerotrie_base.specs.reader.Reading.{AlwaysFinds, AlwaysComes}
+use Rattle.zerotrie_core.specs.reader.Going.{AlwaysGoes, AlwaysStops}
+use Rattle.zerotrie_core.specs.listing.Opened.{Stands, pairs_left}
 use Rattle.zerotrie_core.specs.declared.stream.opened.OpenBranch.{OpenBranch}
 use Rattle.zerotrie_core.specs.declared.here.Here.{Here}
 
@@ -46,7 +46,14 @@ pub record GoesInto (kind : Kind) (node : Shape) (byte : ℕ) (bytes key : List 
   pub key_is : key' ≡ key ++ edge ∷ []
   pub same : fold_byte kind edge ≡ fold_byte kind byte
   pub goes : AlwaysGoes kind node byte edge rest
+  pub shorter : length rest < length bytes
+  pub stands : Stands (length key') branches'
   pub last : (pairs : Pairs) → Lists kind bytes pairs → (before : Pairs) × (pairs_left kind key bytes branches ≡ before ++ pairs_left kind key' rest branches')
+
+-- that, to the rest of the text; or no edge is the byte to the kind
+abbrev pub IsEntered : Kind → Shape → ℕ → List ℕ → List ℕ → List OpenBranch → Option (List ℕ) → List ℕ → List OpenBranch → Type 0
+IsEntered kind node byte bytes key branches None key' branches' = AlwaysStops kind node byte
+IsEntered kind node byte bytes key branches (Some rest) key' branches' = GoesInto kind node byte bytes key branches rest key' branches'
 
 -- A walk goes on towards a key: bytes that are the run to the kind go from what is left of the sought key to the end of
 -- the key at hand, and the pairs that are left then are the last of those before.
@@ -58,6 +65,8 @@ pub record LeadsOn (kind : Kind) (bytes left key : List ℕ) (branches : List Op
   pub same : same_key kind run taken ≡ true
   pub count : ℕ
   pub comes : AlwaysComes kind bytes left rest after count
+  pub shorter : length rest < length bytes
+  pub stands : Stands (length key') branches'
   pub last : (pairs : Pairs) → Lists kind bytes pairs → (before : Pairs) × (pairs_left kind key bytes branches ≡ before ++ pairs_left kind key' rest branches')
 
 -- that, to the rest of the text and of the key; or no pair has the key

@@ -1,9 +1,13 @@
 -- Bytes at the front and at the end of others, and runs of literals.
-use Rattle.std.specs.Prelude.{◌≡◌, ℕ, ◌<◌, List, ◌++◌, ◌⊎◌, length, slice_index}
+use Rattle.std.specs.Prelude.{◌≡◌, ℕ, ◌<◌, List, ◌++◌, ◌⊎◌, length, take, drop, slice_index}
 
 -- the bytes end with these
 abbrev pub EndsWith : List ℕ → List ℕ → Type 0
 EndsWith bytes after = (front : List ℕ) × (bytes ≡ front ++ after)
+
+-- This many bytes went from the rest to the end of the key.
+abbrev pub Moves : ℕ → List ℕ → List ℕ → List ℕ → List ℕ → Type 0
+Moves count rest key rest' key' = (rest' ≡ drop count rest) × (key' ≡ key ++ take count rest)
 
 -- Literals went from the rest to the end of the key.
 pub record MovesLiterals (rest key rest' key' : List ℕ) : Type 0 where

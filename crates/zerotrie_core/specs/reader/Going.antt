@@ -1,12 +1,12 @@
--- What lies after a byte of a text.
+-- What follows a byte of an encoding.
 use Rattle.std.specs.Prelude.{◌≡◌, ℕ, ◌+◌, List, ◌∷◌, Some, None}
-use Rattle.zerotrie_core.specs.Kind.{Kind}
-use Rattle.zerotrie_core.specs.Maps.{Pairs, value_at, residual}
-use Rattle.zerotrie_core.specs.Texts.{Lists, nodes}
-use Rattle.zerotrie_core.specs.Nodes.{Shape, Begins}
-use Rattle.zerotrie_core.specs.Cursors.{met, edge_like}
+use Rattle.zerotrie_base.specs.Kind.{Kind}
+use Rattle.zerotrie_base.specs.Maps.{Pairs, value_at, residual}
+use Rattle.zerotrie_base.specs.Texts.{Lists, nodes}
+use Rattle.zerotrie_base.specs.Nodes.{Shape, Begins}
+use Rattle.zerotrie_base.specs.Cursors.{met, edge_like}
 
--- The rest lists the pairs after the edge b, which is the byte c to the kind.
+-- The rest lists the pairs after the edge b, which equals the byte c in the kind.
 pub record Goes {kind : Kind} {bytes : List ℕ} {pairs : Pairs} (text : Lists kind bytes pairs) (c b : ℕ) (rest : List ℕ) : Type 0 where
   pub edge : edge_like kind c (met pairs) ≡ Some b
   pub below : Pairs
@@ -15,7 +15,7 @@ pub record Goes {kind : Kind} {bytes : List ℕ} {pairs : Pairs} (text : Lists k
   pub answers : (key : List ℕ) → value_at kind pairs (c ∷ key) ≡ value_at kind below key
   pub counts : (key : List ℕ) → nodes text (c ∷ key) ≡ 1 + nodes inner key
 
--- No edge is the byte c to the kind.
+-- No edge equals the byte c in the kind.
 pub record Stops {kind : Kind} {bytes : List ℕ} {pairs : Pairs} (text : Lists kind bytes pairs) (c : ℕ) : Type 0 where
   pub edge : edge_like kind c (met pairs) ≡ None
   pub answers : (key : List ℕ) → value_at kind pairs (c ∷ key) ≡ None

@@ -1,8 +1,8 @@
--- A run of literals that a key goes on with.
+-- A run of literals that a key matches.
 use Rattle.std.specs.Prelude.{◌≡◌, ℕ, ◌<◌, ◌≤◌, List, length, slice_index}
-use Rattle.zerotrie_core.specs.Kind.{Kind, fold_byte}
+use Rattle.zerotrie_base.specs.Kind.{Kind, fold_byte}
 
--- the first n bytes are literals, and each is the byte of the key to the kind
+-- the first n bytes are literals, and each equals the byte of the key in the kind
 pub record AreCommon (kind : Kind) (bytes key : List ℕ) (n : ℕ) : Type 0 where
   pub within : n ≤ length bytes
   pub short : n ≤ length key

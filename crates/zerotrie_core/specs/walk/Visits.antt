@@ -1,14 +1,14 @@
--- The nodes of any bytes, in the order in which they lie, each with its place: those that are there, up to where none begins.
+-- The nodes of any bytes in their order, each with its place, up to where none begins.
 use Rattle.std.proofs.Common.{zero, suc}
 use Rattle.std.specs.Prelude.{ℕ, ◌+◌, ◌-◌, List, [], ◌∷◌, ◌++◌, length, take, slice_index, Option, Some, None, if◌then◌else◌}
-use Rattle.zerotrie_core.specs.Kind.{Kind}
-use Rattle.zerotrie_core.specs.Nodes.{Shape, targets_behind, begin_of}
-use Rattle.zerotrie_core.specs.Nodes.Shape.{value, literal, span, branch}
+use Rattle.zerotrie_base.specs.Kind.{Kind}
+use Rattle.zerotrie_base.specs.Nodes.{Shape, targets_behind, begin_of}
+use Rattle.zerotrie_base.specs.Nodes.Shape.{value, literal, span, branch}
 use Rattle.zerotrie_core.specs.count.Row.{row_behind}
 use Rattle.zerotrie_core.specs.listing.Listed.{node_of, is_in_order, target_of}
 
--- A part of a text from some place on: how many bytes stand before it, how many branches stand above it, at which place the node
--- stands that it follows, and, in front of a target, the byte of its edge.
+-- A part of an encoding: the number of bytes before it, the number of branches above it, the place
+-- of the node that it follows, and, for a target, the byte of its edge.
 pub record Part : Type 0 where
   pub place : ℕ
   pub depth : ℕ
@@ -21,7 +21,7 @@ pub record Visit : Type 0 where
   pub part : Part
   pub node : Shape
 
--- all of a text
+-- all of the bytes
 abbrev pub whole : List ℕ → Part
 whole bytes = record { place = 0; depth = 0; above = None; edge = None; bytes = bytes }
 
@@ -64,12 +64,12 @@ abbrev pub of_first : (Part → List Visit) → Part → Option Shape → List V
 of_first visits at None = []
 of_first visits at (Some s) = record { part = at; node = s } ∷ of_parts visits (parts_behind at s)
 
--- by at most d nodes, one below another
+-- the nodes of a part, of which at most d are below one another
 abbrev pub visits_to : ℕ → Kind → Part → List Visit
 visits_to zero kind at = []
 visits_to (suc d) kind at = of_first (visits_to d kind) at (node_of kind at.bytes)
 
--- by all of them
+-- the nodes of a part
 unfoldable pub visits : Kind → Part → List Visit
 visits kind at = visits_to (length at.bytes) kind at
 
@@ -77,6 +77,6 @@ visits kind at = visits_to (length at.bytes) kind at
 abbrev pub nodes_of : Kind → List ℕ → List Visit
 nodes_of kind bytes = visits kind (whole bytes)
 
--- the bytes of a node alone: of a branch, those in front of its targets
+-- the bytes of a node alone: of a branch, those before its targets
 abbrev pub own_bytes : Visit → List ℕ
 own_bytes v = take (length v.part.bytes - length (row_behind v.node)) v.part.bytes

@@ -1,16 +1,15 @@
-//! Nodes that are appended.
+//! Writes single nodes.
 
 ghost use Rattle.std.specs.Prelude.{◌≡◌, ℕ, List, ◌+◌, ◌*◌, ◌/◌, ◌%◌, ◌^◌, ◌<◌, ◌≤◌, ◌⊎◌, ◌++◌, length, map, slice_index, OnOk, IfErr, IfSome, IfNone};
-ghost use Rattle.zerotrie_core.specs.Numbers.{value_form, SpellsAs};
-ghost use Rattle.zerotrie_core.specs.Branches.{IsWidth, blocks};
-ghost use Rattle.zerotrie_core.specs.Canonical.{branch_node};
-ghost use Rattle.zerotrie_core.specs.plain.Encoding.{with_bits, AreTargets};
+ghost use Rattle.zerotrie_base.specs.Numbers.{value_form, SpellsAs};
+ghost use Rattle.zerotrie_base.specs.Branches.{IsWidth, blocks};
+ghost use Rattle.zerotrie_base.specs.Canonical.{branch_node};
+ghost use Rattle.zerotrie_base.specs.plain.Encoding.{with_bits, AreTargets};
 
 use crate::offsets::least_width;
-use crate::varint::{write_varint_meta2, write_varint_meta3};
-use zerotrie_base::ZeroTrieBuildError;
+use zerotrie_base::{ZeroTrieBuildError, write_varint_meta2, write_varint_meta3};
 
-/// Writes a number with these bits added to its lead byte.
+/// Writes a number, with these bits added to its lead byte.
 fn push_number(out: &mut Vec<u8>, bits: u8, number: &[u8]) -> Result<(), ZeroTrieBuildError>
     requires { bits + slice_index number.now 0 < 256 }
     ensures ok { OnOk result (out.new.items ≡ out.old.items ++ with_bits bits number.now) }
@@ -23,7 +22,6 @@ fn push_number(out: &mut Vec<u8>, bits: u8, number: &[u8]) -> Result<(), ZeroTri
     Ok(())
 }
 
-/// Writes a value node.
 pub(super) fn push_value(out: &mut Vec<u8>, value: usize) -> Result<(), ZeroTrieBuildError>
     ensures ok { OnOk result ((spelling : List ℕ) × SpellsAs value_form value spelling
         × (out.new.items ≡ out.old.items ++ spelling)) }
@@ -32,7 +30,7 @@ pub(super) fn push_value(out: &mut Vec<u8>, value: usize) -> Result<(), ZeroTrie
     push_number(out, 0x80, &write_varint_meta3(value))
 }
 
-/// Writes the byte of this weight of each offset.
+/// Writes one byte of each offset; `place` counts from the lowest byte.
 fn push_block(out: &mut Vec<u8>, offsets: &[usize], place: usize) -> Result<(), ZeroTrieBuildError>
     requires { place < 8 }
     ensures ok { OnOk result (out.new.items
@@ -45,7 +43,7 @@ fn push_block(out: &mut Vec<u8>, offsets: &[usize], place: usize) -> Result<(), 
     Ok(())
 }
 
-/// Writes the lowest bytes of the offsets, the highest of them first.
+/// Writes the lowest bytes of the offsets in blocks, the highest block first.
 fn push_offsets(
     out: &mut Vec<u8>,
     offsets: &[usize],
@@ -61,7 +59,7 @@ fn push_offsets(
     Ok(())
 }
 
-/// The width field of a branch whose targets have this number of bytes together.
+/// Returns the width field for targets of this many bytes in total, if the kind has it.
 fn width_of(total: usize) -> Option<usize>
     ensures width { IfSome result (λ w. (w ≤ 3) × IsWidth total w) }
     ensures none { IfNone result (2 ^ 32 ≤ total) }
@@ -70,7 +68,6 @@ fn width_of(total: usize) -> Option<usize>
     (width <= 3).then_some(width)
 }
 
-/// Writes a branch.
 pub(super) fn push_branch(
     out: &mut Vec<u8>,
     edges: &[u8],

@@ -1,24 +1,30 @@
-//! A branch that a stream has opened.
+//! One branch that a stream has opened.
 
 ghost use Rattle.std.specs.Prelude.{◌≡◌, ◌≤◌, ◌<◌, ◌+◌, ◌-◌, ◌*◌, ◌↔◌, length, take, IsTrue};
 ghost use Rattle.std.specs.Option.{option_map};
-ghost use Rattle.zerotrie_core.specs.Nodes.{targets_behind, begin_of, IsTargetResult};
+ghost use Rattle.zerotrie_base.specs.Nodes.{targets_behind, begin_of, IsTargetResult};
 ghost use Rattle.zerotrie_core.specs.listing.Runs.{EndsWith};
 
 use crate::branch::Branch;
 use crate::here::Here;
 use crate::offsets::{begin_at, end_at, offsets_and_targets};
 
-/// A branch with targets to come: all its bytes from the edges on, all of the text from its first target on, its edge
-/// of the next target and where this one begins, and how much of the prefix stands in front of it.
+/// A branch of which some targets have been entered.
 #[derive(Clone, Copy, Debug)]
 pub(crate) struct OpenBranch<'a> {
+    /// The bytes of the branch from its edges on.
     pub behind: &'a [u8],
+    /// The bytes of the whole trie from the first target on.
     pub tail: &'a [u8],
+    /// How many edges it has.
     pub edges: usize,
+    /// How many bytes an offset has.
     pub width: usize,
+    /// The number of the next target.
     pub next: usize,
+    /// Where the next target begins, counted from the first target.
     pub begin: usize,
+    /// The length of the key before its edges.
     pub depth: usize,
     ghost narrow: { (1 ≤ width) × (width ≤ 8) },
     ghost whole: { edges + width * (edges - 1) ≤ length behind.now },
@@ -27,7 +33,7 @@ pub(crate) struct OpenBranch<'a> {
 }
 
 impl<'a> OpenBranch<'a> {
-    /// No branch.
+    /// Returns a branch without edges.
     pub(crate) fn closed() -> Self
         ensures edges { result.edges ≡ 0 }
         ensures next { result.next ≡ 0 }
@@ -44,7 +50,7 @@ impl<'a> OpenBranch<'a> {
         }
     }
 
-    /// A branch with which the rest begins, in front of its first target.
+    /// Opens a branch with which the rest begins, before its first target.
     #[inline(always)]
     pub(crate) fn new(here: Here<'a>, branch: Branch<'a>, depth: usize) -> Self
         requires { EndsWith here.rest.now branch.behind.now }
@@ -66,7 +72,7 @@ impl<'a> OpenBranch<'a> {
         }
     }
 
-    /// The same branch in front of the target of this number.
+    /// Returns the same branch before the target of this number.
     pub(crate) fn at_edge(self, place: usize) -> Self
         requires { place < self.edges }
         ensures edges { result.edges ≡ self.entry.edges }
@@ -82,7 +88,7 @@ impl<'a> OpenBranch<'a> {
         at
     }
 
-    /// Whether targets are left.
+    /// Returns whether targets are left.
     #[inline(always)]
     pub(crate) fn has_next(&self) -> bool
         ensures { IsTrue result ↔ (self.now.next < self.now.edges) }
@@ -90,7 +96,7 @@ impl<'a> OpenBranch<'a> {
         self.next < self.edges
     }
 
-    /// The next target, if its offsets don't fall.
+    /// Returns the next target, or `None` if its offsets are not ascending.
     #[inline(always)]
     pub(crate) fn target(&self) -> Option<Here<'a>>
         requires some { self.now.next < self.now.edges }

@@ -1,23 +1,21 @@
-//! The test of a branch: its search table, the width of its offsets, and where its targets end.
+//! Validation of a branch: its search table, the width of its offsets, and where its targets end.
 
 ghost use Rattle.std.specs.Prelude.{◌≡◌, ◌↔◌, ◌-◌, ◌<◌, ◌≤◌, IsTrue, IfSome, IfNone, length, map, take, drop, false};
 ghost use Rattle.std.specs.List.Sorted.{IsStrictlyIncreasing};
-ghost use Rattle.zerotrie_core.specs.Kind.{fold_byte};
-ghost use Rattle.zerotrie_core.specs.Branches.{IsWidth, table_size};
-ghost use Rattle.zerotrie_core.specs.Nodes.{targets_behind, begin_of};
+ghost use Rattle.zerotrie_base.specs.Kind.{fold_byte};
+ghost use Rattle.zerotrie_base.specs.Branches.{IsWidth, table_size};
+ghost use Rattle.zerotrie_base.specs.Nodes.{targets_behind, begin_of};
 ghost use Rattle.zerotrie_core.specs.Shapes.{branch_shape};
 ghost use Rattle.zerotrie_core.specs.well_formed.Branching.{AreBytes, HasTable, HasFront, IsTarget};
 ghost use Rattle.zerotrie_core.specs.well_formed.Testing.{AlwaysNoText};
 
 use crate::branch::Branch;
-use crate::fold::folded;
 use crate::here::Here;
-use crate::lanes::rising_in_17;
 use crate::offsets::least_width;
-use crate::options::ZeroTrieWithOptions;
+use crate::simd::lanes::rising_in_17;
 use crate::well_formed::known_table::KnownTable;
+use zerotrie_base::{ZeroTrieWithOptions, folded};
 
-/// Whether the edges rise by their folds.
 fn rises<K: ZeroTrieWithOptions>(edges: &[u8]) -> bool
     ensures rises { IsTrue result ↔ IsStrictlyIncreasing (map (fold_byte K.kind) edges.now) }
     ensures bytes { AreBytes edges.now }
@@ -30,9 +28,8 @@ fn rises<K: ZeroTrieWithOptions>(edges: &[u8]) -> bool
     true
 }
 
-/// Whether the first `count` bytes rise by their folds.
-///
-/// Up to sixteen are held against one another at once, in the kinds that keep case, if there are 17 bytes.
+/// Returns whether the first `count` bytes rise when they are folded. If 17 bytes are there, up to
+/// sixteen are compared at once, in the kinds that respect case.
 #[inline(always)]
 fn front_rises<K: ZeroTrieWithOptions>(bytes: &[u8], count: usize) -> bool
     requires { (1 ≤ count) × (count ≤ length bytes.now) }
@@ -47,10 +44,9 @@ fn front_rises<K: ZeroTrieWithOptions>(bytes: &[u8], count: usize) -> bool
     rises::<K>(edges)
 }
 
-/// Whether the search table is one of the kind, and its edges are bytes of the kind.
-///
-/// If edges rise, and the last of them is ASCII, all are. The bytes from the first edge on go on to the end of the text.
-/// A hashed table that passes is known from then on.
+/// Returns whether the search table is one of the kind, and its edges are bytes of the kind. `tail`
+/// is all bytes from the first edge on. If edges rise and the last is ASCII, all are. A hashed
+/// table that passes is known from then on.
 pub(crate) fn has_table<'a, K: ZeroTrieWithOptions>(
     branch: &Branch<'a>,
     tail: &[u8],
@@ -71,7 +67,7 @@ pub(crate) fn has_table<'a, K: ZeroTrieWithOptions>(
     }
 }
 
-/// Whether offsets of this many bytes have the width that the targets after them need.
+/// Returns whether the offsets have the width that the targets after them need.
 pub(crate) fn has_width(body: &[u8], offsets: usize, width: usize) -> bool
     requires within { offsets ≤ length body.now }
     requires some { 1 ≤ width }
@@ -82,7 +78,8 @@ pub(crate) fn has_width(body: &[u8], offsets: usize, width: usize) -> bool
     width - 1 == least_width(targets.len())
 }
 
-/// Whether the search table of a branch and the width of its offsets are well-formed, from where its edges stand.
+/// Returns whether the search table and the width of the offsets are valid. `edges` begins with the
+/// edges.
 pub(super) fn has_front<'a, K: ZeroTrieWithOptions>(
     branch: &Branch<'a>,
     edges: Here<'_>,
@@ -98,8 +95,8 @@ pub(super) fn has_front<'a, K: ZeroTrieWithOptions>(
         && has_table::<K>(branch, edges.tail, known)
 }
 
-/// The target of an edge, which begins at a place among the targets. `None` if its offset falls, or passes the end, or it
-/// is empty.
+/// Returns the target of an edge, which begins at `begin`. Returns `None` if it is empty, or if its
+/// offset falls or is beyond the last target.
 #[inline(always)]
 pub(super) fn target_from<'a, K: ZeroTrieWithOptions>(
     branch: &Branch<'_>,

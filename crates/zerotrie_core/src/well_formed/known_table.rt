@@ -1,6 +1,6 @@
-//! The test of hashed tables, and the one that passed last.
+//! Validation of hashed tables, which remembers the last valid one.
 //!
-//! Many branches have the very same table, and then the hashes of its edges are computed once.
+//! Many branches have the same table. Then the hashes of its edges are computed once.
 
 ghost use Rattle.std.specs.Prelude.{◌≡◌, ℕ, ◌-◌, IsTrue, List, ◌∷◌, ◌++◌, length, drop};
 ghost use Rattle.zerotrie_base.specs.Hashes.{IsPerfect};
@@ -8,7 +8,6 @@ ghost use Rattle.zerotrie_core.specs.well_formed.Branching.{AreBytes, AnswersEac
 
 use zerotrie_base::PerfectByteHashMap;
 
-/// Whether a hashed table has each edge at its place.
 fn is_perfect(table: &[u8], edges: &[u8]) -> bool
     ensures bytes { AreBytes table.now × AreBytes edges.now }
     ensures yes { IsTrue result → AnswersEach table.now edges.now }
@@ -23,7 +22,7 @@ fn is_perfect(table: &[u8], edges: &[u8]) -> bool
     true
 }
 
-/// The hashed table that passed last, and how many edges it ends with. At first it has none.
+/// The last valid hashed table, and the number of edges at its end. At first it is empty.
 #[derive(Drop)]
 pub(crate) struct KnownTable<'a> {
     table: &'a [u8],
@@ -32,7 +31,6 @@ pub(crate) struct KnownTable<'a> {
 }
 
 impl<'a> KnownTable<'a> {
-    /// No table passed yet.
     #[inline(always)]
     pub(crate) fn none() -> Self {
         KnownTable {
@@ -41,9 +39,8 @@ impl<'a> KnownTable<'a> {
         }
     }
 
-    /// Whether a hashed table has each edge at its place, if it ends with the edges.
-    ///
-    /// If it is byte for byte the one that passed last, it passes too.
+    /// Returns whether a hashed table that ends with the edges has each of them at its place. A
+    /// table that equals the last valid one is valid.
     #[inline(always)]
     pub(crate) fn is_perfect(&mut self, table: &'a [u8], edges: &[u8]) -> bool
         requires { edges.now ≡ drop (length table.now - length edges.now) table.now }

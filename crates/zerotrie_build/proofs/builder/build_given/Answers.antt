@@ -1,5 +1,5 @@
 use Rattle.std.proofs.Common.{inr}
-use Rattle.zerotrie_core.specs.Items.{keyed}
+use Rattle.zerotrie_base.specs.Items.{keyed}
 use Rattle.zerotrie_build.proofs.Building.{some_foreign}
 use Rattle.zerotrie_build.proofs.builder.build_given.Goals as goal
 

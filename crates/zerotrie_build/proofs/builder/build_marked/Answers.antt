@@ -1,6 +1,6 @@
-use Rattle.std.proofs.Common.{◌<◌, All, inr, sym, ap, subst, ◌∙◌, IsTrue}
-use Rattle.zerotrie_core.specs.Items.{pairs_of}
-use Rattle.zerotrie_core.specs.Routes.{IsBuild, any_order}
+use Rattle.std.proofs.Common.{◌<◌, All, inr, refl, sym, ap, subst, ◌∙◌, IsTrue}
+use Rattle.zerotrie_base.specs.Items.{pairs_of}
+use Rattle.zerotrie_base.specs.Routes.{IsBuild, any_order}
 use Rattle.zerotrie_build.specs.Order.{Ordered, AreKeys, AreAsciiKeys}
 use Rattle.zerotrie_build.proofs.Building.{some_foreign}
 use Rattle.zerotrie_build.proofs.Items.{limit_high, limit_low}
@@ -22,7 +22,7 @@ build_ordered-requires g c =
       | else-not-SPANS-via-else-not-SPANS w ↦ keys_limit kind 256 all (limit_high kind (spans ∙ w.if-not-SPANS.false)) c.items.ensures.bytes
     ] in
     let ascii = λ (yes : IsTrue c.is_ascii-ascii.result). c.is_ascii-ascii.ensures.0 yes in
-    record { ordered = subst (Ordered kind) from up; keys = subst (AreKeys kind) from keys; ascii = λ yes. subst AreAsciiKeys from (ascii yes) }
+    λ k. ((refl, tt), (subst (Ordered kind) from up, (subst (AreKeys kind) from keys, λ yes. subst AreAsciiKeys from (ascii yes))))
 
 pub returns-then-not-ascii : goal.returns-then-not-ascii
 returns-then-not-ascii g c =

@@ -1,7 +1,7 @@
 use Rattle.std.proofs.Common.{◌∙◌, refl, subst, sym, ap, IsTrue}
 use Rattle.std.proofs.lemmas.List.Sorted.{IsPermutation-sym}
-use Rattle.zerotrie_core.specs.Items.{pairs_of, keyed}
-use Rattle.zerotrie_core.specs.Routes.{any_order, IsBuild}
+use Rattle.zerotrie_base.specs.Items.{pairs_of, keyed}
+use Rattle.zerotrie_base.specs.Routes.{any_order, IsBuild}
 use Rattle.zerotrie_build.specs.Order.{Ordered, AreKeys, AreAsciiKeys}
 use Rattle.zerotrie_build.proofs.OrderLemmas.Permuted.{build_permuted, keys_permuted, ascii_permuted}
 use Rattle.zerotrie_build.proofs.builder.build_sorted.Goals as goal
@@ -19,11 +19,7 @@ build_ordered-requires g c =
     let sorted = pairs_of c.in_ok-items.items.items in
     let from = sym (c.from_byte_slice-items.ensures ∙ ap pairs_of c.as_slice.ensures.value) in
     let ascii = λ (yes : IsTrue c.are_ascii-ascii.result). ascii_permuted all sorted c.in_ok-items.ensures.same (c.are_ascii-ascii.ensures yes) in
-    record {
-      ordered = subst (Ordered kind) from c.in_ok-items.ensures.ordered;
-      keys = subst (AreKeys kind) from c.in_ok-items.ensures.keys;
-      ascii = λ yes. subst AreAsciiKeys from (ascii yes);
-    }
+    λ k. ((refl, tt), (subst (Ordered kind) from c.in_ok-items.ensures.ordered, (subst (AreKeys kind) from c.in_ok-items.ensures.keys, λ yes. subst AreAsciiKeys from (ascii yes))))
 
 pub returns : goal.returns
 returns g c =

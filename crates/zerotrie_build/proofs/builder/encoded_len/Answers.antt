@@ -1,5 +1,5 @@
 use Rattle.std.proofs.lemmas.Result.{err_from_is_err_and}
-use Rattle.zerotrie_core.specs.Kind.{kind_with}
+use Rattle.zerotrie_base.specs.Kind.{kind_with}
 use Rattle.zerotrie_build.specs.Items.{pairs}
 use Rattle.zerotrie_build.proofs.Building.{ascending_length}
 use Rattle.zerotrie_build.proofs.builder.encoded_len.Goals as goal

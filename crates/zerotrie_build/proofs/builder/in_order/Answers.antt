@@ -1,5 +1,5 @@
 use Rattle.std.proofs.Common.{◌∙◌, inr, subst, sym, ap}
-use Rattle.zerotrie_core.specs.Items.{pairs_of, keyed}
+use Rattle.zerotrie_base.specs.Items.{pairs_of, keyed}
 use Rattle.zerotrie_build.specs.Order.{Ordered}
 use Rattle.zerotrie_build.proofs.Building.{some_foreign}
 use Rattle.zerotrie_build.proofs.OrderLemmas.Permuted.{consistent_permuted, keys_permuted, values_permuted}

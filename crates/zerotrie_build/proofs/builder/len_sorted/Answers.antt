@@ -1,6 +1,6 @@
 use Rattle.std.proofs.Common.{◌∙◌, subst, ap}
-use Rattle.zerotrie_core.specs.Items.{pairs_of, keyed}
-use Rattle.zerotrie_core.specs.Routes.{any_order, IsLength}
+use Rattle.zerotrie_base.specs.Items.{pairs_of, keyed}
+use Rattle.zerotrie_base.specs.Routes.{any_order, IsLength}
 use Rattle.zerotrie_build.proofs.OrderLemmas.Permuted.{length_permuted}
 use Rattle.zerotrie_build.proofs.builder.len_sorted.Goals as goal
 

@@ -2,7 +2,7 @@ use Rattle.std.proofs.Common.{◌≡◌, ◌<◌, ◌-◌, ℕ, List, [], ap, sy
 use Rattle.std.specs.List.{slice_range}
 use Rattle.std.proofs.lemmas.List.{take_all}
 use Rattle.std.proofs.lemmas.Option.{get_or_from_slice_get}
-use Rattle.zerotrie_core.specs.Kind.{simple_ascii}
+use Rattle.zerotrie_base.specs.Kind.{simple_ascii}
 use Rattle.zerotrie_build.specs.passes.Windows.{item_no}
 use Rattle.zerotrie_build.proofs.WindowLemmas.Windows.{rest_bytes}
 use Rattle.zerotrie_build.proofs.leaf.single_item.Goals as goal

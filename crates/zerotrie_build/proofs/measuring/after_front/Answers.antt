@@ -1,6 +1,6 @@
 use Rattle.std.proofs.Common.{refl, ◌≡◌, ◌+◌, ◌-◌, sym, ◌∙◌, subst, length, arith}
 use Rattle.std.proofs.lemmas.Result.{err_from_is_err_and}
-use Rattle.zerotrie_core.specs.Numbers.{value_form, span_form, spelled_as}
+use Rattle.zerotrie_base.specs.Numbers.{value_form, span_form, spelled_as}
 use Rattle.zerotrie_build.specs.passes.Measured.{Passes}
 use Rattle.zerotrie_build.specs.passes.Measured.Passes.{here, value, span}
 use Rattle.zerotrie_build.proofs.WindowLemmas.Spans.{span_some}

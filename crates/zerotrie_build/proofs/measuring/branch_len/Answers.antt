@@ -1,8 +1,8 @@
 use Rattle.std.proofs.Common.{◌≡◌, ◌+◌, ◌-◌, ◌*◌, ◌%◌, ◌^◌, ◌≤◌, length, refl, sym, ◌∙◌, ap, arith}
 use Rattle.std.proofs.Math.Nat.{mul-le-mul}
-use Rattle.zerotrie_core.specs.Numbers.{branch_form, spelled_as}
-use Rattle.zerotrie_core.specs.Branches.{total as total_of, table_size, width}
-use Rattle.zerotrie_core.proofs.CallerLemmas.{width_is}
+use Rattle.zerotrie_base.specs.Numbers.{branch_form, spelled_as}
+use Rattle.zerotrie_base.specs.Branches.{total as total_of, table_size, width}
+use Rattle.zerotrie_base.proofs.CallerLemmas.{width_is}
 use Rattle.zerotrie_build.proofs.WindowLemmas.Groups.{branch_size_is, table_hashed, table_sorted}
 use Rattle.zerotrie_build.proofs.measuring.branch_len.Goals as goal
 use Rattle.zerotrie_build.proofs.measuring.branch_len.Goals.{then-is_hashed, else-is_hashed}

@@ -1,9 +1,9 @@
 use Rattle.std.proofs.Common.{refl, rules, ◌≡◌, ◌≤◌, [], sym, ◌∙◌, ap, subst, arith, length, reverse}
 use Rattle.std.proofs.lemmas.List.{append-nil}
 use Rattle.std.proofs.lemmas.Result.{err_from_is_err_and}
-use Rattle.zerotrie_core.specs.Canonical.{size_of}
-use Rattle.zerotrie_core.specs.Maps.{map_of}
-use Rattle.zerotrie_core.specs.Fits.{ExceedsCapacity}
+use Rattle.zerotrie_base.specs.Canonical.{size_of}
+use Rattle.zerotrie_base.specs.Maps.{map_of}
+use Rattle.zerotrie_base.specs.Fits.{ExceedsCapacity}
 use Rattle.zerotrie_build.specs.declared.measuring.Turn.TheVariants.{Window as NextWindow, Whole}
 use Rattle.zerotrie_build.specs.Order.{Ordered, AreKeys}
 use Rattle.zerotrie_build.specs.passes.Windows.{window}

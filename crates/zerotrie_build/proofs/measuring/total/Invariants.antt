@@ -1,5 +1,5 @@
 use Rattle.std.proofs.Common.{◌≡◌, ◌+◌, drop}
-use Rattle.zerotrie_core.specs.Branches.{total}
+use Rattle.zerotrie_base.specs.Branches.{total}
 use Rattle.zerotrie_build.proofs.measuring.total.Given as goal
 
 abbrev pub invariant-loop-len : goal.invariant-loop-len

@@ -1,5 +1,5 @@
 use Rattle.std.proofs.Common.{refl}
-use Rattle.zerotrie_core.specs.Numbers.{value_form}
+use Rattle.zerotrie_base.specs.Numbers.{value_form}
 use Rattle.zerotrie_build.proofs.measuring.value_len.Goals as goal
 
 pub returns : goal.returns

@@ -1,6 +1,6 @@
 use Rattle.std.proofs.Common.{ℕ, suc, ◌<◌}
 use Rattle.std.specs.Prelude.{◌≢◌}
-use Rattle.zerotrie_core.specs.Items.{pairs_of}
+use Rattle.zerotrie_base.specs.Items.{pairs_of}
 use Rattle.zerotrie_build.specs.Refused.{key_at}
 use Rattle.zerotrie_build.proofs.refusal.first_repeated.Given as goal
 

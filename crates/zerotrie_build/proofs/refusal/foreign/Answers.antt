@@ -1,6 +1,6 @@
 use Rattle.std.proofs.Common.{◌≡◌, refl, subst, sym}
-use Rattle.zerotrie_core.specs.Causes.{NonAsciiError}
-use Rattle.zerotrie_core.specs.Items.{keyed}
+use Rattle.zerotrie_base.specs.declared.error.ZeroTrieBuildError.TheVariants.{NonAsciiError}
+use Rattle.zerotrie_base.specs.Items.{keyed}
 use Rattle.zerotrie_build.specs.Refused.{AreShown}
 use Rattle.zerotrie_build.proofs.refusal.foreign.Goals as goal
 

@@ -1,6 +1,6 @@
 use Rattle.std.proofs.Common.{◌++◌, [], ◌∷◌, ap, subst, sym, rules}
 use Rattle.std.proofs.lemmas.List.Sorted.{IsPartitionPoint-from_clause}
-use Rattle.zerotrie_core.specs.Items.{keyed}
+use Rattle.zerotrie_base.specs.Items.{keyed}
 use Rattle.zerotrie_build.specs.passes.OtherCase.{BeginsThen}
 use Rattle.zerotrie_build.proofs.RefusalLemmas.Shown.{below_test, partitioned, below_place, from_place, none_begins}
 use Rattle.zerotrie_build.proofs.refusal.key_after.Goals as goal

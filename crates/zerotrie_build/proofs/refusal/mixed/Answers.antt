@@ -1,5 +1,5 @@
 use Rattle.std.proofs.Common.{◌-◌, ap, arith, subst}
-use Rattle.zerotrie_core.specs.Items.{keyed}
+use Rattle.zerotrie_base.specs.Items.{keyed}
 use Rattle.zerotrie_build.specs.Refused.{key_at, DifferInCase}
 use Rattle.zerotrie_build.specs.passes.OtherCase.{NoneHasOtherCase}
 use Rattle.zerotrie_build.proofs.RefusalLemmas.OtherCase.{no_turns, turns_consistent}

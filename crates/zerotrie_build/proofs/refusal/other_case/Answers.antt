@@ -1,7 +1,7 @@
 use Rattle.std.proofs.Common.{◌≡◌, ◌∙◌, arith, subst, sym, take, get_or}
 use Rattle.std.proofs.lemmas.Option.{IfSome_then}
-use Rattle.zerotrie_core.specs.Kind.{fold_byte}
-use Rattle.zerotrie_core.specs.Items.{keyed}
+use Rattle.zerotrie_base.specs.Kind.{fold_byte}
+use Rattle.zerotrie_base.specs.Items.{keyed}
 use Rattle.zerotrie_build.specs.Refused.{key_at}
 use Rattle.zerotrie_build.proofs.OrderLemmas.Parting.{common_most}
 use Rattle.zerotrie_build.specs.passes.OtherCase.{BeginsThen}

@@ -1,7 +1,7 @@
 use Rattle.std.proofs.Common.{◌≡◌, refl, subst, sym}
-use Rattle.zerotrie_core.specs.Causes.{Unsorted}
-use Rattle.zerotrie_core.specs.Kind.{simple_ascii}
-use Rattle.zerotrie_core.specs.Items.{keyed}
+use Rattle.zerotrie_base.specs.declared.error.ZeroTrieBuildError.TheVariants.{Unsorted}
+use Rattle.zerotrie_base.specs.Kind.{simple_ascii}
+use Rattle.zerotrie_base.specs.Items.{keyed}
 use Rattle.zerotrie_build.specs.Refused.{AreShown}
 use Rattle.zerotrie_build.proofs.OrderLemmas.Below.{below_before, ordered_ascends}
 use Rattle.zerotrie_build.proofs.refusal.unsorted.Goals as goal

@@ -1,7 +1,7 @@
 use Rattle.std.proofs.Common.{◌≡◌, ◌∙◌, sym}
-use Rattle.zerotrie_core.specs.Items.{keyed}
-use Rattle.zerotrie_core.specs.Routes.{ascending}
-use Rattle.zerotrie_core.specs.Causes.{Unsorted, DuplicateKey}
+use Rattle.zerotrie_base.specs.Items.{keyed}
+use Rattle.zerotrie_base.specs.Routes.{ascending}
+use Rattle.zerotrie_base.specs.declared.error.ZeroTrieBuildError.TheVariants.{Unsorted, DuplicateKey}
 use Rattle.zerotrie_build.proofs.RefusalLemmas.Shown.{why_shown, unsorted_any}
 use Rattle.zerotrie_build.proofs.refusal.why_slice_refused.Goals as goal
 

@@ -3,9 +3,9 @@ use Rattle.std.proofs.lemmas.List.{get_or_default, length-map}
 use Rattle.zerotrie_build.specs.passes.Windows.{item_no}
 use Rattle.zerotrie_build.specs.declared.sort.KeyPrefix.{KeyPrefix}
 use Rattle.std.specs.List.{range_with_len}
-use Rattle.zerotrie_core.specs.Items.{keyed, pairs_of}
-use Rattle.zerotrie_core.specs.Routes.{any_order}
-use Rattle.zerotrie_core.specs.Causes.{Unsorted, DuplicateKey, MixedCase}
+use Rattle.zerotrie_base.specs.Items.{keyed, pairs_of}
+use Rattle.zerotrie_base.specs.Routes.{any_order}
+use Rattle.zerotrie_base.specs.declared.error.ZeroTrieBuildError.TheVariants.{Unsorted, DuplicateKey, MixedCase}
 use Rattle.zerotrie_build.specs.passes.Sorts.{numbers_of}
 use Rattle.zerotrie_build.specs.Refused.{IsWhyRefused}
 use Rattle.zerotrie_build.proofs.Items.{count_pairs}

@@ -1,5 +1,5 @@
 use Rattle.std.proofs.Common.{◌↔◌, IsTrue, subst}
-use Rattle.zerotrie_core.specs.Kind.{simple_ascii}
+use Rattle.zerotrie_base.specs.Kind.{simple_ascii}
 use Rattle.zerotrie_build.specs.Order.{Before}
 use Rattle.zerotrie_build.proofs.TextLemmas.{above_last, last_lies}
 use Rattle.zerotrie_build.proofs.text_items.is_above_last.Goals as goal

@@ -1,6 +1,6 @@
 use Rattle.std.proofs.Common.{◌+◌, [], ◌∷◌, take, get_or, arith, ap}
 use Rattle.std.proofs.lemmas.List.{take_more, map-append}
-use Rattle.zerotrie_core.specs.Branches.{total as total_of}
+use Rattle.zerotrie_base.specs.Branches.{total as total_of}
 use Rattle.zerotrie_build.specs.passes.Writing.{target_lens}
 use Rattle.zerotrie_build.proofs.WriteLemmas.Puts.{total_take, total_push, lens_take}
 use Rattle.zerotrie_build.proofs.writing.total.Goals as goal

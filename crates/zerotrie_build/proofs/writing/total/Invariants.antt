@@ -1,5 +1,5 @@
 use Rattle.std.proofs.Common.{◌≡◌, take}
-use Rattle.zerotrie_core.specs.Branches.{total}
+use Rattle.zerotrie_base.specs.Branches.{total}
 use Rattle.zerotrie_build.specs.passes.Writing.{target_lens}
 use Rattle.zerotrie_build.proofs.writing.total.Given as goal
 

@@ -1,4 +1,4 @@
-use Rattle.zerotrie_core.proofs.MapLemmas.Kinds.{ascii_spanless}
+use Rattle.zerotrie_base.proofs.MapLemmas.Kinds.{ascii_spanless}
 use Rattle.zerotrie_core.proofs.CursorLemmas.Calls.{probe_text}
 use Rattle.zerotrie_core.proofs.cursor.probe.Goals as goal
 

@@ -1,5 +1,5 @@
 use Rattle.std.proofs.Common.{Some}
-use Rattle.zerotrie_core.proofs.MapLemmas.Kinds.{ascii_spanless}
+use Rattle.zerotrie_base.proofs.MapLemmas.Kinds.{ascii_spanless}
 use Rattle.zerotrie_core.proofs.CursorLemmas.Calls.{step_text}
 use Rattle.zerotrie_core.proofs.cursor.step.Goals as goal
 

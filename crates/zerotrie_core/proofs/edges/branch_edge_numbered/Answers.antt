@@ -1,5 +1,5 @@
 use Rattle.std.proofs.Common.{arith, Some, subst, sym}
-use Rattle.zerotrie_core.specs.Texts.{Lists}
+use Rattle.zerotrie_base.specs.Texts.{Lists}
 use Rattle.zerotrie_core.specs.Places.{IsProbe}
 use Rattle.zerotrie_core.proofs.CursorLemmas.Calls.{branch_number, branch_past_number, branch_no_target}
 use Rattle.zerotrie_core.proofs.edges.branch_edge_numbered.Goals as goal

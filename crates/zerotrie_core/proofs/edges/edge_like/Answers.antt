@@ -1,6 +1,6 @@
 use Rattle.std.proofs.Common.{refl, [], None}
 use Rattle.std.specs.Option.{option_map}
-use Rattle.zerotrie_core.specs.Texts.{Lists}
+use Rattle.zerotrie_base.specs.Texts.{Lists}
 use Rattle.zerotrie_core.specs.Places.{ListsAt}
 use Rattle.zerotrie_core.specs.cursor.Edges.{place_along}
 use Rattle.zerotrie_core.proofs.NodeLemmas.Read.{nothing_begins}

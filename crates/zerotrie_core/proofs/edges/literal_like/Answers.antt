@@ -4,7 +4,7 @@ use Rattle.std.specs.Prelude.{◌≡◌, [], IfSome}
 use Rattle.zerotrie_core.specs.cursor.Edges.{StepsFrom}
 use Rattle.zerotrie_core.proofs.Chosen.{chosen}
 use Rattle.zerotrie_core.proofs.CursorLemmas.Calls.{literal_along, literal_past}
-use Rattle.zerotrie_core.specs.Nodes.Shape.{literal}
+use Rattle.zerotrie_base.specs.Nodes.Shape.{literal}
 use Rattle.zerotrie_core.proofs.edges.literal_like.Goals as goal
 
 pub returns-clause-step : goal.returns-clause-step

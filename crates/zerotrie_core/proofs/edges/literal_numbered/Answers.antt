@@ -2,7 +2,7 @@ use Rattle.std.proofs.lemmas.Bool.{eqb-true, eqb-false}
 use Rattle.std.specs.Prelude.{◌≡◌, ◌≤◌, [], IfSome}
 use Rattle.std.proofs.Common.{arith}
 use Rattle.zerotrie_core.specs.cursor.Edges.{ProbesFrom}
-use Rattle.zerotrie_core.specs.Nodes.Shape.{literal}
+use Rattle.zerotrie_base.specs.Nodes.Shape.{literal}
 use Rattle.zerotrie_core.proofs.Chosen.{chosen}
 use Rattle.zerotrie_core.proofs.CursorLemmas.Calls.{literal_number, literal_past_number}
 use Rattle.zerotrie_core.proofs.edges.literal_numbered.Goals as goal

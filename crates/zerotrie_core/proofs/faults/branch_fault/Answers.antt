@@ -1,5 +1,5 @@
 use Rattle.std.proofs.Common.{◌-◌, ◌*◌, length, drop, subst}
-use Rattle.zerotrie_core.specs.Branches.{IsWidth}
+use Rattle.zerotrie_base.specs.Branches.{IsWidth}
 use Rattle.zerotrie_core.specs.well_formed.Branching.{AreBytes}
 use Rattle.zerotrie_core.proofs.faults.branch_fault.Goals as goal
 

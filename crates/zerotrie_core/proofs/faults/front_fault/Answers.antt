@@ -1,7 +1,7 @@
 use Rattle.std.proofs.Common.{arith}
 use Rattle.std.specs.Option.{option_map}
 use Rattle.zerotrie_core.specs.Shapes.{shape}
-use Rattle.zerotrie_core.proofs.NumberLemmas.Numbers.{IsBytes}
+use Rattle.zerotrie_base.proofs.NumberLemmas.Numbers.{IsBytes}
 use Rattle.zerotrie_core.proofs.FaultLemmas.Rules.{node_begins, none_read, some_by}
 use Rattle.zerotrie_core.proofs.faults.front_fault.Goals as goal
 

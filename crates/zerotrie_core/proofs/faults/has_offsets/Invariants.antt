@@ -1,5 +1,5 @@
 use Rattle.std.proofs.Common.{◌≡◌, ◌<◌}
-use Rattle.zerotrie_core.specs.Nodes.{begin_of}
+use Rattle.zerotrie_base.specs.Nodes.{begin_of}
 use Rattle.zerotrie_core.specs.well_formed.Branching.{InOrder}
 use Rattle.zerotrie_core.proofs.faults.has_offsets.Given as goal
 

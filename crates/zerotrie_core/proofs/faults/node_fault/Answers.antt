@@ -1,4 +1,4 @@
-use Rattle.zerotrie_core.proofs.NodeLemmas.Nodes.{none_by}
+use Rattle.zerotrie_base.proofs.NodeLemmas.Nodes.{none_by}
 use Rattle.zerotrie_core.proofs.FaultLemmas.Rules.{some_by}
 use Rattle.zerotrie_core.proofs.faults.node_fault.Goals as goal
 

@@ -1,6 +1,6 @@
 use Rattle.std.proofs.Common.{◌≡◌, ◌∷◌, ◌+◌, ◌-◌, ◌*◌, ◌/◌, ◌%◌, subst, arith}
-use Rattle.zerotrie_core.specs.Numbers.{BeginsWith}
-use Rattle.zerotrie_core.proofs.NodeLemmas.Nodes.{small_head, none_by}
+use Rattle.zerotrie_base.specs.Numbers.{BeginsWith}
+use Rattle.zerotrie_base.proofs.NodeLemmas.Nodes.{small_head, none_by}
 use Rattle.zerotrie_core.proofs.node.branch_at.Goals as goal
 use Rattle.zerotrie_core.proofs.node.branch_at.Goals.{then-head-eq0, else-head-eq0}
 

@@ -1,6 +1,6 @@
 use Rattle.std.proofs.Common.{◌+◌, ◌-◌, ◌*◌, ◌≤◌, length, arith}
-use Rattle.zerotrie_core.specs.Branches.{table_size}
-use Rattle.zerotrie_core.proofs.NodeLemmas.Nodes.{head_read}
+use Rattle.zerotrie_base.specs.Branches.{table_size}
+use Rattle.zerotrie_base.proofs.NodeLemmas.Nodes.{head_read}
 use Rattle.zerotrie_core.proofs.node.branch_in.Goals as goal
 use Rattle.zerotrie_core.proofs.node.branch_in.Goals.{then-width-greatest_width-via-then-width-greatest_width, then-width-greatest_width-via-else-width-greatest_width+then-edges-lt2}
 

@@ -1,7 +1,7 @@
 use Rattle.std.proofs.Common.{◌∷◌, ◌++◌, length, arith}
-use Rattle.zerotrie_core.specs.Nodes.Shape.{value, span}
+use Rattle.zerotrie_base.specs.Nodes.Shape.{value, span}
 use Rattle.zerotrie_core.specs.Shapes.{branch_shape}
-use Rattle.zerotrie_core.proofs.NodeLemmas.Nodes.{value_begins, only_branch, only_number}
+use Rattle.zerotrie_base.proofs.NodeLemmas.Nodes.{value_begins, only_branch, only_number}
 use Rattle.zerotrie_core.proofs.NodeLemmas.Read.{node_begun, none_begun}
 use Rattle.zerotrie_core.proofs.node.first_node.Goals as goal
 

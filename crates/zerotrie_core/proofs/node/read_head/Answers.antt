@@ -1,9 +1,9 @@
 use Rattle.std.proofs.Common.{arith, subst, sym, ◌∷◌, ◌%◌, ◌*◌, ◌+◌, ◌≤◌}
 use Rattle.std.proofs.lemmas.Bool.{ltb-true, ltb-false}
 use Rattle.std.specs.Prelude.{ℕ, List, IfSome, IfNone}
-use Rattle.zerotrie_core.specs.Numbers.{BeginsWith}
+use Rattle.zerotrie_base.specs.Numbers.{BeginsWith}
 use Rattle.zerotrie_core.proofs.Chosen.{chosen}
-use Rattle.zerotrie_core.proofs.NodeLemmas.Heads.{head_of_one, head_of_two, head_long}
+use Rattle.zerotrie_base.proofs.NodeLemmas.Heads.{head_of_one, head_of_two, head_long}
 use Rattle.zerotrie_core.proofs.node.read_head.Goals as goal
 
 pub returns-then-lead-lt224-clause-found : goal.returns-then-lead-lt224-clause-found

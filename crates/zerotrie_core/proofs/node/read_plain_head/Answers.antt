@@ -1,6 +1,6 @@
 use Rattle.std.proofs.Common.{◌∷◌, ◌-◌, ◌*◌, ◌/◌, ◌%◌, ◌+◌, subst, sym, arith}
-use Rattle.zerotrie_core.specs.Numbers.{BeginsWith}
-use Rattle.zerotrie_core.proofs.NodeLemmas.Heads.{plain_of_one, plain_of_two}
+use Rattle.zerotrie_base.specs.Numbers.{BeginsWith}
+use Rattle.zerotrie_base.proofs.NodeLemmas.Heads.{plain_of_one, plain_of_two}
 use Rattle.zerotrie_core.proofs.node.read_plain_head.Goals as goal
 
 pub returns-then-lead-lt224-clause-begins : goal.returns-then-lead-lt224-clause-begins

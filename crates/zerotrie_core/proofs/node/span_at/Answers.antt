@@ -1,5 +1,5 @@
 use Rattle.std.proofs.Common.{◌++◌, ap, length, length-append, arith}
-use Rattle.zerotrie_core.proofs.NumberLemmas.Numbers.{one_reading}
+use Rattle.zerotrie_base.proofs.NumberLemmas.Numbers.{one_reading}
 use Rattle.zerotrie_core.proofs.node.span_at.Goals as goal
 
 pub returns-in_err-len-clause-none : goal.returns-in_err-len-clause-none

@@ -1,5 +1,5 @@
 use Rattle.std.proofs.Common.{sym}
-use Rattle.zerotrie_core.proofs.NodeLemmas.Fronts.{width_by_bits}
+use Rattle.zerotrie_base.proofs.NodeLemmas.Fronts.{width_by_bits}
 use Rattle.zerotrie_core.proofs.offsets.least_width.Goals as goal
 
 pub returns-clause-width : goal.returns-clause-width

@@ -1,6 +1,6 @@
 use Rattle.std.proofs.Common.{◌≡◌, ◌<◌, arith, get_or, refl, subst, ℕ}
-use Rattle.zerotrie_core.specs.Nodes.{number_from}
-use Rattle.zerotrie_core.proofs.NodeLemmas.Offsets.{rest_long, below_more, number_more, none_left, all_left}
+use Rattle.zerotrie_base.specs.Nodes.{number_from}
+use Rattle.zerotrie_base.proofs.NodeLemmas.Offsets.{rest_long, below_more, number_more, none_left, all_left}
 use Rattle.zerotrie_core.proofs.offsets.long_offset_at.Goals as goal
 
 pub overflow_mul-value : goal.overflow_mul-value

@@ -1,5 +1,5 @@
 use Rattle.std.proofs.Common.{◌≡◌, ◌*◌, ◌-◌, ◌<◌, ◌^◌, length}
-use Rattle.zerotrie_core.specs.Nodes.{number_from}
+use Rattle.zerotrie_base.specs.Nodes.{number_from}
 use Rattle.zerotrie_core.proofs.offsets.long_offset_at.Given as goal
 
 abbrev pub invariant-loop-block : goal.invariant-loop-block

@@ -1,12 +1,12 @@
 use Rattle.std.proofs.Common.{◌+◌, ◌<◌, ◌≤◌, ◌∷◌, ◌++◌, [], ℕ, length, arith, drop, length-append, ◌∙◌, ap, subst, sym}
 use Rattle.std.specs.Prelude.{Result, Ok, Err, OnOk}
 use Rattle.std.proofs.lemmas.Result.{on_ok_weaker, IfErr-weaker, err_from_is_err_and}
-use Rattle.zerotrie_core.specs.Kind.{simple_ascii}
-use Rattle.zerotrie_core.specs.Texts.{Lists}
-use Rattle.zerotrie_core.specs.Canonical.{branch_node}
-use Rattle.zerotrie_core.specs.plain.Encoding.{pairs_from, IsBranching, weight}
-use Rattle.zerotrie_core.proofs.PlainLemmas.Groups.{Grown, grown_start, grown_more, grown_lists, grown_targets, grown_wide, grown_starts, group_up, group_ascii, group_lighter, group_wide, refused_up, refused_branch, same_targets, leads_end}
-use Rattle.zerotrie_core.proofs.PlainLemmas.Cuts.{is_group, deep_group, deep_others, none_ends, no_pairs, is_none, begun, deep_rest, leads_rest, grown_end}
+use Rattle.zerotrie_base.specs.Kind.{simple_ascii}
+use Rattle.zerotrie_base.specs.Texts.{Lists}
+use Rattle.zerotrie_base.specs.Canonical.{branch_node}
+use Rattle.zerotrie_base.specs.plain.Encoding.{pairs_from, IsBranching, weight}
+use Rattle.zerotrie_base.proofs.PlainLemmas.Groups.{Grown, grown_start, grown_more, grown_lists, grown_targets, grown_wide, grown_starts, group_up, group_ascii, group_lighter, group_wide, refused_up, refused_branch, same_targets, leads_end}
+use Rattle.zerotrie_base.proofs.PlainLemmas.Cuts.{is_group, deep_group, deep_others, none_ends, no_pairs, is_none, begun, deep_rest, leads_rest, grown_end}
 use Rattle.zerotrie_core.proofs.plain.+encode.Goals as goal
 
 pub returns-then-is_empty-clause-ok : goal.returns-then-is_empty-clause-ok

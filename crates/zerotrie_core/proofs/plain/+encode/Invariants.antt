@@ -1,6 +1,6 @@
 use Rattle.std.proofs.Common.{◌+◌, drop, length}
-use Rattle.zerotrie_core.specs.plain.Encoding.{pairs_from, Deep, weight}
-use Rattle.zerotrie_core.proofs.PlainLemmas.Groups.{Grown}
+use Rattle.zerotrie_base.specs.plain.Encoding.{pairs_from, Deep, weight}
+use Rattle.zerotrie_base.proofs.PlainLemmas.Groups.{Grown}
 use Rattle.zerotrie_core.proofs.plain.+encode.Given as goal
 
 abbrev pub decreases-encode : goal.decreases-encode

@@ -2,7 +2,7 @@ use Rattle.std.proofs.Common.{nat_lt, rules, tests}
 use Rattle.std.specs.List.{list_all}
 use Rattle.std.proofs.lemmas.Iterator.Search.{all_from_yields_List}
 use Rattle.std.proofs.lemmas.Iterator.{YieldsList-from_slice}
-use Rattle.zerotrie_core.proofs.PlainLemmas.Items.{ascii_told}
+use Rattle.zerotrie_base.proofs.PlainLemmas.Items.{ascii_told}
 use Rattle.zerotrie_core.proofs.plain.are_ascii.Goals as goal
 
 pub returns : goal.returns

@@ -1,6 +1,6 @@
 use Rattle.std.proofs.Common.{◌<◌, ◌∙◌, ◌++◌, length, drop, ap, refl, subst, sym}
 use Rattle.std.proofs.lemmas.List.{take-append-drop}
-use Rattle.zerotrie_core.proofs.PlainLemmas.Cuts.{some_group}
+use Rattle.zerotrie_base.proofs.PlainLemmas.Cuts.{some_group}
 use Rattle.zerotrie_core.proofs.plain.first_group.Goals as goal
 
 pub returns-clause-parts : goal.returns-clause-parts

@@ -1,7 +1,7 @@
 use Rattle.std.proofs.Common.{take, subst, sym}
 use Rattle.std.proofs.lemmas.List.{take_more}
-use Rattle.zerotrie_core.specs.plain.Encoding.{BeginsAll}
-use Rattle.zerotrie_core.proofs.PlainLemmas.Items.{BeginsAll-push}
+use Rattle.zerotrie_base.specs.plain.Encoding.{BeginsAll}
+use Rattle.zerotrie_base.proofs.PlainLemmas.Items.{BeginsAll-push}
 use Rattle.zerotrie_core.proofs.plain.group_len.Goals as goal
 
 pub loop-i-preserved : goal.loop-i-preserved

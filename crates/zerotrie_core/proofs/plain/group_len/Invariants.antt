@@ -1,5 +1,5 @@
 use Rattle.std.proofs.Common.{take}
-use Rattle.zerotrie_core.specs.plain.Encoding.{BeginsAll}
+use Rattle.zerotrie_base.specs.plain.Encoding.{BeginsAll}
 use Rattle.zerotrie_core.proofs.plain.group_len.Given as goal
 
 abbrev pub invariant-loop-i : goal.invariant-loop-i

@@ -1,5 +1,5 @@
 use Rattle.std.proofs.Common.{◌-◌, arith, refl}
-use Rattle.zerotrie_core.proofs.PlainLemmas.Items.{ascends_all, ascends_not, ascends_more, below_by_less, key_at}
+use Rattle.zerotrie_base.proofs.PlainLemmas.Items.{ascends_all, ascends_not, ascends_more, below_by_less, key_at}
 use Rattle.zerotrie_core.proofs.plain.is_ascending.Goals as goal
 
 pub returns-then-not-lt : goal.returns-then-not-lt

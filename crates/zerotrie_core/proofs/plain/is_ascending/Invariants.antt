@@ -1,4 +1,4 @@
-use Rattle.zerotrie_core.proofs.PlainLemmas.Items.{AscendsTo}
+use Rattle.zerotrie_base.proofs.PlainLemmas.Items.{AscendsTo}
 use Rattle.zerotrie_core.proofs.plain.is_ascending.Given as goal
 
 abbrev pub invariant-loop-i : goal.invariant-loop-i

@@ -1,8 +1,8 @@
 use Rattle.std.proofs.Common.{arith, sym, ◌∙◌, subst, inr}
 use Rattle.std.proofs.lemmas.Result.{err_from_is_err_and}
-use Rattle.zerotrie_core.specs.Items.{pairs_of}
-use Rattle.zerotrie_core.specs.plain.Encoding.{Writes}
-use Rattle.zerotrie_core.proofs.PlainLemmas.Refusals.{deep_none, ascii_keys, some_high, refusal_cause, written_built}
+use Rattle.zerotrie_base.specs.Items.{pairs_of}
+use Rattle.zerotrie_base.specs.plain.Encoding.{Writes}
+use Rattle.zerotrie_base.proofs.PlainLemmas.Refusals.{deep_none, ascii_keys, some_high, refusal_cause, written_built}
 use Rattle.zerotrie_core.proofs.plain.plain_encode.Goals as goal
 
 pub returns-then-not-are_ascii : goal.returns-then-not-are_ascii

@@ -1,9 +1,9 @@
 use Rattle.std.proofs.Common.{◌≡◌, ◌+◌, ◌≤◌, length, arith, drop, sym, ◌∙◌, ap, subst}
-use Rattle.zerotrie_core.specs.Maps.{with_front}
-use Rattle.zerotrie_core.specs.plain.Encoding.{pairs_from, Deep, IsBranching, WritesFront, weight}
-use Rattle.zerotrie_core.proofs.PlainLemmas.Items.{key_at}
-use Rattle.zerotrie_core.proofs.PlainLemmas.Groups.{leads_value, leads_literal}
-use Rattle.zerotrie_core.proofs.PlainLemmas.Cuts.{ended, deep_next, deep_here, deeper, shared, some_rest, branches, is_some, is_none, literal_lighter}
+use Rattle.zerotrie_base.specs.Maps.{with_front}
+use Rattle.zerotrie_base.specs.plain.Encoding.{pairs_from, Deep, IsBranching, WritesFront, weight}
+use Rattle.zerotrie_base.proofs.PlainLemmas.Items.{key_at}
+use Rattle.zerotrie_base.proofs.PlainLemmas.Groups.{leads_value, leads_literal}
+use Rattle.zerotrie_base.proofs.PlainLemmas.Cuts.{ended, deep_next, deep_here, deeper, shared, some_rest, branches, is_some, is_none, literal_lighter}
 use Rattle.zerotrie_core.proofs.plain.push_run.Goals as goal
 
 pub loop-at-preserved-then-key_len-depth : goal.loop-at-preserved-then-key_len-depth

@@ -1,5 +1,5 @@
 use Rattle.std.proofs.Common.{◌≤◌, length, drop}
-use Rattle.zerotrie_core.specs.plain.Encoding.{pairs_from, Deep, WritesFront, weight}
+use Rattle.zerotrie_base.specs.plain.Encoding.{pairs_from, Deep, WritesFront, weight}
 use Rattle.zerotrie_core.proofs.plain.push_run.Given as goal
 
 abbrev pub invariant-loop-at : goal.invariant-loop-at

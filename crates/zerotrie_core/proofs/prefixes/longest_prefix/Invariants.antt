@@ -1,6 +1,6 @@
 use Rattle.std.specs.Prelude.{◌≤◌, IfSome}
-use Rattle.zerotrie_core.specs.Maps.{Pairs}
-use Rattle.zerotrie_core.specs.Texts.{Lists}
+use Rattle.zerotrie_base.specs.Maps.{Pairs}
+use Rattle.zerotrie_base.specs.Texts.{Lists}
 use Rattle.zerotrie_core.proofs.CursorLemmas.Longest.{GoesAlong}
 use Rattle.zerotrie_core.proofs.prefixes.longest_prefix.Given as goal
 

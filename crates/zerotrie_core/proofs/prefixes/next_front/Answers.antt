@@ -1,6 +1,6 @@
 use Rattle.std.proofs.Common.{◌≡◌, ◌≤◌, sym, subst, arith, length, Some, None}
 use Rattle.std.proofs.lemmas.Bool.{ltb-false}
-use Rattle.zerotrie_core.specs.Kind.{kind_with}
+use Rattle.zerotrie_base.specs.Kind.{kind_with}
 use Rattle.zerotrie_core.specs.Places.{ListsAt, IsStep}
 use Rattle.zerotrie_core.specs.Prefixes.{along}
 use Rattle.zerotrie_core.proofs.CursorLemmas.CommonPrefixes.{stays, found, passed, stepped, stopped, ended}

@@ -1,5 +1,5 @@
 use Rattle.std.proofs.Common.{◌≡◌, ◌-◌, ◌≤◌, length, true}
-use Rattle.zerotrie_core.specs.Kind.{kind_with}
+use Rattle.zerotrie_base.specs.Kind.{kind_with}
 use Rattle.zerotrie_core.specs.Prefixes.{along}
 use Rattle.zerotrie_core.proofs.CursorLemmas.CommonPrefixes.{GoesOn}
 use Rattle.zerotrie_core.proofs.prefixes.next_front.Given as goal

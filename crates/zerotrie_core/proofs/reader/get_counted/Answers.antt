@@ -1,8 +1,8 @@
 use Rattle.std.proofs.Common.{◌+◌, arith, None}
-use Rattle.zerotrie_core.specs.reader.Reading.{AlwaysFinds}
+use Rattle.zerotrie_base.specs.reader.Reading.{AlwaysFinds}
 use Rattle.zerotrie_core.proofs.NodeLemmas.Read.{nothing_begins}
 use Rattle.zerotrie_core.proofs.ReaderLemmas.LookUps.{comes_nowhere, comes_more, finds_at_end, finds_nothing}
-use Rattle.zerotrie_core.proofs.MapLemmas.Maps.{value_found, count_found}
+use Rattle.zerotrie_base.proofs.MapLemmas.Maps.{value_found, count_found}
 use Rattle.zerotrie_core.proofs.reader.get_counted.Goals as goal
 
 pub loop-node-init : goal.loop-node-init

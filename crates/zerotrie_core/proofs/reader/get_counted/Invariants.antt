@@ -1,5 +1,5 @@
 use Rattle.std.proofs.Common.{◌+◌, ◌≤◌, length}
-use Rattle.zerotrie_core.specs.reader.Reading.{AlwaysComes}
+use Rattle.zerotrie_base.specs.reader.Reading.{AlwaysComes}
 use Rattle.zerotrie_core.proofs.reader.get_counted.Given as goal
 
 abbrev pub invariant-loop-node : goal.invariant-loop-node

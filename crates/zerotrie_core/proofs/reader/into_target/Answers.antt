@@ -1,7 +1,7 @@
 use Rattle.std.proofs.Common.{arith}
 use Rattle.std.proofs.lemmas.List.{nil_from_length}
 use Rattle.zerotrie_core.specs.Shapes.{branch_shape}
-use Rattle.zerotrie_core.proofs.NodeLemmas.Nodes.{branch_shorter}
+use Rattle.zerotrie_base.proofs.NodeLemmas.Nodes.{branch_shorter}
 use Rattle.zerotrie_core.proofs.ReaderLemmas.LookUps.{branch_ends, node_ends, node_goes}
 use Rattle.zerotrie_core.proofs.reader.into_target.Goals as goal
 

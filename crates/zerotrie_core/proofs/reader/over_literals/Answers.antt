@@ -1,6 +1,6 @@
 use Rattle.std.proofs.Common.{sym, ◌∙◌}
 use Rattle.std.proofs.lemmas.List.{nil_from_length}
-use Rattle.zerotrie_core.specs.Nodes.Shape.{literal}
+use Rattle.zerotrie_base.specs.Nodes.Shape.{literal}
 use Rattle.zerotrie_core.proofs.ReaderLemmas.Edges.{literal_past}
 use Rattle.zerotrie_core.proofs.ReaderLemmas.Literals.{literal_run}
 use Rattle.zerotrie_core.proofs.ReaderLemmas.LookUps.{literal_ends, node_ends}

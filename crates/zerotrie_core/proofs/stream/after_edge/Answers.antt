@@ -1,10 +1,10 @@
 use Rattle.std.proofs.Common.{◌∙◌, ap, sym}
 use Rattle.std.proofs.lemmas.Bool.{eqb-true, eqb-false}
 use Rattle.std.specs.Option.{option_map}
-use Rattle.zerotrie_core.specs.Kind.{fold_byte}
+use Rattle.zerotrie_base.specs.Kind.{fold_byte}
 use Rattle.zerotrie_core.specs.listing.Passed.{IsAfterEdge}
 use Rattle.zerotrie_core.proofs.Chosen.{chosen}
-use Rattle.zerotrie_core.proofs.NumberLemmas.Numbers.{cons_parts}
+use Rattle.zerotrie_base.proofs.NumberLemmas.Numbers.{cons_parts}
 use Rattle.zerotrie_core.proofs.stream.after_edge.Goals as goal
 
 pub returns : goal.returns

@@ -1,6 +1,6 @@
 use Rattle.std.proofs.Common.{◌∙◌, [], refl, ap, arith, sym}
 use Rattle.std.proofs.lemmas.List.{take_all}
-use Rattle.zerotrie_core.specs.Maps.{same_key}
+use Rattle.zerotrie_base.specs.Maps.{same_key}
 use Rattle.zerotrie_core.proofs.ListingLemmas.Passed.{front_none, front_more}
 use Rattle.zerotrie_core.proofs.stream.after_front.Goals as goal
 

@@ -1,5 +1,5 @@
 use Rattle.std.proofs.Common.{◌≡◌, ◌++◌, List, ℕ, take, true}
-use Rattle.zerotrie_core.specs.Maps.{same_key}
+use Rattle.zerotrie_base.specs.Maps.{same_key}
 use Rattle.zerotrie_core.proofs.stream.after_front.Given as goal
 
 abbrev pub invariant-loop-edge : goal.invariant-loop-edge

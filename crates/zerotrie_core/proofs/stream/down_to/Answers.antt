@@ -1,6 +1,6 @@
 use Rattle.std.proofs.Common.{◌∙◌, ap, arith, sym}
 use Rattle.std.proofs.lemmas.List.{drop_more}
-use Rattle.zerotrie_core.specs.Maps.{with_run}
+use Rattle.zerotrie_base.specs.Maps.{with_run}
 use Rattle.zerotrie_core.proofs.ListingLemmas.Left.{run_run}
 use Rattle.zerotrie_core.proofs.ListingLemmas.Passed.{place_below}
 use Rattle.zerotrie_core.proofs.ListingLemmas.Prefixes.{starts, goes_on, stops, all_stepped}

@@ -1,5 +1,5 @@
-use Rattle.zerotrie_core.specs.Maps.{Pairs}
-use Rattle.zerotrie_core.specs.Texts.{Lists}
+use Rattle.zerotrie_base.specs.Maps.{Pairs}
+use Rattle.zerotrie_base.specs.Texts.{Lists}
 use Rattle.zerotrie_core.proofs.ListingLemmas.Prefixes.{Stepped}
 use Rattle.zerotrie_core.proofs.stream.down_to.Given as goal
 

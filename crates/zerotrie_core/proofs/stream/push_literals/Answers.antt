@@ -1,7 +1,7 @@
-use Rattle.std.proofs.Common.{◌≡◌, ◌<◌, ◌≤◌, ◌∙◌, ◌+◌, ℕ, zero, suc, List, arith, ap, inl, inr, length, slice_index, take}
+use Rattle.std.proofs.Common.{◌≡◌, ◌<◌, ◌≤◌, ℕ, zero, suc, List, arith, inl, inr, slice_index}
 use Rattle.std.proofs.lemmas.Bool.{cases_lt}
-use Rattle.std.proofs.lemmas.Grind.{common_steps}
-use Rattle.zerotrie_core.proofs.ListingLemmas.Left.{moves_sixteen}
+use Rattle.std.proofs.lemmas.Result.{IfOk-weaker}
+use Rattle.zerotrie_core.proofs.ListingLemmas.Left.{moves_some}
 use Rattle.zerotrie_core.proofs.stream.push_literals.Goals as goal
 
 -- all bytes that are moved are literals: those that were counted, or the one that stands there
@@ -14,13 +14,10 @@ low_at bytes m n is first low (suc k) h = elim (cases_lt 0 m) [
 
 pub returns : goal.returns
 returns g c =
-    let here = c.args.here in
-    let n = c.max-count.result in
-    let len : c.len-len.result ≡ length c.args.key.now.items = grind (arith, common_steps) in
-    let within = c.literals.ensures.within in
-    let most = c.literals.ensures.most in
+    let rest = c.args.here.rest.now in
+    let n = c.max.result in
+    let told = c.literals.ensures in
+    let within = told.within in
     let some = c.requires.some in
-    moves_sixteen here.rest.now here.tail.now c.args.key.now.items c.after-2.result.rest.now c.truncate.new.self.items c.split_at.result.0.now n here.lies c.split_at.ensures.front
-    (omega arith) (omega arith) (omega arith) (low_at here.rest.now c.literals.result n (omega arith) c.requires.literal c.literals.ensures.literals)
-    c.after-2.ensures
-    (c.truncate.ensures.items ∙ ap (λ m. take (m + n) c.extend_from_slice.new.self.items) len ∙ ap (take (length c.args.key.now.items + n)) c.in_ok-extend_from_slice.ensures.items)
+    let low = low_at rest c.literals.result n (omega arith) c.requires.literal told.literals in
+    IfOk-weaker _ _ _ (λ next. moves_some rest c.args.key.now.items next.rest.now c.push_some.new.key.items n (omega arith) (omega arith) low) c.push_some.ensures

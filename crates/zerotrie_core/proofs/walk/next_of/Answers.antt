@@ -1,5 +1,5 @@
 use Rattle.std.proofs.Common.{◌∙◌, sym}
-use Rattle.zerotrie_core.specs.Kind.{kind_with}
+use Rattle.zerotrie_base.specs.Kind.{kind_with}
 use Rattle.zerotrie_core.specs.Shapes.{shape}
 use Rattle.zerotrie_core.proofs.WalkLemmas.Visits.{left_none, left_node}
 use Rattle.zerotrie_core.proofs.walk.next_of.Goals as goal

@@ -1,5 +1,5 @@
 use Rattle.std.proofs.Common.{◌≡◌, length}
-use Rattle.zerotrie_core.specs.Kind.{kind_with}
+use Rattle.zerotrie_base.specs.Kind.{kind_with}
 use Rattle.zerotrie_core.specs.walk.Seen.{visits_left}
 use Rattle.zerotrie_core.proofs.walk.next_of.Given as goal
 

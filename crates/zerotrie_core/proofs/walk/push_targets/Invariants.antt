@@ -1,5 +1,5 @@
 use Rattle.std.proofs.Common.{◌≡◌, ◌-◌, ◌<◌, ◌≤◌, ◌++◌, length, map}
-use Rattle.zerotrie_core.specs.Nodes.{targets_behind, begin_of}
+use Rattle.zerotrie_base.specs.Nodes.{targets_behind, begin_of}
 use Rattle.zerotrie_core.specs.walk.Visits.{target_parts}
 use Rattle.zerotrie_core.specs.walk.Seen.{part_of}
 use Rattle.zerotrie_core.proofs.walk.push_targets.Given as goal

@@ -2,19 +2,19 @@ use Rattle.std.proofs.Common.{◌≡◌, ℕ, zero, suc, ◌+◌, ◌-◌, ◌*�
 use Rattle.std.specs.Prelude.{max, ◌≢◌, ◌↔◌, IsTrue}
 use Rattle.std.proofs.lemmas.List.{nil_from_length, length-drop, length-take-le}
 use Rattle.std.proofs.lemmas.Bool.{eqb-true, eqb-false, cases_lt}
-use Rattle.zerotrie_core.specs.Kind.{Kind}
-use Rattle.zerotrie_core.specs.Texts.Lists.{nothing}
+use Rattle.zerotrie_base.specs.Kind.{Kind}
+use Rattle.zerotrie_base.specs.Texts.Lists.{nothing}
 use Rattle.zerotrie_core.specs.declared.well_formed.Expected.{Expected}
-use Rattle.zerotrie_core.specs.Nodes.{Begins, begin_of}
+use Rattle.zerotrie_base.specs.Nodes.{Begins, begin_of}
 use Rattle.zerotrie_core.specs.Shapes.{branch_shape}
-use Rattle.zerotrie_core.specs.Maps.{Map}
-use Rattle.zerotrie_core.specs.Texts.{Means}
+use Rattle.zerotrie_base.specs.Maps.{Map}
+use Rattle.zerotrie_base.specs.Texts.{Means}
 use Rattle.zerotrie_core.specs.WellFormed.{IsWellFormed, IsShallow, deep}
 use Rattle.zerotrie_core.specs.listing.Runs.{EndsWith}
 use Rattle.zerotrie_core.specs.well_formed.Testing.{IsText, IsAllowed, IsPastValue, ReducesTo}
 use Rattle.zerotrie_core.proofs.NodeLemmas.Read.{nothing_begins}
 use Rattle.zerotrie_core.proofs.WellFormedLemmas.Depth.{shallow_one, shallow_max, shallow_longer, deep_no_node, deep_some}
-use Rattle.zerotrie_core.proofs.NodeLemmas.Nodes.{branch_shorter}
+use Rattle.zerotrie_base.proofs.NodeLemmas.Nodes.{branch_shorter}
 use Rattle.zerotrie_core.proofs.ListingLemmas.Left.{branch_end, ends_drop}
 use Rattle.zerotrie_core.proofs.WellFormedLemmas.Steps.{reduces_at, reduces_more, past_reduces, past_within, no_bytes}
 use Rattle.zerotrie_core.proofs.WellFormedLemmas.Targets.{Passed, passed_first, passed_more, passed_all, shorter_there, no_target, target_some, both_some, next_begin, text_well, well_text, text_means}

@@ -1,6 +1,6 @@
 use Rattle.std.proofs.Common.{◌≡◌, ◌≤◌, ◌<◌, ◌+◌, ◌*◌, [], length, take}
 use Rattle.std.specs.Prelude.{◌≢◌}
-use Rattle.zerotrie_core.specs.Nodes.{begin_of}
+use Rattle.zerotrie_base.specs.Nodes.{begin_of}
 use Rattle.zerotrie_core.specs.WellFormed.{IsShallow}
 use Rattle.zerotrie_core.specs.well_formed.Testing.{IsText, IsAllowed, ReducesTo}
 use Rattle.zerotrie_core.proofs.WellFormedLemmas.Targets.{Passed}

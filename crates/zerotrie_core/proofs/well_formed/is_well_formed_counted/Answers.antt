@@ -1,8 +1,8 @@
 use Rattle.std.proofs.Common.{◌≡◌, length, subst, arith}
 use Rattle.std.specs.Prelude.{◌↔◌, IsTrue}
 use Rattle.std.proofs.lemmas.List.{take_all}
-use Rattle.zerotrie_core.specs.Maps.{Map}
-use Rattle.zerotrie_core.specs.Texts.{Means}
+use Rattle.zerotrie_base.specs.Maps.{Map}
+use Rattle.zerotrie_base.specs.Texts.{Means}
 use Rattle.zerotrie_core.specs.WellFormed.{IsWellFormed, IsShallow, deep}
 use Rattle.zerotrie_core.proofs.well_formed.is_well_formed_counted.Goals as goal
 

@@ -1,4 +1,4 @@
-use Rattle.zerotrie_core.proofs.NodeLemmas.Nodes.{span_shorter}
+use Rattle.zerotrie_base.proofs.NodeLemmas.Nodes.{span_shorter}
 use Rattle.zerotrie_core.proofs.ListingLemmas.Left.{span_end}
 use Rattle.zerotrie_core.proofs.WellFormedLemmas.Steps.{span_reduces, span_high, span_allowed, span_unfit}
 use Rattle.zerotrie_core.proofs.well_formed.span_step.Goals as goal

@@ -1,4 +1,4 @@
-use Rattle.zerotrie_core.proofs.NumberLemmas.Numbers.{after_shorter}
+use Rattle.zerotrie_base.proofs.NumberLemmas.Numbers.{after_shorter}
 use Rattle.zerotrie_core.proofs.ListingLemmas.Left.{value_end}
 use Rattle.zerotrie_core.proofs.WellFormedLemmas.Steps.{value_reduces, value_allowed, value_unfit}
 use Rattle.zerotrie_core.proofs.well_formed.value_step.Goals as goal

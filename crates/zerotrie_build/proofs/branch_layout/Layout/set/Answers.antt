@@ -1,8 +1,9 @@
 use Rattle.std.proofs.Common.{rules, ◌≡◌, ◌≢◌, ◌+◌, ◌-◌, ◌*◌, ◌<◌, ◌^◌, List, map, length, take, drop, sym, ap, ◌∙◌, subst, arith}
 use Rattle.std.specs.List.Sorted.{IsStrictlyIncreasing}
 use Rattle.zerotrie_base.specs.Refusals.{IsTableRefusal}
-use Rattle.zerotrie_core.specs.Kind.{is_hashed}
-use Rattle.zerotrie_core.specs.Causes.{AreCrooked, CouldNotSolvePerfectHash, OutOfMemory}
+use Rattle.zerotrie_base.specs.Kind.{is_hashed}
+use Rattle.zerotrie_base.specs.Causes.{AreCrooked}
+use Rattle.zerotrie_base.specs.declared.error.ZeroTrieBuildError.TheVariants.{CouldNotSolvePerfectHash, OutOfMemory}
 use Rattle.zerotrie_build.specs.declared.windows.Window.{Window}
 use Rattle.zerotrie_build.specs.passes.Windows.{edge_of}
 use Rattle.zerotrie_build.specs.passes.Measured.{TargetWindows}

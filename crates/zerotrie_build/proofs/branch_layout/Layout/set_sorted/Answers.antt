@@ -13,10 +13,10 @@ loop-rest-preserved g c =
     let all = g.I.IndexedItems.pairs c.args.items in
     let ws = c.loop-rest.self.windows.items in
     let ws' = c.push-in-loop-rest.new.self.items in
-    let target : Window = record { from = rest.from; to = c.target_group-group.result.end; depth = rest.depth + 1 } in
+    let target : Window = record { from = rest.from; to = c.group_of-group.result.end; depth = rest.depth + 1 } in
     let pushed = c.in_ok-push-2.ensures.items ∙ ap (λ t. ws ++ t ∷ []) c.new-target.ensures in
     let edge = edge_known all rest c.loop-rest.byte target.to c.unwrap_or.result (v.byte c.loop-rest-test.true) c.unwrap_or.ensures in
-    let group = c.target_group-group.ensures.0 in
+    let group = c.group_of-group.ensures.0 in
     record {
       parts = λ cs p. parts_more all c.args.window ws ws' target cs pushed (v.parts (target ∷ cs) (refl, refl, group, p));
       table = edges_more all ws ws' target c.loop-rest.self.table.items c.push.new.self.items c.unwrap_or.result pushed c.in_ok-push.ensures.items v.table edge;
@@ -25,7 +25,7 @@ loop-rest-preserved g c =
       to_is = v.to_is;
       depth_is = v.depth_is;
       ordered = ordered_rest g.K.ZeroTrieWithOptions.kind all rest.from target.to rest.to rest.depth (let some = group.some in omega arith) group.within v.ordered;
-      byte = c.target_group-group.ensures.1;
+      byte = c.group_of-group.ensures.1;
     }
 
 pub returns-clause-parts : goal.returns-clause-parts

@@ -1,8 +1,8 @@
 use Rattle.std.proofs.Common.{◌≡◌, ◌∙◌, ap, subst, inl, inr, Ok}
 use Rattle.std.proofs.lemmas.Result.{err_from_is_err_and}
-use Rattle.zerotrie_core.specs.Items.{keyed}
-use Rattle.zerotrie_core.specs.Kind.{kind_with}
-use Rattle.zerotrie_core.specs.Routes.{any_order, HasCause, IsBuild}
+use Rattle.zerotrie_base.specs.Items.{keyed}
+use Rattle.zerotrie_base.specs.Kind.{kind_with}
+use Rattle.zerotrie_base.specs.Routes.{any_order, HasCause, IsBuild}
 use Rattle.zerotrie_build.proofs.builder.ZeroTrieBuilder.from_bytes_iter.Goals as goal
 
 pub returns-in_err-data : goal.returns-in_err-data

@@ -1,7 +1,7 @@
 use Rattle.std.proofs.Common.{◌≡◌, ◌++◌, ◌∙◌, take, drop, length, arith, subst, sym, inr}
 use Rattle.std.proofs.lemmas.List.{take_at}
 use Rattle.std.proofs.lemmas.Result.{err_from_is_err_and}
-use Rattle.zerotrie_core.specs.ArrayRoutes.{IsArrayBuilt}
+use Rattle.zerotrie_base.specs.ArrayRoutes.{IsArrayBuilt}
 use Rattle.zerotrie_build.specs.Items.{pairs}
 use Rattle.zerotrie_build.proofs.ArrayLemmas.Building.{filled_whole, lost}
 use Rattle.zerotrie_build.proofs.konst.fill.bytes_within.Goals as goal

@@ -1,6 +1,6 @@
 use Rattle.std.proofs.Common.{refl}
 use Rattle.std.proofs.lemmas.Result.{IfErr-weaker}
-use Rattle.zerotrie_core.specs.Kind.{simple_ascii}
+use Rattle.zerotrie_base.specs.Kind.{simple_ascii}
 use Rattle.zerotrie_build.specs.Items.{pairs}
 use Rattle.zerotrie_build.proofs.OrderLemmas.Sorting.{ascends_ordered}
 use Rattle.zerotrie_build.proofs.ArrayLemmas.Building.{too_much, not_ascii}

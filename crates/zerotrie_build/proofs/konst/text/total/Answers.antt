@@ -2,7 +2,7 @@ use Rattle.std.proofs.Common.{arith, inl, inr}
 use Rattle.std.proofs.lemmas.Bool.{cases_lt}
 use Rattle.zerotrie_build.proofs.ArrayLemmas.Text.{lens_take}
 use Rattle.zerotrie_build.specs.konst.Texts.{newest_first, lens_of}
-use Rattle.zerotrie_core.specs.Branches.{total as total_of}
+use Rattle.zerotrie_base.specs.Branches.{total as total_of}
 use Rattle.std.proofs.Common.{take, ◌^◌}
 use Rattle.zerotrie_build.proofs.konst.text.total.Goals as goal
 

@@ -1,5 +1,5 @@
 use Rattle.std.proofs.Common.{◌≡◌, ◌^◌, ◌<◌, ◌≤◌, take}
-use Rattle.zerotrie_core.specs.Branches.{total}
+use Rattle.zerotrie_base.specs.Branches.{total}
 use Rattle.zerotrie_build.specs.konst.Texts.{newest_first, lens_of}
 use Rattle.zerotrie_build.proofs.konst.text.total.Given as goal
 

@@ -1,5 +1,5 @@
 use Rattle.std.proofs.Common.{◌≤◌, length}
-use Rattle.zerotrie_core.specs.Maps.{Pairs}
+use Rattle.zerotrie_base.specs.Maps.{Pairs}
 use Rattle.zerotrie_build.specs.konst.Texts.{Keeps}
 use Rattle.zerotrie_build.specs.konst.Growing.{IsClosedTo}
 use Rattle.zerotrie_build.proofs.konst.walk.close_to.Given as goal

@@ -1,9 +1,9 @@
 use Rattle.std.proofs.Common.{rules, ◌≡◌, ◌+◌, ◌-◌, ◌^◌, ◌≤◌, ◌<◌, ◌⊎◌, [], ◌∷◌, ◌++◌, get_or, refl, sym, ◌∙◌, ap, subst, arith, length, reverse, take, drop}
 use Rattle.std.proofs.lemmas.List.{get_or_read, reverse-append}
 use Rattle.std.proofs.lemmas.Result.{err_from_is_err_and}
-use Rattle.zerotrie_core.specs.Kind.{greatest_width}
-use Rattle.zerotrie_core.specs.Branches.{total}
-use Rattle.zerotrie_core.specs.Canonical.{branch_size}
+use Rattle.zerotrie_base.specs.Kind.{greatest_width}
+use Rattle.zerotrie_base.specs.Branches.{total}
+use Rattle.zerotrie_base.specs.Canonical.{branch_size}
 use Rattle.zerotrie_build.specs.declared.measuring.OpenBranch.{OpenBranch}
 use Rattle.zerotrie_build.specs.declared.windows.Window.{Window}
 use Rattle.zerotrie_build.specs.passes.Walking.{IsInside, Closing, left_open}

@@ -39,10 +39,10 @@ loop-rest-preserved g c =
     let some = e.some in let most = e.within in let to = v.to in
     let new : Window = record { from = w.from; to = c.group_of-group.result.end; depth = w.depth + 1 } in
     record {
-      items = c.push_end.ensures.items ∙ v.items;
-      branches = c.push_end.ensures.branches ∙ v.branches;
+      items = v.items;
+      branches = v.branches;
       added = v.added ++ new ∷ [];
-      slots = c.in_ok-push_end.ensures.slots ∙ ap (λ x. x ++ new.to ∷ []) v.slots ∙ append_assoc c.args.self.now.slots.items (item_ends v.added) (new.to ∷ []) ∙ ap (λ x. c.args.self.now.slots.items ++ x) (sym (map-append (λ c. c.to) v.added (new ∷ [])));
+      slots = c.in_ok-push.ensures.items ∙ ap (λ x. x ++ new.to ∷ []) v.slots ∙ append_assoc c.args.self.now.slots.items (item_ends v.added) (new.to ∷ []) ∙ ap (λ x. c.args.self.now.slots.items ++ x) (sym (map-append (λ c. c.to) v.added (new ∷ [])));
       parts = λ more rest. subst (TargetWindows all c.args.window) (sym (append_assoc v.added (new ∷ []) more)) (v.parts (new ∷ more) (refl, refl, subst (λ x. IsGroup (g.I.IndexedItems.pairs x) w c.group_of-group.result.end) v.items e, rest));
       order = omega arith;
       to = v.to;

@@ -1,5 +1,5 @@
 use Rattle.std.proofs.Common.{refl}
-use Rattle.zerotrie_core.specs.Kind.{simple_ascii}
+use Rattle.zerotrie_base.specs.Kind.{simple_ascii}
 use Rattle.zerotrie_build.proofs.OrderLemmas.Below.{ordered_ascends}
 use Rattle.zerotrie_build.proofs.OrderLemmas.Sorting.{ascends_ordered}
 use Rattle.zerotrie_build.proofs.slice_indices.ByteSliceWithIndices.is_sorted.Goals as goal

@@ -1,5 +1,5 @@
 use Rattle.std.proofs.Common.{◌≡◌, take}
-use Rattle.zerotrie_core.specs.Items.{pairs_of}
+use Rattle.zerotrie_base.specs.Items.{pairs_of}
 use Rattle.zerotrie_build.specs.Items.{pairs}
 use Rattle.zerotrie_build.proofs.slice_indices.ByteSliceWithIndices.to_vec_u8.Given as goal
 

@@ -1,5 +1,5 @@
 use Rattle.std.proofs.Common.{◌↔◌, IsTrue, ap, subst}
-use Rattle.zerotrie_core.specs.Maps.{Ascends}
+use Rattle.zerotrie_base.specs.Maps.{Ascends}
 use Rattle.zerotrie_build.proofs.TextLemmas.{ascend_is}
 use Rattle.zerotrie_build.proofs.text_items.TextItems.ascend.Goals as goal
 

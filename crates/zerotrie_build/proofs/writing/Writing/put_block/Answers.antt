@@ -1,8 +1,8 @@
 use Rattle.std.proofs.Common.{◌≡◌, ◌+◌, ◌-◌, ◌/◌, ◌%◌, ◌^◌, ◌++◌, ℕ, suc, [], ◌∷◌, map, take, get_or, arith, refl, sym, ap, ◌∙◌}
 use Rattle.std.proofs.lemmas.List.{map-append}
 use Rattle.std.specs.List.{range_with_len}
-use Rattle.zerotrie_core.specs.Branches.{total as total_of}
-use Rattle.zerotrie_core.proofs.CallerLemmas.{shifted}
+use Rattle.zerotrie_base.specs.Branches.{total as total_of}
+use Rattle.zerotrie_base.proofs.CallerLemmas.{shifted}
 use Rattle.zerotrie_build.specs.passes.Writing.{target_lens}
 use Rattle.zerotrie_build.proofs.WriteLemmas.Puts.{grows, puts_then, puts_same, total_take, block_so_far, lens_at, count_lens}
 use Rattle.zerotrie_build.proofs.Nodes.{total_more, offsets_more}

@@ -1,6 +1,6 @@
 use Rattle.std.proofs.Common.{◌≡◌, ◌-◌, ◌≤◌, ◌/◌, ◌%◌, ◌^◌, length, take, map}
 use Rattle.std.specs.List.{range_with_len}
-use Rattle.zerotrie_core.specs.Branches.{total}
+use Rattle.zerotrie_base.specs.Branches.{total}
 use Rattle.zerotrie_build.specs.passes.Writes.{Writes}
 use Rattle.zerotrie_build.specs.passes.Writing.{target_lens}
 use Rattle.zerotrie_build.proofs.writing.Writing.put_block.Given as goal

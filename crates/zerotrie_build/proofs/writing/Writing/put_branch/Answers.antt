@@ -1,5 +1,5 @@
 use Rattle.std.proofs.Common.{◌≡◌, ◌≤◌, ◌+◌, ◌^◌, refl, arith, subst, length}
-use Rattle.zerotrie_core.specs.Branches.{IsWidth}
+use Rattle.zerotrie_base.specs.Branches.{IsWidth}
 use Rattle.zerotrie_build.specs.passes.Writing.{target_lens}
 use Rattle.zerotrie_build.proofs.WriteLemmas.Puts.{grows, puts_same, puts_then, count_lens, front_is, front_long}
 use Rattle.zerotrie_build.proofs.writing.Writing.put_branch.Goals as goal

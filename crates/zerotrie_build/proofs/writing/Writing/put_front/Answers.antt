@@ -1,6 +1,6 @@
 use Rattle.std.proofs.Common.{refl, ap, sym, ◌∙◌, arith, inl, inr, length, length-append, length-drop, take, drop, ◌-◌}
 use Rattle.std.proofs.lemmas.List.{length-take-le}
-use Rattle.zerotrie_core.specs.Numbers.{span_form, spelled_as}
+use Rattle.zerotrie_base.specs.Numbers.{span_form, spelled_as}
 use Rattle.zerotrie_build.specs.passes.Windows.{item_no}
 use Rattle.zerotrie_build.specs.passes.Measured.{NoneFirst}
 use Rattle.zerotrie_build.proofs.WindowLemmas.NodeRuns.{literal_low}

@@ -1,5 +1,5 @@
 use Rattle.std.proofs.Common.{◌∙◌, ◌-◌, ◌*◌, ◌/◌, ◌%◌, ◌^◌, ◌++◌, map, arith, ap, sym, append_assoc}
-use Rattle.zerotrie_core.specs.Branches.{blocks, ends}
+use Rattle.zerotrie_base.specs.Branches.{blocks, ends}
 use Rattle.zerotrie_build.specs.passes.Writing.{target_lens}
 use Rattle.zerotrie_build.proofs.WriteLemmas.Puts.{grows, puts_then, blocks_len, block_first, count_lens}
 use Rattle.zerotrie_build.proofs.writing.Writing.put_offsets.Goals as goal

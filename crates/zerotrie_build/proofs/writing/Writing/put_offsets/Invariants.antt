@@ -1,5 +1,5 @@
 use Rattle.std.proofs.Common.{◌≡◌, ℕ, ◌≤◌, List, ◌++◌}
-use Rattle.zerotrie_core.specs.Branches.{blocks, ends}
+use Rattle.zerotrie_base.specs.Branches.{blocks, ends}
 use Rattle.zerotrie_build.specs.passes.Writes.{Writes}
 use Rattle.zerotrie_build.specs.passes.Writing.{target_lens}
 use Rattle.zerotrie_build.proofs.writing.Writing.put_offsets.Given as goal

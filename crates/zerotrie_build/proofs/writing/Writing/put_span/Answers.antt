@@ -1,8 +1,8 @@
 use Rattle.std.proofs.Common.{◌≡◌, refl, ap, inl, sym, ◌∙◌, ◌+◌, ◌-◌, ◌++◌, [], arith, length, take, drop, length-drop}
 use Rattle.std.proofs.lemmas.List.{length-take-le}
 use Rattle.std.proofs.lemmas.Option.{get_or_from_slice_get}
-use Rattle.zerotrie_core.specs.Numbers.{span_form, spelled_as}
-use Rattle.zerotrie_core.proofs.CallerLemmas.{spells_spelled}
+use Rattle.zerotrie_base.specs.Numbers.{span_form, spelled_as}
+use Rattle.zerotrie_base.proofs.CallerLemmas.{spells_spelled}
 use Rattle.zerotrie_build.proofs.WriteLemmas.Puts.{grows, puts_same, puts_then}
 use Rattle.zerotrie_build.proofs.writing.Writing.put_span.Goals as goal
 

@@ -1,5 +1,5 @@
 use Rattle.std.proofs.Common.{refl, inl, arith}
-use Rattle.zerotrie_core.proofs.CallerLemmas.{spells_spelled}
+use Rattle.zerotrie_base.proofs.CallerLemmas.{spells_spelled}
 use Rattle.zerotrie_build.proofs.writing.Writing.put_value.Goals as goal
 
 pub returns-clause-spells : goal.returns-clause-spells

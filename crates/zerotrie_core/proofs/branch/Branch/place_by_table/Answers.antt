@@ -1,9 +1,9 @@
 use Rattle.std.proofs.Common.{◌≡◌, ◌∙◌, ap, sym, arith, false, leb}
 use Rattle.std.specs.Prelude.{◌&&◌}
 use Rattle.zerotrie_base.specs.Hashes.{number_of}
-use Rattle.zerotrie_core.specs.Kind.{is_hashed}
-use Rattle.zerotrie_core.proofs.MapLemmas.Kinds.{hashed_by}
-use Rattle.zerotrie_core.proofs.NodeLemmas.Places.{none_sorted, hashed_some, hashed_none}
+use Rattle.zerotrie_base.specs.Kind.{is_hashed}
+use Rattle.zerotrie_base.proofs.MapLemmas.Kinds.{hashed_by}
+use Rattle.zerotrie_base.proofs.NodeLemmas.Places.{none_sorted, hashed_some, hashed_none}
 use Rattle.zerotrie_core.proofs.branch.Branch.place_by_table.Goals as goal
 use Rattle.zerotrie_core.proofs.branch.Branch.place_by_table.Goals.{else-USE_PHF-via-then-USE_PHF+else-self, else-USE_PHF-via-else-USE_PHF}
 

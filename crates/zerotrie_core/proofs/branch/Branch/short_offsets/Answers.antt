@@ -1,5 +1,5 @@
 use Rattle.std.proofs.Common.{rules}
-use Rattle.zerotrie_core.proofs.NodeLemmas.Offsets.{offset_before, offset_next}
+use Rattle.zerotrie_base.proofs.NodeLemmas.Offsets.{offset_before, offset_next}
 use Rattle.zerotrie_core.proofs.branch.Branch.short_offsets.Goals as goal
 
 pub returns-clause-before : goal.returns-clause-before

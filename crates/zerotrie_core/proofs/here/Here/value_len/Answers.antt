@@ -1,7 +1,7 @@
 use Rattle.std.proofs.Common.{◌≡◌, Bool, true, false, leb, ltb, length, get_or, refl, arith}
 use Rattle.std.specs.Prelude.{◌&&◌}
 use Rattle.std.proofs.lemmas.Bool.{leb-true, ltb-true}
-use Rattle.zerotrie_core.proofs.NumberLemmas.Spellings.{value_told}
+use Rattle.zerotrie_base.proofs.NumberLemmas.Spellings.{value_told}
 use Rattle.zerotrie_core.proofs.here.Here.value_len.Goals as goal
 use Rattle.zerotrie_core.proofs.here.Here.value_len.Goals.{then-lead-lt144, else-lead-lt144}
 

@@ -1,5 +1,5 @@
 use Rattle.std.proofs.Common.{ap, ◌%◌}
-use Rattle.zerotrie_core.proofs.PlainLemmas.Items.{block_more, shifted}
+use Rattle.zerotrie_base.proofs.PlainLemmas.Items.{block_more, shifted}
 use Rattle.zerotrie_core.proofs.plain.nodes.push_block.Goals as goal
 
 pub loop-offset-preserved : goal.loop-offset-preserved

@@ -1,10 +1,10 @@
 use Rattle.std.proofs.Common.{◌≤◌, length, ◌++◌, refl, ap, ◌∙◌, subst}
 use Rattle.std.specs.Prelude.{IfSome}
-use Rattle.zerotrie_core.specs.Branches.{IsWidth}
-use Rattle.zerotrie_core.specs.plain.Encoding.{with_bits}
-use Rattle.zerotrie_core.proofs.NodeLemmas.Fronts.{within_width}
-use Rattle.zerotrie_core.proofs.PlainLemmas.Cuts.{marked, joined}
-use Rattle.zerotrie_core.proofs.PlainLemmas.Groups.{branch_written}
+use Rattle.zerotrie_base.specs.Branches.{IsWidth}
+use Rattle.zerotrie_base.specs.plain.Encoding.{with_bits}
+use Rattle.zerotrie_base.proofs.NodeLemmas.Fronts.{within_width}
+use Rattle.zerotrie_base.proofs.PlainLemmas.Cuts.{marked, joined}
+use Rattle.zerotrie_base.proofs.PlainLemmas.Groups.{branch_written}
 use Rattle.zerotrie_core.proofs.plain.nodes.push_branch.Goals as goal
 use Rattle.zerotrie_core.proofs.plain.nodes.push_branch.Goals.{In_ok-extend_from_slice-2}
 

@@ -1,5 +1,5 @@
 use Rattle.std.proofs.Common.{arith}
-use Rattle.zerotrie_core.proofs.PlainLemmas.Items.{block_before}
+use Rattle.zerotrie_base.proofs.PlainLemmas.Items.{block_before}
 use Rattle.zerotrie_core.proofs.plain.nodes.push_offsets.Goals as goal
 
 pub loop-place-preserved : goal.loop-place-preserved

@@ -1,5 +1,5 @@
 use Rattle.std.proofs.Common.{◌≡◌, ◌++◌}
-use Rattle.zerotrie_core.specs.Branches.{blocks}
+use Rattle.zerotrie_base.specs.Branches.{blocks}
 use Rattle.zerotrie_core.proofs.plain.nodes.push_offsets.Given as goal
 
 abbrev pub invariant-loop-place : goal.invariant-loop-place

@@ -1,7 +1,7 @@
 use Rattle.std.proofs.Common.{◌≤◌, ◌<◌, ◌^◌, arith, inl, inr}
 use Rattle.std.proofs.lemmas.Bool.{leb-true, leb-false, cases_lt}
 use Rattle.std.specs.Prelude.{IfSome, IfNone}
-use Rattle.zerotrie_core.specs.Branches.{IsWidth}
+use Rattle.zerotrie_base.specs.Branches.{IsWidth}
 use Rattle.zerotrie_core.proofs.Chosen.{chosen}
 use Rattle.zerotrie_core.proofs.plain.nodes.width_of.Goals as goal
 

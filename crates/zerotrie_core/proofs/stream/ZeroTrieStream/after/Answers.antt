@@ -1,7 +1,7 @@
 use Rattle.std.proofs.Common.{◌∙◌, ap, sym, []}
-use Rattle.zerotrie_core.specs.Maps.{with_run}
+use Rattle.zerotrie_base.specs.Maps.{with_run}
 use Rattle.zerotrie_core.specs.Listings.{to_come, rest_after}
-use Rattle.zerotrie_core.specs.Texts.Lists.{nothing}
+use Rattle.zerotrie_base.specs.Texts.Lists.{nothing}
 use Rattle.zerotrie_core.proofs.ListingLemmas.Passed.{past_left, rest_none}
 use Rattle.zerotrie_core.proofs.stream.ZeroTrieStream.after.Goals as goal
 

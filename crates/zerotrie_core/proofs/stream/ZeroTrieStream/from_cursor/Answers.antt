@@ -1,7 +1,7 @@
 use Rattle.std.proofs.Common.{◌∙◌, ◌++◌, ap, subst, sym}
 use Rattle.zerotrie_core.specs.Listings.{to_come}
-use Rattle.zerotrie_core.specs.Maps.{with_run}
-use Rattle.zerotrie_core.specs.Texts.{Lists}
+use Rattle.zerotrie_base.specs.Maps.{with_run}
+use Rattle.zerotrie_base.specs.Texts.{Lists}
 use Rattle.zerotrie_core.proofs.ListingLemmas.Passed.{place_below}
 use Rattle.zerotrie_core.proofs.stream.ZeroTrieStream.from_cursor.Goals as goal
 

@@ -1,6 +1,6 @@
 use Rattle.std.proofs.Common.{◌∙◌, ap}
 use Rattle.zerotrie_core.specs.Listings.{to_come}
-use Rattle.zerotrie_core.proofs.MapLemmas.Spans.{with_run-none}
+use Rattle.zerotrie_base.proofs.MapLemmas.Spans.{with_run-none}
 use Rattle.zerotrie_core.proofs.stream.ZeroTrieStream.new.Goals as goal
 
 pub returns-clause-lists : goal.returns-clause-lists

@@ -1,6 +1,6 @@
 use Rattle.std.proofs.Common.{◌∙◌, ap, sym, []}
 use Rattle.zerotrie_core.specs.Listings.{to_come}
-use Rattle.zerotrie_core.specs.Texts.Lists.{nothing}
+use Rattle.zerotrie_base.specs.Texts.Lists.{nothing}
 use Rattle.zerotrie_core.proofs.stream.ZeroTrieStream.with_prefix.Goals as goal
 
 pub returns-in-Some : goal.returns-in-Some

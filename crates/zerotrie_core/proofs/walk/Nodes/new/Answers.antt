@@ -1,6 +1,6 @@
 use Rattle.std.proofs.Common.{◌≡◌, ◌≤◌, length, None, ◌∙◌, sym, subst, rules, arith}
 use Rattle.std.specs.Prelude.{All}
-use Rattle.zerotrie_core.specs.Kind.{kind_with}
+use Rattle.zerotrie_base.specs.Kind.{kind_with}
 use Rattle.zerotrie_core.specs.walk.Visits.{nodes_of, whole}
 use Rattle.zerotrie_core.specs.walk.Seen.{visits_left, LiesIn}
 use Rattle.zerotrie_core.proofs.WalkLemmas.Texts.{text_walked}

@@ -1,7 +1,7 @@
 use Rattle.std.proofs.Common.{◌≡◌, ◌∙◌, ap, false, sym, arith, subst, map}
 use Rattle.std.specs.Prelude.{◌↔◌, IsTrue}
 use Rattle.std.specs.List.Sorted.{IsStrictlyIncreasing}
-use Rattle.zerotrie_core.specs.Kind.{flags, fold_byte}
+use Rattle.zerotrie_base.specs.Kind.{flags, fold_byte}
 use Rattle.zerotrie_core.proofs.WellFormedLemmas.Parts.{bytes_parts, rises_by}
 use Rattle.zerotrie_core.proofs.well_formed.branches.front_rises.Goals as goal
 

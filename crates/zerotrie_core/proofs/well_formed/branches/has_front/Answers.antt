@@ -1,5 +1,5 @@
 use Rattle.std.proofs.Common.{◌≡◌, take, ◌-◌, ◌*◌, length, drop, subst, sym}
-use Rattle.zerotrie_core.specs.Branches.{IsWidth}
+use Rattle.zerotrie_base.specs.Branches.{IsWidth}
 use Rattle.zerotrie_core.proofs.WellFormedLemmas.Branches.{no_width, no_table}
 use Rattle.zerotrie_core.proofs.well_formed.branches.has_front.Goals as goal
 

@@ -4,8 +4,8 @@ use Rattle.std.specs.List.Sorted.{IsStrictlyIncreasing}
 use Rattle.zerotrie_core.specs.well_formed.Branching.{AreBytes}
 use Rattle.std.proofs.lemmas.Bool.{lt-leb, le-leb}
 use Rattle.std.proofs.lemmas.List.{length-take-le}
-use Rattle.zerotrie_core.specs.Kind.{flags, is_hashed, fold_byte}
-use Rattle.zerotrie_core.proofs.MapLemmas.Kinds.{hashed_by, ascii_sorted}
+use Rattle.zerotrie_base.specs.Kind.{flags, is_hashed, fold_byte}
+use Rattle.zerotrie_base.proofs.MapLemmas.Kinds.{hashed_by, ascii_sorted}
 use Rattle.zerotrie_core.proofs.WellFormedLemmas.Parts.{plain_test, hashed_test, unhashed_ascii, hashed_kind, limit_all, ascii_below, front_lies}
 use Rattle.zerotrie_core.proofs.well_formed.branches.has_table.Goals as goal
 

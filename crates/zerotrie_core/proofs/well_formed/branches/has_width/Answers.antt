@@ -1,7 +1,7 @@
 use Rattle.std.proofs.Common.{◌-◌, length, drop, subst, sym, ◌∙◌}
 use Rattle.std.proofs.lemmas.Bool.{eq-eqb, eqb-true}
-use Rattle.zerotrie_core.specs.Branches.{IsWidth}
-use Rattle.zerotrie_core.proofs.NodeLemmas.Fronts.{width_is}
+use Rattle.zerotrie_base.specs.Branches.{IsWidth}
+use Rattle.zerotrie_base.proofs.NodeLemmas.Fronts.{width_is}
 use Rattle.zerotrie_core.proofs.well_formed.branches.has_width.Goals as goal
 
 pub returns-clause-width : goal.returns-clause-width

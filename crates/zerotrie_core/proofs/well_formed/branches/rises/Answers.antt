@@ -1,5 +1,5 @@
 use Rattle.std.proofs.Common.{arith, refl}
-use Rattle.zerotrie_core.specs.Kind.{fold_byte}
+use Rattle.zerotrie_base.specs.Kind.{fold_byte}
 use Rattle.zerotrie_core.proofs.WellFormedLemmas.Parts.{rises_from, rises_not}
 use Rattle.zerotrie_core.proofs.well_formed.branches.rises.Goals as goal
 

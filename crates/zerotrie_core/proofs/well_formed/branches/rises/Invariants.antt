@@ -1,5 +1,5 @@
 use Rattle.std.proofs.Common.{ℕ, ◌+◌, ◌<◌, ◌≤◌, get_or}
-use Rattle.zerotrie_core.specs.Kind.{fold_byte}
+use Rattle.zerotrie_base.specs.Kind.{fold_byte}
 use Rattle.zerotrie_core.proofs.well_formed.branches.rises.Given as goal
 
 abbrev pub invariant-loop-index : goal.invariant-loop-index

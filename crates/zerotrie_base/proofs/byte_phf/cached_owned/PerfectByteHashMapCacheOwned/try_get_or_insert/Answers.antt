@@ -6,7 +6,7 @@ use Rattle.zerotrie_base.proofs.CacheLemmas.{left}
 use Rattle.zerotrie_base.proofs.byte_phf.cached_owned.PerfectByteHashMapCacheOwned.try_get_or_insert.Goals as goal
 
 pub returns : goal.returns
-returns c =
+returns g c =
     let keys = c.args.keys.items in
     let before = c.args.self.now in
     let after = c.hold.new.self in

@@ -1,8 +1,8 @@
 use Rattle.std.proofs.Common.{◌≡◌, ◌+◌, ◌-◌, ◌/◌, ◌%◌, ◌^◌, ℕ, ◌∷◌, map, take, get_or, length, arith, sym, ap, ◌∙◌}
 use Rattle.std.proofs.Math.Seq.{take-length}
 use Rattle.std.specs.List.{range_with_len}
-use Rattle.zerotrie_core.specs.Branches.{total as total_of}
-use Rattle.zerotrie_core.proofs.CallerLemmas.{shifted}
+use Rattle.zerotrie_base.specs.Branches.{total as total_of}
+use Rattle.zerotrie_base.proofs.CallerLemmas.{shifted}
 use Rattle.zerotrie_build.specs.konst.Texts.{newest_first, lens_of}
 use Rattle.zerotrie_build.proofs.ArrayLemmas.Text.{puts_then, puts_same, puts_nothing, len_at, end_before, block_more, all_blocks, length-lens}
 use Rattle.zerotrie_build.proofs.konst.text.Text.put_block.Goals as goal

@@ -1,6 +1,6 @@
 use Rattle.std.proofs.Common.{◌≡◌, ◌-◌, ◌≤◌, ◌/◌, ◌%◌, ◌^◌, length, take, map}
 use Rattle.std.specs.List.{range_with_len}
-use Rattle.zerotrie_core.specs.Branches.{total}
+use Rattle.zerotrie_base.specs.Branches.{total}
 use Rattle.zerotrie_build.specs.konst.Texts.{Prepends, newest_first, lens_of}
 use Rattle.zerotrie_build.proofs.konst.text.Text.put_block.Given as goal
 

@@ -1,9 +1,7 @@
-use Rattle.std.proofs.Common.{◌≡◌, ◌≤◌, ◌+◌, ◌*◌, ◌%◌, ◌^◌, refl, ap, inr, ◌∙◌, arith, subst, length}
-use Rattle.zerotrie_core.specs.Numbers.{branch_form}
-use Rattle.zerotrie_core.specs.Branches.{IsWidth}
-use Rattle.zerotrie_core.specs.plain.Encoding.{with_bits}
+use Rattle.std.proofs.Common.{◌≡◌, ◌≤◌, ◌+◌, ◌^◌, refl, ◌∙◌, arith, subst, length}
+use Rattle.zerotrie_base.specs.Branches.{IsWidth}
 use Rattle.zerotrie_build.specs.konst.Texts.{newest_first, bytes_of, lens_of}
-use Rattle.zerotrie_build.proofs.WriteLemmas.Puts.{number_is, front_is}
+use Rattle.zerotrie_build.proofs.WriteLemmas.Puts.{front_is}
 use Rattle.zerotrie_build.proofs.ArrayLemmas.Text.{puts_then, puts_same, length-lens}
 use Rattle.zerotrie_build.proofs.konst.text.Text.put_branch.Goals as goal
 
@@ -26,6 +24,5 @@ returns c =
     let table = bytes_of (newest_first ss) in
     let w = c.width_of-width.result in
     let n = length ss in
-    let x = ap (with_bits 192) c.deref.ensures.0 ∙ number_is branch_form (256 * w + n % 256) 192 c.write_varint_meta2.result.items (inr refl) refl c.write_varint_meta2.ensures in
     puts_same _ _ _ _ (front_is table lens w n (subst (λ t. IsWidth t w) c.requires.total c.width_of-width.ensures) (length-lens ss))
-    (puts_then _ _ _ _ _ (puts_then _ _ _ _ _ c.put_offsets.ensures c.put_edges.ensures) (puts_same _ _ _ _ x c.put_number.ensures))
+    (puts_then _ _ _ _ _ (puts_then _ _ _ _ _ c.put_offsets.ensures c.put_edges.ensures) (puts_same _ _ _ _ (c.deref.ensures.0 ∙ c.number_bytes.ensures) c.put_all.ensures))

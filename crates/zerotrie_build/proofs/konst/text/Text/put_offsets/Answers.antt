@@ -1,5 +1,5 @@
 use Rattle.std.proofs.Common.{◌≡◌, ◌+◌, suc, ap, arith}
-use Rattle.zerotrie_core.specs.Branches.{blocks, ends}
+use Rattle.zerotrie_base.specs.Branches.{blocks, ends}
 use Rattle.zerotrie_build.specs.konst.Texts.{newest_first, lens_of}
 use Rattle.zerotrie_build.proofs.ArrayLemmas.Text.{puts_then, puts_same}
 use Rattle.zerotrie_build.proofs.konst.text.Text.put_offsets.Goals as goal

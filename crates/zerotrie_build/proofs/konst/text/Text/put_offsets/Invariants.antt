@@ -1,4 +1,4 @@
-use Rattle.zerotrie_core.specs.Branches.{blocks, ends}
+use Rattle.zerotrie_base.specs.Branches.{blocks, ends}
 use Rattle.zerotrie_build.specs.konst.Texts.{Prepends, newest_first, lens_of}
 use Rattle.zerotrie_build.proofs.konst.text.Text.put_offsets.Given as goal
 

@@ -1,0 +1,2 @@
+-- Words of look-ups, over the grammar alone.
+pub mod Reading

@@ -1,6 +1,0 @@
-use Rattle.std.proofs.Common.{arith, refl}
-use Rattle.zerotrie_core.proofs.ReaderLemmas.LowerCase.{lower_at}
-use Rattle.zerotrie_core.proofs.fold.lower.Goals as goal
-
-pub returns : goal.returns
-returns c = lower_at _ refl c.args.byte (omega arith)

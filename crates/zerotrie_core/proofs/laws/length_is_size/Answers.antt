@@ -1,5 +1,0 @@
-use Rattle.zerotrie_core.proofs.CanonicalLemmas.Order.{means_size}
-use Rattle.zerotrie_core.proofs.laws.length_is_size.Goals as goal
-
-pub returns : goal.returns
-returns c = means_size

@@ -1,5 +1,0 @@
-use Rattle.zerotrie_core.proofs.CanonicalLemmas.Texts.{means_once}
-use Rattle.zerotrie_core.proofs.laws.one_meaning.Goals as goal
-
-pub returns : goal.returns
-returns c = means_once

@@ -1,9 +1,0 @@
-use Rattle.std.proofs.Common.{◌-◌}
-use Rattle.zerotrie_core.specs.reader.Literals.{AreCommon}
-use Rattle.zerotrie_core.proofs.literals.common_by_sixteens.Given as goal
-
-abbrev pub invariant-loop-passed : goal.invariant-loop-passed
-invariant-loop-passed g l = AreCommon g.K.ZeroTrieWithOptions.kind l.bytes l.key l.passed
-
-abbrev pub decreases-loop-passed : goal.decreases-loop-passed
-decreases-loop-passed g l = l.most - l.passed
