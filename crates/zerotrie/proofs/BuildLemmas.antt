@@ -21,7 +21,7 @@ use Rattle.zerotrie.specs.dense.Windows.{in_window}
 use Rattle.zerotrie.specs.dense.Rows.{placed, put_text, put_texts}
 use Rattle.std.specs.Int.{w16, to_le_bytes}
 use Rattle.std.specs.Cmp.Lexicographic.{nat_list_cmp_total}
-use Rattle.zerotrie_core.specs.Causes.{ZeroTrieBuildError}
+use Rattle.zerotrie_core.specs.declared.ZeroTrieBuildError.{ZeroTrieBuildError}
 use Rattle.zerotrie.specs.dense.Records.{matrix_bytes}
 use Rattle.zerotrie.proofs.TextLemmas.{V, same, either, first_once, kept_none}
 

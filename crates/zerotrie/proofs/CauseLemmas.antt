@@ -9,7 +9,8 @@ use Rattle.zerotrie_core.specs.Kind.{simple_ascii}
 use Rattle.zerotrie_core.specs.Maps.{Pairs, Ascends, RepeatsKey, map_of}
 use Rattle.zerotrie_core.specs.Fits.{ExceedsCapacity}
 use Rattle.zerotrie_core.specs.Routes.{ascending, any_order, IsRefusal}
-use Rattle.zerotrie_core.specs.Causes.{ZeroTrieBuildError, NonAsciiError, CapacityExceeded, CouldNotSolvePerfectHash, MixedCase, IllegalDelimiter, DuplicateKey, Unsorted, BufferTooSmall, BufferTooLarge, StackExceeded, OutOfMemory}
+use Rattle.zerotrie_core.specs.declared.ZeroTrieBuildError.{ZeroTrieBuildError}
+use Rattle.zerotrie_core.specs.declared.ZeroTrieBuildError.TheVariants.{NonAsciiError, CapacityExceeded, CouldNotSolvePerfectHash, MixedCase, IllegalDelimiter, DuplicateKey, Unsorted, BufferTooSmall, BufferTooLarge, StackExceeded, OutOfMemory}
 use Rattle.zerotrie.specs.dense.Layout.{is_dense, laid, beside, under, primary_pairs}
 use Rattle.zerotrie.specs.dense.RowFaults.{AreAsciiTexts, AreApart, HasTextFault, SomeWideWindow}
 use Rattle.zerotrie.specs.dense.Windows.{in_window, inside, offset}

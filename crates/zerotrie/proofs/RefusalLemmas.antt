@@ -6,7 +6,8 @@ use Rattle.zerotrie_core.specs.Maps.{Pairs, Ascends, map_of, value_at}
 use Rattle.zerotrie_core.specs.Canonical.{size, size_of}
 use Rattle.zerotrie_core.specs.Fits.{ExceedsCapacity}
 use Rattle.zerotrie_core.specs.Routes.{ascending, IsRefusal}
-use Rattle.zerotrie_core.specs.Causes.{ZeroTrieBuildError, NonAsciiError, CapacityExceeded, CouldNotSolvePerfectHash, MixedCase, IllegalDelimiter, DuplicateKey, Unsorted, BufferTooSmall, BufferTooLarge, StackExceeded, OutOfMemory}
+use Rattle.zerotrie_core.specs.declared.ZeroTrieBuildError.{ZeroTrieBuildError}
+use Rattle.zerotrie_core.specs.declared.ZeroTrieBuildError.TheVariants.{NonAsciiError, CapacityExceeded, CouldNotSolvePerfectHash, MixedCase, IllegalDelimiter, DuplicateKey, Unsorted, BufferTooSmall, BufferTooLarge, StackExceeded, OutOfMemory}
 use Rattle.zerotrie_core.proofs.CallerLemmas.{entries-map_of}
 use Rattle.zerotrie.specs.dense.Layout.{is_dense}
 use Rattle.zerotrie.specs.dense.RowFaults.{AreAsciiTexts, IsRowRefusal}

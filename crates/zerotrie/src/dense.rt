@@ -1,4 +1,5 @@
-//! Maps from two texts to numbers, of which many first texts have the same second ones.
+//! Two-dimensional tables: from a prefix and a suffix to a number, where many prefixes share
+//! suffixes.
 
 mod build;
 mod get;

@@ -6,8 +6,8 @@ use thiserror::Error;
 use zerotrie_any::{JsonError, LoadError, NotWellFormed, TagError};
 use zerotrie_core::{ListError, ZeroTrieBuildError};
 
-/// Any error of this library, for a program that builds tries, keeps their bytes and loads them again: `?` turns
-/// each of the library's errors into it.
+/// Any error of this library, for a program that builds tries, saves their bytes and loads them:
+/// `?` converts each of the library's errors to it.
 ///
 /// ```
 /// use zerotrie::{Error, ZeroTrieSimpleAscii};
@@ -22,31 +22,31 @@ use zerotrie_core::{ListError, ZeroTrieBuildError};
 /// }
 /// ```
 ///
-/// Its text is that of the error that it holds.
+/// It prints as the error that it contains.
 #[derive(Debug, Drop, Error)]
 pub enum Error {
-    /// A trie was not built.
+    /// A build returned an error.
     #[error(transparent)]
     Build(#[from] ZeroTrieBuildError),
-    /// A listing ended early.
+    /// An iterator returned an error.
     #[error(transparent)]
     List(#[from] ListError),
-    /// Bytes mean no map.
+    /// Bytes are not a valid trie.
     #[error(transparent)]
     NotWellFormed(#[from] NotWellFormed),
-    /// Tagged bytes are no trie of the kind that is read.
+    /// Tagged bytes do not begin with the tag of a kind that is read.
     #[error(transparent)]
     Tag(#[from] TagError),
-    /// Tagged bytes were not loaded.
+    /// Tagged bytes are not a valid trie of a kind that is read.
     #[error(transparent)]
     Load(#[from] LoadError),
-    /// A JSON value is no trie, or a trie no JSON value.
+    /// A JSON value was not read as a trie, or a trie not written as one.
     #[error(transparent)]
     Json(#[from] JsonError),
-    /// Bytes are no record of a dense table.
+    /// Bytes are not the record of a dense table.
     #[error(transparent)]
     Record(#[from] RecordError),
-    /// Out of memory, in a call that has no other error.
+    /// An allocation failed, in a call that has no other error.
     #[error("out of memory")]
     Memory(#[from(alloc)] AllocError),
 }

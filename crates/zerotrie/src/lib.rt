@@ -1,4 +1,4 @@
-//! Maps from byte strings to numbers, as flat lists of bytes that are read where they lie.
+//! Maps from byte strings to numbers, as sequences of bytes that are read in place.
 //!
 //! ```
 //! use zerotrie::ZeroTrieSimpleAscii;
@@ -10,7 +10,7 @@
 //!     println!(rt; "{:?}", trie.get(b"unknown"))?;    // None
 //!     println!(rt; "{}", trie.byte_len())?;           // 17
 //!
-//!     // The bytes are the whole trie: keep them, and read them again where they lie.
+//!     // The bytes are the whole trie: keep them, and later read them in place.
 //!     let bytes = trie.into_store();
 //!     let again = ZeroTrieSimpleAscii::from_bytes(bytes.as_slice());
 //!     println!(rt; "{:?}", again.get(b"bazzoo"))?;    // Some(3)
@@ -18,27 +18,28 @@
 //! }
 //! ```
 //!
-//! The types, which share builds from pairs, look-ups, tests of bytes, conversions and outer forms:
+//! The types, which share builds from pairs, look-ups, validation, conversions, tagged bytes and
+//! JSON:
 //!
 //! - `ZeroTrieSimpleAscii` for ASCII keys,
-//! - `ZeroAsciiIgnoreCaseTrie` for ASCII keys that are found without the case of their letters,
+//! - `ZeroAsciiIgnoreCaseTrie` for ASCII keys whose look-ups ignore case,
 //! - `ZeroTriePerfectHash` for keys of any bytes,
-//! - `ZeroTrieExtendedCapacity` for keys of any bytes in texts of any length,
-//! - `ZeroTrie`, of a kind that is known when the program runs: any of these but the one without case.
+//! - `ZeroTrieExtendedCapacity` for keys of any bytes, also in tries of more than 4 GB,
+//! - `ZeroTrie`, whose kind is a value at run time: any of these but the one that ignores case.
 //!
-//! Only `ZeroTrieSimpleAscii` is built into an array, and of bare bytes or a store `ZeroTrie` is made with its kind
-//! named.
+//! Only a `ZeroTrieSimpleAscii` can be built in an array. A `ZeroTrie` over bytes or a store takes
+//! its kind as a type parameter.
 //!
-//! A look-up takes no memory and copies nothing. In the kinds over ASCII a build answers the one text of the
-//! map, whichever way the pairs came, so tries of one map have equal bytes.
+//! A look-up does not allocate or copy. In the kinds over ASCII keys a map has one encoding,
+//! however it was built, so tries of one map have equal bytes.
 //!
-//! A crate that stands on `zerotrie` alone can state and prove contracts over it. `Rattle.zerotrie.specs`
-//! has the definitions that the library's clauses cite. Of the lemmas, `Rattle.zerotrie.proofs.Builds` says
-//! what a build over an iterator is of the list under it, `Rattle.zerotrie.proofs.Lookups` and `Found` what a
-//! look-up answers by the pairs alone, `Cursors` what a cursor finds on its way, `Fallbacks` what the last of
-//! some keys is that a text begins with, `Forms` what was written as JSON and read again, and `Tables` what the
-//! record of a dense table keeps. The crate `zerotrie_uses` has callers to copy.
-//! `laws` has the laws of texts and maps, and `json_keeps_the_pairs` that of JSON.
+//! A crate that depends on `zerotrie` alone can state and prove contracts over it.
+//! `Rattle.zerotrie.specs` has the definitions that the library's clauses cite.
+//! `Rattle.zerotrie.proofs` has lemmas: `Builds` on builds from an iterator, by its list of pairs;
+//! `Lookups` and `Found` on look-ups, by the pairs alone; `Cursors` on cursors; `Fallbacks` on the
+//! last of the keys that a string begins with; `Forms` on JSON that is written and read again; and
+//! `Tables` on the records of dense tables. The crate `zerotrie_uses` has callers to copy. `laws`
+//! has the laws of encodings and maps, and `json_keeps_the_pairs` that of JSON.
 #![tactic(auto)]
 
 pub mod dense;
@@ -61,7 +62,7 @@ pub use zerotrie_core::{
 };
 pub use zerotrie_hashed::{HashedKind, HashedTrie, ZeroTrieExtendedCapacity, ZeroTriePerfectHash};
 
-/// Cursors, which go down a trie edge by edge.
+/// Cursors, which follow a key byte by byte.
 pub mod cursor {
     pub use zerotrie_any::ZeroTrieCursor;
     pub use zerotrie_ascii::{
@@ -73,9 +74,9 @@ pub mod cursor {
     };
 }
 
-/// The same over bare bytes, for any kind: builds into bytes, into a buffer that is lent and by a builder, with the
-/// length beforehand; look-ups, one or many at once, tests, counts and listings of bytes, their nodes, and the first
-/// fault in them; cursors and walks; tagged bytes and JSON.
+/// The same over plain bytes, for any kind: builds into bytes, into a borrowed buffer and by a
+/// builder, and their length beforehand; look-ups, one or many at once; validation, and the first
+/// fault; counts, iterators and nodes; cursors and walks; tagged bytes and JSON.
 ///
 /// ```
 /// let items = [("ad", 22), ("adef", 33)];
@@ -97,12 +98,14 @@ pub mod bytes {
     };
     pub use zerotrie_core::{
         Branch, Fault, FaultCause, LookUps, Node, Nodes, Part, SpanCursor, Visit, count_pairs,
-        first_fault, get_counted, is_well_formed, is_well_formed_counted, longest_prefix, plain_encode, probe, read_varint_meta2, read_varint_meta3, step,
-        take_value, write_varint_meta2, write_varint_meta3,
+        first_fault, get, get_counted, is_well_formed, is_well_formed_counted, longest_prefix,
+        plain_encode, probe, read_varint_meta2, read_varint_meta3, step, take_value,
+        write_varint_meta2, write_varint_meta3,
     };
 }
 
-/// The perfect hash of bytes, on which hashed branches rest. `are_distinct` tests what a table asks of its keys.
+/// The perfect hash of bytes, which hashed branches use. `are_distinct` tests what a table requires
+/// of its keys.
 pub mod _internal {
     pub use zerotrie_core::{
         PerfectByteHashMap, PerfectByteHashMapCacheOwned, are_distinct, f1, f2,

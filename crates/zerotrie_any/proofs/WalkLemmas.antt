@@ -7,8 +7,8 @@ use Rattle.zerotrie_core.specs.Texts.{Lists}
 use Rattle.zerotrie_core.specs.Machine.{run_one, run}
 use Rattle.zerotrie_core.specs.Places.{Place, ListsAt}
 use Rattle.zerotrie_any.specs.Walks.{op_of, ops_of, answer_of, answers_of, IsTurn}
-use Rattle.zerotrie_any.specs.declared.cursor.CursorOp.{CursorOp}
-use Rattle.zerotrie_any.specs.declared.cursor.CursorAnswer.{CursorAnswer}
+use Rattle.zerotrie_any.specs.declared.walks.CursorOp.{CursorOp}
+use Rattle.zerotrie_any.specs.declared.walks.CursorAnswer.{CursorAnswer}
 
 -- The answers so far, and those of the machine to the calls that are left, are those of the machine to all.
 abbrev pub Walked : Kind → List ℕ → List CursorOp → Place → List CursorAnswer → List CursorOp → Type 0

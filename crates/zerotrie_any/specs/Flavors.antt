@@ -1,7 +1,7 @@
 -- The kinds that a `ZeroTrie` may have.
 use Rattle.zerotrie_core.specs.Kind.{Kind, simple_ascii, perfect_hash, extended_capacity}
-use Rattle.zerotrie_any.specs.declared.zerotrie.ZeroTrieFlavor.{ZeroTrieFlavor}
-use Rattle.zerotrie_any.specs.declared.zerotrie.ZeroTrieFlavor.TheVariants.{SimpleAscii, PerfectHash, ExtendedCapacity}
+use Rattle.zerotrie_any.specs.declared.trie.ZeroTrieFlavor.{ZeroTrieFlavor}
+use Rattle.zerotrie_any.specs.declared.trie.ZeroTrieFlavor.TheVariants.{SimpleAscii, PerfectHash, ExtendedCapacity}
 
 -- the kind that a flavor stands for
 abbrev pub flavor_kind : ZeroTrieFlavor → Kind

@@ -3,8 +3,8 @@ use Rattle.std.specs.Prelude.{◌≡◌, ℕ, List}
 use Rattle.zerotrie_core.specs.Kind.{Kind, tag}
 use Rattle.zerotrie_core.specs.WellFormed.{IsWellFormed}
 use Rattle.zerotrie_any.specs.Tagged.{tagged, IsTagFault}
-use Rattle.zerotrie_any.specs.declared.load.LoadError.{LoadError}
-use Rattle.zerotrie_any.specs.declared.load.LoadError.TheVariants.{Tag, NotWellFormed}
+use Rattle.zerotrie_any.specs.declared.bytes.LoadError.{LoadError}
+use Rattle.zerotrie_any.specs.declared.bytes.LoadError.TheVariants.{Tag, NotWellFormed}
 
 -- the bytes are the tag of the kind and then these, which mean a map
 abbrev pub IsLoaded : Kind → List ℕ → List ℕ → Type 0

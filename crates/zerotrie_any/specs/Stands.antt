@@ -3,7 +3,7 @@ use Rattle.std.specs.Prelude.{ℕ, List, []}
 use Rattle.zerotrie_core.specs.Maps.{Pairs}
 use Rattle.zerotrie_core.specs.Places.{Place, ListsAt}
 use Rattle.zerotrie_any.specs.Flavors.{flavor_kind}
-use Rattle.zerotrie_any.specs.declared.zerotrie.ZeroTrieFlavor.{ZeroTrieFlavor}
+use Rattle.zerotrie_any.specs.declared.trie.ZeroTrieFlavor.{ZeroTrieFlavor}
 
 -- Where a cursor stands, in a text of which kind.
 pub record Stand : Type 0 where

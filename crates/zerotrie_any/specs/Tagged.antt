@@ -2,9 +2,9 @@
 use Rattle.std.specs.Prelude.{◌≡◌, ℕ, List, [], ◌∷◌}
 use Rattle.zerotrie_core.specs.Kind.{Kind, tag}
 use Rattle.zerotrie_any.specs.Flavors.{flavor_kind}
-use Rattle.zerotrie_any.specs.declared.zerotrie.ZeroTrieFlavor.{ZeroTrieFlavor}
-use Rattle.zerotrie_any.specs.declared.tags.TagError.{TagError}
-use Rattle.zerotrie_any.specs.declared.tags.TagError.TheVariants.{Empty, InvalidTag}
+use Rattle.zerotrie_any.specs.declared.trie.ZeroTrieFlavor.{ZeroTrieFlavor}
+use Rattle.zerotrie_any.specs.declared.bytes.TagError.{TagError}
+use Rattle.zerotrie_any.specs.declared.bytes.TagError.TheVariants.{Empty, InvalidTag}
 
 -- the tag of the kind, then the bytes
 abbrev pub tagged : Kind → List ℕ → List ℕ

@@ -6,10 +6,10 @@ use Rattle.zerotrie_core.specs.Texts.{Lists}
 use Rattle.zerotrie_core.specs.Machine.{Op, Answer, run_one, run}
 use Rattle.zerotrie_core.specs.Machine.Op.{step, take_value, probe}
 use Rattle.zerotrie_core.specs.Machine.Answer.{stepped, taken, probed}
-use Rattle.zerotrie_any.specs.declared.cursor.CursorOp.{CursorOp}
-use Rattle.zerotrie_any.specs.declared.cursor.CursorOp.TheVariants.{Step, Take, Probe}
-use Rattle.zerotrie_any.specs.declared.cursor.CursorAnswer.{CursorAnswer}
-use Rattle.zerotrie_any.specs.declared.cursor.CursorAnswer.TheVariants.{Stepped, Taken, Probed}
+use Rattle.zerotrie_any.specs.declared.walks.CursorOp.{CursorOp}
+use Rattle.zerotrie_any.specs.declared.walks.CursorOp.TheVariants.{Step, Take, Probe}
+use Rattle.zerotrie_any.specs.declared.walks.CursorAnswer.{CursorAnswer}
+use Rattle.zerotrie_any.specs.declared.walks.CursorAnswer.TheVariants.{Stepped, Taken, Probed}
 
 -- what the machine is asked
 abbrev pub op_of : CursorOp → Op

@@ -1,4 +1,4 @@
-//! Tries as JSON values: an object from text to number, or a list of pairs of a key's bytes and its number.
+//! Tries as JSON values: an object from keys to numbers, or a list of pairs.
 
 ghost use Rattle.std.specs.Prelude.{◌≡◌};
 ghost use Rattle.zerotrie_any.specs.Json.{JsonKeepsPairs};
@@ -14,7 +14,7 @@ use thiserror::Error;
 pub use writing::json_of;
 use zerotrie_core::ZeroTrieBuildError;
 
-/// Why a JSON value is no trie, or a trie no JSON value.
+/// A JSON value was not read as a trie, or a trie not written as one.
 ///
 /// ```
 /// let error = JsonError::Build(ZeroTrieBuildError::DuplicateKey);
@@ -23,13 +23,13 @@ use zerotrie_core::ZeroTrieBuildError;
 /// ```
 #[derive(Clone, PartialEq, Eq, Debug, Drop, Error)]
 pub enum JsonError {
-    /// There are no pairs in the value: it is no object from text to number and no list of pairs.
+    /// The value is not an object of whole numbers or a list of [key, number].
     #[error("the value has no pairs: give an object from text to number, or a list of pairs of a key and a number")]
     Shape,
-    /// The pairs in the value make no trie of the kind, for this reason, which is never out of memory.
+    /// A build of the pairs in the value returned this error, which is never `OutOfMemory`.
     #[error("the pairs in the value make no trie: {0}")]
     Build(ZeroTrieBuildError),
-    /// Memory was refused.
+    /// An allocation failed.
     #[error("out of memory")]
     OutOfMemory,
 }
@@ -62,9 +62,10 @@ impl From<ZeroTrieBuildError> for JsonError {
     }
 }
 
-/// The pairs in the JSON value of a map are the map's, so a value that was written reads back.
+/// States that the pairs in the JSON value of a map are the map's, so what was written can be read
+/// back.
 ///
-/// It does nothing: calling it brings the law into a proof.
+/// Does nothing: a call brings the law into a proof.
 pub fn json_keeps_the_pairs()
     ensures { JsonKeepsPairs }
 {}

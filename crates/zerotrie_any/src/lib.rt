@@ -1,29 +1,25 @@
-//! What every kind of trie shares, over bare bytes: the routes that build one from a slice, a map or an iterator,
-//! its ordered map, walks of a cursor, tagged bytes and JSON values. And `ZeroTrie`, a trie whose kind is known
-//! when the program runs.
+//! What all kinds of trie share, over plain bytes: builds from a slice, a map or an iterator, the
+//! ordered map of a trie, walks of a cursor, tagged bytes and JSON values. And `ZeroTrie`, a trie
+//! whose kind is a value at run time.
 #![tactic(auto)]
 
-mod checked;
+mod bytes;
 mod cursor;
 mod json;
-mod keys;
-mod listed;
-mod load;
-mod parts;
+mod keys_values;
+mod list;
 mod prefixes;
 mod routes;
-mod tags;
-mod zerotrie;
-mod zerotrie_cursor;
+mod text_key;
+mod trie;
+mod walks;
 
-pub use checked::NotWellFormed;
-pub use cursor::{CursorAnswer, CursorOp, walk};
+pub use bytes::{LoadError, NotWellFormed, TagError, loaded, tagged, untagged};
+pub use cursor::ZeroTrieCursor;
 pub use json::{JsonError, bytes_from_json, json_keeps_the_pairs, json_of};
-pub use keys::TextKey;
-pub use listed::{first_key_of, map_of};
-pub use load::{LoadError, loaded};
-pub use parts::{ZeroTrieKeys, ZeroTrieValues};
+pub use keys_values::{ZeroTrieKeys, ZeroTrieValues};
+pub use list::{first_key_of, map_of};
 pub use routes::{bytes_from_iter, bytes_from_map, bytes_from_slice, bytes_from_unsorted_slice};
-pub use tags::{TagError, tagged, untagged};
-pub use zerotrie::{HasFlavor, ZeroTrie, ZeroTrieFlavor};
-pub use zerotrie_cursor::ZeroTrieCursor;
+pub use text_key::TextKey;
+pub use trie::{HasFlavor, ZeroTrie, ZeroTrieFlavor};
+pub use walks::{CursorAnswer, CursorOp, walk};

@@ -1,4 +1,4 @@
-//! The routes by which the bytes of a trie of any kind are built.
+//! Builds the bytes of a trie of any kind.
 
 ghost use Rattle.std.specs.Prelude.{◌≡◌, IfOk, OnOk};
 ghost use Rattle.std.specs.Iterator.{IsFiniteIterable};
@@ -12,20 +12,19 @@ use std::collections::{BTreeMap, VecDeque};
 use zerotrie_build::{ByteSliceWithIndices, ZeroTrieBuilder};
 use zerotrie_core::{TrieKey, ZeroTrieBuildError, ZeroTrieBuilderOptions, ZeroTrieWithOptions};
 
-/// The bytes of the trie of a slice, whose keys ascend strictly by their bytes, in the kind without case
-/// too. An empty input gives an empty trie.
+/// Builds the bytes of the trie of a slice, whose keys must ascend strictly by their bytes, also if
+/// case is ignored. An empty slice gives no bytes.
 ///
 /// ```
 /// let bytes = bytes_from_slice::<Simple>(rt.alloc(), &[(b"ad", 22), (b"adef", 33)])?;
 /// assert_eq!(rt; bytes.as_slice(), b"ad\x90\x06ef\x90\x11".as_slice());
 /// ```
 ///
-/// The bytes mean the map of the items, and for a kind whose tables are all sorted they are the map's one
-/// text.
+/// In the kinds over ASCII keys they are the one encoding of the map.
 ///
-/// A build of any kind is refused with `Unsorted`, `CapacityExceeded` or `OutOfMemory`. The kinds over ASCII
-/// refuse with `NonAsciiError` too, the kind without case with `MixedCase`, and the hashed kinds with
-/// `CouldNotSolvePerfectHash`. Each has the reason that `ZeroTrieBuildError` gives.
+/// Errors: `Unsorted`, `CapacityExceeded`, `OutOfMemory`; over ASCII keys `NonAsciiError`; if case
+/// is ignored `MixedCase`; in the hashed kinds `CouldNotSolvePerfectHash`. See
+/// `ZeroTrieBuildError`.
 pub fn bytes_from_slice<K: ZeroTrieWithOptions>(
     alloc: Global,
     items: &[(&[u8], usize)],
@@ -40,15 +39,15 @@ pub fn bytes_from_slice<K: ZeroTrieWithOptions>(
     Ok(builder.data.into_vec())
 }
 
-/// The bytes of the trie of a slice in any order. An empty input gives an empty trie. The items are copied only if they
-/// have to be sorted.
+/// Builds the bytes of the trie of a slice in any order. An empty slice gives no bytes. Copies the
+/// items only if they must be sorted.
 ///
 /// ```
 /// let bytes = bytes_from_unsorted_slice::<Simple>(rt.alloc(), &[(b"adef", 33), (b"ad", 22)])?;
 /// assert_eq!(rt; bytes.as_slice(), b"ad\x90\x06ef\x90\x11".as_slice());
 /// ```
 ///
-/// A build is refused as by `bytes_from_iter`, each time for the reason that `ZeroTrieBuildError` gives.
+/// The errors are those of `bytes_from_iter`.
 pub fn bytes_from_unsorted_slice<K: ZeroTrieWithOptions>(
     alloc: Global,
     items: &[(&[u8], usize)],
@@ -63,7 +62,7 @@ pub fn bytes_from_unsorted_slice<K: ZeroTrieWithOptions>(
     Ok(builder.data.into_vec())
 }
 
-/// The entries of a map, each key by its bytes. The keys' bytes are not copied.
+/// Returns the entries of a map, each key as its bytes. Does not copy the keys.
 pub(crate) fn items_of<Key: TrieKey + Ord>(
     alloc: Global,
     entries: &BTreeMap<Key, usize>,
@@ -80,11 +79,10 @@ pub(crate) fn items_of<Key: TrieKey + Ord>(
     Ok(items)
 }
 
-/// The bytes of the trie of a map. An empty map gives an empty trie.
+/// Builds the bytes of the trie of a map. An empty map gives no bytes.
 ///
-/// A build is refused as one of a slice is, each time for the reason that `ZeroTrieBuildError` gives.
-/// `Unsorted` never comes if the map's keys are in the order of their bytes, as keys of bytes and of text
-/// are.
+/// The errors are those of `bytes_from_slice`, but never `Unsorted` if the keys are ordered by
+/// their bytes, as byte and string keys are.
 pub fn bytes_from_map<K: ZeroTrieWithOptions, Key: TrieKey + Ord>(
     alloc: Global,
     entries: &BTreeMap<Key, usize>,
@@ -99,17 +97,17 @@ pub fn bytes_from_map<K: ZeroTrieWithOptions, Key: TrieKey + Ord>(
     bytes_from_slice::<K>(alloc, items.as_slice())
 }
 
-/// The bytes of the trie of all pairs that an iterator gives, in any order. An empty input gives an empty
-/// trie.
+/// Builds the bytes of the trie of all pairs of an iterator, in any order. An empty iterator gives
+/// no bytes.
 ///
 /// ```
 /// let bytes = bytes_from_iter::<Simple, _, _>(rt.alloc(), [("adef", 33), ("ad", 22)])?;
 /// assert_eq!(rt; bytes.as_slice(), b"ad\x90\x06ef\x90\x11".as_slice());
 /// ```
 ///
-/// A build of any kind is refused with `DuplicateKey`, `CapacityExceeded` or `OutOfMemory`. The kinds over
-/// ASCII refuse with `NonAsciiError` too, the kind without case with `MixedCase`, and the hashed kinds with
-/// `CouldNotSolvePerfectHash`. Each has the reason that `ZeroTrieBuildError` gives.
+/// Errors: `DuplicateKey`, `CapacityExceeded`, `OutOfMemory`; over ASCII keys `NonAsciiError`; if
+/// case is ignored `MixedCase`; in the hashed kinds `CouldNotSolvePerfectHash`. See
+/// `ZeroTrieBuildError`.
 pub fn bytes_from_iter<
     K: ZeroTrieWithOptions,
     Key: TrieKey + Drop,

@@ -1,29 +1,27 @@
-//! Tries that are built in an array.
+//! Tries that are built in arrays.
 
 ghost use Rattle.std.specs.Prelude.{◌<◌, ◌^◌};
 ghost use Rattle.zerotrie_core.specs.Items.{pairs_of};
 ghost use Rattle.zerotrie_core.specs.ArrayRoutes.{IsArrayBuild, IsBuildCopied};
 ghost use Rattle.zerotrie_build.specs.Items.{pairs};
 
-use crate::ascii_trie::{AsciiTrie, ZeroTrieSimpleAscii};
+use crate::trie::{AsciiTrie, ZeroTrieSimpleAscii};
 use std::alloc::Global;
 use zerotrie_build::{ByteSliceWithIndices, bytes_within, fill_from_end};
 use zerotrie_core::{ZeroTrieBuildError, laws};
 
 impl<const N: usize> ZeroTrieSimpleAscii<[u8; N]> {
-    /// Builds the trie of a slice, whose keys ascend strictly by their bytes, in an array that it fills, with
-    /// a stack of 100.
-    ///
-    /// It is `from_sorted_u8_tuples_with_stack` with room for 100 targets that wait for their branch.
-    /// `encoded_len` of the slice tells the length of the array beforehand.
+    /// Builds the trie of a slice in an array of exactly its length:
+    /// `from_sorted_u8_tuples_with_stack` with a stack of 100.
     pub fn from_sorted_u8_tuples(items: &[(&[u8], usize)]) -> Result<Self, ZeroTrieBuildError>
         ensures { IsArrayBuild N 100 (λ trie. trie.store) (pairs_of items.now) result }
     {
         Self::from_sorted_u8_tuples_with_stack::<100>(items)
     }
 
-    /// Builds the trie of a slice, whose keys ascend strictly by their bytes, in an array that it fills, with
-    /// a stack of `K`. It takes no memory. `K` has to be below 2^58, as a stack that fits a machine is.
+    /// Builds the trie of a slice, whose keys must ascend strictly by their bytes, in an array of
+    /// exactly its length, which `encoded_len` returns. The stack has room for `K` finished
+    /// subtries that wait for their branch. `K` must be below 2^58. Does not allocate.
     ///
     /// ```
     /// let items: [(&[u8], usize); 2] = [(b"ad", 22), (b"adef", 33)];
@@ -32,9 +30,8 @@ impl<const N: usize> ZeroTrieSimpleAscii<[u8; N]> {
     /// assert_eq!(rt; trie.get(b"adef"), Some(33));
     /// ```
     ///
-    /// A build is refused with `Unsorted`, `NonAsciiError`, `CapacityExceeded`, `BufferTooSmall`,
-    /// `BufferTooLarge` or `StackExceeded`, each for the reason that `ZeroTrieBuildError` gives, and never if
-    /// there is none.
+    /// Errors: `Unsorted`, `NonAsciiError`, `CapacityExceeded`, `BufferTooSmall`, `BufferTooLarge`,
+    /// `StackExceeded`; see `ZeroTrieBuildError`. Without such a cause it returns the trie.
     pub fn from_sorted_u8_tuples_with_stack<const K: usize>(
         items: &[(&[u8], usize)],
     ) -> Result<Self, ZeroTrieBuildError>
@@ -44,14 +41,14 @@ impl<const N: usize> ZeroTrieSimpleAscii<[u8; N]> {
         fill::<N, K>(ByteSliceWithIndices::from_byte_slice(items))
     }
 
-    /// Builds the trie of a slice as `from_sorted_u8_tuples`, with keys that are text.
+    /// Builds the trie of a slice, as `from_sorted_u8_tuples` does, for `str` keys.
     pub fn from_sorted_str_tuples(items: &[(&str, usize)]) -> Result<Self, ZeroTrieBuildError>
         ensures { IsArrayBuild N 100 (λ trie. trie.store) (pairs_of items.now) result }
     {
         Self::from_sorted_str_tuples_with_stack::<100>(items)
     }
 
-    /// Builds the trie of a slice as `from_sorted_u8_tuples_with_stack`, with keys that are text.
+    /// Builds the trie of a slice, as `from_sorted_u8_tuples_with_stack` does, for `str` keys.
     pub fn from_sorted_str_tuples_with_stack<const K: usize>(
         items: &[(&str, usize)],
     ) -> Result<Self, ZeroTrieBuildError>
@@ -63,10 +60,8 @@ impl<const N: usize> ZeroTrieSimpleAscii<[u8; N]> {
 }
 
 impl ZeroTrieSimpleAscii<Vec<u8>> {
-    /// Builds the trie of a slice, whose keys ascend strictly by their bytes, with a stack of 100. It may have
-    /// 10,000 bytes.
-    ///
-    /// It is `try_from_sorted_slice_sized` with these numbers.
+    /// Builds the trie of a slice, of at most 10,000 bytes and with a stack of 100:
+    /// `try_from_sorted_slice_sized` with these numbers.
     pub fn try_from_sorted_slice_with_const_builder(
         alloc: Global,
         items: &[(&[u8], usize)],
@@ -76,9 +71,9 @@ impl ZeroTrieSimpleAscii<Vec<u8>> {
         Self::try_from_sorted_slice_sized::<10000, 100>(alloc, items)
     }
 
-    /// Builds the trie of a slice, whose keys ascend strictly by their bytes, with a stack of `K`. It may have
-    /// `N` bytes, and takes memory for as many as it has. `K` has to be below 2^58, as a stack that fits a
-    /// machine is.
+    /// Builds the trie of a slice, whose keys must ascend strictly by their bytes. It may have at
+    /// most `N` bytes; as many as it has are allocated. The stack has room for `K` finished
+    /// subtries that wait for their branch. `K` must be below 2^58.
     ///
     /// ```
     /// let items: [(&[u8], usize); 2] = [(b"ad", 22), (b"adef", 33)];
@@ -86,8 +81,8 @@ impl ZeroTrieSimpleAscii<Vec<u8>> {
     /// assert_eq!(rt; trie.byte_len(), 8);
     /// ```
     ///
-    /// A build is refused with `Unsorted`, `NonAsciiError`, `CapacityExceeded`, `BufferTooSmall`,
-    /// `StackExceeded` or `OutOfMemory`, each for the reason that `ZeroTrieBuildError` gives.
+    /// Errors: `Unsorted`, `NonAsciiError`, `CapacityExceeded`, `BufferTooSmall`, `StackExceeded`,
+    /// `OutOfMemory`; see `ZeroTrieBuildError`.
     pub fn try_from_sorted_slice_sized<const N: usize, const K: usize>(
         alloc: Global,
         items: &[(&[u8], usize)],
@@ -101,7 +96,7 @@ impl ZeroTrieSimpleAscii<Vec<u8>> {
     }
 }
 
-/// The trie of the items, in an array that it fills.
+/// Builds the trie of the items in an array of exactly its length.
 fn fill<const N: usize, const K: usize>(
     items: ByteSliceWithIndices<'_>,
 ) -> Result<ZeroTrieSimpleAscii<[u8; N]>, ZeroTrieBuildError>

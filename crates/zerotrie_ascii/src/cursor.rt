@@ -1,4 +1,4 @@
-//! Cursors, which go down a trie over ASCII keys edge by edge.
+//! Cursors, which follow a key byte by byte.
 
 ghost use Rattle.std.specs.Prelude.{⊤, ◌≡◌, ◌≤◌, length, ◌↔◌, ◌∷◌, [], ℕ, List, None, IsTrue, IfNone, IfOk, IsOk, OnErr, is_ok, MatchResult, nat_lt};
 ghost use Rattle.std.specs.Fn.{FnOnceReturnsAtMut};
@@ -13,9 +13,9 @@ ghost use Rattle.zerotrie_any.specs.Walks.{IsWalk};
 ghost use Rattle.zerotrie_ascii.specs.ListedTexts.{AreTexts};
 ghost use Rattle.zerotrie_ascii.specs.Writing.{ascii_front, StepsBy, HasValue};
 
-use crate::ascii_trie::AsciiTrie;
-use crate::listed::ZeroTrieStringIterator;
+use crate::list::ZeroTrieStringIterator;
 use crate::options::AsciiKind;
+use crate::trie::AsciiTrie;
 use std::alloc::{AllocError, Global};
 use std::fmt;
 use std::marker::{Model, PhantomData};
@@ -24,19 +24,20 @@ use zerotrie_core::{
     AsciiProbeResult, Ignore, Simple, TrieStore, ZeroTrieStream, probe, step, take_value,
 };
 
-/// A place in a trie over ASCII keys: what all keys have after the bytes that were stepped. `K` is the kind.
+/// A cursor in a trie over ASCII keys. `K` is the kind.
 ///
-/// Use it by the name of a kind, `ZeroTrieSimpleAsciiCursor` or `ZeroAsciiIgnoreCaseTrieCursor`.
+/// Use it by the name of a kind: `ZeroTrieSimpleAsciiCursor` or `ZeroAsciiIgnoreCaseTrieCursor`.
 ///
-/// It is the bytes of the store that are left, so it takes no memory, and a copy of it is a place of its own.
-/// Each call returns on any bytes.
+/// It represents what remains of all keys that begin with the bytes that were stepped. It borrows
+/// from the trie's bytes and does not allocate. Each clone moves on its own. On malformed bytes
+/// results are unspecified; no call panics or reads outside them.
 #[derive(Debug, Drop)]
 pub struct AsciiCursor<'a, K> {
     trie: &'a [u8],
     kind: PhantomData<K>,
 }
 
-/// A place in a trie over ASCII keys.
+/// A cursor in a `ZeroTrieSimpleAscii`.
 ///
 /// ```
 /// let trie = ZeroTrieSimpleAscii::from_bytes(b"abc\x80def\x81");
@@ -50,7 +51,7 @@ pub struct AsciiCursor<'a, K> {
 /// ```
 pub type ZeroTrieSimpleAsciiCursor<'a> = AsciiCursor<'a, Simple>;
 
-/// A place in a trie over ASCII keys that are looked up without the case of letters.
+/// A cursor in a `ZeroAsciiIgnoreCaseTrie`.
 ///
 /// ```
 /// let trie = ZeroAsciiIgnoreCaseTrie::from_bytes(b"aB\x85");
@@ -79,8 +80,8 @@ impl<'a, K> AsciiCursor<'a, K> {
         }
     }
 
-    /// The trie of what all keys have from here on. It lies in the trie's store, which it may outlive the
-    /// cursor by.
+    /// Returns the trie of what remains of the keys. It borrows from the trie's bytes, so it may
+    /// outlive the cursor.
     ///
     /// ```
     /// let trie = ZeroTrieSimpleAscii::from_bytes(b"abc\x80def\x81");
@@ -97,8 +98,8 @@ impl<'a, K> AsciiCursor<'a, K> {
 }
 
 impl<'a, K: AsciiKind> AsciiCursor<'a, K> {
-    /// The pairs of what all keys have from here on, one after another, each key lent from one buffer. It takes no memory
-    /// before the first pair, and none for a pair.
+    /// Returns a lending iterator over what remains of the keys, with their values: each key is
+    /// borrowed from one buffer. Does not change the cursor.
     ///
     /// ```
     /// let trie = ZeroTrieSimpleAscii::from_bytes(b"in\x83to\x84");
@@ -109,7 +110,7 @@ impl<'a, K: AsciiKind> AsciiCursor<'a, K> {
     /// assert_eq!(rt; (pairs.key(), pairs.value()), (b"n".as_slice(), 3));
     /// ```
     ///
-    /// The cursor stays as it is.
+    /// Does not allocate before the first pair, nor for each pair.
     pub fn stream(&self, alloc: Global) -> ZeroTrieStream<'a>
         ensures lists { (pairs : Pairs) → Lists K.kind self.now pairs
             → result.left ≡ to_come pairs }
@@ -118,7 +119,8 @@ impl<'a, K: AsciiKind> AsciiCursor<'a, K> {
         ZeroTrieStream::new::<K>(alloc, self.trie)
     }
 
-    /// The same pairs, each key in memory of its own.
+    /// Returns an iterator over what remains of the keys, with their values. Does not change the
+    /// cursor.
     pub fn iter(&self, alloc: Global) -> ZeroTrieStringIterator<'a>
         ensures lists { (pairs : Pairs) → Lists K.kind self.now pairs → result ≡ to_come pairs }
         ensures texts { (pairs : Pairs) → Lists K.kind self.now pairs → AreTexts pairs }
@@ -127,7 +129,7 @@ impl<'a, K: AsciiKind> AsciiCursor<'a, K> {
         ZeroTrieStringIterator::new::<K>(alloc, self.trie)
     }
 
-    /// Whether no key goes on from here. An empty cursor has no value either.
+    /// Returns whether nothing remains: there is no value and no edge.
     pub fn is_empty(&self) -> bool
         ensures exact { IsTrue result ↔ (self.now ≡ []) }
         ensures pairs { (pairs : Pairs) → Lists K.kind self.now pairs → IsTrue result
@@ -136,34 +138,13 @@ impl<'a, K: AsciiKind> AsciiCursor<'a, K> {
         self.trie.is_empty()
     }
 
-    /// Takes the value of the empty key. `None` if there is none, and then nothing changes.
+    /// Takes the value of the key that ends here, so that a second call returns `None`. If there is
+    /// none, returns `None` and leaves the cursor unchanged.
     pub fn take_value(&mut self) -> Option<usize>
         ensures meaning { IsTake K.kind (Lists K.kind self.old) result (Lists K.kind self.new) }
         ensures none { IfNone result (self.new ≡ self.old) }
     {
         take_value(&mut self.trie)
-    }
-
-    /// Goes along the edge of this number, and answers its byte and how many edges there are, itself among
-    /// them.
-    ///
-    /// ```
-    /// let trie = ZeroTrieSimpleAscii::from_bytes(b"\xC2ab\x01\x85\x86");
-    /// let mut cursor = trie.cursor();
-    /// let edge = AsciiProbeResult { byte: b'b', total_siblings: 2 };
-    /// assert_eq!(rt; cursor.probe(1), Some(edge));
-    /// assert_eq!(rt; cursor.probe(0), None);
-    /// ```
-    ///
-    /// A value is passed over. The edges of a branch are numbered as they stand, and a literal is one edge.
-    /// If there is no edge of this number, the answer is `None`, and the cursor is empty.
-    pub fn probe(&mut self, index: usize) -> Option<AsciiProbeResult>
-        ensures meaning { IsProbe (Lists K.kind self.old) index
-            (option_map {U = ℕ × ℕ} (λ r. (r.byte, r.total_siblings)) result)
-            (Lists K.kind self.new) }
-        ensures empty { IfNone result (self.new ≡ []) }
-    {
-        probe::<K>(&mut self.trie, index)
     }
 
     #[inline(always)]
@@ -174,8 +155,57 @@ impl<'a, K: AsciiKind> AsciiCursor<'a, K> {
     {
         step::<K>(&mut self.trie, byte)
     }
+}
 
-    /// Steps by a character, which has to be ASCII. By any other one it is the error, and nothing changes.
+impl<'a> AsciiCursor<'a, Simple> {
+    /// Follows the edge for this byte, past a value if there is one. If there is no such edge, the
+    /// cursor becomes empty.
+    #[inline(always)]
+    pub fn step(&mut self, byte: u8)
+        ensures { StepsBy simple_ascii self.old (byte ∷ []) self.new }
+    {
+        self.step_edge(byte);
+    }
+}
+
+impl<'a> AsciiCursor<'a, Ignore> {
+    /// Follows the edge for this byte, ignoring case, past a value if there is one, and returns the
+    /// byte as stored. If there is no such edge, returns `None`, and the cursor becomes empty.
+    #[inline(always)]
+    pub fn step(&mut self, byte: u8) -> Option<u8>
+        ensures meaning { IsStep ignore_case (Lists ignore_case self.old) byte result
+            (Lists ignore_case self.new) }
+        ensures empty { IfNone result (self.new ≡ []) }
+    {
+        self.step_edge(byte)
+    }
+}
+
+impl<'a, K: AsciiKind> AsciiCursor<'a, K> {
+    /// Follows the edge with this index, past a value if there is one, and returns its byte and the
+    /// number of edges here.
+    ///
+    /// ```
+    /// let trie = ZeroTrieSimpleAscii::from_bytes(b"\xC2ab\x01\x85\x86");
+    /// let mut cursor = trie.cursor();
+    /// let edge = AsciiProbeResult { byte: b'b', total_siblings: 2 };
+    /// assert_eq!(rt; cursor.probe(1), Some(edge));
+    /// assert_eq!(rt; cursor.probe(0), None);
+    /// ```
+    ///
+    /// The edges of a branch are numbered in the order of its table. A literal is one edge. If no
+    /// edge has this index, returns `None`, and the cursor becomes empty.
+    pub fn probe(&mut self, index: usize) -> Option<AsciiProbeResult>
+        ensures meaning { IsProbe (Lists K.kind self.old) index
+            (option_map {U = ℕ × ℕ} (λ r. (r.byte, r.total_siblings)) result)
+            (Lists K.kind self.new) }
+        ensures empty { IfNone result (self.new ≡ []) }
+    {
+        probe::<K>(&mut self.trie, index)
+    }
+
+    /// Steps by an ASCII character. Any other character is an error and leaves the cursor
+    /// unchanged.
     pub fn write_char(&mut self, c: char) -> fmt::Result
         ensures exact { is_ok result ≡ nat_lt c 128 }
         ensures ok { IsOk result → StepsBy K.kind self.old (c ∷ []) self.new }
@@ -189,32 +219,6 @@ impl<'a, K: AsciiKind> AsciiCursor<'a, K> {
     }
 }
 
-impl<'a> AsciiCursor<'a, Simple> {
-    /// Goes along the edge of this byte.
-    ///
-    /// A value is passed over. If no edge is the byte, the cursor is empty.
-    #[inline(always)]
-    pub fn step(&mut self, byte: u8)
-        ensures { StepsBy simple_ascii self.old (byte ∷ []) self.new }
-    {
-        self.step_edge(byte);
-    }
-}
-
-impl<'a> AsciiCursor<'a, Ignore> {
-    /// Goes along the edge that is this byte but for the case of a letter, and answers it as it is stored.
-    ///
-    /// A value is passed over. If no edge is the byte, the answer is `None`, and the cursor is empty.
-    #[inline(always)]
-    pub fn step(&mut self, byte: u8) -> Option<u8>
-        ensures meaning { IsStep ignore_case (Lists ignore_case self.old) byte result
-            (Lists ignore_case self.new) }
-        ensures empty { IfNone result (self.new ≡ []) }
-    {
-        self.step_edge(byte)
-    }
-}
-
 impl<'a, K> Clone for AsciiCursor<'a, K> {
     ghost is_clone = { λ x y. y ≡ x };
 
@@ -225,13 +229,13 @@ impl<'a, K> Clone for AsciiCursor<'a, K> {
     }
 }
 
-/// Text is stepped byte by byte, so that `write!` goes down a trie by what it prints.
+/// Steps by each byte of what is written, so that `write!` follows what it prints.
 impl<'a, K: AsciiKind> fmt::Write for AsciiCursor<'a, K> {
     ghost use Rattle.zerotrie_ascii.specs.Writing.{StepsBy};
 
     ghost write_str_gives = { λ s bytes t. StepsBy K.kind s bytes t };
 
-    /// Steps by each byte before the first that is not ASCII, and is the error if there is one.
+    /// Steps by each byte before the first that is not ASCII, which is an error.
     fn write_str(&mut self, s: &str) -> fmt::Result
         ensures ok { IsOk result → StepsBy K.kind self.old s.now self.new }
         ensures exact { is_ok result ≡ is_ascii s.now }
@@ -248,15 +252,15 @@ impl<'a, K: AsciiKind> fmt::Write for AsciiCursor<'a, K> {
 }
 
 impl<K: AsciiKind, S: TrieStore> AsciiTrie<K, S> {
-    /// A cursor in front of all keys.
+    /// Returns a cursor at the beginning of all keys.
     pub fn cursor(&self) -> AsciiCursor<'_, K>
         ensures { result ≡ S.stored self.now.store }
     {
         AsciiCursor::new(self.as_bytes())
     }
 
-    /// The value of the key that a closure writes: that of the cursor which the closure leaves in its place,
-    /// or `None` if the closure fails.
+    /// Returns the value of the key that a closure writes to a cursor, or `None` if the closure
+    /// fails.
     ///
     /// ```
     /// use std::fmt::Write;
@@ -265,7 +269,8 @@ impl<K: AsciiKind, S: TrieStore> AsciiTrie<K, S> {
     /// assert_eq!(rt; trie.get_with_write_fn(|cursor| write!(cursor, "a{}", "bc")), Some(5));
     /// ```
     ///
-    /// The closure may step, take and probe, and may put another cursor in the place of the one it was given.
+    /// The value is the one at the cursor after the closure. The closure may also take values and
+    /// probe, or replace the cursor by another.
     pub fn get_with_write_fn<'a, F: FnOnce(&mut AsciiCursor<'a, K>) -> fmt::Result>(
         &'a self,
         write: F,
@@ -283,7 +288,7 @@ impl<K: AsciiKind, S: TrieStore> AsciiTrie<K, S> {
         }
     }
 
-    /// The answers of a fresh cursor that is taken through a list of calls.
+    /// Makes these calls on a new cursor, one after another, and returns their results.
     ///
     /// ```
     /// let trie = ZeroTrieSimpleAscii::from_bytes(b"a\x85");
@@ -292,7 +297,7 @@ impl<K: AsciiKind, S: TrieStore> AsciiTrie<K, S> {
     /// assert_eq!(rt; answers[1], CursorAnswer::Taken(Some(5)));
     /// ```
     ///
-    /// The only error is out of memory.
+    /// An error means that an allocation failed.
     pub fn walk(&self, alloc: Global, ops: &[CursorOp]) -> Result<Vec<CursorAnswer>, AllocError>
         ensures { IfOk result (λ answers.
             IsWalk K.kind (S.stored self.now.store) ops.now answers.items) }
@@ -302,7 +307,8 @@ impl<K: AsciiKind, S: TrieStore> AsciiTrie<K, S> {
 }
 
 impl<'a, K: AsciiKind> AsciiTrie<K, &'a [u8]> {
-    /// A cursor in front of all keys, which may outlive the trie, and not its bytes.
+    /// Returns a cursor at the beginning of all keys. It borrows from the trie's bytes, so it may
+    /// outlive the trie.
     pub fn into_cursor(self) -> AsciiCursor<'a, K>
         ensures { result ≡ self.entry.store.now }
     {

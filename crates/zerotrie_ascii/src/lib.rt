@@ -1,17 +1,16 @@
-//! Tries over ASCII keys, with the case of letters and without.
+//! Tries over ASCII keys, whose look-ups keep or ignore case.
 #![tactic(auto)]
 
 mod array;
-mod ascii_trie;
-mod checked;
+mod bytes;
 mod cursor;
-mod listed;
-mod load;
+mod json;
+mod list;
 mod options;
-mod outer;
 mod prefixes;
+mod trie;
 
-pub use ascii_trie::{AsciiTrie, ZeroAsciiIgnoreCaseTrie, ZeroTrieSimpleAscii};
 pub use cursor::{AsciiCursor, ZeroAsciiIgnoreCaseTrieCursor, ZeroTrieSimpleAsciiCursor};
-pub use listed::{ZeroTrieStringIterator, ZeroTrieStringKeys};
+pub use list::{ZeroTrieStringIterator, ZeroTrieStringKeys};
 pub use options::AsciiKind;
+pub use trie::{AsciiTrie, ZeroAsciiIgnoreCaseTrie, ZeroTrieSimpleAscii};

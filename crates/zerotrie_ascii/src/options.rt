@@ -1,12 +1,12 @@
-//! The kinds over ASCII keys, and the kind of a trie as its options.
+//! The kinds over ASCII keys, and the options of a trie.
 
 ghost use Rattle.zerotrie_core.specs.Kind.{IsAscii};
 
-use crate::ascii_trie::AsciiTrie;
+use crate::trie::AsciiTrie;
 use zerotrie_core::{Ignore, Simple, ZeroTrieWithOptions};
 
-/// A kind of trie over ASCII keys, `Simple` or `Ignore`. Each branch has a sorted table, so a map has one
-/// text.
+/// A kind of trie over ASCII keys: `Simple` or `Ignore`. Each branch has a sorted table, so a map
+/// has one encoding.
 pub trait AsciiKind: ZeroTrieWithOptions {
     ghost ascii: { IsAscii Self.kind };
 }

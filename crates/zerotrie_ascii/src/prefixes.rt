@@ -1,37 +1,51 @@
-//! Listings that lend their keys, and the keys that a text begins with, in a trie over ASCII keys.
+//! The pairs below a prefix, and the keys that are prefixes of a text.
 
 ghost use Rattle.std.specs.Prelude.{◌≡◌, ◌≤◌, length, IfOk, IfSome};
 ghost use Rattle.zerotrie_core.specs.Maps.{Map, Pairs, beginning};
 ghost use Rattle.zerotrie_core.specs.Texts.{Lists, Means};
 ghost use Rattle.zerotrie_core.specs.Listings.{to_come};
 ghost use Rattle.zerotrie_core.specs.Prefixes.{IsLongestPrefix, at_front};
+ghost use Rattle.zerotrie_ascii.specs.ListedTexts.{AreTexts};
 
-use crate::ascii_trie::AsciiTrie;
+use crate::list::ZeroTrieStringIterator;
 use crate::options::AsciiKind;
+use crate::trie::AsciiTrie;
 use std::alloc::{AllocError, Global};
 use zerotrie_core::{CommonPrefixes, TrieStore, ZeroTrieStream, longest_prefix};
 
 impl<K: AsciiKind, S: TrieStore> AsciiTrie<K, S> {
-    /// The pairs of the trie, one after another, each key lent from one buffer, in the order of `iter`. It takes no memory
-    /// before the first pair, and none for a pair.
+    /// Returns an iterator over the pairs whose keys begin with a prefix, each with its whole key,
+    /// in the order of `iter`.
     ///
     /// ```
-    /// let trie = ZeroTrieSimpleAscii::try_from_iter(rt.alloc(), [("en", 1), ("en-Latn", 2)])?;
-    /// let mut pairs = trie.stream(rt.alloc());
-    /// assert!(rt; pairs.advance()?);
-    /// assert_eq!(rt; (pairs.key(), pairs.value()), (b"en".as_slice(), 1));
+    /// let trie = ZeroTrieSimpleAscii::try_from_iter(rt.alloc(), [("xyz", 22), ("abc", 11)])?;
+    /// let mut pairs = trie.iter_prefix(rt.alloc(), b"ab")?;
+    /// let (key, value) = pairs.next().ok_or("no key")??;
+    /// assert_eq!(rt; (key.as_str(), value), ("abc", 11));
+    /// assert!(rt; pairs.next().is_none());
     /// ```
-    pub fn stream(&self, alloc: Global) -> ZeroTrieStream<'_>
-        ensures lists { (pairs : Pairs) → Lists K.kind (S.stored self.now.store) pairs
-            → result.left ≡ to_come pairs }
-        ensures most { length result.left.pairs ≤ length (S.stored self.now.store) }
+    ///
+    /// Reads no part of the trie but the one below the prefix. An error means that an allocation
+    /// failed.
+    pub fn iter_prefix(
+        &self,
+        alloc: Global,
+        prefix: &[u8],
+    ) -> Result<ZeroTrieStringIterator<'_>, AllocError>
+        ensures lists { IfOk result (λ it.
+            (pairs : Pairs) → Lists K.kind (S.stored self.now.store) pairs
+            → it ≡ to_come (beginning K.kind prefix.now pairs)) }
+        ensures texts { (pairs : Pairs) → Lists K.kind (S.stored self.now.store) pairs
+            → AreTexts (beginning K.kind prefix.now pairs) }
     {
-        ZeroTrieStream::new::<K>(alloc, self.as_bytes())
+        ZeroTrieStringIterator::with_prefix::<K>(alloc, self.as_bytes(), prefix)
     }
 
-    /// The pairs whose keys begin with a prefix, as `stream` lends them: each with its whole key, in the order of `iter`.
+    /// Returns a lending iterator over the pairs whose keys begin with a prefix, each with its
+    /// whole key, in the order of `iter`.
     ///
-    /// It goes down to the prefix and reads no other part of the trie. The only error is that it is out of memory.
+    /// Reads no part of the trie but the one below the prefix. An error means that an allocation
+    /// failed.
     pub fn stream_prefix(
         &self,
         alloc: Global,
@@ -43,7 +57,8 @@ impl<K: AsciiKind, S: TrieStore> AsciiTrie<K, S> {
         ZeroTrieStream::with_prefix::<K>(alloc, self.as_bytes(), prefix)
     }
 
-    /// The longest key that a text begins with: its length in bytes, and its value. `None` if the text begins with no key.
+    /// Returns the length in bytes and the value of the longest key that `text` begins with, or
+    /// `None` if there is none.
     ///
     /// ```
     /// let trie = ZeroTrieSimpleAscii::try_from_iter(rt.alloc(), [("en", 1), ("en-Latn", 2)])?;
@@ -51,7 +66,7 @@ impl<K: AsciiKind, S: TrieStore> AsciiTrie<K, S> {
     /// assert_eq!(rt; trie.longest_prefix(b"de"), None);
     /// ```
     ///
-    /// It reads the text once, up to the first byte with which no key goes on, and takes no memory.
+    /// Reads `text` once, up to the first byte that no key has there. Does not allocate.
     pub fn longest_prefix(&self, text: &[u8]) -> Option<(usize, usize)>
         ensures longest { (m : Map) → Means K.kind (S.stored self.now.store) m
             → IsLongestPrefix K.kind m text.now result }
@@ -60,7 +75,8 @@ impl<K: AsciiKind, S: TrieStore> AsciiTrie<K, S> {
         longest_prefix::<K>(self.as_bytes(), text)
     }
 
-    /// The keys that a text begins with, the shortest first: the length of each in bytes, and its value.
+    /// Returns an iterator over the keys that `text` begins with, the shortest first: the length in
+    /// bytes and the value of each.
     ///
     /// ```
     /// let trie = ZeroTrieSimpleAscii::try_from_iter(rt.alloc(), [("en", 1), ("en-Latn", 2)])?;
@@ -70,7 +86,7 @@ impl<K: AsciiKind, S: TrieStore> AsciiTrie<K, S> {
     /// assert_eq!(rt; keys.next(), None);
     /// ```
     ///
-    /// It reads the text once, up to the first byte with which no key goes on, and takes no memory.
+    /// Reads `text` once, up to the first byte that no key has there. Does not allocate.
     pub fn common_prefixes<'t>(&self, text: &'t [u8]) -> CommonPrefixes<'_, 't>
         ensures { result ≡ at_front K.kind (S.stored self.now.store) text.now }
     {

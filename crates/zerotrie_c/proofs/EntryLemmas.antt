@@ -8,7 +8,8 @@ use Rattle.zerotrie_core.specs.Maps.{same_key}
 use Rattle.zerotrie.specs.dense.Rows.{Rows, keys, texts, IsInOrder}
 use Rattle.zerotrie_c.specs.Entries.{Entries, entries_of, entry_before, rows_of, NoRows}
 use Rattle.zerotrie_c.specs.Keys.{keys_from}
-use Rattle.zerotrie_core.specs.Causes.{ZeroTrieBuildError, NonAsciiError, CapacityExceeded, CouldNotSolvePerfectHash, MixedCase, IllegalDelimiter, DuplicateKey, Unsorted, BufferTooSmall, BufferTooLarge, StackExceeded, OutOfMemory}
+use Rattle.zerotrie_core.specs.declared.ZeroTrieBuildError.{ZeroTrieBuildError}
+use Rattle.zerotrie_core.specs.declared.ZeroTrieBuildError.TheVariants.{NonAsciiError, CapacityExceeded, CouldNotSolvePerfectHash, MixedCase, IllegalDelimiter, DuplicateKey, Unsorted, BufferTooSmall, BufferTooLarge, StackExceeded, OutOfMemory}
 use Rattle.zerotrie_c.proofs.FrontLemmas.{either, first_same, none_some}
 
 pub length-keys_from : (from : ℕ) (bytes ends : List ℕ) → length (keys_from from bytes ends) ≡ length ends

@@ -1,6 +1,7 @@
 -- Dense tables as C is told of them.
 use Rattle.std.specs.Prelude.{◌≡◌, ℕ, ◌⊎◌, List, Option, Some, None}
-use Rattle.zerotrie_core.specs.Causes.{ZeroTrieBuildError, Unsorted, OutOfMemory}
+use Rattle.zerotrie_core.specs.declared.ZeroTrieBuildError.{ZeroTrieBuildError}
+use Rattle.zerotrie_core.specs.declared.ZeroTrieBuildError.TheVariants.{Unsorted, OutOfMemory}
 use Rattle.zerotrie.specs.dense.Laws.{Answers, AnswersByMaps}
 use Rattle.zerotrie.specs.dense.Records.{Parts, record_of}
 use Rattle.zerotrie.specs.dense.Rows.{Rows, IsInOrder}

@@ -3,7 +3,8 @@ use Rattle.std.specs.Prelude.{ℕ, ◌≤◌, List, [], ◌∷◌, if◌then◌e
 use Rattle.std.proofs.Common.{zero, suc, get_or}
 use Rattle.zerotrie_core.specs.Kind.{simple_ascii}
 use Rattle.zerotrie_core.specs.Maps.{same_key}
-use Rattle.zerotrie_core.specs.Causes.{ZeroTrieBuildError, NonAsciiError, CapacityExceeded, CouldNotSolvePerfectHash, MixedCase, IllegalDelimiter, DuplicateKey, Unsorted, BufferTooSmall, BufferTooLarge, StackExceeded, OutOfMemory}
+use Rattle.zerotrie_core.specs.declared.ZeroTrieBuildError.{ZeroTrieBuildError}
+use Rattle.zerotrie_core.specs.declared.ZeroTrieBuildError.TheVariants.{NonAsciiError, CapacityExceeded, CouldNotSolvePerfectHash, MixedCase, IllegalDelimiter, DuplicateKey, Unsorted, BufferTooSmall, BufferTooLarge, StackExceeded, OutOfMemory}
 use Rattle.zerotrie.specs.dense.Rows.{Rows, texts, IsInOrder}
 use Rattle.zerotrie_c.specs.Keys.{keys_from}
 

@@ -18,7 +18,7 @@ use zerotrie_core::{
     TrieKind, ZeroTrieBuildError, ZeroTrieBuilderOptions, ZeroTrieWithOptions, by_kind,
 };
 
-/// A pair, as C gives it.
+/// A pair of a key and a value, with C's layout.
 #[repr(C)]
 #[derive(Clone, Copy)]
 pub struct Pair<'a> {
@@ -26,7 +26,7 @@ pub struct Pair<'a> {
     pub value: usize,
 }
 
-/// The pairs as items. The keys' bytes are not copied.
+/// Returns the pairs as items. The keys are borrowed.
 fn items_of<'a>(alloc: Global, pairs: &[Pair<'a>]) -> Result<Vec<(&'a [u8], usize)>, AllocError>
     ensures { IfOk result (λ items. pairs_of items.items ≡ given pairs.now) }
 {
@@ -37,7 +37,7 @@ fn items_of<'a>(alloc: Global, pairs: &[Pair<'a>]) -> Result<Vec<(&'a [u8], usiz
     Ok(items)
 }
 
-/// Hands out bytes if there is room for them, and tells their length.
+/// Copies the bytes into `out` if there is room, and sets `len` to their number.
 pub fn hand_out(bytes: &[u8], out: &mut [u8], len: &mut usize) -> u32
     ensures { IsHandedOut bytes.now result len.new out.old out.new }
 {
@@ -50,7 +50,7 @@ pub fn hand_out(bytes: &[u8], out: &mut [u8], len: &mut usize) -> u32
     DONE
 }
 
-/// Builds the trie of pairs whose keys ascend, in the kind `K`.
+/// Builds the trie of pairs whose keys ascend, of the kind `K`.
 fn bytes_sorted<K: ZeroTrieWithOptions>(
     alloc: Global,
     pairs: &[Pair<'_>],
@@ -61,7 +61,7 @@ fn bytes_sorted<K: ZeroTrieWithOptions>(
     bytes_from_slice::<K>(alloc, items.as_slice())
 }
 
-/// Builds the trie of pairs in any order, in the kind `K`.
+/// Builds the trie of pairs in any order, of the kind `K`.
 fn bytes_unsorted<K: ZeroTrieWithOptions>(
     alloc: Global,
     pairs: &[Pair<'_>],
@@ -72,7 +72,7 @@ fn bytes_unsorted<K: ZeroTrieWithOptions>(
     bytes_from_unsorted_slice::<K>(alloc, items.as_slice())
 }
 
-/// Builds the trie of pairs whose keys ascend, in the kind `K`, and hands it out.
+/// Builds the trie of pairs whose keys ascend, of the kind `K`, into `out`.
 fn build_sorted<K: ZeroTrieWithOptions>(
     alloc: Global,
     pairs: &[Pair<'_>],
@@ -88,7 +88,7 @@ fn build_sorted<K: ZeroTrieWithOptions>(
     }
 }
 
-/// Builds the trie of pairs in any order, in the kind `K`, and hands it out.
+/// Builds the trie of pairs in any order, of the kind `K`, into `out`.
 fn build_unsorted<K: ZeroTrieWithOptions>(
     alloc: Global,
     pairs: &[Pair<'_>],
@@ -104,8 +104,8 @@ fn build_unsorted<K: ZeroTrieWithOptions>(
     }
 }
 
-/// Builds the trie of pairs whose keys ascend strictly by their bytes, in the kind of this number. Its bytes go to the
-/// front of `out` if there is room for them, and how many they are to `len`.
+/// Builds the trie of pairs whose keys ascend strictly by their bytes. Writes it to the beginning
+/// of `out` if there is room, and sets `len` to its length.
 #[unsafe(no_mangle)]
 pub extern "C" fn zerotrie_build_sorted(
     alloc: Global,
@@ -125,8 +125,8 @@ pub extern "C" fn zerotrie_build_sorted(
     }
 }
 
-/// Builds the trie of pairs in any order, in the kind of this number. Its bytes go to the front of `out` if there is room
-/// for them, and how many they are to `len`.
+/// Builds the trie of pairs in any order. Writes it to the beginning of `out` if there is room, and
+/// sets `len` to its length.
 #[unsafe(no_mangle)]
 pub extern "C" fn zerotrie_build(
     alloc: Global,
@@ -146,7 +146,7 @@ pub extern "C" fn zerotrie_build(
     }
 }
 
-/// The length of the text of pairs whose keys ascend, in the kind `K`.
+/// Returns the length of a build of pairs whose keys ascend, of the kind `K`.
 fn len_sorted<K: ZeroTrieWithOptions>(
     alloc: Global,
     pairs: &[Pair<'_>],
@@ -158,7 +158,7 @@ fn len_sorted<K: ZeroTrieWithOptions>(
     encoded_len(alloc, items, ZeroTrieBuilderOptions::of::<K>())
 }
 
-/// Tells the length of the text of pairs whose keys ascend, in the kind `K`.
+/// Sets `len` to the length of a build of pairs whose keys ascend, of the kind `K`.
 fn tell_len<K: ZeroTrieWithOptions>(alloc: Global, pairs: &[Pair<'_>], len: &mut usize) -> u32
     ensures { IsLengthTold ascending K.kind (given pairs.now) result len.old len.new }
 {
@@ -171,7 +171,8 @@ fn tell_len<K: ZeroTrieWithOptions>(alloc: Global, pairs: &[Pair<'_>], len: &mut
     }
 }
 
-/// How many bytes a build of these pairs would have, whose keys ascend strictly by their bytes. It builds nothing.
+/// Sets `len` to the number of bytes that `zerotrie_build_sorted` writes for these pairs. Nothing
+/// is built.
 #[unsafe(no_mangle)]
 pub extern "C" fn zerotrie_encoded_len(
     alloc: Global,
@@ -189,15 +190,15 @@ pub extern "C" fn zerotrie_encoded_len(
     }
 }
 
-/// Whether all keys are ASCII.
+/// Returns whether all keys are ASCII.
 fn are_ascii(pairs: &[Pair<'_>]) -> bool
     ensures { result ≡ are_ascii (given pairs.now) }
 {
     pairs.iter().all(|pair| pair.key.is_ascii())
 }
 
-/// The number of the kind that is taken for the pairs if none is named: 0 if all keys are ASCII and there are fewer than
-/// 512, and else 3.
+/// Returns the number of the kind that suits the pairs: 0 if all keys are ASCII and there are fewer
+/// than 512, else 3.
 #[unsafe(no_mangle)]
 pub extern "C" fn zerotrie_auto_kind(pairs: &[Pair<'_>]) -> u32
     ensures { result ≡ tag (auto_kind (given pairs.now)) }

@@ -14,9 +14,10 @@ ghost use Rattle.zerotrie_c.specs.Places.{place};
 use crate::kinds::kind_of;
 use zerotrie_core::{ByteProbeResult, SpanCursor, ZeroTrieWithOptions, by_kind};
 
-/// A cursor, as C keeps it: the rest of a run, and the trie after it. Both lie in the bytes of the trie.
+/// A cursor with C's layout: the rest of a span, and the trie after it. Both borrow the trie's
+/// bytes.
 ///
-/// It stands inside a span while the run is not empty; then no key ends here, and the run is what is left of the span.
+/// It is inside a span while `run` is not empty. No key ends there.
 #[repr(C)]
 #[derive(Clone, Copy)]
 pub struct Cursor<'a> {
@@ -24,7 +25,7 @@ pub struct Cursor<'a> {
     pub trie: &'a [u8],
 }
 
-/// Where a cursor stands, as C keeps it.
+/// Returns the parts of a cursor.
 fn kept<'a>(cursor: &SpanCursor<'a>) -> Cursor<'a>
     ensures { place result ≡ cursor.now }
 {
@@ -32,7 +33,7 @@ fn kept<'a>(cursor: &SpanCursor<'a>) -> Cursor<'a>
     Cursor { run, trie }
 }
 
-/// A step in a trie of the kind of this number.
+/// Steps in a trie of the kind with this number.
 fn step_as(kind: u32, cursor: &mut SpanCursor<'_>, byte: u8) -> Option<u8>
     ensures known { IfSome (kind_of kind) (λ k.
         IsStep k (ListsAt k cursor.old) byte result (ListsAt k cursor.new)) }
@@ -50,7 +51,7 @@ fn step_as(kind: u32, cursor: &mut SpanCursor<'_>, byte: u8) -> Option<u8>
     }
 }
 
-/// A probe of a trie of the kind of this number.
+/// Probes a trie of the kind with this number.
 fn probe_as(kind: u32, cursor: &mut SpanCursor<'_>, index: usize) -> Option<ByteProbeResult>
     ensures known { IfSome (kind_of kind) (λ k. IsProbe (ListsAt k cursor.old) index
         (option_map {U = ℕ × ℕ} (λ r. (r.byte, r.total_siblings)) result) (ListsAt k cursor.new)) }
@@ -68,7 +69,7 @@ fn probe_as(kind: u32, cursor: &mut SpanCursor<'_>, index: usize) -> Option<Byte
     }
 }
 
-/// Sets the cursor in front of all keys of a trie, of any kind.
+/// Sets the cursor to the beginning of a trie, of any kind.
 #[unsafe(no_mangle)]
 pub extern "C" fn zerotrie_cursor_new<'a>(bytes: &'a [u8], cursor: &mut Cursor<'a>)
     ensures { place cursor.new ≡ record { run = []; trie = bytes.now } }
@@ -76,8 +77,8 @@ pub extern "C" fn zerotrie_cursor_new<'a>(bytes: &'a [u8], cursor: &mut Cursor<'
     *cursor = kept(&SpanCursor::new(bytes));
 }
 
-/// Goes along the edge that is the byte to the kind. Yes if there is one, and then its byte goes to `edge`; else
-/// nothing is left.
+/// Follows the edge for this byte, as the kind compares bytes. Returns whether there is one, and
+/// then sets `edge` to its byte; otherwise the cursor is empty.
 #[unsafe(no_mangle)]
 pub extern "C" fn zerotrie_cursor_step(
     kind: u32,
@@ -106,7 +107,8 @@ pub extern "C" fn zerotrie_cursor_step(
     }
 }
 
-/// Takes the value of the empty key. Yes if there is one, and then it goes to `value`; else nothing changes.
+/// Takes the value at the cursor. Returns whether there is one, and then sets `value`; otherwise
+/// nothing changes.
 #[unsafe(no_mangle)]
 pub extern "C" fn zerotrie_cursor_take_value(cursor: &mut Cursor<'_>, value: &mut usize) -> bool
     ensures taken { (kind : Kind) → IsTake kind
@@ -128,8 +130,8 @@ pub extern "C" fn zerotrie_cursor_take_value(cursor: &mut Cursor<'_>, value: &mu
     }
 }
 
-/// Goes along the edge of this number. Yes if there is one, and then its byte goes to `edge`, and how many edges there
-/// are to `siblings`; else nothing is left.
+/// Follows the edge with this number. Returns whether there is one, and then sets `edge` to its
+/// byte and `siblings` to the number of edges; otherwise the cursor is empty.
 #[unsafe(no_mangle)]
 pub extern "C" fn zerotrie_cursor_probe(
     kind: u32,
@@ -160,7 +162,7 @@ pub extern "C" fn zerotrie_cursor_probe(
     }
 }
 
-/// Where a cursor of the kind `K` stands after a step by each byte of the prefix.
+/// Returns the cursor after a step by each byte of the prefix, in the kind `K`.
 fn behind_prefix<'a, K: ZeroTrieWithOptions>(bytes: &'a [u8], prefix: &[u8]) -> SpanCursor<'a>
     ensures { (pairs : Pairs) → Lists K.kind bytes.now pairs
         → ListsAt K.kind result (after_steps K.kind prefix.now pairs) }
@@ -172,8 +174,8 @@ fn behind_prefix<'a, K: ZeroTrieWithOptions>(bytes: &'a [u8], prefix: &[u8]) -> 
     here
 }
 
-/// Sets the cursor after a prefix: it stands where a step by each byte of it leads. Yes if some key begins with the
-/// prefix; else nothing is left.
+/// Sets the cursor after a prefix, as a step by each of its bytes would. Returns whether some key
+/// begins with the prefix; otherwise the cursor is empty.
 #[unsafe(no_mangle)]
 pub extern "C" fn zerotrie_with_prefix<'a>(
     kind: u32,

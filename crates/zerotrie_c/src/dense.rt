@@ -1,4 +1,4 @@
-//! Dense tables: maps from two texts to numbers, each as a record of bytes.
+//! Dense tables: two-dimensional maps from two strings to numbers, each as a record of bytes.
 
 ghost use Rattle.std.specs.Prelude.{◌≡◌, ◌≢◌, ◌↔◌, ◌<◌, length, IfOk, IfErr};
 ghost use Rattle.zerotrie.specs.dense.Laws.{IsWhole};
@@ -19,7 +19,7 @@ use zerotrie::dense::{
 };
 use zerotrie_core::ZeroTrieBuildError;
 
-/// Tells an answer: its value, or that there is none.
+/// Sets `value` to the value found, if there is one.
 fn tell(answer: Option<usize>, value: &mut usize) -> u32
     ensures { IsEntryTold answer result value.old value.new }
 {
@@ -32,8 +32,8 @@ fn tell(answer: Option<usize>, value: &mut usize) -> u32
     }
 }
 
-/// The value of a suffix under a prefix, in the table of which the bytes are the record. If there is one it goes to `value`, and
-/// else that stays.
+/// Looks up a suffix under a prefix in the table of this record. If there is a value, sets `value`
+/// to it.
 #[unsafe(no_mangle)]
 pub extern "C" fn zerotrie_dense_get(
     bytes: &[u8],
@@ -54,7 +54,7 @@ pub extern "C" fn zerotrie_dense_get(
     }
 }
 
-/// The record of the table of rows.
+/// Returns the record of the table of rows.
 fn record_of_rows(
     alloc: Global,
     rows: &BTreeMap<&str, BTreeMap<&str, usize>>,
@@ -69,7 +69,7 @@ fn record_of_rows(
     Ok(record)
 }
 
-/// The record of the table of entries.
+/// Returns the record of the table of entries.
 fn record_given(
     alloc: Global,
     prefixes: Texts<'_>,
@@ -87,12 +87,12 @@ fn record_given(
     record_of_rows(alloc, &rows, delimiter)
 }
 
-/// Builds the table of entries, each a prefix, a suffix and the value of both, and hands out its record. The entries are
-/// in the order of their prefixes, and under one prefix in that of their suffixes.
+/// Builds the table of entries, each a prefix, a suffix and a value, and writes its record to
+/// `out`. The entries are sorted by prefix, and those of one prefix by suffix.
 ///
-/// The prefixes lie one after another in `prefixes`, each up to its end, and so do the suffixes in `suffixes`; an end
-/// past all bytes stands for theirs, and an end below the one before it makes an empty text. There are as many entries
-/// as the shortest of `prefix_ends`, `suffix_ends` and `values` has.
+/// `prefixes` and `suffixes` have the strings one after another, each up to its end. An end past
+/// all bytes counts as their end, and an end below the one before it makes an empty string. There
+/// are as many entries as the shortest of `prefix_ends`, `suffix_ends` and `values` has.
 #[unsafe(no_mangle)]
 pub extern "C" fn zerotrie_dense_build(
     alloc: Global,

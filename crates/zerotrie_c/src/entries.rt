@@ -1,8 +1,8 @@
-//! The entries of a dense table: two lists of texts and one of values, and the map of maps of them.
+//! The entries of a dense table, two lists of strings and one of values, as a map of maps.
 
 ghost use Rattle.std.specs.Prelude.{◌≡◌, ◌↔◌, ◌≤◌, ◌⊎◌, ◌<◌, ◌∷◌, [], ℕ, IsTrue, Some, IfOk, IfErr, OnOk, Any, map, length};
 ghost use Rattle.std.specs.List.{slice_get};
-ghost use Rattle.zerotrie_core.specs.Causes.{NonAsciiError, Unsorted, OutOfMemory};
+ghost use Rattle.zerotrie_core.specs.declared.ZeroTrieBuildError.TheVariants.{NonAsciiError, Unsorted, OutOfMemory};
 ghost use Rattle.zerotrie_core.specs.Maps.{Ascends, FirstAbove};
 ghost use Rattle.zerotrie.specs.dense.Rows.{placed};
 ghost use Rattle.zerotrie.specs.dense.Views.{pairs_in, rows_in};
@@ -15,14 +15,14 @@ use std::cmp::Ordering;
 use std::collections::BTreeMap;
 use zerotrie_core::ZeroTrieBuildError;
 
-/// Texts that lie one after another, and where each ends.
+/// Strings one after another, and where each ends.
 #[derive(Clone, Copy)]
 pub struct Texts<'a> {
     pub bytes: &'a [u8],
     pub ends: &'a [usize],
 }
 
-/// Bytes as text.
+/// Returns bytes as a string.
 fn text_of(bytes: &[u8]) -> Result<&str, ZeroTrieBuildError>
     ensures text { IfOk result (λ s. s.now ≡ bytes.now) }
     ensures refused { IfErr result (λ e. (e ≡ NonAsciiError) × Any (λ b. 128 ≤ b) bytes.now) }
@@ -33,7 +33,7 @@ fn text_of(bytes: &[u8]) -> Result<&str, ZeroTrieBuildError>
     }
 }
 
-/// Whether a suffix is below all those of a row.
+/// Returns whether a suffix is below all those of a row.
 fn is_below(suffix: &str, row: &BTreeMap<&str, usize>) -> bool
     ensures { IsTrue result ↔ FirstAbove suffix.now (pairs_in row.now.entries) }
 {
@@ -43,7 +43,7 @@ fn is_below(suffix: &str, row: &BTreeMap<&str, usize>) -> bool
     }
 }
 
-/// Puts a suffix in front of a row.
+/// Adds a suffix at the beginning of a row.
 fn put_suffix<'t>(
     row: &mut BTreeMap<&'t str, usize>,
     suffix: &'t str,
@@ -60,7 +60,7 @@ fn put_suffix<'t>(
     Ok(())
 }
 
-/// A row of one suffix.
+/// Returns a row of one suffix.
 fn row_of<'t>(
     alloc: Global,
     suffix: &'t str,
@@ -74,7 +74,7 @@ fn row_of<'t>(
     Ok(row)
 }
 
-/// Puts a row in front of others.
+/// Adds a row before others.
 fn put_row<'t>(
     rows: &mut BTreeMap<&'t str, BTreeMap<&'t str, usize>>,
     prefix: &'t str,
@@ -88,7 +88,7 @@ fn put_row<'t>(
     Ok(())
 }
 
-/// Puts an entry in front of rows. Its prefix is that of the first row, or one below.
+/// Adds an entry before rows. Its prefix is that of the first row, or below it.
 fn put_entry<'t>(
     alloc: Global,
     rows: &mut BTreeMap<&'t str, BTreeMap<&'t str, usize>>,
@@ -118,7 +118,7 @@ fn put_entry<'t>(
     }
 }
 
-/// Puts an entry whose texts are bytes in front of rows.
+/// Adds an entry whose strings are bytes before rows.
 fn put_texts<'t>(
     alloc: Global,
     rows: &mut BTreeMap<&'t str, BTreeMap<&'t str, usize>>,
@@ -135,7 +135,7 @@ fn put_texts<'t>(
     put_entry(alloc, rows, prefix, suffix, value)
 }
 
-/// Where the key of this number begins: where the one before it ends.
+/// Returns where the key with this number begins: where the one before it ends.
 fn start_of(ends: &[usize], number: usize) -> usize
     requires { number < length ends.now }
     ensures { result ≡ start_at ends.now number }
@@ -146,7 +146,7 @@ fn start_of(ends: &[usize], number: usize) -> usize
     }
 }
 
-/// The key of this number, among those that lie one after another.
+/// Returns the key with this number.
 fn key_at<'b>(bytes: &'b [u8], ends: &[usize], number: usize) -> &'b [u8]
     requires { number < length ends.now }
     ensures { slice_get (keys_from 0 bytes.now ends.now) number ≡ Some result.now }
@@ -154,9 +154,9 @@ fn key_at<'b>(bytes: &'b [u8], ends: &[usize], number: usize) -> &'b [u8]
     key_between(bytes, start_of(ends, number), ends[number])
 }
 
-/// The rows of entries: each has a prefix, a suffix and a value, in the order of prefixes and under one of suffixes.
+/// Returns the rows of entries, which are sorted by prefix, and under one prefix by suffix.
 ///
-/// There are as many as the shortest of the three lists has.
+/// There are as many entries as the shortest of the three lists has.
 pub fn rows_of<'t>(
     alloc: Global,
     prefixes: Texts<'t>,

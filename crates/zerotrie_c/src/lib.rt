@@ -1,7 +1,7 @@
 //! The library for C, and for the languages that call C.
 //!
-//! Each export is a call of the library, and its contract says what that call's says. `bindings/c/zerotrie.h` declares
-//! them, and says what a caller owes: nothing checks it.
+//! Each export is a call of the library, with the clauses of that call. `bindings/c/zerotrie.h`
+//! declares the exports, and says what a caller must keep to: nothing checks it.
 #![tactic(auto)]
 
 pub mod builds;

@@ -14,7 +14,7 @@ use crate::statuses::{BUFFER_TOO_SMALL, DONE, OUT_OF_MEMORY, UNKNOWN_KIND};
 use std::alloc::{AllocError, Global};
 use zerotrie_core::{ListError, ZeroTrieStream, ZeroTrieWithOptions, by_kind};
 
-/// Keys that lie one after another, where each ends, and their values.
+/// Keys one after another, where each ends, and their values.
 #[derive(Drop)]
 struct Flat {
     keys: Vec<u8>,
@@ -22,7 +22,7 @@ struct Flat {
     values: Vec<usize>,
 }
 
-/// The pairs that a listing gives.
+/// Returns the pairs of a stream.
 fn flat_of(alloc: Global, mut pairs: ZeroTrieStream<'_>) -> Result<Flat, ListError>
     ensures listed { IfOk result (λ f.
         IsFlat pairs.entry.left.pairs f.keys.items f.ends.items f.values.items) }
@@ -39,7 +39,7 @@ fn flat_of(alloc: Global, mut pairs: ZeroTrieStream<'_>) -> Result<Flat, ListErr
     Ok(Flat { keys, ends, values })
 }
 
-/// The pairs of a trie whose keys begin with a prefix.
+/// Returns the pairs of a trie whose keys begin with a prefix.
 fn list<K: ZeroTrieWithOptions>(
     alloc: Global,
     bytes: &[u8],
@@ -53,7 +53,7 @@ fn list<K: ZeroTrieWithOptions>(
     flat_of(alloc, pairs)
 }
 
-/// Puts numbers at the front of the room, if there is enough.
+/// Copies numbers to the beginning of the room, if there is enough.
 fn put(numbers: &[usize], room: &mut [usize]) -> bool
     ensures { IsPut numbers.now result room.old room.new }
 {
@@ -65,7 +65,7 @@ fn put(numbers: &[usize], room: &mut [usize]) -> bool
     true
 }
 
-/// Puts bytes at the front of the room, if there is enough.
+/// Copies bytes to the beginning of the room, if there is enough.
 fn put_bytes(bytes: &[u8], room: &mut [u8]) -> bool
     ensures { IsPut bytes.now result room.old room.new }
 {
@@ -77,7 +77,7 @@ fn put_bytes(bytes: &[u8], room: &mut [u8]) -> bool
     true
 }
 
-/// What three rooms come to.
+/// Returns the status of three copies.
 fn status_of_rooms(keys: bool, ends: bool, values: bool) -> u32
     ensures { result ≡ status_if (keys && ends && values) }
 {
@@ -88,7 +88,7 @@ fn status_of_rooms(keys: bool, ends: bool, values: bool) -> u32
     }
 }
 
-/// Hands out what was listed, and tells how long it is.
+/// Copies the pairs out, and sets their lengths.
 fn give(
     listed: &Flat,
     keys: &mut [u8],
@@ -109,7 +109,7 @@ fn give(
     status_of_rooms(whole_keys, whole_ends, whole_values)
 }
 
-/// Lists the pairs of a trie of the kind `K` whose keys begin with a prefix, and hands them out.
+/// Writes the pairs of a trie of the kind `K` whose keys begin with a prefix.
 fn list_out<K: ZeroTrieWithOptions>(
     alloc: Global,
     bytes: &[u8],
@@ -130,11 +130,11 @@ fn list_out<K: ZeroTrieWithOptions>(
     }
 }
 
-/// Lists the pairs of a trie whose keys begin with a prefix, with the empty prefix all of them: their keys one after
-/// another, where each ends, and their values.
+/// Writes the pairs of a trie whose keys begin with a prefix, with the empty prefix all pairs: the
+/// keys one after another, where each ends, and the values.
 ///
-/// How many bytes the keys have together and how many there are is told also if a room is too small; a room that is has
-/// nothing written to it.
+/// It sets `key_bytes` and `count` even if some room is too small. A room that is too small stays
+/// as it is.
 #[unsafe(no_mangle)]
 pub extern "C" fn zerotrie_list(
     alloc: Global,
@@ -161,7 +161,7 @@ pub extern "C" fn zerotrie_list(
     }
 }
 
-/// Copies bytes into the room from a place on.
+/// Copies bytes into the room at a place.
 fn put_at(bytes: &[u8], room: &mut [u8], place: usize)
     requires { place + length bytes.now ≤ length room.old }
     ensures { room.new ≡ take place room.old
@@ -172,7 +172,7 @@ fn put_at(bytes: &[u8], room: &mut [u8], place: usize)
     part.copy_from_slice(bytes);
 }
 
-/// Writes the pairs of a stream, one after another, as many as the rooms have places for.
+/// Writes the next pairs of a stream, as many as the rooms have places for.
 fn write_some(
     mut pairs: ZeroTrieStream<'_>,
     keys: &mut [u8],
@@ -206,7 +206,7 @@ fn write_some(
     }
 }
 
-/// The pairs of a prefix that a listing has left.
+/// Returns the pairs of a prefix that are left of a listing.
 fn left_of<'a, K: ZeroTrieWithOptions>(
     alloc: Global,
     bytes: &'a [u8],
@@ -224,7 +224,7 @@ fn left_of<'a, K: ZeroTrieWithOptions>(
     }
 }
 
-/// Lists some pairs of a trie of the kind `K`.
+/// Writes the next pairs of a trie of the kind `K`.
 fn list_some<K: ZeroTrieWithOptions>(
     alloc: Global,
     bytes: &[u8],
@@ -250,12 +250,12 @@ fn list_some<K: ZeroTrieWithOptions>(
     }
 }
 
-/// Lists the next pairs whose keys begin with a prefix, as many as the rooms have places for: if `goes_on`, those after
-/// the key `last`, which the call before gave, and else the first ones. Their keys go one after another, and where each
-/// ends, and their values.
+/// Writes the next pairs whose keys begin with a prefix, as many as the rooms have places for: the
+/// keys one after another, where each ends, and the values. If `goes_on`, it continues after the
+/// key `last`, which the call before wrote last; otherwise it begins with the first pair.
 ///
-/// It is done if none is left. If the next pair has no room, the length of its key is told. It costs a look-up of the
-/// last key, and goes over no pair before it.
+/// The status is `DONE` if no pair is left. If the next pair has no room, `next_len` is the length
+/// of its key. A call costs a look-up of `last`, and reads no pair before it.
 #[unsafe(no_mangle)]
 pub extern "C" fn zerotrie_list_some(
     alloc: Global,

@@ -11,26 +11,26 @@ ghost use Rattle.zerotrie_c.specs.Statuses.{done, unknown_kind};
 
 use crate::kinds::kind_of;
 use crate::statuses::{DONE, UNKNOWN_KIND};
-use zerotrie_core::{LookUps, ZeroTrieWithOptions, by_kind, get_counted, longest_prefix};
+use zerotrie_core::{LookUps, ZeroTrieWithOptions, by_kind, get, longest_prefix};
 
-/// From how many keys on it pays to keep where first bytes lead.
+/// The number of keys from which a `LookUps` pays.
 const MANY: usize = 64;
 
-/// The value of the key in a trie of the kind of this number.
+/// Returns the value of the key in a trie of the kind with this number.
 fn look_up(kind: u32, bytes: &[u8], key: &[u8]) -> Option<usize>
     ensures known { IfSome (kind_of kind) (λ k.
         (m : Map) → Means k bytes.now m → result ≡ look k m key.now) }
     ensures unknown { IfNone (kind_of kind) (result ≡ None) }
 {
     match kind_of(kind) {
-        Some(kind) => by_kind!(kind, get_counted::<_>(bytes, key)).0,
+        Some(kind) => by_kind!(kind, get::<_>(bytes, key)),
         None => None,
     }
 }
 
-/// Whether the trie has the key. If so, its value goes to `value`, and else that stays.
+/// Returns whether the trie has the key, and then sets `value` to its value.
 ///
-/// A number that is no kind has no keys.
+/// A number that no kind has is no error: no key is found.
 #[unsafe(no_mangle)]
 pub extern "C" fn zerotrie_get(kind: u32, bytes: &[u8], key: &[u8], value: &mut usize) -> bool
     ensures known { IfSome (kind_of kind) (λ k. (m : Map) → Means k bytes.now m
@@ -47,7 +47,7 @@ pub extern "C" fn zerotrie_get(kind: u32, bytes: &[u8], key: &[u8], value: &mut 
     }
 }
 
-/// The bytes from one place up to another. A place past all bytes stands for their end.
+/// Returns the bytes from one place up to another. A place past all bytes counts as their end.
 pub fn key_between(bytes: &[u8], from: usize, to: usize) -> &[u8]
     ensures { result.now ≡ drop from (take to bytes.now) }
 {
@@ -63,12 +63,12 @@ pub fn key_between(bytes: &[u8], from: usize, to: usize) -> &[u8]
     }
 }
 
-/// The value of the key, or this number if the trie has no such key.
+/// Returns the value of the key, or `missing` if the trie does not have it.
 fn value_or<K: ZeroTrieWithOptions>(bytes: &[u8], key: &[u8], missing: usize) -> usize
     ensures { (m : Map) → Means K.kind bytes.now m
         → result ≡ or_else missing (look K.kind m key.now) }
 {
-    match get_counted::<K>(bytes, key).0 {
+    match get::<K>(bytes, key) {
         Some(value) => value,
         None => missing,
     }
@@ -95,7 +95,7 @@ fn look_up_few<K: ZeroTrieWithOptions>(
     }
 }
 
-/// The value of the key, or this number if the trie has no such key, by look-ups of many keys.
+/// Like `value_or`, for one of many keys.
 fn value_in_or<K: ZeroTrieWithOptions>(
     trie: &mut LookUps<'_, K>,
     key: &[u8],
@@ -111,7 +111,7 @@ fn value_in_or<K: ZeroTrieWithOptions>(
     }
 }
 
-/// Looks up many keys in a trie of the kind `K`, each from where its first byte leads.
+/// Looks up many keys in a trie of the kind `K`, each from the target of its first byte.
 fn look_up_many<K: ZeroTrieWithOptions>(
     bytes: &[u8],
     keys: &[u8],
@@ -152,11 +152,12 @@ fn look_up_all<K: ZeroTrieWithOptions>(
     }
 }
 
-/// Looks up keys that lie one after another, each up to its end, and writes the value of each, or `missing` for a key
-/// that the trie hasn't.
+/// Looks up keys and writes the value of each, or `missing` for a key that the trie does not have.
+/// The keys are one after another, each up to its end.
 ///
-/// An end past all bytes stands for theirs, and an end below the one before it makes an empty key. As many are
-/// answered as there are ends and room for values; the rest of the room stays. If the number is no kind, all of it stays.
+/// An end past all bytes counts as their end, and an end below the one before it makes an empty
+/// key. As many values are written as there are ends and room for values; the rest of the room
+/// stays. If no kind has the number, nothing is written.
 #[unsafe(no_mangle)]
 pub extern "C" fn zerotrie_get_many(
     kind: u32,
@@ -178,7 +179,7 @@ pub extern "C" fn zerotrie_get_many(
     DONE
 }
 
-/// The longest key that a text begins with, in a trie of the kind of this number.
+/// Returns the longest key that a text begins with, in a trie of the kind with this number.
 fn longest_as(kind: u32, bytes: &[u8], text: &[u8]) -> Option<(usize, usize)>
     ensures known { IfSome (kind_of kind) (λ k. (m : Map) → Means k bytes.now m
         → IsLongestPrefix k m text.now result) }
@@ -191,8 +192,8 @@ fn longest_as(kind: u32, bytes: &[u8], text: &[u8]) -> Option<(usize, usize)>
     }
 }
 
-/// Whether the text begins with a key. If so, the length of the longest such key goes to `len` and its value to `value`,
-/// and else both stay.
+/// Returns whether the text begins with a key, and then sets `len` and `value` to the length and
+/// the value of the longest one.
 #[unsafe(no_mangle)]
 pub extern "C" fn zerotrie_longest_prefix(
     kind: u32,

@@ -1,38 +1,38 @@
-//! The numbers that stand for what a call comes to.
+//! The status numbers of calls.
 
 ghost use Rattle.std.specs.Prelude.{◌≡◌};
 ghost use Rattle.zerotrie_c.specs.Statuses.{status_of};
 
 use zerotrie_core::ZeroTrieBuildError;
 
-/// It was done.
+/// The call succeeded.
 pub const DONE: u32 = 0;
 
-/// The room is too small; the length that it takes is told.
+/// The room is too small; its needed length is set.
 pub const BUFFER_TOO_SMALL: u32 = 8;
 
-/// Memory was refused.
+/// An allocation failed.
 pub const OUT_OF_MEMORY: u32 = 11;
 
-/// The number given for a kind is that of none.
+/// No kind has this number.
 pub const UNKNOWN_KIND: u32 = 12;
 
 /// Tagged bytes are empty.
 pub const NO_TAG: u32 = 13;
 
-/// The first of tagged bytes is no kind's number.
+/// Tagged bytes do not begin with the number of a kind.
 pub const INVALID_TAG: u32 = 14;
 
-/// A table has no value for two texts.
+/// A table has no value for two strings.
 pub const NO_ENTRY: u32 = 15;
 
-/// Bytes are fewer than the record of a table that they begin asks for.
+/// The record of a table is truncated.
 pub const RECORD_TRUNCATED: u32 = 16;
 
-/// Bytes are more than the record of a table that they begin asks for.
+/// Bytes follow the record of a table.
 pub const TRAILING_BYTES: u32 = 17;
 
-/// The number that stands for a refusal of a build.
+/// Returns the status of a build error.
 pub fn status_of(error: ZeroTrieBuildError) -> u32
     ensures { result ≡ status_of error }
 {

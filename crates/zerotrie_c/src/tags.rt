@@ -10,14 +10,14 @@ ghost use Rattle.zerotrie_c.specs.Tags.{IsUntagged};
 use crate::kinds::is_kind;
 use crate::statuses::{BUFFER_TOO_SMALL, DONE, INVALID_TAG, NO_TAG, UNKNOWN_KIND};
 
-/// Bytes, as C keeps them.
+/// Bytes with C's layout.
 #[repr(C)]
 #[derive(Clone, Copy)]
 pub struct Bytes<'a> {
     pub bytes: &'a [u8],
 }
 
-/// Puts a byte and others after it at the front of the room, which has enough.
+/// Copies a byte and others after it to the beginning of the room, which has enough.
 fn put_behind(first: u8, bytes: &[u8], out: &mut [u8])
     requires { length bytes.now < length out.old }
     ensures { out.new ≡ first ∷ bytes.now ++ drop (length bytes.now + 1) out.old }
@@ -26,7 +26,8 @@ fn put_behind(first: u8, bytes: &[u8], out: &mut [u8])
     out[1..bytes.len() + 1].copy_from_slice(bytes);
 }
 
-/// Writes the number of the kind and the bytes to the front of `out`, if there is room, and tells how long they are.
+/// Writes the number of the kind and the bytes to the beginning of `out`, if there is room, and
+/// sets `len`.
 #[unsafe(no_mangle)]
 pub extern "C" fn zerotrie_tagged(kind: u32, bytes: &[u8], out: &mut [u8], len: &mut usize) -> u32
     ensures known { IfSome (kind_of kind) (λ k.
@@ -45,7 +46,8 @@ pub extern "C" fn zerotrie_tagged(kind: u32, bytes: &[u8], out: &mut [u8], len: 
     DONE
 }
 
-/// The kind of tagged bytes, and the bytes after the tag where they lie. They are not tested.
+/// Returns the kind of tagged bytes, and the bytes after the tag, which are borrowed. It does not
+/// validate them.
 #[unsafe(no_mangle)]
 pub extern "C" fn zerotrie_untagged<'a>(
     tagged: &'a [u8],

@@ -1,11 +1,11 @@
-//! The texts of what a call comes to.
+//! The texts of status numbers.
 
 ghost use Rattle.std.specs.Prelude.{◌≡◌, map};
 ghost use Rattle.zerotrie_c.specs.Texts.{text_in, text_of};
 
 use crate::tags::Bytes;
 
-/// The texts of the numbers from 0 on, each with the zero that ends a text in C.
+/// The texts of the numbers from 0 on, each with the zero that ends a string in C.
 const TEXTS: [&str; 18] = [
     "Done\0",
     "a key has a byte that is not ASCII: take a kind of trie for keys of any bytes\0",
@@ -27,7 +27,7 @@ const TEXTS: [&str; 18] = [
     "bytes follow the record: give its bytes alone\0",
 ];
 
-/// The text of a number among these.
+/// Returns the text of a number among these.
 fn text_in(texts: &[&'static str], number: usize) -> &'static str
     ensures { result.now ≡ text_in (map (λ text. text.now) texts.now) number }
 {
@@ -37,14 +37,14 @@ fn text_in(texts: &[&'static str], number: usize) -> &'static str
     }
 }
 
-/// The text of a number.
+/// Returns the text of a number.
 fn text_of(status: u32) -> &'static str
     ensures { result.now ≡ text_of status }
 {
     text_in(&TEXTS, status as usize)
 }
 
-/// Lends the text of what a call came to: UTF-8, whose last byte is the zero that ends a text in C. It stays where it is.
+/// Returns the text of a status: UTF-8 that ends in a zero. It is never freed.
 #[unsafe(no_mangle)]
 pub extern "C" fn zerotrie_status_bytes(status: u32, text: &mut Bytes<'static>)
     ensures { text.new.bytes.now ≡ text_of status }

@@ -1,4 +1,4 @@
-//! Cursors, which go down a trie over keys of any bytes edge by edge.
+//! Cursors, which follow a key byte by byte.
 
 ghost use Rattle.std.specs.Prelude.{⊤, ◌≡◌, ◌≢◌, ◌↔◌, [], ℕ, IsTrue, IfSome, IfNone, IfOk};
 ghost use Rattle.std.specs.Option.{option_map};
@@ -8,8 +8,8 @@ ghost use Rattle.zerotrie_core.specs.Listings.{to_come};
 ghost use Rattle.zerotrie_core.specs.Places.{nowhere, ListsAt, IsStep, IsTake, IsProbe, FollowsRun};
 ghost use Rattle.zerotrie_any.specs.Walks.{IsWalk};
 
-use crate::hashed_trie::HashedTrie;
 use crate::options::HashedKind;
+use crate::trie::HashedTrie;
 use std::alloc::{AllocError, Global};
 use std::marker::{Model, PhantomData};
 use zerotrie_any::{CursorAnswer, CursorOp, walk};
@@ -17,21 +17,23 @@ use zerotrie_core::{
     ByteProbeResult, Ext, Hash, SpanCursor, TrieStore, ZeroTrieIterator, ZeroTrieStream,
 };
 
-/// A place in a trie over keys of any bytes: what all keys have after the bytes that were stepped. `K` is
-/// the kind.
+/// A cursor in a trie over keys of any bytes. `K` is the kind.
 ///
-/// Use it by the name of a kind, `ZeroTriePerfectHashCursor` or `ZeroTrieExtendedCapacityCursor`.
+/// Use it by the name of a kind: `ZeroTriePerfectHashCursor` or `ZeroTrieExtendedCapacityCursor`.
 ///
-/// It lies in the bytes of the store, so it takes no memory, and a copy of it is a place of its own. It may
-/// stand inside a span, whose bytes are one edge after another with no value between them. Each call
-/// returns on any bytes.
+/// It represents what remains of all keys that begin with the bytes that were stepped. It borrows
+/// from the trie's bytes and does not allocate. Each clone moves on its own. On malformed bytes
+/// results are unspecified; no call panics or reads outside them.
+///
+/// The cursor may be inside a span, whose bytes are one edge after another with no value between
+/// them.
 #[derive(Debug, Drop)]
 pub struct HashedCursor<'a, K> {
     place: SpanCursor<'a>,
     kind: PhantomData<K>,
 }
 
-/// A place in a trie over keys of any bytes.
+/// A cursor in a `ZeroTriePerfectHash`.
 ///
 /// ```
 /// let trie = ZeroTriePerfectHash::from_bytes(b"\xA2\xC3\xA5\x85");
@@ -42,7 +44,7 @@ pub struct HashedCursor<'a, K> {
 /// ```
 pub type ZeroTriePerfectHashCursor<'a> = HashedCursor<'a, Hash>;
 
-/// A place in a trie over keys of any bytes, in texts of any length.
+/// A cursor in a `ZeroTrieExtendedCapacity`.
 ///
 /// ```
 /// let trie = ZeroTrieExtendedCapacity::from_bytes(b"ab\x85");
@@ -73,8 +75,8 @@ impl<'a, K> HashedCursor<'a, K> {
 }
 
 impl<'a, K: HashedKind> HashedCursor<'a, K> {
-    /// The trie of what all keys have from here on. It lies in the trie's store, which it may outlive the
-    /// cursor by.
+    /// Returns the trie of what remains of the keys. It borrows from the trie's bytes, so it may
+    /// outlive the cursor.
     ///
     /// ```
     /// let trie = ZeroTriePerfectHash::from_bytes(b"a\xA2\xC3\xA5\x85");
@@ -84,7 +86,7 @@ impl<'a, K: HashedKind> HashedCursor<'a, K> {
     /// assert_eq!(rt; suffixes.get(b"\xC3\xA5"), Some(5));
     /// ```
     ///
-    /// `None` inside a span, where what is left has no bytes of its own in the store.
+    /// Returns `None` inside a span, where the bytes that remain are not a trie.
     pub fn into_suffix_trie(self) -> Option<HashedTrie<K, &'a [u8]>>
         ensures some { IfSome result (λ t.
             (self.entry.run ≡ []) × (t.store.now ≡ self.entry.trie)) }
@@ -96,7 +98,8 @@ impl<'a, K: HashedKind> HashedCursor<'a, K> {
         Some(HashedTrie::from_bytes(trie))
     }
 
-    /// The pairs of what all keys have from here on, one after another, each key lent from one buffer.
+    /// Returns a lending iterator over what remains of the keys, with their values: each key is
+    /// borrowed from one buffer. Does not change the cursor. The cursor may be inside a span.
     ///
     /// ```
     /// let trie = ZeroTriePerfectHash::from_bytes(b"a\xA2\xC3\xA5\x85");
@@ -108,7 +111,7 @@ impl<'a, K: HashedKind> HashedCursor<'a, K> {
     /// assert_eq!(rt; (pairs.key(), pairs.value()), (b"\xA5".as_slice(), 5));
     /// ```
     ///
-    /// The cursor may stand inside a span, and stays as it is. The only error is that it is out of memory.
+    /// An error means that an allocation failed.
     pub fn stream(&self, alloc: Global) -> Result<ZeroTrieStream<'a>, AllocError>
         ensures { IfOk result (λ s. (pairs : Pairs) → ListsAt K.kind self.now pairs
             → s.left ≡ to_come pairs) }
@@ -116,7 +119,8 @@ impl<'a, K: HashedKind> HashedCursor<'a, K> {
         ZeroTrieStream::from_cursor::<K>(alloc, self.place.clone()?)
     }
 
-    /// The same pairs, each key in memory of its own.
+    /// Returns an iterator over what remains of the keys, with their values. Does not change the
+    /// cursor. The cursor may be inside a span. An error means that an allocation failed.
     pub fn iter(&self, alloc: Global) -> Result<ZeroTrieIterator<'a>, AllocError>
         ensures { IfOk result (λ it. (pairs : Pairs) → ListsAt K.kind self.now pairs
             → it ≡ to_come pairs) }
@@ -124,7 +128,7 @@ impl<'a, K: HashedKind> HashedCursor<'a, K> {
         ZeroTrieIterator::from_cursor::<K>(alloc, self.place.clone()?)
     }
 
-    /// Whether no key goes on from here. An empty cursor has no value either.
+    /// Returns whether nothing remains: there is no value and no edge.
     pub fn is_empty(&self) -> bool
         ensures exact { IsTrue result ↔ (self.now ≡ nowhere) }
         ensures pairs { (pairs : Pairs) → ListsAt K.kind self.now pairs → IsTrue result
@@ -133,7 +137,8 @@ impl<'a, K: HashedKind> HashedCursor<'a, K> {
         self.place.is_empty()
     }
 
-    /// Takes the value of the empty key. `None` if there is none, and then nothing changes.
+    /// Takes the value of the key that ends here, so that a second call returns `None`. If there is
+    /// none, returns `None` and leaves the cursor unchanged.
     pub fn take_value(&mut self) -> Option<usize>
         ensures meaning { IsTake K.kind (ListsAt K.kind self.old) result (ListsAt K.kind self.new) }
         ensures run { self.new.run ≡ self.old.run }
@@ -142,9 +147,8 @@ impl<'a, K: HashedKind> HashedCursor<'a, K> {
         self.place.take_value()
     }
 
-    /// Goes along the edge of this byte, and answers it.
-    ///
-    /// A value is passed over. If no edge is the byte, the answer is `None`, and the cursor is empty.
+    /// Follows the edge for this byte, past a value if there is one, and returns the byte. If there
+    /// is no such edge, returns `None`, and the cursor becomes empty.
     #[inline(always)]
     pub fn step(&mut self, byte: u8) -> Option<u8>
         ensures meaning { IsStep K.kind (ListsAt K.kind self.old) byte result
@@ -155,8 +159,8 @@ impl<'a, K: HashedKind> HashedCursor<'a, K> {
         self.place.step::<K>(byte)
     }
 
-    /// Goes along the edge of this number, and answers its byte and how many edges there are, itself among
-    /// them.
+    /// Follows the edge with this index, past a value if there is one, and returns its byte and the
+    /// number of edges here.
     ///
     /// ```
     /// let trie = ZeroTriePerfectHash::from_bytes(b"\xC2ab\x01\x85\x86");
@@ -166,9 +170,8 @@ impl<'a, K: HashedKind> HashedCursor<'a, K> {
     /// assert_eq!(rt; cursor.probe(0), None);
     /// ```
     ///
-    /// A value is passed over. The edges of a branch are numbered as they stand, and a literal and a byte
-    /// of a span are one edge. If there is no edge of this number, the answer is `None`, and the cursor
-    /// is empty.
+    /// The edges of a branch are numbered in the order of its table. A literal or a byte of a span
+    /// is one edge. If no edge has this index, returns `None`, and the cursor becomes empty.
     pub fn probe(&mut self, index: usize) -> Option<ByteProbeResult>
         ensures meaning { IsProbe (ListsAt K.kind self.old) index
             (option_map {U = ℕ × ℕ} (λ r. (r.byte, r.total_siblings)) result)
@@ -194,14 +197,14 @@ impl<'a, K> Clone for HashedCursor<'a, K> {
 }
 
 impl<K: HashedKind, S: TrieStore> HashedTrie<K, S> {
-    /// A cursor in front of all keys.
+    /// Returns a cursor at the beginning of all keys.
     pub fn cursor(&self) -> HashedCursor<'_, K>
         ensures { result ≡ record { run = []; trie = S.stored self.now.store } }
     {
         HashedCursor::new(self.as_bytes())
     }
 
-    /// The answers of a fresh cursor that is taken through a list of calls.
+    /// Makes these calls on a new cursor, one after another, and returns their results.
     ///
     /// ```
     /// let trie = ZeroTriePerfectHash::from_bytes(b"a\x85");
@@ -210,7 +213,7 @@ impl<K: HashedKind, S: TrieStore> HashedTrie<K, S> {
     /// assert_eq!(rt; answers[1], CursorAnswer::Taken(Some(5)));
     /// ```
     ///
-    /// The only error is out of memory.
+    /// An error means that an allocation failed.
     pub fn walk(&self, alloc: Global, ops: &[CursorOp]) -> Result<Vec<CursorAnswer>, AllocError>
         ensures { IfOk result (λ answers.
             IsWalk K.kind (S.stored self.now.store) ops.now answers.items) }
@@ -220,7 +223,8 @@ impl<K: HashedKind, S: TrieStore> HashedTrie<K, S> {
 }
 
 impl<'a, K: HashedKind> HashedTrie<K, &'a [u8]> {
-    /// A cursor in front of all keys, which may outlive the trie, and not its bytes.
+    /// Returns a cursor at the beginning of all keys. It borrows from the trie's bytes, so it may
+    /// outlive the trie.
     pub fn into_cursor(self) -> HashedCursor<'a, K>
         ensures { result ≡ record { run = []; trie = self.entry.store.now } }
     {

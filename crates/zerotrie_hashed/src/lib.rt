@@ -1,15 +1,14 @@
 //! Tries over keys of any bytes, whose wide branches have perfect hashes.
 #![tactic(auto)]
 
-mod checked;
+mod bytes;
 mod cursor;
-mod hashed_trie;
-mod listed;
-mod load;
+mod json;
+mod list;
 mod options;
-mod outer;
 mod prefixes;
+mod trie;
 
 pub use cursor::{HashedCursor, ZeroTrieExtendedCapacityCursor, ZeroTriePerfectHashCursor};
-pub use hashed_trie::{HashedTrie, ZeroTrieExtendedCapacity, ZeroTriePerfectHash};
 pub use options::HashedKind;
+pub use trie::{HashedTrie, ZeroTrieExtendedCapacity, ZeroTriePerfectHash};

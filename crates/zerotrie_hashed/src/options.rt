@@ -1,12 +1,13 @@
-//! The kinds over keys of any bytes, and the kind of a trie as its options.
+//! The kinds over keys of any bytes, and the options of a trie.
 
 ghost use Rattle.zerotrie_core.specs.Kind.{IsAscii};
 
-use crate::hashed_trie::HashedTrie;
+use crate::trie::HashedTrie;
 use zerotrie_any::HasFlavor;
 use zerotrie_core::{Ext, Hash, ZeroTrieWithOptions};
 
-/// A kind of trie over keys of any bytes, `Hash` or `Ext`. A branch of 16 edges or more has a perfect hash.
+/// A kind of trie over keys of any bytes: `Hash` or `Ext`. A branch of 16 edges or more has a
+/// perfect hash.
 pub trait HashedKind: HasFlavor {
     ghost not_ascii: { IsAscii Self.kind → ⊥ };
 }

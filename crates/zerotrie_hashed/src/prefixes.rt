@@ -1,4 +1,4 @@
-//! Listings that lend their keys, and the keys that a text begins with, in a trie over keys of any bytes.
+//! The pairs below a prefix, and the keys that are prefixes of a text.
 
 ghost use Rattle.std.specs.Prelude.{◌≡◌, ◌≤◌, length, IfOk, IfSome};
 ghost use Rattle.zerotrie_core.specs.Maps.{Map, Pairs, beginning};
@@ -6,47 +6,17 @@ ghost use Rattle.zerotrie_core.specs.Texts.{Lists, Means};
 ghost use Rattle.zerotrie_core.specs.Listings.{to_come};
 ghost use Rattle.zerotrie_core.specs.Prefixes.{IsLongestPrefix, at_front};
 
-use crate::hashed_trie::HashedTrie;
 use crate::options::HashedKind;
+use crate::trie::HashedTrie;
 use std::alloc::{AllocError, Global};
 use zerotrie_core::{CommonPrefixes, TrieStore, ZeroTrieIterator, ZeroTrieStream, longest_prefix};
 
 impl<K: HashedKind, S: TrieStore> HashedTrie<K, S> {
-    /// The pairs of the trie, one after another, each key lent from one buffer, in the order of `iter`. It takes no memory
-    /// before the first pair, and none for a pair.
+    /// Returns an iterator over the pairs whose keys begin with a prefix, each with its whole key,
+    /// in the order of `iter`.
     ///
-    /// ```
-    /// let trie = ZeroTriePerfectHash::try_from_iter(rt.alloc(), [("en", 1), ("en-Latn", 2)])?;
-    /// let mut pairs = trie.stream(rt.alloc());
-    /// assert!(rt; pairs.advance()?);
-    /// assert_eq!(rt; (pairs.key(), pairs.value()), (b"en".as_slice(), 1));
-    /// ```
-    pub fn stream(&self, alloc: Global) -> ZeroTrieStream<'_>
-        ensures lists { (pairs : Pairs) → Lists K.kind (S.stored self.now.store) pairs
-            → result.left ≡ to_come pairs }
-        ensures most { length result.left.pairs ≤ length (S.stored self.now.store) }
-    {
-        ZeroTrieStream::new::<K>(alloc, self.as_bytes())
-    }
-
-    /// The pairs whose keys begin with a prefix, as `stream` lends them: each with its whole key, in the order of `iter`.
-    ///
-    /// It goes down to the prefix and reads no other part of the trie. The only error is that it is out of memory.
-    pub fn stream_prefix(
-        &self,
-        alloc: Global,
-        prefix: &[u8],
-    ) -> Result<ZeroTrieStream<'_>, AllocError>
-        ensures { IfOk result (λ s. (pairs : Pairs) → Lists K.kind (S.stored self.now.store) pairs
-            → s.left ≡ to_come (beginning K.kind prefix.now pairs)) }
-    {
-        ZeroTrieStream::with_prefix::<K>(alloc, self.as_bytes(), prefix)
-    }
-
-    /// The pairs whose keys begin with a prefix, as `iter` lists them: each with its whole key.
-    ///
-    /// It goes down to the prefix and reads no other part of the trie. The prefix may end inside a span. The only error is
-    /// that it is out of memory.
+    /// Reads no part of the trie but the one below the prefix. An error means that an allocation
+    /// failed.
     pub fn iter_prefix(
         &self,
         alloc: Global,
@@ -58,7 +28,24 @@ impl<K: HashedKind, S: TrieStore> HashedTrie<K, S> {
         ZeroTrieIterator::with_prefix::<K>(alloc, self.as_bytes(), prefix)
     }
 
-    /// The longest key that a text begins with: its length in bytes, and its value. `None` if the text begins with no key.
+    /// Returns a lending iterator over the pairs whose keys begin with a prefix, each with its
+    /// whole key, in the order of `iter`.
+    ///
+    /// Reads no part of the trie but the one below the prefix. An error means that an allocation
+    /// failed.
+    pub fn stream_prefix(
+        &self,
+        alloc: Global,
+        prefix: &[u8],
+    ) -> Result<ZeroTrieStream<'_>, AllocError>
+        ensures { IfOk result (λ s. (pairs : Pairs) → Lists K.kind (S.stored self.now.store) pairs
+            → s.left ≡ to_come (beginning K.kind prefix.now pairs)) }
+    {
+        ZeroTrieStream::with_prefix::<K>(alloc, self.as_bytes(), prefix)
+    }
+
+    /// Returns the length in bytes and the value of the longest key that `text` begins with, or
+    /// `None` if there is none.
     ///
     /// ```
     /// let trie = ZeroTriePerfectHash::try_from_iter(rt.alloc(), [("en", 1), ("en-Latn", 2)])?;
@@ -66,7 +53,7 @@ impl<K: HashedKind, S: TrieStore> HashedTrie<K, S> {
     /// assert_eq!(rt; trie.longest_prefix(b"de"), None);
     /// ```
     ///
-    /// It reads the text once, up to the first byte with which no key goes on, and takes no memory.
+    /// Reads `text` once, up to the first byte that no key has there. Does not allocate.
     pub fn longest_prefix(&self, text: &[u8]) -> Option<(usize, usize)>
         ensures longest { (m : Map) → Means K.kind (S.stored self.now.store) m
             → IsLongestPrefix K.kind m text.now result }
@@ -75,7 +62,8 @@ impl<K: HashedKind, S: TrieStore> HashedTrie<K, S> {
         longest_prefix::<K>(self.as_bytes(), text)
     }
 
-    /// The keys that a text begins with, the shortest first: the length of each in bytes, and its value.
+    /// Returns an iterator over the keys that `text` begins with, the shortest first: the length in
+    /// bytes and the value of each.
     ///
     /// ```
     /// let trie = ZeroTriePerfectHash::try_from_iter(rt.alloc(), [("en", 1), ("en-Latn", 2)])?;
@@ -85,7 +73,7 @@ impl<K: HashedKind, S: TrieStore> HashedTrie<K, S> {
     /// assert_eq!(rt; keys.next(), None);
     /// ```
     ///
-    /// It reads the text once, up to the first byte with which no key goes on, and takes no memory.
+    /// Reads `text` once, up to the first byte that no key has there. Does not allocate.
     pub fn common_prefixes<'t>(&self, text: &'t [u8]) -> CommonPrefixes<'_, 't>
         ensures { result ≡ at_front K.kind (S.stored self.now.store) text.now }
     {

@@ -4,7 +4,8 @@ use Rattle.std.specs.List.{list_any}
 use Rattle.zerotrie_core.specs.Kind.{simple_ascii}
 use Rattle.zerotrie_core.specs.Maps.{Map, look}
 use Rattle.zerotrie_core.specs.Texts.{Means}
-use Rattle.zerotrie_core.specs.Causes.{ZeroTrieBuildError, OutOfMemory}
+use Rattle.zerotrie_core.specs.declared.ZeroTrieBuildError.{ZeroTrieBuildError}
+use Rattle.zerotrie_core.specs.declared.ZeroTrieBuildError.TheVariants.{OutOfMemory}
 use Rattle.zerotrie.specs.dense.Rows.{Rows, entry}
 use Rattle.zerotrie.specs.dense.Windows.{count_within, fullest}
 use Rattle.zerotrie.specs.dense.Records.{Parts, record_of, asked}

@@ -3,7 +3,8 @@ use Rattle.std.specs.Prelude.{◌≡◌, ℕ, ◌^◌, ◌<◌, ◌≤◌, ◌�
 use Rattle.zerotrie_core.specs.Kind.{simple_ascii}
 use Rattle.zerotrie_core.specs.Maps.{Pairs, Ascends, map_of}
 use Rattle.zerotrie_core.specs.Fits.{ExceedsCapacity}
-use Rattle.zerotrie_core.specs.Causes.{ZeroTrieBuildError, NonAsciiError, IllegalDelimiter, CapacityExceeded, OutOfMemory}
+use Rattle.zerotrie_core.specs.declared.ZeroTrieBuildError.{ZeroTrieBuildError}
+use Rattle.zerotrie_core.specs.declared.ZeroTrieBuildError.TheVariants.{NonAsciiError, IllegalDelimiter, CapacityExceeded, OutOfMemory}
 use Rattle.zerotrie.specs.dense.Rows.{Rows}
 use Rattle.zerotrie.specs.dense.Windows.{inside}
 use Rattle.zerotrie.specs.dense.Layout.{LaidRow}

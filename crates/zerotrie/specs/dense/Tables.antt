@@ -4,7 +4,8 @@ use Rattle.zerotrie_core.specs.Kind.{simple_ascii}
 use Rattle.zerotrie_core.specs.Maps.{map_of}
 use Rattle.zerotrie_core.specs.Canonical.{enc}
 use Rattle.zerotrie_core.specs.Fits.{Fits, ExceedsCapacity}
-use Rattle.zerotrie_core.specs.Causes.{ZeroTrieBuildError, NonAsciiError, CapacityExceeded, CouldNotSolvePerfectHash, MixedCase, IllegalDelimiter, DuplicateKey, Unsorted, BufferTooSmall, BufferTooLarge, StackExceeded, OutOfMemory}
+use Rattle.zerotrie_core.specs.declared.ZeroTrieBuildError.{ZeroTrieBuildError}
+use Rattle.zerotrie_core.specs.declared.ZeroTrieBuildError.TheVariants.{NonAsciiError, CapacityExceeded, CouldNotSolvePerfectHash, MixedCase, IllegalDelimiter, DuplicateKey, Unsorted, BufferTooSmall, BufferTooLarge, StackExceeded, OutOfMemory}
 use Rattle.zerotrie.specs.dense.Rows.{Rows, texts, suffixes, IsInOrder}
 use Rattle.zerotrie.specs.dense.Windows.{inside}
 use Rattle.zerotrie.specs.dense.Layout.{primary, columns, matrix}

@@ -1,7 +1,7 @@
-//! Building a dense table.
+//! Builds dense tables.
 
 ghost use Rattle.std.specs.Prelude.{◌≡◌, ◌≤◌, ◌<◌, ◌^◌, ◌⊎◌, ◌++◌, ◌∷◌, IfOk, IfErr, OnOk, map, Contains};
-ghost use Rattle.zerotrie_core.specs.Causes.{OutOfMemory, NonAsciiError, CapacityExceeded};
+ghost use Rattle.zerotrie_core.specs.declared.ZeroTrieBuildError.TheVariants.{OutOfMemory, NonAsciiError, CapacityExceeded};
 ghost use Rattle.zerotrie_core.specs.Items.{pairs_of, keyed};
 ghost use Rattle.zerotrie_core.specs.Maps.{Ascends, value_at};
 ghost use Rattle.zerotrie_core.specs.Kind.{simple_ascii};
@@ -24,7 +24,7 @@ use zerotrie_core::ZeroTrieBuildError;
 /// A key of the primary trie, and its value.
 type Pair = (Vec<u8>, usize);
 
-/// Tests that a text is ASCII and does not hold the delimiter.
+/// Returns an error if a string is not ASCII or has the delimiter.
 fn check_text(text: &str, delimiter: u8) -> Result<(), ZeroTrieBuildError>
     ensures plain { OnOk result (IsAsciiText text.now) }
     ensures apart { OnOk result (Contains text.now delimiter → ⊥) }
@@ -39,12 +39,12 @@ fn check_text(text: &str, delimiter: u8) -> Result<(), ZeroTrieBuildError>
     Ok(())
 }
 
-/// A value is a number of eight bytes. There is nothing to do.
+/// States that a value is a number of eight bytes. Does nothing.
 fn fits_eight_bytes(value: usize)
     ensures { value < 2 ^ 64 }
 {}
 
-/// Tests the suffixes of a row.
+/// Checks the suffixes of a row.
 fn check_row(entries: &BTreeMap<&str, usize>, delimiter: u8) -> Result<(), ZeroTrieBuildError>
     ensures plain { OnOk result (AreAsciiTexts (keys (pairs_in entries.now.entries))) }
     ensures apart { OnOk result (AreApart delimiter (keys (pairs_in entries.now.entries))) }
@@ -58,7 +58,7 @@ fn check_row(entries: &BTreeMap<&str, usize>, delimiter: u8) -> Result<(), ZeroT
     Ok(())
 }
 
-/// Tests the delimiter and all texts of a table.
+/// Checks the delimiter and all prefixes and suffixes of a table.
 #[tactic(auto, using(crate::proofs::BuildLemmas::plain_append, crate::proofs::BuildLemmas::apart_append, crate::proofs::BuildLemmas::fault_left, crate::proofs::BuildLemmas::fault_right))]
 fn check_texts(
     entries: &BTreeMap<&str, BTreeMap<&str, usize>>,
@@ -81,7 +81,7 @@ fn check_texts(
     Ok(())
 }
 
-/// Puts the suffixes of a row among those of other rows.
+/// Adds the suffixes of a row to those of other rows.
 #[tactic(auto, using(crate::proofs::BuildLemmas::insert_put))]
 fn put_suffixes<'s>(
     entries: &BTreeMap<&'s str, usize>,
@@ -96,7 +96,7 @@ fn put_suffixes<'s>(
     Ok(())
 }
 
-/// The suffixes of all rows, each once.
+/// Returns the suffixes of all rows, each once.
 #[tactic(auto, using(crate::proofs::BuildLemmas::puts_append), unfolding(crate::specs::dense::Rows::suffixes))]
 fn suffixes_of<'s>(
     alloc: Global,
@@ -112,7 +112,7 @@ fn suffixes_of<'s>(
     Ok(suffixes)
 }
 
-/// Each suffix with its column.
+/// Returns each suffix with its column.
 fn columns_of<'s>(
     alloc: Global,
     suffixes: &BTreeSet<&'s str>,
@@ -129,7 +129,7 @@ fn columns_of<'s>(
     Ok(columns)
 }
 
-/// A prefix, the delimiter and a suffix, one after another.
+/// Returns a prefix, the delimiter and a suffix, one after another.
 fn key_of(alloc: Global, prefix: &str, delimiter: u8, suffix: &str) -> Result<Vec<u8>, AllocError>
     ensures { IfOk result (λ key. key.items ≡ prefix.now ++ (delimiter ∷ suffix.now)) }
 {
@@ -178,7 +178,7 @@ fn push_offsets(
     Ok(())
 }
 
-/// Adds the values of a row that stand beside the matrix.
+/// Adds the values of a row that are not in the matrix.
 fn push_others_of(
     alloc: Global,
     row: &Row<'_, '_>,
@@ -198,7 +198,7 @@ fn push_others_of(
     Ok(())
 }
 
-/// Adds the values of all rows that stand beside the matrix.
+/// Adds the values of all rows that are not in the matrix.
 fn push_others(
     alloc: Global,
     rows: &[Row<'_, '_>],
@@ -215,7 +215,7 @@ fn push_others(
     Ok(())
 }
 
-/// What the primary trie of the rows has.
+/// Returns the pairs of the primary trie.
 fn primary_of(
     alloc: Global,
     rows: &[Row<'_, '_>],
@@ -232,7 +232,7 @@ fn primary_of(
     Ok(pairs)
 }
 
-/// The cell of a suffix: the value in the row's window less the row's offset, or 65,535.
+/// Returns the cell of a suffix: the value in the row's window minus the row's offset, or 65,535.
 fn cell_in(row: &Row<'_, '_>, suffix: &str) -> u16
     requires { Ascends (row_shown row.now).pairs }
     ensures { result ≡ cell_of row.now.offset
@@ -268,7 +268,7 @@ fn push_cells(
     Ok(())
 }
 
-/// The cells of the dense rows.
+/// Returns the cells of the dense rows.
 #[tactic(auto, using(crate::proofs::BuildLemmas::matrix_more))]
 fn matrix_of(
     alloc: Global,
@@ -289,8 +289,8 @@ fn matrix_of(
 }
 
 impl ZeroAsciiDenseSparse2dTrieOwned {
-    /// Builds the table of a map of maps, from prefix and suffix to number. A row without suffixes adds
-    /// nothing.
+    /// Builds the table of a map from prefixes to maps from suffixes to numbers. A row without
+    /// suffixes adds nothing.
     ///
     /// ```
     /// use zerotrie::dense::ZeroAsciiDenseSparse2dTrieOwned;
@@ -306,11 +306,11 @@ impl ZeroAsciiDenseSparse2dTrieOwned {
     ///
     /// # Errors
     ///
-    /// - `NonAsciiError` if a text or the delimiter is not ASCII,
-    /// - `IllegalDelimiter` if a text holds the delimiter,
-    /// - `CapacityExceeded` if there are more than 65,535 suffixes, or the primary trie, the trie of the
-    ///   suffixes or the trie of a row's window would exceed the capacity of its kind,
-    /// - `OutOfMemory` if memory runs out.
+    /// - `NonAsciiError` if a string or the delimiter is not ASCII,
+    /// - `IllegalDelimiter` if a string has the delimiter,
+    /// - `CapacityExceeded` if there are more than 65,535 suffixes, or the primary trie, the trie
+    ///   of the suffixes or the trie of a row's window would exceed the capacity of its kind,
+    /// - `OutOfMemory` if an allocation fails.
     pub fn try_from_btree_map_str(
         alloc: Global,
         entries: &BTreeMap<&str, BTreeMap<&str, usize>>,

@@ -13,7 +13,7 @@ use crate::dense::laws::answer_is_entry;
 use crate::dense::table::ZeroAsciiDenseSparse2dTrieBorrowed;
 use zerotrie_core::{Simple, laws, step, take_value};
 
-/// Goes along each byte of a key, one after another, as long as anything is left.
+/// Steps by each byte of a key, as long as anything remains.
 fn follow(trie: &mut &[u8], key: &[u8])
     ensures { (pairs : Pairs) → Lists simple_ascii trie.old.now pairs
         → Lists simple_ascii trie.new.now (after_steps simple_ascii key.now pairs) }
@@ -26,7 +26,7 @@ fn follow(trie: &mut &[u8], key: &[u8])
     }
 }
 
-/// The value of a key in the trie that is left.
+/// Returns the value of a key in a trie.
 fn value_after(trie: &[u8], key: &[u8]) -> Option<usize>
     ensures { (pairs : Pairs) → Lists simple_ascii trie.now pairs
         → result ≡ value_at simple_ascii pairs key.now }
@@ -36,7 +36,7 @@ fn value_after(trie: &[u8], key: &[u8]) -> Option<usize>
     take_value(&mut left)
 }
 
-/// The value of a key in the trie that is left, but of the empty key none.
+/// Returns the value of a key in a trie, and for the empty key `None`.
 fn value_beside(trie: &[u8], key: &[u8]) -> Option<usize>
     ensures { (pairs : Pairs) → Lists simple_ascii trie.now pairs
         → result ≡ beside_value pairs key.now }
@@ -48,7 +48,8 @@ fn value_beside(trie: &[u8], key: &[u8]) -> Option<usize>
 }
 
 impl<'a> ZeroAsciiDenseSparse2dTrieBorrowed<'a> {
-    /// The value of a suffix in the row of a prefix, or `None` if it is not there.
+    /// Returns the value of a prefix and a suffix, or `None` if the table does not have it. Does
+    /// not allocate.
     ///
     /// ```
     /// use zerotrie::dense::ZeroAsciiDenseSparse2dTrieOwned;
@@ -63,8 +64,8 @@ impl<'a> ZeroAsciiDenseSparse2dTrieBorrowed<'a> {
     /// assert_eq!(rt; table.get("en", "UK"), None);
     /// ```
     ///
-    /// A text that holds the delimiter or is not ASCII is in no table. The call takes no memory, and gives
-    /// some answer on a table that was read from any record.
+    /// A string that has the delimiter or is not ASCII is in no table. On a table from a malformed
+    /// record the result is unspecified; it never panics or reads outside the record.
     pub fn get(&self, prefix: &str, suffix: &str) -> Option<usize>
         ensures entry { Answers (parts_of self.now) prefix.now suffix.now result }
         ensures maps { AnswersByMaps (parts_of self.now) prefix.now suffix.now result }
@@ -72,7 +73,7 @@ impl<'a> ZeroAsciiDenseSparse2dTrieBorrowed<'a> {
         self.get_bytes(prefix.as_bytes(), suffix.as_bytes())
     }
 
-    /// The same for texts that are given as bytes, which need not be UTF-8.
+    /// Returns the value of a prefix and a suffix, as `get` does, for bytes that need not be UTF-8.
     ///
     /// ```
     /// use zerotrie::dense::ZeroAsciiDenseSparse2dTrieOwned;
@@ -94,7 +95,7 @@ impl<'a> ZeroAsciiDenseSparse2dTrieBorrowed<'a> {
         self.answer(prefix, suffix)
     }
 
-    /// What the two tries and the matrix answer.
+    /// Returns the value by the two tries and the matrix.
     fn answer(&self, prefix: &[u8], suffix: &[u8]) -> Option<usize>
         ensures { AnswersByMaps (parts_of self.now) prefix.now suffix.now result }
     {
@@ -111,8 +112,8 @@ impl<'a> ZeroAsciiDenseSparse2dTrieBorrowed<'a> {
         }
     }
 
-    /// What the dense row of a number answers, if `trie` is what the primary trie has after prefix and
-    /// delimiter.
+    /// Returns the value of a suffix in a dense row. `trie` is what the primary trie has after the
+    /// prefix and the delimiter.
     fn answer_in_row(&self, trie: &[u8], row: usize, suffix: &[u8]) -> Option<usize>
         ensures { (pairs : Pairs) (columns : Map) → Lists simple_ascii trie.now pairs
             → Means simple_ascii (parts_of self.now).suffixes columns
@@ -126,7 +127,7 @@ impl<'a> ZeroAsciiDenseSparse2dTrieBorrowed<'a> {
         }
     }
 
-    /// The value in the matrix of a row with this offset and of a column, if these are there.
+    /// Returns the value in the matrix for a row, its offset and a column, if these exist.
     fn in_matrix(&self, row: usize, offset: Option<usize>, column: Option<usize>) -> Option<usize>
         ensures { result ≡ in_matrix (parts_of self.now) row offset column }
     {

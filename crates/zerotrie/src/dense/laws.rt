@@ -1,21 +1,22 @@
-//! The laws of dense tables over the definitions alone, as contracts that a caller's proof can cite.
+//! Laws of dense tables, over the definitions alone, as contracts that a caller's proof can cite.
 
 ghost use Rattle.zerotrie.specs.dense.Laws.{AnswerIsEntry, FullestIsBest, RecordAsks, RecordIsOne};
 
 use zerotrie_core::laws;
 
-/// No 65,535 consecutive numbers hold more of a row's values than its window.
+/// States that no 65,535 consecutive numbers have more of a row's values than its window.
 pub fn fullest_window()
     ensures { FullestIsBest }
 {}
 
-/// A record asks for its own length, and different tables have different records.
+/// States that a record says its own length, and that different tables have different records.
 pub fn one_record()
     ensures asks { RecordAsks }
     ensures one { RecordIsOne }
 {}
 
-/// What the tries and the matrix of a table answer is the entry of its rows, for every two texts.
+/// States that the tries and the matrix of a table give the entry of its rows, for every prefix and
+/// suffix.
 pub fn answer_is_entry()
     ensures { AnswerIsEntry }
 {

@@ -1,4 +1,4 @@
-//! The record of a dense table: all of it in one list of bytes.
+//! Records: a dense table as one sequence of bytes.
 
 ghost use Rattle.std.specs.Prelude.{◌≡◌, ◌+◌, ◌<◌, ◌≤◌, ◌↔◌, IfOk, IsOkAnd, length};
 ghost use Rattle.std.specs.Result.{IsErrOf};
@@ -11,18 +11,18 @@ use std::alloc::{AllocError, Global};
 use thiserror::Error;
 use zerotrie_ascii::ZeroTrieSimpleAscii;
 
-/// Why bytes are no record of a dense table.
+/// Bytes are not the record of a dense table.
 #[derive(Clone, PartialEq, Eq, Debug, Drop, Error)]
 pub enum RecordError {
-    /// There are fewer bytes than the record asks for.
+    /// There are fewer bytes than the first ones say.
     #[error("the record is cut: give all of its bytes")]
     Truncated,
-    /// There are more bytes than the record asks for.
+    /// There are more bytes than the first ones say.
     #[error("bytes follow the record: give its bytes alone")]
     TrailingBytes,
 }
 
-/// The number in eight bytes from a place on, the lowest first.
+/// Returns the little-endian number in the eight bytes at `place`.
 fn number_in(bytes: &[u8], place: usize) -> usize
     requires { place + 8 ≤ length bytes.now }
     ensures { result ≡ number_at bytes.now place }
@@ -34,13 +34,13 @@ fn number_in(bytes: &[u8], place: usize) -> usize
 }
 
 impl<'a> ZeroAsciiDenseSparse2dTrieBorrowed<'a> {
-    /// The record of the table, from which `try_from_record_bytes` reads it.
+    /// Returns the record of the table, which `try_from_record_bytes` reads.
     ///
-    /// Numbers stand in it with the lowest byte first: the number of suffixes in two bytes, the delimiter,
-    /// the lengths of the two tries and the number of cells in eight bytes each. The tries and the cells of
-    /// the matrix follow, two bytes a cell.
+    /// It has, with numbers in little-endian order: the number of suffixes in two bytes, the
+    /// delimiter, the lengths of the two tries and the number of cells in eight bytes each, the two
+    /// tries, and the cells of the matrix in two bytes each.
     ///
-    /// The only error is out of memory.
+    /// An error means that an allocation failed.
     pub fn to_record_bytes(&self, alloc: Global) -> Result<Vec<u8>, AllocError>
         ensures { IfOk result (λ bytes. bytes.items ≡ record_of (parts_of self.now)) }
     {
@@ -58,7 +58,7 @@ impl<'a> ZeroAsciiDenseSparse2dTrieBorrowed<'a> {
         Ok(record)
     }
 
-    /// The table of a record, over its bytes. It takes no memory.
+    /// Returns the table of a record, which borrows its bytes. Does not allocate.
     ///
     /// ```
     /// use zerotrie::dense::{ZeroAsciiDenseSparse2dTrieBorrowed, ZeroAsciiDenseSparse2dTrieOwned};
@@ -73,8 +73,8 @@ impl<'a> ZeroAsciiDenseSparse2dTrieBorrowed<'a> {
     /// assert!(rt; again == table.as_borrowed());
     /// ```
     ///
-    /// A record asks for as many bytes as its first 27 say. With fewer the error is `Truncated`, with more
-    /// `TrailingBytes`. The tries and the matrix are not tested: on any table `get` gives some answer.
+    /// The first 27 bytes of a record say how many it has. With fewer the error is `Truncated`,
+    /// with more it is `TrailingBytes`. Does not validate the tries and the matrix.
     pub fn try_from_record_bytes(bytes: &'a [u8]) -> Result<Self, RecordError>
         ensures read { IfOk result (λ t. bytes.now ≡ record_of (parts_of t)) }
         ensures truncated { IsErrOf result RecordError.Truncated

@@ -1,7 +1,7 @@
-//! The rows of a table that is built, each with what decides how it is kept.
+//! The rows of a table to build, and which of them are dense.
 
 ghost use Rattle.std.specs.Prelude.{◌≡◌, ◌≤◌, ◌⊎◌, IfOk, IfErr, OnOk, map, is_some, []};
-ghost use Rattle.zerotrie_core.specs.Causes.{OutOfMemory, CapacityExceeded};
+ghost use Rattle.zerotrie_core.specs.declared.ZeroTrieBuildError.TheVariants.{OutOfMemory, CapacityExceeded};
 ghost use Rattle.zerotrie_core.specs.Canonical.{size_of};
 ghost use Rattle.zerotrie_core.specs.Items.{pairs_of};
 ghost use Rattle.zerotrie_core.specs.Kind.{simple_ascii};
@@ -18,20 +18,20 @@ use std::collections::BTreeMap;
 use zerotrie_build::{ByteSliceWithIndices, encoded_len};
 use zerotrie_core::{Simple, ZeroTrieBuildError, ZeroTrieBuilderOptions};
 
-/// A row of a table, and how it is kept.
+/// A row of a table.
 #[derive(Debug, Drop)]
 pub(crate) struct Row<'m, 's> {
-    /// The text that names the row.
+    /// The prefix that names the row.
     pub(crate) prefix: &'m str,
     /// Its suffixes and their values.
     pub(crate) entries: &'m BTreeMap<&'s str, usize>,
     /// The first number of its window.
     pub(crate) offset: usize,
-    /// Whether its window stands in the matrix.
+    /// Whether its window is in the matrix.
     pub(crate) is_dense: bool,
 }
 
-/// The values of a row.
+/// Returns the values of a row.
 fn values_of(alloc: Global, entries: &BTreeMap<&str, usize>) -> Result<Vec<usize>, AllocError>
     ensures values { IfOk result (λ v. v.items ≡ values (pairs_in entries.now.entries)) }
     ensures ascends { OnOk result (Ascends (pairs_in entries.now.entries)) }
@@ -43,7 +43,7 @@ fn values_of(alloc: Global, entries: &BTreeMap<&str, usize>) -> Result<Vec<usize
     Ok(values)
 }
 
-/// The first number of the window that holds the most of the values of a row, the least of those.
+/// Returns the least start of a window that has the most of the values of a row.
 fn offset_of(alloc: Global, entries: &BTreeMap<&str, usize>) -> Result<usize, AllocError>
     ensures offset { IfOk result (λ start. start ≡ offset (pairs_in entries.now.entries)) }
     ensures ascends { OnOk result (Ascends (pairs_in entries.now.entries)) }
@@ -53,7 +53,7 @@ fn offset_of(alloc: Global, entries: &BTreeMap<&str, usize>) -> Result<usize, Al
     Ok(fullest_in(values.as_slice()))
 }
 
-/// The pairs of a row whose values stand in the window from `start` on.
+/// Returns the pairs of a row whose values are in the window that begins at `start`.
 fn pairs_inside<'s>(
     alloc: Global,
     entries: &BTreeMap<&'s str, usize>,
@@ -71,7 +71,8 @@ fn pairs_inside<'s>(
     Ok(pairs)
 }
 
-/// Whether the row has the empty suffix with a value outside the window from `start` on.
+/// Returns whether the row has the empty suffix with a value outside the window that begins at
+/// `start`.
 fn has_empty_outside(entries: &BTreeMap<&str, usize>, start: usize) -> bool
     requires { Ascends (pairs_in entries.now.entries) }
     ensures { result ≡ is_some
@@ -83,7 +84,7 @@ fn has_empty_outside(entries: &BTreeMap<&str, usize>, start: usize) -> bool
     }
 }
 
-/// How long the trie of the window of a row would be.
+/// Returns the length that the trie of the window of a row would have.
 fn window_len(
     alloc: Global,
     entries: &BTreeMap<&str, usize>,
@@ -102,8 +103,8 @@ fn window_len(
     Ok(len)
 }
 
-/// Whether a row stands in the matrix of a table with this number of suffixes: its window would be longer as a trie,
-/// and the empty suffix is not outside the window.
+/// Returns whether a row is in the matrix of a table with this number of suffixes: its window would
+/// be longer as a trie, and the empty suffix is not outside the window.
 fn is_dense_row(
     alloc: Global,
     entries: &BTreeMap<&str, usize>,
@@ -121,7 +122,7 @@ fn is_dense_row(
     Ok(len > 2 * columns && !has_empty_outside(entries, start))
 }
 
-/// A row of a table with this number of suffixes.
+/// Returns a row of a table with this number of suffixes.
 fn row_of<'m, 's>(
     alloc: Global,
     prefix: &'m str,
@@ -145,7 +146,7 @@ fn row_of<'m, 's>(
     })
 }
 
-/// The rows of a table with this number of suffixes, in their order.
+/// Returns the rows of a table with this number of suffixes, in their order.
 #[tactic(auto, using(crate::proofs::RowsLemmas::plain_left, crate::proofs::RowsLemmas::plain_right))]
 pub(crate) fn rows_of<'m, 's>(
     alloc: Global,

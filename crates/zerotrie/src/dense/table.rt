@@ -1,4 +1,4 @@
-//! Dense tables, over memory of their own and over bytes that lie elsewhere.
+//! Dense tables, over owned and over borrowed bytes.
 
 ghost use Rattle.std.specs.Prelude.{◌≡◌, ◌↔◌, IsTrue};
 ghost use Rattle.std.specs.Ordering.{on};
@@ -9,7 +9,7 @@ ghost use Rattle.zerotrie.specs.dense.Views.{parts_of, owned_parts};
 
 use zerotrie_ascii::ZeroTrieSimpleAscii;
 
-/// A map from two texts to numbers, in memory of its own.
+/// A table from a prefix and a suffix to a number, over bytes of its own.
 ///
 /// ```
 /// use zerotrie::dense::ZeroAsciiDenseSparse2dTrieOwned;
@@ -22,8 +22,8 @@ use zerotrie_ascii::ZeroTrieSimpleAscii;
 /// assert_eq!(rt; table.as_borrowed().get("en", "US"), Some(8));
 /// ```
 ///
-/// The first text, the prefix, names a row, and the second, the suffix, a value in it. The values of a row
-/// that many suffixes share stand in a matrix of two bytes for each suffix, and the others in a trie.
+/// A prefix names a row, and a suffix a value in it. Most values of a row with many suffixes are in
+/// a matrix, of two bytes for each suffix, and the others in a trie.
 #[derive(Debug, Drop)]
 pub struct ZeroAsciiDenseSparse2dTrieOwned {
     pub(crate) primary: ZeroTrieSimpleAscii<Vec<u8>>,
@@ -33,8 +33,8 @@ pub struct ZeroAsciiDenseSparse2dTrieOwned {
     pub(crate) delimiter: u8,
 }
 
-/// A map from two texts to numbers, over bytes that lie elsewhere, as `ZeroAsciiDenseSparse2dTrieOwned` has
-/// them in memory of its own.
+/// A table from a prefix and a suffix to a number, over borrowed bytes: a
+/// `ZeroAsciiDenseSparse2dTrieOwned` that borrows.
 #[derive(Debug, Drop)]
 pub struct ZeroAsciiDenseSparse2dTrieBorrowed<'a> {
     pub(crate) primary: ZeroTrieSimpleAscii<&'a [u8]>,
@@ -45,7 +45,7 @@ pub struct ZeroAsciiDenseSparse2dTrieBorrowed<'a> {
 }
 
 impl ZeroAsciiDenseSparse2dTrieOwned {
-    /// The same table over these bytes where they lie. It takes no memory.
+    /// Returns the same table, which borrows these bytes. Does not allocate.
     pub fn as_borrowed(&self) -> ZeroAsciiDenseSparse2dTrieBorrowed<'_>
         ensures { parts_of result ≡ owned_parts self.now }
     {

@@ -1,4 +1,4 @@
-//! The pairs in a JSON value, and the trie of them.
+//! Reads the pairs in a JSON value, and builds the trie of them.
 
 ghost use Rattle.std.specs.Prelude.{◌≡◌, IfOk};
 ghost use Rattle.serde_json.specs.View.{view, items_view, members_view};
@@ -10,22 +10,22 @@ ghost use Rattle.zerotrie_any.specs.Flavors.{flavor_kind};
 
 use crate::json::JsonError;
 use crate::routes::bytes_from_iter;
-use crate::zerotrie::ZeroTrie;
+use crate::trie::ZeroTrie;
 use serde_json::{Map, Value};
 use std::alloc::Global;
 use zerotrie_core::ZeroTrieWithOptions;
 
-/// Pairs of which each owns its key.
+/// Pairs that own their keys.
 type OwnedPairs = Vec<(Vec<u8>, usize)>;
 
-/// The whole number that a value is.
+/// Returns the whole number in a value.
 fn number_of(value: &Value) -> Option<usize>
     ensures { result ≡ number_in (view value.now) }
 {
     value.as_u64().map(|number| number as usize)
 }
 
-/// The byte that a value is.
+/// Returns the byte in a value.
 fn byte_of(value: &Value) -> Option<u8>
     ensures { result ≡ byte_in (view value.now) }
 {
@@ -37,7 +37,7 @@ fn byte_of(value: &Value) -> Option<u8>
     }
 }
 
-/// The bytes that the items of a list are.
+/// Returns the bytes in the items of a list.
 fn bytes_of(alloc: Global, items: &[Value]) -> Result<Vec<u8>, JsonError>
     ensures { IsReading (λ bytes. bytes.items) (each byte_in (items_view items.now)) result }
 {
@@ -51,7 +51,7 @@ fn bytes_of(alloc: Global, items: &[Value]) -> Result<Vec<u8>, JsonError>
     Ok(bytes)
 }
 
-/// The key in a value: a text, or a list of bytes.
+/// Returns the key in a value: a string, or a list of bytes.
 fn key_of(alloc: Global, value: &Value) -> Result<Vec<u8>, JsonError>
     ensures { IsReading (λ key. key.items) (key_in (view value.now)) result }
 {
@@ -64,7 +64,7 @@ fn key_of(alloc: Global, value: &Value) -> Result<Vec<u8>, JsonError>
     }
 }
 
-/// The pair in a value, which is a list of exactly two.
+/// Returns the pair in a value, which is a list of exactly two.
 fn pair_of(alloc: Global, value: &Value) -> Result<(Vec<u8>, usize), JsonError>
     ensures { IsReading (λ e. (e.0.items, e.1)) (pair_in (view value.now)) result }
 {
@@ -81,7 +81,7 @@ fn pair_of(alloc: Global, value: &Value) -> Result<(Vec<u8>, usize), JsonError>
     Ok((key, number))
 }
 
-/// The pairs in the items of a list.
+/// Returns the pairs in the items of a list.
 fn pairs_of_list(alloc: Global, items: &[Value]) -> Result<OwnedPairs, JsonError>
     ensures { IsReading (λ pairs. keyed (λ key. key.items) pairs.items)
         (each pair_in (items_view items.now)) result }
@@ -93,7 +93,7 @@ fn pairs_of_list(alloc: Global, items: &[Value]) -> Result<OwnedPairs, JsonError
     Ok(pairs)
 }
 
-/// The pairs in the members of an object, in the order of their keys.
+/// Returns the pairs in the members of an object, in the order of their keys.
 fn pairs_of_members(alloc: Global, members: &Map<String, Value>) -> Result<OwnedPairs, JsonError>
     ensures { IsReading (λ pairs. keyed (λ key. key.items) pairs.items)
         (member_pairs (members_view members.now.entries)) result }
@@ -108,7 +108,7 @@ fn pairs_of_members(alloc: Global, members: &Map<String, Value>) -> Result<Owned
     Ok(pairs)
 }
 
-/// The pairs in a value.
+/// Returns the pairs in a value.
 fn pairs_of(alloc: Global, value: &Value) -> Result<OwnedPairs, JsonError>
     ensures { IsReading (λ pairs. keyed (λ key. key.items) pairs.items) (pairs_in (view value.now))
         result }
@@ -122,7 +122,7 @@ fn pairs_of(alloc: Global, value: &Value) -> Result<OwnedPairs, JsonError>
     }
 }
 
-/// The bytes of the trie of the pairs in a JSON value, which may have any order.
+/// Builds the bytes of the trie of the pairs in a JSON value.
 ///
 /// ```
 /// let value = Value::from_str(rt.alloc(), r#"{"ad":22,"adef":33}"#)?;
@@ -130,15 +130,16 @@ fn pairs_of(alloc: Global, value: &Value) -> Result<OwnedPairs, JsonError>
 /// assert_eq!(rt; bytes.as_slice(), b"ad\x90\x06ef\x90\x11".as_slice());
 /// ```
 ///
-/// The value is an object from keys to numbers, or a list of pairs. A pair is a list of exactly two, a key
-/// and a number, and a key is a text or a list of bytes. Numbers are whole, from 0 to 2^64 - 1. In the text that
-/// a value was read from they have no sign, point or exponent: `-0`, `1.0` and `1e2` are floats.
+/// The value is an object from keys to numbers, or a list of pairs in any order. A pair is a list
+/// of exactly two, a key and a number. A key is a string or a list of bytes. Numbers are whole,
+/// from 0 to 2^64 - 1, and written without sign, point or exponent: `-0`, `1.0` and `1e2` are
+/// floats.
 ///
-/// An object has each key once. If a text gives one key twice in an object, `Value::from_str` keeps the last
-/// number. A list may have a key twice, and then its build is refused with `DuplicateKey`.
+/// An object has each key once: of a key that is written twice, `Value::from_str` keeps the last
+/// number. A list may have a key twice, which is the error `DuplicateKey` of its build.
 ///
-/// The error is `Shape` if the value is anything else, `Build` if a build of its pairs by an iterator
-/// is refused, with the reason, and `OutOfMemory`.
+/// The error is `Shape` if the value is anything else, `Build` with the reason if `bytes_from_iter`
+/// of its pairs returns an error, and `OutOfMemory` if an allocation fails.
 pub fn bytes_from_json<K: ZeroTrieWithOptions>(
     alloc: Global,
     value: &Value,
@@ -151,7 +152,7 @@ pub fn bytes_from_json<K: ZeroTrieWithOptions>(
 }
 
 impl ZeroTrie<Vec<u8>> {
-    /// Builds the trie of the pairs in a JSON value, of the kind that is taken for them.
+    /// Builds the trie of the pairs in a JSON value, of the kind that `try_from_iter` chooses.
     ///
     /// ```
     /// let value = Value::from_str(rt.alloc(), r#"[["ad",22],[[255],3]]"#)?;
@@ -159,8 +160,12 @@ impl ZeroTrie<Vec<u8>> {
     /// assert_eq!(rt; trie.get(b"\xFF"), Some(3));
     /// ```
     ///
-    /// The value is as `bytes_from_json` says. The error is `Shape` if it is anything else, `Build` if
-    /// `try_from_iter` of its pairs is refused, with the reason, and `OutOfMemory`.
+    /// The value is an object from keys to numbers, or a list of pairs in any order. A pair is a
+    /// list of exactly two, a key and a number. A key is a string or a list of bytes. Numbers are
+    /// whole, from 0 to 2^64 - 1.
+    ///
+    /// The error is `Shape` if the value is anything else, `Build` with the reason if
+    /// `try_from_iter` of its pairs returns an error, and `OutOfMemory` if an allocation fails.
     pub fn try_from_json_value(alloc: Global, value: &Value) -> Result<Self, JsonError>
         ensures kind { IfOk result (λ trie.
             HasPairs (view value.now) (λ pairs. flavor_kind trie.flavor ≡ auto_kind pairs)) }

@@ -1,4 +1,4 @@
-//! The JSON value of a map.
+//! Writes a map as a JSON value.
 
 ghost use Rattle.std.specs.Prelude.{◌≡◌, map, if◌then◌else◌, Some, None, IfOk, IfErr, option_map};
 ghost use Rattle.serde_json.specs.View.{view, members_view};
@@ -10,14 +10,14 @@ ghost use Rattle.zerotrie_any.specs.declared.json.JsonError.TheVariants.{OutOfMe
 ghost use Rattle.zerotrie_any.specs.Json.{json, json_of, members, are_text, list_of, whole, pair_list};
 
 use crate::json::JsonError;
-use crate::listed::map_of;
-use crate::zerotrie::{ZeroTrie, ZeroTrieFlavor};
+use crate::list::map_of;
+use crate::trie::{ZeroTrie, by_flavor};
 use serde_json::{Map, Value};
 use std::alloc::{AllocError, Global};
 use std::collections::BTreeMap;
-use zerotrie_core::{Ext, Hash, Simple, TrieStore, ZeroTrieWithOptions};
+use zerotrie_core::{TrieStore, ZeroTrieWithOptions};
 
-/// The members of an object from keys to values, or `None` if some key is not UTF-8.
+/// Returns the members of an object from keys to values, or `None` if some key is not UTF-8.
 fn members_of(
     alloc: Global,
     entries: &BTreeMap<Vec<u8>, usize>,
@@ -36,7 +36,7 @@ fn members_of(
     Ok(Some(members))
 }
 
-/// A list of bytes.
+/// Returns bytes as a list.
 fn bytes_list(alloc: Global, bytes: &[u8]) -> Result<Value, AllocError>
     ensures { IfOk result (λ v. view v ≡ list_of (map whole bytes.now)) }
 {
@@ -47,7 +47,7 @@ fn bytes_list(alloc: Global, bytes: &[u8]) -> Result<Value, AllocError>
     Ok(Value::Array(items))
 }
 
-/// A pair as a list of two.
+/// Returns a pair as a list of two.
 fn pair_list(alloc: Global, key: &[u8], value: usize) -> Result<Value, AllocError>
     ensures { IfOk result (λ v. view v ≡ pair_list (key.now, value)) }
 {
@@ -57,7 +57,7 @@ fn pair_list(alloc: Global, key: &[u8], value: usize) -> Result<Value, AllocErro
     Ok(Value::Array(items))
 }
 
-/// A list of pairs.
+/// Returns pairs as a list.
 fn pairs_list(alloc: Global, entries: &BTreeMap<Vec<u8>, usize>) -> Result<Value, AllocError>
     ensures { IfOk result (λ v.
         view v ≡ list_of (map pair_list (keyed (λ key. key.items) entries.now.entries))) }
@@ -69,7 +69,7 @@ fn pairs_list(alloc: Global, entries: &BTreeMap<Vec<u8>, usize>) -> Result<Value
     Ok(Value::Array(items))
 }
 
-/// The value of a map: an object if each key is UTF-8, and else a list of pairs.
+/// Returns the value of a map: an object if each key is UTF-8, and otherwise a list of pairs.
 fn json_of_map(alloc: Global, entries: &BTreeMap<Vec<u8>, usize>) -> Result<Value, AllocError>
     ensures { IfOk result (λ v. view v ≡ json_of (keyed (λ key. key.items) entries.now.entries)) }
 {
@@ -79,17 +79,18 @@ fn json_of_map(alloc: Global, entries: &BTreeMap<Vec<u8>, usize>) -> Result<Valu
     }
 }
 
-/// The JSON value of the map that bytes of the kind mean.
+/// Returns the map of the trie in these bytes as a JSON value.
 ///
 /// ```
 /// let value = json_of::<Simple>(rt.alloc(), b"ad\x90\x06ef\x90\x11")?;
 /// assert_eq!(rt; value.to_string(rt.alloc())?.as_str(), r#"{"ad":22,"adef":33}"#);
 /// ```
 ///
-/// If all keys are UTF-8, it is an object from key to number. Else it is a list of pairs, ascending by the
-/// bytes of their keys, each a list of two: the list of the key's bytes, and the number.
+/// If all keys are UTF-8, the value is an object from keys to numbers. Otherwise it is a list of
+/// pairs, each a list of two: the list of the key's bytes, and the number. The keys ascend by their
+/// bytes.
 ///
-/// The only error is `OutOfMemory`. On bytes that mean no map some value is answered.
+/// The only error is `OutOfMemory`. On malformed bytes the result is unspecified.
 pub fn json_of<K: ZeroTrieWithOptions>(alloc: Global, bytes: &[u8]) -> Result<Value, JsonError>
     ensures json { (m : Map) → Means K.kind bytes.now m → IfOk result (λ v. view v ≡ json m) }
     ensures refused { IfErr result (λ e. e ≡ OutOfMemory) }
@@ -101,7 +102,7 @@ pub fn json_of<K: ZeroTrieWithOptions>(alloc: Global, bytes: &[u8]) -> Result<Va
 }
 
 impl<S: TrieStore> ZeroTrie<S> {
-    /// The JSON value of the trie's map.
+    /// Returns the map of the trie as a JSON value.
     ///
     /// ```
     /// let trie = ZeroTrie::of_kind::<Hash>(b"\xA1\xFF\x83".as_slice());
@@ -109,20 +110,17 @@ impl<S: TrieStore> ZeroTrie<S> {
     /// assert_eq!(rt; value.to_string(rt.alloc())?.as_str(), "[[[255],3]]");
     /// ```
     ///
-    /// If all keys are UTF-8, it is an object from key to number. Else it is a list of pairs, ascending by
-    /// the bytes of their keys, each a list of two: the list of the key's bytes, and the number.
+    /// If all keys are UTF-8, the value is an object from keys to numbers. Otherwise it is a list
+    /// of pairs, each a list of two: the list of the key's bytes, and the number. The keys ascend
+    /// by their bytes.
     ///
-    /// The only error is `OutOfMemory`. On bytes that mean no map some value is answered.
+    /// The only error is `OutOfMemory`. On malformed bytes the result is unspecified.
     pub fn to_json_value(&self, alloc: Global) -> Result<Value, JsonError>
         ensures json { (m : Map) → Means (flavor_kind self.now.flavor) (S.stored self.now.store) m
             → IfOk result (λ v. view v ≡ json m) }
         ensures refused { IfErr result (λ e. e ≡ OutOfMemory) }
     {
         let bytes = self.store.bytes();
-        match self.flavor {
-            ZeroTrieFlavor::SimpleAscii => json_of::<Simple>(alloc, bytes),
-            ZeroTrieFlavor::PerfectHash => json_of::<Hash>(alloc, bytes),
-            ZeroTrieFlavor::ExtendedCapacity => json_of::<Ext>(alloc, bytes),
-        }
+        by_flavor!(self.flavor, json_of::<_>(alloc, bytes))
     }
 }

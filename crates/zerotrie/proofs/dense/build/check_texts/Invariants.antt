@@ -1,4 +1,4 @@
-use Rattle.zerotrie_core.specs.Causes.{ZeroTrieBuildError}
+use Rattle.zerotrie_core.specs.declared.ZeroTrieBuildError.{ZeroTrieBuildError}
 use Rattle.zerotrie.specs.dense.RowFaults.{AllInRange, AreAsciiTexts, AreApart, HasTextFault}
 use Rattle.zerotrie.specs.dense.Views.{rows_in}
 use Rattle.zerotrie.specs.dense.Rows.{texts}

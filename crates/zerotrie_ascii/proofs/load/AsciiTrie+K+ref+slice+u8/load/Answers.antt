@@ -1,4 +1,0 @@
-use Rattle.zerotrie_ascii.proofs.load.AsciiTrie+K+ref+slice+u8.load.Goals as goal
-
-pub returns-clause-ok : goal.returns-clause-ok
-returns-clause-ok g c = rw c.from_bytes.ensures c.in_ok-rest.ensures.ok

@@ -1,0 +1,406 @@
+//! The tries over keys of any bytes: one type, with an alias for each kind.
+
+ghost use Rattle.std.specs.Prelude.{◌≡◌, ◌==◌, ◌↔◌, IsTrue, IfOk, length, []};
+ghost use Rattle.std.specs.FinMap.{empty};
+ghost use Rattle.std.specs.Option.{is_some};
+ghost use Rattle.std.specs.Cmp.{on_equiv, on_per};
+ghost use Rattle.std.specs.Cmp as cmp;
+ghost use Rattle.std.specs.Cmp.Lexicographic.{pointwise, nat_list_eq_equiv};
+ghost use Rattle.std.specs.Iterator.{IsFiniteIterable};
+ghost use Rattle.zerotrie_core.specs.Maps.{Map, look};
+ghost use Rattle.zerotrie_core.specs.Texts.{Means};
+ghost use Rattle.zerotrie_core.specs.Items.{pairs_of, keyed};
+ghost use Rattle.zerotrie_core.specs.Routes.{ascending, in_order, IsBuild, IsLength, HoldsOfItsPairs, IsBuildOfAll};
+ghost use Rattle.zerotrie_any.specs.Flavors.{flavor_kind};
+ghost use Rattle.zerotrie_any.specs.Order.{IsByBytes};
+
+use crate::options::HashedKind;
+use std::alloc::{AllocError, Global};
+use std::collections::BTreeMap;
+use std::fmt;
+use std::marker::PhantomData;
+use zerotrie_any::{TextKey, ZeroTrie, bytes_from_iter, bytes_from_map, bytes_from_slice};
+use zerotrie_build::{ByteSliceWithIndices, encoded_len};
+use zerotrie_core::{
+    ConvertStore, Ext, Hash, TrieKey, TrieStore, ZeroTrieBuildError, ZeroTrieBuilderOptions, get,
+    laws,
+};
+
+/// A map from keys of any bytes to numbers, as a sequence of bytes that is read in place. `K` is
+/// its kind.
+///
+/// Use it by the name of a kind: `ZeroTriePerfectHash` or `ZeroTrieExtendedCapacity`.
+///
+/// Any store of bytes can be a trie. On valid bytes, such as those of every build, each call
+/// returns the result for their map. On malformed bytes results are unspecified; no call panics or
+/// reads outside them. A branch of 16 edges or more has a perfect hash, whose parameters are found
+/// by a search, so a map may have several encodings: tries with equal bytes have equal maps, but
+/// tries of one map may differ in their bytes.
+#[derive(Drop)]
+pub struct HashedTrie<K, S> {
+    /// The bytes of the trie.
+    pub store: S,
+    kind: PhantomData<K>,
+}
+
+/// A map from keys of any bytes to numbers.
+///
+/// ```
+/// let trie = ZeroTriePerfectHash::try_from_iter(rt.alloc(), [("foo", 1), ("bår", 2)])?;
+/// assert_eq!(rt; trie.get("bår".as_bytes()), Some(2));
+/// assert_eq!(rt; trie.get(b"bar"), None);
+/// ```
+///
+/// A build returns the error `CapacityExceeded` if the targets of one branch would have 2^32 bytes
+/// or more together.
+pub type ZeroTriePerfectHash<S> = HashedTrie<Hash, S>;
+
+/// A map from keys of any bytes to numbers, whose branches may have targets of any length.
+///
+/// ```
+/// let trie = ZeroTrieExtendedCapacity::try_from_iter(rt.alloc(), [("foo", 1), ("bår", 2)])?;
+/// assert_eq!(rt; trie.get("bår".as_bytes()), Some(2));
+/// assert_eq!(rt; trie.get(b"bar"), None);
+/// ```
+///
+/// Below 2^32 bytes its encodings are those of `ZeroTriePerfectHash`.
+pub type ZeroTrieExtendedCapacity<S> = HashedTrie<Ext, S>;
+
+impl<K, S> HashedTrie<K, S> {
+    /// Returns the trie over the bytes of this store. Does not validate them.
+    pub fn from_store(store: S) -> Self
+        ensures { result.store ≡ store }
+    {
+        HashedTrie {
+            store,
+            kind: PhantomData,
+        }
+    }
+
+    /// Returns the store of the trie.
+    pub fn into_store(self) -> S
+        ensures { result ≡ self.store }
+    {
+        let HashedTrie { store, kind: _ } = self;
+        store
+    }
+}
+
+impl<K, S: TrieStore> HashedTrie<K, S> {
+    /// Returns the trie of the same bytes over another type of store. Does not allocate.
+    ///
+    /// ```
+    /// let trie = ZeroTriePerfectHash::from_bytes(b"abc\x85");
+    /// let shared: ZeroTriePerfectHash<CowSlice<'_, u8>> = trie.convert_store();
+    /// assert_eq!(rt; shared.get(b"abc"), Some(5));
+    /// ```
+    pub fn convert_store<X: ConvertStore<S>>(self) -> HashedTrie<K, X>
+        ensures { X.stored result.store ≡ S.stored self.store }
+    {
+        HashedTrie::from_store(X::convert(self.into_store()))
+    }
+
+    /// Returns whether there are no bytes, as in a trie with no keys.
+    pub fn is_empty(&self) -> bool
+        ensures { IsTrue result ↔ (S.stored self.now.store ≡ []) }
+    {
+        self.as_bytes().is_empty()
+    }
+
+    /// Returns the number of bytes.
+    pub fn byte_len(&self) -> usize
+        ensures { result ≡ length (S.stored self.now.store) }
+    {
+        self.as_bytes().len()
+    }
+
+    /// Returns the bytes of the trie.
+    pub fn as_bytes(&self) -> &[u8]
+        ensures { result.now ≡ S.stored self.now.store }
+    {
+        self.store.bytes()
+    }
+
+    /// Returns the same trie, which borrows these bytes.
+    pub fn as_borrowed(&self) -> HashedTrie<K, &[u8]>
+        ensures { result.store.now ≡ S.stored self.now.store }
+    {
+        HashedTrie::from_bytes(self.as_bytes())
+    }
+
+    /// Returns the same trie, which borrows these bytes, as `as_borrowed` does.
+    pub fn as_borrowed_slice(&self) -> HashedTrie<K, &[u8]>
+        ensures { result.store.now ≡ S.stored self.now.store }
+    {
+        self.as_borrowed()
+    }
+
+    /// Returns the same trie over a copy of its bytes.
+    ///
+    /// ```
+    /// let trie = ZeroTriePerfectHash::from_bytes(b"abc\x85");
+    /// assert_eq!(rt; trie.to_owned(rt.alloc())?.get(b"abc"), Some(5));
+    /// ```
+    ///
+    /// An error means that an allocation failed.
+    pub fn to_owned(&self, alloc: Global) -> Result<HashedTrie<K, Vec<u8>>, AllocError>
+        ensures { IfOk result (λ trie. trie.store.items ≡ S.stored self.now.store) }
+    {
+        let store = Vec::from_slice(alloc, self.as_bytes())?;
+        Ok(HashedTrie::from_store(store))
+    }
+}
+
+impl<K: HashedKind, S: TrieStore> HashedTrie<K, S> {
+    /// Returns the value of the key, or `None` if the trie does not have it. Does not allocate.
+    ///
+    /// On malformed bytes the result is unspecified; it never panics or reads outside them.
+    ///
+    /// `get` is inlined at every call site (about 3 KB), and so are `get_str`, `contains_key` and a
+    /// cursor's `step`. To have its code once, call it from a function of your own that is
+    /// `#[inline(never)]`.
+    #[inline(always)]
+    pub fn get(&self, key: &[u8]) -> Option<usize>
+        ensures { (m : Map) → Means K.kind (S.stored self.now.store) m
+            → result ≡ look K.kind m key.now }
+    {
+        get::<K>(self.as_bytes(), key)
+    }
+
+    /// Returns the value of a `str` key, as `get` does for its bytes.
+    ///
+    /// ```
+    /// let trie = ZeroTriePerfectHash::from_bytes(b"abc\x85");
+    /// assert_eq!(rt; trie.get_str("abc"), Some(5));
+    /// ```
+    #[inline(always)]
+    pub fn get_str(&self, key: &str) -> Option<usize>
+        ensures { (m : Map) → Means K.kind (S.stored self.now.store) m
+            → result ≡ look K.kind m key.now }
+    {
+        self.get(key.as_bytes())
+    }
+
+    /// Returns whether the trie has the key. Does not allocate.
+    ///
+    /// ```
+    /// let trie = ZeroTriePerfectHash::from_bytes(b"abc\x85");
+    /// assert!(rt; trie.contains_key(b"abc"));
+    /// assert!(rt; !trie.contains_key(b"ab"));
+    /// ```
+    #[inline(always)]
+    pub fn contains_key(&self, key: &[u8]) -> bool
+        ensures { (m : Map) → Means K.kind (S.stored self.now.store) m
+            → result ≡ is_some (look K.kind m key.now) }
+    {
+        self.get(key).is_some()
+    }
+}
+
+impl<K: HashedKind, S> HashedTrie<K, S> {
+    /// Returns the same trie as a `ZeroTrie`.
+    pub fn into_zerotrie(self) -> ZeroTrie<S>
+        ensures kind { flavor_kind result.flavor ≡ K.kind }
+        ensures store { result.store ≡ self.store }
+    {
+        ZeroTrie::of_kind::<K>(self.into_store())
+    }
+}
+
+impl<'a, K> HashedTrie<K, &'a [u8]> {
+    /// Returns the trie over these bytes. Does not validate them.
+    ///
+    /// ```
+    /// let trie = ZeroTriePerfectHash::from_bytes(b"in\x83to\x84");
+    /// assert_eq!(rt; trie.get(b"into"), Some(4));
+    /// ```
+    pub fn from_bytes(bytes: &'a [u8]) -> Self
+        ensures { result.store.now ≡ bytes.now }
+    {
+        HashedTrie::from_store(bytes)
+    }
+}
+
+impl<'a, K: HashedKind> HashedTrie<K, &'a [u8]> {
+    /// Returns the trie with no keys. Does not allocate.
+    ///
+    /// ```
+    /// assert_eq!(rt; ZeroTriePerfectHash::empty().get(b""), None);
+    /// ```
+    pub fn empty() -> Self
+        ensures bytes { result.store.now ≡ [] }
+        ensures map { Means K.kind result.store.now empty }
+    {
+        HashedTrie::from_bytes(&[])
+    }
+}
+
+impl<K: HashedKind> HashedTrie<K, Vec<u8>> {
+    /// Returns the length in bytes of the trie of a slice, whose keys must ascend strictly by their
+    /// bytes. Does not build it.
+    ///
+    /// ```
+    /// let items: [(&[u8], usize); 2] = [(b"ad", 22), (b"adef", 33)];
+    /// assert_eq!(rt; ZeroTriePerfectHash::encoded_len(rt.alloc(), &items)?, 8);
+    /// ```
+    ///
+    /// Errors: `Unsorted`, `CapacityExceeded`, `OutOfMemory`; see `ZeroTrieBuildError`.
+    pub fn encoded_len(alloc: Global, items: &[(&[u8], usize)]) -> Result<usize, ZeroTrieBuildError>
+        ensures { IsLength ascending K.kind (pairs_of items.now) result }
+    {
+        let items = ByteSliceWithIndices::from_byte_slice(items);
+        encoded_len(alloc, items, ZeroTrieBuilderOptions::of::<K>())
+    }
+
+    /// Returns the length in bytes of the trie of a slice, as `encoded_len` does, for `str` keys.
+    ///
+    /// ```
+    /// let items = [("ad", 22), ("adef", 33)];
+    /// assert_eq!(rt; ZeroTriePerfectHash::encoded_len_str(rt.alloc(), &items)?, 8);
+    /// ```
+    pub fn encoded_len_str(
+        alloc: Global,
+        items: &[(&str, usize)],
+    ) -> Result<usize, ZeroTrieBuildError>
+        ensures { IsLength ascending K.kind (pairs_of items.now) result }
+    {
+        let items = ByteSliceWithIndices::from_str_slice(items);
+        encoded_len(alloc, items, ZeroTrieBuilderOptions::of::<K>())
+    }
+
+    /// Builds the trie of a map with string keys, `&str` or `String`. An empty map gives an empty
+    /// trie.
+    ///
+    /// ```
+    /// let mut map: BTreeMap<&str, usize> = BTreeMap::new(rt.alloc());
+    /// map.insert("ad", 22)?;
+    /// let trie = ZeroTriePerfectHash::try_from_btree_map_str(rt.alloc(), &map)?;
+    /// assert_eq!(rt; trie.get(b"ad"), Some(22));
+    /// ```
+    ///
+    /// Errors: `CapacityExceeded`, `CouldNotSolvePerfectHash`, `OutOfMemory`; see
+    /// `ZeroTrieBuildError`.
+    pub fn try_from_btree_map_str<Key: TextKey>(
+        alloc: Global,
+        entries: &BTreeMap<Key, usize>,
+    ) -> Result<Self, ZeroTrieBuildError>
+        ensures { IsBuild in_order K.kind (λ trie. trie.store.items)
+            (keyed Key.key entries.now.entries) result }
+    {
+        Self::try_from_btree_map(alloc, entries)
+    }
+
+    /// Builds the trie of a map. An empty map gives an empty trie.
+    ///
+    /// Errors: `Unsorted` (never if the keys are ordered by their bytes, as byte and string keys
+    /// are), `CapacityExceeded`, `CouldNotSolvePerfectHash`, `OutOfMemory`; see
+    /// `ZeroTrieBuildError`.
+    pub fn try_from_btree_map<Key: TrieKey + Ord>(
+        alloc: Global,
+        entries: &BTreeMap<Key, usize>,
+    ) -> Result<Self, ZeroTrieBuildError>
+        ensures build { IsBuild ascending K.kind (λ trie. trie.store.items)
+            (keyed Key.key entries.now.entries) result }
+        ensures by_bytes { IsByBytes Key.cmp Key.key
+            → IsBuild in_order K.kind (λ trie. trie.store.items) (keyed Key.key entries.now.entries)
+            result }
+    {
+        let store = bytes_from_map::<K, Key>(alloc, entries)?;
+        Ok(HashedTrie::from_store(store))
+    }
+
+    /// Builds the trie of a slice, whose keys must ascend strictly by their bytes. An empty slice
+    /// gives an empty trie.
+    ///
+    /// ```
+    /// let items: [(&[u8], usize); 2] = [(b"ad", 22), (b"adef", 33)];
+    /// let trie = ZeroTriePerfectHash::try_from_sorted_slice(rt.alloc(), &items)?;
+    /// assert_eq!(rt; trie.get(b"adef"), Some(33));
+    /// ```
+    ///
+    /// Errors: `Unsorted`, `CapacityExceeded`, `CouldNotSolvePerfectHash`, `OutOfMemory`; see
+    /// `ZeroTrieBuildError`.
+    pub fn try_from_sorted_slice(
+        alloc: Global,
+        items: &[(&[u8], usize)],
+    ) -> Result<Self, ZeroTrieBuildError>
+        ensures { IsBuild ascending K.kind (λ trie. trie.store.items) (pairs_of items.now) result }
+    {
+        let store = bytes_from_slice::<K>(alloc, items)?;
+        Ok(HashedTrie::from_store(store))
+    }
+
+    /// Builds the trie of all pairs of an iterator, in any order. An empty iterator gives an empty
+    /// trie.
+    ///
+    /// ```
+    /// let trie = ZeroTriePerfectHash::try_from_iter(rt.alloc(), [("xyz", 22), ("abc", 11)])?;
+    /// assert_eq!(rt; trie.get(b"abc"), Some(11));
+    /// ```
+    ///
+    /// Errors: `DuplicateKey`, `CapacityExceeded`, `CouldNotSolvePerfectHash`, `OutOfMemory`; see
+    /// `ZeroTrieBuildError`.
+    pub fn try_from_iter<Key: TrieKey + Drop, U: IntoIterator<Item = (Key, usize)>>(
+        alloc: Global,
+        iter: U,
+    ) -> Result<Self, ZeroTrieBuildError>
+    where
+        U::IntoIter: Drop,
+        requires { IsFiniteIterable U.into_iter_gives U.IntoIter.can_next U.IntoIter.remaining
+            iter }
+        ensures { IsBuildOfAll (HoldsOfItsPairs U.into_iter_gives U.IntoIter.next_gives Key.key iter)
+            K.kind (λ trie. trie.store.items) result }
+    {
+        let store = bytes_from_iter::<K, Key, U>(alloc, iter)?;
+        Ok(HashedTrie::from_store(store))
+    }
+}
+
+impl<K, S: Copy> Clone for HashedTrie<K, S> {
+    fn clone(&self) -> Result<Self, AllocError>
+        ensures { result ≡ Ok self.now }
+    {
+        Ok(HashedTrie::from_store(self.store))
+    }
+}
+
+impl<K, S: Copy> Copy for HashedTrie<K, S> {}
+
+/// Prints the name of the kind and the number of bytes, as `ZeroTriePerfectHash(17 bytes)`.
+impl<K: HashedKind, S: TrieStore> fmt::Debug for HashedTrie<K, S> {
+    fn fmt<W: fmt::Write>(&self, f: &mut fmt::Formatter<W>) -> fmt::Result {
+        let name = if K::EXTENDED {
+            "ZeroTrieExtendedCapacity"
+        } else {
+            "ZeroTriePerfectHash"
+        };
+        write!(f, "{name}({} bytes)", self.byte_len())
+    }
+}
+
+impl<'a, K> Default for HashedTrie<K, &'a [u8]> {
+    ghost is_default = { λ t. t.store.now ≡ [] };
+
+    fn default() -> Self {
+        HashedTrie::from_bytes(&[])
+    }
+}
+
+impl<K: HashedKind, S: TrieStore> PartialEq for HashedTrie<K, S> {
+    ghost eq = { λ x y. pointwise ◌==◌ (S.stored x.store) (S.stored y.store) };
+
+    ghost laws = { on_per (λ x. S.stored x.store) (cmp.partial_equiv_from_equiv nat_list_eq_equiv) };
+
+    fn eq(&self, other: &Self) -> bool
+        ensures bytes { IsTrue result ↔ (S.stored self.now.store ≡ S.stored other.now.store) }
+        ensures maps { (m n : Map) → Means K.kind (S.stored self.now.store) m
+            → Means K.kind (S.stored other.now.store) n → IsTrue result → m ≡ n }
+    {
+        laws::one_meaning();
+        self.as_bytes() == other.as_bytes()
+    }
+}
+
+impl<K: HashedKind, S: TrieStore> Eq for HashedTrie<K, S> {
+    ghost laws = { on_equiv (λ x. S.stored x.store) nat_list_eq_equiv };
+}
