@@ -3,7 +3,7 @@
 use crate::table::{COMMANDS, STATUSES};
 use clap::{Arg, ArgAction, ArgMatches, Command};
 use std::alloc::{AllocError, Global};
-use zerotrie_queries::TrieKind;
+use zerotrie_core::TrieKind;
 use zerotrie_run::Place;
 
 /// What holds if an option is left out.
@@ -60,7 +60,8 @@ pub enum Task {
     Ask(Topic),
 }
 
-/// A command, with what it does and is for, the end of its help, and its arguments in the order of the help.
+/// A command: what it does and is for, the end of its help, and its arguments in the order of the
+/// help.
 pub struct Subcommand {
     pub name: &'static str,
     pub task: Task,
@@ -131,7 +132,7 @@ pub fn command<'a>(alloc: Global) -> Result<Command<'a>, AllocError> {
     Ok(program)
 }
 
-/// What the command of this name does. `None` if it names none.
+/// Returns what the command of this name does. `None` if there is none.
 pub fn task_of(name: &str) -> Option<Task> {
     for row in COMMANDS {
         if row.name == name {
@@ -141,8 +142,8 @@ pub fn task_of(name: &str) -> Option<Task> {
     None
 }
 
-/// The kind that is named. `None` if none is, or if it is left to the build. Refused, with what is told, if the word is no
-/// kind.
+/// Returns the named kind. `None` if none is named, or the build chooses. It is an error, with the
+/// message, if the word is no kind.
 pub fn kind_in(matches: &ArgMatches<'_>) -> Result<Option<TrieKind>, &'static str> {
     match matches.get_str("kind") {
         None | Some("auto") => Ok(None),
@@ -153,12 +154,13 @@ pub fn kind_in(matches: &ArgMatches<'_>) -> Result<Option<TrieKind>, &'static st
     }
 }
 
-/// The place that an argument names.
+/// Returns the place that an argument names.
 pub fn place_in<'a>(matches: &ArgMatches<'a>, name: &str) -> Place<'a> {
     Place::named(matches.get_str(name).unwrap_or("-"))
 }
 
-/// The place that an argument names, which is read. A path of standard input is that stream, so that it is not read twice.
+/// Returns the place to read that an argument names. A path of standard input is that stream, so
+/// that it is not read twice.
 pub fn source_in<'a>(matches: &ArgMatches<'a>, name: &str) -> Place<'a> {
     match matches.get_str(name) {
         Some("/dev/stdin" | "/dev/fd/0") => Place::Stream,

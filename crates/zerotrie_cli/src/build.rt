@@ -36,8 +36,8 @@ fn target_in<'a>(matches: &ArgMatches<'a>) -> Place<'a> {
     }
 }
 
-/// The build that is asked for. Its steps are told if that was asked for, or if messages go to a terminal. Refused, with what is
-/// told, if a word of it is none.
+/// Returns the build that is asked for. It reports its steps if that was asked for, or if messages
+/// go to a terminal. It is an error, with the message, if an option has a wrong word.
 pub fn build_in<'a>(
     matches: &ArgMatches<'a>,
     to_terminal: bool,

@@ -10,7 +10,8 @@ use std::{env, fs, io};
 use zerotrie_files::SystemStore;
 use zerotrie_run::{Build, Command, Place, Status, run};
 
-/// Tells that a fault stopped the program before the command ran. If that can't be told either, the status tells it alone.
+/// Reports that a fault stopped the program before the command ran. If the message can't be
+/// written, the status alone reports it.
 fn tell_fault(rt: &HostRuntime, error: &io::Error) -> Status {
     let _ = eprintln!(rt; "zerotrie: {error}");
     Status::Fault
@@ -55,7 +56,8 @@ fn arguments(rt: &HostRuntime) -> io::Result<Vec<String>> {
     Ok(env::args(rt)?.collect(rt.alloc())?)
 }
 
-/// Shows what clap says of the words: what is wrong with them, or help or the version, which they asked for.
+/// Prints what clap returns for the words: an error, or the help or the version that they asked
+/// for.
 fn show(rt: &HostRuntime, said: &clap::Error) -> Status {
     let shown = said.print(rt);
     match said.kind() {

@@ -11,8 +11,8 @@ const KEYWORDS: &[&str] = &[
     "typeof", "unsafe", "unsized", "use", "virtual", "where", "while", "yield",
 ];
 
-/// Whether the name is a keyword of the language. In C, whether it begins with `zerotrie`: the names made from it could then be
-/// those of `zerotrie.h`.
+/// Returns whether the name is a keyword of the language. In C, also whether it begins with
+/// `zerotrie`: the names made from it could then be those of `zerotrie.h`.
 pub fn is_taken(language: Language, name: &str) -> bool {
     match language {
         Language::Rust | Language::Rattle => KEYWORDS.iter().any(|word| *word == name),

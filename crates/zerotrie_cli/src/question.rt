@@ -70,7 +70,7 @@ fn language_in(matches: &ArgMatches<'_>) -> Result<Language, &'static str> {
     }
 }
 
-/// The code that is asked for. Refused, with what is told, if it can't have its name.
+/// Returns the code that is asked for. It is an error, with the message, if it can't have its name.
 fn code_in<'a>(matches: &ArgMatches<'a>) -> Result<Question<'a>, &'static str> {
     let language = language_in(matches)?;
     let name = matches.get_str("name").unwrap_or(language.usual_name());
@@ -85,7 +85,8 @@ fn code_in<'a>(matches: &ArgMatches<'a>) -> Result<Question<'a>, &'static str> {
     Ok(Question::Code(language, name))
 }
 
-/// The drawing that is asked for. Refused, with what is told, if its number of nodes is no number.
+/// Returns the drawing that is asked for. It is an error, with the message, if its number of nodes
+/// is no number.
 fn dot_in<'a>(matches: &ArgMatches<'a>) -> Result<Question<'a>, &'static str> {
     match matches.get_str("most").unwrap_or(MOST).parse() {
         Ok(most) => Ok(Question::View(View::Dot(most))),
@@ -93,7 +94,8 @@ fn dot_in<'a>(matches: &ArgMatches<'a>) -> Result<Question<'a>, &'static str> {
     }
 }
 
-/// The question of a command. Refused, with what is told, if a word of it is none.
+/// Returns the question of a command. It is an error, with the message, if an option has a wrong
+/// word.
 fn question_in<'w, 'a: 'w>(
     matches: &ArgMatches<'a>,
     topic: Topic,
@@ -113,7 +115,8 @@ fn question_in<'w, 'a: 'w>(
     }
 }
 
-/// The question of a command, with the file that it is put to. Refused, with what is told, if a word of it is none.
+/// Returns the question of a command, and the file it is for. It is an error, with the message, if
+/// an option has a wrong word.
 pub fn ask_in<'w, 'a: 'w>(
     matches: &ArgMatches<'a>,
     topic: Topic,

@@ -1,4 +1,4 @@
-//! Files that are replaced as a whole, so that a fault leaves the old one.
+//! Atomic replacement of files: a fault leaves the old file.
 #![tactic(auto)]
 
 mod disk;
@@ -8,6 +8,5 @@ mod store;
 mod system;
 
 pub use disk::Disk;
-pub use output::write_output;
 pub use replacing::{replace, replace_beside};
 pub use store::{Store, SystemStore};

@@ -8,7 +8,7 @@ use std::os::unix::fs::PermissionsExt;
 use std::rt::Files;
 use std::{fs, io};
 
-/// What stands at a path that bytes go to.
+/// What a path that bytes go to leads to.
 #[derive(Drop)]
 enum Target {
     /// A file with this path, or none yet. A file that is there has permissions.
@@ -17,11 +17,11 @@ enum Target {
     Stream,
 }
 
-/// The bits of a mode that say who may read, write and run a file. A file that is replaced keeps them alone, so that new
-/// bytes run as nobody else.
+/// The bits of a mode that say who may read, write and run a file. A replaced file keeps only
+/// these, and no set-id bit.
 const MODE_KEPT: u32 = 0o777;
 
-/// What stands at a path, if something does. A symbolic link is followed.
+/// Returns what a path leads to, if it is there. It follows symbolic links.
 fn target_there<R: Files + AllocGlobal>(
     rt: &R,
     path: &str,
@@ -39,12 +39,12 @@ fn target_there<R: Files + AllocGlobal>(
     Ok(Target::File(real.into_string(), Some(kept)))
 }
 
-/// Whether a path is that of an open file of a process, whose file is to be written to and not replaced.
+/// Returns whether a path names an open file of a process, which is written to and not replaced.
 fn is_open_file(path: &str) -> bool {
     path.starts_with("/dev/fd/") || path.starts_with("/dev/std") || path.starts_with("/proc/")
 }
 
-/// What stands at a path. A link to what isn't there is an error.
+/// Returns what a path leads to. A link to nothing is an error.
 fn target_of<R: Files + AllocGlobal>(rt: &R, path: &str) -> io::Result<Target> {
     if is_open_file(path) {
         return Ok(Target::Stream);
@@ -72,17 +72,22 @@ fn write_file<R: Files + AllocGlobal>(
     replace_beside(rt.alloc(), &mut disk, path, bytes)
 }
 
-/// Writes the bytes to the file of a path, in place of what it held, or makes it.
+/// Writes the bytes to the file of a path, which it replaces or makes.
 ///
-/// They are written to a new file at `PATH.N.tmp`, where N is a number below 100, and that file then takes the path. After
-/// a fault the file of the path holds what it held. A symbolic link stays, and the file that it leads to is replaced; PATH
-/// is then the path of that file. The file keeps who may read, write and run it, and no set-id bit.
+/// The file is replaced atomically: the bytes go to a new file at `PATH.N.tmp`, where N is a number
+/// below 100, which is synced and renamed. After a fault the file of the path is unchanged. A
+/// symbolic link stays, and the file that it leads to is replaced; PATH is then the path of that
+/// file. The file keeps who may read, write and run it, and no set-id bit.
 ///
-/// A device or a pipe is written in place, and so is a file that is open at `/dev/fd/N`, at its end. After a fault these
-/// may have got a beginning of the bytes.
+/// A device or a pipe is written in place, and so is a file that is open at `/dev/fd/N`, at its
+/// end. After a fault these may have a beginning of the bytes.
 ///
 /// A folder, a link that leads nowhere and a file that can't be written are errors.
-pub fn write_output<R: Files + AllocGlobal>(rt: &R, path: &str, bytes: &[u8]) -> io::Result<()> {
+pub(crate) fn write_output<R: Files + AllocGlobal>(
+    rt: &R,
+    path: &str,
+    bytes: &[u8],
+) -> io::Result<()> {
     match target_of(rt, path)? {
         Target::File(real, permissions) => write_file(rt, real.as_str(), permissions, bytes),
         Target::Stream => {

@@ -1,4 +1,4 @@
-//! A file that is replaced as a whole.
+//! Atomic replacement of a file.
 
 ghost use Rattle.std.specs.Prelude.{◌≡◌, ◌≢◌, IfOk};
 ghost use Rattle.std.specs.String.{string_bytes};
@@ -13,11 +13,11 @@ use std::io::ErrorKind;
 /// How many paths beside a file are tried.
 const MOST_TRIES: usize = 100;
 
-/// Replaces the file of a path by these bytes, or makes it, if the path `beside` is free. They are written to a new
-/// file there, which is then given the path. `false` if there is a file at `beside`, and then no file changes.
+/// Replaces the file of a path by these bytes, or makes it: writes them to a new file at `beside`
+/// and renames it. Returns `false` if `beside` has a file already, and then no file changes.
 ///
-/// At each moment the file holds what it held or all of the bytes. After an error it holds what it held, and what was
-/// written beside it is removed, if that can be done.
+/// At each moment the file holds its old bytes or all of the new ones. After an error it is
+/// unchanged, and the new file is removed, if that can be done.
 #[tactic(auto, using(crate::proofs::DiskLemmas::then_whole, crate::proofs::DiskLemmas::then_left))]
 pub fn replace<D: Disk>(disk: &mut D, path: &str, beside: &str, bytes: &[u8]) -> io::Result<bool>
     requires { beside.now ≢ path.now }
@@ -36,7 +36,7 @@ pub fn replace<D: Disk>(disk: &mut D, path: &str, beside: &str, bytes: &[u8]) ->
     }
 }
 
-/// The path of a new file beside the file of a path: that path with `.N.tmp` after it, where N is the number.
+/// Returns the path of a new file beside the file of a path: `PATH.N.tmp`, where N is the number.
 fn path_beside(alloc: Global, path: &str, number: usize) -> Result<String, AllocError>
     ensures exact { IfOk result (λ beside. string_bytes beside ≡ numbered_path path.now number) }
     ensures another { IfOk result (λ beside. string_bytes beside ≢ path.now) }
@@ -46,12 +46,12 @@ fn path_beside(alloc: Global, path: &str, number: usize) -> Result<String, Alloc
     Ok(beside)
 }
 
-/// Replaces the file of a path by these bytes, or makes it. They are written to a new file in the same folder, which is
-/// then given the path. The new file's path is `PATH.N.tmp`, where N is a number below 100.
+/// Replaces the file of a path by these bytes, or makes it: writes them to a new file at
+/// `PATH.N.tmp`, where N is a number below 100, and renames it.
 ///
-/// At each moment the file holds what it held or all of the bytes, and no other file changes that was there. After an
-/// error it holds what it held, and what was written beside it is removed, if that can be done. If there are files at
-/// all of these hundred paths, it fails with `AlreadyExists`.
+/// At each moment the file holds its old bytes or all of the new ones, and no other file that was
+/// there changes. After an error it is unchanged, and the new file is removed, if that can be done.
+/// If all of these hundred paths have files, it fails with `AlreadyExists`.
 pub fn replace_beside<D: Disk>(
     alloc: Global,
     disk: &mut D,

@@ -1,4 +1,4 @@
-//! Files that are read and replaced whole.
+//! Reads and replacements of whole files.
 
 ghost use Rattle.std.specs.Prelude.{◌≡◌, Option, Some, None, IfOk, IfSome};
 ghost use Rattle.zerotrie_files.specs.Disks.{Files, Known};
@@ -14,16 +14,16 @@ pub trait Store {
     /// What the files hold. `None` says nothing of them.
     ghost files: { Self → Option Files };
 
-    /// All that the file of a path holds.
+    /// Reads the file of a path.
     fn read(&self, path: &str) -> io::Result<Vec<u8>>
         ensures { IfOk result (λ bytes.
             IfSome (files self.now) (λ held. held path.now ≡ Some bytes.items)) };
 
-    /// Replaces the file of a path by the bytes, or makes it. After an error it holds what it held, and there may be new
-    /// files at the paths `PATH.N.tmp`, where N is a number below 100.
+    /// Replaces the file of a path by the bytes, or makes it. After an error it is unchanged, and
+    /// there may be new files at the paths `PATH.N.tmp`, where N is a number below 100.
     ///
-    /// A device or a pipe is no such file: it is written in place, and so is a file that is open at `/dev/fd/N`. After an
-    /// error these may have got a beginning of the bytes.
+    /// A device or a pipe is no such file: it is written in place, and so is a file that is open at
+    /// `/dev/fd/N`. After an error these may have a beginning of the bytes.
     fn replace(&mut self, path: &str, bytes: &[u8]) -> io::Result<()>
         ensures { Known (files self.old) (files self.new)
             (Rewrites path.now bytes.now result) };

@@ -1,4 +1,4 @@
-//! The files of the system, in which one is replaced.
+//! The file system, in which a file is replaced.
 
 ghost use Rattle.std.specs.Prelude.{None};
 
@@ -21,7 +21,7 @@ impl<'a, R: Files> SystemDisk<'a, R> {
         SystemDisk { files, permissions }
     }
 
-    /// Writes the bytes to a file, and has them on the disk before it returns.
+    /// Writes the bytes to a file, and syncs it.
     fn fill(&self, file: &mut R::File, bytes: &[u8]) -> io::Result<()> {
         if let Some(permissions) = &self.permissions {
             file.set_permissions(permissions.clone()?)?;

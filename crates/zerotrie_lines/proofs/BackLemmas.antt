@@ -213,6 +213,14 @@ unfolding Lacks
 place_behind a [] rest lacks = elim (eqb_tells a a) [ inl t ↦ rw t.0 refl | inr f ↦ absurd (f.1 refl) ]
 place_behind a (b ∷ front) rest lacks = rw lacks.0 (ap (λ n. 1 + n) (place_behind a front rest lacks.1) ∙ add_one (length front))
 
+-- and the first place behind bytes that are not it
+pub place_on : (a : ℕ) (front rest : List ℕ) → Lacks a front → position_or_len (λ b. b == a) (front ++ rest) ≡ length front + position_or_len (λ b. b == a) rest
+unfolding Lacks
+place_on a [] rest lacks = omega arith
+place_on a (b ∷ front) rest lacks =
+    let more : 1 + (length front + position_or_len (λ b. b == a) rest) ≡ suc (length front) + position_or_len (λ b. b == a) rest = omega arith in
+    rw lacks.0 (ap (λ n. 1 + n) (place_on a front rest lacks.1) ∙ more)
+
 pub drop_behind : (a : ℕ) (front rest : List ℕ) → drop (length front + 1) (front ++ a ∷ rest) ≡ rest
 drop_behind a [] rest = refl
 drop_behind a (b ∷ front) rest = let e : suc (length front) + 1 ≡ suc (length front + 1) = omega arith in rw e (drop_behind a front rest)

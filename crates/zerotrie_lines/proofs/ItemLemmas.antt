@@ -1,22 +1,25 @@
 -- Lines whose keys stand in them as they are.
 use Rattle.std.proofs.Common.{◌≡◌, ℕ, ◌+◌, ◌-◌, ◌*◌, ◌^◌, ◌<◌, ◌≤◌, ◌⊎◌, inl, inr, zero, suc, List, [], ◌∷◌, ◌++◌, length, take, drop, get_or, refl, sym, ◌∙◌, ap, subst, arith, append_assoc}
-use Rattle.std.specs.Prelude.{◌≢◌, true}
+use Rattle.std.specs.Prelude.{◌≢◌, ◌==◌, true}
+use Rattle.std.specs.List.{Contains}
 use Rattle.memchr.specs.Find.{Nowhere, Passes, is_byte3}
 use Rattle.std.specs.List.{before_first, after_first, position_or_len}
 use Rattle.std.proofs.lemmas.List.{take_more, drop_more, take_all, take-append-drop, get_or-take, length-append, length-take-le, append-nil}
 use Rattle.std.proofs.Math.ListN.{drop_of_length-le}
 use Rattle.std.proofs.Math.Nat.{pow-suc, pow-le-pow_right}
 use Rattle.std.proofs.Math.Numerals.{add-one}
-use Rattle.std.proofs.Math.Seq.{take-append_seam}
+use Rattle.std.proofs.Math.Seq.{take-append_seam, take-append-add}
+use Rattle.std.proofs.lemmas.Bool.Decides.{eqb_tells}
+use Rattle.std.proofs.lemmas.List.Elements.{Contains-append_left, Contains-append_right}
 use Rattle.zerotrie_lines.specs.Numbers.{AreDigits, number_behind, IsNumber}
 use Rattle.zerotrie_lines.specs.Escapes.{Spells}
 use Rattle.std.specs.Borrow.{Bor}
 use Rattle.zerotrie_lines.specs.Tables.{pairs_of}
-use Rattle.zerotrie_lines.specs.Lines.{is_feed, is_tab, IsPairLine}
-use Rattle.zerotrie_lines.specs.Reads.{IsKeyOf}
+use Rattle.zerotrie_lines.specs.Lines.{is_feed, is_tab, HasTab, IsPairLine}
+use Rattle.zerotrie_lines.specs.Reads.{IsKeyOf, IsNotPlain}
 use Rattle.zerotrie_lines.proofs.EscapeLemmas.{spells_itself}
 use Rattle.zerotrie_lines.proofs.LineLemmas.{lacks_slash}
-use Rattle.zerotrie_lines.proofs.BackLemmas.{Lacks, lacks_by, lacks_append, lacks_low, lacks_next, digits_high, place_behind, no_place_of, drop_behind}
+use Rattle.zerotrie_lines.proofs.BackLemmas.{Lacks, lacks_by, lacks_append, lacks_low, lacks_next, digits_high, place_behind, place_on, no_place_of, drop_behind}
 
 -- The first count bytes are digits of the value.
 pub record DigitsTo (text : List ℕ) (count value : ℕ) : Type 0 where
@@ -79,58 +82,134 @@ first_is front tail rest lacks ends = elim ends [
       (take_all (length front) front (omega arith), sym (drop_of_length-le front (omega arith)))
 ]
 
--- the line of a key that has no escape
-pub plain_line : (key digits tail rest : List ℕ) (value : ℕ) → ((k : ℕ) → k < length key → (get_or key k 0 ≢ 9) × (get_or key k 0 ≢ 92) × (get_or key k 0 ≢ 10))
-    → IsNumber digits value → (tail ≡ 10 ∷ rest) ⊎ ((tail ≡ []) × (rest ≡ []))
-    → IsPairLine (before_first is_feed ((key ++ 9 ∷ digits) ++ tail)) (key, value) × IsKeyOf (before_first is_feed ((key ++ 9 ∷ digits) ++ tail)) key
-    × (rest ≡ after_first is_feed ((key ++ 9 ∷ digits) ++ tail))
-plain_line key digits tail rest value none number ends =
-    let high = digits_high digits number.all in
-    let feed : Lacks 10 (key ++ 9 ∷ digits) = lacks_append 10 key (9 ∷ digits) (lacks_by 10 key (λ k l. (none k l).2)) (lacks_next 10 9 digits refl (lacks_low 10 digits (omega arith) high)) in
-    let line = first_is (key ++ 9 ∷ digits) tail rest feed ends in
-    let place : position_or_len is_tab (key ++ 9 ∷ digits) ≡ length key = place_behind 9 key digits (lacks_by 9 key (λ k l. (none k l).0)) in
-    let long = length-append key (9 ∷ digits) in (
-      rw (line.0, place) (
-        omega (arith, long),
-        subst (λ t. Spells t key) (sym (take-append_seam key (9 ∷ digits))) (spells_itself key (λ k l. (none k l).1)),
-        subst (λ d. IsNumber d value) (sym (drop_behind 9 key digits)) number,
-      ),
-      rw (line.0, place) (sym (take-append_seam key (9 ∷ digits)), lacks_slash key (λ k l. (none k l).1)),
-      line.1,
-    )
+-- a number, up to a line feed or the end
+pub number_line : (all rest : List ℕ) (count value : ℕ) → IsNumber (take count all) value → (drop count all ≡ 10 ∷ rest) ⊎ ((drop count all ≡ []) × (rest ≡ []))
+    → IsNumber (before_first is_feed all) value × (rest ≡ after_first is_feed all)
+number_line all rest count value number ends =
+    let lacks : Lacks 10 (take count all) = lacks_low 10 (take count all) (omega arith) (digits_high (take count all) number.all) in
+    let line = first_is (take count all) (drop count all) rest lacks ends in
+    subst (λ t. IsNumber (before_first is_feed t) value × (rest ≡ after_first is_feed t)) (take-append-drop count all) (rw line.0 number, line.1)
+
+-- bytes without a line feed belong to the first line of what they stand before
+before_on : (a : ℕ) (front rest : List ℕ) → Lacks a front → before_first (λ b. b == a) (front ++ rest) ≡ front ++ before_first (λ b. b == a) rest
+before_on a front rest lacks = ap (λ n. take n (front ++ rest)) (place_on a front rest lacks) ∙ take-append-add front rest (position_or_len (λ b. b == a) rest)
+
+after_on : (a : ℕ) (front rest : List ℕ) → Lacks a front → after_first (λ b. b == a) (front ++ rest) ≡ after_first (λ b. b == a) rest
+after_on a front rest lacks = ap (λ n. drop (n + 1) (front ++ rest)) (place_on a front rest lacks) ∙ drop_on front rest (position_or_len (λ b. b == a) rest)
+  where
+    drop_on : (front rest : List ℕ) (n : ℕ) → drop (length front + n + 1) (front ++ rest) ≡ drop (n + 1) rest
+    drop_on [] rest n = let e : 0 + n + 1 ≡ n + 1 = omega arith in rw e refl
+    drop_on (b ∷ front) rest n = let e : suc (length front) + n + 1 ≡ suc (length front + n + 1) = omega arith in rw e (drop_on front rest n)
 
 -- what the three bytes that are looked for are not
-apart : (x : ℕ) → (is_byte3 9 92 10 x ≡ true → ⊥) → (x ≢ 9) × (x ≢ 92) × (x ≢ 10)
-apart x none = (λ e. none (rw e refl), λ e. none (rw e refl), λ e. none (rw e refl))
+bytes_apart : (x : ℕ) → (is_byte3 9 92 10 x ≡ true → ⊥) → (x ≢ 9) × (x ≢ 92) × (x ≢ 10)
+bytes_apart x none = (λ e. none (rw e refl), λ e. none (rw e refl), λ e. none (rw e refl))
 
 -- the bytes in front of the first of them
 pub none_before : (all : List ℕ) (place : ℕ) → place < length all → Nowhere (Passes (is_byte3 9 92 10) all) 0 place
     → (k : ℕ) → k < length (take place all) → (get_or (take place all) k 0 ≢ 9) × (get_or (take place all) k 0 ≢ 92) × (get_or (take place all) k 0 ≢ 10)
 none_before all place within none k l =
     let few : k < place = omega (arith, l, length-take-le place all) in
-    rw (get_or-take place all k 0 few) (apart (get_or all k 0) (none k (omega arith) few))
+    rw (get_or-take place all k 0 few) (bytes_apart (get_or all k 0) (none k (omega arith) few))
 
--- an input in parts: a key, a tab, digits, and what comes after them
-pub parts : (all : List ℕ) (place count : ℕ) → place < length all → get_or all place 0 ≡ 9
-    → all ≡ (take place all ++ 9 ∷ take count (drop (place + 1) all)) ++ drop count (drop (place + 1) all)
-parts all place count within tab =
-    sym (take-append-drop place all)
-    ∙ ap (λ t. take place all ++ t) (drop_more all place 0 within ∙ ap (λ b. b ∷ drop (place + 1) all) tab ∙ ap (λ t. 9 ∷ t) (sym (take-append-drop count (drop (place + 1) all))))
-    ∙ sym (append_assoc (take place all) (9 ∷ take count (drop (place + 1) all)) (drop count (drop (place + 1) all)))
+-- an input in parts: what stands before a byte, the byte, and what stands behind it
+cut_at : (all : List ℕ) (place : ℕ) → place < length all → all ≡ take place all ++ get_or all place 0 ∷ drop (place + 1) all
+cut_at all place within = sym (take-append-drop place all) ∙ ap (λ t. take place all ++ t) (drop_more all place 0 within)
+
+-- an input whose first tab, backslash or line feed is a tab
+pub record StopsAtTab (all : List ℕ) (place : ℕ) : Type 0 where
+  pub line : before_first is_feed all ≡ take place all ++ 9 ∷ before_first is_feed (drop (place + 1) all)
+  pub after : after_first is_feed all ≡ after_first is_feed (drop (place + 1) all)
+  pub key : before_first is_tab (before_first is_feed all) ≡ take place all
+  pub digits : after_first is_tab (before_first is_feed all) ≡ before_first is_feed (drop (place + 1) all)
+  pub tab : HasTab (before_first is_feed all)
+  pub plain : (k : ℕ) → k < length (take place all) → get_or (take place all) k 0 ≢ 92
+
+pub at_tab : (all : List ℕ) (place : ℕ) → place < length all → Nowhere (Passes (is_byte3 9 92 10) all) 0 place → get_or all place 0 ≡ 9 → StopsAtTab all place
+at_tab all place within none tab =
+    let key = take place all in
+    let text = drop (place + 1) all in
+    let digits = before_first is_feed text in
+    let apart = none_before all place within none in
+    let whole : all ≡ key ++ 9 ∷ text = cut_at all place within ∙ ap (λ b. key ++ b ∷ text) tab in
+    let joined : all ≡ (key ++ 9 ∷ []) ++ text = whole ∙ sym (append_assoc key (9 ∷ []) text) in
+    let feed : Lacks 10 (key ++ 9 ∷ []) = lacks_append 10 key (9 ∷ []) (lacks_by 10 key (λ k l. (apart k l).2)) (lacks_next 10 9 [] refl (lacks_low 10 [] (omega arith) (digits_high [] tt))) in
+    let line : before_first is_feed all ≡ key ++ 9 ∷ digits =
+    ap (λ t. before_first is_feed t) joined ∙ before_on 10 (key ++ 9 ∷ []) text feed ∙ append_assoc key (9 ∷ []) digits in
+    let first : position_or_len is_tab (key ++ 9 ∷ digits) ≡ length key = place_behind 9 key digits (lacks_by 9 key (λ k l. (apart k l).0)) in
+    let long = length-append key (9 ∷ digits) in record {
+      line = line;
+      after = ap (λ t. after_first is_feed t) joined ∙ after_on 10 (key ++ 9 ∷ []) text feed;
+      key = ap (λ t. before_first is_tab t) line ∙ ap (λ n. take n (key ++ 9 ∷ digits)) first ∙ take-append_seam key (9 ∷ digits);
+      digits = ap (λ t. after_first is_tab t) line ∙ ap (λ n. drop (n + 1) (key ++ 9 ∷ digits)) first ∙ drop_behind 9 key digits;
+      tab = subst HasTab (sym line) (omega (arith, first, long));
+      plain = λ k l. (apart k l).1;
+    }
+
+-- the first line is a pair if a number stands behind the tab
+pub plain_pair : (all : List ℕ) (place value : ℕ) → StopsAtTab all place → IsNumber (before_first is_feed (drop (place + 1) all)) value → IsPairLine (before_first is_feed all) (take place all, value)
+plain_pair all place value stop number =
+    (stop.tab, subst (λ t. Spells t (take place all)) (sym stop.key) (spells_itself (take place all) stop.plain), subst (λ d. IsNumber d value) (sym stop.digits) number)
+
+pub plain_key : (all : List ℕ) (place : ℕ) → StopsAtTab all place → IsKeyOf (before_first is_feed all) (take place all)
+plain_key all place stop = (sym stop.key, lacks_slash (take place all) stop.plain)
+
+-- and none if none does
+pub no_number : (all : List ℕ) (place : ℕ) → StopsAtTab all place → ((value : ℕ) → IsNumber (before_first is_feed (drop (place + 1) all)) value → ⊥) → IsNotPlain (before_first is_feed all)
+no_number all place stop none = inr (λ e h. none e.1 (subst (λ d. IsNumber d e.1) stop.digits h.2))
+
+-- a line without a tab is no pair
+no_tab : (line : List ℕ) → Lacks 9 line → IsNotPlain line
+no_tab line lacks = inr (λ e h. let end : position_or_len is_tab line ≡ length line = no_place_of 9 line lacks in omega (arith, h.0, end))
+
+-- an input without a tab, a backslash and a line feed
+pub no_stop : (all : List ℕ) → Nowhere (Passes (is_byte3 9 92 10) all) 0 (length all) → IsNotPlain (before_first is_feed all)
+no_stop all none =
+    let apart : (k : ℕ) → k < length all → (get_or all k 0 ≢ 9) × (get_or all k 0 ≢ 92) × (get_or all k 0 ≢ 10) = λ k l. bytes_apart (get_or all k 0) (none k (omega arith) l) in
+    let line : before_first is_feed all ≡ all = ap (λ n. take n all) (no_place_of 10 all (lacks_by 10 all (λ k l. (apart k l).2))) ∙ take_all (length all) all (omega arith) in
+    subst IsNotPlain (sym line) (no_tab all (lacks_by 9 all (λ k l. (apart k l).0)))
+
+-- which of the three bytes it is
+one_of : (x : ℕ) → is_byte3 9 92 10 x ≡ true → x ≢ 9 → (x ≡ 92) ⊎ (x ≡ 10)
+one_of x is other = elim (eqb_tells x 9) [
+  | inl tab ↦ absurd (other tab.1)
+  | inr f ↦ elim (eqb_tells x 92) [
+    | inl slash ↦ inl slash.1
+    | inr g ↦ elim (eqb_tells x 10) [ inl feed ↦ inr feed.1 | inr h ↦ absurd (cc (rw (f.0, g.0, h.0) at is)) ]
+  ]
+]
+
+slash_is : Contains {X = ℕ} (92 ∷ []) 92
+slash_is = (0, omega arith, refl)
+
+-- an input whose first tab, backslash or line feed is no tab
+pub other_stop : (all : List ℕ) (place : ℕ) → place < length all → Nowhere (Passes (is_byte3 9 92 10) all) 0 place → Passes (is_byte3 9 92 10) all place → get_or all place 0 ≢ 9
+    → IsNotPlain (before_first is_feed all)
+other_stop all place within none here other =
+    let key = take place all in
+    let text = drop (place + 1) all in
+    let apart = none_before all place within none in
+    let low : Lacks 9 key = lacks_by 9 key (λ k l. (apart k l).0) in
+    let feed : Lacks 10 key = lacks_by 10 key (λ k l. (apart k l).2) in
+    let whole = cut_at all place within in elim (one_of (get_or all place 0) here other) [
+      | inl slash ↦
+          let front : Lacks 10 (key ++ 92 ∷ []) = lacks_append 10 key (92 ∷ []) feed (lacks_next 10 92 [] refl (lacks_low 10 [] (omega arith) (digits_high [] tt))) in
+          let tab : Lacks 9 (key ++ 92 ∷ []) = lacks_append 9 key (92 ∷ []) low (lacks_next 9 92 [] refl (lacks_low 9 [] (omega arith) (digits_high [] tt))) in
+          let joined : all ≡ (key ++ 92 ∷ []) ++ text = whole ∙ ap (λ b. key ++ b ∷ text) slash ∙ sym (append_assoc key (92 ∷ []) text) in
+          let line : before_first is_feed all ≡ (key ++ 92 ∷ []) ++ before_first is_feed text = ap (λ t. before_first is_feed t) joined ∙ before_on 10 (key ++ 92 ∷ []) text front in
+          let first : before_first is_tab (before_first is_feed all) ≡ (key ++ 92 ∷ []) ++ before_first is_tab (before_first is_feed text) =
+          ap (λ t. before_first is_tab t) line ∙ before_on 9 (key ++ 92 ∷ []) (before_first is_feed text) tab in
+          inl (subst (λ t. Contains t 92) (sym first) (Contains-append_left (key ++ 92 ∷ []) (before_first is_tab (before_first is_feed text)) 92 (Contains-append_right key (92 ∷ []) 92 slash_is)))
+      | inr is ↦
+          let line : before_first is_feed all ≡ key =
+          ap (λ t. before_first is_feed t) (whole ∙ ap (λ b. key ++ b ∷ text) is) ∙ ap (λ n. take n (key ++ 10 ∷ text)) (place_behind 10 key text feed) ∙ take-append_seam key (10 ∷ text) in
+          subst IsNotPlain (sym line) (no_tab key low)
+    ]
 
 -- an item that is added
 pub pairs_push : (items : List (Bor (List ℕ) × ℕ)) (item : Bor (List ℕ) × ℕ) → pairs_of (items ++ item ∷ []) ≡ pairs_of items ++ (item.0.now, item.1) ∷ []
 pairs_push [] item = refl
 pairs_push (e ∷ items) item = ap (λ p. (e.0.now, e.1) ∷ p) (pairs_push items item)
-
--- the first line of an input, whose key has no escape
-pub plain_first : (all : List ℕ) (place count value : ℕ) (rest : List ℕ) → place < length all → Nowhere (Passes (is_byte3 9 92 10) all) 0 place → get_or all place 0 ≡ 9
-    → IsNumber (take count (drop (place + 1) all)) value
-    → (drop count (drop (place + 1) all) ≡ 10 ∷ rest) ⊎ ((drop count (drop (place + 1) all) ≡ []) × (rest ≡ []))
-    → IsPairLine (before_first is_feed all) (take place all, value) × IsKeyOf (before_first is_feed all) (take place all) × (rest ≡ after_first is_feed all)
-plain_first all place count value rest within none tab number ends =
-    subst (λ t. IsPairLine (before_first is_feed t) (take place all, value) × IsKeyOf (before_first is_feed t) (take place all) × (rest ≡ after_first is_feed t)) (sym (parts all place count within tab))
-    (plain_line (take place all) (take count (drop (place + 1) all)) (drop count (drop (place + 1) all)) rest value (none_before all place within none) number ends)
 
 -- a front of an input is as many of its first bytes as it has
 pub front_again : (n : ℕ) (all front : List ℕ) → front ≡ take n all → front ≡ take (length front) all

@@ -1,4 +1,3 @@
-pub mod CallerLemmas
 mod NumberLemmas
 mod TableLemmas
 mod PlainLemmas

@@ -1,14 +1,12 @@
 -- The first line of an input, and places of bytes.
-use Rattle.std.proofs.Common.{◌≡◌, ℕ, ◌+◌, ◌-◌, ◌<◌, zero, suc, List, [], ◌∷◌, ◌++◌, length, take, drop, get_or, refl, sym, ◌∙◌, ap, arith, Bool, true, false, eq-eqb, map, append_assoc, subst}
+use Rattle.std.proofs.Common.{◌≡◌, ℕ, ◌+◌, ◌-◌, ◌<◌, zero, suc, List, [], ◌∷◌, ◌++◌, length, take, drop, get_or, refl, sym, ◌∙◌, ap, arith, Bool, true, false, eq-eqb, map, append_assoc}
 use Rattle.std.specs.Borrow.{Bor}
 use Rattle.std.proofs.lemmas.Bool.{eqb-true, eqb-false}
-use Rattle.std.specs.Prelude.{◌≢◌, ◌==◌, Option, Some, None}
+use Rattle.std.specs.Prelude.{◌≢◌, ◌==◌}
 use Rattle.std.specs.List.{before_first, after_first, position_or_len}
 use Rattle.std.proofs.lemmas.List.{take_all, length-drop, get_or_default}
 use Rattle.std.specs.List.{Contains}
-use Rattle.std.specs.Option.{is_some}
-use Rattle.std.proofs.lemmas.List.Elements.{Contains-get_or}
-use Rattle.memchr.specs.Find.{Nowhere, Passes, is_byte, IsFirstByte}
+use Rattle.memchr.specs.Find.{Nowhere, Passes, is_byte}
 use Rattle.zerotrie_lines.specs.Lines.{is_feed, onto_line, lines_of}
 
 not_true : (b : Bool) → (b ≡ true → ⊥) → b ≡ false
@@ -94,15 +92,6 @@ after_shorter (b ∷ input) some = omega (arith, length-drop (position_or_len is
 pub nil_of_length : (xs : List ℕ) → length xs ≡ 0 → xs ≡ []
 nil_of_length [] l = refl
 nil_of_length (b ∷ xs) l = absurd (omega (arith, l))
-
--- whether the search for a backslash found one
-pub has_slash : (key : List ℕ) (r : Option ℕ) → IsFirstByte (is_byte 92) key r → true ≡ is_some r → Contains key 92
-has_slash key None first some = absurd (cc)
-has_slash key (Some k) first some = subst (Contains key) (eqb-true (get_or key k 0) 92 first.1) (Contains-get_or key k 0 first.0.high)
-
-pub no_slash : (key : List ℕ) (r : Option ℕ) → IsFirstByte (is_byte 92) key r → false ≡ is_some r → Nowhere (Passes (is_byte 92) key) 0 (length key)
-no_slash key None first none = first
-no_slash key (Some k) first none = absurd (cc)
 
 -- a text none of whose bytes is a backslash
 pub lacks_slash : (key : List ℕ) → ((k : ℕ) → k < length key → get_or key k 0 ≢ 92) → Contains key 92 → ⊥

@@ -7,12 +7,12 @@ use memchr::memrchr;
 use std::io;
 use std::io::{ErrorKind, Read};
 
-/// How many bytes are asked for at once. What their lines and answers take is so little that an allocator keeps it from one
-/// part to the next.
+/// The size of one read. The lines and answers of so few bytes fit in memory that the allocator
+/// keeps for the next read.
 const ROOM: usize = 1 << 14;
 
-/// Adds what one read of a stream gives to the bytes that are held, at most 16 KiB, and tells whether the stream has ended.
-/// A read that a signal interrupts gives nothing.
+/// Reads once, at most 16 KiB, appends the bytes to `held`, and returns whether the stream has
+/// ended. A read that a signal interrupts adds nothing.
 pub fn read_more<R: Read>(input: &mut R, held: &mut Vec<u8>) -> io::Result<bool>
     ensures gives { IfOk result (Gives (R.remaining input.old) (R.remaining input.new)
         held.old.items held.new.items) }
@@ -29,8 +29,8 @@ pub fn read_more<R: Read>(input: &mut R, held: &mut Vec<u8>) -> io::Result<bool>
     }
 }
 
-/// How many of the bytes are whole lines, each with its line feed, if the last of these feeds stands at `from` or later;
-/// else 0. Only the bytes from there on are searched.
+/// Returns the length of the whole lines, each with its line feed. It is 0 if no line feed is at
+/// `from` or later. Only the bytes from there on are searched.
 pub fn whole_lines(bytes: &[u8], from: usize) -> usize
     ensures within { result ≤ length bytes.now }
     ensures whole { AreWhole (take result bytes.now) }

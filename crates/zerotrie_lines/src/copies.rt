@@ -1,4 +1,4 @@
-//! Short texts that are copied in two parts of one length, which takes no call.
+//! Short bytes, copied as two parts of fixed length, which needs no call.
 
 ghost use Rattle.std.specs.Prelude.{◌≡◌, ◌++◌, ◌*◌, ◌≤◌, length, OnOk};
 

@@ -42,9 +42,9 @@ impl fmt::Display for BadLine {
 /// Why an input is no pairs.
 #[derive(Clone, Copy, PartialEq, Eq, Debug)]
 pub enum ReadError {
-    /// The line with this number is no pair, and why. Of comma-separated fields it is the record with this number.
+    /// The line, or record of comma-separated fields, with this number is no pair, and why.
     Line(usize, BadLine),
-    /// Memory was refused.
+    /// An allocation failed.
     OutOfMemory,
 }
 

@@ -1,6 +1,6 @@
-//! Pairs whose keys stand in the input as they are, so that they are read where they lie.
+//! Pairs whose keys borrow the input.
 
-ghost use Rattle.std.specs.Prelude.{◌≡◌, ◌≤◌, ◌⊎◌, ◌∷◌, [], length, take, IfOk, IfSome, IfNone};
+ghost use Rattle.std.specs.Prelude.{◌≡◌, ◌≤◌, ◌⊎◌, ◌∷◌, ℕ, [], length, take, IfOk, IfSome, IfNone};
 ghost use Rattle.std.specs.List.{before_first, after_first};
 ghost use Rattle.memchr.specs.Find.{IsFirstByte, is_byte3};
 ghost use Rattle.zerotrie_lines.specs.Numbers.{IsNumber};
@@ -12,13 +12,14 @@ ghost use Rattle.zerotrie_lines.specs.declared.reading.Format.TheVariants.{Lines
 use crate::lines::take_line;
 use crate::numbers::parse_number;
 use crate::reading::Format;
-use memchr::{memchr, memchr3};
+use memchr::memchr3;
 use std::alloc::{AllocError, Global};
 use std::simd::prelude::*;
 
-/// The number that the digits spell with which a text begins, and how many digits these are. `None` if there are none.
+/// Reads the digits that a text begins with: returns their number and how many they are. `None` if
+/// there are none.
 ///
-/// At most eighteen digits are taken, which spell a number that is far below 2^64.
+/// It reads at most eighteen digits, whose number can't overflow.
 #[inline(always)]
 fn leading_number(text: &[u8]) -> Option<(usize, usize)>
     ensures number { IfSome result (λ r. IsNumber (take r.1 text.now) r.0) }
@@ -36,7 +37,7 @@ fn leading_number(text: &[u8]) -> Option<(usize, usize)>
     Some((value, count))
 }
 
-/// What stands after the line feed with which a text begins, or nothing if there is no text.
+/// Returns what follows the line feed that a text begins with, or nothing if the text is empty.
 #[inline(always)]
 fn after_feed(text: &[u8]) -> Option<&[u8]>
     ensures { IfSome result (λ rest. (text.now ≡ 10 ∷ rest.now)
@@ -49,8 +50,8 @@ fn after_feed(text: &[u8]) -> Option<&[u8]>
     }
 }
 
-/// The first place of a tab, a backslash or a line feed. The first sixteen bytes are looked at together, in which most
-/// keys end.
+/// Finds the first tab, backslash or line feed. It compares the first sixteen bytes at once, since
+/// most keys are shorter.
 #[inline(always)]
 fn first_stop(text: &[u8]) -> Option<usize>
     ensures { IsFirstByte (is_byte3 9 92 10) text.now result }
@@ -68,53 +69,27 @@ fn first_stop(text: &[u8]) -> Option<usize>
     memchr3(b'\t', b'\\', b'\n', text)
 }
 
-/// Like `take_plain`, but may be `None` for any line.
+/// Takes the first line off, which is a number. `None` if it is not; the rest is then unspecified.
 #[inline(always)]
-fn take_quickly<'a>(rest: &mut &'a [u8]) -> Option<(&'a [u8], usize)>
-    ensures pair { IfSome result (λ e.
-        IsPairLine (before_first is_feed rest.old.now) (e.0.now, e.1)) }
-    ensures front { IfSome result (λ e. e.0.now ≡ take (length e.0.now) rest.old.now) }
-    ensures key { IfSome result (λ e. IsKeyOf (before_first is_feed rest.old.now) e.0.now) }
+fn take_number(rest: &mut &[u8]) -> Option<usize>
+    ensures number { IfSome result (IsNumber (before_first is_feed rest.old.now)) }
     ensures rest { IfSome result (λ _. rest.new.now ≡ after_first is_feed rest.old.now) }
-    ensures none { IfNone result (rest.new.now ≡ rest.old.now) }
+    ensures none { IfNone result ((value : ℕ) → IsNumber (before_first is_feed rest.old.now) value
+        → ⊥) }
 {
     let all = *rest;
-    let place = first_stop(all)?;
-    if all[place] != b'\t' {
-        return None;
+    if let Some((value, count)) = leading_number(all) {
+        let (_, tail) = all.split_at(count);
+        if let Some(after) = after_feed(tail) {
+            *rest = after;
+            return Some(value);
+        }
     }
-    let (key, _) = all.split_at(place);
-    let (_, text) = all.split_at(place + 1);
-    let (value, count) = leading_number(text)?;
-    let (_, after) = text.split_at(count);
-    *rest = after_feed(after)?;
-    Some((key, value))
+    parse_number(take_line(rest))
 }
 
-/// Like `take_plain`, which it is for the few lines that `take_quickly` leaves.
-fn take_slowly<'a>(rest: &mut &'a [u8]) -> Option<(&'a [u8], usize)>
-    ensures pair { IfSome result (λ e.
-        IsPairLine (before_first is_feed rest.old.now) (e.0.now, e.1)) }
-    ensures front { IfSome result (λ e. e.0.now ≡ take (length e.0.now) rest.old.now) }
-    ensures key { IfSome result (λ e. IsKeyOf (before_first is_feed rest.old.now) e.0.now) }
-    ensures rest { IfSome result (λ _. rest.new.now ≡ after_first is_feed rest.old.now) }
-    ensures none { IfNone result (rest.new.now ≡ rest.old.now) }
-    ensures not_plain { IfNone result (IsNotPlain (before_first is_feed rest.old.now)) }
-{
-    let mut after = *rest;
-    let line = take_line(&mut after);
-    let place = memchr(b'\t', line)?;
-    let key = &line[..place];
-    let value = parse_number(&line[place + 1..])?;
-    if memchr(b'\\', key).is_some() {
-        return None;
-    }
-    *rest = after;
-    Some((key, value))
-}
-
-/// Takes the first line off, which is a key, a tab and a number, and answers the pair that it is. The key is the front of
-/// what was left, so that it lies in the input.
+/// Takes the first line off, which is a key, a tab and a number, and returns the pair. The key
+/// borrows the input.
 ///
 /// ```
 /// let mut rest = b"ad\t22\nadef\t33\n".as_slice();
@@ -122,7 +97,8 @@ fn take_slowly<'a>(rest: &mut &'a [u8]) -> Option<(&'a [u8], usize)>
 /// assert_eq!(rt; rest, b"adef\t33\n".as_slice());
 /// ```
 ///
-/// It is `None` exactly if a backslash stands before the tab, or the line is no pair. What is left is then as it was.
+/// It is `None` exactly if a backslash stands before the tab, or the line is no pair. The input is
+/// then left unchanged.
 #[inline(always)]
 pub fn take_plain<'a>(rest: &mut &'a [u8]) -> Option<(&'a [u8], usize)>
     ensures pair { IfSome result (λ e.
@@ -133,13 +109,19 @@ pub fn take_plain<'a>(rest: &mut &'a [u8]) -> Option<(&'a [u8], usize)>
     ensures none { IfNone result (rest.new.now ≡ rest.old.now) }
     ensures not_plain { IfNone result (IsNotPlain (before_first is_feed rest.old.now)) }
 {
-    match take_quickly(rest) {
-        Some(pair) => Some(pair),
-        None => take_slowly(rest),
+    let all = *rest;
+    let place = first_stop(all)?;
+    if all[place] != b'\t' {
+        return None;
     }
+    let (key, _) = all.split_at(place);
+    let (_, mut after) = all.split_at(place + 1);
+    let value = take_number(&mut after)?;
+    *rest = after;
+    Some((key, value))
 }
 
-/// The pairs of lines with a tab, if no key has an escape.
+/// Reads lines with a tab. `None` if a key has an escape, or a line is no pair.
 fn items_of_tsv(alloc: Global, input: &[u8]) -> Result<Option<Vec<(&[u8], usize)>>, AllocError>
     ensures reads { IfOk result (λ items. IfSome items (λ items.
         Reads Tsv input.now (pairs_of items.items))) }
@@ -156,7 +138,7 @@ fn items_of_tsv(alloc: Global, input: &[u8]) -> Result<Option<Vec<(&[u8], usize)
     Ok(Some(items))
 }
 
-/// The pairs of lines that are keys.
+/// Reads lines that are keys.
 fn items_of_keys(alloc: Global, input: &[u8]) -> Result<Vec<(&[u8], usize)>, AllocError>
     ensures { IfOk result (λ items. Reads Lines input.now (pairs_of items.items)) }
 {
@@ -171,15 +153,16 @@ fn items_of_keys(alloc: Global, input: &[u8]) -> Result<Vec<(&[u8], usize)>, All
     Ok(items)
 }
 
-/// The pairs that an input is, with their keys as they stand in it. It is `None` only if a line has a backslash before its
-/// tab, or is no pair, or the input is records; `read_pairs` then copies the keys, or tells what is wrong.
+/// Reads the pairs of an input, whose keys borrow it. It is `None` only if a line has a backslash
+/// before its tab, or is no pair, or the input is records: `read_pairs` then copies the keys, or
+/// returns the error.
 ///
 /// ```
 /// let items = read_items(rt.alloc(), Format::Tsv, b"ad\t22\nadef\t33\n")?;
 /// assert_eq!(rt; items.map(|items| items[1]), Some((b"adef".as_slice(), 33)));
 /// ```
 ///
-/// A line takes no memory but its item's.
+/// It allocates the list alone.
 pub fn read_items(
     alloc: Global,
     format: Format,

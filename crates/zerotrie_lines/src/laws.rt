@@ -1,5 +1,5 @@
-//! Laws over the definitions alone. A law is a function that does nothing: calling it brings its clause into a caller's
-//! proof.
+//! Laws of the definitions. A law is an empty function: a call of it brings its clause into the
+//! caller's proof.
 
 ghost use Rattle.zerotrie_lines.specs.Laws.{EscapedReadsBack, LinesReadBack, OneReading};
 

@@ -1,10 +1,10 @@
 //! Pairs of a key and a number, as lines of text.
 //!
-//! A line is a key with escapes, a tab and a number; or two fields with a comma between them, the key and a number; or
-//! a key alone, whose number is that of its line.
+//! A line is a key with escapes, a tab and a number; or two fields with a comma between them, the
+//! key and a number; or a key alone, whose number is that of its line.
 //!
-//! A call that adds to a `Vec` fails only if it is out of memory, or if the stream fails that it reads. It tells nothing then of
-//! what it added.
+//! A call that appends to a `Vec` fails only if it is out of memory or if the stream that it reads
+//! fails. What it appended is then unspecified.
 #![tactic(auto)]
 
 mod blocks;
@@ -22,7 +22,7 @@ mod strings;
 mod table;
 
 pub use blocks::{read_more, whole_lines};
-pub use escapes::{hex_digit, unescape, write_escaped};
+pub use escapes::{hex_digit, write_escaped};
 pub use fault::{BadLine, ReadError};
 pub use items::{read_items, take_plain};
 pub use lines::{read_lines, take_line, write_pair};

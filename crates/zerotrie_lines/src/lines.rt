@@ -16,7 +16,7 @@ use itoa::Buffer;
 use memchr::memchr;
 use std::alloc::{AllocError, Global};
 
-/// Takes the first line off: what stands before the first line feed, or all.
+/// Takes the first line off: the bytes before the first line feed, or all.
 pub fn take_line<'a>(rest: &mut &'a [u8]) -> &'a [u8]
     ensures line { result.now ≡ before_first is_feed rest.old.now }
     ensures rest { rest.new.now ≡ after_first is_feed rest.old.now }
@@ -34,7 +34,7 @@ pub fn take_line<'a>(rest: &mut &'a [u8]) -> &'a [u8]
     }
 }
 
-/// The lines of an input, each without its line feed. They take no memory but that of the list.
+/// Returns the lines of an input, each without its line feed. It allocates the list alone.
 pub fn read_lines(alloc: Global, input: &[u8]) -> Result<Vec<&[u8]>, AllocError>
     ensures { IfOk result (λ lines. map (λ line. line.now) lines.items ≡ lines_of input.now) }
 {
@@ -46,8 +46,8 @@ pub fn read_lines(alloc: Global, input: &[u8]) -> Result<Vec<&[u8]>, AllocError>
     Ok(lines)
 }
 
-/// Adds a pair whose key a text spells, and tells whether it spells one. The first key is room for one that has
-/// escapes.
+/// Adds the pair of a key, which may have escapes, and returns whether it is well-formed. `key` is
+/// a buffer for the decoded bytes.
 fn add_spelled(
     text: &[u8],
     value: usize,
@@ -74,7 +74,7 @@ fn add_spelled(
     }
 }
 
-/// Whether a text is a number with a carriage return after it.
+/// Returns whether a text is a number with a carriage return after it.
 fn has_return(text: &[u8]) -> bool
     ensures yes { IsTrue result → HasReturn text.now }
     ensures no { result ≡ false → HasReturn text.now → ⊥ }
@@ -85,7 +85,7 @@ fn has_return(text: &[u8]) -> bool
     parse_number(front).is_some()
 }
 
-/// Why what stands for a value is no number: a carriage return after one, or what else it has.
+/// Returns why a value is no number: a carriage return after one, or anything else.
 fn bad_number(digits: &[u8]) -> BadLine
     ensures { IsValueFault digits.now result }
 {
@@ -96,7 +96,7 @@ fn bad_number(digits: &[u8]) -> BadLine
     }
 }
 
-/// Why a line without a tab is no pair.
+/// Returns why a line without a tab is no pair.
 fn without_tab(line: &[u8]) -> BadLine
     requires { HasTab line.now → ⊥ }
     ensures { IsLineFault line.now result }
@@ -108,7 +108,7 @@ fn without_tab(line: &[u8]) -> BadLine
     }
 }
 
-/// Adds the pair that a line is, or answers why it is none. The key is room for one that has escapes.
+/// Adds the pair that a line is, or returns why it is none. `key` is a buffer for a decoded key.
 pub fn read_pair(
     line: &[u8],
     key: &mut Vec<u8>,
@@ -134,7 +134,7 @@ pub fn read_pair(
 
 /// Writes the line of a pair: the key with escapes, a tab, the value and a line feed.
 ///
-/// The digits are worked out before the key is written, so that they need not be waited for when they are copied.
+/// The digits are formatted before the key is written, so that they are ready when they are copied.
 pub fn write_pair(output: &mut Vec<u8>, key: &[u8], value: usize) -> Result<(), AllocError>
     ensures { OnOk result (output.new.items ≡ output.old.items ++ tsv_line (key.now, value)) }
 {

@@ -1,4 +1,4 @@
-//! Bytes that stand for themselves when a key is written, looked at many at once.
+//! Bytes that need no escape, many compared at once.
 
 ghost use Rattle.std.specs.Prelude.{◌≡◌, ◌≤◌, ◌<◌, length, take};
 ghost use Rattle.std.specs.List.{list_all};
@@ -6,14 +6,14 @@ ghost use Rattle.zerotrie_lines.specs.Escapes.{is_plain};
 
 use std::simd::prelude::*;
 
-/// Whether a byte stands for itself.
+/// Returns whether a byte needs no escape.
 pub(crate) fn is_plain(byte: u8) -> bool
     ensures { result ≡ is_plain byte }
 {
     byte >= 32 && byte != 127 && byte != b'\\'
 }
 
-/// Whether the first sixteen bytes do.
+/// Returns whether the first sixteen bytes need no escape.
 #[inline(always)]
 fn are_plain_in_16(bytes: &[u8]) -> bool
     requires { 16 ≤ length bytes.now }
@@ -26,7 +26,7 @@ fn are_plain_in_16(bytes: &[u8]) -> bool
     (low == 0) & (deletes == 0) & (slashes == 0)
 }
 
-/// Whether the first eight bytes do.
+/// Returns whether the first eight bytes need no escape.
 #[inline(always)]
 fn are_plain_in_8(bytes: &[u8]) -> bool
     requires { 8 ≤ length bytes.now }
@@ -39,7 +39,8 @@ fn are_plain_in_8(bytes: &[u8]) -> bool
     (low == 0) & (deletes == 0) & (slashes == 0)
 }
 
-/// Whether fewer than sixteen bytes do. If there are eight or more, the first eight and the last are looked at.
+/// Returns whether fewer than sixteen bytes need no escape. Of eight or more it compares the first
+/// eight and the last eight.
 #[inline(always)]
 fn are_few_plain(bytes: &[u8]) -> bool
     requires { length bytes.now < 16 }
@@ -56,7 +57,8 @@ fn are_few_plain(bytes: &[u8]) -> bool
     plain
 }
 
-/// Whether all bytes do. Each is looked at, which is faster than to stop at the first that does not.
+/// Returns whether no byte needs an escape. It compares all of them, which is faster than to stop
+/// at the first that does.
 pub(crate) fn are_plain(key: &[u8]) -> bool
     ensures { result ≡ list_all is_plain key.now }
 {

@@ -18,11 +18,12 @@ pub enum Format {
     Lines,
     /// A line is a key with escapes, a tab and the value.
     Tsv,
-    /// A record is two fields with a comma between them, the key and the value. A field may stand in quotes.
+    /// A record is two fields with a comma between them, the key and the value. A field may be
+    /// quoted.
     Csv,
 }
 
-/// The pairs of lines with a tab.
+/// Reads lines with a tab.
 fn read_tsv(alloc: Global, input: &[u8]) -> Result<Table, ReadError>
     ensures ok { IfOk result (λ table. Reads Tsv input.now table) }
     ensures err { IfErr result (λ e. Explains Tsv input.now e) }
@@ -41,7 +42,7 @@ fn read_tsv(alloc: Global, input: &[u8]) -> Result<Table, ReadError>
     Ok(table)
 }
 
-/// The pairs of lines that are keys.
+/// Reads lines that are keys.
 fn read_keys(alloc: Global, input: &[u8]) -> Result<Table, ReadError>
     ensures ok { IfOk result (λ table. Reads Lines input.now table) }
     ensures err { IfErr result (λ e. Explains Lines input.now e) }
@@ -57,8 +58,8 @@ fn read_keys(alloc: Global, input: &[u8]) -> Result<Table, ReadError>
     Ok(table)
 }
 
-/// The pairs that an input is, one a line or record, in their order. With `lower_case` the ASCII letters of their keys
-/// are in lower case.
+/// Reads the pairs of an input, one a line or record, in their order. With `lower_case` the ASCII
+/// letters of their keys become lower case.
 ///
 /// ```
 /// let table = read_pairs(rt.alloc(), Format::Tsv, false, b"ad\t22\na\\td\t33\n");
@@ -67,7 +68,8 @@ fn read_keys(alloc: Global, input: &[u8]) -> Result<Table, ReadError>
 /// assert_eq!(rt; table.map(|t| t.len()), Err(ReadError::Line(2, BadLine::NoTab)));
 /// ```
 ///
-/// A line takes no memory of its own. An error names the first line or record that is no pair, and why.
+/// It allocates nothing for a line alone. An error names the first line or record that is no pair,
+/// and why.
 pub fn read_pairs(
     alloc: Global,
     format: Format,

@@ -31,8 +31,8 @@ fn write_text_byte(output: &mut Vec<u8>, byte: u8) -> Result<(), AllocError>
     }
 }
 
-/// Writes a text as a JSON string: in quotes, with an escape for a quote, a backslash and a byte below 32. It is one if the
-/// text is UTF-8; other bytes are written as they are.
+/// Writes bytes as a JSON string: in quotes, with an escape for a quote, a backslash and a byte
+/// below 32. It is valid if the bytes are UTF-8; others are written as they are.
 pub fn write_quoted(output: &mut Vec<u8>, text: &[u8]) -> Result<(), AllocError>
     ensures { OnOk result (output.new.items ≡ output.old.items ++ quoted text.now) }
 {

@@ -1,4 +1,4 @@
-//! Pairs whose keys lie one after another.
+//! Pairs whose keys are one after another in one buffer.
 
 ghost use Rattle.std.specs.Prelude.{◌≡◌, ◌++◌, ◌∷◌, [], map, length, IfOk, OnOk, OnErr};
 ghost use Rattle.zerotrie_lines.specs.Tables.{Pairs, pairs_of, lowered_pair};
@@ -66,7 +66,7 @@ impl Table {
         self.bytes.make_ascii_lowercase();
     }
 
-    /// The pairs as a slice's items, whose keys lie in the table.
+    /// Returns the pairs as a slice's items, whose keys borrow the table.
     pub fn items(&self, alloc: Global) -> Result<Vec<(&[u8], usize)>, AllocError>
         ensures { IfOk result (λ items. pairs_of items.items ≡ self.now) }
     {

@@ -1,4 +1,3 @@
 mod ShownLemmas
 mod MadeLemmas
-mod QuickLemmas
 mod ListedLemmas

@@ -9,10 +9,10 @@ use Rattle.zerotrie_lines.specs.Lines.{tsv_line, tsv_lines}
 use Rattle.zerotrie_lines.specs.Laws.{LinesReadBack, OneReading}
 use Rattle.zerotrie_lines.specs.declared.reading.Format.TheVariants.{Tsv}
 use Rattle.zerotrie_lines.specs.Tables.{lowered}
-use Rattle.zerotrie_queries.specs.Kinds.{kind_of}
+use Rattle.zerotrie_core.specs.Kinds.{kind_of}
 use Rattle.zerotrie_queries.specs.Printed.{pair_lines}
 use Rattle.zerotrie_queries.specs.declared.print.Style.TheVariants as style
-use Rattle.zerotrie_queries.specs.declared.kind.TrieKind.{TrieKind}
+use Rattle.zerotrie_core.specs.declared.TrieKind.{TrieKind}
 use Rattle.zerotrie_making.specs.Plans.{file_of}
 use Rattle.zerotrie_making.specs.Sources.{IsPairs}
 use Rattle.zerotrie_making.specs.Made.{IsFileOf}

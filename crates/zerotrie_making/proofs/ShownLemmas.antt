@@ -2,7 +2,8 @@
 use Rattle.std.proofs.Common.{ℕ, ◌<◌, length, arith}
 use Rattle.zerotrie_core.specs.Kind.{Kind}
 use Rattle.zerotrie_core.specs.Maps.{Pairs}
-use Rattle.zerotrie_core.specs.Causes.{ZeroTrieBuildError, NonAsciiError, CapacityExceeded, CouldNotSolvePerfectHash, MixedCase, IllegalDelimiter, DuplicateKey, Unsorted, BufferTooSmall, BufferTooLarge, StackExceeded, OutOfMemory}
+use Rattle.zerotrie_core.specs.declared.ZeroTrieBuildError.{ZeroTrieBuildError}
+use Rattle.zerotrie_core.specs.declared.ZeroTrieBuildError.TheVariants.{NonAsciiError, CapacityExceeded, CouldNotSolvePerfectHash, MixedCase, IllegalDelimiter, DuplicateKey, Unsorted, BufferTooSmall, BufferTooLarge, StackExceeded, OutOfMemory}
 use Rattle.zerotrie_build.specs.Refused.{AreShown}
 
 pub shown_within : (kind : Kind) (pairs : Pairs) (e : ZeroTrieBuildError) (first second : ℕ) → AreShown kind pairs e first second → (first < length pairs) × (second < length pairs)

@@ -3,11 +3,11 @@ use Rattle.std.specs.Prelude.{◌≡◌, ℕ, List, [], Some, false}
 use Rattle.zerotrie_core.specs.Maps.{Map, beginning}
 use Rattle.zerotrie_core.specs.Texts.{Means}
 use Rattle.zerotrie_lines.specs.declared.reading.Format.TheVariants.{Tsv}
-use Rattle.zerotrie_queries.specs.Kinds.{kind_of}
+use Rattle.zerotrie_core.specs.Kinds.{kind_of}
 use Rattle.zerotrie_queries.specs.Printed.{listed}
 use Rattle.zerotrie_queries.specs.declared.print.Form.TheVariants.{Lines}
 use Rattle.zerotrie_queries.specs.declared.print.Style.TheVariants as style
-use Rattle.zerotrie_queries.specs.declared.kind.TrieKind.{TrieKind}
+use Rattle.zerotrie_core.specs.declared.TrieKind.{TrieKind}
 use Rattle.zerotrie_making.specs.Plans.{file_of}
 use Rattle.zerotrie_making.specs.Made.{IsFile}
 use Rattle.zerotrie_making.specs.declared.plan.Plan.{Plan}

@@ -5,8 +5,8 @@ use Rattle.zerotrie_core.specs.Maps.{Pairs}
 use Rattle.zerotrie_core.specs.Routes.{Route, ascending, any_order}
 use Rattle.zerotrie_any.specs.Auto.{auto_kind}
 use Rattle.zerotrie_any.specs.Tagged.{tagged}
-use Rattle.zerotrie_queries.specs.Kinds.{kind_of}
-use Rattle.zerotrie_queries.specs.declared.kind.TrieKind.{TrieKind}
+use Rattle.zerotrie_core.specs.Kinds.{kind_of}
+use Rattle.zerotrie_core.specs.declared.TrieKind.{TrieKind}
 
 -- the route of a build, whose keys are to ascend or may have any order
 abbrev pub route_of : Bool → Route

@@ -1,5 +1,5 @@
-//! A law over the definitions alone. It is a function that does nothing: calling it brings its clause into a caller's
-//! proof.
+//! A law of the definitions. It is an empty function: a call of it brings its clause into the
+//! caller's proof.
 
 ghost use Rattle.zerotrie_making.specs.Laws.{ListedIsMadeAgain};
 

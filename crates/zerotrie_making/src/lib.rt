@@ -1,11 +1,10 @@
-//! The command that makes a trie file: the bytes of a file of pairs in, the bytes of the trie's file out.
+//! Makes the bytes of a trie file from the bytes of a file of pairs.
 #![tactic(auto)]
 
 mod json;
 pub mod laws;
 mod making;
 mod plan;
-mod quick;
 mod reading;
 mod refused;
 mod tries;

@@ -1,35 +1,34 @@
-//! The file of a trie, made from the bytes of an input.
+//! Makes the file of a trie from the bytes of an input.
 
 ghost use Rattle.std.specs.Prelude.{◌≡◌, IfOk, IfErr};
-ghost use Rattle.zerotrie_queries.specs.Kinds.{kind_of};
+ghost use Rattle.zerotrie_core.specs.Kinds.{kind_of};
 ghost use Rattle.zerotrie_core.specs.Items.{pairs_of};
 ghost use Rattle.zerotrie_core.specs.Routes.{IsRefusal};
 ghost use Rattle.zerotrie_making.specs.Plans.{route_of, file_of};
 ghost use Rattle.zerotrie_making.specs.Made.{IsFile, IsFileOf, IsRefusedAs, Explains, ExplainsOf};
 
 use crate::plan::Plan;
-use crate::quick::make_quick;
 use crate::reading::{items_in, read_input};
 use crate::refused::{MakeError, show};
 use crate::tries::{bytes_of, kind_for, why_refused};
 use std::alloc::{AllocError, Global};
-use zerotrie_core::ZeroTrieBuildError;
-use zerotrie_queries::TrieKind;
+use zerotrie_core::{TrieKind, ZeroTrieBuildError};
 
-/// The file of a trie with these bytes. Unless it is bare, the number of the kind stands in front of them.
+/// Returns the file of a trie with these bytes. Unless it is bare, it begins with the number of the
+/// kind.
 pub(crate) fn file_of(bare: bool, kind: TrieKind, bytes: Vec<u8>) -> Result<Vec<u8>, AllocError>
     ensures { IfOk result (λ file. file.items ≡ file_of bare (kind_of kind) bytes.items) }
 {
     let mut file = bytes;
     if !bare {
-        // room that is doubled would be a second copy of the trie
+        // a doubled capacity would be a second copy of the trie
         file.reserve_exact(1)?;
         file.insert(0, kind.tag())?;
     }
     Ok(file)
 }
 
-/// Why a build of the pairs is refused with this error, and the keys that show it, if any do.
+/// Explains an error of a build: with the keys that show it, if any do.
 fn explain(
     alloc: Global,
     kind: TrieKind,
@@ -49,7 +48,7 @@ fn explain(
     }
 }
 
-/// The file of the trie of the pairs.
+/// Makes the file of the trie of the pairs.
 fn make_of(alloc: Global, plan: Plan, items: &[(&[u8], usize)]) -> Result<Vec<u8>, MakeError>
     ensures ok { IfOk result (λ file. IsFileOf plan (pairs_of items.now) file.items) }
     ensures err { IfErr result (λ e. ExplainsOf plan (pairs_of items.now) e) }
@@ -61,7 +60,7 @@ fn make_of(alloc: Global, plan: Plan, items: &[(&[u8], usize)]) -> Result<Vec<u8
     }
 }
 
-/// The file of the trie of the pairs that an input is.
+/// Makes the file of the trie of the pairs of an input.
 ///
 /// ```
 /// let plan = Plan {
@@ -76,16 +75,13 @@ fn make_of(alloc: Global, plan: Plan, items: &[(&[u8], usize)]) -> Result<Vec<u8
 /// assert_eq!(rt; file.as_slice(), b"\x00ad\x90\x06ef\x90\x11".as_slice());
 /// ```
 ///
-/// It takes the input. If keys have to be copied from it, its memory is let go before the trie is built. The error is
-/// `Line`, `NotJson`, `NotPairs` or `NotPair` if the input is no pairs, `Keys` if keys show why a build of the pairs is
-/// refused, `Refused` if it is refused and none do, and `OutOfMemory`.
+/// It takes the input. If keys must be copied from it, it is freed before the trie is built. The
+/// error is `Line`, `NotJson`, `NotPairs` or `NotPair` if the input is no pairs, `Keys` if keys
+/// show why a build of the pairs fails, `Refused` if it fails and none do, and `OutOfMemory`.
 pub fn make(alloc: Global, plan: Plan, input: Vec<u8>) -> Result<Vec<u8>, MakeError>
     ensures ok { IfOk result (λ file. IsFile plan input.items file.items) }
     ensures err { IfErr result (λ e. Explains plan input.items e) }
 {
-    if let Some(file) = make_quick(alloc, plan, input.as_slice()) {
-        return Ok(file);
-    }
     if let Some(items) = items_in(alloc, plan.source, plan.lower_case, input.as_slice())? {
         return make_of(alloc, plan, items.as_slice());
     }

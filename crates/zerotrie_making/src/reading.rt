@@ -10,8 +10,8 @@ use crate::refused::MakeError;
 use std::alloc::{AllocError, Global};
 use zerotrie_lines::{Table, read_items, read_pairs};
 
-/// The pairs that an input is, in their order, with their keys where they stand in it. `None` if `read_input` has to copy
-/// them.
+/// Reads the pairs of an input, in their order, whose keys borrow it. `None` if `read_input` has to
+/// copy them.
 pub(crate) fn items_in(
     alloc: Global,
     source: Source,
@@ -27,7 +27,8 @@ pub(crate) fn items_in(
     }
 }
 
-/// The pairs that an input is, in their order. With `lower_case` the ASCII letters of their keys are in lower case.
+/// Reads the pairs of an input, in their order. With `lower_case` the ASCII letters of their keys
+/// become lower case.
 pub(crate) fn read_input(
     alloc: Global,
     source: Source,

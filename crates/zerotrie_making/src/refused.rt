@@ -10,15 +10,15 @@ use zerotrie_build::Refusal;
 use zerotrie_core::ZeroTrieBuildError;
 use zerotrie_lines::{BadLine, ReadError};
 
-/// A key, and the number of its pair, from 1 on. For lines and records it is theirs; the pairs of a JSON object are in the
-/// order of their keys.
+/// A key, and the number of its pair, from 1 on: that of its line or record. The pairs of a JSON
+/// object are numbered in the order of their keys.
 #[derive(PartialEq, Eq, Debug, Drop)]
 pub struct NumberedKey {
     pub number: usize,
     pub key: Vec<u8>,
 }
 
-/// Two keys that show why a build is refused.
+/// Two keys that show why a build fails.
 #[derive(PartialEq, Eq, Debug, Drop)]
 pub struct Shown {
     /// Why: `Unsorted`, `DuplicateKey`, `NonAsciiError` or `MixedCase`.
@@ -32,7 +32,8 @@ pub struct Shown {
 /// A member or an item of a JSON value that is no pair.
 #[derive(PartialEq, Eq, Debug, Drop)]
 pub enum NoPair {
-    /// Of an object the member with this key: its value is not written as a whole number below 2^64.
+    /// Of an object the member with this key: its value is not written as a whole number below
+    /// 2^64.
     Member(Vec<u8>),
     /// Of a list the item with this number, from 1 on: it is no list of a key and such a number.
     Item(usize),
@@ -41,19 +42,19 @@ pub enum NoPair {
 /// Why no trie file is made.
 #[derive(PartialEq, Eq, Debug, Drop)]
 pub enum MakeError {
-    /// The line with this number is no pair, and why. Of comma-separated fields it is the record with this number.
+    /// The line, or record of comma-separated fields, with this number is no pair, and why.
     Line(usize, BadLine),
-    /// The input is no JSON value. It was read up to this line and column; of both, no clause says more.
+    /// The input is no JSON value. It was read up to this line and column.
     NotJson(usize, usize),
     /// The input is a JSON value, and neither an object nor a list.
     NotPairs,
     /// The input is a JSON object or list, and this member or item is the first that is no pair.
     NotPair(NoPair),
-    /// The build is refused, and these keys show why.
+    /// The build fails, and these keys show why.
     Keys(Shown),
-    /// The build is refused though no key is at fault: `CapacityExceeded` or `CouldNotSolvePerfectHash`.
+    /// The build fails though no key is at fault: `CapacityExceeded` or `CouldNotSolvePerfectHash`.
     Refused(ZeroTrieBuildError),
-    /// Memory was refused.
+    /// An allocation failed.
     OutOfMemory,
 }
 
@@ -76,7 +77,7 @@ impl From<ReadError> for MakeError {
     }
 }
 
-/// The key of an item, with the number of its line.
+/// Returns the key of an item, with the number of its pair.
 fn numbered(
     alloc: Global,
     items: &[(&[u8], usize)],
@@ -92,7 +93,7 @@ fn numbered(
     })
 }
 
-/// The keys that show a refusal, with the numbers of their lines.
+/// Returns the keys that show a refusal, with the numbers of their pairs.
 pub(crate) fn show(
     alloc: Global,
     items: &[(&[u8], usize)],

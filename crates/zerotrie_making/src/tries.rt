@@ -1,34 +1,33 @@
-//! The bytes of a trie whose kind is known when the program runs, and why a build of it is refused.
+//! Builds of a trie whose kind is known only when the program runs, and why they fail.
 
 ghost use Rattle.std.specs.Prelude.{◌≡◌, IfOk, IfSome};
 ghost use Rattle.zerotrie_core.specs.Items.{pairs_of};
 ghost use Rattle.zerotrie_core.specs.Routes.{IsBuild};
 ghost use Rattle.zerotrie_any.specs.Auto.{are_ascii};
 ghost use Rattle.zerotrie_build.specs.Refused.{IsWhyRefused};
-ghost use Rattle.zerotrie_queries.specs.Kinds.{kind_of};
+ghost use Rattle.zerotrie_core.specs.Kinds.{kind_of};
 ghost use Rattle.zerotrie_making.specs.Plans.{kind_for, route_of};
 
 use std::alloc::{AllocError, Global};
 use zerotrie_any::{bytes_from_slice, bytes_from_unsorted_slice};
 use zerotrie_build::{Refusal, why_iter_refused, why_slice_refused};
-use zerotrie_core::{Ext, Hash, Ignore, Simple, ZeroTrieBuildError, ZeroTrieWithOptions};
-use zerotrie_queries::TrieKind;
+use zerotrie_core::{TrieKind, ZeroTrieBuildError, ZeroTrieWithOptions, by_kind};
 
-/// Whether all keys are ASCII.
+/// Returns whether all keys are ASCII.
 fn are_ascii(items: &[(&[u8], usize)]) -> bool
     ensures { result ≡ are_ascii (pairs_of items.now) }
 {
     items.iter().all(|(key, _)| key.is_ascii())
 }
 
-/// The kind of a trie of the pairs: the one that is named, or the one that `ZeroTrie` takes for them.
+/// Returns the kind of a trie of the pairs: the named one, or the one that `ZeroTrie` chooses.
 pub(crate) fn kind_for(named: Option<TrieKind>, items: &[(&[u8], usize)]) -> TrieKind
     ensures { kind_of result ≡ kind_for named (pairs_of items.now) }
 {
     match named {
         Some(kind) => kind,
         None => {
-            if items.len() < 512 && are_ascii(items) {
+            if items.len() < TrieKind::SIMPLE_LIMIT && are_ascii(items) {
                 TrieKind::Simple
             } else {
                 TrieKind::Hash
@@ -37,7 +36,7 @@ pub(crate) fn kind_for(named: Option<TrieKind>, items: &[(&[u8], usize)]) -> Tri
     }
 }
 
-/// The bytes of the trie of the pairs, of the kind `K`.
+/// Builds the trie of the pairs, of the kind `K`.
 fn bytes_as<K: ZeroTrieWithOptions>(
     alloc: Global,
     sorted: bool,
@@ -52,7 +51,7 @@ fn bytes_as<K: ZeroTrieWithOptions>(
     }
 }
 
-/// The bytes of the trie of the pairs. With `sorted` their keys have to ascend.
+/// Builds the trie of the pairs. With `sorted` their keys must ascend.
 pub(crate) fn bytes_of(
     alloc: Global,
     kind: TrieKind,
@@ -62,15 +61,10 @@ pub(crate) fn bytes_of(
     ensures { IsBuild (route_of sorted) (kind_of kind) (λ bytes. bytes.items) (pairs_of items.now)
         result }
 {
-    match kind {
-        TrieKind::Simple => bytes_as::<Simple>(alloc, sorted, items),
-        TrieKind::Ignore => bytes_as::<Ignore>(alloc, sorted, items),
-        TrieKind::Hash => bytes_as::<Hash>(alloc, sorted, items),
-        TrieKind::Ext => bytes_as::<Ext>(alloc, sorted, items),
-    }
+    by_kind!(kind, bytes_as::<_>(alloc, sorted, items))
 }
 
-/// Which keys show why a build of the pairs is refused, in the kind `K`.
+/// Returns which keys show why a build of the pairs fails, in the kind `K`.
 fn why_as<K: ZeroTrieWithOptions>(
     alloc: Global,
     sorted: bool,
@@ -85,7 +79,7 @@ fn why_as<K: ZeroTrieWithOptions>(
     }
 }
 
-/// Which keys show why a build of the pairs is refused. `None` if none do.
+/// Returns which keys show why a build of the pairs fails. `None` if none do.
 pub(crate) fn why_refused(
     alloc: Global,
     kind: TrieKind,
@@ -94,10 +88,5 @@ pub(crate) fn why_refused(
 ) -> Result<Option<Refusal>, AllocError>
     ensures { IfOk result (IsWhyRefused (route_of sorted) (kind_of kind) (pairs_of items.now)) }
 {
-    match kind {
-        TrieKind::Simple => why_as::<Simple>(alloc, sorted, items),
-        TrieKind::Ignore => why_as::<Ignore>(alloc, sorted, items),
-        TrieKind::Hash => why_as::<Hash>(alloc, sorted, items),
-        TrieKind::Ext => why_as::<Ext>(alloc, sorted, items),
-    }
+    by_kind!(kind, why_as::<_>(alloc, sorted, items))
 }

@@ -9,8 +9,8 @@ use Rattle.zerotrie_core.specs.Kind.{Kind}
 use Rattle.zerotrie_core.specs.Maps.{Map, look}
 use Rattle.zerotrie_core.specs.Texts.{Means}
 use Rattle.zerotrie_core.specs.Prefixes.{IsLongestPrefix}
-use Rattle.zerotrie_queries.specs.Kinds.{kind_of}
-use Rattle.zerotrie_queries.specs.declared.kind.TrieKind.{TrieKind}
+use Rattle.zerotrie_core.specs.Kinds.{kind_of}
+use Rattle.zerotrie_core.specs.declared.TrieKind.{TrieKind}
 use Rattle.zerotrie_queries.specs.declared.lookups.Asked.{Asked}
 use Rattle.zerotrie_queries.specs.declared.lookups.Asked.TheVariants.{Value, Longest}
 use Rattle.zerotrie_queries.specs.Printed.{value_lines, found_line, found_lines, are_found}

@@ -4,8 +4,8 @@ use Rattle.std.specs.Prelude.{All, ◌==◌, ◌&&◌, codes, if◌then◌else�
 use Rattle.std.proofs.lemmas.Bool.Decides.{nat_tests}
 use Rattle.std.proofs.lemmas.List.Elements.{All-head, All-tail}
 use Rattle.zerotrie_lines.specs.Escapes.{hex_digit}
-use Rattle.zerotrie_queries.specs.declared.kind.TrieKind.{TrieKind}
-use Rattle.zerotrie_queries.specs.declared.kind.TrieKind.TheVariants.{Simple, Ignore, Hash, Ext}
+use Rattle.zerotrie_core.specs.declared.TrieKind.{TrieKind}
+use Rattle.zerotrie_core.specs.declared.TrieKind.TheVariants.{Simple, Ignore, Hash, Ext}
 use Rattle.zerotrie_queries.specs.declared.code.language.Language.{Language}
 use Rattle.zerotrie_queries.specs.declared.code.language.Language.TheVariants as lang
 use Rattle.zerotrie_queries.specs.code.Names.{is_letter, is_in_word, are_in_word, is_name}

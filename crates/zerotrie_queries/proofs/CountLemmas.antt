@@ -16,7 +16,7 @@ use Rattle.zerotrie_core.specs.Texts.ListEach.{no_edge, edge}
 use Rattle.zerotrie_core.specs.WellFormed.{greatest}
 use Rattle.zerotrie_core.specs.walk.Visits.{Visit}
 use Rattle.zerotrie_core.specs.walk.Texts.{front_size, text_visits, target_visits}
-use Rattle.zerotrie_queries.specs.declared.kind.TrieKind.{TrieKind}
+use Rattle.zerotrie_core.specs.declared.TrieKind.{TrieKind}
 use Rattle.zerotrie_queries.specs.reports.Counts.{value_in, values, depth_in, depths, greatest_of, is_literal, is_span, is_branch, is_in_cell, cell_of, count_of, cells_in, branches_in}
 use Rattle.zerotrie_queries.specs.reports.Reports.{report_over, TellsPairs}
 use Rattle.zerotrie_queries.specs.reports.counting.Steps.{no_branches, with_shape, greater, no_nodes, with_node, with_nodes, IsWithin}

@@ -1,8 +1,11 @@
 -- Keys and texts that are looked up one after another.
-use Rattle.std.proofs.Common.{◌≡◌, ℕ, ◌+◌, List, [], ◌∷◌, ◌++◌, map, take, drop, length, Option, Bool, true, false, refl, sym, ◌∙◌, ap, append_assoc}
+use Rattle.std.proofs.Common.{◌≡◌, ℕ, ◌+◌, ◌<◌, get_or, List, [], ◌∷◌, ◌++◌, map, take, drop, length, Option, Bool, true, false, refl, sym, ◌∙◌, ap, append_assoc}
 use Rattle.std.specs.Prelude.{◌&&◌, is_some}
-use Rattle.std.proofs.lemmas.List.{map-append, take-append-drop, drop-drop}
+use Rattle.std.proofs.lemmas.List.{map-append, take-append-drop, drop-drop, drop_more}
 use Rattle.std.specs.Borrow.{Bor}
+use Rattle.zerotrie_core.specs.Kind.{Kind}
+use Rattle.zerotrie_core.specs.Maps.{Map, look}
+use Rattle.zerotrie_queries.specs.Answers.{answers}
 use Rattle.zerotrie_queries.specs.Printed.{value_line, value_lines, are_found}
 
 -- what keys that lie elsewhere are answered
@@ -58,3 +61,17 @@ found_cut f keys block rest old now all e is was =
     ∙ and_assoc old (are_found (answers_of f block)) (are_found (answers_of f rest))
     ∙ ap (λ b. old && b) (sym (ap (λ ks. are_found (answers_of f ks)) e ∙ ap are_found (map-append (λ key. f key.now) block rest) ∙ are_found-append (answers_of f block) (answers_of f rest)))
     ∙ was
+
+-- the answer to the next key
+pub next_answer : (kind : Kind) (m : Map) (keys : List (Bor (List ℕ))) (i : ℕ) (value : Option ℕ) → i < length keys → value ≡ look kind m (get_or keys i no_key).now
+    → answers kind m (drop i keys) ≡ value ∷ answers kind m (drop (i + 1) keys)
+next_answer kind m keys i value within is = ap (answers kind m) (drop_more keys i no_key within) ∙ ap (λ v. v ∷ answers kind m (drop (i + 1) keys)) (sym is)
+
+-- the line of one answer more
+pub more_values : (lines added first : List ℕ) (all found : Bool) (value : Option ℕ) (left rest whole : List (Option ℕ)) → left ≡ value ∷ rest → added ≡ lines ++ value_line value → found ≡ is_some value
+    → (lines ++ value_lines left ≡ first ++ value_lines whole) × ((all && are_found left) ≡ are_found whole)
+    → (added ++ value_lines rest ≡ first ++ value_lines whole) × (((all && found) && are_found rest) ≡ are_found whole)
+more_values lines added first all found value left rest whole is line some old = (
+  ap (λ l. l ++ value_lines rest) line ∙ append_assoc lines (value_line value) (value_lines rest) ∙ ap (λ a. lines ++ value_lines a) (sym is) ∙ old.0,
+  ap (λ f. (all && f) && are_found rest) some ∙ and_assoc all (is_some value) (are_found rest) ∙ ap (λ a. all && are_found a) (sym is) ∙ old.1,
+)

@@ -1,17 +1,22 @@
 -- What is printed of keys, texts and pairs that a trie is asked for.
 use Rattle.std.specs.Prelude.{◌≡◌, ℕ, List, [], ◌∷◌, map, Option, Bool}
+use Rattle.std.specs.Borrow.{Bor}
 use Rattle.std.specs.Io.KnownBytes.{Appends}
 use Rattle.zerotrie_core.specs.Kind.{Kind}
 use Rattle.zerotrie_core.specs.Maps.{Map, Pairs, look, beginning}
 use Rattle.zerotrie_core.specs.Texts.{Lists, Means}
 use Rattle.zerotrie_core.specs.Prefixes.{IsLongestPrefix}
-use Rattle.zerotrie_queries.specs.Kinds.{kind_of}
-use Rattle.zerotrie_queries.specs.declared.kind.TrieKind.{TrieKind}
+use Rattle.zerotrie_core.specs.Kinds.{kind_of}
+use Rattle.zerotrie_core.specs.declared.TrieKind.{TrieKind}
 use Rattle.zerotrie_queries.specs.Parts.{AppendsPart}
 use Rattle.zerotrie_queries.specs.Printed.{value_lines, found_lines, listed, are_found}
 use Rattle.zerotrie_queries.specs.declared.lookups.Asked.{Asked}
 use Rattle.zerotrie_queries.specs.declared.lookups.Asked.TheVariants.{Value, Longest}
 use Rattle.zerotrie_queries.specs.declared.print.Form.{Form}
+
+-- the values of keys that lie elsewhere
+abbrev pub answers : Kind → Map → List (Bor (List ℕ)) → List (Option ℕ)
+answers kind m keys = map (λ key. look kind m key.now) keys
 
 -- for each text what was found, the longest key of the map that it begins with
 abbrev pub AreLongest : Kind → Map → List (List ℕ) → List (Option (ℕ × ℕ)) → Type 0

@@ -2,8 +2,8 @@
 use Rattle.std.specs.Prelude.{◌≡◌, ℕ, List, Option, Some, None}
 use Rattle.zerotrie_core.specs.WellFormed.{IsWellFormed}
 use Rattle.zerotrie_any.specs.Tagged.{tagged, IsTagFault}
-use Rattle.zerotrie_queries.specs.Kinds.{kind_of, IsTag}
-use Rattle.zerotrie_queries.specs.declared.kind.TrieKind.{TrieKind}
+use Rattle.zerotrie_core.specs.Kinds.{kind_of, IsTag}
+use Rattle.zerotrie_core.specs.declared.TrieKind.{TrieKind}
 use Rattle.zerotrie_queries.specs.declared.file.OpenError.{OpenError}
 use Rattle.zerotrie_queries.specs.declared.file.OpenError.TheVariants.{BadTag, NotWellFormed}
 

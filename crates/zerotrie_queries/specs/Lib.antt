@@ -1,5 +1,3 @@
-pub mod Kinds
-pub mod Batches
 pub mod Files
 pub mod Json
 pub mod Printed

@@ -2,20 +2,20 @@
 
 ghost use Rattle.std.specs.Prelude.{◌≡◌, IfOk, IfErr};
 ghost use Rattle.zerotrie_core.specs.WellFormed.{IsWellFormed};
-ghost use Rattle.zerotrie_queries.specs.Kinds.{kind_of};
+ghost use Rattle.zerotrie_core.specs.Kinds.{kind_of};
 ghost use Rattle.zerotrie_queries.specs.Files.{Holds, HasNoKind, Explains};
 ghost use Rattle.zerotrie_queries.specs.declared.file.OpenError.TheVariants.{BadTag};
 
-use crate::kind::TrieKind;
 use crate::trie::Trie;
 use zerotrie_any::TagError;
+use zerotrie_core::TrieKind;
 
 /// Why a file has no trie.
 #[derive(Clone, PartialEq, Eq, Debug, Drop)]
 pub enum OpenError {
-    /// It has no number of a kind in front.
+    /// It does not begin with the number of a kind.
     BadTag(TagError),
-    /// Its bytes are no trie of this kind.
+    /// Its bytes are no valid trie of this kind.
     NotWellFormed(TrieKind),
 }
 
@@ -28,11 +28,11 @@ impl From<TagError> for OpenError {
 }
 
 impl<'a> Trie<'a> {
-    /// The bytes of a file and their kind, for a file that is known to have a trie. The bytes are not tested: if they are no
-    /// trie, each call on them returns, and no clause says what.
+    /// Opens a file that is known to have a trie, and does not validate its bytes. If they are
+    /// malformed, each call on them returns, and the result is unspecified.
     ///
-    /// If a kind is named, the file is bare bytes of it, and else its first byte is the number of its kind. Refused if there
-    /// is none, or it is the number of no kind.
+    /// If a kind is named, the file is bare bytes of it, and else its first byte is the number of
+    /// its kind. It is an error if there is no such byte, or it is the number of no kind.
     pub fn open_untested(named: Option<TrieKind>, file: &'a [u8]) -> Result<Self, OpenError>
         ensures ok { IfOk result (λ trie. Holds named file.now trie.kind trie.bytes.now) }
         ensures err { IfErr result (HasNoKind named file.now) }
@@ -43,10 +43,10 @@ impl<'a> Trie<'a> {
         }
     }
 
-    /// The trie of a file, which is tested. If a kind is named, the file is bare bytes of it, and else its first byte is
-    /// the number of its kind.
+    /// Opens a file and validates its bytes. If a kind is named, the file is bare bytes of it, and
+    /// else its first byte is the number of its kind.
     ///
-    /// Refused exactly if the file has no trie.
+    /// It is an error exactly if the file has no trie.
     pub fn open(named: Option<TrieKind>, file: &'a [u8]) -> Result<Self, OpenError>
         ensures ok { IfOk result (λ trie. Holds named file.now trie.kind trie.bytes.now
             × IsWellFormed (kind_of trie.kind) trie.bytes.now) }

@@ -4,12 +4,11 @@ ghost use Rattle.std.specs.Prelude.{◌≡◌, ◌++◌, map, false, OnOk, OnErr
 ghost use Rattle.std.specs.Str.{is_utf8};
 ghost use Rattle.std.specs.Io.KnownBytes.{Appends};
 ghost use Rattle.serde_json.specs.Written.{compact_text, comma_if};
-ghost use Rattle.zerotrie_core.specs.Maps.{Pairs, beginning};
-ghost use Rattle.zerotrie_core.specs.Texts.{Lists};
 ghost use Rattle.zerotrie_any.specs.Json.{are_text, list_of, whole, pair_list};
-ghost use Rattle.zerotrie_queries.specs.Kinds.{kind_of};
-ghost use Rattle.zerotrie_queries.specs.Json.{json_line, item_text, item_texts, opening, closing};
+ghost use Rattle.zerotrie_queries.specs.Answers.{AreListed, AreListedInPart};
+ghost use Rattle.zerotrie_queries.specs.Json.{item_text, item_texts, opening, closing};
 ghost use Rattle.zerotrie_queries.specs.Parts.{AppendsPart};
+ghost use Rattle.zerotrie_queries.specs.declared.print.Form.TheVariants.{Json};
 
 use crate::output::write_bytes;
 use crate::trie::Trie;
@@ -19,14 +18,14 @@ use std::io::Write;
 use zerotrie_core::ZeroTrieStream;
 use zerotrie_lines::{write_number, write_quoted};
 
-/// Whether a key is UTF-8.
+/// Returns whether a key is UTF-8.
 fn is_text(key: &[u8]) -> bool
     ensures { result ≡ is_utf8 key.now }
 {
     str::from_utf8(key).is_ok()
 }
 
-/// Whether all keys that a stream still has are UTF-8.
+/// Returns whether the remaining keys of a stream are all UTF-8.
 fn are_text(pairs: &mut ZeroTrieStream<'_>) -> Result<bool, AllocError>
     ensures { IfOk result (λ yes. yes ≡ are_text pairs.old.left.pairs) }
 {
@@ -40,7 +39,7 @@ fn are_text(pairs: &mut ZeroTrieStream<'_>) -> Result<bool, AllocError>
     }
 }
 
-/// Adds a comma if something stands before.
+/// Adds a comma unless the pair is the first.
 fn add_comma(text: &mut Vec<u8>, later: bool) -> Result<(), AllocError>
     ensures { OnOk result (text.new.items ≡ text.old.items ++ comma_if later) }
 {
@@ -93,7 +92,7 @@ fn add_item(text: &mut Vec<u8>, in_object: bool, key: &[u8], value: usize) -> Re
     }
 }
 
-/// Writes the pairs that a stream still has, with commas between.
+/// Writes the remaining pairs of a stream, with commas between.
 fn write_items<W: Write>(
     alloc: Global,
     pairs: &mut ZeroTrieStream<'_>,
@@ -133,7 +132,7 @@ fn closing(in_object: bool) -> &'static str
     if in_object { "}\n" } else { "]\n" }
 }
 
-/// Writes the pairs that a stream still has, in brackets.
+/// Writes the remaining pairs of a stream, in brackets.
 fn write_value<W: Write>(
     alloc: Global,
     pairs: &mut ZeroTrieStream<'_>,
@@ -152,25 +151,22 @@ fn write_value<W: Write>(
     write_bytes(output, closing(in_object).as_bytes())
 }
 
-/// Writes the pairs whose keys begin with a prefix as one JSON value and a line feed: an object from key to value if all
-/// of these keys are UTF-8, and else a list of lists of two, the bytes of a key and its value.
+/// Writes the pairs whose keys begin with a prefix as one JSON value and a line feed: an object
+/// from key to value if all of these keys are UTF-8, and else a list of lists of two, the bytes of
+/// a key and its value.
 ///
-/// It goes over the pairs twice, first to see whether their keys are UTF-8. A pair takes no memory of
-/// its own. If it fails, a beginning of the value was written.
+/// It iterates twice, first to see whether all keys are UTF-8. It allocates nothing for a pair
+/// alone. If it fails, a beginning of the value was written.
 pub fn write_json<W: Write>(
     alloc: Global,
     trie: &Trie<'_>,
     prefix: &[u8],
     output: &mut W,
 ) -> io::Result<()>
-    ensures all { OnOk result ((pairs : Pairs)
-        → Lists (kind_of trie.now.kind) trie.now.bytes.now pairs
-        → Appends (W.contents output.old) (W.contents output.new)
-        (json_line (beginning (kind_of trie.now.kind) prefix.now pairs))) }
-    ensures part { OnErr result ((pairs : Pairs)
-        → Lists (kind_of trie.now.kind) trie.now.bytes.now pairs
-        → AppendsPart (W.contents output.old) (W.contents output.new)
-        (json_line (beginning (kind_of trie.now.kind) prefix.now pairs))) }
+    ensures all { OnOk result (AreListed Json prefix.now trie.now.kind trie.now.bytes.now
+        (W.contents output.old) (W.contents output.new)) }
+    ensures part { OnErr result (AreListedInPart Json prefix.now trie.now.kind trie.now.bytes.now
+        (W.contents output.old) (W.contents output.new)) }
 {
     let mut seen = trie.stream_prefix(alloc, prefix)?;
     let in_object = are_text(&mut seen)?;

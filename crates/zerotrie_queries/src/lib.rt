@@ -1,14 +1,14 @@
-//! What a trie in a file is asked, and what is answered: its kind is known when the program runs.
+//! Questions to the trie of a file, whose kind is known only when the program runs, and the
+//! answers.
 //!
-//! A file of any bytes is opened, or is told why it has no trie. Then a trie is asked for the values of keys, for the
-//! longest keys that texts begin with, for its pairs, for source code, for what it is made of, and for its nodes.
+//! `Trie::open` takes any bytes and returns the trie or why there is none. The other calls write
+//! the values of keys, the longest keys that texts begin with, the pairs, source code, a report, or
+//! the nodes.
 #![tactic(auto)]
 
-mod batch;
 pub mod code;
 mod file;
 mod json_listing;
-mod kind;
 mod listing;
 mod lookups;
 mod output;
@@ -17,14 +17,12 @@ mod reports;
 mod trie;
 mod views;
 
-pub use batch::TrieLookUps;
 pub use code::{Language, is_name, write_trie_code};
 pub use file::OpenError;
-pub use kind::TrieKind;
 pub use listing::write_list;
 pub use lookups::{Asked, write_answers};
 pub use output::write_bytes;
 pub use print::{Form, Style};
-pub use reports::{Branches, Report, write_report, write_trie_report};
+pub use reports::{Branches, Report, write_trie_report};
 pub use trie::Trie;
 pub use views::{View, write_trie_view};

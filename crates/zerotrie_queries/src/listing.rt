@@ -2,12 +2,10 @@
 
 ghost use Rattle.std.specs.Prelude.{◌≡◌, ◌++◌, ◌<◌, [], length, true, false, IfOk, OnOk, OnErr};
 ghost use Rattle.std.specs.Io.KnownBytes.{Appends};
-ghost use Rattle.zerotrie_core.specs.Maps.{Pairs, beginning};
-ghost use Rattle.zerotrie_core.specs.Texts.{Lists};
-ghost use Rattle.zerotrie_queries.specs.Kinds.{kind_of};
 ghost use Rattle.zerotrie_queries.specs.Answers.{AreListed, AreListedInPart};
 ghost use Rattle.zerotrie_queries.specs.Parts.{AppendsPart};
 ghost use Rattle.zerotrie_queries.specs.Printed.{pair_lines};
+ghost use Rattle.zerotrie_queries.specs.declared.print.Form.TheVariants.{Lines};
 
 use crate::json_listing::write_json;
 use crate::output::write_bytes;
@@ -18,10 +16,11 @@ use std::io;
 use std::io::Write;
 use zerotrie_core::ZeroTrieStream;
 
-/// How many bytes of lines are written at once.
+/// The least number of bytes that one write has, but for the last.
 const BLOCK: usize = 1 << 16;
 
-/// Adds the lines of the next pairs to lines that are empty, until they are a block, and tells whether more may come.
+/// Fills an empty buffer with the lines of the next pairs, up to a block, and returns whether more
+/// may follow.
 fn add_block(
     lines: &mut Vec<u8>,
     pairs: &mut ZeroTrieStream<'_>,
@@ -43,7 +42,8 @@ fn add_block(
     Ok(true)
 }
 
-/// Writes the pairs that a stream still has, many lines at once. If it fails, a beginning of them was written.
+/// Writes the remaining pairs of a stream, many lines at once. If it fails, a beginning of them was
+/// written.
 fn write_stream<W: Write>(
     alloc: Global,
     pairs: &mut ZeroTrieStream<'_>,
@@ -74,21 +74,17 @@ fn write_lines<W: Write>(
     prefix: &[u8],
     output: &mut W,
 ) -> io::Result<()>
-    ensures all { OnOk result ((pairs : Pairs)
-        → Lists (kind_of trie.now.kind) trie.now.bytes.now pairs
-        → Appends (W.contents output.old) (W.contents output.new)
-        (pair_lines style (beginning (kind_of trie.now.kind) prefix.now pairs))) }
-    ensures part { OnErr result ((pairs : Pairs)
-        → Lists (kind_of trie.now.kind) trie.now.bytes.now pairs
-        → AppendsPart (W.contents output.old) (W.contents output.new)
-        (pair_lines style (beginning (kind_of trie.now.kind) prefix.now pairs))) }
+    ensures all { OnOk result (AreListed (Lines style) prefix.now trie.now.kind trie.now.bytes.now
+        (W.contents output.old) (W.contents output.new)) }
+    ensures part { OnErr result (AreListedInPart (Lines style) prefix.now trie.now.kind
+        trie.now.bytes.now (W.contents output.old) (W.contents output.new)) }
 {
     let mut pairs = trie.stream_prefix(alloc, prefix)?;
     write_stream(alloc, &mut pairs, style, output)
 }
 
-/// Writes the pairs whose keys begin with a prefix, in the order of the trie. A pair takes no memory of its own. If it fails,
-/// a beginning of the answer was written.
+/// Writes the pairs whose keys begin with a prefix, in the order of the trie. It allocates nothing
+/// for a pair alone. If it fails, a beginning of the answer was written.
 pub fn write_list<W: Write>(
     alloc: Global,
     trie: &Trie<'_>,

@@ -22,8 +22,8 @@ pub enum Style {
 pub enum Form {
     /// A line a pair.
     Lines(Style),
-    /// One JSON value: an object from key to value if all of the keys are UTF-8, and else a list of lists of two, the
-    /// bytes of a key and its value.
+    /// One JSON value: an object from key to value if all of the keys are UTF-8, and else a list of
+    /// lists of two, the bytes of a key and its value.
     Json,
 }
 
@@ -41,7 +41,7 @@ pub fn add_value(line: &mut Vec<u8>, value: Option<usize>) -> Result<(), AllocEr
     }
 }
 
-/// Adds the line of the longest key that a text begins with, of this length and with this value, or `none`.
+/// Adds the line of the longest key that a text begins with, given its length and value, or `none`.
 pub fn add_found(
     line: &mut Vec<u8>,
     text: &[u8],

@@ -1,4 +1,4 @@
-//! What a trie is made of: how many nodes of each sort it has, and how its branches lie.
+//! Reports of a trie: its nodes by their sort, and its branches by their size.
 
 mod branches;
 mod counting;
@@ -8,4 +8,3 @@ mod lines;
 pub use branches::Branches;
 pub use counting::Report;
 pub use file::write_trie_report;
-pub use lines::write_report;

@@ -1,4 +1,4 @@
-//! A trie of a kind that is known when the program runs.
+//! A trie whose kind is known only when the program runs.
 
 ghost use Rattle.std.specs.Prelude.{◌≡◌, ◌↔◌, ◌≤◌, length, IsTrue, IfOk, IfErr, IfSome, None};
 ghost use Rattle.zerotrie_core.specs.Maps.{Map, Pairs, beginning};
@@ -10,17 +10,15 @@ ghost use Rattle.zerotrie_core.specs.walk.Texts.{text_visits};
 ghost use Rattle.zerotrie_core.specs.WellFormed.{IsWellFormed};
 ghost use Rattle.zerotrie_core.specs.Faults.{IsFirstFault};
 ghost use Rattle.zerotrie_any.specs.Tagged.{tagged, IsTagFault};
-ghost use Rattle.zerotrie_queries.specs.Kinds.{kind_of, IsTag};
+ghost use Rattle.zerotrie_core.specs.Kinds.{kind_of, IsTag};
 
-use crate::kind::TrieKind;
 use std::alloc::{AllocError, Global};
 use zerotrie_any::TagError;
 use zerotrie_core::{
-    Ext, Fault, Hash, Ignore, Nodes, Simple, ZeroTrieStream, first_fault, is_well_formed,
-    longest_prefix,
+    Fault, Nodes, TrieKind, ZeroTrieStream, by_kind, first_fault, is_well_formed, longest_prefix,
 };
 
-/// The bytes of a trie, where they lie, and its kind.
+/// The borrowed bytes of a trie, and its kind.
 #[derive(Clone, Copy, Debug)]
 pub struct Trie<'a> {
     pub kind: TrieKind,
@@ -28,10 +26,11 @@ pub struct Trie<'a> {
 }
 
 impl<'a> Trie<'a> {
-    /// The trie in tagged bytes, whose kind has its number in front. What stands after the number is not tested.
+    /// Returns the trie in tagged bytes, which begin with the number of its kind. It does not
+    /// validate the bytes after the number.
     ///
-    /// Refused with `Empty` exactly if there are no bytes, and with `InvalidTag` exactly if the first is the number of no
-    /// kind.
+    /// It is the error `Empty` exactly if there are no bytes, and `InvalidTag` exactly if the first
+    /// is the number of no kind.
     pub fn of_tagged(file: &'a [u8]) -> Result<Self, TagError>
         ensures ok { IfOk result (λ trie. file.now ≡ tagged (kind_of trie.kind) trie.bytes.now) }
         ensures err { IfErr result (IsTagFault IsTag file.now) }
@@ -45,20 +44,15 @@ impl<'a> Trie<'a> {
         }
     }
 
-    /// Whether the bytes are a trie of the kind: whether they mean some map.
+    /// Returns whether the bytes are a valid trie of the kind.
     pub fn is_well_formed(&self) -> bool
         ensures { IsTrue result ↔ IsWellFormed (kind_of self.now.kind) self.now.bytes.now }
     {
-        match self.kind {
-            TrieKind::Simple => is_well_formed::<Simple>(self.bytes),
-            TrieKind::Ignore => is_well_formed::<Ignore>(self.bytes),
-            TrieKind::Hash => is_well_formed::<Hash>(self.bytes),
-            TrieKind::Ext => is_well_formed::<Ext>(self.bytes),
-        }
+        by_kind!(self.kind, is_well_formed::<_>(self.bytes))
     }
 
-    /// The first place where the bytes are no trie of the kind, and which rule of the format fails there. `None` exactly if
-    /// they are one.
+    /// Returns the first place where the bytes are no valid trie of the kind, and which rule of the
+    /// format fails there. `None` exactly if they are valid.
     ///
     /// The only error is that it is out of memory.
     pub fn first_fault(&self, alloc: Global) -> Result<Option<Fault>, AllocError>
@@ -69,32 +63,24 @@ impl<'a> Trie<'a> {
         ensures within { IfOk result (λ fault.
             IfSome fault (λ f. f.place ≤ length self.now.bytes.now)) }
     {
-        match self.kind {
-            TrieKind::Simple => first_fault::<Simple, _>(alloc, self.bytes),
-            TrieKind::Ignore => first_fault::<Ignore, _>(alloc, self.bytes),
-            TrieKind::Hash => first_fault::<Hash, _>(alloc, self.bytes),
-            TrieKind::Ext => first_fault::<Ext, _>(alloc, self.bytes),
-        }
+        by_kind!(self.kind, first_fault::<_, Global>(alloc, self.bytes))
     }
 
-    /// The longest key that the text begins with: its length in bytes, and its value. `None` if it begins with no key.
+    /// Returns the longest key that the text begins with: its length in bytes, and its value.
+    /// `None` if it begins with no key.
     pub fn longest(&self, text: &[u8]) -> Option<(usize, usize)>
         ensures longest { (m : Map) → Means (kind_of self.now.kind) self.now.bytes.now m
             → IsLongestPrefix (kind_of self.now.kind) m text.now result }
         ensures within { IfSome result (λ r. r.0 ≤ length text.now) }
     {
-        match self.kind {
-            TrieKind::Simple => longest_prefix::<Simple>(self.bytes, text),
-            TrieKind::Ignore => longest_prefix::<Ignore>(self.bytes, text),
-            TrieKind::Hash => longest_prefix::<Hash>(self.bytes, text),
-            TrieKind::Ext => longest_prefix::<Ext>(self.bytes, text),
-        }
+        by_kind!(self.kind, longest_prefix::<_>(self.bytes, text))
     }
 
-    /// The pairs whose keys begin with a prefix, one after another, as the kind compares bytes; each key is lent from one
-    /// buffer. The empty prefix gives all pairs.
+    /// Iterates over the pairs whose keys begin with a prefix, as the kind compares bytes. Each key
+    /// is borrowed from one buffer. The empty prefix is for all pairs.
     ///
-    /// It goes down to the prefix and reads no other part of the trie. The only error is that it is out of memory.
+    /// It reads only the part of the trie under the prefix. The only error is that it is out of
+    /// memory.
     pub fn stream_prefix(
         &self,
         alloc: Global,
@@ -104,15 +90,13 @@ impl<'a> Trie<'a> {
             → Lists (kind_of self.now.kind) self.now.bytes.now pairs
             → s.left ≡ to_come (beginning (kind_of self.now.kind) prefix.now pairs)) }
     {
-        match self.kind {
-            TrieKind::Simple => ZeroTrieStream::with_prefix::<Simple>(alloc, self.bytes, prefix),
-            TrieKind::Ignore => ZeroTrieStream::with_prefix::<Ignore>(alloc, self.bytes, prefix),
-            TrieKind::Hash => ZeroTrieStream::with_prefix::<Hash>(alloc, self.bytes, prefix),
-            TrieKind::Ext => ZeroTrieStream::with_prefix::<Ext>(alloc, self.bytes, prefix),
-        }
+        by_kind!(
+            self.kind,
+            ZeroTrieStream::with_prefix::<_>(alloc, self.bytes, prefix)
+        )
     }
 
-    /// The nodes of the trie, one after another in the order in which they lie, each with its place.
+    /// Iterates over the nodes of the trie in the order of their bytes, each with its place.
     ///
     /// The only error is that it is out of memory.
     pub fn nodes(&self, alloc: Global) -> Result<Nodes<'a>, AllocError>
@@ -122,11 +106,6 @@ impl<'a> Trie<'a> {
             (text : Lists (kind_of self.now.kind) self.now.bytes.now pairs)
             → s ≡ text_visits text 0 0 None None) }
     {
-        match self.kind {
-            TrieKind::Simple => Nodes::new::<Simple>(alloc, self.bytes),
-            TrieKind::Ignore => Nodes::new::<Ignore>(alloc, self.bytes),
-            TrieKind::Hash => Nodes::new::<Hash>(alloc, self.bytes),
-            TrieKind::Ext => Nodes::new::<Ext>(alloc, self.bytes),
-        }
+        by_kind!(self.kind, Nodes::new::<_>(alloc, self.bytes))
     }
 }

@@ -5,7 +5,7 @@ use Rattle.std.specs.Io.KnownBytes.{Consumes, IsAtEnd}
 use Rattle.std.proofs.KnownBytes.{Consumes-nil, Consumes-trans, Consumes-whole}
 use Rattle.zerotrie_lines.specs.Lines.{lines_of}
 use Rattle.zerotrie_lines.specs.Blocks.{AreWhole, Gives}
-use Rattle.zerotrie_queries.specs.declared.kind.TrieKind.{TrieKind}
+use Rattle.zerotrie_core.specs.declared.TrieKind.{TrieKind}
 use Rattle.zerotrie_queries.specs.declared.lookups.Asked.{Asked}
 use Rattle.zerotrie_queries.specs.Answers.{AreAnswered, AreAnsweredInPart}
 use Rattle.zerotrie_queries.proofs.AnswerLemmas.{none_answered, more_answered, begun_all, begun_front, more_begun}

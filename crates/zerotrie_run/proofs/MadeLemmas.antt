@@ -7,13 +7,13 @@ use Rattle.zerotrie_core.specs.Maps.{Map, map_of}
 use Rattle.zerotrie_core.specs.Texts.{Means}
 use Rattle.zerotrie_lines.specs.Tables.{lowered}
 use Rattle.zerotrie_any.specs.Tagged.{tagged, IsTagFault}
-use Rattle.zerotrie_any.specs.declared.tags.TagError.{TagError}
-use Rattle.zerotrie_queries.specs.Kinds.{kind_of, IsTag}
+use Rattle.zerotrie_any.specs.declared.bytes.TagError.{TagError}
+use Rattle.zerotrie_core.specs.Kinds.{kind_of, IsTag}
 use Rattle.zerotrie_queries.specs.Files.{Holds, HasNoKind, Explains}
 use Rattle.zerotrie_queries.specs.declared.file.OpenError.{OpenError}
 use Rattle.zerotrie_queries.specs.declared.file.OpenError.TheVariants.{BadTag, NotWellFormed}
-use Rattle.zerotrie_queries.specs.declared.kind.TrieKind.TheVariants.{Simple, Ignore, Hash, Ext}
-use Rattle.zerotrie_queries.specs.declared.kind.TrieKind.{TrieKind}
+use Rattle.zerotrie_core.specs.declared.TrieKind.TheVariants.{Simple, Ignore, Hash, Ext}
+use Rattle.zerotrie_core.specs.declared.TrieKind.{TrieKind}
 use Rattle.zerotrie_files.specs.Disks as disks
 use Rattle.zerotrie_files.specs.Disks.{Files, Known}
 use Rattle.zerotrie_making.specs.Plans.{kind_for, file_of}

@@ -3,8 +3,8 @@ use Rattle.std.specs.Prelude.{◌≡◌, ℕ, List, Option, Some, None, Bool, tr
 use Rattle.zerotrie_core.specs.Kind.{Kind}
 use Rattle.zerotrie_core.specs.Maps.{Pairs, map_of}
 use Rattle.zerotrie_core.specs.Texts.{Means}
-use Rattle.zerotrie_queries.specs.Kinds.{kind_of}
-use Rattle.zerotrie_queries.specs.declared.kind.TrieKind.{TrieKind}
+use Rattle.zerotrie_core.specs.Kinds.{kind_of}
+use Rattle.zerotrie_core.specs.declared.TrieKind.{TrieKind}
 use Rattle.zerotrie_files.specs.Disks.{Files}
 use Rattle.zerotrie_making.specs.Plans.{kind_for, file_of}
 use Rattle.zerotrie_making.specs.Made.{OfInput}

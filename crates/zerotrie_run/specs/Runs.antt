@@ -8,9 +8,9 @@ use Rattle.zerotrie_core.specs.Faults.{IsFirstFault}
 use Rattle.zerotrie_core.specs.declared.faults.Fault.{Fault as ByteFault}
 use Rattle.zerotrie_lines.specs.Lines.{lines_of}
 use Rattle.zerotrie_any.specs.Tagged.{tagged}
-use Rattle.zerotrie_queries.specs.Kinds.{kind_of}
+use Rattle.zerotrie_core.specs.Kinds.{kind_of}
 use Rattle.zerotrie_queries.specs.Files.{Holds, HasNoKind, Explains}
-use Rattle.zerotrie_queries.specs.declared.kind.TrieKind.{TrieKind}
+use Rattle.zerotrie_core.specs.declared.TrieKind.{TrieKind}
 use Rattle.zerotrie_queries.specs.declared.file.OpenError.{OpenError}
 use Rattle.zerotrie_queries.specs.Parts.{AppendsPart}
 use Rattle.zerotrie_queries.specs.Answers.{AreAnswered, AreAnsweredInPart, AreListed, AreListedInPart}
@@ -48,6 +48,10 @@ use Rattle.zerotrie_run.specs.declared.command.Command.TheVariants as commands
 pub record World : Type 0 where
   pub files : Option Files
   pub printed : Option (List ℕ)
+
+-- the same of files and of what was printed
+abbrev pub world : Option Files → Option (List ℕ) → World
+world files printed = record { files = files; printed = printed }
 
 -- a buffer that was empty is empty: what was written to it was handed on
 abbrev pub HandsOn : {W A : Type 0} → BufWriter W A → BufWriter W A → Type 0

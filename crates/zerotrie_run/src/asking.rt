@@ -2,7 +2,7 @@
 
 ghost use Rattle.std.specs.Prelude.{◌≡◌, ◌↔◌, ℕ, List, true, false, Ok, Err, IfOk, IfErr, IfSome, IsTrue, OnErr};
 ghost use Rattle.std.specs.Io.Buffered.{writer_contents};
-ghost use Rattle.zerotrie_queries.specs.declared.kind.TrieKind.{TrieKind};
+ghost use Rattle.zerotrie_core.specs.declared.TrieKind.{TrieKind};
 ghost use Rattle.zerotrie_run.specs.Runs.{Opens, IsUnopened, KeysAnswered, KeysAnsweredInPart, Answers, AnswersInPart, IsAsked, RunsAsk, IsUnanswered, IsDoubtful, IsFaultIn, NamesFault, ReadsTwice, LeavesKeys, LeavesInput, HandsOn, ask_status, asked_status, are_lines, of_lines};
 ghost use Rattle.zerotrie_run.specs.declared.command.Place.TheVariants.{Stream};
 ghost use Rattle.zerotrie_run.specs.declared.command.Command.TheVariants.{Ask};
@@ -19,8 +19,8 @@ use std::io::{BufWriter, Read, Write};
 use zerotrie_core::Fault;
 use zerotrie_files::Store;
 use zerotrie_queries::{
-    Asked, OpenError, Trie, TrieLookUps, write_answers, write_list, write_trie_code,
-    write_trie_report, write_trie_view,
+    Asked, OpenError, Trie, write_answers, write_list, write_trie_code, write_trie_report,
+    write_trie_view,
 };
 
 /// Why a question has no answer.
@@ -30,7 +30,8 @@ pub enum AskError {
     TwoInputs,
     /// The file can't be read.
     Unread(io::Error),
-    /// The file has no trie. If its bytes are of a kind, and it is not out of memory, the first fault in them.
+    /// The file has no trie. With the first fault in its bytes, unless their kind is unknown or it
+    /// is out of memory.
     NoTrie(OpenError, Option<Fault>),
     /// It can't be answered, or not to the end.
     Unanswered(AnswerError),
@@ -59,7 +60,7 @@ fn reads_lines(question: Question<'_>) -> bool
     }
 }
 
-/// Whether standard input is to be both the file and the keys.
+/// Returns whether standard input is to be both the file and the keys.
 fn reads_twice(place: Place<'_>, question: Question<'_>) -> bool
     ensures { IsTrue result ↔ (place.entry ≡ Stream) × (of_lines question.entry ≡ true) }
 {
@@ -69,7 +70,7 @@ fn reads_twice(place: Place<'_>, question: Question<'_>) -> bool
     }
 }
 
-/// The trie in what a file holds. It is tested, unless it is to be trusted.
+/// Opens the trie in the bytes of a file. It validates them, unless they are trusted.
 fn open<'a>(file: TrieFile<'_>, held: &'a [u8]) -> Result<Trie<'a>, OpenError>
     ensures ok { IfOk result (λ trie. Opens file.entry held.now trie.kind trie.bytes.now) }
     ensures err { IfErr result (IsUnopened file.entry held.now) }
@@ -81,7 +82,8 @@ fn open<'a>(file: TrieFile<'_>, held: &'a [u8]) -> Result<Trie<'a>, OpenError>
     }
 }
 
-/// The first fault in the bytes of a file. `None` if they are a trie or of no kind, or it is out of memory.
+/// Returns the first fault in the bytes of a file. `None` if they are a trie or of no kind, or it
+/// is out of memory.
 fn fault_in(alloc: Global, file: TrieFile<'_>, held: &[u8]) -> Option<Fault>
     ensures { IfSome result (IsFaultIn file.entry.kind held.now) }
 {
@@ -89,7 +91,8 @@ fn fault_in(alloc: Global, file: TrieFile<'_>, held: &[u8]) -> Option<Fault>
     trie.first_fault(alloc).ok()?
 }
 
-/// Answers keys or texts: these, or the lines of standard input. Tells whether all was found.
+/// Answers keys or texts: the given words, or the lines of standard input. Returns whether all was
+/// found.
 fn answer_keys<R: Read, W: Write>(
     alloc: Global,
     trie: &Trie<'_>,
@@ -105,15 +108,13 @@ fn answer_keys<R: Read, W: Write>(
     ensures unread { are_lines keys.entry ≡ false → input.new ≡ input.old }
 {
     match keys {
-        Keys::Words(words) => {
-            let mut look_ups = TrieLookUps::new(alloc, *trie);
-            Ok(write_answers(alloc, &mut look_ups, asked, words, output)?)
-        }
+        Keys::Words(words) => Ok(write_answers(alloc, trie, asked, words, output)?),
         Keys::Lines => answer_lines(alloc, trie, asked, input, output),
     }
 }
 
-/// Answers a question to a trie, whose keys may be the lines of standard input, and tells whether all was found.
+/// Answers a question to a trie, whose keys may be the lines of standard input, and returns whether
+/// all was found.
 fn answer<R: Read, W: Write>(
     alloc: Global,
     trie: &Trie<'_>,
@@ -149,7 +150,7 @@ fn answer<R: Read, W: Write>(
     }
 }
 
-/// Answers a question to the trie in what a file holds, and tells whether all was found.
+/// Answers a question to the trie in the bytes of a file, and returns whether all was found.
 fn answer_held<R: Read, W: Write>(
     alloc: Global,
     file: TrieFile<'_>,
@@ -176,8 +177,8 @@ fn answer_held<R: Read, W: Write>(
     }
 }
 
-/// Answers a question to the trie of a file, and tells whether all was found. If the file is read as bare bytes and begins
-/// with the number of a kind, a message says so.
+/// Answers a question to the trie of a file, and returns whether all was found. If the file is read
+/// as bare bytes and begins with the number of a kind, a message says so.
 pub fn ask<F: Store, R: Read, W: Write + Drop, M: Write>(
     alloc: Global,
     file: TrieFile<'_>,

@@ -1,7 +1,7 @@
 //! A trie file that is made.
 
 ghost use Rattle.std.specs.Prelude.{◌≡◌, false, IfErr, OnOk};
-ghost use Rattle.zerotrie_run.specs.Runs.{World, IsMade, RunsBuild, HandsOn, build_status};
+ghost use Rattle.zerotrie_run.specs.Runs.{world, IsMade, RunsBuild, HandsOn, build_status};
 ghost use Rattle.std.specs.Io.Buffered.{writer_contents};
 ghost use Rattle.zerotrie_run.specs.declared.command.Place.TheVariants.{Stream};
 
@@ -38,7 +38,8 @@ impl BuildError {
     }
 }
 
-/// Makes a trie file, and puts it in its place. Each step is told as it ends, if that was asked for.
+/// Makes a trie file, and writes it to its place. It reports each step as it ends, if that was
+/// asked for.
 pub fn build<F: Store, R: Read, W: Write + Drop, M: Write>(
     alloc: Global,
     build: Build<'_>,
@@ -48,11 +49,11 @@ pub fn build<F: Store, R: Read, W: Write + Drop, M: Write>(
     messages: &mut M,
 ) -> Result<(), BuildError>
     ensures ok { OnOk result (IsMade build.entry (R.remaining input.old)
-        (record { files = F.files files.old; printed = writer_contents W.contents output.old })
-        (record { files = F.files files.new; printed = writer_contents W.contents output.new })) }
+        (world (F.files files.old) (writer_contents W.contents output.old))
+        (world (F.files files.new) (writer_contents W.contents output.new))) }
     ensures err { IfErr result (λ e. RunsBuild build.entry (R.remaining input.old)
-        (record { files = F.files files.old; printed = writer_contents W.contents output.old })
-        (record { files = F.files files.new; printed = writer_contents W.contents output.new }) (build_status e)) }
+        (world (F.files files.old) (writer_contents W.contents output.old))
+        (world (F.files files.new) (writer_contents W.contents output.new)) (build_status e)) }
     ensures handed { OnOk result (HandsOn output.old output.new) }
     ensures quiet { build.entry.progress ≡ false → messages.new ≡ messages.old }
     ensures unread { (build.entry.from ≡ Stream → ⊥) → input.new ≡ input.old }

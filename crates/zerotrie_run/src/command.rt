@@ -2,8 +2,9 @@
 
 ghost use Rattle.zerotrie_run.specs.Runs.{IsNamed, IsNameOf};
 
+use zerotrie_core::TrieKind;
 use zerotrie_making::Plan;
-use zerotrie_queries::{Form, Language, TrieKind, View};
+use zerotrie_queries::{Form, Language, View};
 
 /// Where bytes come from, or go to.
 #[derive(Clone, Copy, PartialEq, Eq, Debug)]

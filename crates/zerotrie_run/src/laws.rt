@@ -1,10 +1,10 @@
-//! A law over the definitions alone. It is a function that does nothing: calling it brings its clause into a caller's
-//! proof.
+//! A law of the definitions. It is an empty function: a call of it brings its clause into the
+//! caller's proof.
 
 ghost use Rattle.zerotrie_run.specs.Laws.{MadeOpens};
 
-/// What is opened of the file that a build made is the trie of the pairs that the build read, if the file is named as it was
-/// made. So each question to it is answered by them.
+/// A file that a build made opens as the trie of the pairs that the build read, if its kind is
+/// named as it was for the build. So each question to it is answered by them.
 pub fn made_opens()
     ensures { MadeOpens }
 {}

@@ -1,4 +1,4 @@
-//! The program over files: what each of its commands prints, what it leaves in files, and its status.
+//! The program over files: what each command prints, what it writes to files, and its status.
 #![tactic(auto)]
 
 mod asking;

@@ -1,4 +1,4 @@
-//! What is told on standard error. If it can't be told, the status tells it alone.
+//! Messages on standard error. If one can't be written, the status alone reports the fault.
 
 ghost use Rattle.std.specs.Prelude.{◌≡◌, false, IfSome};
 ghost use Rattle.zerotrie_run.specs.Runs.{HasNumberToo};
@@ -11,10 +11,10 @@ use std::alloc::Global;
 use std::io;
 use std::io::{ErrorKind, Write};
 use zerotrie_any::TagError;
-use zerotrie_core::{Fault, ZeroTrieBuildError};
+use zerotrie_core::{Fault, TrieKind, ZeroTrieBuildError};
 use zerotrie_lines::{BadLine, Format, write_escaped};
 use zerotrie_making::{MakeError, NoPair, Shown, Source};
-use zerotrie_queries::{OpenError, Trie, TrieKind};
+use zerotrie_queries::{OpenError, Trie};
 
 const STANDARD_INPUT: &str = "standard input";
 
@@ -81,8 +81,8 @@ fn number_too(file: TrieFile<'_>, held: &[u8]) -> Option<TrieKind>
     Some(trie.kind)
 }
 
-/// Tells that a file begins with the number of a kind though it is read as bare bytes, if it does. Most often its kind
-/// was named again as for its build, and the number is taken for the first byte of every key.
+/// Warns if a file that is read as bare bytes begins with the number of a kind. Most often its kind
+/// was named again as for its build, and the number is read as the first byte of every key.
 pub fn tell_number<M: Write>(messages: &mut M, file: TrieFile<'_>, held: &[u8])
     ensures { (HasNumberToo file.entry.kind held.now → ⊥) → messages.new ≡ messages.old }
 {
@@ -96,7 +96,8 @@ pub fn tell_number<M: Write>(messages: &mut M, file: TrieFile<'_>, held: &[u8])
     }
 }
 
-/// Tells that bytes can't be written to a place. If whoever reads them wants no more, nothing is told.
+/// Reports that bytes can't be written to a place. It says nothing if the reader has closed the
+/// pipe.
 fn tell_unwritten<M: Write>(messages: &mut M, place: &str, error: &io::Error) -> io::Result<()> {
     match error.kind() {
         ErrorKind::BrokenPipe => Ok(()),
@@ -183,7 +184,8 @@ fn add_reason(text: &mut Vec<u8>, unit: &str, shown: &Shown) -> io::Result<()> {
     }
 }
 
-/// Adds a key with its escapes, or the front of one that would be too long to read. Of the empty key it says that it is.
+/// Adds a key with its escapes, the front of a key that is too long to read, or words for the empty
+/// key.
 fn add_key(text: &mut Vec<u8>, key: &[u8]) -> io::Result<()> {
     if key.is_empty() {
         return write!(text, "the empty key");
@@ -284,7 +286,8 @@ fn refusal(alloc: Global, path: &str, source: Source, error: &MakeError) -> io::
     Ok(text)
 }
 
-/// Tells that a step of a build has ended, and how many bytes it read, made or wrote, if steps are told.
+/// Reports that a step of a build has ended, and how many bytes it read, made or wrote, if steps
+/// are reported.
 fn tell_step<M: Write>(messages: &mut M, is_told: bool, place: &str, step: &str, len: usize)
     ensures { is_told ≡ false → messages.new ≡ messages.old }
 {

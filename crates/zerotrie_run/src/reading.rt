@@ -1,7 +1,7 @@
-//! Bytes that are read whole, or written whole.
+//! Reads and writes of whole files and streams.
 
 ghost use Rattle.std.specs.Prelude.{◌≡◌, ◌⊎◌, IfOk, IfSome, OnOk, OnErr};
-ghost use Rattle.zerotrie_run.specs.Runs.{World, IsRead, IsWritten, IsKept, HandsOn};
+ghost use Rattle.zerotrie_run.specs.Runs.{world, IsRead, IsWritten, IsKept, HandsOn};
 ghost use Rattle.std.specs.Io.Buffered.{writer_contents};
 ghost use Rattle.zerotrie_run.specs.declared.command.Place.TheVariants.{Stream};
 
@@ -12,7 +12,7 @@ use std::io::{BufWriter, Read, Write};
 use zerotrie_files::Store;
 use zerotrie_queries::write_bytes;
 
-/// All that a stream still has.
+/// Reads the rest of a stream.
 pub fn read_all<R: Read>(alloc: Global, input: &mut R) -> io::Result<Vec<u8>>
     ensures { IfOk result (λ bytes. IfSome (R.remaining input.old) (λ known. bytes.items ≡ known)) }
 {
@@ -21,7 +21,7 @@ pub fn read_all<R: Read>(alloc: Global, input: &mut R) -> io::Result<Vec<u8>>
     Ok(bytes)
 }
 
-/// All bytes of a place.
+/// Reads all bytes of a place.
 pub fn read_place<F: Store, R: Read>(
     alloc: Global,
     place: Place<'_>,
@@ -38,8 +38,8 @@ pub fn read_place<F: Store, R: Read>(
     }
 }
 
-/// Puts bytes in a place: in place of what its file held, or on standard output, whose buffer hands them on. If that fails, the
-/// file holds what it held, or a beginning of them was printed.
+/// Writes bytes to a place: replaces its file, or prints them and flushes the buffer. If that
+/// fails, the file is unchanged, or a beginning of them was printed.
 pub fn write_place<F: Store, W: Write + Drop>(
     place: Place<'_>,
     bytes: &[u8],
@@ -47,11 +47,11 @@ pub fn write_place<F: Store, W: Write + Drop>(
     output: &mut BufWriter<W>,
 ) -> io::Result<()>
     ensures ok { OnOk result (IsWritten place.entry bytes.now
-        (record { files = F.files files.old; printed = writer_contents W.contents output.old })
-        (record { files = F.files files.new; printed = writer_contents W.contents output.new })) }
+        (world (F.files files.old) (writer_contents W.contents output.old))
+        (world (F.files files.new) (writer_contents W.contents output.new))) }
     ensures err { OnErr result (IsKept place.entry bytes.now
-        (record { files = F.files files.old; printed = writer_contents W.contents output.old })
-        (record { files = F.files files.new; printed = writer_contents W.contents output.new })) }
+        (world (F.files files.old) (writer_contents W.contents output.old))
+        (world (F.files files.new) (writer_contents W.contents output.new))) }
     ensures handed { OnOk result (HandsOn output.old output.new) }
 {
     match place {

@@ -14,15 +14,17 @@ use std::alloc::Global;
 use std::io::{BufWriter, Read, Write};
 use zerotrie_files::Store;
 
-/// Does what a command asks, and tells how it ended. What is wrong is told by a message.
+/// Runs a command, and returns how it ended. A message says what is wrong.
 ///
-/// What is printed is that of the command, the files and the input, and what is left in files too; see `Runs`. After a fault
-/// a beginning of it was printed, or nothing. A message that can't be written is lost, and the status tells alone.
+/// `Runs` defines what is printed and what files hold then, by the command, the files and the
+/// input. After a fault a beginning of it was printed, or nothing. If a message can't be written,
+/// the status alone reports the fault.
 ///
-/// After success, or if a key is absent, the buffer has handed all of the answer on to the writer beneath it, if it was empty
-/// before. There is then no message but the steps of a build, if they were asked for, and a note on a file that is read as bare
-/// bytes and begins with the number of a kind. If the file and the keys are both standard input, the usage is bad. Standard
-/// input is left alone unless the command reads it; keys are not read from it if the file has no trie.
+/// After success, or if a key is absent, the buffer is flushed if it was empty before. The only
+/// messages are then the steps of a build, if they were asked for, and a warning for a file that is
+/// read as bare bytes and begins with the number of a kind. If the file and the keys are both
+/// standard input, the usage is bad. Standard input is not read unless the command needs it; keys
+/// are not read from it if the file has no trie.
 pub fn run<F: Store, R: Read, W: Write + Drop, M: Write>(
     alloc: Global,
     command: Command<'_>,

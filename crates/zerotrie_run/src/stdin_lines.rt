@@ -12,7 +12,7 @@ use std::alloc::Global;
 use std::io;
 use std::io::{ErrorKind, Read, Write};
 use zerotrie_lines::{read_lines, read_more, whole_lines};
-use zerotrie_queries::{Asked, Trie, TrieLookUps, write_answers};
+use zerotrie_queries::{Asked, Trie, write_answers};
 
 /// Why there is no answer, or not all of it.
 #[derive(Debug, Drop)]
@@ -31,19 +31,18 @@ impl From<io::Error> for AnswerError {
     }
 }
 
-/// Answers some lines, hands the answers on, and tells whether all was found.
+/// Answers some lines, flushes the answers, and returns whether all was found.
 fn answer_part<W: Write>(
     alloc: Global,
-    trie: &mut TrieLookUps<'_>,
+    trie: &Trie<'_>,
     asked: Asked,
     part: &[u8],
     output: &mut W,
 ) -> io::Result<bool>
-    ensures answered { IfOk result (AreAnswered asked trie.old.0 trie.old.1
+    ensures answered { IfOk result (AreAnswered asked trie.now.kind trie.now.bytes.now
         (lines_of part.now) (W.contents output.old) (W.contents output.new)) }
-    ensures part { OnErr result (AreAnsweredInPart asked trie.old.0 trie.old.1
+    ensures part { OnErr result (AreAnsweredInPart asked trie.now.kind trie.now.bytes.now
         (lines_of part.now) (W.contents output.old) (W.contents output.new)) }
-    ensures kept { trie.new ≡ trie.old }
 {
     let lines = read_lines(alloc, part)?;
     let all = write_answers(alloc, trie, asked, lines.as_slice(), output)?;
@@ -51,7 +50,8 @@ fn answer_part<W: Write>(
     Ok(all)
 }
 
-/// How many of the bytes that are held are answered: as many as are whole lines, or all if no more come.
+/// Returns how many of the held bytes are answered now: the whole lines, or all if the input has
+/// ended.
 fn part_len(held: &[u8], before: usize, ended: bool) -> usize
     ensures within { result ≤ length held.now }
     ensures whole { ended ≡ false → AreWhole (take result held.now) }
@@ -64,7 +64,7 @@ fn part_len(held: &[u8], before: usize, ended: bool) -> usize
     }
 }
 
-/// Drops the first bytes of those that are held.
+/// Drops the first of the held bytes.
 fn drop_front(held: &mut Vec<u8>, len: usize)
     requires { len ≤ length held.old.items }
     ensures { held.new.items ≡ drop len held.old.items }
@@ -72,9 +72,9 @@ fn drop_front(held: &mut Vec<u8>, len: usize)
     held.drain(..len);
 }
 
-/// Answers the lines of an input, and tells whether all was found. What one read gives is answered before the next, so a
-/// line is answered as soon as it is there. In memory are one read and the longest line, the list of its lines, 4,096
-/// answers, and a table of the first bytes of keys.
+/// Answers the lines of an input, and returns whether all was found. It answers the lines of one
+/// read before the next, so a line is answered as soon as it is there. In memory are one read and
+/// the longest line, the list of its lines and the lines of 4,096 answers.
 pub fn answer_lines<R: Read, W: Write>(
     alloc: Global,
     trie: &Trie<'_>,
@@ -87,7 +87,6 @@ pub fn answer_lines<R: Read, W: Write>(
     ensures part { OnErr result (KeysAnsweredInPart asked Lines (R.remaining input.old)
         trie.now.kind trie.now.bytes.now (W.contents output.old) (W.contents output.new)) }
 {
-    let mut look_ups = TrieLookUps::new(alloc, *trie);
     let mut held = Vec::new(alloc);
     let mut all = true;
     // each loop has to end: no input has as many parts
@@ -98,7 +97,7 @@ pub fn answer_lines<R: Read, W: Write>(
             Err(error) => return Err(AnswerError::Input(error)),
         };
         let len = part_len(held.as_slice(), before, ended);
-        all &= answer_part(alloc, &mut look_ups, asked, &held[..len], output)?;
+        all &= answer_part(alloc, trie, asked, &held[..len], output)?;
         drop_front(&mut held, len);
         if ended {
             return Ok(all);

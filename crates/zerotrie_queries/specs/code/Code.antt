@@ -1,6 +1,6 @@
 -- The source code of a trie.
 use Rattle.std.specs.Prelude.{ℕ, List, ◌++◌}
-use Rattle.zerotrie_queries.specs.declared.kind.TrieKind.{TrieKind}
+use Rattle.zerotrie_core.specs.declared.TrieKind.{TrieKind}
 use Rattle.zerotrie_queries.specs.code.Texts.{front, end}
 use Rattle.zerotrie_queries.specs.code.Items.{items}
 use Rattle.zerotrie_queries.specs.declared.code.language.Language.{Language}

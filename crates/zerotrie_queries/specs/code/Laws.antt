@@ -1,6 +1,6 @@
 -- What is written as code is read back.
 use Rattle.std.specs.Prelude.{◌≡◌, ℕ, ◌<◌, List, All, true}
-use Rattle.zerotrie_queries.specs.declared.kind.TrieKind.{TrieKind}
+use Rattle.zerotrie_core.specs.declared.TrieKind.{TrieKind}
 use Rattle.zerotrie_queries.specs.declared.code.language.Language.{Language}
 use Rattle.zerotrie_queries.specs.code.Names.{is_name}
 use Rattle.zerotrie_queries.specs.code.Items.{numbers_in}

@@ -1,7 +1,7 @@
 -- What each language has round the bytes of a trie.
 use Rattle.std.specs.Prelude.{ℕ, List, ◌++◌, codes}
-use Rattle.zerotrie_queries.specs.declared.kind.TrieKind.{TrieKind}
-use Rattle.zerotrie_queries.specs.declared.kind.TrieKind.TheVariants.{Simple, Ignore, Hash, Ext}
+use Rattle.zerotrie_core.specs.declared.TrieKind.{TrieKind}
+use Rattle.zerotrie_core.specs.declared.TrieKind.TheVariants.{Simple, Ignore, Hash, Ext}
 use Rattle.zerotrie_queries.specs.declared.code.language.Language.{Language}
 use Rattle.zerotrie_queries.specs.declared.code.language.Language.TheVariants as lang
 

@@ -1,6 +1,6 @@
 -- The lines of a report.
 use Rattle.std.specs.Prelude.{ℕ, ◌+◌, ◌*◌, ◌/◌, ◌%◌, ◌==◌, if◌then◌else◌, List, [], ◌∷◌, ◌++◌, codes, decimal, Option, Some, None}
-use Rattle.zerotrie_queries.specs.Kinds.{kind_name}
+use Rattle.zerotrie_core.specs.Kinds.{kind_name}
 use Rattle.zerotrie_queries.specs.declared.reports.counting.Report.{Report}
 
 -- a line: a name, a tab and a text

@@ -3,8 +3,8 @@ use Rattle.std.specs.Prelude.{◌≡◌, ℕ, List, length, map}
 use Rattle.zerotrie_core.specs.Maps.{Pairs}
 use Rattle.zerotrie_core.specs.WellFormed.{greatest}
 use Rattle.zerotrie_core.specs.walk.Visits.{Visit, nodes_of}
-use Rattle.zerotrie_queries.specs.Kinds.{kind_of}
-use Rattle.zerotrie_queries.specs.declared.kind.TrieKind.{TrieKind}
+use Rattle.zerotrie_core.specs.Kinds.{kind_of}
+use Rattle.zerotrie_core.specs.declared.TrieKind.{TrieKind}
 use Rattle.zerotrie_queries.specs.reports.Counts.{values, depths, greatest_of, is_literal, is_span, count_of, branches_in}
 use Rattle.zerotrie_queries.specs.declared.reports.counting.Report.{Report}
 

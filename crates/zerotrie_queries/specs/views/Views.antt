@@ -1,8 +1,8 @@
 -- What is seen of a trie.
 use Rattle.std.specs.Prelude.{ℕ, List}
 use Rattle.zerotrie_core.specs.walk.Visits.{nodes_of}
-use Rattle.zerotrie_queries.specs.Kinds.{kind_of}
-use Rattle.zerotrie_queries.specs.declared.kind.TrieKind.{TrieKind}
+use Rattle.zerotrie_core.specs.Kinds.{kind_of}
+use Rattle.zerotrie_core.specs.declared.TrieKind.{TrieKind}
 use Rattle.zerotrie_queries.specs.views.Dumps.{dump_lines}
 use Rattle.zerotrie_queries.specs.views.Dots.{drawing}
 use Rattle.zerotrie_queries.specs.declared.views.view.View.{View}

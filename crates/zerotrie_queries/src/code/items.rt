@@ -10,7 +10,7 @@ use std::io;
 use std::io::Write;
 use zerotrie_lines::hex_digit;
 
-/// What stands in front of an item: a new line in front of each sixteenth.
+/// Returns the white space before an item: a new line before each sixteenth.
 fn before_item(index: usize) -> &'static str
     ensures { result.now ≡ before_item index }
 {
@@ -24,8 +24,8 @@ fn item_number(byte: u8) -> [u8; 5]
     [b'0', b'x', hex_digit(byte / 16), hex_digit(byte % 16), b',']
 }
 
-/// Writes bytes as items, sixteen a line. It takes no memory. If it fails, a beginning of them was
-/// written.
+/// Writes bytes as items, sixteen a line. It does not allocate. If it fails, a beginning of them
+/// was written.
 pub fn write_items<W: Write>(bytes: &[u8], output: &mut W) -> io::Result<()>
     ensures all { OnOk result (Appends (W.contents output.old) (W.contents output.new)
         (items 0 bytes.now)) }

@@ -3,7 +3,7 @@
 ghost use Rattle.std.specs.Prelude.{◌≡◌};
 ghost use Rattle.zerotrie_queries.specs.code.Texts.{rust_kind, c_kind, rattle_type, usual_name};
 
-use crate::kind::TrieKind;
+use zerotrie_core::TrieKind;
 
 /// A language that has the library.
 #[derive(Clone, Copy, PartialEq, Eq, Debug)]

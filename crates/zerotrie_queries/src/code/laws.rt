@@ -1,9 +1,9 @@
-//! Laws over the definitions alone. A law is a function that does nothing: calling it brings its clause into a caller's
-//! proof.
+//! Laws of the definitions. A law is an empty function: a call of it brings its clause into the
+//! caller's proof.
 
 ghost use Rattle.zerotrie_queries.specs.code.Laws.{CodeSpellsBytes};
 
-/// The numbers that stand in the code of a trie are its bytes, whatever word its name is.
+/// The numbers in the code of a trie are its bytes, whatever word its name is.
 pub fn code_spells_bytes()
     ensures { CodeSpellsBytes }
 {}

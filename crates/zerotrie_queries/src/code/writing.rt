@@ -8,14 +8,14 @@ ghost use Rattle.zerotrie_queries.specs.code.Code.{code};
 
 use crate::code::items::write_items;
 use crate::code::language::{Language, c_kind, rattle_type, rust_kind};
-use crate::kind::TrieKind;
 use crate::output::write_bytes;
 use crate::trie::Trie;
 use std::alloc::{AllocError, Global};
 use std::io;
 use std::io::Write;
+use zerotrie_core::TrieKind;
 
-/// Adds what Rust has in front of the bytes.
+/// Adds the Rust code before the bytes.
 fn add_rust_front(text: &mut Vec<u8>, kind: TrieKind, name: &str) -> Result<(), AllocError>
     ensures { OnOk result (text.new.items ≡ text.old.items ++ rust_front kind name.now) }
 {
@@ -29,7 +29,7 @@ pub static {name}: zerotrie_proved::ZeroTrie<'static> =
     .map_err(|_| AllocError)
 }
 
-/// Adds what C has in front of the bytes.
+/// Adds the C code before the bytes.
 fn add_c_front(text: &mut Vec<u8>, kind: TrieKind, name: &str) -> Result<(), AllocError>
     ensures { OnOk result (text.new.items ≡ text.old.items ++ c_front kind name.now) }
 {
@@ -47,7 +47,8 @@ static const uint8_t {name}_bytes[] = {{"
     .map_err(|_| AllocError)
 }
 
-/// Adds what C has right after the bytes: a zero, since an array there has an item, and how many bytes there are.
+/// Adds what C has right after the bytes: a zero, since an array of C can't be empty, and the
+/// number of bytes.
 fn add_c_len(text: &mut Vec<u8>, name: &str) -> Result<(), AllocError>
     ensures { OnOk result (text.new.items ≡ text.old.items ++ c_len name.now) }
 {
@@ -80,7 +81,7 @@ static inline bool {name}_get(const uint8_t *key, size_t key_len, size_t *value)
     .map_err(|_| AllocError)
 }
 
-/// Adds what C has after the bytes.
+/// Adds the C code after the bytes.
 fn add_c_end(text: &mut Vec<u8>, name: &str) -> Result<(), AllocError>
     ensures { OnOk result (text.new.items ≡ text.old.items ++ c_end name.now) }
 {
@@ -88,7 +89,7 @@ fn add_c_end(text: &mut Vec<u8>, name: &str) -> Result<(), AllocError>
     add_c_get(text, name)
 }
 
-/// Adds what Rattle has in front of the bytes.
+/// Adds the Rattle code before the bytes.
 fn add_rattle_front(text: &mut Vec<u8>, name: &str) -> Result<(), AllocError>
     ensures { OnOk result (text.new.items ≡ text.old.items ++ rattle_front name.now) }
 {
@@ -101,7 +102,7 @@ pub fn {name}(key: &[u8]) -> Option<usize> {{
     .map_err(|_| AllocError)
 }
 
-/// Adds what Rattle has after the bytes.
+/// Adds the Rattle code after the bytes.
 fn add_rattle_end(text: &mut Vec<u8>, kind: TrieKind) -> Result<(), AllocError>
     ensures { OnOk result (text.new.items ≡ text.old.items ++ rattle_end kind) }
 {
@@ -117,7 +118,7 @@ fn add_rattle_end(text: &mut Vec<u8>, kind: TrieKind) -> Result<(), AllocError>
     .map_err(|_| AllocError)
 }
 
-/// Adds what stands in front of the bytes.
+/// Adds the code before the bytes.
 fn add_front(
     text: &mut Vec<u8>,
     language: Language,
@@ -133,7 +134,7 @@ fn add_front(
     }
 }
 
-/// Adds what stands after the bytes.
+/// Adds the code after the bytes.
 fn add_end(
     text: &mut Vec<u8>,
     language: Language,
@@ -150,9 +151,9 @@ fn add_end(
 }
 
 /// Writes the bytes of a trie as source code: a constant, and the call that reads it, by this name.
-/// They may be any bytes, and the name has to be a word (`is_name`) that is no keyword of the
-/// language. It takes memory for what stands around the bytes, and takes it before it writes. If it
-/// fails, a beginning of the code was written.
+/// They may be any bytes, and the name must be an identifier (`is_name`) that is no keyword of the
+/// language. It allocates the code around the bytes before it writes. If it fails, a beginning of
+/// the code was written.
 pub fn write_trie_code<W: Write>(
     alloc: Global,
     trie: &Trie<'_>,

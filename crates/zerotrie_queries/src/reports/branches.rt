@@ -4,8 +4,8 @@ ghost use Rattle.std.specs.Prelude.{◌≡◌, ◌≤◌, ◌<◌, ◌+◌, ◌^
 
 /// How many branches there are, by the number of their edges and the width of their offsets.
 ///
-/// The numbers of edges are in eight groups: 2, 3 to 4, 5 to 8, and so on up to 129 to 256. A cell is for one group
-/// and one width, from 1 to 8. The cells of the first group come first.
+/// The numbers of edges are in eight groups: 2, 3 to 4, 5 to 8, and so on up to 129 to 256. A cell
+/// is for one group and one width, from 1 to 8. The cells of the first group come first.
 #[derive(Clone, Copy, PartialEq, Eq, Debug)]
 pub struct Branches {
     /// How many there are.

@@ -4,13 +4,12 @@ ghost use Rattle.std.specs.Prelude.{◌≡◌, ◌+◌, ◌<◌, ◌^◌, length
 ghost use Rattle.zerotrie_core.specs.Maps.{Pairs};
 ghost use Rattle.zerotrie_core.specs.Texts.{Lists};
 ghost use Rattle.zerotrie_core.specs.walk.Seen.{visit_of};
-ghost use Rattle.zerotrie_queries.specs.Kinds.{kind_of};
+ghost use Rattle.zerotrie_core.specs.Kinds.{kind_of};
 
-use crate::kind::TrieKind;
 use crate::reports::branches::Branches;
 use crate::trie::Trie;
 use std::alloc::{AllocError, Global};
-use zerotrie_core::{Node, Nodes, Visit};
+use zerotrie_core::{Node, Nodes, TrieKind, Visit};
 
 /// What a trie is made of.
 #[derive(Clone, Copy, PartialEq, Eq, Debug)]
@@ -39,7 +38,7 @@ impl Report {
     ghost use Rattle.zerotrie_queries.specs.reports.Reports.{report_of, TellsPairs};
     ghost use Rattle.zerotrie_queries.specs.reports.counting.Steps.{no_nodes, with_node, with_nodes, IsWithin};
 
-    /// The report of bytes of which no node was counted yet.
+    /// Returns a report with no node counted yet.
     fn of_none(kind: TrieKind, bytes: usize) -> Self
         ensures { result ≡ no_nodes kind bytes }
     {
@@ -74,7 +73,7 @@ impl Report {
         }
     }
 
-    /// Counts the nodes that a walk still has.
+    /// Counts the remaining nodes of a walk.
     fn add_all(&mut self, nodes: &mut Nodes<'_>) -> Result<(), AllocError>
         requires { (self.old.nodes + length nodes.old < 2 ^ 64) × IsWithin self.old }
         ensures { OnOk result (self.new ≡ with_nodes nodes.old self.old) }
@@ -85,10 +84,10 @@ impl Report {
         Ok(())
     }
 
-    /// The report of a trie.
+    /// Returns the report of a trie.
     ///
-    /// It goes over the nodes once. In memory are the branches that lie in one another. The only error is that it is
-    /// out of memory.
+    /// It visits each node once. It keeps the branches around the current node in memory. The only
+    /// error is that it is out of memory.
     pub fn of(alloc: Global, trie: &Trie<'_>) -> Result<Self, AllocError>
         ensures counts { IfOk result (λ r. r ≡ report_of trie.now.kind trie.now.bytes.now) }
         ensures pairs { IfOk result (λ r. (pairs : Pairs)

@@ -191,7 +191,11 @@ fn add_report(lines: &mut Vec<u8>, report: &Report) -> Result<(), AllocError>
 }
 
 /// Writes the lines of a report. If it fails, a beginning of them was written.
-pub fn write_report<W: Write>(alloc: Global, report: &Report, output: &mut W) -> io::Result<()>
+pub(crate) fn write_report<W: Write>(
+    alloc: Global,
+    report: &Report,
+    output: &mut W,
+) -> io::Result<()>
     ensures all { OnOk result (Appends (W.contents output.old) (W.contents output.new)
         (report_lines report.now)) }
     ensures part { OnErr result (AppendsPart (W.contents output.old) (W.contents output.new)

@@ -5,7 +5,7 @@ ghost use Rattle.std.specs.Io.KnownBytes.{Appends};
 ghost use Rattle.zerotrie_core.specs.Shapes.{shape};
 ghost use Rattle.zerotrie_core.specs.walk.Visits.{nodes_of};
 ghost use Rattle.zerotrie_core.specs.walk.Seen.{part_of, visit_of};
-ghost use Rattle.zerotrie_queries.specs.Kinds.{kind_of};
+ghost use Rattle.zerotrie_core.specs.Kinds.{kind_of};
 ghost use Rattle.zerotrie_queries.specs.Parts.{AppendsPart};
 ghost use Rattle.zerotrie_queries.specs.views.Dots.{quoted_byte, quoted, shape_text, label, edge_label, ends_text, arrow, name_text, dot_node, dot_nodes, drawing};
 
@@ -64,7 +64,7 @@ fn shape_text(node: &Node<'_>) -> &'static str
     }
 }
 
-/// Adds what stands in a node of the drawing.
+/// Adds the label of a node.
 fn add_label(line: &mut Vec<u8>, node: &Node<'_>) -> Result<(), AllocError>
     ensures { OnOk result (line.new.items ≡ line.old.items ++ label (shape node.now)) }
 {
@@ -99,7 +99,7 @@ fn add_ends(line: &mut Vec<u8>, above: usize, place: usize) -> Result<(), AllocE
     write_number(line, place)
 }
 
-/// Adds the line that leads to a node from the one that it follows, if there is one.
+/// Adds the line to a node from its parent, if it has one.
 fn add_arrow(line: &mut Vec<u8>, part: &Part<'_>) -> Result<(), AllocError>
     ensures { OnOk result (line.new.items
         ≡ line.old.items ++ arrow part.now.above part.now.place part.now.edge) }
@@ -134,7 +134,7 @@ fn add_node(line: &mut Vec<u8>, visit: &Visit<'_>) -> Result<(), AllocError>
     add_arrow(line, &visit.part)
 }
 
-/// Writes the lines of the nodes that a walk still has, at most this many.
+/// Writes the lines of the remaining nodes of a walk, at most this many.
 fn write_nodes<W: Write>(
     alloc: Global,
     nodes: &mut Nodes<'_>,
@@ -160,7 +160,7 @@ fn write_nodes<W: Write>(
     Ok(())
 }
 
-/// Writes a drawing of the first nodes that a walk still has, at most this many.
+/// Writes a drawing of the next nodes of a walk, at most this many.
 fn write_drawing<W: Write>(
     alloc: Global,
     nodes: &mut Nodes<'_>,

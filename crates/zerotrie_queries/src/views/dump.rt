@@ -5,7 +5,7 @@ ghost use Rattle.std.specs.Option.{option_map};
 ghost use Rattle.std.specs.Io.KnownBytes.{Appends};
 ghost use Rattle.zerotrie_core.specs.walk.Visits.{nodes_of};
 ghost use Rattle.zerotrie_core.specs.walk.Seen.{part_of, visit_of};
-ghost use Rattle.zerotrie_queries.specs.Kinds.{kind_of};
+ghost use Rattle.zerotrie_core.specs.Kinds.{kind_of};
 ghost use Rattle.zerotrie_queries.specs.Parts.{AppendsPart};
 ghost use Rattle.zerotrie_queries.specs.views.Dumps.{edge_text, stand_text, dump_line, dump_lines};
 
@@ -28,7 +28,7 @@ fn add_edge(line: &mut Vec<u8>, edge: Option<u8>) -> Result<(), AllocError>
     }
 }
 
-/// Adds where a node stands.
+/// Adds the place of a node.
 fn add_stand(line: &mut Vec<u8>, part: &Part<'_>) -> Result<(), AllocError>
     ensures { OnOk result (line.new.items ≡ line.old.items ++ stand_text (part_of part.now)) }
 {
@@ -52,7 +52,7 @@ fn add_line(line: &mut Vec<u8>, visit: &Visit<'_>) -> Result<(), AllocError>
     Ok(())
 }
 
-/// Writes the lines of the nodes that a walk still has.
+/// Writes the lines of the remaining nodes of a walk.
 fn write_lines<W: Write>(alloc: Global, nodes: &mut Nodes<'_>, output: &mut W) -> io::Result<()>
     ensures all { OnOk result (Appends (W.contents output.old) (W.contents output.new)
         (dump_lines nodes.old)) }
@@ -70,8 +70,8 @@ fn write_lines<W: Write>(alloc: Global, nodes: &mut Nodes<'_>, output: &mut W) -
     }
 }
 
-/// Writes a line for each node of a trie, in the order in which they lie. If it fails, a beginning
-/// of the lines was written.
+/// Writes a line for each node of a trie, in the order of their bytes. If it fails, a beginning of
+/// the lines was written.
 pub fn write_dump<W: Write>(alloc: Global, trie: &Trie<'_>, output: &mut W) -> io::Result<()>
     ensures all { OnOk result (Appends (W.contents output.old) (W.contents output.new)
         (dump_lines (nodes_of (kind_of trie.now.kind) trie.now.bytes.now))) }

@@ -3,7 +3,7 @@ use Rattle.std.specs.Io.KnownBytes.{Appends}
 use Rattle.std.proofs.lemmas.Result.{on_ok_weaker, on_err_weaker}
 use Rattle.zerotrie_core.specs.Maps.{Pairs, beginning}
 use Rattle.zerotrie_any.specs.Json.{are_text}
-use Rattle.zerotrie_queries.specs.Kinds.{kind_of}
+use Rattle.zerotrie_core.specs.Kinds.{kind_of}
 use Rattle.zerotrie_queries.specs.Json.{json_line, item_texts, opening, closing}
 use Rattle.zerotrie_queries.specs.Parts.{AppendsPart}
 use Rattle.zerotrie_queries.proofs.JsonLemmas.{json_line-is}

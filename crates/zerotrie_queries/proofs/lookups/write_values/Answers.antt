@@ -2,7 +2,7 @@ use Rattle.std.proofs.Common.{◌≡◌, ◌+◌, ◌++◌, [], drop, length, sy
 use Rattle.std.specs.Prelude.{◌&&◌}
 use Rattle.std.proofs.Math.ListN.{drop_of_length-le}
 use Rattle.zerotrie_core.specs.Maps.{look}
-use Rattle.zerotrie_queries.specs.Kinds.{kind_of}
+use Rattle.zerotrie_core.specs.Kinds.{kind_of}
 use Rattle.zerotrie_queries.specs.Printed.{value_lines, are_found}
 use Rattle.zerotrie_queries.proofs.WriteLemmas.{wrote_more, wrote_all}
 use Rattle.zerotrie_queries.proofs.PartLemmas.{on_err, part_wrote, part_next}
@@ -11,35 +11,29 @@ use Rattle.zerotrie_queries.proofs.FoundLemmas.{answers_of, answers_are, cut_at,
 use Rattle.zerotrie_queries.proofs.lookups.write_values.Goals as goal
 
 pub loop-begin-preserved : goal.loop-begin-preserved
-loop-begin-preserved g c = (
-  c.in_ok-get_each.ensures.kept ∙ c.loop-begin.invariant.0,
-  λ m means.
-      let contents = g.W.Write.contents in
-      let f = look (kind_of c.args.trie.now.0) m in
-      let keys = c.args.keys.now in
-      let block = c.split_at-in-loop-begin.result.0.now in
-      let rest = drop (c.loop-begin.begin + length block) keys in
-      let old = c.loop-begin.invariant.1 m means in
-      let cut = cut_at keys c.split_at.result.1.now block c.loop-begin.begin c.min.result c.split_at.ensures.back c.split_at-in-loop-begin.ensures.front c.split_at-in-loop-begin.ensures.front_len in
-      let each = rw c.loop-begin.invariant.0 at c.in_ok-get_each.ensures.values in
-      let given = c.as_slice.ensures.value ∙ each m means ∙ ap (λ v. v ++ answers_of f block) c.clear.ensures.items in
-      let added = c.in_ok-all.ensures in
-      let lines = c.as_slice-in-loop-begin.ensures.value ∙ added.0 ∙ ap (λ l. l ++ value_lines c.as_slice.result.now) c.clear-in-loop-begin.ensures.items ∙ ap value_lines given in
-      let flag = added.1 ∙ ap are_found given in (
-        wrote_more (contents c.args.output.now) (contents c.loop-begin.output) (contents c.write_bytes.new.output) c.as_slice-in-loop-begin.result.now
-            (value_lines (answers_of f (drop c.loop-begin.begin keys))) (value_lines (answers_of f rest)) (value_lines (answers_of f keys))
-            old.0 c.in_ok-write_bytes.ensures.all (lines_cut f (drop c.loop-begin.begin keys) block rest cut ∙ ap (λ l. l ++ value_lines (answers_of f rest)) (sym lines)),
-        found_cut f (drop c.loop-begin.begin keys) block rest c.loop-begin.all (c.loop-begin.all && c.in_ok-all.field-0) (are_found (answers_of f keys))
-            cut (ap (λ b. c.loop-begin.all && b) flag) old.1,
-      ),
-)
+loop-begin-preserved g c m means =
+    let contents = g.W.Write.contents in
+    let f = look (kind_of c.args.trie.now.kind) m in
+    let keys = c.args.keys.now in
+    let block = c.split_at-in-loop-begin.result.0.now in
+    let rest = drop (c.loop-begin.begin + length block) keys in
+    let old = c.loop-begin.invariant m means in
+    let cut = cut_at keys c.split_at.result.1.now block c.loop-begin.begin c.min.result c.split_at.ensures.back c.split_at-in-loop-begin.ensures.front c.split_at-in-loop-begin.ensures.front_len in
+    let added = c.in_ok-all.ensures m means in
+    let lines = c.as_slice.ensures.value ∙ added.0 ∙ ap (λ l. l ++ value_lines (answers_of f block)) c.clear.ensures.items in (
+      wrote_more (contents c.args.output.now) (contents c.loop-begin.output) (contents c.write_bytes.new.output) c.as_slice.result.now
+          (value_lines (answers_of f (drop c.loop-begin.begin keys))) (value_lines (answers_of f rest)) (value_lines (answers_of f keys))
+          old.0 c.in_ok-write_bytes.ensures.all (lines_cut f (drop c.loop-begin.begin keys) block rest cut ∙ ap (λ l. l ++ value_lines (answers_of f rest)) (sym lines)),
+      found_cut f (drop c.loop-begin.begin keys) block rest c.loop-begin.all (c.loop-begin.all && c.in_ok-all.field-0) (are_found (answers_of f keys))
+          cut (ap (λ b. c.loop-begin.all && b) added.1) old.1,
+    )
 
 pub returns-clause-answered : goal.returns-clause-answered
 returns-clause-answered g c m means =
     let contents = g.W.Write.contents in
-    let f = look (kind_of c.args.trie.now.0) m in
+    let f = look (kind_of c.args.trie.now.kind) m in
     let keys = c.args.keys.now in
-    let old = c.loop-begin.invariant.1 m means in
+    let old = c.loop-begin.invariant m means in
     let none : drop c.loop-begin.begin keys ≡ [] = drop_of_length-le keys (omega arith) in (
       value_lines (answers_of f keys),
       (
@@ -50,24 +44,17 @@ returns-clause-answered g c m means =
           (ap (λ ks. value_lines (answers_of f ks)) none) old.0,
     )
 
-pub returns-in_err-get_each-clause-part : goal.returns-in_err-get_each-clause-part
-returns-in_err-get_each-clause-part g c = on_err c.from_residual.result (λ m means.
-    let f = look (kind_of c.args.trie.now.0) m in
-    values_begun c.args.trie.now.0 m c.args.keys.now _ _ (part_wrote _ _ _ _ (c.loop-begin.invariant.1 m means).0))
-
 pub returns-in_err-all-clause-part : goal.returns-in_err-all-clause-part
-returns-in_err-all-clause-part g c = on_err c.from_residual-in_err-all.result (λ m means.
-    values_begun c.args.trie.now.0 m c.args.keys.now _ _ (part_wrote _ _ _ _ (c.loop-begin.invariant.1 m means).0))
+returns-in_err-all-clause-part g c = on_err c.from_residual.result (λ m means.
+    values_begun c.args.trie.now.kind m c.args.keys.now _ _ (part_wrote _ _ _ _ (c.loop-begin.invariant m means).0))
 
 pub returns-in_err-write_bytes-clause-part : goal.returns-in_err-write_bytes-clause-part
 returns-in_err-write_bytes-clause-part g c = on_err c.from_residual-in_err-write_bytes.result (λ m means.
-    let f = look (kind_of c.args.trie.now.0) m in
+    let f = look (kind_of c.args.trie.now.kind) m in
     let keys = c.args.keys.now in
     let block = c.split_at-in-loop-begin.result.0.now in
     let rest = drop (c.loop-begin.begin + length block) keys in
     let cut = cut_at keys c.split_at.result.1.now block c.loop-begin.begin c.min.result c.split_at.ensures.back c.split_at-in-loop-begin.ensures.front c.split_at-in-loop-begin.ensures.front_len in
-    let each = rw c.loop-begin.invariant.0 at c.in_ok-get_each.ensures.values in
-    let given = c.as_slice.ensures.value ∙ each m means ∙ ap (λ v. v ++ answers_of f block) c.clear.ensures.items in
-    let lines = c.as_slice-in-loop-begin.ensures.value ∙ c.in_ok-all.ensures.0 ∙ ap (λ l. l ++ value_lines c.as_slice.result.now) c.clear-in-loop-begin.ensures.items ∙ ap value_lines given in
+    let lines = c.as_slice.ensures.value ∙ (c.in_ok-all.ensures m means).0 ∙ ap (λ l. l ++ value_lines (answers_of f block)) c.clear.ensures.items in
     let next = lines_cut f (drop c.loop-begin.begin keys) block rest cut ∙ ap (λ l. l ++ value_lines (answers_of f rest)) (sym lines) in
-    values_begun c.args.trie.now.0 m keys _ _ (part_next _ _ _ c.as_slice-in-loop-begin.result.now (value_lines (answers_of f rest)) _ _ (c.loop-begin.invariant.1 m means).0 c.in_err-write_bytes.ensures.part next))
+    values_begun c.args.trie.now.kind m keys _ _ (part_next _ _ _ c.as_slice.result.now (value_lines (answers_of f rest)) _ _ (c.loop-begin.invariant m means).0 c.in_err-write_bytes.ensures.part next))

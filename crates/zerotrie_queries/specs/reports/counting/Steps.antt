@@ -4,7 +4,7 @@ use Rattle.zerotrie_core.specs.Nodes.{Shape}
 use Rattle.zerotrie_core.specs.Nodes.Shape.{value, literal, span, branch}
 use Rattle.zerotrie_core.specs.WellFormed.{greatest}
 use Rattle.zerotrie_core.specs.walk.Visits.{Visit}
-use Rattle.zerotrie_queries.specs.declared.kind.TrieKind.{TrieKind}
+use Rattle.zerotrie_core.specs.declared.TrieKind.{TrieKind}
 use Rattle.zerotrie_queries.specs.reports.Counts.{value_in, depth_in, greatest_of, is_literal, is_span, cell_of}
 use Rattle.zerotrie_queries.specs.declared.reports.branches.Branches.{Branches}
 use Rattle.zerotrie_queries.specs.declared.reports.counting.Report.{Report}

@@ -14,12 +14,12 @@ returns-then-ended-clause-answered g c =
     let trie = c.args.trie.now in
     let held = c.read_more.new.held.items in
     let read = lines_read c.args.asked trie.kind trie.bytes.now (remaining c.args.input.now) (remaining c.loop.input) (remaining c.read_more.new.input) c.loop.held.items held
-    (contents c.args.output.now) (contents c.loop.output) c.loop.all c.in-Ok.ended c.loop.invariant.1 c.in-Ok.ensures.gives in
+    (contents c.args.output.now) (contents c.loop.output) c.loop.all c.in-Ok.ended c.loop.invariant c.in-Ok.ensures.gives in
     lines_ends c.args.asked trie.kind trie.bytes.now (remaining c.args.input.now) (remaining c.read_more.new.input) held (take c.part_len-len.result held)
     (contents c.args.output.now) (contents c.loop.output) (contents c.answer_part.new.output) c.loop.all c.in_ok-all.field-0 _ read
     (ap (λ n. take n held) (c.part_len-len.ensures.all c.if-ended.true ∙ ap length c.as_slice.ensures.value) ∙ take_all (length held) held (omega arith))
     (c.in-Ok.ensures.gives.at_end c.if-ended.true)
-    (subst (λ all. AreAnswered c.args.asked trie.kind trie.bytes.now (lines_of (take c.part_len-len.result all)) (contents c.loop.output) (contents c.answer_part.new.output) c.in_ok-all.field-0) c.deref.ensures.value (rw c.loop.invariant.0 at c.in_ok-all.ensures.answered))
+    (subst (λ all. AreAnswered c.args.asked trie.kind trie.bytes.now (lines_of (take c.part_len-len.result all)) (contents c.loop.output) (contents c.answer_part.new.output) c.in_ok-all.field-0) c.deref.ensures.value c.in_ok-all.ensures.answered)
     refl
 
 pub loop-preserved : goal.loop-preserved
@@ -29,27 +29,25 @@ loop-preserved g c =
     let trie = c.args.trie.now in
     let held = c.read_more.new.held.items in
     let read = lines_read c.args.asked trie.kind trie.bytes.now (remaining c.args.input.now) (remaining c.loop.input) (remaining c.read_more.new.input) c.loop.held.items held
-    (contents c.args.output.now) (contents c.loop.output) c.loop.all c.in-Ok.ended c.loop.invariant.1 c.in-Ok.ensures.gives in (
-      c.in_ok-all.ensures.kept ∙ c.loop.invariant.0,
-      lines_part c.args.asked trie.kind trie.bytes.now (remaining c.args.input.now) (remaining c.read_more.new.input) held (take c.part_len-len.result held) _
-          (contents c.args.output.now) (contents c.loop.output) (contents c.answer_part.new.output) c.loop.all c.in_ok-all.field-0 _ read
-          (sym (take-append-drop c.part_len-len.result held) ∙ ap (λ rest. take c.part_len-len.result held ++ rest) (sym c.drop_front.ensures))
-          (subst (λ all. AreWhole (take c.part_len-len.result all)) c.as_slice.ensures.value (c.part_len-len.ensures.whole c.if-ended.false))
-          (subst (λ all. AreAnswered c.args.asked trie.kind trie.bytes.now (lines_of (take c.part_len-len.result all)) (contents c.loop.output) (contents c.answer_part.new.output) c.in_ok-all.field-0) c.deref.ensures.value (rw c.loop.invariant.0 at c.in_ok-all.ensures.answered))
-          refl,
-    )
+    (contents c.args.output.now) (contents c.loop.output) c.loop.all c.in-Ok.ended c.loop.invariant c.in-Ok.ensures.gives in
+    lines_part c.args.asked trie.kind trie.bytes.now (remaining c.args.input.now) (remaining c.read_more.new.input) held (take c.part_len-len.result held) _
+    (contents c.args.output.now) (contents c.loop.output) (contents c.answer_part.new.output) c.loop.all c.in_ok-all.field-0 _ read
+    (sym (take-append-drop c.part_len-len.result held) ∙ ap (λ rest. take c.part_len-len.result held ++ rest) (sym c.drop_front.ensures))
+    (subst (λ all. AreWhole (take c.part_len-len.result all)) c.as_slice.ensures.value (c.part_len-len.ensures.whole c.if-ended.false))
+    (subst (λ all. AreAnswered c.args.asked trie.kind trie.bytes.now (lines_of (take c.part_len-len.result all)) (contents c.loop.output) (contents c.answer_part.new.output) c.in_ok-all.field-0) c.deref.ensures.value c.in_ok-all.ensures.answered)
+    refl
 
 pub returns-in-Err-clause-part : goal.returns-in-Err-clause-part
 returns-in-Err-clause-part g c =
     let trie = c.args.trie.now in
     lines_stops c.args.asked trie.kind trie.bytes.now (g.R.Read.remaining c.args.input.now) (g.R.Read.remaining c.loop.input) c.loop.held.items (g.W.Write.contents c.args.output.now)
-    (g.W.Write.contents c.loop.output) c.loop.all c.loop.invariant.1
+    (g.W.Write.contents c.loop.output) c.loop.all c.loop.invariant
 
 pub returns-clause-part : goal.returns-clause-part
 returns-clause-part g c =
     let trie = c.args.trie.now in
     lines_stops c.args.asked trie.kind trie.bytes.now (g.R.Read.remaining c.args.input.now) (g.R.Read.remaining c.loop.input) c.loop.held.items (g.W.Write.contents c.args.output.now)
-    (g.W.Write.contents c.loop.output) c.loop.all c.loop.invariant.1
+    (g.W.Write.contents c.loop.output) c.loop.all c.loop.invariant
 
 pub returns-in_err-all-clause-part : goal.returns-in_err-all-clause-part
 returns-in_err-all-clause-part g c =
@@ -59,7 +57,7 @@ returns-in_err-all-clause-part g c =
     let held = c.read_more.new.held.items in
     let len = c.part_len-len.result in
     let read = lines_read c.args.asked trie.kind trie.bytes.now (remaining c.args.input.now) (remaining c.loop.input) (remaining c.read_more.new.input) c.loop.held.items held
-    (contents c.args.output.now) (contents c.loop.output) c.loop.all c.in-Ok.ended c.loop.invariant.1 c.in-Ok.ensures.gives in
+    (contents c.args.output.now) (contents c.loop.output) c.loop.all c.in-Ok.ended c.loop.invariant c.in-Ok.ensures.gives in
     let next : IsNext c.in-Ok.ended (remaining c.read_more.new.input) held (take len held) (drop len held) = record {
       cut = sym (take-append-drop len held);
       all = λ ended. (ap (λ n. take n held) (c.part_len-len.ensures.all ended ∙ ap length c.as_slice.ensures.value) ∙ take_all (length held) held (omega arith), c.in-Ok.ensures.gives.at_end ended);
@@ -68,4 +66,4 @@ returns-in_err-all-clause-part g c =
     on_err c.from_residual.result
     (lines_fails c.args.asked trie.kind trie.bytes.now (remaining c.args.input.now) (remaining c.read_more.new.input) held (take len held) (drop len held)
     (contents c.args.output.now) (contents c.loop.output) (contents c.answer_part.new.output) c.loop.all c.in-Ok.ended read next
-    (subst (λ all. AreAnsweredInPart c.args.asked trie.kind trie.bytes.now (lines_of (take len all)) (contents c.loop.output) (contents c.answer_part.new.output)) c.deref.ensures.value (rw c.loop.invariant.0 at c.in_err-all.ensures.part)))
+    (subst (λ all. AreAnsweredInPart c.args.asked trie.kind trie.bytes.now (lines_of (take len all)) (contents c.loop.output) (contents c.answer_part.new.output)) c.deref.ensures.value c.in_err-all.ensures.part))

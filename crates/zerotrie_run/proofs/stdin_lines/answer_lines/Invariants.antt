@@ -1,4 +1,3 @@
-use Rattle.std.proofs.Common.{◌≡◌}
 use Rattle.zerotrie_run.proofs.LineLemmas.{LinesAnswered}
 use Rattle.zerotrie_run.proofs.stdin_lines.answer_lines.Given as goal
 
@@ -6,6 +5,5 @@ abbrev pub invariant-loop : goal.invariant-loop
 invariant-loop g l =
     let remaining = g.R.Read.remaining in
     let contents = g.W.Write.contents in
-    (l.look_ups ≡ (l.trie.kind, l.trie.bytes.now))
-    × LinesAnswered l.asked l.trie.kind l.trie.bytes.now (remaining l.initial.input) (remaining l.input) l.held.items
+    LinesAnswered l.asked l.trie.kind l.trie.bytes.now (remaining l.initial.input) (remaining l.input) l.held.items
     (contents l.initial.output) (contents l.output) l.all

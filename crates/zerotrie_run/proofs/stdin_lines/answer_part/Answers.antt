@@ -13,17 +13,17 @@ returns-clause-answered g c =
     let old = contents c.args.output.now in
     let mid = contents c.write_answers.new.output in
     let lines = ap (map (λ line. line.now)) c.as_slice.ensures.value ∙ c.in_ok-lines.ensures in
-    let answered = subst (λ ts. AreAnswered c.args.asked trie.0 trie.1 ts old mid c.in_ok-all.all) lines c.in_ok-all.ensures.answered in
-    kept_texts c.args.asked trie.0 trie.1 _ old mid (contents c.flush.new.self) c.in_ok-all.all answered c.flush.ensures.bytes
+    let answered = subst (λ ts. AreAnswered c.args.asked trie.kind trie.bytes.now ts old mid c.in_ok-all.all) lines c.in_ok-all.ensures.answered in
+    kept_texts c.args.asked trie.kind trie.bytes.now _ old mid (contents c.flush.new.self) c.in_ok-all.all answered c.flush.ensures.bytes
 
 pub returns-in_err-lines-clause-part : goal.returns-in_err-lines-clause-part
-returns-in_err-lines-clause-part g c = on_err c.from_residual.result (begun_none c.args.asked c.args.trie.now.0 c.args.trie.now.1 (lines_of c.args.part.now) (g.W.Write.contents c.args.output.now))
+returns-in_err-lines-clause-part g c = on_err c.from_residual.result (begun_none c.args.asked c.args.trie.now.kind c.args.trie.now.bytes.now (lines_of c.args.part.now) (g.W.Write.contents c.args.output.now))
 
 pub returns-in_err-all-clause-part : goal.returns-in_err-all-clause-part
 returns-in_err-all-clause-part g c =
     let lines = ap (map (λ line. line.now)) c.as_slice.ensures.value ∙ c.in_ok-lines.ensures in
     on_err c.from_residual-in_err-all.result
-    (subst (λ ts. AreAnsweredInPart c.args.asked c.args.trie.now.0 c.args.trie.now.1 ts (g.W.Write.contents c.args.output.now) (g.W.Write.contents c.write_answers.new.output)) lines c.in_err-all.ensures.part)
+    (subst (λ ts. AreAnsweredInPart c.args.asked c.args.trie.now.kind c.args.trie.now.bytes.now ts (g.W.Write.contents c.args.output.now) (g.W.Write.contents c.write_answers.new.output)) lines c.in_err-all.ensures.part)
 
 pub returns-in_err-flush-clause-part : goal.returns-in_err-flush-clause-part
 returns-in_err-flush-clause-part g c =
@@ -32,6 +32,6 @@ returns-in_err-flush-clause-part g c =
     let old = contents c.args.output.now in
     let mid = contents c.write_answers.new.output in
     let lines = ap (map (λ line. line.now)) c.as_slice.ensures.value ∙ c.in_ok-lines.ensures in
-    let answered = subst (λ ts. AreAnswered c.args.asked trie.0 trie.1 ts old mid c.in_ok-all.all) lines c.in_ok-all.ensures.answered in
-    let kept = kept_texts c.args.asked trie.0 trie.1 _ old mid (contents c.flush.new.self) c.in_ok-all.all answered c.flush.ensures.bytes in
-    on_err c.from_residual-in_err-flush.result (begun_all c.args.asked trie.0 trie.1 (lines_of c.args.part.now) old (contents c.flush.new.self) c.in_ok-all.all kept)
+    let answered = subst (λ ts. AreAnswered c.args.asked trie.kind trie.bytes.now ts old mid c.in_ok-all.all) lines c.in_ok-all.ensures.answered in
+    let kept = kept_texts c.args.asked trie.kind trie.bytes.now _ old mid (contents c.flush.new.self) c.in_ok-all.all answered c.flush.ensures.bytes in
+    on_err c.from_residual-in_err-flush.result (begun_all c.args.asked trie.kind trie.bytes.now (lines_of c.args.part.now) old (contents c.flush.new.self) c.in_ok-all.all kept)

@@ -1,13 +1,13 @@
 use Rattle.zerotrie_queries.proofs.trie.Trie.is_well_formed.Goals as goal
 
-pub returns-in-Simple : goal.returns-in-Simple
-returns-in-Simple c = rw c.in-Simple.is c.is_well_formed.ensures
+pub returns-in-Simple-by_kind : goal.returns-in-Simple-by_kind
+returns-in-Simple-by_kind c = rw c.in-Simple-by_kind.is c.by_kind-is_well_formed.ensures
 
-pub returns-in-Ignore : goal.returns-in-Ignore
-returns-in-Ignore c = rw c.in-Ignore.is c.is_well_formed-in-Ignore.ensures
+pub returns-in-Ignore-by_kind : goal.returns-in-Ignore-by_kind
+returns-in-Ignore-by_kind c = rw c.in-Ignore-by_kind.is c.by_kind-is_well_formed-2.ensures
 
-pub returns-in-Hash : goal.returns-in-Hash
-returns-in-Hash c = rw c.in-Hash.is c.is_well_formed-in-Hash.ensures
+pub returns-in-Hash-by_kind : goal.returns-in-Hash-by_kind
+returns-in-Hash-by_kind c = rw c.in-Hash-by_kind.is c.by_kind-is_well_formed-3.ensures
 
-pub returns-in-Ext : goal.returns-in-Ext
-returns-in-Ext c = rw c.in-Ext.is c.is_well_formed-in-Ext.ensures
+pub returns-in-Ext-by_kind : goal.returns-in-Ext-by_kind
+returns-in-Ext-by_kind c = rw c.in-Ext-by_kind.is c.by_kind-is_well_formed-4.ensures
