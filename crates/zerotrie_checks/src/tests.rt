@@ -1,22 +1,10 @@
 mod builder;
-mod caches;
 mod counting;
-mod cursor;
-mod errors;
-mod front;
-mod items;
-mod konst;
-mod listing;
 mod numbers;
-mod plain;
-mod prefixes;
-mod reader;
+mod readers;
 mod refusal;
-mod span_cursor;
-mod stores;
 mod tables;
 mod text_items;
-mod well_formed;
 
 use std::alloc::Global;
 use std::fmt::Debug;

@@ -1,4 +1,4 @@
-//! The tests of `zerotrie` and `zerotrie_uses`, which have none of their own: tests are proved together with all of the
+//! The tests of `zerotrie`, which has none of its own: tests are proved together with all of the
 //! crate that they stand in.
 #![tactic(auto)]
 

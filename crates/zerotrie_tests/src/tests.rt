@@ -1,13 +1,10 @@
 mod arrays;
-mod calls;
 mod cursors;
 mod dense;
-mod examples;
 mod listings;
 mod outer;
 mod refusals;
 mod routes;
-mod uses;
 mod views;
 mod walks;
 mod well_formed;

@@ -1,4 +1,4 @@
-//! Builds.
+//! Builds into memory and into arrays, and the plain encoder.
 
 ghost use Rattle.std.specs.Prelude.{◌<◌};
 
@@ -7,11 +7,12 @@ use counting::Counting;
 use linked_list_allocator::LocalHeap;
 use std::collections::VecDeque;
 use zerotrie_build::{
-    ByteSliceWithIndices, TrieBuilderStore, ZeroTrieBuilder, build_slice, encoded_len,
+    ByteSliceWithIndices, TrieBuilderStore, ZeroTrieBuilder, ZeroTrieBuilderConst, build_slice,
+    bytes_within, encoded_len, fill_from_end,
 };
 use zerotrie_core::{
     Ext, Hash, Ignore, Simple, ZeroTrieBuildError, ZeroTrieBuilderOptions, ZeroTrieWithOptions,
-    get_counted,
+    get_counted, plain_encode,
 };
 
 type Builder = ZeroTrieBuilder<VecDeque<u8>>;
@@ -222,7 +223,7 @@ fn many_items(rt: HostRuntime) -> Result<(), Fail> {
     Ok(())
 }
 
-/// Branches to two items that have no others below them are put without a layout.
+/// Items each of whose branches is to two have a text with all of them.
 #[test]
 fn many_branches_to_two(rt: HostRuntime) -> Result<(), Fail> {
     let alloc = rt.alloc();
@@ -231,7 +232,7 @@ fn many_branches_to_two(rt: HostRuntime) -> Result<(), Fail> {
     Ok(())
 }
 
-/// Keys that each go on after the one before have more nodes in front of a branch than one pass takes.
+/// Each key is a prefix of the next, so the text has thousands of nodes and no branch.
 #[test]
 fn many_keys_in_a_row(rt: HostRuntime) -> Result<(), Fail> {
     let alloc = rt.alloc();
@@ -243,5 +244,60 @@ fn many_keys_in_a_row(rt: HostRuntime) -> Result<(), Fail> {
     let text = by_slice::<Simple>(alloc, items.as_slice())?;
     let key = long.get(..4000).ok_or("short")?;
     assert!(rt; get_counted::<Simple>(text.as_slice(), key).0 == Some(4000));
+    Ok(())
+}
+
+const ITEMS: [(&str, usize); 2] = [("ad", 22), ("adef", 33)];
+
+const TEXT: &[u8] = b"ad\x90\x06ef\x90\x11";
+
+#[test]
+fn buffers_are_filled_from_their_end(rt: HostRuntime) -> Result<(), Fail> {
+    let items = ByteSliceWithIndices::from_str_slice(&ITEMS);
+    let mut buffer = [7; 10];
+    same(&rt, fill_from_end::<0>(&mut buffer, items)?, 2);
+    same(&rt, &buffer[..2], [7, 7].as_slice());
+    same(&rt, &buffer[2..], TEXT);
+    let small = fill_from_end::<0>(&mut buffer[..7], items);
+    same(&rt, small, Err(ZeroTrieBuildError::BufferTooSmall));
+
+    same(
+        &rt,
+        bytes_within::<0>(rt.alloc(), 8, items)?.as_slice(),
+        TEXT,
+    );
+    let small = bytes_within::<0>(rt.alloc(), 7, items);
+    assert!(rt; small.is_err_and(|e| e == ZeroTrieBuildError::BufferTooSmall));
+    Ok(())
+}
+
+#[test]
+fn arrays_are_full_or_not(rt: HostRuntime) -> Result<(), Fail> {
+    let items = ByteSliceWithIndices::from_str_slice(&ITEMS);
+    let full = ZeroTrieBuilderConst::<8>::from_tuple_slice(items)?;
+    same(&rt, full.build()?.as_slice(), TEXT);
+    let larger = ZeroTrieBuilderConst::<9>::from_tuple_slice(items)?;
+    same(&rt, larger.as_bytes(), TEXT);
+    assert!(rt;
+        larger
+            .build()
+            .is_err_and(|e| e == ZeroTrieBuildError::BufferTooLarge(8))
+    );
+    Ok(())
+}
+
+#[test]
+fn refusal_for_another_cause(rt: HostRuntime) -> Result<(), Fail> {
+    let table: [([(&[u8], usize); 2], ZeroTrieBuildError); 3] = [
+        (
+            [(&[0x61], 1), (&[0xE5], 2)],
+            ZeroTrieBuildError::NonAsciiError,
+        ),
+        ([(b"b", 1), (b"a", 2)], ZeroTrieBuildError::Unsorted),
+        ([(b"a", 1), (b"a", 2)], ZeroTrieBuildError::Unsorted),
+    ];
+    for (items, error) in &table {
+        assert!(rt; plain_encode(rt.alloc(), items).err().as_ref() == Some(error));
+    }
     Ok(())
 }

@@ -1,7 +1,8 @@
-//! A store that counts what is asked of it.
+//! Stores that grow at their front.
 
 ghost use Rattle.std.specs.Prelude.{◌≡◌};
 
+use super::*;
 use std::alloc::{AllocError, Global};
 use std::collections::VecDeque;
 use zerotrie_build::TrieBuilderStore;
@@ -63,4 +64,27 @@ impl TrieBuilderStore for Counting {
     fn atbs_permute_front(&mut self, lengths: &[usize], order: &[usize]) -> Result<(), AllocError> {
         self.bytes.atbs_permute_front(lengths, order)
     }
+}
+
+#[test]
+fn grows_at_the_front(rt: HostRuntime) -> Result<(), Fail> {
+    let mut store: VecDeque<u8> = TrieBuilderStore::atbs_new_empty(rt.alloc());
+    store.atbs_extend_front(b"..abcdefghijkl=")?;
+    store.atbs_permute_front(&[2, 5, 7], &[0, 2, 1])?;
+    same(
+        &rt,
+        store.atbs_to_bytes(rt.alloc())?.as_slice(),
+        b"..fghijklabcde=".as_slice(),
+    );
+    store.atbs_push_front(b'!')?;
+    store.atbs_prepend_n_zeros(2)?;
+    same(&rt, store.atbs_len(), 18);
+    store.atbs_bitor_assign(1, 0x40);
+    same(&rt, store.atbs_pop_front(), 0);
+    same(
+        &rt,
+        store.atbs_to_bytes(rt.alloc())?.as_slice(),
+        b"@!..fghijklabcde=".as_slice(),
+    );
+    Ok(())
 }

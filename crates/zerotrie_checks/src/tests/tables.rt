@@ -1,8 +1,10 @@
-//! Perfect hashes of bytes.
+//! The perfect hash, and the cache of its tables.
 
 use super::*;
+use linked_list_allocator::LocalHeap;
 use zerotrie_base::{
-    PerfectByteHashMap, PerfectByteHashMapCacheOwned, TrieStore, are_distinct, f1, f2,
+    PerfectByteHashMap, PerfectByteHashMapCacheOwned, TrieStore, ZeroTrieBuildError, are_distinct,
+    f1, f2,
 };
 
 /// Whether the table answers each of its keys' places, and nothing at other bytes.
@@ -157,5 +159,31 @@ fn try_get_or_insert_answers_the_table(rt: HostRuntime) -> Result<(), Fail> {
         let table = cache.try_get_or_insert(Vec::from_slice(rt.alloc(), keys)?)?;
         same(&rt, table.as_bytes(), bytes);
     }
+    Ok(())
+}
+
+/// Over heaps of rising size a table is an error if an allocation fails, until the heap has room for it. Then the cache
+/// still returns it, whether or not there was room for a second one.
+#[test]
+fn every_size_of_heap(rt: HostRuntime) -> Result<(), Fail> {
+    assert!(rt; are_distinct(b"aceg"));
+    assert!(rt; are_distinct(b"JFNv"));
+    let mut refused = 0usize;
+    for size in 0..200usize {
+        let heap = LocalHeap::new(rt.alloc(), size * 16)?;
+        let mut cache = PerfectByteHashMapCacheOwned::new_empty(&heap);
+        if let Err(why) = cache.try_get_or_insert(Vec::from_slice(rt.alloc(), b"aceg")?) {
+            assert!(rt; why == ZeroTrieBuildError::OutOfMemory);
+            refused = refused.saturating_add(1);
+            continue;
+        }
+        if let Err(why) = cache.try_get_or_insert(Vec::from_slice(rt.alloc(), b"JFNv")?) {
+            assert!(rt; why == ZeroTrieBuildError::OutOfMemory);
+            refused = refused.saturating_add(1);
+        }
+        let table = cache.try_get_or_insert(Vec::from_slice(rt.alloc(), b"aceg")?)?;
+        same(&rt, table.get(b'e'), Some(0));
+    }
+    assert!(rt; refused > 3 && refused < 190);
     Ok(())
 }
