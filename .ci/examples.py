@@ -1,5 +1,8 @@
 #!/usr/bin/env python3
-"""Runs the examples of the docs: each block of code in a doc comment of a crate, in README.md and in docs/CALLING.md becomes a test.
+"""Runs the examples of the docs, and the rows of tests/rows, without proof.
+
+Each block of code in a doc comment of a crate, in README.md and in docs/CALLING.md becomes a test. So does each file of tests/rows: its
+rows show values that a clause fixes already. It sees the helpers of the proved tests, those of crates/zerotrie_tests/src/tests.rt.
 
 All are tests of one crate in a copy of the repository, since what costs time is the build of the libraries. An example is a file of
 its own, in which its lines have the numbers that they have in the docs. It sees the public names of its crate and of those that the
@@ -60,6 +63,13 @@ def found():
     return examples
 
 
+def rows():
+    """Returns the files of tests/rows by their names, and the module that they are in."""
+    files = {file.name.split(".")[0]: file.read_text() for file in sorted((ROOT / "tests" / "rows").glob("*.rt.in"))}
+    helpers = (ROOT / "crates" / "zerotrie_tests" / "src" / "tests.rt").read_text()
+    return files, "".join(f"mod {name};\n" for name in files) + re.sub(r"^mod \w+;\n", "", helpers, flags=re.M)
+
+
 def misquoted():
     """Yields the files of which a page quotes what doesn't stand in them."""
     for page in PAGES:
@@ -75,10 +85,15 @@ def tried(examples):
         for source in ROOT.glob("crates/*/src"):
             shutil.copytree(source, copy / source.relative_to(ROOT))
         libraries = " ".join(it for it in BELOW if (copy / "crates" / it / "src" / "lib.rt").exists())
-        (copy / "crates.txt").write_text(f"{CRATES}\nexamples: {libraries} serde_json anyhow\n")
-        source = copy / "crates" / "examples" / "src"
+        (copy / "crates.txt").write_text(f"{CRATES}\ndoc_examples: {libraries} serde_json anyhow\n")
+        source = copy / "crates" / "doc_examples" / "src"
         source.mkdir(parents=True)
-        (source / "lib.rt").write_text("".join(f"#[cfg(test)] mod {name};\n" for name in examples))
+        (source / "lib.rt").write_text("".join(f"#[cfg(test)] mod {name};\n" for name in ["rows", *examples]))
+        files, module = rows()
+        (source / "rows").mkdir()
+        (source / "rows.rt").write_text(module)
+        for name, text in files.items():
+            (source / "rows" / f"{name}.rt").write_text(text)
         for name, (_, _, test) in examples.items():
             (source / f"{name}.rt").write_text(test)
         return subprocess.run(["rt", "try", "--test"], cwd=source.parent, capture_output=True, text=True)
@@ -92,8 +107,9 @@ def main():
     said = re.sub(r"\bsrc/(e\d+)\.rt\b", lambda it: str(examples[it[1]][0]), run.stdout + run.stderr)
     said = re.sub(r"\b(e\d+)::main\b", lambda it: "{}:{}".format(*examples[it[1]]), said)
     passed = len(re.findall(r"^test .* \.\.\. ok$", said, re.M))
-    of = f"{len(examples)} examples of {len({place for place, _, _ in examples.values()})} files"
-    if run.returncode or passed != len(examples):
+    tests = sum(text.count("#[test]") for text in rows()[0].values())
+    of = f"{len(examples)} examples of {len({place for place, _, _ in examples.values()})} files and {tests} tests of rows"
+    if run.returncode or passed != len(examples) + tests:
         print(re.sub(r"^test .* \.\.\. ok\n(    .*\n)*", "", said, flags=re.M), end="")
         sys.exit(f"{of}: {passed} passed")
     print(f"{of}: passed")
