@@ -47,8 +47,8 @@ pub const COMMANDS: &[Subcommand] = &[
         task: Task::Build,
         about: "Make a trie from a file of pairs",
         help: "Example: zerotrie build names.tsv -o names.trie\nIn memory: \
-            the input, the trie, and 12 bytes a pair of lines that ascend and have no escape; else 24 to 36, 24 more if they \
-            are to be sorted, and 16 if keys are copied, as those of csv and json and with escapes; of json the parsed value, too.\nStatus: 1 if the build is refused, 2 if IN is no pairs.",
+            the input, the trie, and 24 to 36 bytes a pair, 24 more if they are to be sorted, and 16 if keys are copied, as those \
+            of csv and json and with escapes; of json the parsed value, too.\nStatus: 1 if the build is refused, 2 if IN is no pairs.",
         arguments: &[
             Argument {
                 name: "IN",
