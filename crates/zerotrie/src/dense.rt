@@ -7,7 +7,6 @@ mod laws;
 mod record;
 mod rows;
 mod table;
-mod window;
 
 pub use laws::{answer_is_entry, fullest_window, one_record};
 pub use record::RecordError;

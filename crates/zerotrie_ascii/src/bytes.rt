@@ -6,8 +6,7 @@ ghost use Rattle.zerotrie_core.specs.WellFormed.{IsWellFormed};
 ghost use Rattle.zerotrie_any.specs.Tagged.{tagged, IsTagFault};
 ghost use Rattle.zerotrie_any.specs.Loaded.{IsLoaded, IsLoadFault};
 
-use crate::options::AsciiKind;
-use crate::trie::AsciiTrie;
+use crate::trie::{AsciiKind, AsciiTrie};
 use std::alloc::{AllocError, Global};
 use zerotrie_any::{LoadError, NotWellFormed, TagError, loaded, tagged, untagged};
 use zerotrie_core::{TrieStore, is_well_formed};

@@ -14,8 +14,7 @@ ghost use Rattle.zerotrie_ascii.specs.ListedTexts.{AreTexts};
 ghost use Rattle.zerotrie_ascii.specs.Writing.{ascii_front, StepsBy, HasValue};
 
 use crate::list::ZeroTrieStringIterator;
-use crate::options::AsciiKind;
-use crate::trie::AsciiTrie;
+use crate::trie::{AsciiKind, AsciiTrie};
 use std::alloc::{AllocError, Global};
 use std::fmt;
 use std::marker::{Model, PhantomData};

@@ -12,8 +12,7 @@ ghost use Rattle.zerotrie_core.specs.declared.listing.ListError.TheVariants.{Out
 ghost use Rattle.zerotrie_any.specs.Listed.{IsListed, first_key_of};
 ghost use Rattle.zerotrie_ascii.specs.ListedTexts.{AreTexts, TextError};
 
-use crate::options::AsciiKind;
-use crate::trie::AsciiTrie;
+use crate::trie::{AsciiKind, AsciiTrie};
 use std::alloc::{AllocError, Global};
 use std::collections::BTreeMap;
 use std::marker::Model;

@@ -8,8 +8,7 @@ ghost use Rattle.zerotrie_core.specs.Prefixes.{IsLongestPrefix, at_front};
 ghost use Rattle.zerotrie_ascii.specs.ListedTexts.{AreTexts};
 
 use crate::list::ZeroTrieStringIterator;
-use crate::options::AsciiKind;
-use crate::trie::AsciiTrie;
+use crate::trie::{AsciiKind, AsciiTrie};
 use std::alloc::{AllocError, Global};
 use zerotrie_core::{CommonPrefixes, TrieStore, ZeroTrieStream, longest_prefix};
 

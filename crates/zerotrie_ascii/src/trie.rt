@@ -7,7 +7,7 @@ ghost use Rattle.std.specs.Cmp.{on_equiv, on_per};
 ghost use Rattle.std.specs.Cmp as cmp;
 ghost use Rattle.std.specs.Cmp.Lexicographic.{pointwise, nat_list_eq_equiv};
 ghost use Rattle.std.specs.Iterator.{IsFiniteIterable};
-ghost use Rattle.zerotrie_core.specs.Kind.{simple_ascii};
+ghost use Rattle.zerotrie_core.specs.Kind.{simple_ascii, IsAscii};
 ghost use Rattle.zerotrie_core.specs.Maps.{Map, look};
 ghost use Rattle.zerotrie_core.specs.Texts.{Means};
 ghost use Rattle.zerotrie_core.specs.Items.{pairs_of, keyed};
@@ -15,7 +15,6 @@ ghost use Rattle.zerotrie_core.specs.Routes.{ascending, in_order, IsBuild, IsLen
 ghost use Rattle.zerotrie_any.specs.Flavors.{flavor_kind};
 ghost use Rattle.zerotrie_any.specs.Order.{IsByBytes};
 
-use crate::options::AsciiKind;
 use std::alloc::{AllocError, Global};
 use std::collections::BTreeMap;
 use std::fmt;
@@ -24,7 +23,7 @@ use zerotrie_any::{TextKey, ZeroTrie, bytes_from_iter, bytes_from_map, bytes_fro
 use zerotrie_build::{ByteSliceWithIndices, encoded_len};
 use zerotrie_core::{
     ConvertStore, Ignore, Simple, TrieKey, TrieStore, ZeroTrieBuildError, ZeroTrieBuilderOptions,
-    get, laws,
+    ZeroTrieWithOptions, get, laws,
 };
 
 /// A map from ASCII keys to numbers, as a sequence of bytes that is read in place. `K` is its kind.
@@ -428,4 +427,48 @@ impl<K: AsciiKind, S: TrieStore> PartialEq for AsciiTrie<K, S> {
 
 impl<K: AsciiKind, S: TrieStore> Eq for AsciiTrie<K, S> {
     ghost laws = { on_equiv (λ x. S.stored x.store) nat_list_eq_equiv };
+}
+
+/// A kind of trie over ASCII keys: `Simple` or `Ignore`. Each branch has a sorted table, so a map
+/// has one encoding.
+pub trait AsciiKind: ZeroTrieWithOptions {
+    ghost ascii: { IsAscii Self.kind };
+}
+
+impl AsciiKind for Simple {
+    ghost ascii = { tt };
+}
+
+impl AsciiKind for Ignore {
+    ghost ascii = { tt };
+}
+
+impl<K: ZeroTrieWithOptions, S> ZeroTrieWithOptions for AsciiTrie<K, S> {
+    const USE_PHF: bool = K::USE_PHF;
+
+    const SPANS: bool = K::SPANS;
+
+    const EXTENDED: bool = K::EXTENDED;
+
+    const IGNORE_CASE: bool = K::IGNORE_CASE;
+
+    const TAG: u8 = K::TAG;
+
+    ghost USE_PHF = { K.USE_PHF };
+
+    ghost SPANS = { K.SPANS };
+
+    ghost EXTENDED = { K.EXTENDED };
+
+    ghost IGNORE_CASE = { K.IGNORE_CASE };
+
+    ghost TAG = { K.TAG };
+
+    ghost kind = { K.kind };
+
+    ghost flags_are = { K.flags_are };
+
+    ghost tag_is = { K.tag_is };
+
+    ghost lawful = { K.lawful };
 }

@@ -1,7 +1,7 @@
 mod ArrayLemmas
 mod Building
 mod Filling
-mod Items
+mod ItemLemmas
 mod MeasureLemmas
 mod Nodes
 mod OrderLemmas

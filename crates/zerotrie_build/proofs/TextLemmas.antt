@@ -9,7 +9,7 @@ use Rattle.zerotrie_build.proofs.OrderLemmas.Below.{ordered_ascends}
 use Rattle.zerotrie_build.proofs.OrderLemmas.Sorting.{ascends_ordered}
 use Rattle.zerotrie_build.specs.Order.{Before, Ordered, AreKeys, AreAsciiKeys}
 use Rattle.zerotrie_build.specs.TextItems.{marked_pair, marked_pairs, LiesIn, LieIn, IsAboveLast}
-use Rattle.zerotrie_build.specs.declared.text_items.Mark.{Mark}
+use Rattle.zerotrie_build.specs.declared.items.Mark.{Mark}
 
 -- the keys ascend with one more if they do and it is above the last
 pub ordered_push : (pairs : Pairs) (e : List ℕ × ℕ) → Ordered simple_ascii (pairs ++ e ∷ []) ↔ (Ordered simple_ascii pairs × IsAboveLast pairs e.0)

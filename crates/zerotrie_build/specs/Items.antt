@@ -1,8 +1,8 @@
 -- Slices of items, as pairs.
 use Rattle.zerotrie_base.specs.Maps.{Pairs}
 use Rattle.zerotrie_base.specs.Items.{pairs_of}
-use Rattle.zerotrie_build.specs.declared.slice_indices.ByteSliceWithIndices.{ByteSliceWithIndices}
-use Rattle.zerotrie_build.specs.declared.slice_indices.ByteSliceWithIndices.TheVariants.{Bytes, Str}
+use Rattle.zerotrie_build.specs.declared.items.ByteSliceWithIndices.{ByteSliceWithIndices}
+use Rattle.zerotrie_build.specs.declared.items.ByteSliceWithIndices.TheVariants.{Bytes, Str}
 
 -- the pairs, each key by its bytes
 abbrev pub pairs : ByteSliceWithIndices → Pairs

@@ -4,4 +4,4 @@ pub mod Order
 pub mod TextItems
 pub mod Refused
 pub mod passes
-pub mod konst
+pub mod array

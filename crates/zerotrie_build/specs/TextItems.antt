@@ -3,7 +3,7 @@ use Rattle.std.specs.Prelude.{ℕ, ◌+◌, ◌^◌, ◌<◌, ◌≤◌, ◌⊎�
 use Rattle.zerotrie_base.specs.Kind.{simple_ascii}
 use Rattle.zerotrie_base.specs.Maps.{Pairs}
 use Rattle.zerotrie_build.specs.Order.{Before}
-use Rattle.zerotrie_build.specs.declared.text_items.Mark.{Mark}
+use Rattle.zerotrie_build.specs.declared.items.Mark.{Mark}
 
 -- A text, and the pairs whose keys lie in it.
 pub record TextPairs : Type 0 where

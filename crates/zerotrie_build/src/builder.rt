@@ -10,15 +10,13 @@ ghost use Rattle.zerotrie_base.specs.Routes.{ascending, any_order, IsRefusal, Is
 ghost use Rattle.zerotrie_build.specs.Items.{pairs};
 ghost use Rattle.zerotrie_build.specs.Order.{Ordered, AreKeys, AreAsciiKeys, AreValues};
 
-use crate::branch_layout::{Layout, WriteInput};
-use crate::indexed::IndexedItems;
-use crate::measuring::measure_all;
+use crate::branch::{Layout, WriteInput};
+use crate::items::{ByteSliceWithIndices, IndexedItems, TextItems};
+use crate::measure::measure_all;
 use crate::order::{are_ascii, are_in_order, are_keys, is_ordered};
-use crate::slice_indices::ByteSliceWithIndices;
 use crate::sort::sorted_by_fold;
 use crate::store::TrieBuilderStore;
-use crate::text_items::TextItems;
-use crate::writing::Writing;
+use crate::write::Writing;
 use std::alloc::{AllocError, Allocator, Global};
 use std::collections::VecDeque;
 use zerotrie_base::{

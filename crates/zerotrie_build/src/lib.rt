@@ -4,26 +4,21 @@
 //! them from the last to the first into an array or a buffer.
 #![tactic(auto)]
 
-mod branch_layout;
+mod array;
+mod branch;
 mod builder;
-mod indexed;
-mod konst;
-mod last_table;
-mod leaf;
-mod measuring;
+mod items;
+mod measure;
 mod number;
 mod order;
 mod refusal;
-mod slice_indices;
 mod sort;
 mod store;
-mod text_items;
 mod windows;
-mod writing;
+mod write;
 
+pub use array::{ZeroTrieBuilderConst, bytes_within, fill_from_end};
 pub use builder::{ZeroTrieBuilder, build_slice, build_text, encoded_len};
-pub use konst::{ZeroTrieBuilderConst, bytes_within, fill_from_end};
+pub use items::{ByteSliceWithIndices, TextItems};
 pub use refusal::{Refusal, why_iter_refused, why_slice_refused};
-pub use slice_indices::ByteSliceWithIndices;
 pub use store::TrieBuilderStore;
-pub use text_items::TextItems;

@@ -14,7 +14,7 @@ ghost use Rattle.zerotrie_build.specs.passes.Sorts.{AreSortedItems, items_by_num
 ghost use Rattle.zerotrie_build.specs.passes.OtherCase.{BeginsThen, NoneBeginsThen, NoneHasOtherCase};
 ghost use Rattle.zerotrie_build.specs.Refused.{key_at, DifferInCase, AreShown, IsWhyRefused};
 
-use crate::indexed::item_at;
+use crate::items::item_at;
 use crate::order::{common_front_len, first_foreign, first_unordered};
 use crate::sort::{KeyPrefix, items_at, sorted_prefixes};
 use std::alloc::{AllocError, Global};

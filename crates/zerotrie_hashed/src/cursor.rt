@@ -8,8 +8,7 @@ ghost use Rattle.zerotrie_core.specs.Listings.{to_come};
 ghost use Rattle.zerotrie_core.specs.Places.{nowhere, ListsAt, IsStep, IsTake, IsProbe, FollowsRun};
 ghost use Rattle.zerotrie_any.specs.Walks.{IsWalk};
 
-use crate::options::HashedKind;
-use crate::trie::HashedTrie;
+use crate::trie::{HashedKind, HashedTrie};
 use std::alloc::{AllocError, Global};
 use std::marker::{Model, PhantomData};
 use zerotrie_any::{CursorAnswer, CursorOp, walk};

@@ -8,8 +8,7 @@ ghost use Rattle.zerotrie_any.specs.Json.{json};
 ghost use Rattle.zerotrie_any.specs.JsonCalls.{IsBuildOfJson};
 ghost use Rattle.zerotrie_any.specs.declared.json.JsonError.TheVariants.{OutOfMemory};
 
-use crate::options::HashedKind;
-use crate::trie::HashedTrie;
+use crate::trie::{HashedKind, HashedTrie};
 use serde_json::Value;
 use std::alloc::Global;
 use zerotrie_any::{JsonError, bytes_from_json, json_of};

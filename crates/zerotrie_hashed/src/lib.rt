@@ -5,10 +5,8 @@ mod bytes;
 mod cursor;
 mod json;
 mod list;
-mod options;
 mod prefixes;
 mod trie;
 
 pub use cursor::{HashedCursor, ZeroTrieExtendedCapacityCursor, ZeroTriePerfectHashCursor};
-pub use options::HashedKind;
-pub use trie::{HashedTrie, ZeroTrieExtendedCapacity, ZeroTriePerfectHash};
+pub use trie::{HashedKind, HashedTrie, ZeroTrieExtendedCapacity, ZeroTriePerfectHash};

@@ -9,8 +9,7 @@ ghost use Rattle.zerotrie_core.specs.Listings.{to_come};
 ghost use Rattle.zerotrie_core.specs.declared.listing.ListError.TheVariants.{OutOfMemory};
 ghost use Rattle.zerotrie_any.specs.Listed.{IsListed, first_key_of};
 
-use crate::options::HashedKind;
-use crate::trie::HashedTrie;
+use crate::trie::{HashedKind, HashedTrie};
 use std::alloc::Global;
 use std::collections::BTreeMap;
 use zerotrie_any::{ZeroTrieKeys, ZeroTrieValues, first_key_of, map_of};

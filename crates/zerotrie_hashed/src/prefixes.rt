@@ -6,8 +6,7 @@ ghost use Rattle.zerotrie_core.specs.Texts.{Lists, Means};
 ghost use Rattle.zerotrie_core.specs.Listings.{to_come};
 ghost use Rattle.zerotrie_core.specs.Prefixes.{IsLongestPrefix, at_front};
 
-use crate::options::HashedKind;
-use crate::trie::HashedTrie;
+use crate::trie::{HashedKind, HashedTrie};
 use std::alloc::{AllocError, Global};
 use zerotrie_core::{CommonPrefixes, TrieStore, ZeroTrieIterator, ZeroTrieStream, longest_prefix};
 

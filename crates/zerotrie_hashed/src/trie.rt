@@ -13,17 +13,19 @@ ghost use Rattle.zerotrie_core.specs.Items.{pairs_of, keyed};
 ghost use Rattle.zerotrie_core.specs.Routes.{ascending, in_order, IsBuild, IsLength, HoldsOfItsPairs, IsBuildOfAll};
 ghost use Rattle.zerotrie_any.specs.Flavors.{flavor_kind};
 ghost use Rattle.zerotrie_any.specs.Order.{IsByBytes};
+ghost use Rattle.zerotrie_core.specs.Kind.{IsAscii};
 
-use crate::options::HashedKind;
 use std::alloc::{AllocError, Global};
 use std::collections::BTreeMap;
 use std::fmt;
 use std::marker::PhantomData;
-use zerotrie_any::{TextKey, ZeroTrie, bytes_from_iter, bytes_from_map, bytes_from_slice};
+use zerotrie_any::{
+    HasFlavor, TextKey, ZeroTrie, bytes_from_iter, bytes_from_map, bytes_from_slice,
+};
 use zerotrie_build::{ByteSliceWithIndices, encoded_len};
 use zerotrie_core::{
-    ConvertStore, Ext, Hash, TrieKey, TrieStore, ZeroTrieBuildError, ZeroTrieBuilderOptions, get,
-    laws,
+    ConvertStore, Ext, Hash, TrieKey, TrieStore, ZeroTrieBuildError, ZeroTrieBuilderOptions,
+    ZeroTrieWithOptions, get, laws,
 };
 
 /// A map from keys of any bytes to numbers, as a sequence of bytes that is read in place. `K` is
@@ -403,4 +405,48 @@ impl<K: HashedKind, S: TrieStore> PartialEq for HashedTrie<K, S> {
 
 impl<K: HashedKind, S: TrieStore> Eq for HashedTrie<K, S> {
     ghost laws = { on_equiv (λ x. S.stored x.store) nat_list_eq_equiv };
+}
+
+/// A kind of trie over keys of any bytes: `Hash` or `Ext`. A branch of 16 edges or more has a
+/// perfect hash.
+pub trait HashedKind: HasFlavor {
+    ghost not_ascii: { IsAscii Self.kind → ⊥ };
+}
+
+impl HashedKind for Hash {
+    ghost not_ascii = { λ h. h };
+}
+
+impl HashedKind for Ext {
+    ghost not_ascii = { λ h. h };
+}
+
+impl<K: ZeroTrieWithOptions, S> ZeroTrieWithOptions for HashedTrie<K, S> {
+    const USE_PHF: bool = K::USE_PHF;
+
+    const SPANS: bool = K::SPANS;
+
+    const EXTENDED: bool = K::EXTENDED;
+
+    const IGNORE_CASE: bool = K::IGNORE_CASE;
+
+    const TAG: u8 = K::TAG;
+
+    ghost USE_PHF = { K.USE_PHF };
+
+    ghost SPANS = { K.SPANS };
+
+    ghost EXTENDED = { K.EXTENDED };
+
+    ghost IGNORE_CASE = { K.IGNORE_CASE };
+
+    ghost TAG = { K.TAG };
+
+    ghost kind = { K.kind };
+
+    ghost flags_are = { K.flags_are };
+
+    ghost tag_is = { K.tag_is };
+
+    ghost lawful = { K.lawful };
 }

@@ -7,8 +7,8 @@ use Rattle.zerotrie_session.specs.Numbers.{IsNumber}
 use Rattle.zerotrie_session.specs.Calls.{AreOps, words_of}
 use Rattle.zerotrie_session.specs.Commands.{Command, choose, add, build, query, list, walk, HasKey, IsCommand, name_of}
 use Rattle.zerotrie_session.specs.BadLines.{IsNoNumber, IsNoPair, IsNoCommand, IsBadAs}
-use Rattle.zerotrie_session.specs.declared.bad_line.BadLine.{BadLine}
-use Rattle.zerotrie_session.specs.declared.bad_line.BadLine.TheVariants.{CarriageReturn, NoCommand, UnknownKind, NoValue, NoNumber, TooManyDigits, TooLarge, NoCall, NoKind, WalkUnderAuto}
+use Rattle.zerotrie_session.specs.declared.command.BadLine.{BadLine}
+use Rattle.zerotrie_session.specs.declared.command.BadLine.TheVariants.{CarriageReturn, NoCommand, UnknownKind, NoValue, NoNumber, TooManyDigits, TooLarge, NoCall, NoKind, WalkUnderAuto}
 use Rattle.zerotrie_session.proofs.LineLemmas.{begins, not_stripped, same_rest, no_pair_line}
 
 no_number : (digits : List ℕ) (bad : BadLine) → IsNoNumber digits bad → (value : ℕ) → IsNumber digits value → ⊥

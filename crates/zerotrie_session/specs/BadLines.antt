@@ -6,8 +6,8 @@ use Rattle.zerotrie_session.specs.Numbers.{AreDigits, number_behind}
 use Rattle.zerotrie_session.specs.Calls.{AreOps, words_of}
 use Rattle.zerotrie_session.specs.Commands.{Command, IsCommand, name_of}
 use Rattle.zerotrie_session.specs.declared.command.Choice.{Choice}
-use Rattle.zerotrie_session.specs.declared.bad_line.BadLine.{BadLine}
-use Rattle.zerotrie_session.specs.declared.bad_line.BadLine.TheVariants.{CarriageReturn, NoCommand, UnknownKind, NoValue, NoNumber, TooManyDigits, TooLarge, NoCall, NoKind, WalkUnderAuto}
+use Rattle.zerotrie_session.specs.declared.command.BadLine.{BadLine}
+use Rattle.zerotrie_session.specs.declared.command.BadLine.TheVariants.{CarriageReturn, NoCommand, UnknownKind, NoValue, NoNumber, TooManyDigits, TooLarge, NoCall, NoKind, WalkUnderAuto}
 
 -- the line is no command
 abbrev pub IsNoCommand : List ℕ → Type 0

@@ -10,8 +10,7 @@ ghost use Rattle.zerotrie_session.specs.answer.Parsing.{meaning};
 ghost use Rattle.zerotrie_session.specs.answer.Tries.{trie_bytes};
 ghost use Rattle.zerotrie_session.specs.answer.Sessions.{HasState, AfterLine, AfterRequest};
 
-use crate::bad_line::BadLine;
-use crate::command::{Choice, Request, parse};
+use crate::command::{BadLine, Choice, Request, parse};
 use crate::reply::{write_bad, write_number, write_ok, write_refused, write_walk};
 use crate::trie::Trie;
 use std::alloc::{AllocError, Global};

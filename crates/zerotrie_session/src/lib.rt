@@ -2,9 +2,7 @@
 #![tactic(auto)]
 
 mod answer;
-mod bad_line;
 mod command;
-mod listing;
 mod noted;
 mod reply;
 mod running;

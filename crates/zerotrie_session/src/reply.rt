@@ -1,11 +1,15 @@
 //! The lines that are printed.
 
 ghost use Rattle.std.specs.Prelude.{◌≡◌, ◌++◌, OnOk, string_bytes};
-ghost use Rattle.zerotrie_session.specs.Replies.{hex, error_name, ok_line, refused_line, number_line, pair_line, answer_word, walk_line, bad_line};
+ghost use Rattle.zerotrie_session.specs.Replies.{hex, error_name, ok_line, refused_line, number_line, pair_line, answer_word, walk_line, bad_line, list_lines};
 ghost use Rattle.zerotrie.specs.Walks.{answer_of, answers_of};
+ghost use Rattle.zerotrie.specs.Items.{keyed};
+ghost use Rattle.zerotrie.specs.Maps.{Pairs};
+ghost use Rattle.zerotrie.specs.Texts.{Lists};
 
-use std::alloc::AllocError;
-use zerotrie::{CursorAnswer, ZeroTrieBuildError};
+use std::alloc::{AllocError, Global};
+use std::collections::BTreeMap;
+use zerotrie::{CursorAnswer, ZeroTrieBuildError, ZeroTrieStream, ZeroTrieWithOptions};
 
 /// Writes bytes in hexadecimal, and for none a dash.
 fn write_hex(output: &mut String, bytes: &[u8]) -> Result<(), AllocError>
@@ -122,4 +126,31 @@ pub fn write_bad(output: &mut String, line_number: usize) -> Result<(), AllocErr
         ≡ string_bytes output.old ++ bad_line line_number) }
 {
     writeln!(output, "bad line {line_number}")
+}
+
+/// Writes the pairs of a text of the kind, in the order of its nodes.
+pub fn write_pairs<K: ZeroTrieWithOptions>(
+    alloc: Global,
+    bytes: &[u8],
+    output: &mut String,
+) -> Result<(), AllocError>
+    ensures { OnOk result ((pairs : Pairs) → Lists K.kind bytes.now pairs
+        → string_bytes output.new ≡ string_bytes output.old ++ list_lines pairs) }
+{
+    let mut pairs = ZeroTrieStream::new::<K>(alloc, bytes);
+    while pairs.advance()? {
+        write_pair(output, pairs.key(), pairs.value())?;
+    }
+    Ok(())
+}
+
+/// Writes the pairs of a map, in the order of its keys.
+pub fn write_sorted(map: &BTreeMap<Vec<u8>, usize>, output: &mut String) -> Result<(), AllocError>
+    ensures { OnOk result (string_bytes output.new
+        ≡ string_bytes output.old ++ list_lines (keyed (λ key. key.items) map.now.entries)) }
+{
+    for (key, value) in map {
+        write_pair(output, key.as_slice(), *value)?;
+    }
+    Ok(())
 }

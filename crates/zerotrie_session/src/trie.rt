@@ -13,7 +13,7 @@ ghost use Rattle.zerotrie_session.specs.answer.Tries.{trie_kind, trie_choice, tr
 ghost use Rattle.zerotrie_session.specs.declared.command.Choice.TheVariants.{Auto};
 
 use crate::command::Choice;
-use crate::listing::{write_pairs, write_sorted};
+use crate::reply::{write_pairs, write_sorted};
 use std::alloc::{AllocError, Global};
 use zerotrie::{
     AsciiTrie, CursorAnswer, CursorOp, Ext, Hash, HashedTrie, Ignore, Simple,

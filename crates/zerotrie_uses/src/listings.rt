@@ -1,4 +1,4 @@
-//! All pairs of a trie, as an ordered map, and walks of a cursor over them.
+//! The pairs of a trie as an ordered map, and calls of a cursor over them.
 
 ghost use Rattle.std.specs.Prelude.{◌≡◌, IfOk};
 ghost use Rattle.std.specs.String.{string_bytes};
@@ -11,9 +11,9 @@ use std::alloc::Global;
 use std::collections::BTreeMap;
 use zerotrie::{CursorAnswer, CursorOp, ZeroTrieBuildError, ZeroTrieSimpleAscii, laws};
 
-/// The pairs of a trie that was built of them, as an ordered map: these pairs, which ascend.
+/// Builds a trie of pairs in ascending order, and returns it as an ordered map: these pairs.
 ///
-/// It is refused as `ZeroTrieSimpleAscii::try_from_sorted_slice` is, and if memory runs out.
+/// The errors are those of `ZeroTrieSimpleAscii::try_from_sorted_slice`, and `OutOfMemory`.
 pub fn listed_again(
     alloc: Global,
     pairs: &[(&[u8], usize)],
@@ -28,10 +28,10 @@ pub fn listed_again(
     }
 }
 
-/// What a cursor answers that is taken through a list of calls over pairs, which ascend: the machine's answers
-/// over these very pairs.
+/// Returns the results of a cursor's calls over pairs in ascending order: those of the definition of
+/// a cursor over the pairs themselves.
 ///
-/// It is refused as `ZeroTrieSimpleAscii::try_from_sorted_slice` is, and if memory runs out.
+/// The errors are those of `ZeroTrieSimpleAscii::try_from_sorted_slice`, and `OutOfMemory`.
 pub fn walk_over(
     alloc: Global,
     pairs: &[(&[u8], usize)],

@@ -13,9 +13,8 @@ ghost use Rattle.zerotrie.specs.dense.Laws.{IsDenseBuild};
 ghost use Rattle.zerotrie.specs.dense.Records.{matrix_bytes};
 ghost use Rattle.zerotrie.specs.dense.Rows.{keys, placed, put_texts, suffixes, texts};
 
-use crate::dense::rows::{Row, rows_of};
+use crate::dense::rows::{Row, is_in_window, rows_of};
 use crate::dense::table::ZeroAsciiDenseSparse2dTrieOwned;
-use crate::dense::window::is_in_window;
 use std::alloc::{AllocError, Global};
 use std::collections::{BTreeMap, BTreeSet};
 use zerotrie_ascii::ZeroTrieSimpleAscii;

@@ -9,10 +9,11 @@ ghost use Rattle.zerotrie_core.specs.Maps.{Ascends, value_at};
 ghost use Rattle.zerotrie.specs.dense.Layout.{laid, is_dense};
 ghost use Rattle.zerotrie.specs.dense.RowFaults.{AreAsciiTexts, IsRowRefusal, SomeWideWindow};
 ghost use Rattle.zerotrie.specs.dense.Views.{row_shown, pairs_in, rows_in};
-ghost use Rattle.zerotrie.specs.dense.Windows.{within, without, offset, values};
+ghost use Rattle.zerotrie.specs.dense.Windows.{within, without, offset, values, in_window, fullest};
 ghost use Rattle.zerotrie.specs.dense.Rows.{IsInOrder, keys, texts};
+ghost use Rattle.std.specs.List.Sorted.{IsSorted};
+ghost use Rattle.std.specs.Ordering.{nat_cmp};
 
-use crate::dense::window::{fullest_in, is_in_window};
 use std::alloc::{AllocError, Global};
 use std::collections::BTreeMap;
 use zerotrie_build::{ByteSliceWithIndices, encoded_len};
@@ -166,4 +167,35 @@ pub(crate) fn rows_of<'m, 's>(
         rows.push(row_of(alloc, prefix, row, columns)?)?;
     }
     Ok(rows)
+}
+
+/// The length of a window.
+const WINDOW: usize = 65_535;
+
+/// Returns whether the value is in the window that begins at `start`.
+pub(crate) fn is_in_window(start: usize, value: usize) -> bool
+    ensures { result ≡ in_window start value }
+{
+    start <= value && value - start < WINDOW
+}
+
+/// Returns the start of the window that has the most of the values; the least such start; 0 if
+/// there are no values. The values must ascend.
+///
+/// A range of neighbours moves along the values. It grows while it fits a window, and otherwise
+/// moves on by one, so in the end it is as long as the longest that fits.
+pub(crate) fn fullest_in(values: &[usize]) -> usize
+    requires { IsSorted nat_cmp values.now }
+    ensures { result ≡ fullest values.now }
+{
+    let mut fullest = 0;
+    let mut first = 0;
+    for last in 0..values.len() {
+        if is_in_window(values[first], values[last]) {
+            fullest = values[first];
+        } else {
+            first += 1;
+        }
+    }
+    fullest
 }

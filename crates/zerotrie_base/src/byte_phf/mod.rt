@@ -7,7 +7,6 @@
 mod builder;
 mod cached_owned;
 mod groups;
-mod reciprocals;
 mod remainders;
 
 ghost use Rattle.std.specs.Prelude.{◌≡◌, ◌≢◌, ◌==◌, ◌+◌, ◌-◌, ◌/◌, ◌%◌, ◌<◌, ◌↔◌, ◌⊎◌, ℕ, List, [], ◌∷◌, ◌++◌, length, drop, slice_index, replicate, nat_eq, bit_xor, IfOk, IfErr, IsTrue};
@@ -22,7 +21,7 @@ use crate::error::ZeroTrieBuildError;
 use crate::store::TrieStore;
 use builder::{find, placed_keys};
 pub use cached_owned::PerfectByteHashMapCacheOwned;
-use reciprocals::remainder;
+use remainders::remainder;
 use std::alloc::{AllocError, Allocator, Global};
 
 /// The greatest `q` for which [`f2`] turns nothing.

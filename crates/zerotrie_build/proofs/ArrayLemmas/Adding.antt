@@ -11,12 +11,12 @@ use Rattle.zerotrie_base.specs.Fits.{OverflowsAt}
 use Rattle.zerotrie_base.specs.Stack.{stack_of}
 use Rattle.zerotrie_base.specs.declared.error.ZeroTrieBuildError.{ZeroTrieBuildError}
 use Rattle.zerotrie_base.proofs.CallerLemmas.{residual-append, stack_none}
-use Rattle.zerotrie_build.specs.declared.konst.text.Sibling.{Sibling}
-use Rattle.zerotrie_build.specs.declared.konst.text.Text.{Text}
+use Rattle.zerotrie_build.specs.declared.array.text.Sibling.{Sibling}
+use Rattle.zerotrie_build.specs.declared.array.text.Text.{Text}
 use Rattle.zerotrie_build.specs.Order.{Before, Ordered}
-use Rattle.zerotrie_build.specs.konst.Texts.{Counts, Has, Prepends, newest_first}
-use Rattle.zerotrie_build.specs.konst.Growing.{IsClosedTo, IsReady, BuiltFrom, AtMost, AreAmong, RefusedFrom, RefusedBefore, IsRefusedBuild}
-use Rattle.zerotrie_build.proofs.Items.{got, each_ordered}
+use Rattle.zerotrie_build.specs.array.Texts.{Counts, Has, Prepends, newest_first}
+use Rattle.zerotrie_build.specs.array.Growing.{IsClosedTo, IsReady, BuiltFrom, AtMost, AreAmong, RefusedFrom, RefusedBefore, IsRefusedBuild}
+use Rattle.zerotrie_build.proofs.ItemLemmas.{got, each_ordered}
 use Rattle.zerotrie_build.proofs.Overflow.{same_edges, same_targets_size, exceeds}
 use Rattle.zerotrie_build.proofs.ArrayLemmas.Runs.{behind_all-append, among_right}
 use Rattle.zerotrie_build.proofs.ArrayLemmas.Parting.{nothing_before}

@@ -9,9 +9,9 @@ use Rattle.zerotrie_base.specs.Texts.{ListEach}
 use Rattle.zerotrie_base.specs.Texts.ListEach.{no_edge, edge}
 use Rattle.zerotrie_base.specs.Stack.{branch_need, stack_of}
 use Rattle.zerotrie_base.proofs.CallerLemmas.{Rises, AllAbove, behind_all-nil, lists_some, edge_once, residual_first, residual_later, not_first, branch_agree, above, above_edge}
-use Rattle.zerotrie_build.specs.declared.konst.text.Sibling.{Sibling}
-use Rattle.zerotrie_build.specs.konst.Texts.{Counts, bytes_of, lens_of}
-use Rattle.zerotrie_build.specs.konst.Growing.{DepthsBelow, NoneAt, AllAt, ComesBefore, Aside, SomeBegins, AreAmong}
+use Rattle.zerotrie_build.specs.declared.array.text.Sibling.{Sibling}
+use Rattle.zerotrie_build.specs.array.Texts.{Counts, bytes_of, lens_of}
+use Rattle.zerotrie_build.specs.array.Growing.{DepthsBelow, NoneAt, AllAt, ComesBefore, Aside, SomeBegins, AreAmong}
 use Rattle.zerotrie_build.proofs.Runs.{with_run-push, behind_all-other}
 use Rattle.zerotrie_build.proofs.ArrayLemmas.Text.{total_first}
 use Rattle.zerotrie_build.proofs.ArrayLemmas.Runs.{with_run-append, behind_all-append, among_left, among_right, leads_run, leads_edge, beside, beside_more, beside_within}

@@ -11,8 +11,8 @@ use Rattle.zerotrie_base.specs.ArrayRoutes.{IsArrayBuilt, IsRefusalWithin}
 use Rattle.zerotrie_base.specs.declared.error.ZeroTrieBuildError.{ZeroTrieBuildError}
 use Rattle.zerotrie_base.specs.declared.error.ZeroTrieBuildError.TheVariants.{NonAsciiError, BufferTooSmall}
 use Rattle.zerotrie_base.proofs.CallerLemmas.{ascends_apart, entries-map_of, listed_size}
-use Rattle.zerotrie_build.specs.konst.Texts.{EndsIn}
-use Rattle.zerotrie_build.specs.konst.Growing.{IsRefusedBuild, IsWritten}
+use Rattle.zerotrie_build.specs.array.Texts.{EndsIn}
+use Rattle.zerotrie_build.specs.array.Growing.{IsRefusedBuild, IsWritten}
 use Rattle.zerotrie_build.proofs.Building.{some_foreign}
 
 -- the size and the need of the map of pairs that ascend

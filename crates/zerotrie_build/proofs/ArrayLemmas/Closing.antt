@@ -15,9 +15,9 @@ use Rattle.zerotrie_base.specs.Canonical.{node}
 use Rattle.zerotrie_base.specs.Fits.{OverflowsAt}
 use Rattle.zerotrie_base.specs.Stack.{branch_need, stack_of}
 use Rattle.zerotrie_base.proofs.CallerLemmas.{Rises, lists_some, node_many, node_lists, not_empty_text, rises_distinct, bytes_all, targets_each, edges_count, edges_listed, stack_none, stack_value, stack_literal, stack_branch, stack_edges, above_edge, above_edges}
-use Rattle.zerotrie_build.specs.declared.konst.text.Sibling.{Sibling}
-use Rattle.zerotrie_build.specs.konst.Texts.{Counts, bytes_of, lens_of}
-use Rattle.zerotrie_build.specs.konst.Growing.{DepthsBelow, NoneAt, AllAt, ComesBefore, Aside, ReadyFor, ClosedTo, SomeBegins, AreAmong}
+use Rattle.zerotrie_build.specs.declared.array.text.Sibling.{Sibling}
+use Rattle.zerotrie_build.specs.array.Texts.{Counts, bytes_of, lens_of}
+use Rattle.zerotrie_build.specs.array.Growing.{DepthsBelow, NoneAt, AllAt, ComesBefore, Aside, ReadyFor, ClosedTo, SomeBegins, AreAmong}
 use Rattle.zerotrie_build.proofs.Runs.{with_run-nil, behind_all-run, take_one_more}
 use Rattle.zerotrie_build.proofs.ArrayLemmas.Text.{total_first}
 use Rattle.zerotrie_build.proofs.ArrayLemmas.Runs.{run_step, with_run-append, behind_all-append, among_left, among_right, leads_run, leads_edge, leads_key, need_behind}

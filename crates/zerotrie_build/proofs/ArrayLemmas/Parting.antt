@@ -5,7 +5,7 @@ use Rattle.zerotrie_base.specs.Kind.{simple_ascii}
 use Rattle.zerotrie_base.specs.Maps.{Pairs, residual, behind_all}
 use Rattle.zerotrie_base.proofs.CallerLemmas.{residual-append, behind_all-nil}
 use Rattle.zerotrie_build.specs.Order.{Before, Ordered}
-use Rattle.zerotrie_build.specs.konst.Growing.{AtMost}
+use Rattle.zerotrie_build.specs.array.Growing.{AtMost}
 use Rattle.zerotrie_build.proofs.OrderLemmas.Parting.{common}
 use Rattle.zerotrie_build.proofs.ArrayLemmas.Runs.{behind_all-append}
 

@@ -5,7 +5,7 @@ use Rattle.std.proofs.lemmas.Bool.{eq-eqb}
 use Rattle.zerotrie_base.specs.Maps.{Pairs, with_front, with_run, begins_some, edges, residual, behind_all}
 use Rattle.zerotrie_base.specs.Stack.{stack_of}
 use Rattle.zerotrie_base.proofs.CallerLemmas.{residual-append, behind_all-nil, begins_some-append, begins_some-front, begins_behind, some_pair, member, member-edges, above, stack_behind}
-use Rattle.zerotrie_build.specs.konst.Growing.{SomeBegins, AreAmong}
+use Rattle.zerotrie_build.specs.array.Growing.{SomeBegins, AreAmong}
 use Rattle.zerotrie_build.proofs.Runs.{with_run-push, take_one_more, behind_all-run}
 
 pub with_run-append : (run : List ℕ) (xs ys : Pairs) → with_run run (xs ++ ys) ≡ with_run run xs ++ with_run run ys

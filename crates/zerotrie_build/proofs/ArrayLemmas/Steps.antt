@@ -9,11 +9,11 @@ use Rattle.zerotrie_base.specs.Maps.{Pairs}
 use Rattle.zerotrie_base.specs.Branches.{total, branch_front}
 use Rattle.zerotrie_base.specs.declared.error.ZeroTrieBuildError.{ZeroTrieBuildError}
 use Rattle.zerotrie_base.specs.declared.error.ZeroTrieBuildError.TheVariants.{CapacityExceeded, StackExceeded}
-use Rattle.zerotrie_build.specs.declared.konst.text.Sibling.{Sibling}
-use Rattle.zerotrie_build.specs.declared.konst.text.Text.{Text}
+use Rattle.zerotrie_build.specs.declared.array.text.Sibling.{Sibling}
+use Rattle.zerotrie_build.specs.declared.array.text.Text.{Text}
 use Rattle.zerotrie_build.specs.Order.{Before}
-use Rattle.zerotrie_build.specs.konst.Texts.{Counts, EndsIn, Has, Prepends, newest_first, bytes_of, lens_of}
-use Rattle.zerotrie_build.specs.konst.Growing.{NoneAt, AllAt, ReadyFor, IsClosedTo, IsReady, Joins, LevelTooWide, RefusedAt, RefusedFrom, RefusedBefore}
+use Rattle.zerotrie_build.specs.array.Texts.{Counts, EndsIn, Has, Prepends, newest_first, bytes_of, lens_of}
+use Rattle.zerotrie_build.specs.array.Growing.{NoneAt, AllAt, ReadyFor, IsClosedTo, IsReady, Joins, LevelTooWide, RefusedAt, RefusedFrom, RefusedBefore}
 use Rattle.zerotrie_build.proofs.OrderLemmas.Parting.{common}
 use Rattle.zerotrie_build.proofs.ArrayLemmas.Parting.{parted, at_most_front}
 use Rattle.zerotrie_build.proofs.ArrayLemmas.Runs.{among_right}

@@ -4,9 +4,9 @@ use Rattle.std.specs.List.{range_with_len}
 use Rattle.std.proofs.lemmas.List.{drop_more, take_more, get_or-reverse, get_or-map, length-reverse, length-map, reverse-append}
 use Rattle.std.proofs.lemmas.List.Sums.{sum_by-cons}
 use Rattle.zerotrie_base.specs.Branches.{total}
-use Rattle.zerotrie_build.specs.declared.konst.text.Sibling.{Sibling}
-use Rattle.zerotrie_build.specs.declared.konst.text.Text.{Text}
-use Rattle.zerotrie_build.specs.konst.Texts.{Counts, Has, Keeps, Prepends, newest_first, bytes_of, lens_of}
+use Rattle.zerotrie_build.specs.declared.array.text.Sibling.{Sibling}
+use Rattle.zerotrie_build.specs.declared.array.text.Text.{Text}
+use Rattle.zerotrie_build.specs.array.Texts.{Counts, Has, Keeps, Prepends, newest_first, bytes_of, lens_of}
 use Rattle.zerotrie_build.proofs.Nodes.{total_more}
 
 -- nothing but the count in front was changed

@@ -8,7 +8,7 @@ use Rattle.zerotrie_base.specs.Maps.{Pairs}
 use Rattle.zerotrie_base.specs.Canonical.{size_of}
 use Rattle.zerotrie_build.specs.Order.{Ordered, AreKeys}
 use Rattle.zerotrie_build.specs.declared.windows.Window.{Window}
-use Rattle.zerotrie_build.specs.declared.measuring.OpenBranch.{OpenBranch}
+use Rattle.zerotrie_build.specs.declared.measure.OpenBranch.{OpenBranch}
 use Rattle.zerotrie_build.specs.passes.Windows.{window}
 use Rattle.zerotrie_build.specs.passes.Measured.{TargetWindows, sizes_of, ends_from, AreSlotsOf, AreSlotsOfEach, whole_window}
 use Rattle.zerotrie_build.specs.passes.Measured.AreSlotsOfEach.{none as kept_none, more as kept_more}

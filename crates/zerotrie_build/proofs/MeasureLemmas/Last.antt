@@ -12,7 +12,7 @@ use Rattle.zerotrie_base.proofs.CallerLemmas.{rises_increasing, length-ordered}
 use Rattle.zerotrie_build.specs.Order.{AreKeys}
 use Rattle.zerotrie_build.specs.declared.windows.Window.{Window}
 use Rattle.zerotrie_build.specs.declared.windows.Step.TheVariants.{Branch}
-use Rattle.zerotrie_build.specs.declared.measuring.OpenBranch.{OpenBranch}
+use Rattle.zerotrie_build.specs.declared.measure.OpenBranch.{OpenBranch}
 use Rattle.zerotrie_build.specs.passes.Windows.{window, edge_of, step_of}
 use Rattle.zerotrie_build.specs.passes.Measured.{Passes, TargetWindows, sizes_of, ends_from, slots_of, HasFirstTargets, AreSlotsOfEach}
 use Rattle.zerotrie_build.specs.passes.Measured.AreSlotsOf.{kept}

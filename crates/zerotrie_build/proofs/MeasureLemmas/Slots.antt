@@ -12,7 +12,7 @@ use Rattle.zerotrie_base.proofs.CallerLemmas.{Rises, AllAbove, rises_increasing,
 use Rattle.zerotrie_build.specs.Order.{AreKeys}
 use Rattle.zerotrie_build.specs.declared.windows.Window.{Window}
 use Rattle.zerotrie_build.specs.declared.windows.Step.TheVariants.{End, Branch}
-use Rattle.zerotrie_build.specs.declared.measuring.OpenBranch.{OpenBranch}
+use Rattle.zerotrie_build.specs.declared.measure.OpenBranch.{OpenBranch}
 use Rattle.zerotrie_build.specs.passes.Windows.{window, step_of}
 use Rattle.zerotrie_build.specs.passes.Measured.{Passes, NoneFirst, ends_from, slots_of, HasFirstTargets, AreSlotsOf}
 use Rattle.zerotrie_build.specs.passes.Measured.AreSlotsOf.{kept}

@@ -4,7 +4,7 @@ use Rattle.std.proofs.lemmas.Bool.{cases_lt, cases_eq}
 use Rattle.zerotrie_base.specs.Kind.{simple_ascii}
 use Rattle.zerotrie_base.specs.Maps.{Pairs, Ascends}
 use Rattle.zerotrie_build.specs.Order.{Before, Ordered}
-use Rattle.zerotrie_build.proofs.Items.{Below, ascends_each, each_ordered}
+use Rattle.zerotrie_build.proofs.ItemLemmas.{Below, ascends_each, each_ordered}
 use Rattle.zerotrie_build.proofs.OrderLemmas.Sorting.{less_is, equal_is, greater_is}
 
 pub below_before : (k l : List ℕ) → Below k l → Before simple_ascii k l

@@ -10,7 +10,7 @@ use Rattle.zerotrie_base.specs.Maps.{Pairs, Ascends, IsCaseConsistent, common_fr
 use Rattle.zerotrie_base.proofs.CallerLemmas.{compare_first}
 use Rattle.zerotrie_build.specs.Refused.{key_at, DifferInCase}
 use Rattle.zerotrie_build.specs.passes.OtherCase.{BeginsThen, HasOtherCase, NoneHasOtherCase}
-use Rattle.zerotrie_build.proofs.Items.{Below}
+use Rattle.zerotrie_build.proofs.ItemLemmas.{Below}
 use Rattle.zerotrie_build.proofs.OrderLemmas.Below.{below_before, before_below}
 use Rattle.zerotrie_build.proofs.OrderLemmas.Parting.{common}
 use Rattle.zerotrie_build.proofs.OrderLemmas.Sorting.{before_trans}

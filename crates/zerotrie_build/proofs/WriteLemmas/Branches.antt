@@ -18,13 +18,13 @@ use Rattle.zerotrie_base.specs.declared.error.ZeroTrieBuildError.TheVariants.{Co
 use Rattle.zerotrie_base.proofs.CallerLemmas.{table_distinct, length-table, front_len, length-branch_front, total-lengths, greatest_width_most, same-entries, same-behind, same-edges}
 use Rattle.zerotrie_build.specs.Order.{Ordered}
 use Rattle.zerotrie_build.specs.declared.windows.Window.{Window}
-use Rattle.zerotrie_build.specs.declared.branch_layout.Position.{Position}
-use Rattle.zerotrie_build.specs.declared.branch_layout.Next.{Next}
-use Rattle.zerotrie_build.specs.declared.branch_layout.Next.TheVariants.{Go}
+use Rattle.zerotrie_build.specs.declared.branch.Position.{Position}
+use Rattle.zerotrie_build.specs.declared.branch.Next.{Next}
+use Rattle.zerotrie_build.specs.declared.branch.Next.TheVariants.{Go}
 use Rattle.zerotrie_build.specs.declared.windows.Step.TheVariants.{End, Branch}
 use Rattle.zerotrie_build.specs.passes.Windows.{window, edge_of, step_of}
 use Rattle.zerotrie_build.specs.passes.Measured.{NoneFirst, HasFirstTargets, TargetWindows, sizes_of}
-use Rattle.zerotrie_build.specs.declared.writing.Writing.{Writing}
+use Rattle.zerotrie_build.specs.declared.write.Writing.{Writing}
 use Rattle.zerotrie_build.specs.passes.Writes.{HasRoom, Writes, NodesWritten}
 use Rattle.zerotrie_build.specs.passes.Writing.{no_window, window_at, edge_no, target_lens, position_at, text_of, placed_next, next_of, Listed, Texts, IsLayout, HasSlots, IsPending}
 use Rattle.zerotrie_build.proofs.OrderLemmas.Sorting.{ordered_distinct}

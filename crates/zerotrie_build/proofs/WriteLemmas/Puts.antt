@@ -8,7 +8,7 @@ use Rattle.std.specs.List.{range_with_len}
 use Rattle.zerotrie_base.specs.Numbers.{Form, Spells, extender, spelled_as, branch_form}
 use Rattle.zerotrie_base.specs.Branches.{IsWidth, blocks, total, ends, branch_front}
 use Rattle.zerotrie_base.proofs.CallerLemmas.{below_metadata, spelling_is, Completes, length-blocks, width_is}
-use Rattle.zerotrie_build.specs.declared.writing.Writing.{Writing}
+use Rattle.zerotrie_build.specs.declared.write.Writing.{Writing}
 use Rattle.zerotrie_build.specs.passes.Writes.{Writes}
 use Rattle.zerotrie_base.specs.plain.Encoding.{with_bits}
 use Rattle.zerotrie_build.specs.passes.Writing.{target_lens}

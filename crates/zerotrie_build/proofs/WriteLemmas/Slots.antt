@@ -8,9 +8,9 @@ use Rattle.zerotrie_base.specs.Kind.{Kind, fold_byte, is_hashed}
 use Rattle.zerotrie_base.specs.Maps.{Pairs}
 use Rattle.zerotrie_base.specs.Canonical.{size_of}
 use Rattle.zerotrie_build.specs.declared.windows.Window.{Window}
-use Rattle.zerotrie_build.specs.declared.branch_layout.Position.{Position}
-use Rattle.zerotrie_build.specs.declared.branch_layout.Next.{Next}
-use Rattle.zerotrie_build.specs.declared.branch_layout.Next.TheVariants.{Go}
+use Rattle.zerotrie_build.specs.declared.branch.Position.{Position}
+use Rattle.zerotrie_build.specs.declared.branch.Next.{Next}
+use Rattle.zerotrie_build.specs.declared.branch.Next.TheVariants.{Go}
 use Rattle.zerotrie_build.specs.passes.Windows.{window, edge_of, IsGroup}
 use Rattle.zerotrie_build.specs.passes.Measured.{Passes, TargetWindows, HasFirstTargets, AreSlotsOf, AreSlotsOfEach, sizes_of, slots_of, ends_from}
 use Rattle.zerotrie_build.specs.passes.Measured.Passes.{here, value, literal, span}

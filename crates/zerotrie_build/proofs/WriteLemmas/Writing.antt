@@ -10,13 +10,13 @@ use Rattle.zerotrie_base.specs.Canonical.{size_of}
 use Rattle.zerotrie_base.specs.Texts.{Means}
 use Rattle.zerotrie_base.proofs.CallerLemmas.{same-map}
 use Rattle.zerotrie_build.specs.declared.windows.Window.{Window}
-use Rattle.zerotrie_build.specs.declared.branch_layout.Position.{Position}
-use Rattle.zerotrie_build.specs.declared.branch_layout.PendingWindow.{PendingWindow}
-use Rattle.zerotrie_build.specs.declared.branch_layout.Next.{Next}
-use Rattle.zerotrie_build.specs.declared.branch_layout.Next.TheVariants.{Go, Text}
+use Rattle.zerotrie_build.specs.declared.branch.Position.{Position}
+use Rattle.zerotrie_build.specs.declared.branch.PendingWindow.{PendingWindow}
+use Rattle.zerotrie_build.specs.declared.branch.Next.{Next}
+use Rattle.zerotrie_build.specs.declared.branch.Next.TheVariants.{Go, Text}
 use Rattle.zerotrie_build.specs.passes.Windows.{window}
 use Rattle.zerotrie_build.specs.passes.Measured.{IsMeasured, sizes_of, whole_window}
-use Rattle.zerotrie_build.specs.declared.writing.Writing.{Writing}
+use Rattle.zerotrie_build.specs.declared.write.Writing.{Writing}
 use Rattle.zerotrie_build.specs.passes.Writes.{HasRoom, NodesWritten, WrittenTo}
 use Rattle.zerotrie_build.specs.passes.Writing.{Listed, Texts, position_at, text_of, HasSlotsTo, IsPending}
 use Rattle.zerotrie_build.specs.passes.Writing.IsPending.{done, go as to_go, text as to_text}

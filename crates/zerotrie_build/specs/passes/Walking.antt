@@ -7,9 +7,9 @@ use Rattle.zerotrie_base.specs.Canonical.{size_of}
 use Rattle.zerotrie_build.specs.Order.{Ordered}
 use Rattle.zerotrie_build.specs.declared.windows.Window.{Window}
 use Rattle.zerotrie_build.specs.declared.windows.Step.TheVariants.{Branch}
-use Rattle.zerotrie_build.specs.declared.measuring.OpenBranch.{OpenBranch}
-use Rattle.zerotrie_build.specs.declared.measuring.Turn.{Turn}
-use Rattle.zerotrie_build.specs.declared.measuring.Turn.TheVariants.{Window as NextWindow, Whole}
+use Rattle.zerotrie_build.specs.declared.measure.OpenBranch.{OpenBranch}
+use Rattle.zerotrie_build.specs.declared.measure.Turn.{Turn}
+use Rattle.zerotrie_build.specs.declared.measure.Turn.TheVariants.{Window as NextWindow, Whole}
 use Rattle.zerotrie_build.specs.passes.Windows.{window, step_of}
 use Rattle.zerotrie_build.specs.passes.Measured.{Passes, TargetWindows, sizes_of, ends_from, AreSlotsOf, AreSlotsOfEach, whole_window}
 

@@ -6,8 +6,8 @@ use Rattle.zerotrie_base.specs.Maps.{Pairs}
 use Rattle.zerotrie_base.specs.Branches.{total}
 use Rattle.zerotrie_base.specs.Canonical.{size_of}
 use Rattle.zerotrie_build.specs.declared.windows.Window.{Window}
-use Rattle.zerotrie_build.specs.declared.branch_layout.Next.{Next}
-use Rattle.zerotrie_build.specs.declared.writing.Writing.{Writing}
+use Rattle.zerotrie_build.specs.declared.branch.Next.{Next}
+use Rattle.zerotrie_build.specs.declared.write.Writing.{Writing}
 use Rattle.zerotrie_build.specs.passes.Windows.{window}
 use Rattle.zerotrie_build.specs.passes.Measured.{Passes, NoneFirst, sizes_of}
 use Rattle.zerotrie_build.specs.passes.Writing.{Listed, Texts, position_at, HasSlotsTo, IsPending}

@@ -9,9 +9,9 @@ use Rattle.zerotrie_base.specs.Maps.{Pairs, value_at}
 use Rattle.zerotrie_base.specs.Branches.{IsTable}
 use Rattle.zerotrie_base.specs.Texts.{Lists}
 use Rattle.zerotrie_build.specs.declared.windows.Window.{Window}
-use Rattle.zerotrie_build.specs.declared.branch_layout.Position.{Position}
-use Rattle.zerotrie_build.specs.declared.branch_layout.Next.{Next}
-use Rattle.zerotrie_build.specs.declared.branch_layout.Next.TheVariants.{Go, Text}
+use Rattle.zerotrie_build.specs.declared.branch.Position.{Position}
+use Rattle.zerotrie_build.specs.declared.branch.Next.{Next}
+use Rattle.zerotrie_build.specs.declared.branch.Next.TheVariants.{Go, Text}
 use Rattle.zerotrie_build.specs.passes.Windows.{window, edge_of}
 use Rattle.zerotrie_build.specs.passes.Measured.{TargetWindows, AreSlotsOf, slots_of}
 

@@ -3,7 +3,7 @@ use Rattle.zerotrie_base.specs.Items.{pairs_of}
 use Rattle.zerotrie_base.specs.Routes.{IsBuild, any_order}
 use Rattle.zerotrie_build.specs.Order.{Ordered, AreKeys, AreAsciiKeys}
 use Rattle.zerotrie_build.proofs.Building.{some_foreign}
-use Rattle.zerotrie_build.proofs.Items.{limit_high, limit_low}
+use Rattle.zerotrie_build.proofs.ItemLemmas.{limit_high, limit_low}
 use Rattle.zerotrie_build.proofs.OrderLemmas.Sorting.{ascends_ordered}
 use Rattle.zerotrie_build.proofs.TextLemmas.{keys_limit}
 use Rattle.zerotrie_build.proofs.builder.build_marked.Goals as goal

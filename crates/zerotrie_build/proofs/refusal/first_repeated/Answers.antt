@@ -2,7 +2,7 @@ use Rattle.std.proofs.Common.{◌≡◌, ◌+◌, ◌-◌, ◌∙◌, arith, ap,
 use Rattle.std.specs.Prelude.{◌≢◌}
 use Rattle.std.proofs.lemmas.Slice.Eq.{bytes_eq-Decides}
 use Rattle.zerotrie_base.specs.Items.{pairs_of}
-use Rattle.zerotrie_build.proofs.Items.{count_pairs}
+use Rattle.zerotrie_build.proofs.ItemLemmas.{count_pairs}
 use Rattle.zerotrie_build.proofs.RefusalLemmas.Shown.{turn_more, apart_each}
 use Rattle.zerotrie_build.proofs.refusal.first_repeated.Goals as goal
 

@@ -8,7 +8,7 @@ use Rattle.zerotrie_base.specs.Routes.{any_order}
 use Rattle.zerotrie_base.specs.declared.error.ZeroTrieBuildError.TheVariants.{Unsorted, DuplicateKey, MixedCase}
 use Rattle.zerotrie_build.specs.passes.Sorts.{numbers_of}
 use Rattle.zerotrie_build.specs.Refused.{IsWhyRefused}
-use Rattle.zerotrie_build.proofs.Items.{count_pairs}
+use Rattle.zerotrie_build.proofs.ItemLemmas.{count_pairs}
 use Rattle.zerotrie_build.proofs.RefusalLemmas.Shown.{count_keyed, why_shown}
 use Rattle.zerotrie_build.proofs.OrderLemmas.Numbered.{repeated_shown, mixed_shown, differ_sorted, faultless_sorted}
 use Rattle.zerotrie_build.proofs.refusal.why_sorted_refused.Goals as goal

@@ -1,6 +1,0 @@
-use Rattle.std.proofs.Common.{◌≤◌, drop, length}
-use Rattle.zerotrie_build.specs.konst.Texts.{Prepends}
-use Rattle.zerotrie_build.proofs.konst.text.Text.put_all.Given as goal
-
-abbrev pub invariant-loop-index : goal.invariant-loop-index
-invariant-loop-index l = Prepends l.initial.self l.self (drop l.index l.bytes) × (l.index ≤ length l.bytes)

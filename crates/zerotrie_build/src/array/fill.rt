@@ -1,0 +1,94 @@
+//! Texts that are written from their end into a buffer, or into memory of their own.
+
+ghost use Rattle.std.specs.Prelude.{◌≡◌, ℕ, ◌+◌, ◌<◌, ◌≤◌, ◌^◌, length, take, drop, IfOk, IfErr};
+ghost use Rattle.zerotrie_base.specs.ArrayRoutes.{IsBuildWithin, IsBuildCopied, IsRefusalWithin};
+ghost use Rattle.zerotrie_build.specs.Items.{pairs};
+ghost use Rattle.zerotrie_build.specs.array.Growing.{IsWritten};
+
+use crate::array::walk::build_text;
+use crate::items::ByteSliceWithIndices;
+use std::alloc::Global;
+use zerotrie_base::{ZeroTrieBuildError, laws};
+
+/// Writes the text of the trie of the items, whose keys ascend strictly by their bytes, at the end
+/// of a buffer, with a stack of `K`, and answers where it begins. The bytes from there on are the
+/// one text of the map of the items, and those before stay. If it is refused, any of the buffer's
+/// bytes may have changed. It takes no memory.
+///
+/// ```
+/// let items = [("ad", 22), ("adef", 33)];
+/// let mut buffer = [0; 10];
+/// let start = fill_from_end::<0>(&mut buffer, ByteSliceWithIndices::from_str_slice(&items))?;
+/// assert_eq!(rt; &buffer[start..], b"ad\x90\x06ef\x90\x11".as_slice());
+/// ```
+///
+/// The text is written from its end, with the targets of a branch from the last to the first, so
+/// each target waits for those before it. As many of them as wait at once the stack has to hold.
+/// `K` has to be below 2^58, as a stack that fits a machine is.
+///
+/// A build is refused with `Unsorted`, `NonAsciiError`, `CapacityExceeded`, `BufferTooSmall` or
+/// `StackExceeded`, each for the reason that `ZeroTrieBuildError` gives, and never if there is
+/// none.
+pub fn fill_from_end<const K: usize>(
+    buffer: &mut [u8],
+    items: ByteSliceWithIndices<'_>,
+) -> Result<usize, ZeroTrieBuildError>
+    requires { K < 2 ^ 58 }
+    ensures build { IsBuildWithin (length buffer.old) K (λ start. drop start buffer.new)
+        (pairs items.entry) result }
+    ensures within { IfOk result (λ start. start ≤ length buffer.old) }
+    ensures before { IfOk result (λ start. take start buffer.new ≡ take start buffer.old) }
+{
+    laws::canonical_exactly();
+    laws::meant_fits();
+    let len = write::<K>(buffer, items)?;
+    if len > buffer.len() {
+        return Err(ZeroTrieBuildError::BufferTooSmall);
+    }
+    Ok(buffer.len() - len)
+}
+
+/// Builds the trie of the items as `fill_from_end`, in memory of its own, and answers its bytes, of
+/// which there may be `most`.
+///
+/// They are counted first, and then it takes memory for as many. A build is refused as one in a
+/// buffer of `most` bytes is, or with `OutOfMemory`.
+pub fn bytes_within<const K: usize>(
+    alloc: Global,
+    most: usize,
+    items: ByteSliceWithIndices<'_>,
+) -> Result<Vec<u8>, ZeroTrieBuildError>
+    requires { K < 2 ^ 58 }
+    ensures { IsBuildCopied most K (λ bytes. bytes.items) (pairs items.entry) result }
+{
+    laws::canonical_exactly();
+    laws::meant_fits();
+    let len = write::<K>(&mut [], items)?;
+    if len > most {
+        return Err(ZeroTrieBuildError::BufferTooSmall);
+    }
+    let mut bytes = vec![in alloc; 0; len]?;
+    write::<K>(bytes.as_mut_slice(), items)?;
+    Ok(bytes)
+}
+
+/// Writes the text of the trie of the items at the end of the buffer, if it has room for it, and
+/// answers how many bytes the text has, or the greatest number if it has more.
+fn write<const K: usize>(
+    buffer: &mut [u8],
+    items: ByteSliceWithIndices<'_>,
+) -> Result<usize, ZeroTrieBuildError>
+    requires { K < 2 ^ 58 }
+    ensures written { IfOk result (λ len. IsWritten K (pairs items.entry) buffer.new len) }
+    ensures before { IfOk result (λ len. (n : ℕ) → n + len ≤ length buffer.old
+        → take n buffer.new ≡ take n buffer.old) }
+    ensures refused { IfErr result (λ e. (n : ℕ) → IsRefusalWithin n K (pairs items.entry) e) }
+{
+    if !items.is_sorted() {
+        return Err(ZeroTrieBuildError::Unsorted);
+    }
+    if !items.is_all_ascii() {
+        return Err(ZeroTrieBuildError::NonAsciiError);
+    }
+    build_text::<K>(buffer, items)
+}
