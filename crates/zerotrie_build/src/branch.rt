@@ -75,37 +75,19 @@ pub(crate) struct Layout<A: Allocator> {
     pub(crate) table: Vec<u8, A>,
     /// The numbers of the targets among the windows, in the order of the table.
     pub(crate) numbers: Vec<usize, A>,
-    /// What is still to be written, what comes next last.
-    pub(crate) pending: Vec<Next, A>,
 }
 
 impl<A: Allocator + Copy> Layout<A> {
-    /// No branch. The window of all items is to be written, of which there are so many.
-    pub(crate) fn new(alloc: Global, spare: A, items: usize) -> Result<Self, AllocError>
-        ensures { IfOk result (λ layout. layout.pending.items
-            ≡ Next.Text (record { to = items; depth = 0 }) ∷ []) }
-    {
-        let mut pending = Vec::new(spare);
-        pending.push(text_of(Window::new(0, items, 0)))?;
-        Ok(Layout {
+    /// Returns the layout of no branch.
+    pub(crate) fn new(alloc: Global, spare: A) -> Self {
+        Layout {
             alloc,
             cache: PerfectByteHashMapCacheOwned::new_empty(alloc),
             last: LastTable::new(spare),
             windows: Vec::new(spare),
             table: Vec::new(spare),
             numbers: Vec::new(spare),
-            pending,
-        })
-    }
-
-    /// No branch, as at first.
-    fn clear(&mut self)
-        ensures windows { self.new.windows.items ≡ [] }
-        ensures table { self.new.table.items ≡ [] }
-        ensures pending { self.new.pending.items ≡ self.old.pending.items }
-    {
-        self.windows.clear();
-        self.table.clear();
+        }
     }
 
     /// Arranges the targets of the branch at the beginning of the window in the order of their
@@ -122,9 +104,9 @@ impl<A: Allocator + Copy> Layout<A> {
         ensures parts { OnOk result (TargetWindows (I.pairs items) window self.new.windows.items) }
         ensures table { OnOk result (self.new.table.items
             ≡ map (edge_of (I.pairs items)) self.new.windows.items) }
-        ensures pending { self.new.pending.items ≡ self.old.pending.items }
     {
-        self.clear();
+        self.windows.clear();
+        self.table.clear();
         let mut rest = window;
         let mut byte = byte_in(items, window, window.from);
         while rest.from < rest.to {
@@ -144,7 +126,6 @@ impl<A: Allocator + Copy> Layout<A> {
         ensures ok { OnOk result (IsHashedLayout self.old.table.items self.new.table.items
             self.new.numbers.items) }
         ensures windows { self.new.windows.items ≡ self.old.windows.items }
-        ensures pending { self.new.pending.items ≡ self.old.pending.items }
     {
         self.table.clear();
         self.numbers.clear();
@@ -160,7 +141,6 @@ impl<A: Allocator + Copy> Layout<A> {
             self.new.numbers.items) }
         ensures refused { IfErr result (IsTableRefusal self.old.table.items) }
         ensures windows { self.new.windows.items ≡ self.old.windows.items }
-        ensures pending { self.new.pending.items ≡ self.old.pending.items }
     {
         let keys = Vec::from_slice(self.alloc, self.table.as_slice())?;
         let table = self.cache.try_get_or_insert(keys)?;
@@ -180,7 +160,6 @@ impl<A: Allocator + Copy> Layout<A> {
             self.new.numbers.items) }
         ensures refused { IfErr result (IsTableRefusal self.old.table.items) }
         ensures windows { self.new.windows.items ≡ self.old.windows.items }
-        ensures pending { self.new.pending.items ≡ self.old.pending.items }
     {
         if self.last.is_of(self.table.as_slice()) {
             self.set_last()?;
@@ -195,7 +174,6 @@ impl<A: Allocator + Copy> Layout<A> {
             ≡ range_with_len 0 (length self.old.windows.items)) }
         ensures windows { self.new.windows.items ≡ self.old.windows.items }
         ensures table { self.new.table.items ≡ self.old.table.items }
-        ensures pending { self.new.pending.items ≡ self.old.pending.items }
     {
         self.numbers.clear();
         for number in 0..self.windows.len() {
@@ -205,40 +183,40 @@ impl<A: Allocator + Copy> Layout<A> {
     }
 
     /// Adds the windows to the list of pending writes, the first on top. Its slots begin at `slot`.
-    fn push_sorted(&mut self, slot: usize) -> Result<(), AllocError>
-        requires { 0 < length self.old.windows.items }
-        ensures pushed { OnOk result (reverse self.new.pending.items
-            ≡ (Next.Go (position_at (window_at self.old.windows.items 0).from slot)
-            ∷ map text_of self.old.windows.items)
-            ++ reverse self.old.pending.items) }
-        ensures windows { self.new.windows.items ≡ self.old.windows.items }
-        ensures table { self.new.table.items ≡ self.old.table.items }
-        ensures numbers { self.new.numbers.items ≡ self.old.numbers.items }
+    fn push_sorted(&self, slot: usize, pending: &mut Vec<Next, A>) -> Result<(), AllocError>
+        requires { 0 < length self.now.windows.items }
+        ensures pushed { OnOk result (reverse pending.new.items
+            ≡ (Next.Go (position_at (window_at self.now.windows.items 0).from slot)
+            ∷ map text_of self.now.windows.items)
+            ++ reverse pending.old.items) }
     {
         for index in (0..self.windows.len()).rev() {
-            self.pending.push(text_of(self.windows[index]))?;
+            pending.push(text_of(self.windows[index]))?;
         }
-        self.pending.push(go(self.windows[0].from, slot))?;
+        pending.push(go(self.windows[0].from, slot))?;
         Ok(())
     }
 
     /// Adds the window of this number and its place to the list of pending writes, the place on
     /// top. `ends` and `slot` are those of `push_hashed`.
-    fn push_placed(&mut self, number: usize, ends: &[usize], slot: usize) -> Result<(), AllocError>
-        requires window { number < length self.old.windows.items }
-        requires each { length ends.now ≡ length self.old.windows.items }
+    fn push_placed(
+        &self,
+        number: usize,
+        ends: &[usize],
+        slot: usize,
+        pending: &mut Vec<Next, A>,
+    ) -> Result<(), AllocError>
+        requires window { number < length self.now.windows.items }
+        requires each { length ends.now ≡ length self.now.windows.items }
         requires room { All (λ e. slot + e < 2 ^ 64) ends.now }
-        ensures pushed { OnOk result (reverse self.new.pending.items
-            ≡ placed_next ends.now slot self.old.windows.items (number ∷ [])
-            ++ reverse self.old.pending.items) }
-        ensures windows { self.new.windows.items ≡ self.old.windows.items }
-        ensures table { self.new.table.items ≡ self.old.table.items }
-        ensures numbers { self.new.numbers.items ≡ self.old.numbers.items }
+        ensures pushed { OnOk result (reverse pending.new.items
+            ≡ placed_next ends.now slot self.now.windows.items (number ∷ [])
+            ++ reverse pending.old.items) }
     {
         let before = if number == 0 { 0 } else { ends[number - 1] };
         let window = self.windows[number];
-        self.pending.push(text_of(window))?;
-        self.pending.push(go(window.from, slot + before))?;
+        pending.push(text_of(window))?;
+        pending.push(go(window.from, slot + before))?;
         Ok(())
     }
 
@@ -246,30 +224,31 @@ impl<A: Allocator + Copy> Layout<A> {
     /// place after the last. They are in the order of the table, the first on top. The slots of the
     /// first edge's window begin at `slot`, and `ends` has for each window the number of slots up
     /// to its end.
-    fn push_hashed(&mut self, ends: &[usize], slot: usize) -> Result<(), AllocError>
+    fn push_hashed(
+        &self,
+        ends: &[usize],
+        slot: usize,
+        pending: &mut Vec<Next, A>,
+    ) -> Result<(), AllocError>
         requires some { 0 < length ends.now }
-        requires each { length ends.now ≡ length self.old.windows.items }
+        requires each { length ends.now ≡ length self.now.windows.items }
         requires room { All (λ e. slot + e < 2 ^ 64) ends.now }
-        requires within { All (λ i. i < length self.old.windows.items) self.old.numbers.items }
-        ensures pushed { OnOk result (reverse self.new.pending.items
-            ≡ (placed_next ends.now slot self.old.windows.items self.old.numbers.items
+        requires within { All (λ i. i < length self.now.windows.items) self.now.numbers.items }
+        ensures pushed { OnOk result (reverse pending.new.items
+            ≡ (placed_next ends.now slot self.now.windows.items self.now.numbers.items
             ++ Next.Go (position_at
-            (window_at self.old.windows.items (length self.old.windows.items - 1)).to
+            (window_at self.now.windows.items (length self.now.windows.items - 1)).to
             (slot + slice_index_or ends.now (length ends.now - 1) 0)) ∷ [])
-            ++ reverse self.old.pending.items) }
-        ensures windows { self.new.windows.items ≡ self.old.windows.items }
-        ensures table { self.new.table.items ≡ self.old.table.items }
-        ensures numbers { self.new.numbers.items ≡ self.old.numbers.items }
+            ++ reverse pending.old.items) }
     {
         let count = self.numbers.len();
         // So there is room too for the targets of a sorted table below the first of them.
-        self.pending
-            .reserve(count.saturating_mul(2).saturating_add(HASHED_FROM - 1))?;
+        pending.reserve(count.saturating_mul(2).saturating_add(HASHED_FROM - 1))?;
         let last = self.windows[self.windows.len() - 1];
-        self.pending.push(go(last.to, slot + ends[ends.len() - 1]))?;
+        pending.push(go(last.to, slot + ends[ends.len() - 1]))?;
         for index in (0..count).rev() {
             let number = self.numbers[index];
-            self.push_placed(number, ends, slot)?;
+            self.push_placed(number, ends, slot, pending)?;
         }
         Ok(())
     }
@@ -282,6 +261,7 @@ impl<A: Allocator + Copy> Layout<A> {
         input: WriteInput<'_>,
         window: Window,
         slot: usize,
+        pending: &mut Vec<Next, A>,
     ) -> Result<(), ZeroTrieBuildError>
         requires order { window.from ≤ window.to }
         requires items { window.to ≤ length (I.pairs items) }
@@ -291,10 +271,10 @@ impl<A: Allocator + Copy> Layout<A> {
         ensures parts { OnOk result (TargetWindows (I.pairs items) window self.new.windows.items) }
         ensures laid { OnOk result (IsLayout K.kind (edge_no (I.pairs items) self.new.windows.items)
             (length self.new.windows.items) self.new.table.items self.new.numbers.items) }
-        ensures pending { OnOk result (reverse self.new.pending.items
+        ensures pending { OnOk result (reverse pending.new.items
             ≡ next_of K.kind input.entry.slots.now slot self.new.windows.items
             self.new.numbers.items
-            ++ reverse self.old.pending.items) }
+            ++ reverse pending.old.items) }
         ensures refused { IfErr result (λ e. e ≢ ZeroTrieBuildError.OutOfMemory
             → (e ≡ ZeroTrieBuildError.CouldNotSolvePerfectHash)
             × ((cs : List Window) → TargetWindows (I.pairs items) window cs
@@ -308,13 +288,26 @@ impl<A: Allocator + Copy> Layout<A> {
         if is_hashed::<K>(edges) {
             self.set_hashed()?;
             let end = slot + 2 * edges;
-            self.push_hashed(&slots[slot + edges..end], end)?;
+            self.push_hashed(&slots[slot + edges..end], end, pending)?;
         } else {
             self.number_in_order()?;
-            self.push_sorted(slot + edges)?;
+            self.push_sorted(slot + edges, pending)?;
         }
         Ok(())
     }
+}
+
+/// Returns what is to be written at first: the window of all items.
+pub(crate) fn all_pending<A: Allocator + Copy>(
+    spare: A,
+    items: usize,
+) -> Result<Vec<Next, A>, AllocError>
+    ensures { IfOk result (λ pending. pending.items
+        ≡ Next.Text (record { to = items; depth = 0 }) ∷ []) }
+{
+    let mut pending = Vec::new(spare);
+    pending.push(text_of(Window::new(0, items, 0)))?;
+    Ok(pending)
 }
 
 /// Sets the numbers to those of the placed edges.

@@ -10,7 +10,7 @@ ghost use Rattle.zerotrie_base.specs.Routes.{ascending, any_order, IsRefusal, Is
 ghost use Rattle.zerotrie_build.specs.Items.{pairs};
 ghost use Rattle.zerotrie_build.specs.Order.{Ordered, AreKeys, AreAsciiKeys, AreValues};
 
-use crate::branch::{Layout, WriteInput};
+use crate::branch::{Layout, WriteInput, all_pending};
 use crate::items::{ByteSliceWithIndices, IndexedItems, TextItems};
 use crate::measure::measure_all;
 use crate::order::{are_ascii, are_in_order, are_keys, is_ordered};
@@ -66,8 +66,10 @@ fn build_ordered<
     laws::meant_fits();
     let measured = measure_all::<K, I, A>(spare, items, ascii)?;
     let mut writing = Writing::new(alloc, measured.len)?;
-    let mut layout = Layout::new(alloc, spare, items.len())?;
-    writing.put_pending::<K, I, A>(items, WriteInput::new(&measured, ascii), &mut layout)?;
+    let mut layout = Layout::new(alloc, spare);
+    let pending = all_pending(spare, items.len())?;
+    let input = WriteInput::new(&measured, ascii);
+    writing.put_pending::<K, I, A>(items, input, &mut layout, pending)?;
     let mut store = S::atbs_new_empty(alloc);
     store.atbs_fill(writing.into_bytes())?;
     Ok(store)

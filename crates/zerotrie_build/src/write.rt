@@ -271,6 +271,7 @@ impl Writing {
         window: Window,
         slot: usize,
         layout: &mut Layout<A>,
+        pending: &mut Vec<Next, A>,
     ) -> Result<(), ZeroTrieBuildError>
         requires keys { AreKeys K.kind (I.pairs items) }
         requires ascii { IsTrue input.ascii → AreAsciiKeys (I.pairs items) }
@@ -278,8 +279,8 @@ impl Writing {
         requires kept { (end : ℕ)
             × HasSlotsTo K.kind (I.pairs items) input.slots.now slot end window }
         requires room { HasRoom self.old (size_of K.kind (window_of (I.pairs items) window)) }
-        ensures put { OnOk result ((next : List Next) × (reverse layout.new.pending.items
-            ≡ next ++ reverse layout.old.pending.items)
+        ensures put { OnOk result ((next : List Next) × (reverse pending.new.items
+            ≡ next ++ reverse pending.old.items)
             × NodesWritten K.kind (I.pairs items) input.entry.slots.now slot window next
             self.old self.new) }
         ensures refused { IfErr result (λ e. e ≢ ZeroTrieBuildError.OutOfMemory
@@ -294,7 +295,7 @@ impl Writing {
         let _len = input.slots.len();
         let rest = self.put_front::<K, I>(items, window);
         if rest.from < rest.to {
-            layout.set::<K, I>(items, input, rest, slot)?;
+            layout.set::<K, I>(items, input, rest, slot, pending)?;
             let numbers = layout.numbers.as_slice();
             let lens = &input.slots[slot..slot + numbers.len()];
             self.put_branch(layout.table.as_slice(), lens, numbers);
@@ -308,6 +309,7 @@ impl Writing {
         items: I,
         input: WriteInput<'_>,
         layout: &mut Layout<A>,
+        mut pending: Vec<Next, A>,
     ) -> Result<(), ZeroTrieBuildError>
         requires keys { AreKeys K.kind (I.pairs items) }
         requires ascii { IsTrue input.ascii → AreAsciiKeys (I.pairs items) }
@@ -315,20 +317,27 @@ impl Writing {
         requires pending { (ws : List Window)
             × WrittenTo K.kind (I.pairs items) self.old ws
             × IsPending K.kind (I.pairs items) input.slots.now (position_at 0 0)
-            (reverse layout.old.pending.items) ws }
+            (reverse pending.items) ws }
         ensures put { OnOk result (WrittenTo K.kind (I.pairs items)
             self.new []) }
         ensures refused { IfErr result (λ e. e ≢ ZeroTrieBuildError.OutOfMemory
             → (e ≡ ZeroTrieBuildError.CouldNotSolvePerfectHash) × Cause K.kind (I.pairs items) e) }
     {
         let mut position = Position { from: 0, slot: 0 };
-        while let Some(next) = layout.pending.pop() {
+        while let Some(next) = pending.pop() {
             match next {
                 Next::Go(there) => position = there,
                 Next::Text(PendingWindow { to, depth }) => {
                     let from = position.from;
                     let window = Window { from, to, depth };
-                    self.put_nodes::<K, I, A>(items, input, window, position.slot, layout)?;
+                    self.put_nodes::<K, I, A>(
+                        items,
+                        input,
+                        window,
+                        position.slot,
+                        layout,
+                        &mut pending,
+                    )?;
                     position.from = to;
                 }
             }

@@ -1,4 +1,4 @@
-//! The answers to an input.
+//! The output for an input.
 
 ghost use Rattle.std.specs.Prelude.{◌≡◌, ◌↔◌, ◌++◌, ◌∷◌, [], map, OnOk, OnErr, IfOk, IsSome, string_bytes};
 ghost use Rattle.zerotrie.specs.Routes.{any_order, IsBuild};
@@ -16,8 +16,8 @@ use crate::trie::Trie;
 use std::alloc::{AllocError, Global};
 use zerotrie::CursorOp;
 
-/// What is printed for an input, the status that the run ends with, and after a bad line its number and what is
-/// bad in it.
+/// The output for an input, the status that the run ends with, and for a bad line its number and
+/// why it is bad.
 #[derive(Debug, Drop)]
 pub struct Answered {
     pub output: String,
@@ -32,7 +32,8 @@ enum Outcome {
     Bad(BadLine),
 }
 
-/// What is held from the first `kind` line on. The pairs are those since the last, in order.
+/// The state from the first `kind` line on. The pairs are those since the last `kind` line, in
+/// order.
 #[derive(Drop)]
 struct Session<'a> {
     choice: Choice,
@@ -59,7 +60,7 @@ impl<'a> Session<'a> {
         Ok(())
     }
 
-    /// Builds the trie. If the build is refused, it is empty.
+    /// Builds the trie. If the build returns an error, the trie is empty.
     fn answer_build(&mut self, alloc: Global, output: &mut String) -> Result<Outcome, AllocError>
         ensures { IfOk result (AfterRequest build self.old self.new
             (string_bytes output.old) (string_bytes output.new)) }
@@ -117,7 +118,7 @@ impl<'a> Session<'a> {
     }
 }
 
-/// Answers a line that is not empty.
+/// Runs a line that is not empty.
 fn answer_line<'a>(
     alloc: Global,
     held: &mut Option<Session<'a>>,
@@ -147,7 +148,7 @@ fn split_lines(alloc: Global, input: &[u8]) -> Result<Vec<&[u8]>, AllocError>
     input.split(|b| *b == b'\n').collect(alloc)
 }
 
-/// All answers to an input, up to the first bad line.
+/// Returns the output for an input, up to the first bad line.
 pub fn answer_all(alloc: Global, input: &[u8]) -> Result<Answered, AllocError>
     ensures answers { IfOk result (λ answered.
         Answers input.now (string_bytes answered.output) answered.status) }

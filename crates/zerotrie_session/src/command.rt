@@ -1,4 +1,4 @@
-//! The commands that lines are.
+//! Lines parsed into commands, and why a line is bad.
 
 ghost use Rattle.std.specs.Prelude.{◌≡◌, ◌≢◌, ◌==◌, ◌≤◌, ◌+◌, ◌-◌, ◌*◌, ◌^◌, ◌++◌, ℕ, List, map, codes, IfSome, IfNone, IfOk, IfErr, OnErr, IsTrue, ◌↔◌};
 ghost use Rattle.std.specs.List.{before_first, position};
@@ -21,15 +21,15 @@ pub enum Choice {
     Simple,
     /// `ignore`: keys are ASCII and are looked up without the case of letters.
     Ignore,
-    /// `hash`: keys are of any bytes.
+    /// `hash`: keys have any bytes.
     Hash,
-    /// `ext`: keys are of any bytes, and a branch may have targets of any length.
+    /// `ext`: keys have any bytes, and a branch may have targets of any length.
     Ext,
-    /// `auto`: as `simple` if all keys are ASCII and there are fewer than 512, else as `hash`.
+    /// `auto`: like `simple` if all keys are ASCII and there are fewer than 512, else like `hash`.
     Auto,
 }
 
-/// What a line asks for.
+/// A command.
 #[derive(PartialEq, Eq, Debug, Drop)]
 pub enum Request<'a> {
     Kind(Choice),
@@ -40,7 +40,7 @@ pub enum Request<'a> {
     Walk(Vec<CursorOp>),
 }
 
-/// The number with one more digit after it. `None` if that is 2^64 or more.
+/// Returns the number with one more digit at its end, or `None` if that is 2^64 or more.
 fn with_digit(value: usize, digit: u8) -> Option<usize>
     requires { (48 ≤ digit) × (digit ≤ 57) }
     ensures some { IfSome result (λ more. more ≡ 10 * value + (digit - 48)) }
@@ -49,7 +49,7 @@ fn with_digit(value: usize, digit: u8) -> Option<usize>
     value.checked_mul(10)?.checked_add((digit - b'0') as usize)
 }
 
-/// The number that 1 to 20 decimal digits spell.
+/// Parses 1 to 20 decimal digits.
 fn parse_number(digits: &[u8]) -> Result<usize, BadLine>
     ensures ok { IfOk result (IsNumber digits.now) }
     ensures err { IfErr result (IsNoNumber digits.now) }
@@ -79,7 +79,7 @@ fn first_space(text: &[u8]) -> Option<usize>
     text.iter().position(|b| *b == b' ')
 }
 
-/// What stands before the first space, and what stands after it.
+/// Returns the bytes before the first space, and those after it.
 fn split_word(text: &[u8]) -> (&[u8], &[u8])
     ensures word { result.0.now ≡ before_first (λ b. b == 32) text.now }
     ensures key { HasKey result.0.now result.1.now text.now }
@@ -90,7 +90,7 @@ fn split_word(text: &[u8]) -> (&[u8], &[u8])
     }
 }
 
-/// The key after the words, which is empty if they stand alone.
+/// Returns the key after the words, which is empty if nothing follows them.
 fn key_behind<'a>(words: &[u8], line: &'a [u8]) -> Option<&'a [u8]>
     ensures some { IfSome result (λ key. HasKey words.now key.now line.now) }
     ensures none { IfNone result ((key : List ℕ) → HasKey words.now key line.now → ⊥) }
@@ -102,7 +102,7 @@ fn key_behind<'a>(words: &[u8], line: &'a [u8]) -> Option<&'a [u8]>
     }
 }
 
-/// The number of a hexadecimal digit, in either case.
+/// Returns the number of a hexadecimal digit, in either case.
 fn parse_digit(digit: u8) -> Option<u8>
     ensures some { IfSome result (IsHexDigit digit) }
     ensures none { IfNone result ((n : ℕ) → IsHexDigit digit n → ⊥) }
@@ -115,7 +115,7 @@ fn parse_digit(digit: u8) -> Option<u8>
     }
 }
 
-/// The byte that two hexadecimal digits spell.
+/// Parses two hexadecimal digits.
 fn parse_byte(digits: &[u8]) -> Option<u8>
     ensures some { IfSome result (IsHexByte digits.now) }
     ensures none { IfNone result ((b : ℕ) → IsHexByte digits.now b → ⊥) }
@@ -128,7 +128,7 @@ fn parse_byte(digits: &[u8]) -> Option<u8>
     Some(16 * high + low)
 }
 
-/// The call of a cursor that a word is.
+/// Parses a word as a call of a cursor.
 fn parse_op(word: &[u8]) -> Option<CursorOp>
     ensures some { IfSome result (λ op. IsOp word.now (op_of op)) }
     ensures none { IfNone result ((op : Op) → IsOp word.now op → ⊥) }
@@ -154,7 +154,7 @@ fn split_words(alloc: Global, text: &[u8]) -> Result<Vec<&[u8]>, AllocError>
     text.split(|b| *b == b' ').collect(alloc)
 }
 
-/// The calls that the words of a text are; `None` if one of them is none.
+/// Parses the words of a text as calls of a cursor. Returns `None` if one of them is none.
 fn parse_ops(alloc: Global, text: &[u8]) -> Result<Option<Vec<CursorOp>>, AllocError>
     ensures some { IfOk result (λ r.
         IfSome r (λ ops. AreOps (words_of text.now) (ops_of ops.items))) }
@@ -172,7 +172,7 @@ fn parse_ops(alloc: Global, text: &[u8]) -> Result<Option<Vec<CursorOp>>, AllocE
     Ok(Some(ops))
 }
 
-/// The choice of this name.
+/// Returns the kind with this name.
 fn choice_named(name: &[u8]) -> Option<Choice>
     ensures some { IfSome result (λ choice. name.now ≡ name_of choice) }
     ensures none { IfNone result ((choice : Choice) → name.now ≡ name_of choice → ⊥) }
@@ -192,7 +192,7 @@ fn choice_named(name: &[u8]) -> Option<Choice>
     }
 }
 
-/// The value and the key after the plus sign of a line.
+/// Parses the value and the key after the plus sign of a line.
 fn parse_pair(text: &[u8]) -> Result<(usize, &[u8]), BadLine>
     ensures ok { IfOk result (λ pair. IsCommand (codes "+ " ++ text.now) (add pair.0 pair.1.now)) }
     ensures err { IfErr result (IsNoPair (codes "+ " ++ text.now)) }
@@ -202,7 +202,7 @@ fn parse_pair(text: &[u8]) -> Result<(usize, &[u8]), BadLine>
     Ok((value, key))
 }
 
-/// What a line asks for that is no walk.
+/// Parses a line that is not a walk.
 fn parse_plain(line: &[u8]) -> Result<Request<'_>, BadLine>
     ensures ok { IfOk result (λ request. IsCommand line.now (meaning request)) }
     ensures err { IfErr result (λ bad. ((text : List ℕ) → line.now ≢ codes "walk " ++ text)
@@ -227,7 +227,7 @@ fn parse_plain(line: &[u8]) -> Result<Request<'_>, BadLine>
     }
 }
 
-/// What a line asks for, if it is a command.
+/// Parses a line that does not end in a carriage return.
 fn parse_line(alloc: Global, line: &[u8]) -> Result<Result<Request<'_>, BadLine>, AllocError>
     ensures ok { IfOk result (λ r. IfOk r (λ request. IsCommand line.now (meaning request))) }
     ensures err { IfOk result (λ r. IfErr r (IsBadAs line.now)) }
@@ -241,14 +241,14 @@ fn parse_line(alloc: Global, line: &[u8]) -> Result<Result<Request<'_>, BadLine>
     }
 }
 
-/// Whether a carriage return stands at the line's end.
+/// Returns whether the line ends in a carriage return.
 fn ends_in_return(line: &[u8]) -> bool
     ensures { IsTrue result ↔ EndsInReturn line.now }
 {
     line.ends_with(b"\r")
 }
 
-/// What a line asks for, or what is bad in it. That is the carriage return at its end, if it has one.
+/// Parses a line. If it ends in a carriage return, that is why it is bad.
 pub fn parse(alloc: Global, line: &[u8]) -> Result<Result<Request<'_>, BadLine>, AllocError>
     ensures ok { IfOk result (λ r. IfOk r (λ request. IsCommand line.now (meaning request))) }
     ensures none { IfOk result (λ r. OnErr r (IsNoCommand line.now)) }
@@ -271,10 +271,10 @@ pub fn parse(alloc: Global, line: &[u8]) -> Result<Result<Request<'_>, BadLine>,
 /// ```
 #[derive(Clone, Copy, PartialEq, Eq, Debug, Error)]
 pub enum BadLine {
-    /// A carriage return stands at the line's end. Whatever else is bad in it, this is what is said.
+    /// It ends in a carriage return. This comes before any other reason.
     #[error("it ends in a carriage return: end lines in a line feed alone")]
     CarriageReturn,
-    /// It has the form of no command.
+    /// It is no command.
     #[error("it is none of: kind NAME, + VALUE KEY, build, ? KEY, list, walk CALLS")]
     NoCommand,
     /// No kind has this name.
@@ -283,16 +283,16 @@ pub enum BadLine {
     /// The value is missing.
     #[error("there is no value: write + VALUE KEY, with one space between")]
     NoValue,
-    /// The value has other bytes than decimal digits.
+    /// The value has a byte that is no decimal digit.
     #[error("the value is not a decimal number")]
     NoNumber,
-    /// The value has more digits than the greatest number, be they zeros.
+    /// The value has more than 20 digits, leading zeros included.
     #[error("the value has more than 20 digits")]
     TooManyDigits,
     /// The value is 2^64 or more.
     #[error("the value is not below 2^64")]
     TooLarge,
-    /// Some word of a walk is no call.
+    /// A word of a walk is no call.
     #[error("a call is none of: sHH, t, pN, with one space between two")]
     NoCall,
     /// A command before the first `kind` line.

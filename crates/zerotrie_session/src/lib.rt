@@ -1,4 +1,4 @@
-//! What the lines of an input are answered: tries are built of their pairs, and keys are looked up in them.
+//! Runs the commands of an input: builds tries from its pairs, and looks keys up in them.
 #![tactic(auto)]
 
 mod answer;

@@ -8,12 +8,12 @@ use std::io;
 use std::io::{Read, Write};
 use std::marker::Model;
 
-/// A reader or writer with a flag that is set from its first fault on.
+/// A reader or writer with a flag, which its first error sets.
 ///
 /// ```text
 /// let mut reader = Noted::new(stdin);
 /// let count = reader.read(&mut buffer);   // as stdin's own
-/// reader.failed()                         // whether some call failed so far
+/// reader.failed()                         // whether some call has failed
 /// ```
 #[derive(Debug, Drop)]
 pub struct Noted<T> {
@@ -30,7 +30,7 @@ impl<T> Model for Noted<T> {
 }
 
 impl<T> Noted<T> {
-    /// With no fault so far.
+    /// Returns it with no error so far.
     pub fn new(inner: T) -> Self
         ensures inner { result.inner ≡ inner }
         ensures failed { result.failed ≡ false }
@@ -41,14 +41,14 @@ impl<T> Noted<T> {
         }
     }
 
-    /// Whether some call failed.
+    /// Returns whether some call failed.
     pub fn failed(&self) -> bool
         ensures { result ≡ self.now.failed }
     {
         self.failed
     }
 
-    /// The reader or writer itself.
+    /// Returns the reader or writer itself.
     pub fn into_inner(self) -> T
         ensures { result ≡ self.inner }
     {

@@ -1,4 +1,4 @@
-//! The lines that are printed.
+//! The lines of the output.
 
 ghost use Rattle.std.specs.Prelude.{◌≡◌, ◌++◌, OnOk, string_bytes};
 ghost use Rattle.zerotrie_session.specs.Replies.{hex, error_name, ok_line, refused_line, number_line, pair_line, answer_word, walk_line, bad_line, list_lines};
@@ -11,7 +11,7 @@ use std::alloc::{AllocError, Global};
 use std::collections::BTreeMap;
 use zerotrie::{CursorAnswer, ZeroTrieBuildError, ZeroTrieStream, ZeroTrieWithOptions};
 
-/// Writes bytes in hexadecimal, and for none a dash.
+/// Writes bytes in hexadecimal, or a dash if there are none.
 fn write_hex(output: &mut String, bytes: &[u8]) -> Result<(), AllocError>
     ensures { OnOk result (string_bytes output.new ≡ string_bytes output.old ++ hex bytes.now) }
 {
@@ -24,7 +24,7 @@ fn write_hex(output: &mut String, bytes: &[u8]) -> Result<(), AllocError>
     Ok(())
 }
 
-/// The variant's name.
+/// Returns the name of the variant.
 fn name_of(error: &ZeroTrieBuildError) -> &'static str
     ensures { result.now ≡ error_name error.now }
 {
@@ -43,7 +43,7 @@ fn name_of(error: &ZeroTrieBuildError) -> &'static str
     }
 }
 
-/// Writes that a trie was built, with its bytes.
+/// Writes the line of a build, with the bytes of the trie.
 pub fn write_ok(output: &mut String, text: &[u8]) -> Result<(), AllocError>
     ensures { OnOk result (string_bytes output.new ≡ string_bytes output.old ++ ok_line text.now) }
 {
@@ -53,7 +53,7 @@ pub fn write_ok(output: &mut String, text: &[u8]) -> Result<(), AllocError>
     writeln!(output)
 }
 
-/// Writes why no trie was built.
+/// Writes the line of a build that returned an error.
 pub fn write_refused(output: &mut String, error: &ZeroTrieBuildError) -> Result<(), AllocError>
     ensures { OnOk result (string_bytes output.new
         ≡ string_bytes output.old ++ refused_line error.now) }
@@ -83,7 +83,7 @@ pub fn write_pair(output: &mut String, key: &[u8], value: usize) -> Result<(), A
     writeln!(output)
 }
 
-/// Writes an answer of a cursor.
+/// Writes the result of a cursor's call.
 fn write_answer(output: &mut String, answer: &CursorAnswer) -> Result<(), AllocError>
     ensures { OnOk result (string_bytes output.new
         ≡ string_bytes output.old ++ answer_word (answer_of answer.now)) }
@@ -105,7 +105,7 @@ fn write_answer(output: &mut String, answer: &CursorAnswer) -> Result<(), AllocE
     }
 }
 
-/// Writes the answers of a walk.
+/// Writes the results of a walk.
 pub fn write_walk(output: &mut String, answers: &[CursorAnswer]) -> Result<(), AllocError>
     ensures { OnOk result (string_bytes output.new
         ≡ string_bytes output.old ++ walk_line (answers_of answers.now)) }
@@ -128,7 +128,7 @@ pub fn write_bad(output: &mut String, line_number: usize) -> Result<(), AllocErr
     writeln!(output, "bad line {line_number}")
 }
 
-/// Writes the pairs of a text of the kind, in the order of its nodes.
+/// Writes the pairs of a trie of the kind, in the order of its nodes.
 pub fn write_pairs<K: ZeroTrieWithOptions>(
     alloc: Global,
     bytes: &[u8],

@@ -11,7 +11,7 @@ use std::alloc::{AllocError, Global};
 use std::io::{Read, Write};
 use thiserror::Error;
 
-/// Why a run has no status.
+/// Why a run failed.
 #[derive(Clone, PartialEq, Eq, Debug, Drop, Error)]
 pub enum RunError {
     /// The reader failed.
@@ -20,7 +20,7 @@ pub enum RunError {
     /// The writer failed.
     #[error("write failed")]
     Write,
-    /// Memory was refused, outside of a build.
+    /// An allocation failed, outside of a build.
     #[error("out of memory")]
     OutOfMemory,
 }
@@ -28,7 +28,7 @@ pub enum RunError {
 impl RunError {
     ghost use Rattle.zerotrie_session.specs.Faults.{fault_text};
 
-    /// What the program prints to standard error.
+    /// Returns the message for standard error.
     pub fn message(&self) -> &'static str
         ensures { result.now ≡ fault_text self.now }
     {
@@ -48,7 +48,7 @@ impl From<AllocError> for RunError {
     }
 }
 
-/// Reads to the end.
+/// Reads all of the input.
 fn read_all<R: Read>(alloc: Global, reader: &mut Noted<R>) -> Result<Vec<u8>, RunError>
     requires { reader.old.failed ≡ false }
     ensures flag { reader.new.failed ≡ true ↔ IsErrOf result RunError.Read }
@@ -69,7 +69,7 @@ fn read_all<R: Read>(alloc: Global, reader: &mut Noted<R>) -> Result<Vec<u8>, Ru
     }
 }
 
-/// Reads all input, forms all answers, and then writes them. It answers the status to end with.
+/// Reads all of the input, then writes the output. Returns the status to end with.
 ///
 /// ```text
 /// kind simple     chooses a kind of trie: simple, ignore, hash, ext or auto
@@ -82,15 +82,15 @@ fn read_all<R: Read>(alloc: Global, reader: &mut Noted<R>) -> Result<Vec<u8>, Ru
 ///
 /// - An empty line is skipped and counted.
 /// - A second `kind` begins anew: without pairs, and with the empty trie.
-/// - A build takes all pairs since `kind`. A refused one prints its reason, and leaves the empty trie.
+/// - A build takes all pairs since `kind`. If it fails, it prints why, and leaves the empty trie.
 /// - A listing has the order of the trie, or of the bytes of the keys if the kind is `auto`.
-/// - A walk has one or more calls of a cursor with one space between. If the kind is `auto` there is none.
-/// - Any other line is bad, and before the first `kind` every line but an empty one is. `bad line N`
-///   ends the run, and a message says what is bad in it, as `line 2: the value is not below 2^64`.
-/// - The status is 2 after a bad line, even if a build was refused before. Else it is 1 if a
-///   build was refused, and 0 if none was.
+/// - A walk is one or more calls of a cursor with one space between them. `auto` has no walks.
+/// - Any other line is bad, and so is every line but an empty one before the first `kind`. `bad
+///   line N` ends the run, and a message says why, such as `line 2: the value is not below 2^64`.
+/// - The status is 2 after a bad line, else 1 if a build failed, else 0.
 ///
-/// An error but `Write` has written nothing. A fault of the writer for messages is ignored.
+/// Before any error but `Write`, nothing was written. Errors of the writer for messages are
+/// ignored.
 pub fn run<R: Read, W: Write, M: Write>(
     alloc: Global,
     reader: &mut Noted<R>,
@@ -113,7 +113,7 @@ pub fn run<R: Read, W: Write, M: Write>(
         return Err(RunError::Write);
     }
     if let Some((number, bad)) = answered.bad {
-        // The answer is given, so a fault here changes nothing.
+        // The output is written, so an error here changes nothing.
         let _ = writeln!(messages, "line {number}: {bad}");
     }
     Ok(answered.status)

@@ -21,7 +21,7 @@ use zerotrie::{
     ZeroTriePerfectHash, ZeroTrieSimpleAscii,
 };
 
-/// A trie of one of the kinds.
+/// A trie of any of the kinds.
 #[derive(Debug, Drop)]
 pub enum Trie {
     Simple(ZeroTrieSimpleAscii<Vec<u8>>),
@@ -32,7 +32,7 @@ pub enum Trie {
 }
 
 impl Trie {
-    /// The trie without pairs.
+    /// Returns the trie without pairs.
     pub fn empty(alloc: Global, choice: Choice) -> Self
         ensures choice { trie_choice result ≡ choice }
         ensures kind { trie_kind result ≡ kind_of choice [] }
@@ -48,7 +48,7 @@ impl Trie {
         }
     }
 
-    /// The trie of the pairs.
+    /// Builds the trie of the pairs.
     pub fn build(
         alloc: Global,
         choice: Choice,
@@ -69,7 +69,7 @@ impl Trie {
         }
     }
 
-    /// The bytes of the trie.
+    /// Returns the bytes of the trie.
     pub fn as_bytes(&self) -> &[u8]
         ensures { result.now ≡ trie_bytes self.now }
     {
@@ -82,7 +82,7 @@ impl Trie {
         }
     }
 
-    /// The number of the key.
+    /// Returns the number of the key.
     pub fn get(&self, key: &[u8]) -> Option<usize>
         ensures { let kind = trie_kind self.now in
             (m : Map) → Means kind (trie_bytes self.now) m → result ≡ look kind m key.now }
@@ -96,7 +96,7 @@ impl Trie {
         }
     }
 
-    /// The answers of a walk; `None` if the kind was not chosen.
+    /// Returns the results of a walk, or `None` if the kind is `auto`.
     pub fn walk(
         &self,
         alloc: Global,
@@ -116,8 +116,8 @@ impl Trie {
         Ok(Some(answers))
     }
 
-    /// Writes the pairs of the trie: in the order of its nodes, or of the bytes of their keys if the kind
-    /// was not chosen.
+    /// Writes the pairs of the trie, in the order of its nodes, or of the bytes of their keys if
+    /// the kind is `auto`.
     pub fn write_list(&self, alloc: Global, output: &mut String) -> Result<(), AllocError>
         ensures { OnOk result ((pairs : Pairs)
             → Lists (trie_kind self.now) (trie_bytes self.now) pairs

@@ -1,4 +1,4 @@
-//! Builds tries from pairs, and looks keys up in them, as the lines of standard input say.
+//! Runs the commands of standard input, which build tries from pairs and look keys up in them.
 #![tactic(auto)]
 
 use std::process::ExitCode;

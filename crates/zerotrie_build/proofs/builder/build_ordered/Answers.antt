@@ -20,14 +20,14 @@ pub put_pending-requires : goal.put_pending-requires
 put_pending-requires g c =
     let kind = g.K.ZeroTrieWithOptions.kind in
     let all = g.I.IndexedItems.pairs c.args.items in
-    let input = c.new-3.result in
+    let input = c.new-input.result in
     let m = c.in_ok-measured.ensures.measured in
     let start = c.in_ok-writing.ensures in
-    let one = first_pushed all c.in_ok-layout.layout.pending.items c.len.result c.in_ok-layout.ensures c.len.ensures in
+    let one = first_pushed all c.in_ok-pending.pending.items c.len.result c.in_ok-pending.ensures c.len.ensures in
     let written : WrittenTo kind all c.in_ok-writing.writing (whole_window all ∷ []) = left_start _ m start.empty start.len in
     let pending = subst (λ x. IsPending kind all input.slots.now (position_at 0 0) x (whole_window all ∷ [])) one
-    (subst (λ x. IsPending kind all x (position_at 0 0) (text_of (whole_window all) ∷ []) (whole_window all ∷ [])) (sym c.new-3.ensures.slots) (leads_start m)) in
-    let ascii = subst (λ x. IsTrue x → AreAsciiKeys all) (sym c.new-3.ensures.ascii) c.requires.ascii in
+    (subst (λ x. IsPending kind all x (position_at 0 0) (text_of (whole_window all) ∷ []) (whole_window all ∷ [])) (sym c.new-input.ensures.slots) (leads_start m)) in
+    let ascii = subst (λ x. IsTrue x → AreAsciiKeys all) (sym c.new-input.ensures.ascii) c.requires.ascii in
     λ k. ((refl, tt), (c.requires.keys, (ascii, (c.requires.ordered, (whole_window all ∷ [], written, pending)))))
 
 pub returns : goal.returns

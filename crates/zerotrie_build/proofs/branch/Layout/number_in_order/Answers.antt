@@ -9,5 +9,4 @@ loop-number-preserved g c =
       numbers = c.in_ok-push.ensures.items ∙ ap (λ x. x ++ c.loop-number.number ∷ []) v.numbers ∙ range_more c.loop-number.number;
       windows = v.windows;
       table = v.table;
-      pending = v.pending;
     }

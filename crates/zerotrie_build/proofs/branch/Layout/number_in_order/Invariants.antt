@@ -7,5 +7,4 @@ invariant-loop-number g l = record {
   numbers : l.self.numbers.items ≡ range_with_len 0 l.number;
   windows : l.self.windows.items ≡ l.fn.self.windows.items;
   table : l.self.table.items ≡ l.fn.self.table.items;
-  pending : l.self.pending.items ≡ l.fn.self.pending.items;
 }

@@ -97,9 +97,8 @@ returns-in_ok-push_hashed-clause-laid g c =
     let count : n ≡ length ws = (let n = c.len-edges.ensures in let m = c.set_sorted.new.self.windows.ok in omega arith) in
     let k = branch_known c.requires.slots ws n c.in_ok-set_sorted.ensures.parts count in
     let same : c.set_hashed.new.self.windows.items ≡ ws = c.in_ok-set_hashed.ensures.windows in
-    let e = c.push_hashed.ensures in
-    rw (e.windows, e.table, e.numbers) (subst (λ x. IsLayout kind (edge_no all x) (length x) c.set_hashed.new.self.table.items c.set_hashed.new.self.numbers.items) (sym same)
-    (branch_hashed_laid kind all ws _ _ _ (ap (is_hashed kind) (sym count) ∙ sym c.is_hashed.ensures ∙ c.if-is_hashed.true) k.3 c.in_ok-set_sorted.ensures.table c.in_ok-set_hashed.ensures.ok))
+    subst (λ x. IsLayout kind (edge_no all x) (length x) c.set_hashed.new.self.table.items c.set_hashed.new.self.numbers.items) (sym same)
+    (branch_hashed_laid kind all ws _ _ _ (ap (is_hashed kind) (sym count) ∙ sym c.is_hashed.ensures ∙ c.if-is_hashed.true) k.3 c.in_ok-set_sorted.ensures.table c.in_ok-set_hashed.ensures.ok)
 
 pub returns-in_ok-push_sorted-clause-laid : goal.returns-in_ok-push_sorted-clause-laid
 returns-in_ok-push_sorted-clause-laid g c =
@@ -108,9 +107,8 @@ returns-in_ok-push_sorted-clause-laid g c =
     let n = c.len-edges.result in
     let count : n ≡ length ws = (let n = c.len-edges.ensures in let m = c.set_sorted.new.self.windows.ok in omega arith) in
     let k = branch_known c.requires.slots ws n c.in_ok-set_sorted.ensures.parts count in
-    let e = c.push_sorted.ensures in
     let o = c.number_in_order.ensures in
-    rw (e.windows, e.table, e.numbers, o.windows, o.table) (branch_sorted_laid kind (g.I.IndexedItems.pairs c.args.items) ws _ _ (ap (is_hashed kind) (sym count) ∙ sym c.is_hashed.ensures ∙ c.if-is_hashed.false) k.3
+    rw (o.windows, o.table) (branch_sorted_laid kind (g.I.IndexedItems.pairs c.args.items) ws _ _ (ap (is_hashed kind) (sym count) ∙ sym c.is_hashed.ensures ∙ c.if-is_hashed.false) k.3
     c.in_ok-set_sorted.ensures.table c.in_ok-number_in_order.ensures.numbers)
 
 pub push_sorted-requires : goal.push_sorted-requires

@@ -20,7 +20,6 @@ loop-rest-preserved g c =
     record {
       parts = λ cs p. parts_more all c.args.window ws ws' target cs pushed (v.parts (target ∷ cs) (refl, refl, group, p));
       table = edges_more all ws ws' target c.loop-rest.self.table.items c.push.new.self.items c.unwrap_or.result pushed c.in_ok-push.ensures.items v.table edge;
-      pending = v.pending;
       order = group.within;
       to_is = v.to_is;
       depth_is = v.depth_is;

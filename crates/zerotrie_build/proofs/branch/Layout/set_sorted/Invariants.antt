@@ -9,7 +9,6 @@ abbrev pub invariant-loop-rest : goal.invariant-loop-rest
 invariant-loop-rest g l = record {
   parts : (cs : List Window) → TargetWindows (g.I.IndexedItems.pairs l.items) l.rest cs → TargetWindows (g.I.IndexedItems.pairs l.items) l.fn.window (l.self.windows.items ++ cs);
   table : l.self.table.items ≡ map (edge_of (g.I.IndexedItems.pairs l.items)) l.self.windows.items;
-  pending : l.self.pending.items ≡ l.initial.self.pending.items;
   order : l.rest.from ≤ l.rest.to;
   to_is : l.rest.to ≡ l.fn.window.to;
   depth_is : l.rest.depth ≡ l.fn.window.depth;

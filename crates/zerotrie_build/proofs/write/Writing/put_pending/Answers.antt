@@ -38,7 +38,7 @@ loop-next-smaller g c =
     let t = leads_text next_window rest v.2 first in
     let left : WrittenTo kind all c.loop-next.self (w ∷ t.behind) = subst (WrittenTo kind all c.loop-next.self) t.is v.1 in
     let put = c.in_ok-put_nodes-in-Text.ensures.put in
-    let pending : put.0 ++ rest ≡ reverse c.put_nodes.new.layout.pending.items = sym put.1 in
+    let pending : put.0 ++ rest ≡ reverse c.put_nodes.new.pending.items = sym put.1 in
     let less = left_less rest left put.2 in
     let a = ap length pending in
     let b = ap length first in
@@ -58,11 +58,11 @@ loop-next-preserved g c =
     let left : WrittenTo kind all c.loop-next.self (w ∷ t.behind) = subst (WrittenTo kind all c.loop-next.self) t.is v.1 in
     let next = c.in_ok-put_nodes-in-Text.ensures.put.0 in
     let put = c.in_ok-put_nodes-in-Text.ensures.put.2 in
-    let pending : next ++ rest ≡ reverse c.put_nodes.new.layout.pending.items = sym c.in_ok-put_nodes-in-Text.ensures.put.1 in
+    let pending : next ++ rest ≡ reverse c.put_nodes.new.pending.items = sym c.in_ok-put_nodes-in-Text.ensures.put.1 in
     (put.targets ++ t.behind, left_more left put, subst (λ x. IsPending kind all slots (position_at w.to c.loop-next.position.slot) x (put.targets ++ t.behind)) pending (put.leads t.end rest t.behind t.kept t.leads))
 
 pub returns-clause-put : goal.returns-clause-put
 returns-clause-put g c =
     let v = c.loop-next.invariant in
-    let none : c.loop-next.layout.pending.items ≡ [] = search rules in
+    let none : c.loop-next.pending.items ≡ [] = search rules in
     subst (WrittenTo g.K.ZeroTrieWithOptions.kind (g.I.IndexedItems.pairs c.args.items) c.loop-next.self) (leads_none v.2 (ap reverse none)) v.1
