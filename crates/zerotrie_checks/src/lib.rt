@@ -1,5 +1,5 @@
-//! The tests of `zerotrie_base`, `zerotrie_core` and `zerotrie_build`, which have none of their own: tests are proved
-//! together with all of the crate that they stand in.
+//! The tests of `zerotrie_base`, `zerotrie_core` and `zerotrie_build`, which have none of their
+//! own: tests are proved together with all of the crate that they stand in.
 #![tactic(auto)]
 
 #[cfg(test)]

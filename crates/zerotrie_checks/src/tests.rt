@@ -11,8 +11,8 @@ use std::fmt::Debug;
 use std::process::Abort;
 use std::test::Fail;
 
-/// Ends the test if the two differ, and writes both: `assert_eq!` in a function of its own, since the proof of what
-/// it writes is long, and made anew wherever it stands.
+/// Ends the test if the two differ, and prints both. It is `assert_eq!` in a function, since the
+/// proof of what that prints is long and is done at each place.
 fn same<T: Debug + PartialEq + Drop, H: Abort>(rt: &H, left: T, right: T) {
     assert_eq!(rt; left, right);
 }

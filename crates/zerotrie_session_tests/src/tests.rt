@@ -7,8 +7,8 @@ use std::process::Abort;
 use std::test::Fail;
 use zerotrie_session::{Noted, RunError, run};
 
-/// Ends the test if the two differ, and writes both: `assert_eq!` in a function of its own, since the proof of what
-/// it writes is long, and made anew wherever it stands.
+/// Ends the test if the two differ, and prints both. It is `assert_eq!` in a function, since the
+/// proof of what that prints is long and is done at each place.
 fn same<T: Debug + PartialEq + Drop, H: Abort>(rt: &H, left: T, right: T) {
     assert_eq!(rt; left, right);
 }
@@ -30,7 +30,8 @@ fn runs<H: AllocGlobal + Abort>(
     Ok(())
 }
 
-/// The statuses, and what a refusal leaves. What a run without one prints is in the files stdin and stdout.
+/// The statuses, and what a refusal leaves. What a run without one prints is in the files stdin and
+/// stdout.
 #[test]
 fn builds_are_refused(rt: HostRuntime) -> Result<(), Fail> {
     let rows: [(&[u8], &[u8], u8); 7] = [

@@ -19,13 +19,13 @@ use std::process::Abort;
 use std::test::Fail;
 use zerotrie::*;
 
-/// Ends the test if the two differ, and writes both: `assert_eq!` in a function of its own, since the proof of what
-/// it writes is long, and made anew wherever it stands.
+/// Ends the test if the two differ, and prints both. It is `assert_eq!` in a function, since the
+/// proof of what that prints is long and is done at each place.
 fn same<T: Debug + PartialEq + Drop, H: Abort>(rt: &H, left: T, right: T) {
     assert_eq!(rt; left, right);
 }
 
-/// Ends the test if what it tests does not hold: `assert!` in a function of its own, for the same reason.
+/// Ends the test unless this is true. It is `assert!` in a function, for the same reason.
 fn holds<H: Abort>(rt: &H, it: bool) {
     assert!(rt; it);
 }
@@ -49,7 +49,7 @@ fn any_of(alloc: Global, items: &[(&str, usize)]) -> Result<ZeroTrie<Vec<u8>>, Z
     ZeroTrie::try_from_iter(alloc, items.iter().copied())
 }
 
-/// Whether a call was refused for this reason.
+/// Returns whether a call returned this error.
 fn is_refused<T: Drop, E: PartialEq + Drop>(call: Result<T, E>, error: &E) -> bool {
     match call {
         Ok(_) => false,
@@ -57,7 +57,7 @@ fn is_refused<T: Drop, E: PartialEq + Drop>(call: Result<T, E>, error: &E) -> bo
     }
 }
 
-/// Whether a call gave these bytes.
+/// Returns whether a call returned these bytes.
 fn is_bytes<E: Drop>(call: Result<Vec<u8>, E>, bytes: &[u8]) -> bool {
     match call {
         Ok(given) => given.as_slice() == bytes,
@@ -65,7 +65,7 @@ fn is_bytes<E: Drop>(call: Result<Vec<u8>, E>, bytes: &[u8]) -> bool {
     }
 }
 
-/// Whether a call gave this text.
+/// Returns whether a call returned this string.
 fn is_text<E: Drop>(call: Result<String, E>, text: &str) -> bool {
     match call {
         Ok(given) => given.as_str() == text,
@@ -73,7 +73,7 @@ fn is_text<E: Drop>(call: Result<String, E>, text: &str) -> bool {
     }
 }
 
-/// Whether `{}` writes this of a value.
+/// Returns whether `{}` writes this of a value.
 fn is_written<T: Display>(alloc: Global, value: &T, text: &str) -> bool {
     is_text(format!(in alloc; "{value}"), text)
 }
@@ -86,7 +86,7 @@ fn first<I: Iterator + Drop>(items: I) -> Option<I::Item>
     items.next()
 }
 
-/// Whether an item of a listing is this pair.
+/// Returns whether an item of a listing is this pair.
 fn is_pair(item: Option<Result<(Vec<u8>, usize), ListError>>, key: &[u8], value: usize) -> bool {
     match item {
         Some(Ok((bytes, number))) => bytes.as_slice() == key && number == value,
@@ -94,7 +94,7 @@ fn is_pair(item: Option<Result<(Vec<u8>, usize), ListError>>, key: &[u8], value:
     }
 }
 
-/// Whether an item of a listing of texts is this pair.
+/// Returns whether an item of a listing of strings is this pair.
 fn is_text_pair(item: Option<Result<(String, usize), ListError>>, key: &str, value: usize) -> bool {
     match item {
         Some(Ok((text, number))) => text.as_str() == key && number == value,
@@ -164,13 +164,13 @@ const LETTERS: [(&str, usize); 16] = [
     ("p", 15),
 ];
 
-/// Their text in a hashed kind.
+/// Their encoding in a hashed kind.
 const LETTERS_TEXT: &[u8; 65] = b"\xD0\0\0\0\0\0\0\0\0\0\0\0\0\0\0\0\0\0pabcdefghijklmno\
     \x01\x02\x03\x04\x05\x06\x07\x08\x09\x0A\x0B\x0C\x0D\x0E\x0F\
     \x8F\x80\x81\x82\x83\x84\x85\x86\x87\x88\x89\x8A\x8B\x8C\x8D\x8E";
 
-/// The text of all keys of one byte, each with value 0, in a hashed kind: their number is 0 in the head, and the offsets
-/// have two bytes.
+/// The encoding of all keys of one byte, each with value 0, in a hashed kind: their number is 0 in
+/// the head, and the offsets have two bytes.
 fn text_of_all_bytes() -> [u8; 1281] {
     let mut text = [0; 1281];
     text[0] = 0xE1;
@@ -183,7 +183,7 @@ fn text_of_all_bytes() -> [u8; 1281] {
     text
 }
 
-/// Keys without case: where they part they part by their lower case, too.
+/// Keys without case: where two differ, they differ in lower case too.
 const MIXED: [(&str, usize); 6] = [
     ("", 0),
     ("aBc", 1),
@@ -193,10 +193,10 @@ const MIXED: [(&str, usize); 6] = [
     ("aBcghi", 5),
 ];
 
-/// Their text.
+/// Their encoding.
 const MIXED_TEXT: &[u8] = b"\x80aBc\x81\xC4DeFg\x01\x02\x03\x82\x83\x84hi\x85";
 
-/// Names whose spellings part in case alone, put in lower case, and their text.
+/// Names that differ in case alone, in lower case, and their encoding.
 const LOWERED: (&[(&str, usize)], &[u8]) = (
     &[
         ("accept-ch", 1),
@@ -227,7 +227,7 @@ const LOCALES: [(&str, usize); 14] = [
     ("it/IT", 13),
 ];
 
-/// Their text.
+/// Their encoding.
 const LOCALES_TEXT: &[u8] =
     b"\xC4aefi\x16(:r/\xC4FISU\x02\x04\x06R\x80R\x81A\x82\xC2KS\x01\x83\x84n/\xC3AFU\x02\x04\
     U\x85R\x86\xC2KS\x01\x87\x88r/\xC3FSU\x02\x04R\x89A\x8A\xC2KS\x01\x8B\x8Ct/IT\x8D";

@@ -82,7 +82,8 @@ fn lengths_of_long_keys(rt: HostRuntime) -> Result<(), Fail> {
     Ok(())
 }
 
-/// A store that keeps the trait's `atbs_fill` grows once, and each byte is set at a place after those set before.
+/// A store that keeps the trait's `atbs_fill` grows once, and each byte is set at a place after
+/// those set before.
 #[test]
 fn a_build_grows_once(rt: HostRuntime) -> Result<(), Fail> {
     let rows: [&[(&str, usize)]; 3] = [
@@ -132,8 +133,8 @@ fn over_heap<K: ZeroTrieWithOptions>(
     Ok(store.atbs_to_bytes(alloc)?)
 }
 
-/// Over heaps of rising size a build is refused if memory runs out, at a later request each time, until it has
-/// its text. All memory is given back.
+/// Over heaps of rising size a build is refused if memory runs out, at a later request each time,
+/// until it has its text. All memory is given back.
 #[test]
 fn every_size_of_heap(rt: HostRuntime) -> Result<(), Fail> {
     let alloc = rt.alloc();
@@ -156,7 +157,8 @@ fn every_size_of_heap(rt: HostRuntime) -> Result<(), Fail> {
     Ok(())
 }
 
-/// 4,913 keys of three bytes in ascending order, one after another. All of their bytes are multiples of the step.
+/// 4,913 keys of three bytes in ascending order, one after another. All of their bytes are
+/// multiples of the step.
 fn many_keys(alloc: Global, step: u8) -> Result<Vec<u8>, Fail> {
     let mut keys = Vec::new(alloc);
     for number in 0..4913usize {
@@ -167,7 +169,8 @@ fn many_keys(alloc: Global, step: u8) -> Result<Vec<u8>, Fail> {
     Ok(keys)
 }
 
-/// 8,192 keys of thirteen letters `a` or `b` in ascending order, one after another. Each branch is to two keys or more.
+/// 8,192 keys of thirteen letters `a` or `b` in ascending order, one after another. Each branch is
+/// to two keys or more.
 fn keys_of_two_letters(alloc: Global) -> Result<Vec<u8>, Fail> {
     let mut keys = Vec::new(alloc);
     for number in 0..8192usize {

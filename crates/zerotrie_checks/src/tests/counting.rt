@@ -7,7 +7,8 @@ use std::alloc::{AllocError, Global};
 use std::collections::VecDeque;
 use zerotrie_build::TrieBuilderStore;
 
-/// A store that counts how often it grew, and knows whether the places that were written ascend strictly.
+/// A store that counts how often it grew, and knows whether the places that were written ascend
+/// strictly.
 #[derive(Drop)]
 pub struct Counting {
     bytes: VecDeque<u8>,

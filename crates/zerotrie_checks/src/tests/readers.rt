@@ -282,8 +282,8 @@ fn in_front_of_a_span(rt: HostRuntime) {
     same(&rt, cursor.rest(), Some(&bytes[1..]));
 }
 
-/// A listing over a heap gives a beginning of the pairs, then perhaps one error, and nothing more. Answers how many
-/// errors came.
+/// A listing over a heap gives a beginning of the pairs, then perhaps one error, and nothing more.
+/// Answers how many errors came.
 fn refusals<H: AllocGlobal + Abort>(rt: &H, heap: &LocalHeap, bytes: &[u8]) -> Result<usize, Fail> {
     let mut all = ZeroTrieIterator::new::<Hash>(rt.alloc(), bytes);
     let mut refused = 0_usize;
@@ -305,8 +305,8 @@ fn refusals<H: AllocGlobal + Abort>(rt: &H, heap: &LocalHeap, bytes: &[u8]) -> R
     Ok(refused)
 }
 
-/// Over heaps of rising size a listing is refused if memory runs out, until it gives all of the pairs. All memory is
-/// given back.
+/// Over heaps of rising size a listing is refused if memory runs out, until it gives all of the
+/// pairs. All memory is given back.
 #[test]
 fn every_size_of_heap(rt: HostRuntime) -> Result<(), Fail> {
     let bytes = b"\x80abcdefghijklmnopqrstuvwxyz\xC2AB\x04\xA2\xC3\xA9\x81\xC2ab\x01\x82\x83";

@@ -7,7 +7,7 @@ use zerotrie_base::{
     f1, f2,
 };
 
-/// Whether the table answers each of its keys' places, and nothing at other bytes.
+/// Returns whether the table answers each of its keys' places, and nothing at other bytes.
 fn finds_its_keys<S: TrieStore>(table: &PerfectByteHashMap<S>) -> bool {
     for byte in 0..=255u8 {
         if table.get(byte) != table.keys().iter().position(|key| *key == byte) {
@@ -162,8 +162,8 @@ fn try_get_or_insert_answers_the_table(rt: HostRuntime) -> Result<(), Fail> {
     Ok(())
 }
 
-/// Over heaps of rising size a table is an error if an allocation fails, until the heap has room for it. Then the cache
-/// still returns it, whether or not there was room for a second one.
+/// Over heaps of rising size a table is an error if an allocation fails, until the heap has room
+/// for it. Then the cache still returns it, whether or not there was room for a second one.
 #[test]
 fn every_size_of_heap(rt: HostRuntime) -> Result<(), Fail> {
     assert!(rt; are_distinct(b"aceg"));

@@ -7,7 +7,8 @@ use zerotrie_core::{
     Ext, Hash, Ignore, Simple, ZeroTrieBuildError, ZeroTrieBuilderOptions, ZeroTrieWithOptions,
 };
 
-/// Pairs whose keys are the words of a text, with a space after each, and have their places as values.
+/// Pairs whose keys are the words of a text, with a space after each, and have their places as
+/// values.
 pub(super) fn words(alloc: Global, text: &[u8]) -> Result<TextItems<'_>, Fail> {
     let mut items = TextItems::new(alloc, text);
     let mut start = 0;
@@ -34,7 +35,8 @@ fn by_slice<K: ZeroTrieWithOptions>(
     Ok(builder.to_bytes(alloc)?)
 }
 
-/// Whether the build of the words of a text has the length or the error that is wanted, and does what one of slices does.
+/// Returns whether the build of the words of a text has the length or the error that is wanted, and
+/// does what one of slices does.
 fn builds<K: ZeroTrieWithOptions>(
     alloc: Global,
     text: &[u8],

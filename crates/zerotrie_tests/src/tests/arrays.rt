@@ -4,16 +4,16 @@ ghost use Rattle.std.specs.Prelude.{◌<◌, ◌^◌};
 
 use super::*;
 
-/// Keys, of which the second and the third part after the first byte.
+/// Keys, of which the second and the third differ after the first byte.
 const BAZ: [(&str, usize); 3] = [("bar", 2), ("bazzoo", 3), ("foo", 1)];
 
-/// Their text.
+/// Their encoding.
 const BAZ_TEXT: &[u8] = b"\xC2bf\x0Aa\xC2rz\x01\x82zoo\x83oo\x81";
 
-/// Keys of which each but the first begins with one before it, but the last.
+/// Keys that begin with the one before, but for the first and the last.
 const LITERALS: [(&[u8], usize); 4] = [(b"", 11), (b"ad", 22), (b"adef", 33), (b"adghk", 44)];
 
-/// Their text.
+/// Their encoding.
 const LITERALS_TEXT: &[u8] = b"\x8Bad\x90\x06\xC2eg\x03f\x90\x11hk\x90\x1C";
 
 /// A trie in an array, or the error.
@@ -39,7 +39,7 @@ fn of_texts_with_stack<const N: usize, const K: usize>(items: &[(&str, usize)]) 
     ZeroTrieSimpleAscii::from_sorted_str_tuples_with_stack::<K>(items)
 }
 
-/// Whether the array is filled with this text.
+/// Returns whether the array is filled with this text.
 fn is_full<const N: usize>(built: Built<N>, text: &[u8]) -> bool {
     match built {
         Ok(trie) => trie.as_bytes() == text && trie.is_empty() == text.is_empty(),
@@ -103,7 +103,8 @@ fn bytes_up_to_100() -> [u8; 101] {
     bytes
 }
 
-/// Whether an array is filled with the text that is built in memory, too, and begins with these bytes.
+/// Returns whether an array is filled with the text that is built in memory, too, and begins with
+/// these bytes.
 fn is_grown<const N: usize>(
     alloc: Global,
     built: Built<N>,

@@ -5,7 +5,7 @@ use std::fmt;
 use std::fmt::Write;
 use zerotrie::cursor::{AsciiCursor, AsciiProbeResult, ByteProbeResult, HashedCursor};
 
-/// Two keys of which one goes on from the other.
+/// Two keys, one of which begins with the other.
 const NESTED: &[u8] = b"abc\x80def\x81";
 
 /// The keys "foo", "bår" and "båzzøø" with values 1, 2 and 3, in a hashed kind.
@@ -18,7 +18,8 @@ fn go_down(cursor: &mut AsciiCursor<'_, Simple>, bytes: &[u8]) {
     }
 }
 
-/// Whether a cursor takes the value 0 once, is at a key's byte after a step to "d", and nowhere after one to "x".
+/// Returns whether a cursor takes the value 0 once, is at a key's byte after a step to "d", and
+/// nowhere after one to "x".
 fn takes_once(cursor: AsciiCursor<'_, Simple>) -> bool {
     let mut cursor = cursor;
     let is_taken = cursor.take_value() == Some(0) && cursor.take_value().is_none();
@@ -35,7 +36,7 @@ fn value_after(cursor: AsciiCursor<'_, Simple>, steps: &[u8], key: &[u8]) -> Opt
     cursor.into_suffix_trie().get(key)
 }
 
-/// Whether a cursor finds no edge of this number, and is nowhere then.
+/// Returns whether a cursor finds no edge of this number, and is nowhere then.
 fn is_lost_by_probe(cursor: AsciiCursor<'_, Simple>, index: usize) -> bool {
     let mut cursor = cursor;
     cursor.probe(index).is_none() && cursor.is_empty()
@@ -117,7 +118,8 @@ fn value_at(bytes: &'static [u8], text: &str) -> Option<usize> {
     ZeroTrieSimpleAscii::from_bytes(bytes).get_with_write_fn(|cursor| cursor.write_str(text))
 }
 
-/// The value at the cursor of another trie, which is put in the place of the one that a text was written to.
+/// The value at the cursor of another trie, which is put in the place of the one that a text was
+/// written to.
 fn value_of(bytes: &'static [u8], text: &str, other: &'static [u8]) -> Option<usize> {
     ZeroTrieSimpleAscii::from_bytes(bytes).get_with_write_fn(|cursor| {
         cursor.write_str(text)?;
@@ -158,7 +160,7 @@ fn careless_closures(rt: HostRuntime) {
     same(&rt, value_of(b"ab\x87", "ab", b""), None);
 }
 
-/// Whether a cursor steps over bytes that are there.
+/// Returns whether a cursor steps over bytes that are there.
 fn goes_down<K: HashedKind>(cursor: &mut HashedCursor<'_, K>, bytes: &[u8]) -> bool {
     for byte in bytes {
         if cursor.step(*byte) != Some(*byte) {
@@ -210,7 +212,7 @@ fn extended_cursors(rt: HostRuntime) {
     same(&rt, value_behind(cursor, b"\xA5"), Some(Some(1)));
 }
 
-/// Whether a walk gave these answers.
+/// Returns whether a walk returned these results.
 fn is_walk<E: Drop>(walk: Result<Vec<CursorAnswer>, E>, answers: &[CursorAnswer]) -> bool {
     match walk {
         Ok(given) => given.as_slice() == answers,
@@ -266,7 +268,7 @@ fn walks(rt: HostRuntime) {
     holds(&rt, hashed_walk::<Ext>(alloc, b"aB\x85", OPS, MISSED));
 }
 
-/// Bytes that mean no map.
+/// Malformed bytes.
 const WRONG: &[&[u8]] = &[
     b"a",
     b"\xC0a",
@@ -307,7 +309,7 @@ fn move_extended(bytes: &[u8]) {
     cursor.probe(0);
 }
 
-/// Every call returns on bytes that mean no map.
+/// Every call returns on malformed bytes.
 #[test]
 fn ill_formed() {
     for bytes in WRONG {

@@ -5,7 +5,7 @@ use zerotrie::dense::{
     RecordError, ZeroAsciiDenseSparse2dTrieBorrowed, ZeroAsciiDenseSparse2dTrieOwned,
 };
 
-/// A table, or why there is none.
+/// A table, or the error.
 type Built = Result<ZeroAsciiDenseSparse2dTrieOwned, ZeroTrieBuildError>;
 
 fn table_by(alloc: Global, table: &[Entries<'_>], delimiter: u8) -> Built {
@@ -18,12 +18,13 @@ fn record_of(alloc: Global, table: &[Entries<'_>]) -> Result<Vec<u8>, ZeroTrieBu
     Ok(table.as_borrowed().to_record_bytes(alloc)?)
 }
 
-/// Why a record is refused.
+/// The error of reading a record.
 fn refusal_of(record: &[u8]) -> Option<RecordError> {
     ZeroAsciiDenseSparse2dTrieBorrowed::try_from_record_bytes(record).err()
 }
 
-/// Entries, and the parts of their table: primary trie, trie of the suffixes, number of suffixes, cells.
+/// Entries, and the parts of their table: primary trie, trie of the suffixes, number of suffixes,
+/// cells.
 type Row<'a> = (&'a [Entries<'a>], &'a [u8], &'a [u8], u16, &'a [u16]);
 
 /// Bytes one after another.
@@ -56,7 +57,7 @@ fn record_with(alloc: Global, row: &Row<'_>) -> Result<Vec<u8>, AllocError> {
     Ok(record)
 }
 
-/// Whether a table finds each value of a row, and none with its texts the other way round.
+/// Returns whether a table finds each value of a row, and none with its texts the other way round.
 fn finds_row(
     table: &ZeroAsciiDenseSparse2dTrieBorrowed<'_>,
     prefix: &str,
@@ -79,7 +80,7 @@ fn finds(table: &ZeroAsciiDenseSparse2dTrieBorrowed<'_>, entries: &[Entries<'_>]
     true
 }
 
-/// Whether a record is read as this table, which finds these entries.
+/// Returns whether a record is read as this table, which finds these entries.
 fn is_read(
     table: &ZeroAsciiDenseSparse2dTrieBorrowed<'_>,
     record: &[u8],
@@ -91,7 +92,7 @@ fn is_read(
     }
 }
 
-/// Whether the record of a table has these parts, and is read again as the table.
+/// Returns whether the record of a table has these parts, and is read again as the table.
 fn has_parts(alloc: Global, table: &ZeroAsciiDenseSparse2dTrieBorrowed<'_>, row: &Row<'_>) -> bool {
     match table.to_record_bytes(alloc) {
         Ok(record) => {
@@ -101,7 +102,8 @@ fn has_parts(alloc: Global, table: &ZeroAsciiDenseSparse2dTrieBorrowed<'_>, row:
     }
 }
 
-/// Whether the table of the entries has these parts, and finds each of its entries, also if it is read from its record.
+/// Returns whether the table of the entries has these parts, and finds each of its entries, also if
+/// it is read from its record.
 fn is_table_of(alloc: Global, row: &Row<'_>) -> bool {
     match table_by(alloc, row.0, b'/') {
         Ok(table) => has_parts(alloc, &table.as_borrowed(), row),
@@ -202,7 +204,7 @@ fn tables_have_their_parts(rt: HostRuntime) {
     }
 }
 
-/// Whether a table finds its entries, and its record says that it has this many cells.
+/// Returns whether a table finds its entries, and its record says that it has this many cells.
 fn has_cells(
     alloc: Global,
     table: &ZeroAsciiDenseSparse2dTrieBorrowed<'_>,
@@ -257,7 +259,7 @@ fn a_row_without_suffixes_adds_nothing(rt: HostRuntime) -> Result<(), Fail> {
     Ok(())
 }
 
-/// Entries, a delimiter, and why a table of them is refused.
+/// Entries, a delimiter, and the error of building their table.
 const REFUSED: &[(&[Entries<'static>], u8, ZeroTrieBuildError)] = &[
     (
         &[("aa/bb", &[("CCC", 1)])],
@@ -323,7 +325,7 @@ fn suffixes_of<'a>(
     Ok(suffixes)
 }
 
-/// Whether a table of one row with these suffixes is refused so.
+/// Returns whether a table of one row with these suffixes returns this error.
 fn is_row_refused(alloc: Global, suffixes: &[(&str, usize)], error: &ZeroTrieBuildError) -> bool {
     is_refused(table_by(alloc, &[("p", suffixes)], b'/'), error)
 }
@@ -340,7 +342,7 @@ fn too_many_suffixes_are_refused(rt: HostRuntime) -> Result<(), Fail> {
     Ok(())
 }
 
-/// Whether each front of a record is refused.
+/// Returns whether each front of a record is refused.
 fn is_refused_if_cut(record: &[u8]) -> bool {
     for len in 0..record.len() {
         if refusal_of(&record[..len]) != Some(RecordError::Truncated) {

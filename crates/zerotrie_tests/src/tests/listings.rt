@@ -2,7 +2,7 @@
 
 use super::*;
 
-/// Whether a listing begins with these pairs.
+/// Returns whether a listing begins with these pairs.
 fn begins(items: &mut ZeroTrieIterator<'_>, pairs: &[(&[u8], usize)]) -> bool {
     for (key, value) in pairs {
         if !is_pair(items.next(), *key, *value) {
@@ -12,7 +12,7 @@ fn begins(items: &mut ZeroTrieIterator<'_>, pairs: &[(&[u8], usize)]) -> bool {
     true
 }
 
-/// Whether a listing gives these pairs, then ends for good.
+/// Returns whether a listing returns these pairs, then ends for good.
 fn gives_texts(items: ZeroTrieStringIterator<'_>, pairs: &[(&str, usize)]) -> bool {
     let mut items = items;
     for (key, value) in pairs {
@@ -23,7 +23,7 @@ fn gives_texts(items: ZeroTrieStringIterator<'_>, pairs: &[(&str, usize)]) -> bo
     items.next().is_none() && items.next().is_none()
 }
 
-/// Whether a map has these pairs, and nothing else.
+/// Returns whether a map has these pairs, and nothing else.
 fn has_texts(map: &BTreeMap<String, usize>, pairs: &[(&str, usize)]) -> bool {
     for (key, value) in pairs {
         if map.get(*key) != Some(value) {
@@ -33,7 +33,7 @@ fn has_texts(map: &BTreeMap<String, usize>, pairs: &[(&str, usize)]) -> bool {
     map.len() == pairs.len()
 }
 
-/// Whether the trie of these bytes lists these pairs, and is their map.
+/// Returns whether the trie of these bytes lists these pairs, and is their map.
 fn lists_texts<K: AsciiKind>(alloc: Global, bytes: &[u8], pairs: &[(&str, usize)]) -> bool {
     let trie: AsciiTrie<K, &[u8]> = AsciiTrie::from_bytes(bytes);
     let is_map = match trie.to_btreemap(alloc) {
@@ -64,7 +64,7 @@ fn texts_in_order(rt: HostRuntime) {
     holds(&rt, lists_texts::<Ignore>(alloc, MIXED_TEXT, MIXED_LISTED));
 }
 
-/// Whether a map has the letters with their numbers, and nothing else.
+/// Returns whether a map has the letters with their numbers, and nothing else.
 fn has_letters(map: &BTreeMap<Vec<u8>, usize>) -> bool {
     for (key, value) in &LETTERS {
         if map.get(key.as_bytes()) != Some(value) {
@@ -84,7 +84,7 @@ fn are_letters(map: Result<BTreeMap<Vec<u8>, usize>, ListError>) -> bool {
 /// The first letters in the order of their table.
 const FIRST_LETTERS: &[(&[u8], usize)] = &[(b"p", 15), (b"a", 0), (b"b", 1)];
 
-/// A hashed table has its parameters in front of its edges, and its edges in an order of its own.
+/// A hashed table has its parameters before its edges, and its edges in an order of its own.
 fn lists_letters<K: HashedKind>(alloc: Global) -> bool {
     let trie: HashedTrie<K, &[u8]> = HashedTrie::from_bytes(LETTERS_TEXT);
     are_letters(trie.to_btreemap(alloc))
@@ -101,7 +101,7 @@ fn letters_in_the_order_of_the_table(rt: HostRuntime) {
 
 const SPANS: &[(&[u8], usize)] = &[(b"a", 10), (b"ab\x81\x91\xA1", 4)];
 
-/// Whether these bytes list a value before a span and one after it, and then end.
+/// Returns whether these bytes list a value before a span and one after it, and then end.
 fn lists_spans(alloc: Global, bytes: &[u8]) -> bool {
     let trie = ZeroTriePerfectHash::from_bytes(bytes);
     let mut items = trie.iter(alloc);
@@ -113,7 +113,7 @@ fn spans_and_values_on_the_way(rt: HostRuntime) {
     holds(&rt, lists_spans(rt.alloc(), b"a\x8Ab\xA3\x81\x91\xA1\x84"));
 }
 
-/// How many keys the map of these items has, as a `ZeroTrie` lists it.
+/// The number of keys in the map of these items, as a `ZeroTrie` lists it.
 fn keys_listed(alloc: Global, items: &[(&str, usize)]) -> Option<usize> {
     let trie = any_of(alloc, items).ok()?;
     match trie.to_btreemap(alloc) {
@@ -129,7 +129,7 @@ fn words_beyond_ascii(rt: HostRuntime) {
     same(&rt, keys_listed(rt.alloc(), WORDS), Some(3));
 }
 
-/// How many pairs come if the listing is taken to its end.
+/// The number of pairs in a listing.
 fn count<K: ZeroTrieWithOptions>(alloc: Global, bytes: &[u8]) -> Option<usize> {
     let mut pairs = 0_usize;
     for item in ZeroTrieIterator::new::<K>(alloc, bytes) {
@@ -139,7 +139,7 @@ fn count<K: ZeroTrieWithOptions>(alloc: Global, bytes: &[u8]) -> Option<usize> {
     Some(pairs)
 }
 
-/// What stands after offsets that fall, or after a claim of more bytes than there are, is not listed.
+/// Nothing is listed after offsets that fall, or after a length of more bytes than there are.
 const COUNTED: &[(&[u8], usize)] = &[
     (b"a", 0),
     (b"\x80\x80", 2),
@@ -156,7 +156,7 @@ const COUNTED: &[(&[u8], usize)] = &[
 
 const SPAN: &[u8] = b"\xA1\xC3\xA1\xA5\x81";
 
-/// Whether so many pairs come.
+/// Returns whether a listing has this many pairs.
 fn is_counted<K: ZeroTrieWithOptions>(alloc: Global, row: &(&[u8], usize)) -> bool {
     count::<K>(alloc, row.0) == Some(row.1)
 }
@@ -173,7 +173,8 @@ fn listings_of_no_trie_end(rt: HostRuntime) {
     holds(&rt, is_counted::<Simple>(alloc, &(SPAN, 0)));
 }
 
-/// Whether a listing gives a pair, then the error of a key that is no text, and then ends.
+/// Returns whether a listing returns a pair, then the error of a key that is not UTF-8, and then
+/// ends.
 fn stops_at_no_text(items: ZeroTrieStringIterator<'_>) -> bool {
     let mut items = items;
     let is_pair = matches!(items.next(), Some(Ok(_)));

@@ -8,7 +8,7 @@ ghost use Rattle.zerotrie.specs.Maps.{look, map_of};
 use super::*;
 use serde_json::Value;
 
-/// A look-up in a trie that was put after its tag and read again, which is never refused.
+/// Looks a key up in a trie that was tagged and read again, which never fails.
 fn find_tagged(
     alloc: Global,
     pairs: &[(&[u8], usize)],
@@ -31,12 +31,12 @@ fn what_was_written_reads_back(rt: HostRuntime) {
     same(&rt, found.ok(), Some(Some(33)));
 }
 
-/// The items of a trie that has 18 bytes, and its text.
+/// The items of a trie that has 18 bytes, and its encoding.
 const FEW: [(&str, usize); 3] = [("abc", 11), ("xyz", 22), ("axyb", 33)];
 
 const FEW_TEXT: &[u8] = b"\xC2ax\x0A\xC2bx\x02c\x8Byb\x90\x11yz\x90\x06";
 
-/// Whether tagged bytes are this tag, and then the text.
+/// Returns whether tagged bytes are this tag, and then the text.
 fn has_tag<E: Drop>(tagged: Result<Vec<u8>, E>, tag: u8) -> bool {
     match tagged {
         Ok(bytes) => bytes.as_slice().split_first() == Some((&tag, FEW_TEXT)),
@@ -75,7 +75,7 @@ fn tags_stand_in_front(rt: HostRuntime) {
     holds(&rt, any_has_tag(alloc, 0));
 }
 
-/// What a look-up in tagged bytes answers, if they are read.
+/// The result of a look-up in tagged bytes, if they are read.
 fn value_in_ascii<K: AsciiKind>(tagged: &[u8], key: &[u8]) -> Option<Option<usize>> {
     let trie: AsciiTrie<K, &[u8]> = AsciiTrie::try_from_tagged_bytes(tagged).ok()?;
     Some(trie.get(key))
@@ -113,7 +113,8 @@ fn tagged_bytes_are_read(rt: HostRuntime) {
     same(&rt, value_in_any(b"\x07\x81", b""), extended);
 }
 
-/// Why each type refuses tagged bytes: simple, without case, hashed, extended, of unknown kind.
+/// The error of each type for tagged bytes: simple, without case, hashed, extended, of unknown
+/// kind.
 fn refusals_of(bytes: &[u8]) -> [Option<TagError>; 5] {
     [
         ZeroTrieSimpleAscii::try_from_tagged_bytes(bytes).err(),
@@ -124,7 +125,7 @@ fn refusals_of(bytes: &[u8]) -> [Option<TagError>; 5] {
     ]
 }
 
-/// Why tagged bytes are refused, which are read if the tag is one of the type's.
+/// The error of reading tagged bytes. It is none if the tag is one of the type's.
 fn refusal(is_read: bool) -> Option<TagError> {
     if is_read {
         None
@@ -133,8 +134,8 @@ fn refusal(is_read: bool) -> Option<TagError> {
     }
 }
 
-/// Why each type should refuse bytes with this tag: each kind reads its own tag alone, and `ZeroTrie` all but the one
-/// without case.
+/// The error that each type should return for this tag: each kind reads its own tag alone, and
+/// `ZeroTrie` all but the one without case.
 fn refusals_by_tag(tag: u8) -> [Option<TagError>; 5] {
     [
         refusal(tag == 0),
@@ -169,7 +170,7 @@ fn hashed_from_json<K: HashedKind>(alloc: Global, value: &Value) -> Result<Vec<u
     Ok(trie.into_store())
 }
 
-/// Whether a `ZeroTrie` of ASCII keys is read, whose bytes are these.
+/// Returns whether a `ZeroTrie` of ASCII keys is read, whose bytes are these.
 fn is_any_from_json(alloc: Global, value: &Value, bytes: &[u8]) -> bool {
     match ZeroTrie::try_from_json_value(alloc, value) {
         Ok(any) => any.flavor == ZeroTrieFlavor::SimpleAscii && any.as_bytes() == bytes,
@@ -177,7 +178,7 @@ fn is_any_from_json(alloc: Global, value: &Value, bytes: &[u8]) -> bool {
     }
 }
 
-/// Whether each kind reads the JSON value as this text.
+/// Returns whether each kind reads the JSON value as this text.
 fn is_read_as(alloc: Global, value: &Value, bytes: &[u8]) -> bool {
     let kinds = [
         is_bytes(ascii_from_json::<Simple>(alloc, value), bytes),
@@ -199,7 +200,7 @@ fn reads(alloc: Global, row: &(&str, &[u8])) -> bool {
 const READ: &[(&str, &[u8])] = &[
     ("[]", b""),
     ("{}", b""),
-    // Of a key that an object has twice the last number stays.
+    // If an object has a key twice, its last number counts.
     (r#"{"abc":7,"abcdef":1,"abc":0}"#, b"abc\x80def\x81"),
     (r#"[["adef",33],["ad",22]]"#, b"ad\x90\x06ef\x90\x11"),
     (r#"[[[97,100],22]]"#, b"ad\x90\x06"),
@@ -256,7 +257,7 @@ const WRITTEN: &[(&[u8], &str)] = &[
     (FEW_TEXT, r#"{"abc":11,"axyb":33,"xyz":22}"#),
 ];
 
-/// Whether each kind writes the bytes as this JSON.
+/// Returns whether each kind writes the bytes as this JSON.
 fn writes(alloc: Global, row: &(&[u8], &str)) -> bool {
     let (bytes, json) = *row;
     let kinds = [
@@ -303,7 +304,7 @@ fn json_of_keys_that_are_no_text(rt: HostRuntime) {
     );
 }
 
-/// Whether a text begins and ends so.
+/// Returns whether a text begins and ends so.
 fn is_text_from_to<E: Drop>(call: Result<String, E>, front: &str, end: &str) -> bool {
     match call {
         Ok(text) => text.as_str().starts_with(front) && text.as_str().ends_with(end),
@@ -318,7 +319,7 @@ fn json_of_a_hashed_branch(rt: HostRuntime) {
     holds(&rt, is_text_from_to(json, r#"{"a":0,"b":1,"#, r#""p":15}"#));
 }
 
-/// Whether a trie over ASCII keys refuses a JSON value so.
+/// Returns whether a trie over ASCII keys returns this error for a JSON value.
 fn is_json_refused<K: AsciiKind>(alloc: Global, row: &(&str, JsonError)) -> bool {
     match value_of(alloc, row.0) {
         Ok(value) => is_refused(ascii_from_json::<K>(alloc, &value), &row.1),
@@ -360,13 +361,13 @@ fn json_is_refused(rt: HostRuntime) {
     holds(&rt, is_json_refused::<Ignore>(alloc, &REFUSED_WITHOUT_CASE));
 }
 
-/// What a program does that writes a trie, with one error for all of its calls.
+/// Writes a trie as a program would, with one error for all calls.
 fn written(alloc: Global) -> Result<Vec<u8>, Error> {
     let trie = ascii_of::<Simple>(alloc, &[("bar", 2), ("foo", 1)])?;
     Ok(trie.to_tagged_bytes(alloc)?)
 }
 
-/// What a program does that reads it again, with one error for all of its calls.
+/// Reads it again as a program would, with one error for all calls.
 fn read_again(alloc: Global, tagged: &[u8]) -> Result<usize, Error> {
     let loaded = ZeroTrieSimpleAscii::load(tagged)?;
     let value = loaded.to_json_value(alloc)?;

@@ -1,23 +1,23 @@
-//! Pairs that are refused.
+//! Pairs whose build returns an error.
 
 use super::*;
 
-/// Items, and why a build of them is refused.
+/// Items, and the error of building them.
 type Row<'a> = (&'a [(&'a [u8], usize)], ZeroTrieBuildError);
 
-/// A key that comes twice.
+/// A key that is given twice.
 const TWICE: &[(&[u8], usize)] = &[(b"a", 1), (b"b", 2), (b"b", 3)];
 
 /// A key that is not ASCII.
 const HIGH: &[(&[u8], usize)] = &[(b"a", 1), (b"\xE5", 2)];
 
-/// Whether a build of the items in any order is refused so.
+/// Returns whether a build of the items in any order returns this error.
 fn is_refused_in_any_order<K: AsciiKind>(alloc: Global, row: &Row<'_>) -> bool {
     let items = row.0.iter().copied();
     is_refused(AsciiTrie::<K, Vec<u8>>::try_from_iter(alloc, items), &row.1)
 }
 
-/// Whether a build of the items as a slice that ascends is refused so.
+/// Returns whether a build of the items as a slice that ascends returns this error.
 fn is_refused_as_slice<K: AsciiKind>(alloc: Global, row: &Row<'_>) -> bool {
     is_refused(
         AsciiTrie::<K, Vec<u8>>::try_from_sorted_slice(alloc, row.0),
@@ -94,7 +94,7 @@ fn refused_without_case(rt: HostRuntime) {
     }
 }
 
-/// Whether a key is refused beside those without case.
+/// Returns whether a key is refused beside those without case.
 fn is_refused_beside_mixed(alloc: Global, key: &[u8]) -> bool {
     let items: [(&[u8], usize); 7] = [
         (key, 6),
@@ -108,7 +108,7 @@ fn is_refused_beside_mixed(alloc: Global, key: &[u8]) -> bool {
     is_refused_in_any_order::<Ignore>(alloc, &(&items, ZeroTrieBuildError::MixedCase))
 }
 
-/// Keys that agree with another in front up to case alone.
+/// Keys that begin like another but for the case of a letter.
 const BESIDE_MIXED: &[&[u8]] = &[b"A", b"ab", b"abc", b"aBcd", b"aBcgHi"];
 
 #[test]

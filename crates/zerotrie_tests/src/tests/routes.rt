@@ -1,4 +1,4 @@
-//! The texts that every route builds.
+//! The encodings that every way of building returns.
 
 use super::*;
 use zerotrie::bytes::{ByteSliceWithIndices, plain_encode};
@@ -41,7 +41,7 @@ fn reversed<'a>(
     Ok(reversed)
 }
 
-/// Items that ascend, and their text.
+/// Items that ascend, and their encoding.
 type Row = (&'static [(&'static str, usize)], &'static [u8]);
 
 /// Items in the forms that a build takes.
@@ -67,7 +67,7 @@ fn inputs_of<'a>(
     })
 }
 
-/// Whether the bytes of a trie are the text, in which the keys are found.
+/// Returns whether the bytes of a trie are this encoding, and the keys are found in it.
 fn has_ascii<K: AsciiKind>(trie: &AsciiTrie<K, Vec<u8>>, row: &Row) -> bool {
     let (items, text) = *row;
     for (key, value) in items {
@@ -108,7 +108,7 @@ fn ascii_from_slice<K: AsciiKind>(alloc: Global, items: &[(&[u8], usize)], row: 
     is_ascii::<K>(AsciiTrie::try_from_sorted_slice(alloc, items), row)
 }
 
-/// Whether every route over ASCII keys builds the text.
+/// Returns whether every way to build over ASCII keys builds this encoding.
 fn is_built_as_ascii<K: AsciiKind>(alloc: Global, inputs: &Inputs<'_>, row: &Row) -> bool {
     let routes = [
         ascii_from_texts::<K, &str>(alloc, &inputs.texts, row),
@@ -164,7 +164,7 @@ fn hashed_from_slice<K: HashedKind>(alloc: Global, items: &[(&[u8], usize)], row
     is_hashed::<K>(HashedTrie::try_from_sorted_slice(alloc, items), row)
 }
 
-/// Whether every route over keys of any bytes builds the text.
+/// Returns whether every way to build over keys of any bytes builds this encoding.
 fn is_built_as_hashed<K: HashedKind>(alloc: Global, inputs: &Inputs<'_>, row: &Row) -> bool {
     let routes = [
         hashed_from_texts::<K>(alloc, &inputs.texts, row),
@@ -203,7 +203,7 @@ fn is_auto(
     }
 }
 
-/// The trie of the kind that is taken for the items, by one of four routes.
+/// The trie of the kind that is chosen for the items, built in one of four ways.
 fn auto_from_texts(
     alloc: Global,
     map: &BTreeMap<&str, usize>,
@@ -225,7 +225,8 @@ fn auto_from_slice(
     ZeroTrie::try_from_sorted_slice(alloc, items)
 }
 
-/// Whether every route that takes a kind for the items takes this one, and builds the text.
+/// Returns whether every build that chooses a kind for the items chooses this one, and builds this
+/// encoding.
 fn is_built_as_auto(alloc: Global, inputs: &Inputs<'_>, flavor: ZeroTrieFlavor, row: &Row) -> bool {
     let routes = [
         is_auto(auto_from_texts(alloc, &inputs.texts), flavor, row),
@@ -243,7 +244,7 @@ fn is_auto_text(alloc: Global, flavor: ZeroTrieFlavor, row: &Row) -> bool {
     }
 }
 
-/// Whether the plain encoder writes the text, too.
+/// Returns whether the plain encoder writes this encoding too.
 fn is_plain_text(alloc: Global, row: &Row) -> bool {
     match as_bytes(alloc, row.0) {
         Ok(items) => is_bytes(plain_encode(alloc, &items), row.1),
@@ -352,8 +353,8 @@ fn texts_without_case(rt: HostRuntime) {
     }
 }
 
-/// Spans, and the tables of branches of 16 edges: all parameters are zero if no two edges are equal modulo
-/// their number, and searched if two are.
+/// Spans, and the tables of branches of 16 edges: all parameters are zero if no two edges are equal
+/// modulo their number, and searched if two are.
 const HASHED: &[Row] = &[
     (&[], &[]),
     (&[("", 3), ("é", 4)], b"\x83\xA2\xC3\xA9\x84"),
@@ -403,7 +404,7 @@ fn hashed_texts_of_both_kinds(rt: HostRuntime) {
     }
 }
 
-/// Whether a key of high bytes has this text with value 1.
+/// Returns whether a key of high bytes has this encoding with value 1.
 fn is_span(alloc: Global, key: &[u8], text: &[u8]) -> bool {
     match ZeroTriePerfectHash::try_from_iter(alloc, [(key, 1)]) {
         Ok(trie) => trie.as_bytes() == text && trie.get(key) == Some(1),
@@ -510,7 +511,8 @@ fn has_kind(alloc: Global, keys: Vec<(&[u8], usize)>, flavor: ZeroTrieFlavor, ta
     }
 }
 
-/// Whether the trie of keys from "k000" on is of this kind, and its tagged bytes begin with this tag.
+/// Returns whether the trie of keys from "k000" on is of this kind, and its tagged bytes begin with
+/// this tag.
 fn is_kind_of(alloc: Global, keys: &[u8], flavor: ZeroTrieFlavor, tag: u8) -> bool {
     match keys_of(alloc, keys, 4) {
         Ok(keys) => has_kind(alloc, keys, flavor, tag),
@@ -525,7 +527,8 @@ fn begins_with<E: Drop>(call: Result<Vec<u8>, E>, first: u8) -> bool {
     }
 }
 
-/// Up to 511 keys are few: they make a trie of the kind whose tag is 0, and one more makes one of tag 3.
+/// Up to 511 keys are few: they make a trie of the kind whose tag is 0, and one more makes one of
+/// tag 3.
 #[test]
 fn many_keys_are_hashed(rt: HostRuntime) {
     let alloc = rt.alloc();
@@ -540,7 +543,8 @@ fn many_keys_are_hashed(rt: HostRuntime) {
     );
 }
 
-/// Whether a key and "b" have a text of this length, which begins so and which the plain encoder writes, too.
+/// Returns whether a key and "b" have an encoding of this length, with this beginning, which the
+/// plain encoder writes too.
 fn is_wide(alloc: Global, key: &[u8], length: usize, front: &[u8]) -> bool {
     let items = [(key, 0), (b"b".as_slice(), 0)];
     match ZeroTrieSimpleAscii::try_from_sorted_slice(alloc, &items) {

@@ -2,7 +2,7 @@
 
 use super::*;
 
-/// Bytes, a key, and what a look-up of it answers.
+/// Bytes, a key, and the result of its look-up.
 type Row = (&'static [u8], &'static [u8], Option<usize>);
 
 const SIMPLE: &[Row] = &[
@@ -32,7 +32,7 @@ const CASELESS: &[Row] = &[
     (NAMES, b"fOO", Some(1)),
 ];
 
-/// Look-ups that pass over values and spans, and one that ends in front of a span.
+/// Look-ups that pass over values and spans, and one that ends before a span.
 const HASHED: &[Row] = &[
     (b"a\x8Ab\xA3\x81\x91\xA1\x84", b"a", Some(10)),
     (b"a\x8Ab\xA3\x81\x91\xA1\x84", b"ab\x81\x91\xA1", Some(4)),
@@ -44,7 +44,7 @@ fn ascii_value<K: AsciiKind>(bytes: &[u8], key: &[u8]) -> Option<usize> {
     AsciiTrie::<K, &[u8]>::from_bytes(bytes).get(key)
 }
 
-/// What a trie of a hashed kind answers, and what a `ZeroTrie` of the same kind.
+/// The results of a trie of a hashed kind, and of a `ZeroTrie` of the same kind.
 fn hashed_values<K: HashedKind>(bytes: &[u8], key: &[u8]) -> [Option<usize>; 2] {
     let trie: HashedTrie<K, &[u8]> = HashedTrie::from_bytes(bytes);
     [trie.get(key), trie.into_zerotrie().get(key)]
@@ -64,7 +64,7 @@ fn look_ups(rt: HostRuntime) {
     }
 }
 
-/// Whether a trie that owns its bytes or borrows them is this one.
+/// Returns whether a trie that owns its bytes or borrows them is this one.
 fn is_ascii_over_cow<K: AsciiKind>(
     cow: &AsciiTrie<K, CowSlice<'_, u8>>,
     borrowed: AsciiTrie<K, &[u8]>,
@@ -72,7 +72,7 @@ fn is_ascii_over_cow<K: AsciiKind>(
     cow.get(b"aBc") == Some(5) && cow.as_borrowed() == borrowed
 }
 
-/// Whether the same bytes in memory of their own are one trie of the kind over ASCII.
+/// Returns whether the same bytes in memory of their own are one trie of the kind over ASCII.
 fn is_ascii_over_vectors<K: AsciiKind>(alloc: Global) -> bool {
     let borrowed: AsciiTrie<K, &[u8]> = AsciiTrie::from_bytes(b"aBc\x85");
     match borrowed.to_owned(alloc) {
@@ -96,7 +96,7 @@ fn is_hashed_over_vectors<K: HashedKind>(alloc: Global) -> bool {
     }
 }
 
-/// Whether views that take no memory are one trie, and other bytes another.
+/// Returns whether views that do not allocate are one trie, and other bytes another.
 fn is_ascii_over_arrays<K: AsciiKind>() -> bool {
     let borrowed: AsciiTrie<K, &[u8]> = AsciiTrie::from_bytes(b"aBc\x85");
     let array: AsciiTrie<K, [u8; 4]> = AsciiTrie::from_store([0x61, 0x42, 0x63, 0x86]);
@@ -107,7 +107,7 @@ fn is_ascii_over_arrays<K: AsciiKind>() -> bool {
     is_copied && is_other && array.into_store() == [0x61, 0x42, 0x63, 0x86]
 }
 
-/// Whether a trie of unknown kind is equal to one of its kind alone.
+/// Returns whether a trie of unknown kind is equal to one of its kind alone.
 fn is_hashed_as_zerotrie<K: HashedKind>() -> bool {
     let borrowed: HashedTrie<K, &[u8]> = HashedTrie::from_bytes(b"aBc\x85");
     let any: ZeroTrie<CowSlice<'_, u8>> = borrowed.into_zerotrie().convert_store();
@@ -141,7 +141,7 @@ fn kinds_have_their_tags(rt: HostRuntime) {
     same(&rt, tags, [0, 3, 7, 8]);
 }
 
-/// Whether `{:?}` writes this of a value.
+/// Returns whether `{:?}` writes this of a value.
 fn is_shown<T: Debug>(alloc: Global, value: &T, text: &str) -> bool {
     is_text(format!(in alloc; "{value:?}"), text)
 }

@@ -5,10 +5,10 @@ use zerotrie::CursorAnswer::{Probed, Stepped, Taken};
 use zerotrie::CursorOp::{Probe, Step, Take};
 use zerotrie::bytes::walk;
 
-/// Bytes, a walk over them, and what it answers.
+/// Bytes, a walk over them, and its results.
 type Row = (&'static [u8], &'static [CursorOp], &'static [CursorAnswer]);
 
-/// Whether a walk over the bytes gives the answers.
+/// Returns whether a walk over the bytes gives the answers.
 fn is_walk<K: ZeroTrieWithOptions>(alloc: Global, row: &Row) -> bool {
     let (bytes, ops, answers) = *row;
     match walk::<K>(alloc, bytes, ops) {
@@ -156,7 +156,7 @@ fn walks_in_the_order_of_a_table(rt: HostRuntime) {
     }
 }
 
-/// Whether the last edge of a branch of 256 edges is found, and its value taken.
+/// Returns whether the last edge of a branch of 256 edges is found, and its value taken.
 fn finds_the_last_edge(alloc: Global, bytes: &[u8]) -> bool {
     match walk::<Hash>(alloc, bytes, &[Probe(255), Take]) {
         Ok(answers) => answers.as_slice() == [Probed(Some((255, 256))), Taken(Some(0))].as_slice(),
@@ -169,7 +169,8 @@ fn walks_over_all_bytes(rt: HostRuntime) {
     holds(&rt, finds_the_last_edge(rt.alloc(), &text_of_all_bytes()));
 }
 
-/// No answer is promised on such bytes, but there is one, also if a width is claimed that no branch has.
+/// Results for such bytes are unspecified, but each call returns, also for a width that no branch
+/// has.
 const WRONG: &[&[u8]] = &[
     b"a",
     b"\x80\x80",
@@ -184,7 +185,7 @@ const WRONG: &[&[u8]] = &[
     b"\xF0\x70\0\0\0\0\0\0\0\0\0\0\0\0\0\0\0\0\0a",
 ];
 
-/// How many answers a walk of seven calls gives.
+/// The number of results of a walk of seven calls.
 fn answers_on<K: ZeroTrieWithOptions>(alloc: Global, bytes: &[u8]) -> Option<usize> {
     let ops = [Take, Probe(0), Take, Step(b'a'), Probe(1), Step(0xA1), Take];
     match walk::<K>(alloc, bytes, &ops) {

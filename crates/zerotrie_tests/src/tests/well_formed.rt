@@ -1,8 +1,8 @@
-//! Bytes that are tested, and look-ups in bytes that are no trie.
+//! Validation of bytes, and look-ups in malformed bytes.
 
 use super::*;
 
-/// Bytes that are no trie of any kind.
+/// Bytes that are malformed in every kind.
 const WRONG: &[&[u8]] = &[
     b"a",
     b"\x80\x80",
@@ -20,7 +20,7 @@ const WRONG: &[&[u8]] = &[
     b"\x91\xEF\xEF\xEF\xEF\xEF\xEF\xEF\xEF\x70",
 ];
 
-/// What each kind says of the bytes: simple, without case, hashed, extended.
+/// Whether the bytes are valid in each kind: simple, without case, hashed, extended.
 fn verdicts(bytes: &[u8]) -> [bool; 4] {
     [
         ZeroTrieSimpleAscii::from_bytes(bytes).is_well_formed(),
@@ -30,7 +30,7 @@ fn verdicts(bytes: &[u8]) -> [bool; 4] {
     ]
 }
 
-/// What a `ZeroTrie` says that is simple, hashed or extended.
+/// Whether they are valid as a `ZeroTrie` that is simple, hashed or extended.
 fn verdicts_of_any(bytes: &[u8]) -> [bool; 3] {
     [
         ZeroTrie::of_kind::<Simple>(bytes).is_well_formed(),
@@ -39,7 +39,7 @@ fn verdicts_of_any(bytes: &[u8]) -> [bool; 3] {
     ]
 }
 
-/// Ends the test unless each type says this of the bytes.
+/// Ends the test unless each type returns this for the bytes.
 fn are_judged<H: Abort>(rt: &H, bytes: &[u8], answers: [bool; 4]) {
     let [simple, _, hashed, extended] = answers;
     same(rt, verdicts(bytes), answers);
@@ -92,7 +92,7 @@ fn hashed_tables_with_any_perfect_parameters(rt: HostRuntime) {
     are_judged(&rt, &bytes, [false; 4]);
 }
 
-/// What a look-up answers in bytes that are tested, if they are taken.
+/// The result of a look-up in bytes, if they are valid.
 fn value_in_ascii<K: AsciiKind>(bytes: &[u8], key: &[u8]) -> Option<Option<usize>> {
     let trie: AsciiTrie<K, &[u8]> = AsciiTrie::try_from_bytes(bytes).ok()?;
     Some(trie.get(key))
@@ -131,7 +131,7 @@ fn bytes_are_taken_or_refused(rt: HostRuntime) {
     holds(&rt, is_written(rt.alloc(), &NotWellFormed, text));
 }
 
-/// The greatest answer of the kinds for a key.
+/// The greatest result of the kinds for a key.
 fn greatest_answer(bytes: &[u8], key: &[u8]) -> Option<usize> {
     let simple = ZeroTrieSimpleAscii::from_bytes(bytes).get(key);
     let caseless = ZeroAsciiIgnoreCaseTrie::from_bytes(bytes).get(key);
@@ -140,7 +140,8 @@ fn greatest_answer(bytes: &[u8], key: &[u8]) -> Option<usize> {
     simple.max(caseless).max(hashed).max(extended)
 }
 
-/// No answer is promised on such bytes, but there is one for each key of up to two bytes.
+/// Results for such bytes are unspecified, but each look-up returns, for every key of up to two
+/// bytes.
 #[test]
 fn look_ups_return_on_any_bytes(rt: HostRuntime) {
     for bytes in WRONG {
