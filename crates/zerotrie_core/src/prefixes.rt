@@ -1,7 +1,7 @@
 //! The keys that some text begins with.
 
-ghost use Rattle.std.specs.Prelude.{◌≡◌, ◌≤◌, ◌<◌, length, IfSome, true, false};
-ghost use Rattle.std.specs.Iterator.{at_most};
+ghost use Rattle.std.specs.Prelude.{◌≡◌, ◌≤◌, ◌<◌, ⊤, ℕ, length, IfSome, true, false};
+ghost use Rattle.std.specs.Iterator.{at_most, MakesProgress};
 ghost use Rattle.zerotrie_base.specs.Kind.{Kind, kind_with};
 ghost use Rattle.zerotrie_base.specs.Maps.{Map};
 ghost use Rattle.zerotrie_core.specs.Places.{ListsAt, IsStep, IsTake};
@@ -92,6 +92,7 @@ fn next_front(
 ) -> Option<(usize, usize)>
     requires { len.old ≤ length text.now }
     ensures inside { len.new ≤ length text.now }
+    ensures within { IfSome result (λ r. r.0 ≤ length text.now) }
     ensures next { NextFront (along (kind_with options) cursor.old text.now len.old looked.old)
         result
         (along (kind_with options) cursor.new text.now len.new looked.new) }
@@ -121,7 +122,8 @@ fn next_front(
 /// ```
 ///
 /// Reads `text` once, up to the first byte that continues no key, and does not allocate. On
-/// malformed bytes the result is unspecified; it never panics or reads outside them.
+/// malformed bytes the result is unspecified; it never panics or reads outside them, and each
+/// length is at most that of `text`.
 #[derive(Clone, Debug, Drop)]
 pub struct CommonPrefixes<'a, 't> {
     options: ZeroTrieBuilderOptions,
@@ -173,7 +175,13 @@ impl<'a, 't> Iterator for CommonPrefixes<'a, 't> {
 
     ghost remaining = { λ s. at_most (most_left s) };
 
-    fn next(&mut self) -> Option<(usize, usize)> {
+    fn next(&mut self) -> Option<(usize, usize)>
+        ensures steps { NextFront self.old result self.new }
+        ensures goes { MakesProgress {A = ℕ × ℕ} (λ _. ⊤) (λ s. at_most (most_left s))
+            self.old result self.new }
+        ensures text { self.new.text ≡ self.old.text }
+        ensures within { IfSome result (λ r. r.0 ≤ length self.old.text) }
+    {
         next_front(
             self.options,
             &mut self.cursor,
