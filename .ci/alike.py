@@ -13,7 +13,6 @@ import sys
 CRATES = pathlib.Path(__file__).resolve().parent.parent / "crates"
 MODULES = {  # the modules of both crates, and where zerotrie_any has their calls
     "trie": ["trie"],
-    "options": [],
     "list": ["list", "keys_values"],
     "prefixes": ["prefixes"],
     "cursor": ["cursor"],

@@ -3,4 +3,5 @@ pub mod Calls
 pub mod CommonPrefixes
 pub mod Laws
 pub mod Longest
+pub mod Parts
 pub mod Runs

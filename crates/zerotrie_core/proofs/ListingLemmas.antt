@@ -5,3 +5,4 @@ pub mod Nodes
 pub mod Passed
 pub mod Prefixes
 pub mod Rows
+pub mod Skipped

@@ -22,6 +22,7 @@ pub mod Machine
 pub mod Places
 pub mod reader
 pub mod Listings
+pub mod Skips
 pub mod listing
 pub mod cursor
 pub mod count

@@ -5,13 +5,15 @@
 //! edges. Each target but the first has an offset, which is where it begins. The highest bytes of
 //! all offsets come first, then the next bytes, and so on.
 
-ghost use Rattle.std.specs.Prelude.{◌≡◌, ◌↔◌, ℕ, ◌+◌, ◌-◌, ◌*◌, ◌<◌, ◌≤◌, ◌⊎◌, length, take, drop, IfSome, IfNone, slice_index};
+ghost use Rattle.std.specs.Prelude.{◌≡◌, ◌↔◌, ℕ, ◌+◌, ◌-◌, ◌*◌, ◌<◌, ◌≤◌, ◌⊎◌, [], length, take, drop, IfSome, IfNone, slice_index};
+ghost use Rattle.std.specs.Option.{option_map};
 ghost use Rattle.std.specs.Char.{to_ascii_lowercase};
 ghost use Rattle.zerotrie_base.specs.Kind.{fold_byte};
 ghost use Rattle.zerotrie_base.specs.Branches.{IsTable};
 ghost use Rattle.zerotrie_base.specs.Nodes.{number_from, offset_in, end_of, targets_behind, IsTargetResult};
 ghost use Rattle.zerotrie_base.specs.reader.Reading.{AlwaysRises, IsPlace, HasNoPlace};
 ghost use Rattle.zerotrie_core.specs.reader.Going.{AlwaysGoes, AlwaysStops};
+ghost use Rattle.zerotrie_core.specs.listing.Runs.{LiesIn};
 
 use crate::offsets::{end_at, offset_at, offsets_and_targets, short_offset_at};
 use crate::simd::edge_search::{before_end, place_in};
@@ -108,19 +110,24 @@ impl<'a> Branch<'a> {
         self.place_by_table::<K>(byte)
     }
 
-    /// Like `target_at`, for two edges. The offset is read in any case, so as not to wait for the
-    /// place.
+    /// Like `target_within`, for two edges. The offset is read in any case, so as not to wait for
+    /// the place.
     #[inline(always)]
-    fn target_of_two(&self, index: usize) -> Option<&'a [u8]>
+    fn target_of_two(&self, index: usize) -> Option<(&'a [u8], usize)>
         requires two { self.now.edges ≡ 2 }
         requires index { index < 2 }
-        ensures { IsTargetResult 2 self.now.width self.now.behind.now index result }
+        ensures target { IsTargetResult 2 self.now.width self.now.behind.now index
+            (option_map (λ r. r.0) result) }
+        ensures after { IfSome result (λ r. r.1
+            ≡ length (targets_behind 2 self.now.width self.now.behind.now)
+            - end_of 2 self.now.width self.now.behind.now index) }
     {
         let (table, targets) = offsets_and_targets(self.behind, 2, self.width);
         let middle = offset_at(table, 0, 1, self.width);
         let begin = if index == 0 { 0 } else { middle };
         let end = if index == 0 { middle } else { targets.len() };
-        targets.get(begin..end)
+        let target = targets.get(begin..end)?;
+        Some((target, targets.len() - end))
     }
 
     /// Returns where the target of an edge begins and ends, by offsets of up to three bytes. Where
@@ -177,11 +184,16 @@ impl<'a> Branch<'a> {
         }
     }
 
-    /// Returns the target of an edge, or `None` if its offsets fall or are beyond the last target.
+    /// Returns the target of an edge, and how many bytes of the targets follow it, or `None` if its
+    /// offsets fall or are beyond the last target.
     #[inline(always)]
-    pub fn target_at(&self, index: usize) -> Option<&'a [u8]>
+    pub(crate) fn target_within(&self, index: usize) -> Option<(&'a [u8], usize)>
         requires { index < self.now.edges }
-        ensures { IsTargetResult self.now.edges self.now.width self.now.behind.now index result }
+        ensures target { IsTargetResult self.now.edges self.now.width self.now.behind.now index
+            (option_map (λ r. r.0) result) }
+        ensures after { IfSome result (λ r. r.1
+            ≡ length (targets_behind self.now.edges self.now.width self.now.behind.now)
+            - end_of self.now.edges self.now.width self.now.behind.now index) }
     {
         if self.edges == 2 {
             return self.target_of_two(index);
@@ -194,7 +206,18 @@ impl<'a> Branch<'a> {
         } else {
             next
         };
-        targets.get(from..to)
+        let target = targets.get(from..to)?;
+        Some((target, targets.len() - to))
+    }
+
+    /// Returns the target of an edge, or `None` if its offsets fall or are beyond the last target.
+    #[inline(always)]
+    pub fn target_at(&self, index: usize) -> Option<&'a [u8]>
+        requires { index < self.now.edges }
+        ensures { IsTargetResult self.now.edges self.now.width self.now.behind.now index result }
+    {
+        let (target, _) = self.target_within(index)?;
+        Some(target)
     }
 
     /// Returns where the target of an edge ends among the targets, by its offset.
@@ -206,6 +229,23 @@ impl<'a> Branch<'a> {
         end_at(self.behind, self.edges, self.width, index)
     }
 
+    /// Returns the edge that equals the byte in this kind, its target, and how many bytes of the
+    /// targets follow it.
+    #[inline(always)]
+    pub(crate) fn follow_within<K: ZeroTrieWithOptions>(
+        &self,
+        byte: u8,
+    ) -> Option<(u8, &'a [u8], usize)>
+        ensures lies { IfSome result (λ r. LiesIn self.now.behind.now [] r.1.now r.2) }
+        ensures some { IfSome result (λ r.
+            AlwaysGoes K.kind (branch_shape self.now) byte r.0 r.1.now) }
+        ensures none { IfNone result (AlwaysStops K.kind (branch_shape self.now) byte) }
+    {
+        let place = self.place_of::<K>(byte)?;
+        let (target, after) = self.target_within(place)?;
+        Some((self.edge_at(place), target, after))
+    }
+
     /// Returns the edge that equals the byte in this kind, and its target.
     #[inline(always)]
     pub fn follow<K: ZeroTrieWithOptions>(&self, byte: u8) -> Option<(u8, &'a [u8])>
@@ -214,8 +254,7 @@ impl<'a> Branch<'a> {
             AlwaysGoes K.kind (branch_shape self.now) byte r.0 r.1.now) }
         ensures none { IfNone result (AlwaysStops K.kind (branch_shape self.now) byte) }
     {
-        let place = self.place_of::<K>(byte)?;
-        let target = self.target_at(place)?;
-        Some((self.edge_at(place), target))
+        let (edge, target, _) = self.follow_within::<K>(byte)?;
+        Some((edge, target))
     }
 }

@@ -91,8 +91,9 @@ impl<'a, A: Allocator + Copy> ZeroTrieIterator<'a, A> {
         alloc: A,
         cursor: SpanCursor<'a>,
     ) -> Result<Self, AllocError>
-        ensures { IfOk result (λ it.
+        ensures lists { IfOk result (λ it.
             (pairs : Pairs) → ListsAt K.kind cursor.entry pairs → it ≡ to_come pairs) }
+        ensures most { IfOk result (λ it. length it.pairs ≤ length cursor.entry.trie) }
     {
         Ok(ZeroTrieIterator {
             stream: ZeroTrieStream::from_cursor::<K>(alloc, cursor)?,
@@ -106,8 +107,9 @@ impl<'a, A: Allocator + Copy> ZeroTrieIterator<'a, A> {
         bytes: &'a [u8],
         prefix: &[u8],
     ) -> Result<Self, AllocError>
-        ensures { IfOk result (λ it. (pairs : Pairs) → Lists K.kind bytes.now pairs
+        ensures lists { IfOk result (λ it. (pairs : Pairs) → Lists K.kind bytes.now pairs
             → it ≡ to_come (beginning K.kind prefix.now pairs)) }
+        ensures most { IfOk result (λ it. length it.pairs ≤ length bytes.now) }
     {
         Ok(ZeroTrieIterator {
             stream: ZeroTrieStream::with_prefix::<K>(alloc, bytes, prefix)?,

@@ -1,12 +1,12 @@
 //! The cursor of any kind, which may be inside a span.
 
-ghost use Rattle.std.specs.Prelude.{◌≡◌, ◌≢◌, ◌↔◌, ◌≤◌, ℕ, [], IfSome, IfNone, IsTrue};
+ghost use Rattle.std.specs.Prelude.{◌≡◌, ◌≢◌, ◌↔◌, ◌≤◌, ◌+◌, ◌++◌, ℕ, [], length, IfSome, IfNone, IsTrue};
 ghost use Rattle.std.specs.Option.{option_map};
 ghost use Rattle.zerotrie_base.specs.Kind.{Kind};
 ghost use Rattle.zerotrie_base.specs.Maps.{Pairs};
 ghost use Rattle.zerotrie_base.specs.Texts.{Lists};
 ghost use Rattle.zerotrie_core.specs.Places.{Place, nowhere, ListsBehind, ListsAt, IsStep, IsTake, IsProbe, FollowsRun};
-ghost use Rattle.zerotrie_core.specs.cursor.Edges.{place_along, place_after};
+ghost use Rattle.zerotrie_core.specs.cursor.Edges.{LiesBehind, place_along, place_after};
 
 use crate::cursor::take_value;
 use crate::edges::{Along, edge_like, edge_numbered, run_edge_like, run_edge_numbered};
@@ -51,6 +51,7 @@ fn like_at<'a, K: ZeroTrieWithOptions>(run: &'a [u8], trie: &'a [u8], byte: u8) 
         (option_map (λ a. a.edge) result) (ListsAt K.kind (place_along result)) }
     ensures run { IfSome result (λ a. FollowsRun K.kind
         (record { run = run.now; trie = trie.now }) a.edge (place_after a)) }
+    ensures lies { LiesBehind (run.now ++ trie.now) result }
 {
     if run.is_empty() {
         edge_like::<K>(trie, byte)
@@ -71,6 +72,7 @@ fn numbered_at<'a, K: ZeroTrieWithOptions>(
         (ListsAt K.kind (place_along (option_map (λ r. r.0) result))) }
     ensures run { IfSome result (λ r. FollowsRun K.kind
         (record { run = run.now; trie = trie.now }) r.0.edge (place_after r.0)) }
+    ensures lies { LiesBehind (run.now ++ trie.now) (option_map (λ r. r.0) result) }
     ensures few { IfSome result (λ r. r.1 ≤ 256) }
 {
     if run.is_empty() {
@@ -166,6 +168,8 @@ impl<'a> SpanCursor<'a> {
         ensures meaning { IsStep K.kind (ListsAt K.kind self.old) byte result
             (ListsAt K.kind self.new) }
         ensures run { IfSome result (λ edge. FollowsRun K.kind self.old edge self.new) }
+        ensures shorter { length self.new.run + length self.new.trie
+            ≤ length self.old.run + length self.old.trie }
         ensures empty { IfNone result (self.new ≡ nowhere) }
     {
         let Some(along) = like_at::<K>(self.run, self.trie, byte) else {

@@ -4,7 +4,7 @@
 //! so far, and the open branches, which still have targets to come. No function here is recursive,
 //! so a trie of any depth is listed.
 
-ghost use Rattle.std.specs.Prelude.{◌≡◌, ◌≤◌, ◌<◌, List, ℕ, length, slice_index, IfOk, false};
+ghost use Rattle.std.specs.Prelude.{◌≡◌, ◌≤◌, ◌<◌, List, ℕ, length, take, slice_index, IfOk, IfSome, false};
 ghost use Rattle.std.specs.Option.{option_map};
 ghost use Rattle.zerotrie_base.specs.Kind.{Kind, kind_with};
 ghost use Rattle.zerotrie_base.specs.Maps.{Pairs, with_run, beginning};
@@ -77,6 +77,7 @@ impl<'a, A: Allocator> Model for ZeroTrieStream<'a, A> {
 
 impl<'a, A: Allocator> ZeroTrieStream<'a, A> {
     ghost use Rattle.zerotrie_core.specs.Listings.{ListsOne, MemoryOnly, over, item_of};
+    ghost use Rattle.zerotrie_core.specs.Skips.{Skips};
 
     /// Moves to the next pair, and returns whether there is one. An error ends the stream.
     ///
@@ -119,8 +120,33 @@ impl<'a, A: Allocator> ZeroTrieStream<'a, A> {
         self.value
     }
 
-    /// Ends the stream, so that it lists nothing more.
-    pub(crate) fn end(&mut self)
+    /// Skips the pairs that come next, as far as their keys begin with the first `depth` bytes of
+    /// the current key. The key and its value stay.
+    ///
+    /// ```
+    /// // the keys "ab", "ac" and "b" with values 1, 2 and 3
+    /// let bytes = b"\xC2ab\x06\xC2bc\x01\x81\x82\x83";
+    /// let mut pairs = ZeroTrieStream::new::<Simple>(rt.alloc(), bytes);
+    /// assert!(rt; pairs.advance()?);
+    /// assert_eq!(rt; pairs.key(), b"ab".as_slice());
+    /// pairs.skip(1);
+    /// assert!(rt; pairs.advance()?);
+    /// assert_eq!(rt; pairs.key(), b"b".as_slice());
+    /// ```
+    ///
+    /// So a program that wants no key with this beginning reads nothing of the others. It does not
+    /// allocate. With a depth of 0 nothing more comes.
+    pub fn skip(&mut self, depth: usize)
+        ensures key { self.new.key ≡ self.old.key }
+        ensures value { self.new.value ≡ self.old.value }
+        ensures skips { Skips (take depth self.old.key) self.old.left self.new.left }
+    {
+        self.here = Here::nowhere();
+        self.branches.leave(depth);
+    }
+
+    /// Lists nothing more.
+    pub fn end(&mut self)
         ensures { self.new.left ≡ over }
     {
         self.ended = true;
@@ -194,7 +220,9 @@ impl<'a, A: Allocator + Copy> ZeroTrieStream<'a, A> {
         alloc: A,
         cursor: SpanCursor<'a>,
     ) -> Result<Self, AllocError>
-        ensures { IfOk result (λ s. (pairs : Pairs) → ListsAt K.kind cursor.entry pairs → s.left ≡ to_come pairs) }
+        ensures lists { IfOk result (λ s. (pairs : Pairs) → ListsAt K.kind cursor.entry pairs
+            → s.left ≡ to_come pairs) }
+        ensures most { IfOk result (λ s. length s.left.pairs ≤ length cursor.entry.trie) }
     {
         let (run, rest) = cursor.parts();
         let mut front = Vec::new(alloc);
@@ -219,8 +247,9 @@ impl<'a, A: Allocator + Copy> ZeroTrieStream<'a, A> {
         bytes: &'a [u8],
         prefix: &[u8],
     ) -> Result<Self, AllocError>
-        ensures { IfOk result (λ s. (pairs : Pairs) → Lists K.kind bytes.now pairs
+        ensures lists { IfOk result (λ s. (pairs : Pairs) → Lists K.kind bytes.now pairs
             → s.left ≡ to_come (beginning K.kind prefix.now pairs)) }
+        ensures most { IfOk result (λ s. length s.left.pairs ≤ length bytes.now) }
     {
         match down_to::<K, A>(alloc, bytes, prefix)? {
             Some((front, rest)) => Ok(ZeroTrieStream::behind::<K>(front, rest)),
@@ -235,8 +264,9 @@ impl<'a, A: Allocator + Copy> ZeroTrieStream<'a, A> {
         bytes: &'a [u8],
         sought: &[u8],
     ) -> Result<Option<Self>, AllocError>
-        ensures { IfOk result (λ s. (pairs : Pairs) → Lists K.kind bytes.now pairs
+        ensures past { IfOk result (λ s. (pairs : Pairs) → Lists K.kind bytes.now pairs
             → IsPast K.kind sought.now (with_run front.items pairs) (option_map (λ s. s.left) s)) }
+        ensures most { IfOk result (λ s. IfSome s (λ s. length s.left.pairs ≤ length bytes.now)) }
     {
         let Some(mut left) = after_front::<K>(front.as_slice(), sought) else {
             return Ok(None);
@@ -291,8 +321,9 @@ impl<'a, A: Allocator + Copy> ZeroTrieStream<'a, A> {
         prefix: &[u8],
         key: &[u8],
     ) -> Result<Self, AllocError>
-        ensures { IfOk result (λ s. (pairs : Pairs) → Lists K.kind bytes.now pairs
+        ensures lists { IfOk result (λ s. (pairs : Pairs) → Lists K.kind bytes.now pairs
             → s.left ≡ to_come (rest_after K.kind key.now (beginning K.kind prefix.now pairs))) }
+        ensures most { IfOk result (λ s. length s.left.pairs ≤ length bytes.now) }
     {
         let Some((front, rest)) = down_to::<K, A>(alloc, bytes, prefix)? else {
             return Ok(ZeroTrieStream::new::<K>(alloc, &[]));
@@ -312,9 +343,10 @@ fn down_to<'a, K: ZeroTrieWithOptions, A: Allocator>(
     bytes: &'a [u8],
     prefix: &[u8],
 ) -> Result<Option<(Vec<u8, A>, &'a [u8])>, AllocError>
-    ensures { IfOk result (λ r. (pairs : Pairs) → Lists K.kind bytes.now pairs
+    ensures behind { IfOk result (λ r. (pairs : Pairs) → Lists K.kind bytes.now pairs
         → IsBehind K.kind (beginning K.kind prefix.now pairs)
         (option_map {U = List ℕ × List ℕ} (λ r. (r.0.items, r.1.now)) r)) }
+    ensures shorter { IfOk result (λ r. IfSome r (λ r. length r.1.now ≤ length bytes.now)) }
 {
     let mut front = Vec::new(alloc);
     let mut cursor = SpanCursor::new(bytes);

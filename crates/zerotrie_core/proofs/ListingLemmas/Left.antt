@@ -14,7 +14,7 @@ use Rattle.zerotrie_core.specs.listing.Listed.{listed, of_node, of_targets, node
 use Rattle.zerotrie_core.specs.listing.Opened.{pairs_behind, pairs_open, pairs_left, IsOpen, Nested, Stands, still_open, work_open, work_left}
 use Rattle.zerotrie_core.specs.listing.Runs.{EndsWith, Moves, MovesLiterals, MovesAny}
 use Rattle.zerotrie_core.specs.declared.stream.opened.OpenBranch.{OpenBranch}
-use Rattle.zerotrie_core.proofs.ListingLemmas.Nodes.{listed_node, listed_read, order_is, is_order, next_begin}
+use Rattle.zerotrie_core.proofs.ListingLemmas.Nodes.{listed_node, listed_read, listed_most, targets_most, length-run, order_is, is_order, next_begin}
 use Rattle.zerotrie_core.proofs.NodeLemmas.Read.{InSome, Within, by_test, node_within, node_begun}
 
 -- nothing is after a branch that has no edge left
@@ -59,7 +59,7 @@ pub open_longer : (kind : Kind) (prefix more : List ℕ) (branches : List OpenBr
 open_longer kind prefix more [] low = refl
 open_longer kind prefix more (o ∷ branches) low = ap (λ front. with_run front (pairs_behind kind o) ++ pairs_open kind front branches) (take-append-le o.depth prefix more low)
 
-open_shorter : (kind : Kind) (prefix : List ℕ) (d : ℕ) (branches : List OpenBranch) → d ≤ length prefix → FirstLow d branches → pairs_open kind (take d prefix) branches ≡ pairs_open kind prefix branches
+pub open_shorter : (kind : Kind) (prefix : List ℕ) (d : ℕ) (branches : List OpenBranch) → d ≤ length prefix → FirstLow d branches → pairs_open kind (take d prefix) branches ≡ pairs_open kind prefix branches
 open_shorter kind prefix d branches h low =
     let len : length (take d prefix) ≡ d = length-take-le d prefix h in
     sym (open_longer kind (take d prefix) (drop d prefix) branches (subst (λ n. FirstLow n branches) (sym len) low)) ∙ ap (λ xs. pairs_open kind xs branches) (take-append-drop d prefix)
@@ -112,9 +112,6 @@ literals_shorter prefix rest prefix' rest' moves =
     let b : length prefix' ≡ length prefix + length moves.run = ap length moves.key_is ∙ length-append prefix moves.run in
     let some = moves.some in
     (omega arith, omega arith)
-
-pub listed_none : (kind : Kind) → listed kind [] ≡ []
-listed_none kind = listed_node kind []
 
 pub at_end : (kind : Kind) (prefix bytes : List ℕ) (branches : List OpenBranch) → node_of kind bytes ≡ None → pairs_left kind prefix bytes branches ≡ pairs_open kind prefix branches
 at_end kind prefix bytes branches e = ap (λ ps. with_run prefix ps ++ pairs_open kind prefix branches) (listed_node kind bytes ∙ ap (of_node (listed kind)) e)
@@ -287,6 +284,38 @@ pub still_less : (branches : List OpenBranch) → work_open (still_open branches
 still_less [] = omega arith
 still_less (o ∷ branches) = by_test (λ bs. work_open bs ≤ work_open (o ∷ branches)) (nat_lt o.next o.edges) (o ∷ branches) branches (λ some. omega arith) (λ none. omega arith)
 
+-- at most as many pairs are left as bytes, edges and branches
+behind_most : (kind : Kind) (depth : ℕ) (o : OpenBranch) → IsOpen depth o → length (pairs_behind kind o) ≤ length (targets_behind o.edges o.width o.behind.now) - o.begin
+behind_most kind depth o is = elim (cases_lt o.next o.edges) [
+  | inl some ↦ (
+      let k = o.edges - o.next in
+      let back : o.edges - k ≡ o.next = omega arith in
+      let begin : begin_of o.edges o.width o.behind.now (o.edges - k) ≡ o.begin = ap (begin_of o.edges o.width o.behind.now) back ∙ sym (is.begins some) in
+      subst (λ x. length (pairs_behind kind o) ≤ length (targets_behind o.edges o.width o.behind.now) - x) begin
+      (targets_most (listed kind) (listed_most kind) o.edges o.width o.behind.now k (omega arith))
+      )
+  | inr none ↦ (let zero : length (pairs_behind kind o) ≡ 0 = ap length (none_behind kind o none) in omega (arith, zero))
+]
+
+open_most : (kind : Kind) (depth : ℕ) (prefix : List ℕ) (branches : List OpenBranch) → Nested depth branches → length (pairs_open kind prefix branches) ≤ work_open branches
+open_most kind depth prefix [] nested = omega arith
+open_most kind depth prefix (o ∷ branches) nested =
+    let front = take o.depth prefix in
+    let own = behind_most kind depth o nested.0 in
+    let run = length-run front (pairs_behind kind o) in
+    let more = open_most kind o.depth front branches nested.2 in
+    let sum = length-append (with_run front (pairs_behind kind o)) (pairs_open kind front branches) in
+    omega arith
+
+pub left_most : (kind : Kind) (prefix rest : List ℕ) (branches : List OpenBranch) → Stands (length prefix) branches → length (pairs_left kind prefix rest branches) ≤ work_left rest (still_open branches)
+left_most kind prefix rest branches stands =
+    let own = listed_most kind rest in
+    let run = length-run prefix (listed kind rest) in
+    let more = open_most kind (length prefix) prefix (still_open branches) (still_nested (length prefix) branches stands) in
+    let same = ap length (still_pairs kind prefix branches stands) in
+    let sum = length-append (with_run prefix (listed kind rest)) (pairs_open kind prefix branches) in
+    omega arith
+
 -- with no target left anywhere, nothing is left after the bytes
 pub fresh_left : (kind : Kind) (prefix bytes : List ℕ) (branches : List OpenBranch) → Stands (length prefix) branches → still_open branches ≡ [] → pairs_left kind prefix bytes branches ≡ with_run prefix (listed kind bytes)
 fresh_left kind prefix bytes branches stands none =
@@ -341,9 +370,6 @@ lies_behind tail rest after lies e =
 -- what is cut from the tail is what comes after
 pub cut_behind : (tail rest after back head : List ℕ) → rest ≡ take (length rest) tail → EndsWith rest after → back ≡ drop (length rest - length after) tail → head ≡ take (length after) back → head ≡ after
 cut_behind tail rest after back head lies e is cut = cut ∙ ap (take (length after)) is ∙ sym (lies_behind tail rest after lies e)
-
-pub lies_len : (tail rest : List ℕ) → rest ≡ take (length rest) tail → length rest ≤ length tail
-lies_len tail rest lies = let n : length rest ≡ _ = ap length lies ∙ length-take (length rest) tail in omega arith
 
 -- a part of bytes that lie at the front of others
 pub lies_part : (tail targets target : List ℕ) (from to : ℕ) → targets ≡ take (length targets) tail → from ≤ to → to ≤ length targets → target ≡ take (to - from) (drop from targets)

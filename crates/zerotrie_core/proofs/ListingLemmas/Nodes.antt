@@ -95,7 +95,7 @@ length-front : (b : ℕ) (pairs : Pairs) → length (with_front b pairs) ≡ len
 length-front b [] = refl
 length-front b (e ∷ pairs) = ap suc (length-front b pairs)
 
-length-run : (run : List ℕ) (pairs : Pairs) → length (with_run run pairs) ≡ length pairs
+pub length-run : (run : List ℕ) (pairs : Pairs) → length (with_run run pairs) ≡ length pairs
 length-run run [] = refl
 length-run run (e ∷ pairs) = ap suc (length-run run pairs)
 
@@ -111,7 +111,7 @@ later_most f n w behind (suc k) h more =
     subst (λ x. length (of_targets f n w behind (suc k)) ≤ length (targets_behind n w behind) - x) (ap (begin_of n w behind) same ∙ next) more
 
 -- of n bytes at most n pairs
-targets_most : (f : List ℕ → Pairs) → ((x : List ℕ) → length (f x) ≤ length x) → (n w : ℕ) (behind : List ℕ) (k : ℕ) → k ≤ n
+pub targets_most : (f : List ℕ → Pairs) → ((x : List ℕ) → length (f x) ≤ length x) → (n w : ℕ) (behind : List ℕ) (k : ℕ) → k ≤ n
     → length (of_targets f n w behind k) ≤ length (targets_behind n w behind) - begin_of n w behind (n - k)
 targets_most f most n w behind zero h = omega arith
 targets_most f most n w behind (suc k) h =

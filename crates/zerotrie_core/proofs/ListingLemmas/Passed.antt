@@ -16,7 +16,7 @@ use Rattle.zerotrie_base.specs.reader.Reading.{Comes, AlwaysFinds, AlwaysComes}
 use Rattle.zerotrie_core.specs.reader.Going.{AlwaysGoes}
 use Rattle.zerotrie_core.specs.reader.Descending.{NodeEnds}
 use Rattle.zerotrie_core.specs.listing.Listed.{listed, of_targets, node_of, is_in_order, target_of}
-use Rattle.zerotrie_core.specs.listing.Opened.{pairs_behind, pairs_open, pairs_left, IsOpen, Nested, Stands, still_open}
+use Rattle.zerotrie_core.specs.listing.Opened.{pairs_behind, pairs_open, pairs_left, IsOpen, Nested, Stands, still_open, work_open, work_left}
 use Rattle.zerotrie_core.specs.listing.Passed.{IsAfterEdge, LeavesAfter, IsPast, GoesInto, LeadsOn}
 use Rattle.zerotrie_core.specs.declared.stream.opened.OpenBranch.{OpenBranch}
 use Rattle.zerotrie_base.proofs.MapLemmas.Spans.{with_run-none, with_run-front}
@@ -27,7 +27,7 @@ use Rattle.zerotrie_base.proofs.NodeLemmas.Opened.{branch_opens}
 use Rattle.zerotrie_base.proofs.NodeLemmas.Offsets.{in_order}
 use Rattle.zerotrie_core.proofs.ReaderLemmas.LookUps.{value_goes, span_goes, literal_ends, node_ends, comes_nowhere, comes_more, finds_at_end, finds_nothing}
 use Rattle.zerotrie_core.proofs.ListingLemmas.Nodes.{listed_behind, listed_pairs, is_order, length-target}
-use Rattle.zerotrie_core.proofs.ListingLemmas.Left.{first_open, stands_run, fresh_left, still_nested, still_pairs, entered, run_append, read_shorter, at_value, at_literal, at_span, opened, target_says, at_next}
+use Rattle.zerotrie_core.proofs.ListingLemmas.Left.{first_open, stands_run, fresh_left, still_nested, still_pairs, still_less, left_most, entered, target_ends, run_append, read_shorter, at_value, at_literal, at_span, opened, target_says, at_next}
 
 both_of : (a b : Bool) → (a && b) ≡ true → (a ≡ true) × (b ≡ true)
 both_of true b e = (refl, e)
@@ -200,6 +200,19 @@ module _ (kind : Kind) (bytes : List ℕ) (n w : ℕ) (table behind : List ℕ) 
       subst (λ ts. length target.now ≤ length ts) is (subst (λ t. length t ≤ length (targets_behind o.edges o.width o.behind.now)) (sym got.0.2) (length-target o.edges o.width o.behind.now o.next)) in
       omega arith
 
+  target_work : (p : OpenBranch) → p.edges ≡ o.edges → p.width ≡ o.width → p.behind.now ≡ o.behind.now → p.next ≡ suc o.next → p.begin ≡ o.begin + length target.now
+      → work_left target.now (still_open (p ∷ still_open branches)) ≤ work_left bytes (still_open branches)
+  target_work p edges' width' behind' next' begin' =
+      let outer = still_open branches in
+      let short = read_shorter kind bytes _ (node_begun kind bytes (shapes.Shape.branch n w table behind) begins) in
+      let is : targets_behind p.edges p.width p.behind.now ≡ targets_behind n w behind = rw (edges', width', behind', edges, width, behind_is) refl in
+      let own : targets_behind o.edges o.width o.behind.now ≡ targets_behind n w behind = rw (edges, width, behind_is) refl in
+      let len = ap length is in
+      let same = ap length own in
+      let ends = target_ends o target begin got in
+      let less = still_less (p ∷ outer) in
+      omega (arith, ends.1, less)
+
   pub opens_into : (p : OpenBranch) → p.edges ≡ o.edges → p.width ≡ o.width → p.behind.now ≡ o.behind.now → p.next ≡ suc o.next → p.begin ≡ o.begin + length target.now → p.depth ≡ o.depth
       → AlwaysGoes kind (shapes.Shape.branch n w table behind) byte (slice_index behind place) target.now
       → GoesInto kind (shapes.Shape.branch n w table behind) byte bytes key branches target.now (key ++ slice_index behind place ∷ []) (p ∷ still_open branches)
@@ -214,6 +227,7 @@ module _ (kind : Kind) (bytes : List ℕ) (n w : ℕ) (table behind : List ℕ) 
         same = same;
         goes = goes;
         shorter = shorter_target;
+        work = target_work p edges' width' behind' next' begin';
         stands = subst (λ k. Stands (length (k ++ edge ∷ [])) (p ∷ outer)) front
             (entered key outer o p target edge is_open (omega arith) got edges' width' behind' next' begin' depth' (subst (λ d. Nested d outer) (sym depth) (still_nested (length key) branches stands)));
         last = λ pairs text. branch_last text n w table behind begins place inside key branches o p target stands edges width behind_is next depth edges' width' behind' next' depth' got;
@@ -231,6 +245,7 @@ pub record Passing (kind : Kind) (bytes front whole at left key : List ℕ) (bra
   pub whole_is : whole ≡ taken ++ left
   pub same : same_key kind key taken ≡ true
   pub stands : Stands (length key) branches
+  pub work : work_left at (still_open branches) ≤ length bytes
   pub last : (pairs : Pairs) → Lists kind bytes pairs → (before : Pairs) × (with_run front pairs ≡ before ++ pairs_left kind key at branches)
 
 pub pass_starts : (kind : Kind) (bytes front whole left first : List ℕ) (branches : List OpenBranch) → Stands (length front) branches → still_open branches ≡ [] → whole ≡ first ++ left → same_key kind front first ≡ true
@@ -246,6 +261,7 @@ pass_starts kind bytes front whole left first branches stands none is same = rec
   whole_is = is;
   same = same;
   stands = stands;
+  work = (let all : work_open (still_open branches) ≡ 0 = ap work_open none in omega arith);
   last = λ pairs text. ([], sym (fresh_left kind front bytes branches stands none ∙ ap (with_run front) (listed_pairs text)));
 }
 
@@ -263,6 +279,7 @@ module _ {kind : Kind} {bytes front whole at left key : List ℕ} {branches : Li
     whole_is = p.whole_is ∙ ap (λ l. p.taken ++ l) on.left_is ∙ sym (append_assoc p.taken on.taken after);
     same = ap (λ k. same_key kind k (p.taken ++ on.taken)) on.key_is ∙ same_behind kind key p.taken on.run on.taken p.same ∙ on.same;
     stands = on.stands;
+    work = (let a = on.work in let b = p.work in omega arith);
     last = λ pairs text. (
         let all = p.last pairs text in
         let m = p.came pairs text in
@@ -284,6 +301,14 @@ module _ {kind : Kind} {bytes front whole at left key : List ℕ} {branches : Li
         parts = all.1 ∙ ap (λ ps. all.0 ++ ps) (at_value kind key at rest v branches (node_begun kind at _ begins));
         same = ap (same_key kind key) is ∙ p.same;
       }
+
+  -- after it there are at most as many pairs as bytes
+  pub pass_most : (v : ℕ) (rest : List ℕ) → Begins kind at (shapes.Shape.value v rest) → length (pairs_left kind key rest branches) ≤ length bytes
+  pass_most v rest begins =
+      let short : length rest < length at = read_shorter kind at (shapes.Shape.value v rest) (node_begun kind at _ begins) in
+      let most = left_most kind key rest branches p.stands in
+      let work = p.work in
+      omega arith
 
   -- it finds nothing
   pub pass_none : AlwaysFinds kind at left None 1 → (pairs : Pairs) → Lists kind bytes pairs → value_at kind (with_run front pairs) whole ≡ None
@@ -310,6 +335,7 @@ module _ (kind : Kind) {at left key : List ℕ} {branches : List OpenBranch} (st
     count = 1;
     comes = (value_goes kind v rest left some at begins).2;
     shorter = read_shorter kind at _ read;
+    work = (let less = read_shorter kind at _ read in omega arith);
     stands = stands;
     last = λ pairs text. ((key, v) ∷ [], at_value kind key at rest v branches read);
   }
@@ -325,6 +351,7 @@ module _ (kind : Kind) {at left key : List ℕ} {branches : List OpenBranch} (st
     count = 1;
     comes = comes_into kind (shapes.Shape.literal edge rest) h.0 edge at left after rest h.1 (literal_along kind edge h.0 rest h.2) begins;
     shorter = read_shorter kind at _ read;
+    work = (let less = read_shorter kind at _ read in omega arith);
     stands = stands_run key (edge ∷ []) branches stands;
     last = λ pairs text. ([], at_literal kind key at rest edge branches (first_open (length key) branches stands) read);
   }
@@ -340,6 +367,7 @@ module _ (kind : Kind) {at left key : List ℕ} {branches : List OpenBranch} (st
     count = 1;
     comes = (span_goes kind run rest left after is at begins).2;
     shorter = read_shorter kind at _ read;
+    work = (let less = read_shorter kind at _ read in omega arith);
     stands = stands_run key run branches stands;
     last = λ pairs text. ([], at_span kind key at run rest branches (first_open (length key) branches stands) read);
   }
@@ -357,5 +385,6 @@ leads_branch {kind} {at} {left} node byte rest after key' branches' begins is g 
   comes = comes_into kind node byte g.edge at left after rest is g.goes begins;
   shorter = g.shorter;
   stands = g.stands;
+  work = g.work;
   last = g.last;
 }

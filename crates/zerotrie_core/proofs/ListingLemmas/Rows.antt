@@ -104,9 +104,6 @@ pub record Counted (kind : Kind) (bytes : List ℕ) (count : ℕ) (rest : List �
   pub within : count + length rest ≤ length bytes
   pub counts : (n : ℕ) → Counts kind bytes n → (left : ℕ) × (n ≡ count + left) × Counts kind rest left
 
-pub counted_none : (kind : Kind) (bytes : List ℕ) → Counted kind bytes 0 bytes
-counted_none kind bytes = record { within = omega arith; counts = λ n c. (n, omega arith, c) }
-
 -- a node is longer than what stands after it
 pub row_shorter : (kind : Kind) (bytes : List ℕ) (s : Shape) → node_of kind bytes ≡ Some s → length (row_behind s) + values_in s ≤ length bytes × length (row_behind s) < length bytes
 row_shorter kind bytes (shapes.Shape.value v rest) e = let h = read_shorter kind bytes (shapes.Shape.value v rest) e in (omega arith, h)

@@ -4,6 +4,7 @@ use Rattle.zerotrie_base.specs.Kind.{Kind}
 use Rattle.zerotrie_base.specs.Maps.{Pairs, with_run}
 use Rattle.zerotrie_base.specs.Nodes.{targets_behind, begin_of}
 use Rattle.zerotrie_core.specs.Listings.{Left, to_come, over}
+use Rattle.zerotrie_core.specs.Skips.{Passes}
 use Rattle.zerotrie_core.specs.listing.Listed.{listed, of_targets}
 use Rattle.zerotrie_core.specs.declared.stream.opened.OpenBranch.{OpenBranch}
 
@@ -43,6 +44,11 @@ Stands depth (o ∷ branches) = IsOpen depth o × Nested o.depth branches
 abbrev pub still_open : List OpenBranch → List OpenBranch
 still_open [] = []
 still_open (o ∷ branches) = if nat_lt o.next o.edges then o ∷ branches else branches
+
+-- Open branches were left, and with them pairs whose keys begin with the first d bytes of the prefix.
+pub record Leaves (d : ℕ) (old new : List OpenBranch) : Type 0 where
+  pub stands : (depth : ℕ) → Stands depth old → Stands depth new
+  pub passes : (kind : Kind) (prefix : List ℕ) → Stands (length prefix) old → Passes (take d prefix) (pairs_open kind prefix old) (pairs_open kind prefix new)
 
 -- how many bytes of targets, edges and branches are still to be gone over
 abbrev pub work_open : List OpenBranch → ℕ

@@ -1,5 +1,5 @@
 -- Going down to a prefix, and to a key and past it.
-use Rattle.std.specs.Prelude.{◌≡◌, ◌≢◌, ℕ, ◌<◌, List, length, [], ◌∷◌, ◌++◌, Option, Some, None, true, false}
+use Rattle.std.specs.Prelude.{◌≡◌, ◌≢◌, ℕ, ◌<◌, ◌≤◌, List, length, [], ◌∷◌, ◌++◌, Option, Some, None, true, false}
 use Rattle.std.specs.Borrow.{Bor}
 use Rattle.zerotrie_base.specs.Kind.{Kind, fold_byte}
 use Rattle.zerotrie_base.specs.Maps.{Pairs, with_run, same_key, value_at}
@@ -8,7 +8,7 @@ use Rattle.zerotrie_base.specs.Nodes.{Shape}
 use Rattle.zerotrie_core.specs.Listings.{Left, to_come}
 use Rattle.zerotrie_base.specs.reader.Reading.{AlwaysFinds, AlwaysComes}
 use Rattle.zerotrie_core.specs.reader.Going.{AlwaysGoes, AlwaysStops}
-use Rattle.zerotrie_core.specs.listing.Opened.{Stands, pairs_left}
+use Rattle.zerotrie_core.specs.listing.Opened.{Stands, pairs_left, still_open, work_left}
 use Rattle.zerotrie_core.specs.declared.stream.opened.OpenBranch.{OpenBranch}
 use Rattle.zerotrie_core.specs.declared.here.Here.{Here}
 
@@ -48,6 +48,7 @@ pub record GoesInto (kind : Kind) (node : Shape) (byte : ℕ) (bytes key : List 
   pub goes : AlwaysGoes kind node byte edge rest
   pub shorter : length rest < length bytes
   pub stands : Stands (length key') branches'
+  pub work : work_left rest (still_open branches') ≤ work_left bytes (still_open branches)
   pub last : (pairs : Pairs) → Lists kind bytes pairs → (before : Pairs) × (pairs_left kind key bytes branches ≡ before ++ pairs_left kind key' rest branches')
 
 -- that, to the rest of the text; or no edge is the byte to the kind
@@ -67,6 +68,7 @@ pub record LeadsOn (kind : Kind) (bytes left key : List ℕ) (branches : List Op
   pub comes : AlwaysComes kind bytes left rest after count
   pub shorter : length rest < length bytes
   pub stands : Stands (length key') branches'
+  pub work : work_left rest (still_open branches') ≤ work_left bytes (still_open branches)
   pub last : (pairs : Pairs) → Lists kind bytes pairs → (before : Pairs) × (pairs_left kind key bytes branches ≡ before ++ pairs_left kind key' rest branches')
 
 -- that, to the rest of the text and of the key; or no pair has the key

@@ -2,7 +2,7 @@
 
 ghost use Rattle.std.specs.Prelude.{◌≡◌, ◌<◌, ◌∷◌, ℕ, List, [], false, length, reverse, IfOk, OnOk, IsTrue};
 ghost use Rattle.zerotrie_base.specs.Kind.{Kind};
-ghost use Rattle.zerotrie_core.specs.listing.Opened.{Nested, Stands, still_open, pairs_open, pairs_left, work_open, work_left};
+ghost use Rattle.zerotrie_core.specs.listing.Opened.{Nested, Stands, Leaves, still_open, pairs_open, pairs_left, work_open, work_left};
 ghost use Rattle.zerotrie_core.specs.declared.stream.opened.OpenBranch.{OpenBranch};
 
 use crate::here::Here;
@@ -64,6 +64,19 @@ impl<'a, A: Allocator> OpenBranches<'a, A> {
         }
         self.top = inner;
         Ok(())
+    }
+
+    /// Leaves the branches that stand after this many bytes of the key or more.
+    pub(crate) fn leave(&mut self, depth: usize)
+        ensures { Leaves depth self.old self.new }
+    {
+        while depth <= self.top.depth {
+            let Some(outer) = self.outer.pop() else {
+                self.top = OpenBranch::closed();
+                return;
+            };
+            self.top = outer;
+        }
     }
 
     /// Enters the next target of the innermost branch: writes its edge to the key, and returns its

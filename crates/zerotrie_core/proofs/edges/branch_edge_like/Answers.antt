@@ -13,3 +13,6 @@ returns-clause-step g c bytes begins =
     let a = c.plain.ensures in
     rw (a.edge, a.run, a.trie)
     (branch_along g.K.ZeroTrieWithOptions.kind bytes b.edges b.width b.table.now b.behind.now begins c.args.byte c.in_ok-edge.edge c.in_ok-edge.trie.now c.in_ok-edge.ensures.some)
+
+pub returns-clause-lies : goal.returns-clause-lies
+returns-clause-lies g c = let a = c.plain.ensures in rw (a.run, a.trie, a.after) c.in_ok-edge.ensures.lies

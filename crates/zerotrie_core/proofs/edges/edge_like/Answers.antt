@@ -1,4 +1,4 @@
-use Rattle.std.proofs.Common.{refl, [], None}
+use Rattle.std.proofs.Common.{refl, [], ◌∷◌, ◌++◌, None}
 use Rattle.std.specs.Option.{option_map}
 use Rattle.zerotrie_base.specs.Texts.{Lists}
 use Rattle.zerotrie_core.specs.Places.{ListsAt}
@@ -7,6 +7,8 @@ use Rattle.zerotrie_core.proofs.NodeLemmas.Read.{nothing_begins}
 use Rattle.zerotrie_core.proofs.CursorLemmas.Calls.{edges_past, step_over, nothing_steps, span_steps}
 use Rattle.std.proofs.lemmas.Option.{IfSome_then}
 use Rattle.zerotrie_core.proofs.CursorLemmas.Runs.{same_span, same_after, literal_meets, branch_meets, follows_plain, follows_span}
+use Rattle.zerotrie_core.proofs.ListingLemmas.Left.{branch_end, value_end}
+use Rattle.zerotrie_core.proofs.CursorLemmas.Parts.{ends_more, lies_past}
 use Rattle.zerotrie_core.proofs.edges.edge_like.Goals as goal
 
 pub loop-node-preserved : goal.loop-node-preserved
@@ -16,12 +18,14 @@ loop-node-preserved g c =
     let old = c.loop-node.invariant in
     record {
       edges = edges_past kind c.args.bytes.now c.loop-node.rest.now c.in-Value._value c.in-Value.after.now begins old.edges;
+      ends = ends_more c.args.bytes.now c.loop-node.rest.now c.in-Value.after.now old.ends (value_end kind c.loop-node.rest.now c.in-Value.after.now c.in-Value._value begins);
       span = same_after kind c.args.bytes.now c.loop-node.rest.now c.in-Value._value c.in-Value.after.now begins old.span;
     }
 
 pub loop-node-init : goal.loop-node-init
 loop-node-init g c = record {
   edges = λ pairs text. (pairs, text, refl, λ edge. refl);
+  ends = ([], refl);
   span = same_span g.K.ZeroTrieWithOptions.kind c.args.bytes.now;
 }
 
@@ -76,3 +80,23 @@ returns-in-Branch-clause-run g c =
     IfSome_then c.branch_edge_like.result c.branch_edge_like.ensures.run
     (λ a none. follows_plain kind c.args.bytes.now c.loop-node.rest.now a.edge a.run.now a.trie.now none c.loop-node.invariant.span
     (λ r t. branch_meets kind c.loop-node.rest.now b.edges b.width b.table.now b.behind.now r t begins))
+
+pub returns-in-Literal-clause-lies : goal.returns-in-Literal-clause-lies
+returns-in-Literal-clause-lies g c =
+    let begins = rw c.in-Literal.is at c.in-Some.ensures.begins in
+    let trie = c.in-Literal.trie.now in
+    lies_past c.args.bytes.now trie c.literal_like.result (ends_more c.args.bytes.now c.loop-node.rest.now trie c.loop-node.invariant.ends (c.in-Literal.edge ∷ [], begins.1)) c.literal_like.ensures.lies
+
+pub returns-in-Span-clause-lies : goal.returns-in-Span-clause-lies
+returns-in-Span-clause-lies g c =
+    let begins = rw c.in-Span.is at c.in-Some.ensures.begins in
+    let both = c.in-Span.run'.now ++ c.in-Span.trie.now in
+    lies_past c.args.bytes.now both c.run_edge_like.result (ends_more c.args.bytes.now c.loop-node.rest.now both c.loop-node.invariant.ends (begins.1.spelling, begins.1.bytes_are))
+    c.run_edge_like.ensures.lies
+
+pub returns-in-Branch-clause-lies : goal.returns-in-Branch-clause-lies
+returns-in-Branch-clause-lies g c =
+    let begins = rw c.in-Branch.is at c.in-Some.ensures.begins in
+    let b = c.in-Branch.branch in
+    let ends = branch_end g.K.ZeroTrieWithOptions.kind c.loop-node.rest.now b.edges b.width b.table.now b.behind.now begins in
+    lies_past c.args.bytes.now b.behind.now c.branch_edge_like.result (ends_more c.args.bytes.now c.loop-node.rest.now b.behind.now c.loop-node.invariant.ends ends) c.branch_edge_like.ensures.lies

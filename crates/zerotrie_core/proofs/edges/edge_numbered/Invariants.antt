@@ -1,11 +1,13 @@
 use Rattle.std.proofs.Common.{length}
 use Rattle.zerotrie_core.specs.cursor.Edges.{HasTheEdges}
+use Rattle.zerotrie_core.specs.listing.Runs.{EndsWith}
 use Rattle.zerotrie_core.proofs.CursorLemmas.Runs.{SameSpan}
 use Rattle.zerotrie_core.proofs.edges.edge_numbered.Given as goal
 
 abbrev pub invariant-loop-node : goal.invariant-loop-node
 invariant-loop-node g l = record {
   edges : HasTheEdges g.K.ZeroTrieWithOptions.kind l.bytes l.rest;
+  ends : EndsWith l.bytes l.rest;
   span : SameSpan g.K.ZeroTrieWithOptions.kind l.bytes l.rest;
 }
 

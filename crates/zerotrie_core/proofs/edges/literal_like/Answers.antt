@@ -1,10 +1,11 @@
 use Rattle.std.proofs.Common.{sym, ◌∙◌}
 use Rattle.std.proofs.lemmas.Bool.{eqb-true, eqb-false}
 use Rattle.std.specs.Prelude.{◌≡◌, [], IfSome}
-use Rattle.zerotrie_core.specs.cursor.Edges.{StepsFrom}
+use Rattle.zerotrie_core.specs.cursor.Edges.{StepsFrom, LiesBehind}
 use Rattle.zerotrie_core.proofs.Chosen.{chosen}
 use Rattle.zerotrie_core.proofs.CursorLemmas.Calls.{literal_along, literal_past}
 use Rattle.zerotrie_base.specs.Nodes.Shape.{literal}
+use Rattle.zerotrie_core.proofs.CursorLemmas.Parts.{lies_whole}
 use Rattle.zerotrie_core.proofs.edges.literal_like.Goals as goal
 
 pub returns-clause-step : goal.returns-clause-step
@@ -19,3 +20,9 @@ returns-clause-step g c =
 
 pub returns-clause-run : goal.returns-clause-run
 returns-clause-run g c = chosen (λ r. IfSome r (λ a. a.run.now ≡ [])) _ _ c.then_some.result c.then_some.ensures (λ yes. c.plain.ensures.run) (λ no. tt)
+
+pub returns-clause-lies : goal.returns-clause-lies
+returns-clause-lies g c =
+    let a = c.plain.ensures in
+    chosen (LiesBehind c.args.trie.now) _ _ c.then_some.result c.then_some.ensures
+    (λ yes. lies_whole c.args.trie.now c.plain.result.run.now c.plain.result.trie.now c.plain.result.after a.run a.trie a.after) (λ no. tt)

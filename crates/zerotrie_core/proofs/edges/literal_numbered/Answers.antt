@@ -1,10 +1,12 @@
 use Rattle.std.proofs.lemmas.Bool.{eqb-true, eqb-false}
 use Rattle.std.specs.Prelude.{◌≡◌, ◌≤◌, [], IfSome}
 use Rattle.std.proofs.Common.{arith}
-use Rattle.zerotrie_core.specs.cursor.Edges.{ProbesFrom}
+use Rattle.zerotrie_core.specs.cursor.Edges.{ProbesFrom, LiesBehind}
 use Rattle.zerotrie_base.specs.Nodes.Shape.{literal}
 use Rattle.zerotrie_core.proofs.Chosen.{chosen}
 use Rattle.zerotrie_core.proofs.CursorLemmas.Calls.{literal_number, literal_past_number}
+use Rattle.std.specs.Option.{option_map}
+use Rattle.zerotrie_core.proofs.CursorLemmas.Parts.{lies_whole}
 use Rattle.zerotrie_core.proofs.edges.literal_numbered.Goals as goal
 
 pub returns-clause-probe : goal.returns-clause-probe
@@ -21,3 +23,9 @@ returns-clause-run c = chosen (λ r. IfSome r (λ r. r.0.run.now ≡ [])) _ _ c.
 
 pub returns-clause-few : goal.returns-clause-few
 returns-clause-few c = chosen (λ r. IfSome r (λ r. r.1 ≤ 256)) _ _ c.then_some.result c.then_some.ensures (λ yes. omega arith) (λ no. tt)
+
+pub returns-clause-lies : goal.returns-clause-lies
+returns-clause-lies c =
+    let a = c.plain.ensures in
+    chosen (λ r. LiesBehind c.args.trie.now (option_map (λ r. r.0) r)) _ _ c.then_some.result c.then_some.ensures
+    (λ yes. lies_whole c.args.trie.now c.plain.result.run.now c.plain.result.trie.now c.plain.result.after a.run a.trie a.after) (λ no. tt)

@@ -1,5 +1,5 @@
 -- (named, as search would unfold where each target begins and ends in every goal)
-use Rattle.std.proofs.Common.{◌≡◌, ◌<◌, ◌≤◌, ℕ, length, arith, ap}
+use Rattle.std.proofs.Common.{◌<◌, ◌≤◌, ℕ, length, arith, ap}
 use Rattle.std.proofs.lemmas.Grind.{common_steps}
 use Rattle.zerotrie_base.specs.Nodes.{begin_of, end_of, targets_behind}
 use borrow.Author.Count.{below_more}

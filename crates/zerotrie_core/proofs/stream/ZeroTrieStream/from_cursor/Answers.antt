@@ -5,8 +5,8 @@ use Rattle.zerotrie_base.specs.Texts.{Lists}
 use Rattle.zerotrie_core.proofs.ListingLemmas.Passed.{place_below}
 use Rattle.zerotrie_core.proofs.stream.ZeroTrieStream.from_cursor.Goals as goal
 
-pub returns : goal.returns
-returns g c pairs lists =
+pub returns-clause-lists : goal.returns-clause-lists
+returns-clause-lists g c pairs lists =
     let kind = g.K.ZeroTrieWithOptions.kind in
     let place = c.args.cursor in
     let b = place_below kind place.run place.trie pairs lists in

@@ -7,12 +7,12 @@ use Rattle.zerotrie_base.specs.reader.Reading.{AlwaysFinds}
 use Rattle.zerotrie_core.specs.listing.Passed.{IsTowards, LeadsOn, gone_to}
 use Rattle.zerotrie_core.specs.declared.here.Here.{Here}
 use Rattle.zerotrie_core.specs.declared.stream.opened.OpenBranch.{OpenBranch}
-use Rattle.zerotrie_core.proofs.ListingLemmas.Passed.{value_elsewhere, pass_starts, pass_nowhere, pass_none, pass_found, pass_on, leads_value}
+use Rattle.zerotrie_core.proofs.ListingLemmas.Passed.{value_elsewhere, pass_starts, pass_nowhere, pass_none, pass_found, pass_most, pass_on, leads_value}
 use Rattle.zerotrie_core.proofs.stream.ZeroTrieStream.past.Goals as goal
 use Rattle.zerotrie_core.proofs.stream.ZeroTrieStream.past.Goals.{in-Value+else-is_empty, in-Literal+in_ok-passed-in-Literal, in-Span+in_ok-passed-in-Span, in-Branch+in_ok-passed-in-Branch}
 
-pub returns-in_default : goal.returns-in_default
-returns-in_default g c pairs text =
+pub returns-in_default-clause-past : goal.returns-in_default-clause-past
+returns-in_default-clause-past g c pairs text =
     value_elsewhere g.K.ZeroTrieWithOptions.kind c.args.front.items c.args.sought.now pairs (rw c.as_slice.ensures.value at c.in_default.ensures)
 
 pub loop-node-init : goal.loop-node-init
@@ -25,11 +25,16 @@ loop-node-init g c =
 pub standing-requires : goal.standing-requires
 standing-requires g c = c.loop-node.invariant.stands
 
-pub returns-then-is_empty : goal.returns-then-is_empty
-returns-then-is_empty g c pairs text =
+pub returns-then-is_empty-clause-past : goal.returns-then-is_empty-clause-past
+returns-then-is_empty-clause-past g c pairs text =
     let begins = rw c.in-Value.is at c.in-Some-first_node.ensures.begins in
     let none : c.loop-node.left.now ≡ [] = nil_from_length c.loop-node.left.now (eqb-true _ _ (sym c.is_empty.ensures ∙ c.if-is_empty.true)) in
     rw (c.standing.ensures, c.behind-at.ensures) (refl, pass_found c.loop-node.invariant c.in-Value.value c.in-Value.after.now begins none pairs text)
+
+pub returns-then-is_empty-clause-most : goal.returns-then-is_empty-clause-most
+returns-then-is_empty-clause-most g c =
+    let begins = rw c.in-Value.is at c.in-Some-first_node.ensures.begins in
+    rw (c.standing.ensures, c.behind-at.ensures) (pass_most c.loop-node.invariant c.in-Value.value c.in-Value.after.now begins)
 
 -- a step that was taken, by what it answered
 leads : (kind : Kind) (at left key : List ℕ) (branches : List OpenBranch) (passed : Option (Here × Bor (List ℕ))) (next : Here) (more : Bor (List ℕ)) (key' : List ℕ) (branches' : List OpenBranch)
@@ -40,8 +45,8 @@ ends : (kind : Kind) (at left key : List ℕ) (branches : List OpenBranch) (pass
     → passed ≡ None → IsTowards kind at left key branches (gone_to passed) key' branches' → AlwaysFinds kind at left None 1
 ends kind at left key branches passed key' branches' is step = subst (λ r. IsTowards kind at left key branches (gone_to r) key' branches') is step
 
-pub returns-in_default-passed : goal.returns-in_default-passed
-returns-in_default-passed g c pairs text =
+pub returns-in_default-passed-clause-past : goal.returns-in_default-passed-clause-past
+returns-in_default-passed-clause-past g c pairs text =
     let l = c.loop-node in
     let kind = g.K.ZeroTrieWithOptions.kind in
     let stands = l.invariant.stands in
@@ -106,5 +111,5 @@ loop-node-preserved g c =
           (sym w.passed-is ∙ c.in-Some-passed.is) w.in_ok-passed-in-Branch.ensures))
     ]
 
-pub returns : goal.returns
-returns g c pairs text = pass_nowhere c.loop-node.invariant c.in_default-first_node.ensures.node pairs text
+pub returns-clause-past : goal.returns-clause-past
+returns-clause-past g c pairs text = pass_nowhere c.loop-node.invariant c.in_default-first_node.ensures.node pairs text
