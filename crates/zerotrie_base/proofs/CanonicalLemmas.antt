@@ -1,4 +1,5 @@
 -- Canonical texts, their meaning and their length.
+pub mod Bounds
 pub mod Canonical
 pub mod Encoded
 pub mod Fitting

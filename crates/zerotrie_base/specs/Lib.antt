@@ -12,6 +12,7 @@ pub mod Branches
 pub mod Texts
 pub mod Nodes
 pub mod Canonical
+pub mod Bounds
 pub mod Fits
 pub mod Causes
 pub mod Built
