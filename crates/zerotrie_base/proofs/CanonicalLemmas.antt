@@ -8,5 +8,6 @@ pub mod Meaning
 pub mod Order
 pub mod Sizes
 pub mod Stacks
+pub mod Suited
 pub mod Texts
 pub mod Vectors

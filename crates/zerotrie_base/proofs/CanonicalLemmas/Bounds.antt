@@ -1,5 +1,5 @@
 -- How many bytes encodings of pairs have at most, and how many targets of theirs wait.
-use Rattle.std.proofs.Common.{◌≡◌, ℕ, zero, suc, ◌+◌, ◌-◌, ◌*◌, ◌%◌, ◌^◌, ◌<◌, ◌≤◌, List, [], ◌∷◌, length, refl, sym, ◌∙◌, ap, subst, arith, inl, inr, ◌⊎◌, map, Bool, true, false, cond, eqb, ltb, leb, Option, Some, None, Ordering, Less, Equal, Greater}
+use Rattle.std.proofs.Common.{◌≡◌, ℕ, zero, suc, ◌+◌, ◌-◌, ◌*◌, ◌%◌, ◌^◌, ◌<◌, ◌≤◌, List, [], ◌∷◌, length, refl, sym, ◌∙◌, ap, arith, inl, inr, ◌⊎◌, map, true, false, cond, ltb, leb, None, Ordering, Less, Equal, Greater}
 use Rattle.std.specs.Prelude.{◌&&◌, is_some}
 use Rattle.std.specs.List.{sum_by}
 use Rattle.std.proofs.Math.Nat.{mul-le-mul_right}
@@ -12,12 +12,13 @@ use Rattle.std.specs.FinMap.Entries.{by_order}
 use Rattle.std.specs.Ordering.{nat_cmp}
 use Rattle.std.specs.Cmp.Lexicographic.{slice_cmp, nat_list_cmp_total}
 use Rattle.zerotrie_base.specs.Kind.{Kind, simple_ascii, ignore_case, perfect_hash, extended_capacity, has_spans, is_hashed}
-use Rattle.zerotrie_base.specs.Numbers.{value_form, span_form, branch_form, spelled, spelled_as, trails_from, trail_bytes, latent}
+use Rattle.zerotrie_base.specs.Numbers.{span_form, branch_form, spelled, spelled_as, trails_from, trail_bytes, latent}
 use Rattle.zerotrie_base.specs.Maps.{Pairs, map_of, value_at, begins_some, edges, residual, behind_all, high_edge, run_to, run_of, longest}
-use Rattle.zerotrie_base.specs.Branches.{total, width, branch_front, table_size}
+use Rattle.zerotrie_base.specs.Branches.{total, width, branch_front}
 use Rattle.zerotrie_base.specs.Canonical.{value_node, branch_size, span_size, rest_size, size_to, size_of, size}
 use Rattle.zerotrie_base.specs.Stack.{branch_need, need_by, stack_to, stack_of, stack}
 use Rattle.zerotrie_base.specs.Bounds.{key_bound, build_bound}
+use Rattle.zerotrie_base.specs.Fits.{targets_size}
 use Rattle.zerotrie_base.proofs.MapLemmas.Edges.{Rise, member, member_head, member_later}
 use Rattle.zerotrie_base.proofs.MapLemmas.Ordered.{edges_rise, member-edges, member-edges_past}
 use Rattle.zerotrie_base.proofs.MapLemmas.Alike.{begins_behind, some_pair, same-entries, same-size_of}
@@ -154,7 +155,7 @@ front_most t n h =
     let offsets : (width t + 1) * (n - 1) ≤ 8 * (n - 1) = mul-le-mul_right (n - 1) (let k : width t + 1 ≤ 8 = omega arith in k) in
     omega arith
 
-hashed_many : (kind : Kind) (n : ℕ) → is_hashed kind n ≡ true → 16 ≤ n
+pub hashed_many : (kind : Kind) (n : ℕ) → is_hashed kind n ≡ true → 16 ≤ n
 hashed_many simple_ascii n h = absurd (cc)
 hashed_many ignore_case n h = absurd (cc)
 hashed_many perfect_hash n h = leb-true 16 n h
@@ -253,10 +254,10 @@ high_spares d pairs some behind (b ∷ []) is =
     let rest = behind b there in
     cond_both (leb 128 b) (b ∷ run_to d (residual b pairs)) [] (Spared pairs)
     (λ e.
-      let high = byte_high b (leb-true 128 b e) in
-      let whole = one_edge b pairs in
-      let front = front_cost b (residual b pairs) there in
-      (rest.0, omega (arith, rest.1)))
+    let high = byte_high b (leb-true 128 b e) in
+    let whole = one_edge b pairs in
+    let front = front_cost b (residual b pairs) there in
+    (rest.0, omega (arith, rest.1)))
     (λ e. (some, omega arith))
 high_spares d pairs some behind (b ∷ c ∷ more) is = (some, omega arith)
 
@@ -431,3 +432,41 @@ entries_count (e ∷ pairs) =
 pub stack_bound : (pairs : Pairs) → stack (map_of pairs) ≤ length pairs
 unfolding stack
 stack_bound pairs = let most = stack_of_bound (entries (map_of pairs)) in let count = entries_count pairs in omega arith
+
+targets_bound : (kind : Kind) (pairs : Pairs) → build_bound pairs < 2 ^ 64 → (es : List ℕ) → total (map (λ b. size_of kind (residual b pairs)) es) ≤ total (map (cost_behind pair_bound pairs) es)
+targets_bound kind pairs short [] = omega arith
+targets_bound kind pairs short (b ∷ es) =
+    let one = total-cons (size_of kind (residual b pairs)) (map (λ b. size_of kind (residual b pairs)) es) in
+    let two = total-cons (cost_behind pair_bound pairs b) (map (cost_behind pair_bound pairs) es) in
+    let less = residual_bound b pairs in
+    let target = size_of_bound kind (residual b pairs) (omega arith) in
+    let front = front_more b (residual b pairs) in
+    let rest = targets_bound kind pairs short es in
+    omega arith
+
+-- the targets of a branch have no more bytes than the bound of its pairs
+pub targets_size_bound : (kind : Kind) (pairs : Pairs) → build_bound pairs < 2 ^ 64 → targets_size kind pairs ≤ build_bound pairs
+unfolding targets_size
+targets_size_bound kind pairs short =
+    let targets = targets_bound kind pairs short (edges pairs) in
+    let share = shared_out pair_bound 0 256 (edges pairs) pairs (edges_rise pairs) in
+    let whole = build_bound-is pairs in
+    omega arith
+
+-- no more edges than pairs
+pub edges_bound : (pairs : Pairs) → length (edges pairs) ≤ length pairs
+edges_bound pairs =
+    let some = (waiting (λ p. 0) (λ p. omega arith) pairs (edges pairs) (edge_pairs pairs)).1 in
+    let share = shared_out (λ e. 1) 0 256 (edges pairs) pairs (edges_rise pairs) in
+    let all = counted pairs in
+    omega arith
+
+pub behind_count : (front : List ℕ) (pairs : Pairs) → length (behind_all front pairs) ≤ length pairs
+behind_count [] pairs = omega arith
+behind_count (b ∷ front) pairs =
+    let rest = behind_count front (residual b pairs) in
+    let share = shared_out (λ e. 1) 0 (suc b) (b ∷ []) pairs (omega arith, omega arith, tt) in
+    let one = total-cons (cost_behind (λ e. 1) pairs b) [] in
+    let count = counted (residual b pairs) in
+    let all = counted pairs in
+    omega arith
