@@ -1,4 +1,5 @@
 pub mod Builds
+pub mod Constants
 pub mod Cursors
 pub mod Fallbacks
 pub mod Forms

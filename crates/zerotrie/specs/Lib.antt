@@ -14,6 +14,7 @@ pub use Rattle.zerotrie_core.specs.Places
 pub use Rattle.zerotrie_core.specs.Listings
 pub use Rattle.zerotrie_core.specs.Prefixes
 pub use Rattle.zerotrie_core.specs.Canonical
+pub use Rattle.zerotrie_core.specs.Bounds
 pub use Rattle.zerotrie_core.specs.Fits
 pub use Rattle.zerotrie_core.specs.Causes
 pub use Rattle.zerotrie_core.specs.Built

@@ -8,6 +8,7 @@ pub use Rattle.zerotrie_base.specs.Texts
 pub use Rattle.zerotrie_base.specs.Nodes
 pub use Rattle.zerotrie_base.specs.Items
 pub use Rattle.zerotrie_base.specs.Canonical
+pub use Rattle.zerotrie_base.specs.Bounds
 pub use Rattle.zerotrie_base.specs.Fits
 pub use Rattle.zerotrie_base.specs.Causes
 pub use Rattle.zerotrie_base.specs.Built
