@@ -1,4 +1,5 @@
 -- Cursors, and what is found by them.
+pub mod Between
 pub mod Calls
 pub mod CommonPrefixes
 pub mod Laws

@@ -26,8 +26,8 @@ pub mod Listings
 pub mod Skips
 pub mod listing
 pub mod cursor
-pub mod count
 pub mod CursorLaws
+pub mod CursorPlaces
 pub mod WellFormed
 pub mod well_formed
 pub mod walk

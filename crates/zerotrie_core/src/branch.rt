@@ -13,7 +13,7 @@ ghost use Rattle.zerotrie_base.specs.Branches.{IsTable};
 ghost use Rattle.zerotrie_base.specs.Nodes.{number_from, offset_in, end_of, targets_behind, IsTargetResult};
 ghost use Rattle.zerotrie_base.specs.reader.Reading.{AlwaysRises, IsPlace, HasNoPlace};
 ghost use Rattle.zerotrie_core.specs.reader.Going.{AlwaysGoes, AlwaysStops};
-ghost use Rattle.zerotrie_core.specs.listing.Runs.{LiesIn};
+ghost use Rattle.zerotrie_core.specs.listing.Runs.{HasParts};
 
 use crate::offsets::{end_at, offset_at, offsets_and_targets, short_offset_at};
 use crate::simd::edge_search::{before_end, place_in};
@@ -236,7 +236,7 @@ impl<'a> Branch<'a> {
         &self,
         byte: u8,
     ) -> Option<(u8, &'a [u8], usize)>
-        ensures lies { IfSome result (λ r. LiesIn self.now.behind.now [] r.1.now r.2) }
+        ensures lies { IfSome result (λ r. HasParts self.now.behind.now [] r.1.now r.2) }
         ensures some { IfSome result (λ r.
             AlwaysGoes K.kind (branch_shape self.now) byte r.0 r.1.now) }
         ensures none { IfNone result (AlwaysStops K.kind (branch_shape self.now) byte) }

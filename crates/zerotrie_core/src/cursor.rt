@@ -9,6 +9,7 @@ ghost use Rattle.zerotrie_base.specs.Kind.{Kind, IsAscii};
 ghost use Rattle.zerotrie_base.specs.Numbers.{BeginsWith};
 ghost use Rattle.zerotrie_base.specs.Texts.{Lists};
 ghost use Rattle.zerotrie_core.specs.Places.{IsStep, IsTake, IsProbe};
+ghost use Rattle.zerotrie_core.specs.listing.Runs.{EndsWith};
 ghost use Rattle.zerotrie_core.specs.cursor.Edges.{NoValue};
 
 use crate::edges::{edge_like, edge_numbered};
@@ -84,6 +85,7 @@ pub fn step<K: ZeroTrieWithOptions>(bytes: &mut &[u8], byte: u8) -> Option<u8>
 pub fn take_value(bytes: &mut &[u8]) -> Option<usize>
     ensures meaning { (kind : Kind)
         → IsTake kind (Lists kind bytes.old.now) result (Lists kind bytes.new.now) }
+    ensures ends { IfSome result (λ _. EndsWith bytes.old.now bytes.new.now) }
     ensures none { IfNone result (bytes.new ≡ bytes.old) }
 {
     let (value, rest) = first_value(bytes)?;

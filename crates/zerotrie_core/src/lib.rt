@@ -2,8 +2,8 @@
 #![tactic(auto)]
 
 mod branch;
-mod count;
 mod cursor;
+mod cursor_place;
 mod edges;
 mod faults;
 mod here;
@@ -22,8 +22,8 @@ mod walk;
 mod well_formed;
 
 pub use branch::Branch;
-pub use count::count_pairs;
 pub use cursor::{AsciiProbeResult, probe, step, take_value};
+pub use cursor_place::CursorPlace;
 pub use faults::{Fault, FaultCause, first_fault};
 pub use listing::{ListError, ZeroTrieIterator};
 pub use look_ups::LookUps;
@@ -33,7 +33,7 @@ pub use prefixes::{CommonPrefixes, longest_prefix};
 pub use reader::{get, get_counted};
 pub use span_cursor::{ByteProbeResult, SpanCursor};
 pub use stream::ZeroTrieStream;
-pub use walk::{Nodes, Part, Visit};
+pub use walk::{Nodes, Part, Visit, count_pairs};
 pub use well_formed::{is_well_formed, is_well_formed_counted};
 pub use zerotrie_base::{
     ConvertStore, Ext, Hash, Ignore, PerfectByteHashMap, PerfectByteHashMapCacheOwned, Simple,

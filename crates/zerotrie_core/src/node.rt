@@ -8,7 +8,7 @@ ghost use Rattle.zerotrie_base.specs.Numbers.{BeginsWith};
 ghost use Rattle.zerotrie_base.specs.Nodes.{Shape, Begins, BeginsSpan, BeginsBranch};
 ghost use Rattle.zerotrie_core.specs.listing.Listed.{node_of};
 ghost use Rattle.zerotrie_core.specs.Shapes.{shape, branch_shape};
-ghost use Rattle.zerotrie_core.specs.count.Row.{row_behind};
+ghost use Rattle.zerotrie_core.specs.walk.Row.{row_behind};
 
 use crate::branch::Branch;
 use zerotrie_base::{ZeroTrieWithOptions, read_varint_meta3};

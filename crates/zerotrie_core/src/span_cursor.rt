@@ -46,7 +46,11 @@ impl<'a> Model for SpanCursor<'a> {
 
 /// Like `edge_like`, after the rest of a run.
 #[inline(always)]
-fn like_at<'a, K: ZeroTrieWithOptions>(run: &'a [u8], trie: &'a [u8], byte: u8) -> Option<Along<'a>>
+pub(crate) fn like_at<'a, K: ZeroTrieWithOptions>(
+    run: &'a [u8],
+    trie: &'a [u8],
+    byte: u8,
+) -> Option<Along<'a>>
     ensures step { IsStep K.kind (ListsBehind K.kind run.now trie.now) byte
         (option_map (λ a. a.edge) result) (ListsAt K.kind (place_along result)) }
     ensures run { IfSome result (λ a. FollowsRun K.kind
@@ -62,7 +66,7 @@ fn like_at<'a, K: ZeroTrieWithOptions>(run: &'a [u8], trie: &'a [u8], byte: u8) 
 
 /// Like `edge_numbered`, after the rest of a run.
 #[inline(always)]
-fn numbered_at<'a, K: ZeroTrieWithOptions>(
+pub(crate) fn numbered_at<'a, K: ZeroTrieWithOptions>(
     run: &'a [u8],
     trie: &'a [u8],
     index: usize,

@@ -6,11 +6,13 @@
 ghost use Rattle.std.specs.Prelude.{◌≡◌, ℕ, List, Some, ◌+◌, ◌-◌, ◌*◌, ◌<◌, ◌≤◌, ◌++◌, length, take, drop, map, reverse, vec_len, All, OnOk, IfOk, None, ◌^◌};
 ghost use Rattle.std.specs.Option.{option_map};
 ghost use Rattle.zerotrie_base.specs.Kind.{Kind, kind_with};
-ghost use Rattle.zerotrie_base.specs.Maps.{Pairs};
+ghost use Rattle.std.specs.FinMap.{len};
+ghost use Rattle.zerotrie_base.specs.Maps.{Map, Pairs};
 ghost use Rattle.zerotrie_base.specs.Nodes.{Begins, targets_behind};
-ghost use Rattle.zerotrie_base.specs.Texts.{Lists};
+ghost use Rattle.zerotrie_base.specs.Texts.{Lists, Means};
 ghost use Rattle.zerotrie_core.specs.Shapes.{shape, branch_shape};
 ghost use Rattle.zerotrie_core.specs.listing.Listed.{node_of};
+ghost use Rattle.zerotrie_core.specs.walk.Row.{row_behind, values_in};
 ghost use Rattle.zerotrie_core.specs.walk.Visits.{Visit, nodes_of, target_parts, parts_behind};
 ghost use Rattle.zerotrie_core.specs.walk.Texts.{text_visits};
 ghost use Rattle.zerotrie_core.specs.walk.Seen.{part_of, visits_left, IsNext, LiesIn};
@@ -192,4 +194,37 @@ impl<'a, A: Allocator> Nodes<'a, A> {
     {
         next_of(self.options, &mut self.parts)
     }
+}
+
+/// Returns the number of values of a node.
+fn values_in(node: &Node<'_>) -> usize
+    ensures { result ≡ values_in (shape node.now) }
+{
+    match node {
+        Node::Value(_value, _after) => 1,
+        Node::Literal(_, _) | Node::Span(_, _) | Node::Branch(_) => 0,
+    }
+}
+
+/// Returns the number of pairs, which is the number of keys.
+///
+/// ```
+/// assert_eq!(rt; count_pairs::<Simple>(b"ad\x90\x06ef\x90\x11"), 2);
+/// ```
+///
+/// All nodes form one row, and each shows where it ends. So this reads the bytes once, and does not
+/// allocate. On malformed bytes the result is unspecified, but at most the number of bytes; the
+/// call never panics or reads outside them.
+pub fn count_pairs<K: ZeroTrieWithOptions>(bytes: &[u8]) -> usize
+    ensures listed { (pairs : Pairs) → Lists K.kind bytes.now pairs → result ≡ length pairs }
+    ensures map { (m : Map) → Means K.kind bytes.now m → result ≡ len m }
+    ensures most { result ≤ length bytes.now }
+{
+    let mut rest = bytes;
+    let mut count = 0;
+    while let Some(node) = first_node::<K>(rest) {
+        count += values_in(&node);
+        rest = row_behind(node);
+    }
+    count
 }

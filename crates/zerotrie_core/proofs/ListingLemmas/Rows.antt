@@ -11,7 +11,7 @@ use Rattle.zerotrie_base.specs.Texts.ListEach.{no_edge, edge}
 use Rattle.zerotrie_base.specs.Nodes.{Shape, Begins, BeginsBranch, targets_behind}
 use Rattle.zerotrie_base.specs.Nodes as shapes
 use Rattle.zerotrie_core.specs.listing.Listed.{node_of}
-use Rattle.zerotrie_core.specs.count.Row.{row_behind, values_in}
+use Rattle.zerotrie_core.specs.walk.Row.{row_behind, values_in}
 use Rattle.zerotrie_core.proofs.NodeLemmas.Read.{node_begun}
 use Rattle.zerotrie_base.proofs.NodeLemmas.Tables.{length-table}
 use Rattle.zerotrie_core.proofs.ListingLemmas.Left.{read_shorter}

@@ -9,7 +9,7 @@ use Rattle.zerotrie_core.specs.Machine.{behind}
 use Rattle.zerotrie_base.specs.Cursors.{met}
 use Rattle.zerotrie_base.specs.Nodes.{Shape, Begins}
 use Rattle.zerotrie_core.specs.Places.{Place, nowhere, ListsBehind, ListsAt, IsStep, IsProbe}
-use Rattle.zerotrie_core.specs.listing.Runs.{LiesIn}
+use Rattle.zerotrie_core.specs.listing.Runs.{HasParts}
 use Rattle.zerotrie_core.specs.declared.edges.Along as declared
 
 -- the bytes do not begin with a value
@@ -37,7 +37,7 @@ place_along (Some along) = place_after along
 -- what an edge leads to lies in the bytes, if there is an edge
 abbrev pub LiesBehind : List ℕ → Option declared.Along → Type 0
 LiesBehind bytes None = Unit {0}
-LiesBehind bytes (Some along) = LiesIn bytes along.run.now along.trie.now along.after
+LiesBehind bytes (Some along) = HasParts bytes along.run.now along.trie.now along.after
 
 -- whichever bytes begin with the node: the edge that equals the byte c
 abbrev pub StepsFrom : Kind → Shape → ℕ → Option declared.Along → Type 0

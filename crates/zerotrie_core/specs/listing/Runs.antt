@@ -6,8 +6,8 @@ abbrev pub EndsWith : List ℕ → List ℕ → Type 0
 EndsWith bytes after = (front : List ℕ) × (bytes ≡ front ++ after)
 
 -- the bytes have a run and a trie after it, and this many bytes after both
-abbrev pub LiesIn : List ℕ → List ℕ → List ℕ → ℕ → Type 0
-LiesIn bytes run trie after = (front back : List ℕ) × (bytes ≡ front ++ (run ++ (trie ++ back))) × (length back ≡ after)
+abbrev pub HasParts : List ℕ → List ℕ → List ℕ → ℕ → Type 0
+HasParts bytes run trie after = (front back : List ℕ) × (bytes ≡ front ++ (run ++ (trie ++ back))) × (length back ≡ after)
 
 -- This many bytes went from the rest to the end of the key.
 abbrev pub Moves : ℕ → List ℕ → List ℕ → List ℕ → List ℕ → Type 0

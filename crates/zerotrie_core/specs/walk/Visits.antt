@@ -4,7 +4,7 @@ use Rattle.std.specs.Prelude.{ℕ, ◌+◌, ◌-◌, List, [], ◌∷◌, ◌++�
 use Rattle.zerotrie_base.specs.Kind.{Kind}
 use Rattle.zerotrie_base.specs.Nodes.{Shape, targets_behind, begin_of}
 use Rattle.zerotrie_base.specs.Nodes.Shape.{value, literal, span, branch}
-use Rattle.zerotrie_core.specs.count.Row.{row_behind}
+use Rattle.zerotrie_core.specs.walk.Row.{row_behind}
 use Rattle.zerotrie_core.specs.listing.Listed.{node_of, is_in_order, target_of}
 
 -- A part of an encoding: the number of bytes before it, the number of branches above it, the place

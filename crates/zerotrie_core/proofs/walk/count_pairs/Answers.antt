@@ -2,7 +2,7 @@ use Rattle.std.proofs.Common.{◌∙◌, sym}
 use Rattle.zerotrie_core.specs.Shapes.{shape}
 use Rattle.zerotrie_core.proofs.ListingLemmas.Rows.{row_shorter, counted_more, counted_all}
 use Rattle.zerotrie_base.proofs.MapLemmas.Collected.{meant_len}
-use Rattle.zerotrie_core.proofs.count.count_pairs.Goals as goal
+use Rattle.zerotrie_core.proofs.walk.count_pairs.Goals as goal
 
 pub loop-node-smaller : goal.loop-node-smaller
 loop-node-smaller g c =

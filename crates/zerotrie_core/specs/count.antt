@@ -1,2 +1,0 @@
--- Words of the count's private functions.
-pub mod Row

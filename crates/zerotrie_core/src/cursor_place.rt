@@ -1,0 +1,193 @@
+//! A cursor by numbers, for callers that keep no slices.
+
+ghost use Rattle.std.specs.Prelude.{◌≡◌, ◌≤◌, ◌+◌, ◌++◌, ℕ, List, [], length, IfSome, IfNone, IsTrue};
+ghost use Rattle.std.specs.Option.{option_map};
+ghost use Rattle.zerotrie_base.specs.Kind.{Kind};
+ghost use Rattle.zerotrie_core.specs.Places.{nowhere, ListsAt, IsStep, IsTake, IsProbe, FollowsRun};
+ghost use Rattle.zerotrie_core.specs.listing.Runs.{HasParts};
+ghost use Rattle.zerotrie_core.specs.cursor.Edges.{place_after};
+
+use crate::cursor::take_value;
+use crate::edges::Along;
+use crate::span_cursor::{ByteProbeResult, SpanCursor, like_at, numbered_at};
+use zerotrie_base::ZeroTrieWithOptions;
+
+/// A cursor in the bytes of a trie, by numbers. The rest of a run is the bytes from `run` to
+/// `trie`, and the trie after it is those from `trie` to `end`.
+///
+/// ```
+/// let bytes = b"a\xA2\xC3\xA5\x85";            // the key "aå" with value 5
+/// let mut place = CursorPlace::new(bytes);
+/// assert_eq!(rt; place.step::<Hash>(bytes, b'a'), Some(b'a'));
+/// assert_eq!(rt; place.step::<Hash>(bytes, 0xC3), Some(0xC3));
+/// assert_eq!(rt; place, CursorPlace { run: 3, trie: 4, end: 5 });
+/// assert_eq!(rt; place.step::<Hash>(bytes, 0xA5), Some(0xA5));
+/// assert_eq!(rt; place.take_value(bytes), Some(5));
+/// assert!(rt; place.cursor(bytes).is_empty());
+/// ```
+///
+/// The bytes are handed to each call. Any bytes and any numbers are allowed: numbers that do not
+/// ascend, or are beyond the bytes, are an empty cursor. So a caller that keeps a cursor too long,
+/// or hands over other bytes, reads a wrong result, and nothing outside the bytes.
+#[derive(Clone, Copy, Debug, PartialEq, Eq)]
+pub struct CursorPlace {
+    /// Where the rest of a run begins. Outside of spans this is `trie`.
+    pub run: usize,
+    /// Where the trie after the run begins.
+    pub trie: usize,
+    /// Where the trie ends.
+    pub end: usize,
+}
+
+impl CursorPlace {
+    ghost use Rattle.zerotrie_core.specs.CursorPlaces.{is_in, parts_at, cursor_at, zeros};
+
+    /// Returns the cursor at the beginning of a trie.
+    #[inline]
+    pub fn new(bytes: &[u8]) -> Self
+        ensures { cursor_at bytes.now result ≡ record { run = []; trie = bytes.now } }
+    {
+        CursorPlace {
+            run: 0,
+            trie: 0,
+            end: bytes.len(),
+        }
+    }
+
+    /// Returns an empty cursor.
+    #[inline]
+    pub fn nowhere() -> Self
+        ensures { result ≡ zeros }
+    {
+        CursorPlace {
+            run: 0,
+            trie: 0,
+            end: 0,
+        }
+    }
+
+    /// Returns the cursor over slices of these bytes.
+    #[inline(always)]
+    pub fn cursor<'a>(&self, bytes: &'a [u8]) -> SpanCursor<'a>
+        ensures { result ≡ cursor_at bytes.now self.now }
+    {
+        let (run, trie) = self.within(bytes).parts(bytes);
+        SpanCursor::from_parts(run, trie)
+    }
+
+    /// Returns these numbers, or those of an empty cursor if they are none in the bytes.
+    #[inline(always)]
+    fn within(self, bytes: &[u8]) -> Self
+        ensures inside { IsTrue (is_in bytes.now result) }
+        ensures same { cursor_at bytes.now self ≡ parts_at bytes.now result }
+    {
+        if self.run <= self.trie && self.trie <= self.end && self.end <= bytes.len() {
+            self
+        } else {
+            CursorPlace::nowhere()
+        }
+    }
+
+    /// Returns the rest of the run, and the trie after it.
+    #[inline(always)]
+    fn parts(self, bytes: &[u8]) -> (&[u8], &[u8])
+        requires { IsTrue (is_in bytes.now self) }
+        ensures run { result.0.now ≡ (parts_at bytes.now self).run }
+        ensures trie { result.1.now ≡ (parts_at bytes.now self).trie }
+    {
+        (&bytes[self.run..self.trie], &bytes[self.trie..self.end])
+    }
+
+    /// Returns the cursor after an edge.
+    #[inline(always)]
+    fn behind(self, along: Along<'_>) -> Self
+        requires { length along.run.now + length along.trie.now + along.after ≤ self.end }
+        ensures { (bytes : List ℕ) → IsTrue (is_in bytes self)
+            → HasParts ((parts_at bytes self).run ++ (parts_at bytes self).trie)
+            along.entry.run.now along.entry.trie.now along.entry.after
+            → IsTrue (is_in bytes result) × (parts_at bytes result ≡ place_after along.entry) }
+    {
+        let end = self.end - along.after;
+        let trie = end - along.trie.len();
+        let run = trie - along.run.len();
+        CursorPlace { run, trie, end }
+    }
+
+    /// Follows the edge that equals the byte in this kind, as `SpanCursor::step` does.
+    ///
+    /// Skips a value before the edge. If no edge equals the byte, returns `None` and leaves the
+    /// cursor empty.
+    #[inline(always)]
+    pub fn step<K: ZeroTrieWithOptions>(&mut self, bytes: &[u8], byte: u8) -> Option<u8>
+        ensures meaning { IsStep K.kind (ListsAt K.kind (cursor_at bytes.now self.old)) byte result
+            (ListsAt K.kind (cursor_at bytes.now self.new)) }
+        ensures run { IfSome result (λ edge. FollowsRun K.kind (cursor_at bytes.now self.old) edge
+            (cursor_at bytes.now self.new)) }
+        ensures inside { IsTrue (is_in bytes.now self.new) }
+        ensures empty { IfNone result (self.new ≡ zeros) }
+    {
+        let place = self.within(bytes);
+        let (run, trie) = place.parts(bytes);
+        let Some(along) = like_at::<K>(run, trie, byte) else {
+            *self = CursorPlace::nowhere();
+            return None;
+        };
+        *self = place.behind(along);
+        Some(along.edge)
+    }
+
+    /// Follows the edge with this number, and returns its byte and the number of edges, as
+    /// `SpanCursor::probe` does.
+    ///
+    /// Skips a value before the edge. If there is no edge with this number, returns `None` and
+    /// leaves the cursor empty.
+    #[inline]
+    pub fn probe<K: ZeroTrieWithOptions>(
+        &mut self,
+        bytes: &[u8],
+        index: usize,
+    ) -> Option<ByteProbeResult>
+        ensures meaning { IsProbe (ListsAt K.kind (cursor_at bytes.now self.old)) index
+            (option_map {U = ℕ × ℕ} (λ r. (r.byte, r.total_siblings)) result)
+            (ListsAt K.kind (cursor_at bytes.now self.new)) }
+        ensures run { IfSome result (λ r. FollowsRun K.kind (cursor_at bytes.now self.old) r.byte
+            (cursor_at bytes.now self.new)) }
+        ensures inside { IsTrue (is_in bytes.now self.new) }
+        ensures empty { IfNone result (self.new ≡ zeros) }
+    {
+        let place = self.within(bytes);
+        let (run, trie) = place.parts(bytes);
+        let Some((along, edges)) = numbered_at::<K>(run, trie, index) else {
+            *self = CursorPlace::nowhere();
+            return None;
+        };
+        *self = place.behind(along);
+        Some(ByteProbeResult {
+            byte: along.edge,
+            total_siblings: edges as u16,
+        })
+    }
+
+    /// Takes the value of the empty key. Returns `None` if there is none, and then changes nothing.
+    #[inline]
+    pub fn take_value(&mut self, bytes: &[u8]) -> Option<usize>
+        ensures meaning { (kind : Kind) → IsTake kind (ListsAt kind (cursor_at bytes.now self.old))
+            result (ListsAt kind (cursor_at bytes.now self.new)) }
+        ensures inside { IfSome result (λ _. IsTrue (is_in bytes.now self.new)) }
+        ensures none { IfNone result (self.new ≡ self.old) }
+    {
+        let place = self.within(bytes);
+        let (run, mut trie) = place.parts(bytes);
+        if !run.is_empty() {
+            return None;
+        }
+        let value = take_value(&mut trie)?;
+        let begin = place.end - trie.len();
+        *self = CursorPlace {
+            run: begin,
+            trie: begin,
+            end: place.end,
+        };
+        Some(value)
+    }
+}
