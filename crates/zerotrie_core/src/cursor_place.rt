@@ -28,7 +28,9 @@ use zerotrie_base::ZeroTrieWithOptions;
 ///
 /// The bytes are handed to each call. Any bytes and any numbers are allowed: numbers that do not
 /// ascend, or are beyond the bytes, are an empty cursor. So a caller that keeps a cursor too long,
-/// or hands over other bytes, reads a wrong result, and nothing outside the bytes.
+/// or hands over other bytes, reads a wrong result, and nothing outside the bytes. It has the layout
+/// that C gives it.
+#[repr(C)]
 #[derive(Clone, Copy, Debug, PartialEq, Eq)]
 pub struct CursorPlace {
     /// Where the rest of a run begins. Outside of spans this is `trie`.
@@ -45,7 +47,8 @@ impl CursorPlace {
     /// Returns the cursor at the beginning of a trie.
     #[inline]
     pub fn new(bytes: &[u8]) -> Self
-        ensures { cursor_at bytes.now result ≡ record { run = []; trie = bytes.now } }
+        ensures start { cursor_at bytes.now result ≡ record { run = []; trie = bytes.now } }
+        ensures inside { IsTrue (is_in bytes.now result) }
     {
         CursorPlace {
             run: 0,
@@ -173,6 +176,7 @@ impl CursorPlace {
     pub fn take_value(&mut self, bytes: &[u8]) -> Option<usize>
         ensures meaning { (kind : Kind) → IsTake kind (ListsAt kind (cursor_at bytes.now self.old))
             result (ListsAt kind (cursor_at bytes.now self.new)) }
+        ensures run { (cursor_at bytes.now self.new).run ≡ (cursor_at bytes.now self.old).run }
         ensures inside { IfSome result (λ _. IsTrue (is_in bytes.now self.new)) }
         ensures none { IfNone result (self.new ≡ self.old) }
     {
