@@ -1,4 +1,4 @@
-"""Runs what README shows of each language, and compares what it prints with the remark on the line that prints. Arguments: the
+"""Runs what bindings/README.md shows of each language, and compares what it prints with the remark on the line that prints. Arguments: the
 folder bindings, and a folder to work in."""
 
 import os
@@ -9,8 +9,8 @@ import sys
 
 here, room = pathlib.Path(sys.argv[1]), pathlib.Path(sys.argv[2])
 build = pathlib.Path(os.environ["ZEROTRIE_LIB"])
-section = (here / "../README.md").read_text().split("## From C, C++, Rust and Python")[1].split("\n## ")[0]
-shown = {language: body for language, body in re.findall(r"```(c|cpp|rs|python)\n(.*?)```", section, re.S)}
+page = (here / "README.md").read_text()
+shown = {language: body for language, body in re.findall(r"```(c|cpp|rs|python)\n(.*?)```", page, re.S)}
 
 
 def compiled(command, name, text):
