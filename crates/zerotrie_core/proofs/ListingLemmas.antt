@@ -1,5 +1,6 @@
 -- Listings.
 pub mod Ascending
+pub mod Grouped
 pub mod Left
 pub mod Nodes
 pub mod Passed

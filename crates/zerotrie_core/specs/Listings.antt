@@ -3,6 +3,7 @@ use Rattle.std.specs.Prelude.{◌≡◌, ℕ, ◌+◌, List, [], ◌∷◌, Bool
 use Rattle.zerotrie_base.specs.Kind.{Kind}
 use Rattle.zerotrie_base.specs.Maps.{Pairs, same_key}
 use Rattle.std.specs.declared.alloc.AllocError.{AllocError}
+use Rattle.zerotrie_core.specs.declared.stream.opened.OpenBranch.{OpenBranch}
 use Rattle.zerotrie_core.specs.declared.listing.ListError.{ListError}
 use Rattle.zerotrie_core.specs.declared.listing.ListError.TheVariants.{OutOfMemory}
 
@@ -11,11 +12,19 @@ pub record Left : Type 0 where
   pub pairs : Pairs
   pub ended : Bool
 
+-- Where a stream reads on: the bytes that come next, in this kind, and then the targets that are left
+-- of the open branches, the innermost first.
+pub record Reading : Type 0 where
+  pub kind : Kind
+  pub rest : List ℕ
+  pub branches : List OpenBranch
+
 -- The state of a stream: the key and the value in hand, and what is left.
 pub record Standing : Type 0 where
   pub key : List ℕ
   pub value : ℕ
   pub left : Left
+  pub reading : Reading
 
 -- these pairs are to come
 abbrev pub to_come : Pairs → Left

@@ -70,6 +70,7 @@ impl<'a, A: Allocator> Model for ZeroTrieStream<'a, A> {
       key = s.key.items;
       value = s.value;
       left = left_in s.ended (kind_with s.options) s.key.items s.here.rest.now s.branches;
+      reading = record { kind = kind_with s.options; rest = s.here.rest.now; branches = s.branches };
     } };
 
     ghost invariant = { λ s. s.ended ≡ false → Stands (length s.key.items) s.branches };
@@ -77,13 +78,15 @@ impl<'a, A: Allocator> Model for ZeroTrieStream<'a, A> {
 
 impl<'a, A: Allocator> ZeroTrieStream<'a, A> {
     ghost use Rattle.zerotrie_core.specs.Listings.{ListsOne, MemoryOnly, over, item_of};
-    ghost use Rattle.zerotrie_core.specs.Skips.{Skips};
+    ghost use Rattle.zerotrie_core.specs.Skips.{Skips, NoneBegins, IsGrouped};
 
     /// Moves to the next pair, and returns whether there is one. An error ends the stream.
     ///
     /// The only error is a failed allocation for a longer key or a deeper branch.
     pub fn advance(&mut self) -> Result<bool, AllocError>
-        ensures { ListsOne (λ key. key) MemoryOnly self.old.left (item_of result self.new) self.new.left }
+        ensures lists { ListsOne (λ key. key) MemoryOnly self.old.left (item_of result self.new)
+            self.new.left }
+        ensures grouped { IsGrouped self.old → IsGrouped self.new }
     {
         if self.ended {
             return Ok(false);
@@ -134,12 +137,14 @@ impl<'a, A: Allocator> ZeroTrieStream<'a, A> {
     /// assert_eq!(rt; pairs.key(), b"b".as_slice());
     /// ```
     ///
-    /// So a program that wants no key with this beginning reads nothing of the others. It does not
-    /// allocate. With a depth of 0 nothing more comes.
+    /// In a trie, no key that comes later begins with these bytes. So a program that wants none of
+    /// them reads nothing of the others. It does not allocate. With a depth of 0 nothing more comes.
     pub fn skip(&mut self, depth: usize)
         ensures key { self.new.key ≡ self.old.key }
         ensures value { self.new.value ≡ self.old.value }
         ensures skips { Skips (take depth self.old.key) self.old.left self.new.left }
+        ensures grouped { IsGrouped self.old → IsGrouped self.new }
+        ensures all { IsGrouped self.old → NoneBegins (take depth self.old.key) self.new.left.pairs }
     {
         self.here = Here::nowhere();
         self.branches.leave(depth);
@@ -155,12 +160,15 @@ impl<'a, A: Allocator> ZeroTrieStream<'a, A> {
 
 impl<'a, A: Allocator + Copy> ZeroTrieStream<'a, A> {
     ghost use Rattle.zerotrie_core.specs.Listings.{to_come, rest_after};
+    ghost use Rattle.zerotrie_core.specs.Skips.{IsGrouped};
+    ghost use Rattle.zerotrie_core.specs.listing.Grouped.{AreGrouped};
 
     /// Lists the pairs of these bytes. It does not allocate before the first call of `advance`.
     pub fn new<K: ZeroTrieWithOptions>(alloc: A, bytes: &'a [u8]) -> Self
         ensures lists { (pairs : Pairs) → Lists K.kind bytes.now pairs → result.left ≡ to_come pairs }
         ensures most { length result.left.pairs ≤ length bytes.now }
         ensures fresh { result.left.ended ≡ false }
+        ensures grouped { (pairs : Pairs) → Lists K.kind bytes.now pairs → IsGrouped result }
     {
         ZeroTrieStream::behind::<K>(Vec::new(alloc), bytes)
     }
@@ -178,6 +186,7 @@ impl<'a, A: Allocator + Copy> ZeroTrieStream<'a, A> {
             → result.left ≡ to_come (with_run front.items pairs) }
         ensures most { length result.left.pairs ≤ length bytes.now }
         ensures fresh { result.left.ended ≡ false }
+        ensures grouped { (pairs : Pairs) → Lists K.kind bytes.now pairs → IsGrouped result }
     {
         let branches = OpenBranches::closed(*front.allocator());
         ZeroTrieStream::standing::<K>(Here::at(bytes), front, 0, branches)
@@ -191,7 +200,10 @@ impl<'a, A: Allocator + Copy> ZeroTrieStream<'a, A> {
         branches: OpenBranches<'a, A>,
     ) -> Self
         requires { Stands (length key.items) branches }
-        ensures { result.left ≡ to_come (pairs_left K.kind key.items here.entry.rest.now branches.entry) }
+        ensures left { result.left
+            ≡ to_come (pairs_left K.kind key.items here.entry.rest.now branches.entry) }
+        ensures grouped { AreGrouped K.kind key.items here.entry.rest.now branches.entry
+            → IsGrouped result }
     {
         ZeroTrieStream {
             options: ZeroTrieBuilderOptions::of::<K>(),
@@ -223,6 +235,8 @@ impl<'a, A: Allocator + Copy> ZeroTrieStream<'a, A> {
         ensures lists { IfOk result (λ s. (pairs : Pairs) → ListsAt K.kind cursor.entry pairs
             → s.left ≡ to_come pairs) }
         ensures most { IfOk result (λ s. length s.left.pairs ≤ length cursor.entry.trie) }
+        ensures grouped { IfOk result (λ s. (pairs : Pairs) → ListsAt K.kind cursor.entry pairs
+            → IsGrouped s) }
     {
         let (run, rest) = cursor.parts();
         let mut front = Vec::new(alloc);
@@ -250,6 +264,8 @@ impl<'a, A: Allocator + Copy> ZeroTrieStream<'a, A> {
         ensures lists { IfOk result (λ s. (pairs : Pairs) → Lists K.kind bytes.now pairs
             → s.left ≡ to_come (beginning K.kind prefix.now pairs)) }
         ensures most { IfOk result (λ s. length s.left.pairs ≤ length bytes.now) }
+        ensures grouped { IfOk result (λ s. (pairs : Pairs) → Lists K.kind bytes.now pairs
+            → IsGrouped s) }
     {
         match down_to::<K, A>(alloc, bytes, prefix)? {
             Some((front, rest)) => Ok(ZeroTrieStream::behind::<K>(front, rest)),
@@ -267,6 +283,8 @@ impl<'a, A: Allocator + Copy> ZeroTrieStream<'a, A> {
         ensures past { IfOk result (λ s. (pairs : Pairs) → Lists K.kind bytes.now pairs
             → IsPast K.kind sought.now (with_run front.items pairs) (option_map (λ s. s.left) s)) }
         ensures most { IfOk result (λ s. IfSome s (λ s. length s.left.pairs ≤ length bytes.now)) }
+        ensures grouped { IfOk result (λ s. IfSome s (λ s. (pairs : Pairs)
+            → Lists K.kind bytes.now pairs → IsGrouped s)) }
     {
         let Some(mut left) = after_front::<K>(front.as_slice(), sought) else {
             return Ok(None);
@@ -324,6 +342,8 @@ impl<'a, A: Allocator + Copy> ZeroTrieStream<'a, A> {
         ensures lists { IfOk result (λ s. (pairs : Pairs) → Lists K.kind bytes.now pairs
             → s.left ≡ to_come (rest_after K.kind key.now (beginning K.kind prefix.now pairs))) }
         ensures most { IfOk result (λ s. length s.left.pairs ≤ length bytes.now) }
+        ensures grouped { IfOk result (λ s. (pairs : Pairs) → Lists K.kind bytes.now pairs
+            → IsGrouped s) }
     {
         let Some((front, rest)) = down_to::<K, A>(alloc, bytes, prefix)? else {
             return Ok(ZeroTrieStream::new::<K>(alloc, &[]));

@@ -27,6 +27,8 @@ use Rattle.zerotrie_base.proofs.NodeLemmas.Opened.{branch_opens}
 use Rattle.zerotrie_base.proofs.NodeLemmas.Offsets.{in_order}
 use Rattle.zerotrie_core.proofs.ReaderLemmas.LookUps.{value_goes, span_goes, literal_ends, node_ends, comes_nowhere, comes_more, finds_at_end, finds_nothing}
 use Rattle.zerotrie_core.proofs.ListingLemmas.Nodes.{listed_behind, listed_pairs, is_order, length-target}
+use Rattle.zerotrie_core.specs.listing.Grouped.{AreEntered, AreGrouped}
+use Rattle.zerotrie_core.proofs.ListingLemmas.Grouped.{after_value, after_literal, after_span, opens_grouped}
 use Rattle.zerotrie_core.proofs.ListingLemmas.Left.{first_open, stands_run, fresh_left, still_nested, still_pairs, still_less, left_most, entered, target_ends, run_append, read_shorter, at_value, at_literal, at_span, opened, target_says, at_next}
 
 both_of : (a b : Bool) → (a && b) ≡ true → (a ≡ true) × (b ≡ true)
@@ -228,6 +230,7 @@ module _ (kind : Kind) (bytes : List ℕ) (n w : ℕ) (table behind : List ℕ) 
         goes = goes;
         shorter = shorter_target;
         work = target_work p edges' width' behind' next' begin';
+        grouped = λ at. opens_grouped kind key bytes n w table behind branches begins o p target edges width behind_is place next inside depth got edges' width' behind' next' depth' at;
         stands = subst (λ k. Stands (length (k ++ edge ∷ [])) (p ∷ outer)) front
             (entered key outer o p target edge is_open (omega arith) got edges' width' behind' next' begin' depth' (subst (λ d. Nested d outer) (sym depth) (still_nested (length key) branches stands)));
         last = λ pairs text. branch_last text n w table behind begins place inside key branches o p target stands edges width behind_is next depth edges' width' behind' next' depth' got;
@@ -246,11 +249,12 @@ pub record Passing (kind : Kind) (bytes front whole at left key : List ℕ) (bra
   pub same : same_key kind key taken ≡ true
   pub stands : Stands (length key) branches
   pub work : work_left at (still_open branches) ≤ length bytes
+  pub grouped : (pairs : Pairs) → Lists kind bytes pairs → AreGrouped kind key at branches
   pub last : (pairs : Pairs) → Lists kind bytes pairs → (before : Pairs) × (with_run front pairs ≡ before ++ pairs_left kind key at branches)
 
-pub pass_starts : (kind : Kind) (bytes front whole left first : List ℕ) (branches : List OpenBranch) → Stands (length front) branches → still_open branches ≡ [] → whole ≡ first ++ left → same_key kind front first ≡ true
+pub pass_starts : (kind : Kind) (bytes front whole left first : List ℕ) (branches : List OpenBranch) → Stands (length front) branches → still_open branches ≡ [] → ((kind : Kind) (key : List ℕ) (depth : ℕ) → AreEntered kind key depth branches) → whole ≡ first ++ left → same_key kind front first ≡ true
     → Passing kind bytes front whole bytes left front branches
-pass_starts kind bytes front whole left first branches stands none is same = record {
+pass_starts kind bytes front whole left first branches stands none are is same = record {
   first = first;
   sought = left;
   whole_first = is;
@@ -261,6 +265,7 @@ pass_starts kind bytes front whole left first branches stands none is same = rec
   whole_is = is;
   same = same;
   stands = stands;
+  grouped = λ pairs text. ((pairs, text), are kind front (length front));
   work = (let all : work_open (still_open branches) ≡ 0 = ap work_open none in omega arith);
   last = λ pairs text. ([], sym (fresh_left kind front bytes branches stands none ∙ ap (with_run front) (listed_pairs text)));
 }
@@ -280,6 +285,7 @@ module _ {kind : Kind} {bytes front whole at left key : List ℕ} {branches : Li
     same = ap (λ k. same_key kind k (p.taken ++ on.taken)) on.key_is ∙ same_behind kind key p.taken on.run on.taken p.same ∙ on.same;
     stands = on.stands;
     work = (let a = on.work in let b = p.work in omega arith);
+    grouped = λ pairs text. on.grouped (p.grouped pairs text);
     last = λ pairs text. (
         let all = p.last pairs text in
         let m = p.came pairs text in
@@ -336,6 +342,7 @@ module _ (kind : Kind) {at left key : List ℕ} {branches : List OpenBranch} (st
     comes = (value_goes kind v rest left some at begins).2;
     shorter = read_shorter kind at _ read;
     work = (let less = read_shorter kind at _ read in omega arith);
+    grouped = λ at. after_value kind key _ rest v branches begins at;
     stands = stands;
     last = λ pairs text. ((key, v) ∷ [], at_value kind key at rest v branches read);
   }
@@ -352,6 +359,7 @@ module _ (kind : Kind) {at left key : List ℕ} {branches : List OpenBranch} (st
     comes = comes_into kind (shapes.Shape.literal edge rest) h.0 edge at left after rest h.1 (literal_along kind edge h.0 rest h.2) begins;
     shorter = read_shorter kind at _ read;
     work = (let less = read_shorter kind at _ read in omega arith);
+    grouped = λ at. after_literal kind key _ rest edge branches begins at;
     stands = stands_run key (edge ∷ []) branches stands;
     last = λ pairs text. ([], at_literal kind key at rest edge branches (first_open (length key) branches stands) read);
   }
@@ -368,6 +376,7 @@ module _ (kind : Kind) {at left key : List ℕ} {branches : List OpenBranch} (st
     comes = (span_goes kind run rest left after is at begins).2;
     shorter = read_shorter kind at _ read;
     work = (let less = read_shorter kind at _ read in omega arith);
+    grouped = λ at. after_span kind key _ run rest branches begins at;
     stands = stands_run key run branches stands;
     last = λ pairs text. ([], at_span kind key at run rest branches (first_open (length key) branches stands) read);
   }
@@ -386,5 +395,6 @@ leads_branch {kind} {at} {left} node byte rest after key' branches' begins is g 
   shorter = g.shorter;
   stands = g.stands;
   work = g.work;
+  grouped = g.grouped;
   last = g.last;
 }

@@ -7,6 +7,7 @@ use Rattle.zerotrie_core.specs.Skips.{Passes, Skips}
 use Rattle.zerotrie_core.specs.listing.Listed.{listed}
 use Rattle.zerotrie_core.specs.listing.Opened.{pairs_behind, pairs_open, pairs_left, left_in, Stands, Leaves}
 use Rattle.zerotrie_core.specs.declared.stream.opened.OpenBranch.{OpenBranch}
+use Rattle.zerotrie_core.proofs.ListingLemmas.Grouped.{entered_longer}
 use Rattle.zerotrie_core.proofs.ListingLemmas.Left.{run_run, run_append, open_shorter, first_low, at_nothing, none_behind}
 
 -- a longer front is the shorter one and more
@@ -34,7 +35,7 @@ passes_branch kind d key o branches h stands = (
 )
 
 pub leaves_none : (d : ℕ) (branches : List OpenBranch) → Leaves d branches branches
-leaves_none d branches = record { stands = λ len s. s; passes = λ kind key s. ([], refl) }
+leaves_none d branches = record { stands = λ len s. s; entered = λ kind key e are. are; passes = λ kind key s. ([], refl) }
 
 -- the innermost one too
 pub leaves_more : (d : ℕ) (old : List OpenBranch) (o p : OpenBranch) (branches : List OpenBranch) → d ≤ o.depth → Leaves d old (o ∷ p ∷ branches) → Leaves d old (p ∷ branches)
@@ -45,6 +46,7 @@ leaves_more d old o p branches h leaves = record {
       let b = at.1.0.low in
       (record { low = omega (arith, a, b); inside = at.1.0.inside; begins = at.1.0.begins }, at.1.2)
       );
+  entered = λ kind key e are. (let at = leaves.entered kind key e are in entered_longer kind key o.depth e (p ∷ branches) at.0 at.2);
   passes = λ kind key s. passes_on (take d key) (pairs_open kind key old) (pairs_open kind key (o ∷ p ∷ branches)) (pairs_open kind key (p ∷ branches)) (leaves.passes kind key s)
       (passes_branch kind d key o (p ∷ branches) h (leaves.stands (length key) s));
 }
@@ -53,6 +55,7 @@ leaves_more d old o p branches h leaves = record {
 pub leaves_all : (d : ℕ) (old : List OpenBranch) (o closed : OpenBranch) → d ≤ o.depth → closed.edges ≡ 0 → closed.next ≡ 0 → closed.depth ≡ 0 → Leaves d old (o ∷ []) → Leaves d old (closed ∷ [])
 leaves_all d old o closed h edges next depth leaves = record {
   stands = λ len s. (record { low = omega arith; inside = omega arith; begins = λ some. absurd (omega arith) }, tt);
+  entered = λ kind key e are. (omega arith, λ some. absurd (omega arith), tt);
   passes = λ kind key s. (
       let none : pairs_open kind key (closed ∷ []) ≡ [] = rw (none_behind kind closed (omega arith)) refl in
       subst (Passes (take d key) (pairs_open kind key old)) (sym none)

@@ -8,6 +8,7 @@ use Rattle.zerotrie_base.specs.Nodes.{Shape}
 use Rattle.zerotrie_core.specs.Listings.{Left, to_come}
 use Rattle.zerotrie_base.specs.reader.Reading.{AlwaysFinds, AlwaysComes}
 use Rattle.zerotrie_core.specs.reader.Going.{AlwaysGoes, AlwaysStops}
+use Rattle.zerotrie_core.specs.listing.Grouped.{AreGrouped}
 use Rattle.zerotrie_core.specs.listing.Opened.{Stands, pairs_left, still_open, work_left}
 use Rattle.zerotrie_core.specs.declared.stream.opened.OpenBranch.{OpenBranch}
 use Rattle.zerotrie_core.specs.declared.here.Here.{Here}
@@ -49,6 +50,7 @@ pub record GoesInto (kind : Kind) (node : Shape) (byte : ℕ) (bytes key : List 
   pub shorter : length rest < length bytes
   pub stands : Stands (length key') branches'
   pub work : work_left rest (still_open branches') ≤ work_left bytes (still_open branches)
+  pub grouped : AreGrouped kind key bytes branches → AreGrouped kind key' rest branches'
   pub last : (pairs : Pairs) → Lists kind bytes pairs → (before : Pairs) × (pairs_left kind key bytes branches ≡ before ++ pairs_left kind key' rest branches')
 
 -- that, to the rest of the text; or no edge is the byte to the kind
@@ -69,6 +71,7 @@ pub record LeadsOn (kind : Kind) (bytes left key : List ℕ) (branches : List Op
   pub shorter : length rest < length bytes
   pub stands : Stands (length key') branches'
   pub work : work_left rest (still_open branches') ≤ work_left bytes (still_open branches)
+  pub grouped : AreGrouped kind key bytes branches → AreGrouped kind key' rest branches'
   pub last : (pairs : Pairs) → Lists kind bytes pairs → (before : Pairs) × (pairs_left kind key bytes branches ≡ before ++ pairs_left kind key' rest branches')
 
 -- that, to the rest of the text and of the key; or no pair has the key

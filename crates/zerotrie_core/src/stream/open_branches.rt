@@ -3,6 +3,7 @@
 ghost use Rattle.std.specs.Prelude.{◌≡◌, ◌<◌, ◌∷◌, ℕ, List, [], false, length, reverse, IfOk, OnOk, IsTrue};
 ghost use Rattle.zerotrie_base.specs.Kind.{Kind};
 ghost use Rattle.zerotrie_core.specs.listing.Opened.{Nested, Stands, Leaves, still_open, pairs_open, pairs_left, work_open, work_left};
+ghost use Rattle.zerotrie_core.specs.listing.Grouped.{AreEntered, CanEnter, AreGrouped, StandsBelow};
 ghost use Rattle.zerotrie_core.specs.declared.stream.opened.OpenBranch.{OpenBranch};
 
 use crate::here::Here;
@@ -28,6 +29,7 @@ impl<'a, A: Allocator> OpenBranches<'a, A> {
     pub(crate) fn closed(alloc: A) -> Self
         ensures stands { (depth : ℕ) → Stands depth result }
         ensures none { still_open result ≡ [] }
+        ensures entered { (kind : Kind) (key : List ℕ) (depth : ℕ) → AreEntered kind key depth result }
     {
         OpenBranches {
             top: OpenBranch::closed(),
@@ -68,7 +70,8 @@ impl<'a, A: Allocator> OpenBranches<'a, A> {
 
     /// Leaves the branches that stand after this many bytes of the key or more.
     pub(crate) fn leave(&mut self, depth: usize)
-        ensures { Leaves depth self.old self.new }
+        ensures leaves { Leaves depth self.old self.new }
+        ensures below { StandsBelow depth self.new }
     {
         while depth <= self.top.depth {
             let Some(outer) = self.outer.pop() else {
@@ -87,6 +90,8 @@ impl<'a, A: Allocator> OpenBranches<'a, A> {
         ensures stands { IfOk result (λ _. Stands (length key.new.items) self.new) }
         ensures same { (kind : Kind) → IfOk result (λ here.
             pairs_left kind key.new.items here.rest.now self.new ≡ pairs_open kind key.old.items self.old) }
+        ensures grouped { (kind : Kind) → IfOk result (λ here. CanEnter kind key.old.items self.old
+            → AreGrouped kind key.new.items here.rest.now self.new) }
         ensures less { IfOk result (λ here. work_left here.rest.now self.new < work_open self.old) }
     {
         key.truncate(self.top.depth);

@@ -23,3 +23,14 @@ returns-in-None-clause-lists g c pairs text =
     let d = rw c.in-Some.is at (c.in_ok-front.ensures.behind pairs text) in
     let p = rw c.in-None.is at (c.in_ok-stream.ensures.past d.0 d.1) in
     c.new-in-None.ensures.lists [] nothing ∙ ap to_come (sym (rest_none kind key (with_run c.in-Some.front.items d.0) p)) ∙ ap (λ ps. to_come (rest_after kind key ps)) (sym d.2)
+
+pub returns-in_default-clause-grouped : goal.returns-in_default-clause-grouped
+returns-in_default-clause-grouped g c pairs text = c.new.ensures.grouped [] nothing
+
+pub returns-in-Some-2-clause-grouped : goal.returns-in-Some-2-clause-grouped
+returns-in-Some-2-clause-grouped g c pairs text =
+    let d = rw c.in-Some.is at (c.in_ok-front.ensures.behind pairs text) in
+    (rw c.in-Some-2.is at c.in_ok-stream.ensures.grouped) d.0 d.1
+
+pub returns-in-None-clause-grouped : goal.returns-in-None-clause-grouped
+returns-in-None-clause-grouped g c pairs text = c.new-in-None.ensures.grouped [] nothing

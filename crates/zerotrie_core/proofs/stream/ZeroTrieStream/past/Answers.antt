@@ -8,6 +8,8 @@ use Rattle.zerotrie_core.specs.listing.Passed.{IsTowards, LeadsOn, gone_to}
 use Rattle.zerotrie_core.specs.declared.here.Here.{Here}
 use Rattle.zerotrie_core.specs.declared.stream.opened.OpenBranch.{OpenBranch}
 use Rattle.zerotrie_core.proofs.ListingLemmas.Passed.{value_elsewhere, pass_starts, pass_nowhere, pass_none, pass_found, pass_most, pass_on, leads_value}
+use Rattle.zerotrie_core.specs.listing.Grouped.{AreGrouped}
+use Rattle.zerotrie_core.proofs.ListingLemmas.Grouped.{after_value}
 use Rattle.zerotrie_core.proofs.stream.ZeroTrieStream.past.Goals as goal
 use Rattle.zerotrie_core.proofs.stream.ZeroTrieStream.past.Goals.{in-Value+else-is_empty, in-Literal+in_ok-passed-in-Literal, in-Span+in_ok-passed-in-Span, in-Branch+in_ok-passed-in-Branch}
 
@@ -20,7 +22,7 @@ loop-node-init g c =
     let h = rw c.as_slice.ensures.value at c.in-Some.ensures in
     let branches = c.closed-branches.ensures in
     rw c.at-at.ensures
-    (pass_starts g.K.ZeroTrieWithOptions.kind c.args.bytes.now c.args.front.items c.args.sought.now c.in-Some.left.now h.0 c.closed-branches.result (branches.stands (length c.args.front.items)) branches.none h.1 h.2)
+    (pass_starts g.K.ZeroTrieWithOptions.kind c.args.bytes.now c.args.front.items c.args.sought.now c.in-Some.left.now h.0 c.closed-branches.result (branches.stands (length c.args.front.items)) branches.none branches.entered h.1 h.2)
 
 pub standing-requires : goal.standing-requires
 standing-requires g c = c.loop-node.invariant.stands
@@ -29,12 +31,20 @@ pub returns-then-is_empty-clause-past : goal.returns-then-is_empty-clause-past
 returns-then-is_empty-clause-past g c pairs text =
     let begins = rw c.in-Value.is at c.in-Some-first_node.ensures.begins in
     let none : c.loop-node.left.now ≡ [] = nil_from_length c.loop-node.left.now (eqb-true _ _ (sym c.is_empty.ensures ∙ c.if-is_empty.true)) in
-    rw (c.standing.ensures, c.behind-at.ensures) (refl, pass_found c.loop-node.invariant c.in-Value.value c.in-Value.after.now begins none pairs text)
+    rw (c.standing.ensures.left, c.behind-at.ensures) (refl, pass_found c.loop-node.invariant c.in-Value.value c.in-Value.after.now begins none pairs text)
 
 pub returns-then-is_empty-clause-most : goal.returns-then-is_empty-clause-most
 returns-then-is_empty-clause-most g c =
     let begins = rw c.in-Value.is at c.in-Some-first_node.ensures.begins in
-    rw (c.standing.ensures, c.behind-at.ensures) (pass_most c.loop-node.invariant c.in-Value.value c.in-Value.after.now begins)
+    rw (c.standing.ensures.left, c.behind-at.ensures) (pass_most c.loop-node.invariant c.in-Value.value c.in-Value.after.now begins)
+
+pub returns-then-is_empty-clause-grouped : goal.returns-then-is_empty-clause-grouped
+returns-then-is_empty-clause-grouped g c pairs text =
+    let l = c.loop-node in
+    let kind = g.K.ZeroTrieWithOptions.kind in
+    let begins = rw c.in-Value.is at c.in-Some-first_node.ensures.begins in
+    let grouped = after_value kind l.key.items l.at.rest.now c.in-Value.after.now c.in-Value.value l.branches begins (l.invariant.grouped pairs text) in
+    c.standing.ensures.grouped (subst (λ r. AreGrouped kind l.key.items r l.branches) (sym c.behind-at.ensures) grouped)
 
 -- a step that was taken, by what it answered
 leads : (kind : Kind) (at left key : List ℕ) (branches : List OpenBranch) (passed : Option (Here × Bor (List ℕ))) (next : Here) (more : Bor (List ℕ)) (key' : List ℕ) (branches' : List OpenBranch)
