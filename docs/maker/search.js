@@ -1,0 +1,33 @@
+// Searches the names of all pages. INDEX is in this file's head: name, place, first sentence and address of each.
+const box = document.querySelector("header input"), list = document.getElementById("found");
+function rank(entry, word) {
+  const name = entry[0].toLowerCase();
+  if (name === word) return 0;
+  if (name.startsWith(word)) return 1;
+  if (name.includes(word)) return 2;
+  return (entry[1] + " " + entry[2]).toLowerCase().includes(word) ? 3 : 9;
+}
+box.addEventListener("input", () => {
+  const words = box.value.toLowerCase().split(/\s+/).filter(Boolean);
+  const found = [];
+  if (words.length) for (const entry of INDEX) {
+    const ranks = words.map(word => rank(entry, word));
+    if (!ranks.includes(9)) found.push([ranks.reduce((a, b) => a + b) + (entry[1].startsWith("definition") ? 2 : 0), entry[0].length, entry]);
+  }
+  found.sort((a, b) => a[0] - b[0] || a[1] - b[1]);
+  list.replaceChildren(...found.slice(0, 40).map(([, , [name, place, text, address]]) => {
+    const row = document.createElement("li"), link = document.createElement("a"), rest = document.createElement("span");
+    link.href = address;
+    link.append(Object.assign(document.createElement("code"), { textContent: name }));
+    rest.textContent = " " + place + (text ? ": " + text : "");
+    row.append(link, rest);
+    return row;
+  }));
+});
+box.addEventListener("keydown", event => {
+  if (event.key === "Enter" && list.querySelector("a")) location.href = list.querySelector("a").href;
+  if (event.key === "Escape") { box.value = ""; list.replaceChildren(); }
+});
+document.addEventListener("keydown", event => {
+  if (event.key === "/" && document.activeElement !== box) { event.preventDefault(); box.focus(); }
+});
