@@ -7,7 +7,7 @@ rows show values that a clause fixes already. It sees the helpers of the proved 
 All are tests of one crate in a copy of the repository, since what costs time is the build of the libraries. An example is a file of
 its own, in which its lines have the numbers that they have in the docs. It sees the public names of its crate and of those that the
 crate stands on, and the names of OTHERS, unless it has a `main` and so is a whole program. A line that prints, `println!(rt; ..)?;
-// TEXT`, must print TEXT. A block that is marked, as ```text, is no example; if its first line is `// FILE`, it must stand in that file.
+// TEXT`, must print TEXT. A block that is marked, as ```text, is no example.
 """
 import pathlib
 import re
@@ -70,14 +70,6 @@ def rows():
     return files, "".join(f"mod {name};\n" for name in files) + re.sub(r"^mod \w+;\n", "", helpers, flags=re.M)
 
 
-def misquoted():
-    """Yields the files of which a page quotes what doesn't stand in them."""
-    for page in PAGES:
-        for name, code in re.findall(r"^```text\n// (crates/\S+)\n(.*?)^```$", page.read_text(), re.M | re.S):
-            if code not in (ROOT / name).read_text():
-                yield f"{page.relative_to(ROOT)}: {name} has no such lines"
-
-
 def tried(examples):
     """Runs the tests as one crate of a copy of the repository."""
     with tempfile.TemporaryDirectory() as folder:
@@ -100,8 +92,6 @@ def tried(examples):
 
 
 def main():
-    if wrong := [*misquoted()]:
-        sys.exit("\n".join(wrong))
     examples = found()
     run = tried(examples)
     said = re.sub(r"\bsrc/(e\d+)\.rt\b", lambda it: str(examples[it[1]][0]), run.stdout + run.stderr)

@@ -1,0 +1,179 @@
+#!/usr/bin/env python3
+"""Holds the documents against the sources: quoted contracts, links, words and lengths.
+
+A block of README.md or docs/CALLING.md that is marked ```text and begins with `// FILE` must stand in that file. So must each clause
+of a block that begins with `fn`, which is shortened as docs/CALLING.md says: `kind` stands for the kind of the trie's type, `bytes` for
+its bytes, and `..` for anything. A line `FILE:NUMBER: OLD  ->  NEW` must be a planted mistake of zerotrie_base. Each link of a page must lead to a file that is there, and to a heading of it. README.md,
+docs/CALLING.md and the doc comments of the library's public items must be free of RETIRED, words for which every Rust programmer has
+another one. No page may have more words than LIMITS say: when a page gets shorter, so does its limit.
+"""
+import pathlib
+import re
+import subprocess
+import sys
+
+ROOT = pathlib.Path(__file__).resolve().parent.parent
+sys.dont_write_bytecode = True
+sys.path.insert(0, str(ROOT / "docs" / "maker"))
+
+import sources
+
+QUOTING = ["README.md", "docs/CALLING.md"]
+# How many words a page may have, as `wc -w` counts. CHANGELOG.md grows.
+LIMITS = {
+    "README.md": 1000,
+    "CONTRIBUTING.md": 2500,
+    "bindings/README.md": 380,
+    "crates/zerotrie_cli/README.md": 2920,
+    "crates/zerotrie_tool/README.md": 480,
+    "docs/ARCHITECTURE.md": 4920,
+    "docs/CALLING.md": 2400,
+    "docs/DECISIONS.md": 2850,
+    "docs/DIFFERENCES.md": 2000,
+    "docs/FORMAT.md": 4210,
+    "docs/MODEL.md": 6150,
+    "docs/SPEED.md": 5300,
+    "examples/README.md": 340,
+}
+# Words that are gone, each with what to write.
+RETIRED = {
+    r"takes? (no|the|up|all|more) memory": "allocates, does not allocate",
+    r"memory (was|is) refused|refused memory": "an allocation failed",
+    r"(is|are|was|were) refused": "returns an error, is an error",
+    r"tests? (of )?bytes|bytes are tested|untested": "validates, validation",
+    r"means? no map": "malformed bytes",
+    r"some answer": "the result is unspecified",
+    r"answers? (the|a|an|what|no|nothing|as|its|all|by|it)": "returns",
+    r"lends?|lent": "borrows",
+    r"routes?": "way to build, constructor",
+    r"lists its pairs": "iterates over",
+    r"stands?": "is",
+    r"(goes|go) on": "continues",
+    r"tells?|told": "returns, says",
+    r"goes along": "follows",
+    r"lays out|puts aside": "arranges, saves",
+    r"so many|those of these": "name the thing",
+    r"which it may outlive": "it may outlive",
+}
+# These are in doc comments still.
+PAGES_ONLY = [r"(is|are|was|were) refused", r"takes? (no|the|up|all|more) memory", r"answers? (the|a|an|what|no|nothing|as|its|all|by|it)", r"stands?"]
+
+
+def prose(text):
+    """Returns a text without its code."""
+    return re.sub(r"`[^`]*`", "``", re.sub(r"^```.*?^```", "", text, flags=re.M | re.S))
+
+
+def plain(clause):
+    """Returns a clause in the short form in which pages quote it."""
+    text = " ".join(clause.split())
+    for long, short in {r"\(S\.stored self\.now\.store\)": "bytes", r"S\.stored self\.now\.store": "bytes", r"K\.kind": "kind"}.items():
+        text = re.sub(long, short, text)
+    return text
+
+
+def clauses_of(path):
+    """Returns the clauses of a function by its path in a page, each as its name and its short form. `None` if there is no such function."""
+    owner, _, name = path.rpartition("::")
+    if owner:
+        found = [it for block in sources.all_impls() if block.type == owner for it in block.methods if it.name == name]
+    else:
+        found = [item for _, shown, item in sources.public() if shown == name and item.kind == "fn"]
+    return [(label, plain(text)) for item in found for _, label, text in item.clauses] if found else None
+
+
+def misquoted():
+    """Yields what a page quotes and the sources do not have."""
+    for page in QUOTING:
+        for block in re.findall(r"^```text\n(.*?)^```$", (ROOT / page).read_text(), re.M | re.S):
+            first, _, rest = block.partition("\n")
+            if first.startswith("// "):
+                source = (ROOT / first[3:]).read_text()
+                indents = {re.match(" *", line)[0] for line in source.splitlines()}
+                if not any("".join(f"{indent}{line}\n" if line else "\n" for line in rest.splitlines()) in source for indent in indents):
+                    yield f"{page}: {first[3:]} has no such lines"
+            elif first.startswith("fn "):
+                for path, said in re.findall(r"^fn ([\w:]+).*\n((?:  .*\n)*)", block, re.M):
+                    clauses = clauses_of(path)
+                    for label, text in re.findall(r"^  ensures ?(\w*): (.*\n(?:    .*\n)*)", said, re.M):
+                        quoted = re.escape(" ".join(text.split())).replace(r"\.\.", ".*")
+                        if not any(label == name and re.fullmatch(quoted, clause) for name, clause in clauses or []):
+                            yield f"{page}: {path} has no such clause: {label} {' '.join(text.split())}"
+
+
+def not_planted():
+    """Yields the mistakes that a page shows and no edit plants."""
+    crate = ROOT / "crates" / "zerotrie_base"
+    edits = [dict(re.findall(r"^(\w+): (.*)", it.read_text(), re.M)) for it in crate.glob("*/*.edit")]
+    for page in QUOTING:
+        for file, number, old, new in re.findall(r"^(src/\S+):(\d+): (.*)  ->  (.*)$", (ROOT / page).read_text(), re.M):
+            line = (crate / file).read_text().splitlines()[int(number) - 1]
+            made = [line.replace(it["old"], it["new"]).strip() for it in edits if it["file"] == file and it["old"] in line]
+            if line.strip() != old or new not in made:
+                yield f"{page}: no edit makes {old} in {file}:{number} to {new}"
+
+
+def headings(text):
+    """Returns the anchors of a page's headings."""
+    found = []
+    for title in re.findall(r"^#+ (.*)", re.sub(r"^```.*?^```", "", text, flags=re.M | re.S), re.M):
+        anchor = re.sub(r"[^\w\- ]", "", re.sub(r"\[([^]]*)\]\([^)]*\)", r"\1", title).lower()).replace(" ", "-")
+        count = sum(it == anchor or re.fullmatch(rf"{re.escape(anchor)}-\d+", it) is not None for it in found)
+        found.append(f"{anchor}-{count}" if count else anchor)
+    return found
+
+
+def dead_links(pages):
+    """Yields the links that lead nowhere."""
+    for page in pages:
+        for link in re.findall(r"\]\(([^)\s]+)\)", prose((ROOT / page).read_text())):
+            file, _, anchor = link.partition("#")
+            target = (ROOT / page).parent / file if file else ROOT / page
+            if link.startswith(("http:", "https:")):
+                continue
+            if not target.exists():
+                yield f"{page}: {link} leads nowhere"
+            elif anchor and anchor not in headings(target.read_text()):
+                yield f"{page}: {link} names no heading"
+
+
+def comments():
+    """Yields the doc comments of the library's public items and of their parts and methods: where each is, and its text."""
+    items = [item for _, _, item in sources.public()]
+    names = {item.name for item in items}
+    methods = [it for block in sources.all_impls() if block.type in names for it in block.methods if it.is_public]
+    for item in [*items, *methods, *(part for item in items for part in item.parts)]:
+        place = f"{item.file.relative_to(ROOT)}:{item.line}" if item.file else item.name
+        yield place, "\n".join(item.doc)
+
+
+def retired():
+    """Yields the retired words that are there."""
+    texts = [(page, (ROOT / page).read_text(), RETIRED) for page in QUOTING]
+    rest = {word: RETIRED[word] for word in RETIRED if word not in PAGES_ONLY}
+    texts += [(place, text, rest) for place, text in comments()]
+    for place, text, words in texts:
+        for word, other in words.items():
+            if found := re.search(rf"\b({word})\b", prose(text), re.I):
+                yield f"{place}: “{found[0]}”: write: {other}"
+
+
+def too_long(pages):
+    """Yields the pages that have too many words, and those that have no limit."""
+    for page in pages:
+        words = len((ROOT / page).read_text().split())
+        if page not in LIMITS and page != "CHANGELOG.md":
+            yield f"{page} has no limit of words in .ci/documents.py"
+        elif words > LIMITS.get(page, words):
+            yield f"{page} has {words} words, and its limit is {LIMITS[page]}"
+
+
+def main():
+    listed = subprocess.run(["git", "ls-files", "*.md"], cwd=ROOT, capture_output=True, text=True, check=True).stdout.split()
+    pages = [it for it in listed if (ROOT / it).exists()]
+    wrong = [*misquoted(), *not_planted(), *dead_links(pages), *retired(), *too_long(pages)]
+    print("\n".join([*wrong, f"{len(pages)} pages: {len(wrong)} faults in quotes, links, words and lengths"]))
+    sys.exit(1 if wrong else 0)
+
+
+main()
