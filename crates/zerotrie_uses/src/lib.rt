@@ -5,13 +5,14 @@
 //! `Rattle.zerotrie.proofs`.
 #![tactic(auto)]
 
-mod cursors;
+mod constants;
 mod cursors;
 mod fallbacks;
 mod keywords;
 mod listings;
 mod stored;
 
+pub use constants::{HEADERS, header_bytes, header_number, header_trie, method_number};
 pub use cursors::{find_behind, find_written, suffixes_of};
 pub use fallbacks::{fall_back, fall_back_in_hashed, longest_key};
 pub use keywords::{find_header, find_keyword, find_owned, find_word, record_of, second_of_three};

@@ -18,11 +18,12 @@ use Rattle.zerotrie_base.specs.Branches.{total, width, branch_front}
 use Rattle.zerotrie_base.specs.Canonical.{value_node, branch_size, span_size, rest_size, size_to, size_of, size}
 use Rattle.zerotrie_base.specs.Stack.{branch_need, need_by, stack_to, stack_of, stack}
 use Rattle.zerotrie_base.specs.Bounds.{key_bound, build_bound}
-use Rattle.zerotrie_base.specs.Fits.{targets_size}
+use Rattle.zerotrie_base.specs.Texts.{Means}
+use Rattle.zerotrie_base.specs.Fits.{Fits, targets_size}
 use Rattle.zerotrie_base.proofs.MapLemmas.Edges.{Rise, member, member_head, member_later}
 use Rattle.zerotrie_base.proofs.MapLemmas.Ordered.{edges_rise, member-edges, member-edges_past}
 use Rattle.zerotrie_base.proofs.MapLemmas.Alike.{begins_behind, some_pair, same-entries, same-size_of}
-use Rattle.zerotrie_base.proofs.CanonicalLemmas.Order.{entries-map_of}
+use Rattle.zerotrie_base.proofs.CanonicalLemmas.Order.{entries-map_of, means_size}
 use Rattle.zerotrie_base.proofs.CanonicalLemmas.Sizes.{size_none}
 use Rattle.zerotrie_base.proofs.NodeLemmas.Fronts.{IsWidth-width, front_len, length-branch_front}
 
@@ -364,6 +365,21 @@ size_of_bound kind (e ∷ pairs) short = let h = within_all (suc (longest (e ∷
 pub size_bound : (kind : Kind) (pairs : Pairs) → build_bound pairs < 2 ^ 64 → size kind (map_of pairs) ≤ build_bound pairs
 unfolding size
 size_bound kind pairs short = let same = same-size_of kind (entries (map_of pairs)) pairs (same-entries pairs) in let h = size_of_bound kind pairs short in omega arith
+
+-- So a map that fits has no longer encodings, whatever the bound is.
+pub fits_bound : (kind : Kind) (pairs : Pairs) → Fits kind (map_of pairs) → size kind (map_of pairs) ≤ build_bound pairs
+fits_bound kind pairs fits = elim (cases_lt (build_bound pairs) (2 ^ 64)) [
+  | inl short ↦ size_bound kind pairs short
+  | inr long ↦ (let below = fits.short in omega arith)
+]
+
+pub meant_bound : (kind : Kind) (bytes : List ℕ) (pairs : Pairs) → Means kind bytes (map_of pairs) → length bytes ≤ build_bound pairs
+meant_bound kind bytes pairs means =
+    let long = means_size kind bytes (map_of pairs) means in
+    elim (cases_lt (build_bound pairs) (2 ^ 64)) [
+      | inl short ↦ (let most = size_bound kind pairs short in omega arith)
+      | inr large ↦ (let below = means.short in omega arith)
+    ]
 
 -- Waiting targets.
 
