@@ -24,7 +24,8 @@
  *
  * bindings/install PREFIX copies them and the headers to PREFIX/lib and PREFIX/include.
  *
- * Each function below is proved to meet its contract over the map that the bytes mean. What a proof can't see is what a caller does.
+ * Each function of the library is proved to meet its contract over the map that the bytes mean. What a proof can't see is what a
+ * caller does, and the few functions that stand here whole.
  *
  * A caller owes:
  *   - Pointers. A pointer with a length after it leads to that many elements, which can be read and which nothing writes
@@ -35,17 +36,21 @@
  *   - Lifetimes. A trie is only your bytes: there is nothing to open, close or free. What a cursor holds, and what
  *     zerotrie_untagged() hands out, points into the bytes that were given. Use it only while they stay where they are and
  *     unchanged. Keys and pairs are needed during the call alone.
- *   - Memory. "Takes memory" marks the functions that call malloc, realloc and free; each gives back all of it before it
- *     returns. Call none of them from a signal handler, nor in the forked child of a process with threads.
+ *   - Memory. "Takes memory" marks the functions that call malloc, realloc and free. Call none of them from a signal handler,
+ *     nor in the forked child of a process with threads.
  *
  * What holds then:
  *   - Every function returns, whatever the bytes hold. It reads nothing outside them, and never aborts or throws.
- *   - It writes only what is said at the function. "Stays" says of a place that it is not written to.
+ *   - It writes only what is said at the function, also if the bytes are no trie. "Stays" says of a place that it is not
+ *     written to.
  *   - Threads. There is no state between calls and no lock, so any number of threads may call at once over bytes that none
  *     of them writes. A cursor is for one thread at a time; a copy of it, made by =, is a cursor of its own.
  *
+ * What takes memory gives back all of it before it returns; tests show that, and no contract does.
+ *
  * Statements about keys hold for bytes that are a trie of the kind: those that a build wrote, and those from elsewhere that
- * zerotrie_is_well_formed() accepts; check them once. On any other bytes each function still returns, but its answer means nothing.
+ * zerotrie_is_well_formed() accepts; check them once. On any other bytes each function still returns, and writes no more, but its
+ * answer is that of no map. What holds there too is said at the function.
  *
  * A bool says yes or no: found, or well-formed. A uint32_t is a zerotrie_status, except from zerotrie_auto_kind(), which returns a
  * zerotrie_kind.
@@ -152,9 +157,9 @@ bool zerotrie_get(uint32_t kind, const uint8_t *bytes, size_t len, const uint8_t
 
 /* Looks up many keys at once, which lie one after another in `keys`: each goes from where the one before it ended up to its
  * own end. Writes the value of each, or `missing` for a key that the trie hasn't. An end beyond keys_len stands for
- * keys_len, and one below the end before it makes an empty key. It answers as
- * many keys as the smaller of ends_len and values_len; the rest of the room stays. Answers ZEROTRIE_DONE, or
- * ZEROTRIE_UNKNOWN_KIND and writes nothing. */
+ * keys_len, and one below the end before it makes an empty key. It answers as many keys as the smaller of ends_len and
+ * values_len; the rest of the room stays, whatever the bytes are. Answers ZEROTRIE_DONE, or ZEROTRIE_UNKNOWN_KIND and writes
+ * nothing. */
 ZEROTRIE_NONNULL
 uint32_t zerotrie_get_many(uint32_t kind, const uint8_t *bytes, size_t len, const uint8_t *keys, size_t keys_len,
                            const size_t *ends, size_t ends_len, size_t missing, size_t *values, size_t values_len);
@@ -190,10 +195,21 @@ bool zerotrie_cursor_take_value(zerotrie_cursor *cursor, size_t *value);
 ZEROTRIE_NONNULL
 bool zerotrie_cursor_probe(uint32_t kind, zerotrie_cursor *cursor, size_t index, uint8_t *edge, uint16_t *siblings);
 
-/* The kind of tagged bytes goes to *kind, and what stands after the tag, where it lies, to *trie; it is not tested. Or
- * answers ZEROTRIE_NO_TAG or ZEROTRIE_INVALID_TAG and writes nothing. */
+/* The kind of tagged bytes goes to *kind. Their trie is what follows their first byte; it is not tested. Or answers
+ * ZEROTRIE_NO_TAG or ZEROTRIE_INVALID_TAG, and *kind stays. */
 ZEROTRIE_ANSWERS
-uint32_t zerotrie_untagged(const uint8_t *tagged, size_t len, uint32_t *kind, zerotrie_bytes *trie);
+uint32_t zerotrie_tagged_kind(const uint8_t *tagged, size_t len, uint32_t *kind);
+
+/* The same, and what follows the first byte goes to *trie, where it lies. If there is no kind, *trie stays. */
+ZEROTRIE_ANSWERS
+ZEROTRIE_INLINE uint32_t zerotrie_untagged(const uint8_t *tagged, size_t len, uint32_t *kind, zerotrie_bytes *trie) {
+    const uint32_t status = zerotrie_tagged_kind(tagged, len, kind);
+    if (status == ZEROTRIE_DONE) {
+        trie->ptr = tagged + 1;
+        trie->len = len - 1;
+    }
+    return status;
+}
 
 /* --- Building ------------------------------------------------------------------------------------------------------- */
 
@@ -263,8 +279,12 @@ uint32_t zerotrie_dense_build(const uint8_t *prefixes, size_t prefixes_len, cons
  * SIMPLE_ASCII is that of the keys. The keys go to `keys` one after another, where each ends to `ends`, the values to
  * `values`; the rest of each room stays. *key_bytes and *count tell how long they are. With ZEROTRIE_BUFFER_TOO_SMALL some room
  * has too few places, and nothing is written to such a one; so a call with three lengths of 0 tells what rooms to take.
- * ZEROTRIE_OUT_OF_MEMORY: the three rooms stay. A trie of n bytes has at most n pairs. Takes memory, as much as it lists.
- * zerotrie_list_some() lists a large trie in parts. */
+ * ZEROTRIE_OUT_OF_MEMORY and ZEROTRIE_UNKNOWN_KIND: nothing is written. A trie of n bytes has at most n pairs.
+ *
+ * Bytes that are no trie list some pairs, of which all this holds too. So after ZEROTRIE_DONE, whatever the bytes are, *count is
+ * at most ends_len and values_len, no end is below the one before it, and the last is *key_bytes, which is at most keys_len.
+ *
+ * Takes memory, as much as it lists. zerotrie_list_some() lists a large trie in parts. */
 ZEROTRIE_ANSWERS
 uint32_t zerotrie_list(uint32_t kind, const uint8_t *bytes, size_t len, const uint8_t *prefix, size_t prefix_len,
                        uint8_t *keys, size_t keys_len, size_t *ends, size_t ends_len, size_t *values, size_t values_len,
@@ -273,11 +293,16 @@ uint32_t zerotrie_list(uint32_t kind, const uint8_t *bytes, size_t len, const ui
 /* Lists the next pairs of the same listing, as many as the three rooms have places for: those after the key `last` if
  * `goes_on`, and else the first ones. `last` is the last key that the call before wrote; if no key of the listing is this
  * one, nothing comes. It may not lie in `keys`, so copy it. *count tells how many pairs were written; the rest of each room
- * stays. ZEROTRIE_DONE: none is left. ZEROTRIE_BUFFER_TOO_SMALL: pairs are left, and the key of the next one takes *next_len
- * bytes; if *count is 0, some room has too few places for even this one. ZEROTRIE_OUT_OF_MEMORY: the pairs that are counted
- * are written all the same. ZEROTRIE_UNKNOWN_KIND: the rooms and *count stay. On bytes that are no trie a key may come twice, and
- * the parts then come round without end: a trie of n bytes has at most n pairs, so stop after more. A call costs a look-up of
- * `last` and what it lists. Takes memory, as much as the longest key and the deepest branches. */
+ * stays. ZEROTRIE_DONE: none is left, and *next_len is 0. ZEROTRIE_BUFFER_TOO_SMALL: pairs are left, and the key of the next one
+ * takes *next_len bytes; if *count is 0, some room has too few places for even this one. ZEROTRIE_OUT_OF_MEMORY: the pairs that
+ * are counted are written all the same, and *next_len stays. ZEROTRIE_UNKNOWN_KIND: nothing is written.
+ *
+ * Bytes that are no trie list some pairs, of which all this holds too. So with each status but ZEROTRIE_UNKNOWN_KIND, whatever the
+ * bytes are, *count is at most ends_len and values_len, and of that many ends none is below the one before it or beyond
+ * keys_len. But a key may come twice there, and the parts then come round without end: a trie of n bytes has at most n pairs,
+ * so stop after more.
+ *
+ * A call costs a look-up of `last` and what it lists. Takes memory, as much as the longest key and the deepest branches. */
 ZEROTRIE_ANSWERS
 uint32_t zerotrie_list_some(uint32_t kind, const uint8_t *bytes, size_t len, const uint8_t *prefix, size_t prefix_len,
                             bool goes_on, const uint8_t *last, size_t last_len, uint8_t *keys, size_t keys_len,
@@ -286,15 +311,32 @@ uint32_t zerotrie_list_some(uint32_t kind, const uint8_t *bytes, size_t len, con
 
 /* --- Texts ---------------------------------------------------------------------------------------------------------- */
 
-/* Lends the text of a status, in UTF-8: ptr is a string of C, and len counts the zero that ends it. It is never freed. */
-ZEROTRIE_NONNULL
-void zerotrie_status_bytes(uint32_t status, zerotrie_bytes *text);
-
-/* The text of a status, as "the keys do not ascend: sort them by their bytes, each once". */
+/* The text of a status, in UTF-8, as "the keys do not ascend: sort them by their bytes, each once". It is never freed. */
 ZEROTRIE_INLINE const char *zerotrie_status_text(uint32_t status) {
-    zerotrie_bytes text;
-    zerotrie_status_bytes(status, &text);
-    return ZEROTRIE_POINTER(const char *, text.ptr);
+    switch (status) {
+    case ZEROTRIE_DONE: return "Done";
+    case ZEROTRIE_NON_ASCII: return "a key has a byte that is not ASCII: take a kind of trie for keys of any bytes";
+    case ZEROTRIE_CAPACITY_EXCEEDED:
+        return "the text of the trie would be too long for its kind: take extended capacity, kind 7, or fewer pairs; a dense "
+               "table has at most 65,535 suffixes";
+    case ZEROTRIE_NO_PERFECT_HASH:
+        return "no perfect hash was found for the edges of a branch: take a kind without hashed tables, or change a key";
+    case ZEROTRIE_MIXED_CASE: return "two keys begin alike but for the case of a letter: lower-case the keys first";
+    case ZEROTRIE_ILLEGAL_DELIMITER: return "a text has the delimiter in it: take a delimiter that none has";
+    case ZEROTRIE_DUPLICATE_KEY: return "a key was given twice: give each key once";
+    case ZEROTRIE_UNSORTED: return "the keys do not ascend: sort them by their bytes, each once";
+    case ZEROTRIE_BUFFER_TOO_SMALL: return "the array is too small for the trie: take a larger one";
+    case ZEROTRIE_BUFFER_TOO_LARGE: return "the array is too large for the trie: take a smaller one";
+    case ZEROTRIE_STACK_EXCEEDED: return "the stack is too small for the trie: take a larger one";
+    case ZEROTRIE_OUT_OF_MEMORY: return "out of memory";
+    case ZEROTRIE_UNKNOWN_KIND: return "the number is no kind of trie: take 0, 3, 7 or 8";
+    case ZEROTRIE_NO_TAG: return "there are no bytes, and so no tag: give all of the tagged bytes";
+    case ZEROTRIE_INVALID_TAG: return "the first byte is the tag of no kind: give bytes that were written with a tag";
+    case ZEROTRIE_NO_ENTRY: return "the table has no such entry";
+    case ZEROTRIE_RECORD_TRUNCATED: return "the record is cut: give all of its bytes";
+    case ZEROTRIE_TRAILING_BYTES: return "bytes follow the record: give its bytes alone";
+    default: return "Unknown status";
+    }
 }
 
 #ifdef __cplusplus

@@ -360,10 +360,9 @@ public:
     // Of tagged bytes, which tell their kind; they are tested. nullopt: they have no tag of a kind, or are no trie of it.
     [[nodiscard]] static std::optional<Trie> from_tagged(Bytes tagged) noexcept {
         const auto at = detail::of(tagged.view());
-        uint32_t kind = 0;
-        zerotrie_bytes trie{};
-        if (zerotrie_untagged(at.ptr, at.len, &kind, &trie) != ZEROTRIE_DONE) return std::nullopt;
-        return checked(static_cast<Kind>(kind), detail::text_of(trie));
+        uint32_t kind;
+        if (zerotrie_tagged_kind(at.ptr, at.len, &kind) != ZEROTRIE_DONE) return std::nullopt;
+        return checked(static_cast<Kind>(kind), tagged.view().substr(1));
     }
     [[nodiscard]] constexpr Kind kind() const noexcept { return kind_; }
     [[nodiscard]] constexpr std::string_view bytes() const noexcept { return bytes_; }

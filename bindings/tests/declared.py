@@ -82,11 +82,13 @@ def in_python():
 
 
 def statuses():
-    """The text of each status is that of the library's error, and the numbers are those of the header and of Rust."""
+    """The text of each status is that of the library's error, in each language, and the numbers are those of the header and of Rust."""
     header = (here / "c/zerotrie.h").read_text()
     numbers = {name: int(number) for name, number in re.findall(r"(ZEROTRIE_\w+) = (\d+)", header)}
-    texts = re.findall(r'^    "(.*?)\\0",$', (here / "../crates/zerotrie_c/src/texts.rt").read_text(), re.M)
-    assert len(texts) == len(set(numbers.values()) - {0}) + 1 == 18, (len(texts), numbers)
+    by_name = dict(re.findall(r'case (ZEROTRIE_\w+):\s+return ((?:\s*"[^"]*")+);', header))
+    cases = [name for name in by_name if name in numbers]
+    texts = ["".join(re.findall(r'"(.*?)"', by_name[name])) for name in sorted(cases, key=numbers.get)]
+    assert len(texts) == len(by_name) == 18 and [numbers[name] for name in cases] == [*range(18)], by_name
     errors = re.findall(r'#\[error\("(.*?)"\)\]\n\s+(\w+)', (here / "../crates/zerotrie_base/src/error.rt").read_text())
     for number, (text, name) in enumerate(errors, 1):
         for word, instead in IN_OTHER_WORDS.items():
@@ -96,6 +98,9 @@ def statuses():
                        re.findall(r'#\[error\("(.*?)"\)\]', (here / "../crates/zerotrie/src/dense/record.rt").read_text())))
     assert len(records) == 2 and all(texts[numbers[name]] == text for name, text in records.items())
     in_rust = (here / "rust/zerotrie-proved/src/lib.rs").read_text()
+    for language, text in [("rust", in_rust), ("python", (here / "python/zerotrie/__init__.py").read_text())]:
+        table = re.search(r"TEXTS\b.*?[\[(]\n(.*?)\n[\])]", text, re.S)[1]
+        assert re.findall(r'^    "(.*)",$', table, re.M) == texts, language
     cases = {int(number): name for number, name in re.findall(r"\((\d+), Error::(\w+)\)", in_rust)}
     in_c = {number: name.removeprefix("ZEROTRIE_").replace("_", "").lower() for name, number in numbers.items()}
     assert cases and all(name.lower() == in_c[number] for number, name in cases.items()), (cases, in_c)

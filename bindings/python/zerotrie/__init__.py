@@ -65,6 +65,28 @@ SIMPLE_ASCII, PERFECT_HASH, EXTENDED_CAPACITY, IGNORE_CASE = _KINDS = 0, 3, 7, 8
 _DONE, _TOO_SMALL, _NO_MEMORY, _UNKNOWN_KIND, _NO_ENTRY = 0, 8, 11, 12, 15
 _HASHED_AT_ONCE = 1 << 16
 
+#: The texts of the statuses from 0 on, as zerotrie.h has them. The test compares them.
+_TEXTS = (
+    "Done",
+    "a key has a byte that is not ASCII: take a kind of trie for keys of any bytes",
+    "the text of the trie would be too long for its kind: take extended capacity, kind 7, or fewer pairs; a dense table has at most 65,535 suffixes",
+    "no perfect hash was found for the edges of a branch: take a kind without hashed tables, or change a key",
+    "two keys begin alike but for the case of a letter: lower-case the keys first",
+    "a text has the delimiter in it: take a delimiter that none has",
+    "a key was given twice: give each key once",
+    "the keys do not ascend: sort them by their bytes, each once",
+    "the array is too small for the trie: take a larger one",
+    "the array is too large for the trie: take a smaller one",
+    "the stack is too small for the trie: take a larger one",
+    "out of memory",
+    "the number is no kind of trie: take 0, 3, 7 or 8",
+    "there are no bytes, and so no tag: give all of the tagged bytes",
+    "the first byte is the tag of no kind: give bytes that were written with a tag",
+    "the table has no such entry",
+    "the record is cut: give all of its bytes",
+    "bytes follow the record: give its bytes alone",
+)
+
 
 def _remade(cls: type[Other], base: Any, *arguments: Any) -> Other:
     """What copies and pickles make: an object of the class, set up by `base`, as a subclass may want other arguments."""
@@ -84,9 +106,7 @@ class ZeroTrieError(ValueError):
     """Why something was refused, as text that says what to do. `status` is the number that zerotrie.h has for it."""
 
     def __init__(self, status: int) -> None:
-        text = _Part()
-        _lib.zerotrie_status_bytes(status, ctypes.byref(text))
-        super().__init__(ctypes.string_at(text.ptr, text.len - 1).decode())
+        super().__init__(_TEXTS[status] if 0 <= status < len(_TEXTS) else "Unknown status")
         self.status = status
 
     def __reduce__(self) -> tuple[Any, ...]:
@@ -128,7 +148,7 @@ _DECLARED = {
     "zerotrie_cursor_step": (c_bool, [c_uint32, POINTER(_Cursor), c_uint8, POINTER(c_uint8)]),
     "zerotrie_cursor_take_value": (c_bool, [POINTER(_Cursor), _SIZE]),
     "zerotrie_cursor_probe": (c_bool, [c_uint32, POINTER(_Cursor), c_size_t, POINTER(c_uint8), POINTER(c_uint16)]),
-    "zerotrie_untagged": (c_uint32, [*_LENT, POINTER(c_uint32), POINTER(_Part)]),
+    "zerotrie_tagged_kind": (c_uint32, [*_LENT, POINTER(c_uint32)]),
     "zerotrie_build": (c_uint32, [c_uint32, *_PAIRS, *_ROOM, _SIZE]),
     "zerotrie_build_sorted": (c_uint32, [c_uint32, *_PAIRS, *_ROOM, _SIZE]),
     "zerotrie_encoded_len": (c_uint32, [c_uint32, *_PAIRS, _SIZE]),
@@ -136,7 +156,6 @@ _DECLARED = {
     "zerotrie_tagged": (c_uint32, [c_uint32, *_LENT, *_ROOM, _SIZE]),
     "zerotrie_dense_get": (c_uint32, [*_LENT, *_TEXT, *_TEXT, _SIZE]),
     "zerotrie_dense_build": (c_uint32, [*_TEXT, *_SIZES, *_TEXT, *_SIZES, *_SIZES, c_uint8, *_ROOM, _SIZE]),
-    "zerotrie_status_bytes": (None, [c_uint32, POINTER(_Part)]),
     "zerotrie_list": (c_uint32, [c_uint32, *_LENT, *_TEXT, *_ROOM, *_SIZES, *_SIZES, _SIZE, _SIZE]),
     "zerotrie_list_some": (c_uint32, [c_uint32, *_LENT, *_TEXT, c_bool, *_TEXT, *_ROOM, *_SIZES, *_SIZES, _SIZE, _SIZE]),
 }
@@ -477,8 +496,8 @@ class ZeroTrie(_Reader, Mapping[bytes, int]):  # type: ignore[misc]
         """The trie of tagged bytes, which tell their kind, read where they lie. ZeroTrieError if they have no tag of a kind."""
         view = memoryview(data).cast("B")
         first = bytes(view[:1])
-        kind, part = c_uint32(), _Part()
-        _check(_lib.zerotrie_untagged(first, len(first), kind, part))
+        kind = c_uint32()
+        _check(_lib.zerotrie_tagged_kind(first, len(first), kind))
         return cls(view[1:], kind.value, check)
 
     @classmethod

@@ -8,4 +8,3 @@ pub mod Tags
 pub mod Listed
 pub mod Entries
 pub mod Dense
-pub mod Texts

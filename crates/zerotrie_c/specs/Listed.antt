@@ -42,11 +42,12 @@ IsGiven all_keys all_ends all_values status old_keys keys old_ends ends old_valu
     × IsPut all_keys k old_keys keys × IsPut all_ends e old_ends ends × IsPut all_values v old_values values
     × (status ≡ status_if (k && e && v))
 
--- What a listing of the pairs comes to: they are given, or memory was refused, and the rooms stay.
-abbrev pub IsListed : Pairs → ℕ → List ℕ → List ℕ → List ℕ → List ℕ → List ℕ → List ℕ → ℕ → ℕ → Type 0
-IsListed pairs status old_keys keys old_ends ends old_values values key_bytes count =
+-- What a listing of the pairs comes to: they are given, or memory was refused, and nothing is written.
+abbrev pub IsListed : Pairs → ℕ → List ℕ → List ℕ → List ℕ → List ℕ → List ℕ → List ℕ → ℕ → ℕ → ℕ → ℕ → Type 0
+IsListed pairs status old_keys keys old_ends ends old_values values old_key_bytes key_bytes old_count count =
     IsGiven (joined pairs) (ends_from 0 pairs) (values_of pairs) status old_keys keys old_ends ends old_values values key_bytes count
-    ⊎ ((status ≡ status_of OutOfMemory) × (keys ≡ old_keys) × (ends ≡ old_ends) × (values ≡ old_values))
+    ⊎ ((status ≡ status_of OutOfMemory) × (keys ≡ old_keys) × (ends ≡ old_ends) × (values ≡ old_values)
+    × (key_bytes ≡ old_key_bytes) × (count ≡ old_count))
 
 -- the pairs that a listing has left: those after the last key that it gave if it goes on, and else all
 abbrev pub left_of : Kind → Bool → List ℕ → Pairs → Pairs
@@ -65,11 +66,11 @@ HasNoRoom keys ends values written (p ∷ left) next_len = (next_len ≡ length 
     × ((keys < length (joined written) + length p.0) ⊎ (ends ≤ length written) ⊎ (values ≤ length written))
 
 -- What a part of a listing comes to: the first of the pairs are written, as many as are counted. It is done if none is
--- left; else the next one has no room, or memory was refused.
-abbrev pub IsListedSome : Pairs → ℕ → List ℕ → List ℕ → List ℕ → List ℕ → List ℕ → List ℕ → ℕ → ℕ → Type 0
-IsListedSome pairs status old_keys keys old_ends ends old_values values count next_len =
+-- left, and the next key has no length; else the next one has no room, or memory was refused.
+abbrev pub IsListedSome : Pairs → ℕ → List ℕ → List ℕ → List ℕ → List ℕ → List ℕ → List ℕ → ℕ → ℕ → ℕ → Type 0
+IsListedSome pairs status old_keys keys old_ends ends old_values values count old_next_len next_len =
     (written : Pairs) × (left : Pairs) × (pairs ≡ written ++ left) × (count ≡ length written)
     × IsWritten written old_keys keys old_ends ends old_values values
-    × (((status ≡ done) × (left ≡ []))
+    × (((status ≡ done) × (left ≡ []) × (next_len ≡ 0))
     ⊎ ((status ≡ status_of BufferTooSmall) × HasNoRoom (length old_keys) (length old_ends) (length old_values) written left next_len)
-    ⊎ (status ≡ status_of OutOfMemory))
+    ⊎ ((status ≡ status_of OutOfMemory) × (next_len ≡ old_next_len)))

@@ -1,5 +1,5 @@
 -- Tagged bytes as C is told of them.
-use Rattle.std.specs.Prelude.{◌≡◌, ℕ, ◌⊎◌, List, [], ◌∷◌, None}
+use Rattle.std.specs.Prelude.{◌≡◌, ℕ, ◌⊎◌, List, [], ◌∷◌, None, drop}
 use Rattle.zerotrie_core.specs.Kind.{Kind, tag}
 use Rattle.zerotrie_any.specs.Tagged.{tagged}
 use Rattle.zerotrie_c.specs.Numbers.{kind_of}
@@ -14,9 +14,9 @@ abbrev pub IsNotTagged : List ℕ → ℕ → Type 0
 IsNotTagged [] status = status ≡ no_tag
 IsNotTagged (first ∷ bytes) status = (status ≡ invalid_tag) × (kind_of first ≡ None)
 
--- What is told of tagged bytes: the number of their kind and what stands after it, or why they are none; then nothing
--- is written.
-abbrev pub IsUntagged : List ℕ → ℕ → ℕ → ℕ → List ℕ → List ℕ → Type 0
-IsUntagged bytes status old_number number old_behind behind =
-    ((status ≡ done) × IsTaggedAs bytes number behind)
-    ⊎ (IsNotTagged bytes status × (number ≡ old_number) × (behind ≡ old_behind))
+-- What is told of tagged bytes: the number of their kind, after which their trie stands, or why they are none; then
+-- nothing is written.
+abbrev pub IsUntagged : List ℕ → ℕ → ℕ → ℕ → Type 0
+IsUntagged bytes status old_number number =
+    ((status ≡ done) × IsTaggedAs bytes number (drop 1 bytes))
+    ⊎ (IsNotTagged bytes status × (number ≡ old_number))

@@ -9,8 +9,7 @@ ghost use Rattle.zerotrie_c.specs.Numbers.{kind_of};
 ghost use Rattle.zerotrie_c.specs.Statuses.{unknown_kind};
 ghost use Rattle.zerotrie_c.specs.Builds.{given, IsHandedOut, IsBuildTold, IsLengthTold};
 
-use crate::kinds::kind_of;
-use crate::statuses::{BUFFER_TOO_SMALL, DONE, UNKNOWN_KIND, status_of};
+use crate::numbers::{BUFFER_TOO_SMALL, DONE, UNKNOWN_KIND, kind_of, status_of};
 use std::alloc::{AllocError, Global};
 use zerotrie_any::{bytes_from_slice, bytes_from_unsorted_slice};
 use zerotrie_build::{ByteSliceWithIndices, encoded_len};

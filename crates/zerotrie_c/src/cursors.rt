@@ -11,7 +11,7 @@ ghost use Rattle.zerotrie_c.specs.Numbers.{kind_of};
 ghost use Rattle.zerotrie_c.specs.Answers.{told, told_both};
 ghost use Rattle.zerotrie_c.specs.Places.{place};
 
-use crate::kinds::kind_of;
+use crate::numbers::kind_of;
 use zerotrie_core::{ByteProbeResult, SpanCursor, ZeroTrieWithOptions, by_kind};
 
 /// A cursor with C's layout: the rest of a span, and the trie after it. Both borrow the trie's

@@ -11,7 +11,7 @@ ghost use Rattle.zerotrie_c.specs.Statuses.{done, record_truncated, trailing_byt
 
 use crate::builds::hand_out;
 use crate::entries::{Texts, rows_of};
-use crate::statuses::{DONE, NO_ENTRY, RECORD_TRUNCATED, TRAILING_BYTES, status_of};
+use crate::numbers::{DONE, NO_ENTRY, RECORD_TRUNCATED, TRAILING_BYTES, status_of};
 use std::alloc::Global;
 use std::collections::BTreeMap;
 use zerotrie::dense::{

@@ -9,8 +9,7 @@ ghost use Rattle.zerotrie_c.specs.Numbers.{kind_of};
 ghost use Rattle.zerotrie_c.specs.Statuses.{unknown_kind};
 ghost use Rattle.zerotrie_c.specs.Listed.{joined, ends_from, values_of, status_if, left_of, IsFlat, IsPut, IsWritten, IsGiven, IsListed, IsListedSome};
 
-use crate::kinds::kind_of;
-use crate::statuses::{BUFFER_TOO_SMALL, DONE, OUT_OF_MEMORY, UNKNOWN_KIND};
+use crate::numbers::{BUFFER_TOO_SMALL, DONE, OUT_OF_MEMORY, UNKNOWN_KIND, kind_of};
 use std::alloc::{AllocError, Global};
 use zerotrie_core::{ListError, ZeroTrieStream, ZeroTrieWithOptions, by_kind};
 
@@ -47,6 +46,8 @@ fn list<K: ZeroTrieWithOptions>(
 ) -> Result<Flat, ListError>
     ensures listed { (pairs : Pairs) → Lists K.kind bytes.now pairs
         → IfOk result (λ f. IsFlat (beginning K.kind prefix.now pairs) f.keys.items f.ends.items f.values.items) }
+    ensures any { IfOk result (λ f. (pairs : Pairs)
+        × IsFlat pairs f.keys.items f.ends.items f.values.items) }
     ensures refused { IfErr result (λ e. e ≡ OutOfMemory) }
 {
     let pairs = ZeroTrieStream::with_prefix::<K>(alloc, bytes, prefix)?;
@@ -120,9 +121,11 @@ fn list_out<K: ZeroTrieWithOptions>(
     key_bytes: &mut usize,
     count: &mut usize,
 ) -> u32
-    ensures { (pairs : Pairs) → Lists K.kind bytes.now pairs
-        → IsListed (beginning K.kind prefix.now pairs) result keys.old keys.new ends.old ends.new values.old values.new
-        key_bytes.new count.new }
+    ensures listed { (pairs : Pairs) → Lists K.kind bytes.now pairs
+        → IsListed (beginning K.kind prefix.now pairs) result keys.old keys.new ends.old ends.new
+        values.old values.new key_bytes.old key_bytes.new count.old count.new }
+    ensures any { (pairs : Pairs) × IsListed pairs result keys.old keys.new ends.old ends.new
+        values.old values.new key_bytes.old key_bytes.new count.old count.new }
 {
     match list::<K>(alloc, bytes, prefix) {
         Ok(listed) => give(&listed, keys, ends, values, key_bytes, count),
@@ -134,7 +137,9 @@ fn list_out<K: ZeroTrieWithOptions>(
 /// keys one after another, where each ends, and the values.
 ///
 /// It sets `key_bytes` and `count` even if some room is too small. A room that is too small stays
-/// as it is.
+/// as it is. If no kind has the number, or an allocation fails, nothing is written.
+///
+/// On malformed bytes it does the same for some pairs.
 #[unsafe(no_mangle)]
 pub extern "C" fn zerotrie_list(
     alloc: Global,
@@ -148,17 +153,22 @@ pub extern "C" fn zerotrie_list(
     count: &mut usize,
 ) -> u32
     ensures known { IfSome (kind_of kind) (λ k. (pairs : Pairs) → Lists k bytes.now pairs
-        → IsListed (beginning k prefix.now pairs) result keys.old keys.new ends.old ends.new values.old values.new
-        key_bytes.new count.new) }
-    ensures unknown { IfNone (kind_of kind) (result ≡ unknown_kind) }
+        → IsListed (beginning k prefix.now pairs) result keys.old keys.new ends.old ends.new
+        values.old values.new key_bytes.old key_bytes.new count.old count.new) }
+    ensures any { IfSome (kind_of kind) (λ _. (pairs : Pairs) × IsListed pairs result
+        keys.old keys.new ends.old ends.new values.old values.new key_bytes.old key_bytes.new
+        count.old count.new) }
+    ensures unknown { IfNone (kind_of kind) ((result ≡ unknown_kind) × (keys.new ≡ keys.old)
+        × (ends.new ≡ ends.old) × (values.new ≡ values.old) × (key_bytes.new ≡ key_bytes.old)
+        × (count.new ≡ count.old)) }
 {
-    match kind_of(kind) {
-        Some(kind) => by_kind!(
-            kind,
-            list_out::<_>(alloc, bytes, prefix, keys, ends, values, key_bytes, count)
-        ),
-        None => UNKNOWN_KIND,
-    }
+    let Some(kind) = kind_of(kind) else {
+        return UNKNOWN_KIND;
+    };
+    by_kind!(
+        kind,
+        list_out::<_>(alloc, bytes, prefix, keys, ends, values, key_bytes, count)
+    )
 }
 
 /// Copies bytes into the room at a place.
@@ -182,7 +192,7 @@ fn write_some(
     next_len: &mut usize,
 ) -> u32
     ensures { IsListedSome pairs.entry.left.pairs result keys.old keys.new ends.old ends.new
-        values.old values.new count.new next_len.new }
+        values.old values.new count.new next_len.old next_len.new }
 {
     *count = 0;
     let mut used = 0;
@@ -190,7 +200,10 @@ fn write_some(
     loop {
         match pairs.advance() {
             Ok(true) => {}
-            Ok(false) => return DONE,
+            Ok(false) => {
+                *next_len = 0;
+                return DONE;
+            }
             Err(_) => return OUT_OF_MEMORY,
         }
         let key = pairs.key();
@@ -237,9 +250,12 @@ fn list_some<K: ZeroTrieWithOptions>(
     count: &mut usize,
     next_len: &mut usize,
 ) -> u32
-    ensures { (pairs : Pairs) → Lists K.kind bytes.now pairs
+    ensures listed { (pairs : Pairs) → Lists K.kind bytes.now pairs
         → IsListedSome (left_of K.kind goes_on last.now (beginning K.kind prefix.now pairs)) result
-        keys.old keys.new ends.old ends.new values.old values.new count.new next_len.new }
+        keys.old keys.new ends.old ends.new values.old values.new count.new
+        next_len.old next_len.new }
+    ensures any { (pairs : Pairs) × IsListedSome pairs result keys.old keys.new ends.old ends.new
+        values.old values.new count.new next_len.old next_len.new }
 {
     match left_of::<K>(alloc, bytes, prefix, goes_on, last) {
         Ok(pairs) => write_some(pairs, keys, ends, values, count, next_len),
@@ -254,8 +270,12 @@ fn list_some<K: ZeroTrieWithOptions>(
 /// keys one after another, where each ends, and the values. If `goes_on`, it continues after the
 /// key `last`, which the call before wrote last; otherwise it begins with the first pair.
 ///
-/// The status is `DONE` if no pair is left. If the next pair has no room, `next_len` is the length
-/// of its key. A call costs a look-up of `last`, and reads no pair before it.
+/// The status is `DONE` if no pair is left, and then `next_len` is 0. If the next pair has no room,
+/// `next_len` is the length of its key. If an allocation fails, the pairs that `count` counts are
+/// written, and `next_len` stays. If no kind has the number, nothing is written. A call costs a
+/// look-up of `last`, and reads no pair before it.
+///
+/// On malformed bytes it does the same for some pairs.
 #[unsafe(no_mangle)]
 pub extern "C" fn zerotrie_list_some(
     alloc: Global,
@@ -272,9 +292,14 @@ pub extern "C" fn zerotrie_list_some(
 ) -> u32
     ensures known { IfSome (kind_of kind) (λ k. (pairs : Pairs) → Lists k bytes.now pairs
         → IsListedSome (left_of k goes_on last.now (beginning k prefix.now pairs)) result
-        keys.old keys.new ends.old ends.new values.old values.new count.new next_len.new) }
+        keys.old keys.new ends.old ends.new values.old values.new count.new
+        next_len.old next_len.new) }
+    ensures any { IfSome (kind_of kind) (λ _. (pairs : Pairs) × IsListedSome pairs result
+        keys.old keys.new ends.old ends.new values.old values.new count.new
+        next_len.old next_len.new) }
     ensures unknown { IfNone (kind_of kind) ((result ≡ unknown_kind) × (keys.new ≡ keys.old)
-        × (ends.new ≡ ends.old) × (values.new ≡ values.old) × (count.new ≡ count.old)) }
+        × (ends.new ≡ ends.old) × (values.new ≡ values.old) × (count.new ≡ count.old)
+        × (next_len.new ≡ next_len.old)) }
 {
     match kind_of(kind) {
         Some(kind) => by_kind!(

@@ -9,8 +9,7 @@ ghost use Rattle.zerotrie_c.specs.Answers.{told, told_both};
 ghost use Rattle.zerotrie_c.specs.Keys.{keys_from, or_else, values_or, written_over};
 ghost use Rattle.zerotrie_c.specs.Statuses.{done, unknown_kind};
 
-use crate::kinds::kind_of;
-use crate::statuses::{DONE, UNKNOWN_KIND};
+use crate::numbers::{DONE, UNKNOWN_KIND, kind_of};
 use zerotrie_core::{LookUps, ZeroTrieWithOptions, by_kind, get, longest_prefix};
 
 /// The number of keys from which a `LookUps` pays.
@@ -82,9 +81,10 @@ fn look_up_few<K: ZeroTrieWithOptions>(
     missing: usize,
     values: &mut [usize],
 )
-    ensures { (m : Map) → Means K.kind bytes.now m
+    ensures found { (m : Map) → Means K.kind bytes.now m
         → values.new ≡ written_over (values_or missing K.kind m (keys_from 0 keys.now ends.now))
         values.old }
+    ensures any { drop (length ends.now) values.new ≡ drop (length ends.now) values.old }
 {
     let mut from = 0;
     let count = ends.len().min(values.len());
@@ -119,9 +119,10 @@ fn look_up_many<K: ZeroTrieWithOptions>(
     missing: usize,
     values: &mut [usize],
 )
-    ensures { (m : Map) → Means K.kind bytes.now m
+    ensures found { (m : Map) → Means K.kind bytes.now m
         → values.new ≡ written_over (values_or missing K.kind m (keys_from 0 keys.now ends.now))
         values.old }
+    ensures any { drop (length ends.now) values.new ≡ drop (length ends.now) values.old }
 {
     let mut trie = LookUps::<K>::new(bytes);
     let mut from = 0;
@@ -141,9 +142,10 @@ fn look_up_all<K: ZeroTrieWithOptions>(
     missing: usize,
     values: &mut [usize],
 )
-    ensures { (m : Map) → Means K.kind bytes.now m
+    ensures found { (m : Map) → Means K.kind bytes.now m
         → values.new ≡ written_over (values_or missing K.kind m (keys_from 0 keys.now ends.now))
         values.old }
+    ensures any { drop (length ends.now) values.new ≡ drop (length ends.now) values.old }
 {
     if ends.len() < MANY {
         look_up_few::<K>(bytes, keys, ends, missing, values)
@@ -170,6 +172,7 @@ pub extern "C" fn zerotrie_get_many(
     ensures known { IfSome (kind_of kind) (λ k. (result ≡ done) × ((m : Map) → Means k bytes.now m
         → values.new ≡ written_over (values_or missing k m (keys_from 0 keys.now ends.now))
         values.old)) }
+    ensures any { drop (length ends.now) values.new ≡ drop (length ends.now) values.old }
     ensures unknown { IfNone (kind_of kind) ((result ≡ unknown_kind) × (values.new ≡ values.old)) }
 {
     match kind_of(kind) {

@@ -1,20 +1,27 @@
-//! Tagged bytes: the number of a kind, then the bytes of a trie of this kind.
+//! Tagged bytes, which begin with the number of a kind, and the validation of bytes.
 
-ghost use Rattle.std.specs.Prelude.{◌≡◌, ◌<◌, ◌+◌, ◌∷◌, ◌++◌, length, drop, IfSome, IfNone};
+ghost use Rattle.std.specs.Prelude.{◌≡◌, ◌↔◌, ◌<◌, ◌+◌, ◌∷◌, ◌++◌, length, drop, false, IfSome, IfNone, IsTrue};
 ghost use Rattle.zerotrie_any.specs.Tagged.{tagged};
+ghost use Rattle.zerotrie_core.specs.WellFormed.{IsWellFormed};
 ghost use Rattle.zerotrie_c.specs.Numbers.{kind_of};
 ghost use Rattle.zerotrie_c.specs.Builds.{IsHandedOut};
 ghost use Rattle.zerotrie_c.specs.Statuses.{unknown_kind};
 ghost use Rattle.zerotrie_c.specs.Tags.{IsUntagged};
 
-use crate::kinds::is_kind;
-use crate::statuses::{BUFFER_TOO_SMALL, DONE, INVALID_TAG, NO_TAG, UNKNOWN_KIND};
+use crate::numbers::{BUFFER_TOO_SMALL, DONE, INVALID_TAG, NO_TAG, UNKNOWN_KIND, is_kind, kind_of};
+use zerotrie_core::{by_kind, is_well_formed};
 
-/// Bytes with C's layout.
-#[repr(C)]
-#[derive(Clone, Copy)]
-pub struct Bytes<'a> {
-    pub bytes: &'a [u8],
+/// Whether the bytes are a valid trie of the kind: yes exactly if they mean a map. No for a number
+/// that no kind has.
+#[unsafe(no_mangle)]
+pub extern "C" fn zerotrie_is_well_formed(kind: u32, bytes: &[u8]) -> bool
+    ensures known { IfSome (kind_of kind) (λ k. IsTrue result ↔ IsWellFormed k bytes.now) }
+    ensures unknown { IfNone (kind_of kind) (result ≡ false) }
+{
+    match kind_of(kind) {
+        Some(kind) => by_kind!(kind, is_well_formed::<_>(bytes)),
+        None => false,
+    }
 }
 
 /// Copies a byte and others after it to the beginning of the room, which has enough.
@@ -46,25 +53,19 @@ pub extern "C" fn zerotrie_tagged(kind: u32, bytes: &[u8], out: &mut [u8], len: 
     DONE
 }
 
-/// Returns the kind of tagged bytes, and the bytes after the tag, which are borrowed. It does not
-/// validate them.
+/// Sets `kind` to the kind of tagged bytes, whose trie is what follows their first byte. It does
+/// not validate the trie.
 #[unsafe(no_mangle)]
-pub extern "C" fn zerotrie_untagged<'a>(
-    tagged: &'a [u8],
-    kind: &mut u32,
-    behind: &mut Bytes<'a>,
-) -> u32
-    ensures { IsUntagged tagged.now result kind.old kind.new behind.old.bytes.now
-        behind.new.bytes.now }
+pub extern "C" fn zerotrie_tagged_kind(tagged: &[u8], kind: &mut u32) -> u32
+    ensures { IsUntagged tagged.now result kind.old kind.new }
 {
     match tagged {
         [] => NO_TAG,
-        [first, bytes @ ..] => {
+        [first, ..] => {
             if !is_kind(*first as u32) {
                 return INVALID_TAG;
             }
             *kind = *first as u32;
-            behind.bytes = bytes;
             DONE
         }
     }

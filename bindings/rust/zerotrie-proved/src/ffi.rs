@@ -35,7 +35,7 @@ unsafe extern "C" {
     pub fn zerotrie_cursor_step(kind: u32, cursor: *mut Cursor, byte: u8, edge: *mut u8) -> bool;
     pub fn zerotrie_cursor_take_value(cursor: *mut Cursor, value: *mut usize) -> bool;
     pub fn zerotrie_cursor_probe(kind: u32, cursor: *mut Cursor, index: usize, edge: *mut u8, siblings: *mut u16) -> bool;
-    pub fn zerotrie_untagged(tagged: *const u8, len: usize, kind: *mut u32, trie: *mut Bytes) -> u32;
+    pub fn zerotrie_tagged_kind(tagged: *const u8, len: usize, kind: *mut u32) -> u32;
     pub fn zerotrie_build(kind: u32, pairs: *const Pair, count: usize, out: *mut u8, out_len: usize, len: *mut usize) -> u32;
     pub fn zerotrie_build_sorted(kind: u32, pairs: *const Pair, count: usize, out: *mut u8, out_len: usize,
         len: *mut usize) -> u32;
@@ -48,7 +48,6 @@ unsafe extern "C" {
     pub fn zerotrie_dense_build(prefixes: *const u8, prefixes_len: usize, prefix_ends: *const usize, prefix_count: usize,
         suffixes: *const u8, suffixes_len: usize, suffix_ends: *const usize, suffix_count: usize, values: *const usize,
         value_count: usize, delimiter: u8, out: *mut u8, out_len: usize, len: *mut usize) -> u32;
-    pub fn zerotrie_status_bytes(status: u32, text: *mut Bytes);
     #[allow(dead_code)] // this crate lists in parts
     pub fn zerotrie_list(kind: u32, bytes: *const u8, len: usize, prefix: *const u8, prefix_len: usize, keys: *mut u8,
         keys_len: usize, ends: *mut usize, ends_len: usize, values: *mut usize, values_len: usize, key_bytes: *mut usize,

@@ -149,15 +149,32 @@ impl Error {
     }
 }
 
-/// The text of a status, as the library has it.
+/// The texts of the statuses from 0 on, as `zerotrie.h` has them. `bindings/test` compares them.
+#[rustfmt::skip]
+const TEXTS: [&str; 18] = [
+    "Done",
+    "a key has a byte that is not ASCII: take a kind of trie for keys of any bytes",
+    "the text of the trie would be too long for its kind: take extended capacity, kind 7, or fewer pairs; a dense table has at most 65,535 suffixes",
+    "no perfect hash was found for the edges of a branch: take a kind without hashed tables, or change a key",
+    "two keys begin alike but for the case of a letter: lower-case the keys first",
+    "a text has the delimiter in it: take a delimiter that none has",
+    "a key was given twice: give each key once",
+    "the keys do not ascend: sort them by their bytes, each once",
+    "the array is too small for the trie: take a larger one",
+    "the array is too large for the trie: take a smaller one",
+    "the stack is too small for the trie: take a larger one",
+    "out of memory",
+    "the number is no kind of trie: take 0, 3, 7 or 8",
+    "there are no bytes, and so no tag: give all of the tagged bytes",
+    "the first byte is the tag of no kind: give bytes that were written with a tag",
+    "the table has no such entry",
+    "the record is cut: give all of its bytes",
+    "bytes follow the record: give its bytes alone",
+];
+
+/// The text of a status.
 fn status_text(status: u32) -> &'static str {
-    let mut text = ffi::Bytes { ptr: "".as_ptr(), len: 0 };
-    // SAFETY: what is lent is UTF-8 with a zero at its end, and stays as long as the program.
-    let bytes = unsafe {
-        ffi::zerotrie_status_bytes(status, &mut text);
-        core::slice::from_raw_parts(text.ptr, text.len)
-    };
-    core::str::from_utf8(bytes).unwrap_or("").trim_end_matches('\0')
+    TEXTS.get(status as usize).copied().unwrap_or("Unknown status")
 }
 
 impl fmt::Display for Error {
@@ -223,14 +240,10 @@ impl<'a> ZeroTrie<'a> {
     /// # Ok::<(), Error>(())
     /// ```
     pub fn from_tagged(tagged: &'a [u8]) -> Result<Self, Error> {
-        let (mut number, mut after) = (0, ffi::Bytes { ptr: tagged.as_ptr(), len: 0 });
-        // SAFETY: a slice, and two places that are this call's own.
-        match unsafe { ffi::zerotrie_untagged(tagged.as_ptr(), tagged.len(), &mut number, &mut after) } {
-            0 => {
-                let kind = Kind::of(number).ok_or(Error::InvalidTag)?;
-                // SAFETY: the library hands out a part of the bytes that it was given.
-                Ok(ZeroTrie { kind, bytes: unsafe { slice(after) } })
-            }
+        let mut number = 0;
+        // SAFETY: a slice, and a place that is this call's own.
+        match unsafe { ffi::zerotrie_tagged_kind(tagged.as_ptr(), tagged.len(), &mut number) } {
+            0 => Ok(ZeroTrie { kind: Kind::of(number).ok_or(Error::InvalidTag)?, bytes: &tagged[1..] }),
             status => Err(Error::of(status)),
         }
     }

@@ -2,9 +2,9 @@ use Rattle.std.proofs.Common.{◌≡◌, ◌+◌, ◌<◌, ◌≤◌, ◌∙◌,
 use Rattle.zerotrie_c.proofs.Parts.{going_more, placed_len}
 use Rattle.zerotrie_c.proofs.listings.write_some.Goals as goal
 
-pub loop-pairs-preserved : goal.loop-pairs-preserved
-loop-pairs-preserved c =
-    let l = c.loop-pairs in
+pub loop-next_len-preserved : goal.loop-next_len-preserved
+loop-next_len-preserved c =
+    let l = c.loop-next_len in
     let key = c.key-key.result.now in
     let after = c.advance.new.self.left.pairs in
     let one = rw c.in-Ok-true.field-0-test at c.in-Ok-true.ensures in
@@ -18,5 +18,6 @@ loop-pairs-preserved c =
     rw c.put_at.ensures (record {
       within = subst (λ n. l.used + length key ≤ n) (sym (placed_len key l.keys l.used fits)) fits;
       few = omega (arith, c.if-count-room.false);
+      untold = l.invariant.untold;
       going = going_more l.invariant.going key c.value.result after is fits ends values;
     })

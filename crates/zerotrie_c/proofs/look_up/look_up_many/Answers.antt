@@ -1,4 +1,5 @@
 use Rattle.std.proofs.Common.{◌≡◌, ◌+◌, List, ℕ, suc, length, rules, arith, take, drop, get_or, set, ap, ◌∙◌, sym, subst}
+use Rattle.std.proofs.lemmas.List.{drop-set-lt}
 use Rattle.zerotrie_core.specs.Maps.{look}
 use Rattle.zerotrie_core.specs.Texts.{Means}
 use Rattle.zerotrie_c.specs.Keys.{or_else}
@@ -23,10 +24,12 @@ loop-number-preserved g c = (
       (omega (arith, c.min-count.ensures, c.loop-number-test.true)) (omega (arith, c.min-count.ensures, c.loop-number-test.true, same))
       ∙ c.loop-number.invariant.1 m means
       ),
+  drop-set-lt (length c.args.ends.now) c.loop-number.values c.loop-number.number c.value_in_or.result (omega (arith, c.min-count.ensures, c.loop-number-test.true))
+      ∙ c.loop-number.invariant.2,
 )
 
-pub returns : goal.returns
-returns g c m means =
+pub returns-clause-found : goal.returns-clause-found
+returns-clause-found g c m means =
     let f : List ℕ → ℕ = λ key. or_else c.args.missing (look g.K.ZeroTrieWithOptions.kind m key) in
     let same : length c.loop-number.values ≡ length c.args.values.now = search rules in
     sym (going_on-end f c.args.keys.now c.loop-number.number c.loop-number.from c.args.ends.now c.loop-number.values

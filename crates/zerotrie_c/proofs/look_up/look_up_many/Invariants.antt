@@ -1,4 +1,4 @@
-use Rattle.std.proofs.Common.{◌≡◌}
+use Rattle.std.proofs.Common.{◌≡◌, length, drop}
 use Rattle.zerotrie_core.specs.Maps.{Map, look}
 use Rattle.zerotrie_core.specs.Texts.{Means}
 use Rattle.zerotrie_c.specs.Keys.{keys_from, or_else, values_or, written_over}
@@ -9,3 +9,4 @@ abbrev pub invariant-loop-number : goal.invariant-loop-number
 invariant-loop-number g l = (l.trie ≡ l.bytes) × ((m : Map) → Means g.K.ZeroTrieWithOptions.kind l.bytes m
     → going_on (λ key. or_else l.missing (look g.K.ZeroTrieWithOptions.kind m key)) l.keys l.ends l.from l.number l.values
     ≡ written_over (values_or l.missing g.K.ZeroTrieWithOptions.kind m (keys_from 0 l.keys l.ends)) l.initial.values)
+    × (drop (length l.ends) l.values ≡ drop (length l.ends) l.initial.values)

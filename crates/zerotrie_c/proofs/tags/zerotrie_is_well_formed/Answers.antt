@@ -1,6 +1,6 @@
 use Rattle.std.proofs.Common.{ap, ◌∙◌, Some}
 use Rattle.zerotrie_core.specs.Kinds.{kind_of as kind_that_is}
-use Rattle.zerotrie_c.proofs.kinds.zerotrie_is_well_formed.Goals as goal
+use Rattle.zerotrie_c.proofs.tags.zerotrie_is_well_formed.Goals as goal
 
 pub returns-in-Simple-by_kind-clause-known : goal.returns-in-Simple-by_kind-clause-known
 returns-in-Simple-by_kind-clause-known c = rw (c.in-Some.ensures ∙ ap (λ k. Some (kind_that_is k)) c.in-Simple-by_kind.is) c.by_kind-is_well_formed.ensures

@@ -1,9 +1,26 @@
-//! The status numbers of calls.
+//! The numbers of kinds and of statuses.
 
-ghost use Rattle.std.specs.Prelude.{◌≡◌};
+ghost use Rattle.std.specs.Prelude.{◌≡◌, is_some};
+ghost use Rattle.std.specs.Option.{option_map};
+ghost use Rattle.zerotrie_core.specs.Kinds.{kind_of as kind_that_is};
+ghost use Rattle.zerotrie_c.specs.Numbers.{kind_of};
 ghost use Rattle.zerotrie_c.specs.Statuses.{status_of};
 
-use zerotrie_core::ZeroTrieBuildError;
+use zerotrie_core::{TrieKind, ZeroTrieBuildError};
+
+/// Returns the kind with this number, or `None` if no kind has it.
+pub fn kind_of(number: u32) -> Option<TrieKind>
+    ensures { kind_of number ≡ option_map kind_that_is result }
+{
+    TrieKind::of_tag(u8::try_from(number).ok()?)
+}
+
+/// Whether a kind has this number.
+pub fn is_kind(kind: u32) -> bool
+    ensures { result ≡ is_some (kind_of kind) }
+{
+    kind_of(kind).is_some()
+}
 
 /// The call succeeded.
 pub const DONE: u32 = 0;
