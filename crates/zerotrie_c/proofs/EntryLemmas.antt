@@ -1,6 +1,6 @@
 -- Entries one after another, and why they are no rows.
-use Rattle.std.proofs.Common.{◌≡◌, ℕ, ◌+◌, ◌-◌, ◌<◌, ◌≤◌, ◌⊎◌, List, [], ◌∷◌, ◌++◌, refl, sym, ap, ◌∙◌, arith, inl, inr, map, get_or, length, zero, suc, subst, take, drop, Bool, true, false}
-use Rattle.std.specs.Prelude.{Any, Some, None}
+use Rattle.std.proofs.Common.{◌≡◌, ℕ, ◌-◌, ◌<◌, ◌≤◌, ◌⊎◌, List, [], ◌∷◌, ◌++◌, refl, sym, ap, arith, inl, inr, get_or, length, zero, suc, subst, drop}
+use Rattle.std.specs.Prelude.{Any, Some}
 use Rattle.std.specs.List.{slice_get}
 use Rattle.zerotrie_core.proofs.CallerLemmas.{exact_same}
 use Rattle.zerotrie_core.specs.Kind.{simple_ascii}

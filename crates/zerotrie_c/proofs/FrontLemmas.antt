@@ -1,6 +1,6 @@
 -- What stands in front of a map, and bytes that are not ASCII.
-use Rattle.std.proofs.Common.{◌≡◌, ℕ, ◌+◌, ◌<◌, ◌≤◌, ◌⊎◌, List, [], ◌∷◌, refl, sym, ap, ◌∙◌, arith, inl, inr, map, Ordering, get_or, length, zero, suc, subst, take, drop}
-use Rattle.std.specs.Prelude.{Any, All, Bool, true, false, nat_lt, Option, Some, None, ◌↔◌}
+use Rattle.std.proofs.Common.{◌≡◌, ℕ, ◌<◌, ◌≤◌, ◌⊎◌, List, [], ◌∷◌, refl, sym, ap, ◌∙◌, arith, inl, inr, map, Ordering, get_or, length, zero, suc, subst, take, drop}
+use Rattle.std.specs.Prelude.{Any, All, Bool, true, false, nat_lt, Option, Some, None}
 use Rattle.std.specs.Borrow.{Bor}
 use Rattle.std.specs.List.{slice_get}
 use Rattle.std.specs.BTreeMap.{BTreeMap}

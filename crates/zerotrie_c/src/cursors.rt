@@ -1,80 +1,70 @@
-//! Cursors, which the caller keeps.
+//! Cursors, which the caller keeps as numbers.
 
-ghost use Rattle.std.specs.Prelude.{◌≡◌, ◌↔◌, [], ℕ, false, IfSome, IfNone};
+ghost use Rattle.std.specs.Prelude.{◌≡◌, ◌↔◌, [], ℕ, false, IfSome, IfNone, IsTrue};
 ghost use Rattle.std.specs.Option.{option_map};
+ghost use Rattle.zerotrie_core.specs.CursorPlaces.{cursor_at, is_in, zeros};
 ghost use Rattle.zerotrie_core.specs.Kind.{Kind};
 ghost use Rattle.zerotrie_core.specs.Maps.{Pairs};
 ghost use Rattle.zerotrie_core.specs.Texts.{Lists};
 ghost use Rattle.zerotrie_core.specs.Machine.{after_steps};
-ghost use Rattle.zerotrie_core.specs.Places.{nowhere, ListsAt, IsStep, IsTake, IsProbe, FollowsRun};
+ghost use Rattle.zerotrie_core.specs.Places.{ListsAt, IsStep, IsTake, IsProbe, FollowsRun};
 ghost use Rattle.zerotrie_c.specs.Numbers.{kind_of};
 ghost use Rattle.zerotrie_c.specs.Answers.{told, told_both};
-ghost use Rattle.zerotrie_c.specs.Places.{place};
 
 use crate::numbers::kind_of;
-use zerotrie_core::{ByteProbeResult, SpanCursor, ZeroTrieWithOptions, by_kind};
-
-/// A cursor with C's layout: the rest of a span, and the trie after it. Both borrow the trie's
-/// bytes.
-///
-/// It is inside a span while `run` is not empty. No key ends there.
-#[repr(C)]
-#[derive(Clone, Copy)]
-pub struct Cursor<'a> {
-    pub run: &'a [u8],
-    pub trie: &'a [u8],
-}
-
-/// Returns the parts of a cursor.
-fn kept<'a>(cursor: &SpanCursor<'a>) -> Cursor<'a>
-    ensures { place result ≡ cursor.now }
-{
-    let (run, trie) = cursor.parts();
-    Cursor { run, trie }
-}
+use zerotrie_core::{ByteProbeResult, CursorPlace, ZeroTrieWithOptions, by_kind};
 
 /// Steps in a trie of the kind with this number.
-fn step_as(kind: u32, cursor: &mut SpanCursor<'_>, byte: u8) -> Option<u8>
-    ensures known { IfSome (kind_of kind) (λ k.
-        IsStep k (ListsAt k cursor.old) byte result (ListsAt k cursor.new)) }
-    ensures run { IfSome (kind_of kind) (λ k.
-        IfSome result (λ edge. FollowsRun k cursor.old edge cursor.new)) }
+fn step_as(kind: u32, bytes: &[u8], cursor: &mut CursorPlace, byte: u8) -> Option<u8>
+    ensures known { IfSome (kind_of kind) (λ k. IsStep k (ListsAt k (cursor_at bytes.now cursor.old))
+        byte result (ListsAt k (cursor_at bytes.now cursor.new))) }
+    ensures run { IfSome (kind_of kind) (λ k. IfSome result (λ edge.
+        FollowsRun k (cursor_at bytes.now cursor.old) edge (cursor_at bytes.now cursor.new))) }
     ensures unknown { IfNone (kind_of kind) (IfSome result (λ _. ⊥)) }
-    ensures empty { IfNone result (cursor.new ≡ nowhere) }
+    ensures inside { IsTrue (is_in bytes.now cursor.new) }
+    ensures empty { IfNone result (cursor.new ≡ zeros) }
 {
     match kind_of(kind) {
-        Some(kind) => by_kind!(kind, SpanCursor::step::<_>(cursor, byte)),
+        Some(kind) => by_kind!(kind, CursorPlace::step::<_>(cursor, bytes, byte)),
         None => {
-            *cursor = SpanCursor::new(&[]);
+            *cursor = CursorPlace::nowhere();
             None
         }
     }
 }
 
 /// Probes a trie of the kind with this number.
-fn probe_as(kind: u32, cursor: &mut SpanCursor<'_>, index: usize) -> Option<ByteProbeResult>
-    ensures known { IfSome (kind_of kind) (λ k. IsProbe (ListsAt k cursor.old) index
-        (option_map {U = ℕ × ℕ} (λ r. (r.byte, r.total_siblings)) result) (ListsAt k cursor.new)) }
-    ensures run { IfSome (kind_of kind) (λ k.
-        IfSome result (λ r. FollowsRun k cursor.old r.byte cursor.new)) }
+fn probe_as(
+    kind: u32,
+    bytes: &[u8],
+    cursor: &mut CursorPlace,
+    index: usize,
+) -> Option<ByteProbeResult>
+    ensures known { IfSome (kind_of kind) (λ k. IsProbe (ListsAt k (cursor_at bytes.now cursor.old))
+        index (option_map {U = ℕ × ℕ} (λ r. (r.byte, r.total_siblings)) result)
+        (ListsAt k (cursor_at bytes.now cursor.new))) }
+    ensures run { IfSome (kind_of kind) (λ k. IfSome result (λ r.
+        FollowsRun k (cursor_at bytes.now cursor.old) r.byte (cursor_at bytes.now cursor.new))) }
     ensures unknown { IfNone (kind_of kind) (IfSome result (λ _. ⊥)) }
-    ensures empty { IfNone result (cursor.new ≡ nowhere) }
+    ensures inside { IsTrue (is_in bytes.now cursor.new) }
+    ensures empty { IfNone result (cursor.new ≡ zeros) }
 {
     match kind_of(kind) {
-        Some(kind) => by_kind!(kind, SpanCursor::probe::<_>(cursor, index)),
+        Some(kind) => by_kind!(kind, CursorPlace::probe::<_>(cursor, bytes, index)),
         None => {
-            *cursor = SpanCursor::new(&[]);
+            *cursor = CursorPlace::nowhere();
             None
         }
     }
 }
 
-/// Sets the cursor to the beginning of a trie, of any kind.
+/// Returns the cursor at the beginning of a trie, of any kind.
 #[unsafe(no_mangle)]
-pub extern "C" fn zerotrie_cursor_new<'a>(bytes: &'a [u8], cursor: &mut Cursor<'a>)
-    ensures { place cursor.new ≡ record { run = []; trie = bytes.now } }
+pub extern "C" fn zerotrie_cursor_new(bytes: &[u8]) -> CursorPlace
+    ensures start { cursor_at bytes.now result ≡ record { run = []; trie = bytes.now } }
+    ensures inside { IsTrue (is_in bytes.now result) }
 {
-    *cursor = kept(&SpanCursor::new(bytes));
+    CursorPlace::new(bytes)
 }
 
 /// Follows the edge for this byte, as the kind compares bytes. Returns whether there is one, and
@@ -82,23 +72,21 @@ pub extern "C" fn zerotrie_cursor_new<'a>(bytes: &'a [u8], cursor: &mut Cursor<'
 #[unsafe(no_mangle)]
 pub extern "C" fn zerotrie_cursor_step(
     kind: u32,
-    cursor: &mut Cursor<'_>,
+    bytes: &[u8],
+    cursor: &mut CursorPlace,
     byte: u8,
     edge: &mut u8,
 ) -> bool
-    ensures known { IfSome (kind_of kind) (λ k.
-        IsStep k (ListsAt k (place cursor.old)) byte (told result edge.new)
-        (ListsAt k (place cursor.new))) }
-    ensures run { IfSome (kind_of kind) (λ k. IfSome (told result edge.new)
-        (λ e. FollowsRun k (place cursor.old) e (place cursor.new))) }
+    ensures known { IfSome (kind_of kind) (λ k. IsStep k (ListsAt k (cursor_at bytes.now cursor.old))
+        byte (told result edge.new) (ListsAt k (cursor_at bytes.now cursor.new))) }
+    ensures run { IfSome (kind_of kind) (λ k. IfSome (told result edge.new) (λ e.
+        FollowsRun k (cursor_at bytes.now cursor.old) e (cursor_at bytes.now cursor.new))) }
     ensures unknown { IfNone (kind_of kind) (result ≡ false) }
-    ensures empty { result ≡ false → place cursor.new ≡ nowhere }
+    ensures inside { IsTrue (is_in bytes.now cursor.new) }
+    ensures empty { result ≡ false → cursor.new ≡ zeros }
     ensures kept { result ≡ false → edge.new ≡ edge.old }
 {
-    let mut here = SpanCursor::from_parts(cursor.run, cursor.trie);
-    let stepped = step_as(kind, &mut here, byte);
-    *cursor = kept(&here);
-    match stepped {
+    match step_as(kind, bytes, cursor, byte) {
         Some(found) => {
             *edge = found;
             true
@@ -110,18 +98,18 @@ pub extern "C" fn zerotrie_cursor_step(
 /// Takes the value at the cursor. Returns whether there is one, and then sets `value`; otherwise
 /// nothing changes.
 #[unsafe(no_mangle)]
-pub extern "C" fn zerotrie_cursor_take_value(cursor: &mut Cursor<'_>, value: &mut usize) -> bool
-    ensures taken { (kind : Kind) → IsTake kind
-        (ListsAt kind (place cursor.old)) (told result value.new)
-        (ListsAt kind (place cursor.new)) }
-    ensures run { (place cursor.new).run ≡ (place cursor.old).run }
-    ensures none { result ≡ false → (place cursor.new ≡ place cursor.old)
-        × (value.new ≡ value.old) }
+pub extern "C" fn zerotrie_cursor_take_value(
+    bytes: &[u8],
+    cursor: &mut CursorPlace,
+    value: &mut usize,
+) -> bool
+    ensures taken { (kind : Kind) → IsTake kind (ListsAt kind (cursor_at bytes.now cursor.old))
+        (told result value.new) (ListsAt kind (cursor_at bytes.now cursor.new)) }
+    ensures run { (cursor_at bytes.now cursor.new).run ≡ (cursor_at bytes.now cursor.old).run }
+    ensures inside { IsTrue result → IsTrue (is_in bytes.now cursor.new) }
+    ensures none { result ≡ false → (cursor.new ≡ cursor.old) × (value.new ≡ value.old) }
 {
-    let mut here = SpanCursor::from_parts(cursor.run, cursor.trie);
-    let taken = here.take_value();
-    *cursor = kept(&here);
-    match taken {
+    match cursor.take_value(bytes) {
         Some(found) => {
             *value = found;
             true
@@ -135,24 +123,22 @@ pub extern "C" fn zerotrie_cursor_take_value(cursor: &mut Cursor<'_>, value: &mu
 #[unsafe(no_mangle)]
 pub extern "C" fn zerotrie_cursor_probe(
     kind: u32,
-    cursor: &mut Cursor<'_>,
+    bytes: &[u8],
+    cursor: &mut CursorPlace,
     index: usize,
     edge: &mut u8,
     siblings: &mut u16,
 ) -> bool
-    ensures known { IfSome (kind_of kind) (λ k.
-        IsProbe (ListsAt k (place cursor.old)) index
-        (told_both result edge.new siblings.new) (ListsAt k (place cursor.new))) }
-    ensures run { IfSome (kind_of kind) (λ k. IfSome (told result edge.new)
-        (λ e. FollowsRun k (place cursor.old) e (place cursor.new))) }
+    ensures known { IfSome (kind_of kind) (λ k. IsProbe (ListsAt k (cursor_at bytes.now cursor.old))
+        index (told_both result edge.new siblings.new) (ListsAt k (cursor_at bytes.now cursor.new))) }
+    ensures run { IfSome (kind_of kind) (λ k. IfSome (told result edge.new) (λ e.
+        FollowsRun k (cursor_at bytes.now cursor.old) e (cursor_at bytes.now cursor.new))) }
     ensures unknown { IfNone (kind_of kind) (result ≡ false) }
-    ensures empty { result ≡ false → place cursor.new ≡ nowhere }
+    ensures inside { IsTrue (is_in bytes.now cursor.new) }
+    ensures empty { result ≡ false → cursor.new ≡ zeros }
     ensures kept { result ≡ false → (edge.new ≡ edge.old) × (siblings.new ≡ siblings.old) }
 {
-    let mut here = SpanCursor::from_parts(cursor.run, cursor.trie);
-    let probed = probe_as(kind, &mut here, index);
-    *cursor = kept(&here);
-    match probed {
+    match probe_as(kind, bytes, cursor, index) {
         Some(found) => {
             *edge = found.byte;
             *siblings = found.total_siblings;
@@ -163,36 +149,35 @@ pub extern "C" fn zerotrie_cursor_probe(
 }
 
 /// Returns the cursor after a step by each byte of the prefix, in the kind `K`.
-fn behind_prefix<'a, K: ZeroTrieWithOptions>(bytes: &'a [u8], prefix: &[u8]) -> SpanCursor<'a>
-    ensures { (pairs : Pairs) → Lists K.kind bytes.now pairs
-        → ListsAt K.kind result (after_steps K.kind prefix.now pairs) }
+fn behind_prefix<K: ZeroTrieWithOptions>(bytes: &[u8], prefix: &[u8]) -> CursorPlace
+    ensures lists { (pairs : Pairs) → Lists K.kind bytes.now pairs
+        → ListsAt K.kind (cursor_at bytes.now result) (after_steps K.kind prefix.now pairs) }
+    ensures inside { IsTrue (is_in bytes.now result) }
 {
-    let mut here = SpanCursor::new(bytes);
+    let mut here = CursorPlace::new(bytes);
     for byte in prefix {
-        let _edge = here.step::<K>(*byte);
+        let _edge = here.step::<K>(bytes, *byte);
     }
     here
 }
 
-/// Sets the cursor after a prefix, as a step by each of its bytes would. Returns whether some key
-/// begins with the prefix; otherwise the cursor is empty.
+/// Returns the cursor after a prefix, as a step by each of its bytes would leave it. If no key
+/// begins with the prefix, its numbers are 0.
 #[unsafe(no_mangle)]
-pub extern "C" fn zerotrie_with_prefix<'a>(
-    kind: u32,
-    bytes: &'a [u8],
-    prefix: &[u8],
-    cursor: &mut Cursor<'a>,
-) -> bool
+pub extern "C" fn zerotrie_with_prefix(kind: u32, bytes: &[u8], prefix: &[u8]) -> CursorPlace
     ensures known { IfSome (kind_of kind) (λ k. (pairs : Pairs) → Lists k bytes.now pairs
-        → ListsAt k (place cursor.new) (after_steps k prefix.now pairs)
-        × (result ≡ false ↔ (after_steps k prefix.now pairs ≡ []))) }
-    ensures unknown { IfNone (kind_of kind) (result ≡ false) }
-    ensures empty { result ≡ false → place cursor.new ≡ nowhere }
+        → ListsAt k (cursor_at bytes.now result) (after_steps k prefix.now pairs)
+        × (result ≡ zeros ↔ (after_steps k prefix.now pairs ≡ []))) }
+    ensures unknown { IfNone (kind_of kind) (result ≡ zeros) }
+    ensures inside { IsTrue (is_in bytes.now result) }
 {
     let here = match kind_of(kind) {
         Some(kind) => by_kind!(kind, behind_prefix::<_>(bytes, prefix)),
-        None => SpanCursor::new(&[]),
+        None => CursorPlace::nowhere(),
     };
-    *cursor = kept(&here);
-    !here.is_empty()
+    if here.cursor(bytes).is_empty() {
+        CursorPlace::nowhere()
+    } else {
+        here
+    }
 }

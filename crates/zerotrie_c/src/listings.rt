@@ -46,7 +46,7 @@ fn list<K: ZeroTrieWithOptions>(
 ) -> Result<Flat, ListError>
     ensures listed { (pairs : Pairs) → Lists K.kind bytes.now pairs
         → IfOk result (λ f. IsFlat (beginning K.kind prefix.now pairs) f.keys.items f.ends.items f.values.items) }
-    ensures any { IfOk result (λ f. (pairs : Pairs)
+    ensures any { IfOk result (λ f. (pairs : Pairs) × (length pairs ≤ length bytes.now)
         × IsFlat pairs f.keys.items f.ends.items f.values.items) }
     ensures refused { IfErr result (λ e. e ≡ OutOfMemory) }
 {
@@ -124,8 +124,9 @@ fn list_out<K: ZeroTrieWithOptions>(
     ensures listed { (pairs : Pairs) → Lists K.kind bytes.now pairs
         → IsListed (beginning K.kind prefix.now pairs) result keys.old keys.new ends.old ends.new
         values.old values.new key_bytes.old key_bytes.new count.old count.new }
-    ensures any { (pairs : Pairs) × IsListed pairs result keys.old keys.new ends.old ends.new
-        values.old values.new key_bytes.old key_bytes.new count.old count.new }
+    ensures any { (pairs : Pairs) × (length pairs ≤ length bytes.now) × IsListed pairs result
+        keys.old keys.new ends.old ends.new values.old values.new key_bytes.old key_bytes.new
+        count.old count.new }
 {
     match list::<K>(alloc, bytes, prefix) {
         Ok(listed) => give(&listed, keys, ends, values, key_bytes, count),
@@ -139,7 +140,7 @@ fn list_out<K: ZeroTrieWithOptions>(
 /// It sets `key_bytes` and `count` even if some room is too small. A room that is too small stays
 /// as it is. If no kind has the number, or an allocation fails, nothing is written.
 ///
-/// On malformed bytes it does the same for some pairs.
+/// On malformed bytes it does the same for some pairs, at most as many as there are bytes.
 #[unsafe(no_mangle)]
 pub extern "C" fn zerotrie_list(
     alloc: Global,
@@ -155,9 +156,9 @@ pub extern "C" fn zerotrie_list(
     ensures known { IfSome (kind_of kind) (λ k. (pairs : Pairs) → Lists k bytes.now pairs
         → IsListed (beginning k prefix.now pairs) result keys.old keys.new ends.old ends.new
         values.old values.new key_bytes.old key_bytes.new count.old count.new) }
-    ensures any { IfSome (kind_of kind) (λ _. (pairs : Pairs) × IsListed pairs result
-        keys.old keys.new ends.old ends.new values.old values.new key_bytes.old key_bytes.new
-        count.old count.new) }
+    ensures any { IfSome (kind_of kind) (λ _. (pairs : Pairs) × (length pairs ≤ length bytes.now)
+        × IsListed pairs result keys.old keys.new ends.old ends.new values.old values.new
+        key_bytes.old key_bytes.new count.old count.new) }
     ensures unknown { IfNone (kind_of kind) ((result ≡ unknown_kind) × (keys.new ≡ keys.old)
         × (ends.new ≡ ends.old) × (values.new ≡ values.old) × (key_bytes.new ≡ key_bytes.old)
         × (count.new ≡ count.old)) }
@@ -227,8 +228,9 @@ fn left_of<'a, K: ZeroTrieWithOptions>(
     goes_on: bool,
     last: &[u8],
 ) -> Result<ZeroTrieStream<'a>, AllocError>
-    ensures { IfOk result (λ s. (pairs : Pairs) → Lists K.kind bytes.now pairs
+    ensures lists { IfOk result (λ s. (pairs : Pairs) → Lists K.kind bytes.now pairs
         → s.left ≡ to_come (left_of K.kind goes_on last.now (beginning K.kind prefix.now pairs))) }
+    ensures most { IfOk result (λ s. length s.left.pairs ≤ length bytes.now) }
 {
     if goes_on {
         ZeroTrieStream::after::<K>(alloc, bytes, prefix, last)
@@ -254,8 +256,9 @@ fn list_some<K: ZeroTrieWithOptions>(
         → IsListedSome (left_of K.kind goes_on last.now (beginning K.kind prefix.now pairs)) result
         keys.old keys.new ends.old ends.new values.old values.new count.new
         next_len.old next_len.new }
-    ensures any { (pairs : Pairs) × IsListedSome pairs result keys.old keys.new ends.old ends.new
-        values.old values.new count.new next_len.old next_len.new }
+    ensures any { (pairs : Pairs) × (length pairs ≤ length bytes.now) × IsListedSome pairs result
+        keys.old keys.new ends.old ends.new values.old values.new count.new
+        next_len.old next_len.new }
 {
     match left_of::<K>(alloc, bytes, prefix, goes_on, last) {
         Ok(pairs) => write_some(pairs, keys, ends, values, count, next_len),
@@ -275,7 +278,7 @@ fn list_some<K: ZeroTrieWithOptions>(
 /// written, and `next_len` stays. If no kind has the number, nothing is written. A call costs a
 /// look-up of `last`, and reads no pair before it.
 ///
-/// On malformed bytes it does the same for some pairs.
+/// On malformed bytes it does the same for some pairs, at most as many as there are bytes.
 #[unsafe(no_mangle)]
 pub extern "C" fn zerotrie_list_some(
     alloc: Global,
@@ -294,9 +297,9 @@ pub extern "C" fn zerotrie_list_some(
         → IsListedSome (left_of k goes_on last.now (beginning k prefix.now pairs)) result
         keys.old keys.new ends.old ends.new values.old values.new count.new
         next_len.old next_len.new) }
-    ensures any { IfSome (kind_of kind) (λ _. (pairs : Pairs) × IsListedSome pairs result
-        keys.old keys.new ends.old ends.new values.old values.new count.new
-        next_len.old next_len.new) }
+    ensures any { IfSome (kind_of kind) (λ _. (pairs : Pairs) × (length pairs ≤ length bytes.now)
+        × IsListedSome pairs result keys.old keys.new ends.old ends.new values.old values.new
+        count.new next_len.old next_len.new) }
     ensures unknown { IfNone (kind_of kind) ((result ≡ unknown_kind) × (keys.new ≡ keys.old)
         × (ends.new ≡ ends.old) × (values.new ≡ values.old) × (count.new ≡ count.old)
         × (next_len.new ≡ next_len.old)) }

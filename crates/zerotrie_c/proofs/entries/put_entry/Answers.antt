@@ -1,4 +1,4 @@
-use Rattle.std.proofs.Common.{◌≡◌, ◌∷◌, ◌∙◌, ap, sym, ℕ, List, refl, subst}
+use Rattle.std.proofs.Common.{◌∷◌, ◌∙◌, ap, sym, ℕ, List, refl, subst}
 use Rattle.std.specs.declared.cmp.Ordering.TheVariants.{Less}
 use Rattle.zerotrie.specs.dense.Rows.{IsInOrder}
 use Rattle.zerotrie.specs.dense.Views.{pairs_in, rows_in}

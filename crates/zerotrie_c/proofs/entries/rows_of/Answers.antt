@@ -1,4 +1,4 @@
-use Rattle.std.proofs.Common.{◌∙◌, ◌-◌, ap, arith, sym, subst, get_or, List, ℕ}
+use Rattle.std.proofs.Common.{◌∙◌, ◌-◌, ap, arith, sym, subst, get_or}
 use Rattle.std.proofs.lemmas.Result.{err_from_is_err_and}
 use Rattle.zerotrie.specs.dense.Views.{rows_in}
 use Rattle.zerotrie_c.specs.Entries.{entries_of, entry_before, rows_of, NoRows}
