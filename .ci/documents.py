@@ -26,7 +26,7 @@ LIMITS = {
     "bindings/README.md": 380,
     "crates/zerotrie_cli/README.md": 2920,
     "crates/zerotrie_tool/README.md": 480,
-    "docs/ARCHITECTURE.md": 4920,
+    "docs/ARCHITECTURE.md": 1700,
     "docs/CALLING.md": 2400,
     "docs/DECISIONS.md": 2850,
     "docs/DIFFERENCES.md": 2000,
