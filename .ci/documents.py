@@ -22,7 +22,7 @@ QUOTING = ["README.md", "docs/CALLING.md"]
 # How many words a page may have, as `wc -w` counts. CHANGELOG.md grows.
 LIMITS = {
     "README.md": 1000,
-    "CONTRIBUTING.md": 2500,
+    "CONTRIBUTING.md": 2300,
     "bindings/README.md": 380,
     "crates/zerotrie_cli/README.md": 2920,
     "crates/zerotrie_tool/README.md": 480,

@@ -30,6 +30,7 @@ class Reference:
             self.pages.setdefault(name, address(module, name))
         variants = [(part.name, name) for (_, name), item in self.items.items() if item.kind == "enum" for part in item.parts]
         self.variants = {part: name for part, name in variants if [it for it, _ in variants].count(part) == 1}
+        self.parts_of_enums = {f"{name}::{part}" for part, name in variants}
         self.impls = sources.all_impls()
         self.specs = definitions.cited([it.file for it in self.items.values()] + [it.file for it in self.impls])
 
@@ -137,7 +138,7 @@ class Reference:
         def code(found):
             text = found[1]
             parts = re.fullmatch(r"(\w+)(?:::(\w+))?.*", text, re.S)
-            if parts and parts[2] and parts[1] in self.pages and f"{parts[1]}::{parts[2]}" in self.calls:
+            if parts and parts[2] and parts[1] in self.pages and f"{parts[1]}::{parts[2]}" in self.calls | self.parts_of_enums:
                 return f'<a href="{self.pages[parts[1]]}#{parts[2]}"><code>{text}</code></a>'
             if parts and parts[1] in near:
                 return f'<a href="#{parts[1]}"><code>{text}</code></a>'
@@ -348,7 +349,7 @@ class Reference:
         (self.out / "search.js").write_text(f"const INDEX = {json.dumps(self.index, ensure_ascii=False)};\n{(HERE / 'search.js').read_text()}")
 
 
-READING = """<p>A call's contract stands behind its fold. <code>ensures</code> says what holds when the call returns, and
+READING = """<p>A call's contract is behind its fold. <code>ensures</code> says what holds when the call returns, and
 <code>requires</code> what its caller must know before. <code>x.now</code> is what the reference <code>x</code> points to; of a
 <code>&amp;mut</code> it is <code>x.old</code> before the call and <code>x.new</code> after it. <code>v.items</code> are the items of a vector.
 <code>→</code> is “then”, or “for all” after a name in parentheses; <code>×</code> is “and”, or “there is”; <code>⊎</code> is “or”;

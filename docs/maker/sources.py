@@ -168,10 +168,14 @@ def parsed(file):
     return items, impls
 
 
+def comment_of(file):
+    """Returns the lines of a file's own comment."""
+    return [line[4:] for line in file.read_text().split("\n\n")[0].splitlines() if line.startswith("//!")]
+
+
 def title_of(file):
     """Returns the first sentence of a file's own comment."""
-    text = " ".join(line[4:] for line in file.read_text().split("\n\n")[0].splitlines() if line.startswith("//! "))
-    return re.split(r"(?<=[.:]) ", text)[0].rstrip(".:")
+    return re.split(r"(?<=[.:]) ", " ".join(comment_of(file)))[0].rstrip(".:")
 
 
 @functools.cache
@@ -241,15 +245,13 @@ def laws(file):
 
 
 def modules():
-    """Returns the doc comments of the modules of the crate zerotrie, as lines."""
-    items, _ = parsed(ROOT / "crates" / "zerotrie" / "src" / "lib.rt")
-    docs = {name: item.doc for name, item in items.items() if item.kind == "mod"}
-    for name in items:
-        if items[name].kind == "mod" and not docs[name]:
-            text = file_of("zerotrie", [name]).read_text()
-            docs[name] = [line[4:] for line in text.split("\n\n")[0].splitlines() if line.startswith("//!")]
-    docs["laws"] = ["Laws of the definitions alone, as contracts that a caller's proof can cite. Each function does nothing:",
-                    "a call brings its law into a proof."]
+    """Returns the doc comments of the modules of the crate zerotrie: of each its lines."""
+    lib = file_of("zerotrie", [])
+    docs = {name: item.doc or comment_of(file_of("zerotrie", [name])) for name, item in parsed(lib)[0].items() if item.kind == "mod"}
+    for name, path in uses(lib).items():
+        item = resolved(path[0], path[1:], name) if path[0] in LINES else None
+        if item and item.kind == "mod":
+            docs[name] = comment_of(item.file)
     return docs
 
 
