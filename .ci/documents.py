@@ -22,17 +22,19 @@ QUOTING = ["README.md", "docs/CALLING.md"]
 # How many words a page may have, as `wc -w` counts. CHANGELOG.md grows.
 LIMITS = {
     "README.md": 1000,
-    "CONTRIBUTING.md": 2300,
+    "CONTRIBUTING.md": 2270,
     "bindings/README.md": 380,
-    "crates/zerotrie_cli/README.md": 2920,
+    "crates/zerotrie_cli/README.md": 2910,
     "crates/zerotrie_tool/README.md": 480,
     "docs/ARCHITECTURE.md": 1700,
     "docs/CALLING.md": 2400,
-    "docs/DECISIONS.md": 2850,
-    "docs/DIFFERENCES.md": 2000,
+    "docs/DECISIONS.md": 2940,
+    "docs/DIFFERENCES.md": 1980,
     "docs/FORMAT.md": 4210,
-    "docs/MODEL.md": 6150,
-    "docs/SPEED.md": 5300,
+    "docs/MODEL.md": 6540,
+    "docs/SPEED.md": 1500,
+    "docs/speed/fast.md": 870,
+    "docs/speed/tables.md": 2970,
     "examples/README.md": 340,
 }
 # Words that are gone, each with what to write.
