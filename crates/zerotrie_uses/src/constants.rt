@@ -124,7 +124,8 @@ pub const HEADERS: &[(&[u8], usize)] = &[
 /// Returns the trie of the headers. An error means that an allocation failed: the proof computes
 /// that the names ascend, and that they are ASCII and few enough.
 pub fn header_trie(alloc: Global) -> Result<ZeroTrieSimpleAscii<Vec<u8>>, AllocError>
-    ensures { IfOk result (λ trie. IsBuilt simple_ascii (keyed (λ k. k.now) HEADERS.now) trie.store.items) }
+    ensures { IfOk result (λ trie.
+        IsBuilt simple_ascii (keyed (λ k. k.now) HEADERS.now) trie.store.items) }
 {
     match ZeroTrieSimpleAscii::try_from_sorted_slice(alloc, HEADERS) {
         Ok(trie) => Ok(trie),
