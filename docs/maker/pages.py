@@ -32,7 +32,9 @@ class Reference:
         self.variants = {part: name for part, name in variants if [it for it, _ in variants].count(part) == 1}
         self.parts_of_enums = {f"{name}::{part}" for part, name in variants}
         self.impls = sources.all_impls()
-        self.specs = definitions.cited([it.file for it in self.items.values()] + [it.file for it in self.impls])
+        proofs = ROOT / "crates" / "zerotrie" / "proofs"
+        self.lemmas = [proofs / f"{it}.antt" for it in re.findall(r"^pub mod (\w+)$", (proofs / "Lib.antt").read_text(), re.M)]
+        self.specs = definitions.cited([it.file for it in self.items.values()] + [it.file for it in self.impls] + self.lemmas)
 
     def write(self, name, title, body):
         """Writes a page."""
@@ -40,7 +42,7 @@ class Reference:
             f'<!doctype html>\n<html lang="en"><meta charset="utf-8"><meta name="viewport" content="width=device-width, '
             f'initial-scale=1"><title>{html.escape(title)}</title><link rel="stylesheet" href="style.css">\n<header><div>'
             f'<a href="index.html">zerotrie</a><input type="search" placeholder="Search names (press /)" aria-label="Search">'
-            f'</div></header>\n<main><ul id="found"></ul>\n{body}\n</main><script src="search.js"></script></html>\n')
+            f'</div></header>\n<main><ul id="search-results"></ul>\n{body}\n</main><script src="search.js"></script></html>\n')
 
     def add(self, name, place, text, where):
         """Adds a row to what the search finds."""
@@ -301,6 +303,29 @@ class Reference:
         close()
         self.write(spec_address(file), title, "\n".join(body))
 
+    def lemma_page(self, file):
+        """Writes the page of a file of lemmas for callers: what each states, without its proof."""
+        lines = file.read_text().split("\n")
+        about = lines[0][3:] if lines[0].startswith("-- ") else ""
+        body, said, number = [f"<h1><small>lemmas for callers</small>{spec_title(file)}</h1><p>{self.inline(about)}</p>"], [], 0
+        while (number := number + 1) < len(lines):
+            line = lines[number]
+            if line.startswith("-- "):
+                said.append(line[3:])
+                continue
+            if found := re.match(r"(?:abbrev )?pub (?!use )(?:(record|data|abbrev) )?([\w-]+) ", line):
+                is_whole = found[1] or line.startswith("abbrev")
+                rows = [line]
+                while lines[number + 1].strip() and (is_whole or lines[number + 1].startswith(" ")):
+                    number += 1
+                    rows.append(lines[number])
+                name = found[2]
+                body.append(f"<p>{self.inline(' '.join(said))}</p>" if said else "")
+                body.append(f'<div id="{name}">{hanging([" " * (len(it) - len(it.lstrip())) + self.clause(file, it.strip()) for it in rows])}</div>')
+                self.add(name, f"lemma, {spec_title(file)}", " ".join(said), f"{spec_address(file)}#{name}")
+            said = []
+        self.write(spec_address(file), spec_title(file), "\n".join(body))
+
     def table(self, items):
         """Returns a table of items."""
         rows = "".join(f'<tr><td><a href="{address(module, name)}"><code>{breaking(name)}</code></a><td>{self.inline(self.sentence(item.doc))}'
@@ -330,6 +355,11 @@ class Reference:
             if some := {key: item for key, item in self.items.items() if key[0] == module}:
                 body += f'<h2 id="{module}">zerotrie::{module}</h2>{self.prose(doc)}{self.table(some)}'
         rows = ""
+        for file in self.lemmas:
+            first = file.read_text().split("\n")[0]
+            rows += f'<tr><td><a href="{spec_address(file)}"><code>{spec_title(file)}</code></a><td>{self.inline(first[3:])}'
+        body += f'<h2 id="lemmas">Lemmas for callers</h2><table>{rows}</table>'
+        rows = ""
         for file in self.specs:
             first = file.read_text().split("\n")[0]
             rows += f'<tr><td><a href="{spec_address(file)}"><code>{spec_title(file)}</code></a><td>{self.inline(first[3:])}'
@@ -344,6 +374,8 @@ class Reference:
             self.item_page(module, name, item)
         for file in self.specs:
             self.spec_page(file)
+        for file in self.lemmas:
+            self.lemma_page(file)
         self.home(others)
         (self.out / "style.css").write_text((HERE / "style.css").read_text())
         (self.out / "search.js").write_text(f"const INDEX = {json.dumps(self.index, ensure_ascii=False)};\n{(HERE / 'search.js').read_text()}")
@@ -382,4 +414,4 @@ def spec_title(file):
 
 def spec_address(file):
     """Returns the page of a file of definitions."""
-    return "specs." + spec_title(file).replace("/specs/", ".").replace("/", ".") + ".html"
+    return spec_title(file).replace("/", ".") + ".html"

@@ -1,5 +1,5 @@
 // Searches the names of all pages. INDEX is in this file's head: name, place, first sentence and address of each.
-const box = document.querySelector("header input"), list = document.getElementById("found");
+const box = document.querySelector("header input"), list = document.getElementById("search-results");
 function rank(entry, word) {
   const name = entry[0].toLowerCase();
   if (name === word) return 0;
