@@ -1,11 +1,12 @@
 #!/usr/bin/env python3
 """Holds the documents against the sources: quoted contracts, links, words and lengths.
 
-A block of README.md or docs/CALLING.md that is marked ```text and begins with `// FILE` must stand in that file. So must each clause
-of a block that begins with `fn`, which is shortened as docs/CALLING.md says: `kind` stands for the kind of the trie's type, `bytes` for
-its bytes, and `..` for anything. A line `FILE:NUMBER: OLD  ->  NEW` must be a planted mistake of zerotrie_base. Each link of a page must lead to a file that is there, and to a heading of it. README.md,
-docs/CALLING.md and the doc comments of the library's public items must be free of RETIRED, words for which every Rust programmer has
-another one. No page may have more words than LIMITS say: when a page gets shorter, so does its limit.
+A block of README.md or docs/CALLING.md that is marked ```text and begins with `// FILE` must be in that file. So must each clause of
+a block that begins with `fn`, which is shortened as docs/CALLING.md says: `kind` is the kind of the trie's type, `bytes` are its bytes,
+and `..` is anything. A line `FILE:NUMBER: OLD  ->  NEW` must be a planted mistake of zerotrie_base. Each link of a page must lead to a
+file that is there, and to a heading of it. The pages of PLAIN and the doc comments of the library's public items must be free of
+RETIRED, words for which every Rust programmer has another one. No page may have more words than LIMITS say: when a page gets shorter,
+so does its limit.
 """
 import pathlib
 import re
@@ -19,6 +20,8 @@ sys.path.insert(0, str(ROOT / "docs" / "maker"))
 import sources
 
 QUOTING = ["README.md", "docs/CALLING.md"]
+# The pages that have no retired words.
+PLAIN = [*QUOTING, "CONTRIBUTING.md", "bindings/README.md", "docs/SPEED.md", "docs/speed/fast.md", "docs/speed/tables.md", "examples/README.md"]
 # How many words a page may have, as `wc -w` counts. CHANGELOG.md grows.
 LIMITS = {
     "README.md": 1000,
@@ -151,7 +154,7 @@ def comments():
 
 def retired():
     """Yields the retired words that are there."""
-    texts = [(page, (ROOT / page).read_text(), RETIRED) for page in QUOTING]
+    texts = [(page, (ROOT / page).read_text(), RETIRED) for page in PLAIN]
     rest = {word: RETIRED[word] for word in RETIRED if word not in PAGES_ONLY}
     texts += [(place, text, rest) for place, text in comments()]
     for place, text, words in texts:

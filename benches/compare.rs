@@ -156,7 +156,7 @@ fn cursors(sets: &[Set], rounds: usize) -> Table {
 }
 
 fn tests_of_bytes(sets: &[Set], rounds: usize) -> Table {
-    let mut table = Table::plain("Tests of bytes, MB a second");
+    let mut table = Table::plain("Validation, MB a second");
     for set in sets {
         for kind in kinds_of(set) {
             let bytes = &calls::built(kind, set.pairs());
