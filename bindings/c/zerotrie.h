@@ -33,16 +33,17 @@
  *     A pointer is aligned for its type. A length is at most PTRDIFF_MAX bytes.
  *   - Null. No pointer may be null, even with length 0: pass any valid address of the type then. zerotrie_bytes_of() turns a
  *     pointer that may be null into a zerotrie_bytes whose pointer never is.
- *   - Lifetimes. A trie is only your bytes: there is nothing to open, close or free. What a cursor holds, and what
- *     zerotrie_untagged() hands out, points into the bytes that were given. Use it only while they stay where they are and
- *     unchanged. Keys and pairs are needed during the call alone.
+ *   - Lifetimes. A trie is only your bytes: there is nothing to open, close or free. What zerotrie_untagged(),
+ *     zerotrie_cursor_run() and zerotrie_cursor_trie() hand out points into the bytes that were given. Use it only while they
+ *     stay where they are and unchanged. A cursor points nowhere, and may outlive them. Keys and pairs are needed during the
+ *     call alone.
  *   - Memory. "Takes memory" marks the functions that call malloc, realloc and free. Call none of them from a signal handler,
  *     nor in the forked child of a process with threads.
  *
  * What holds then:
  *   - Every function returns, whatever the bytes hold. It reads nothing outside them, and never aborts or throws.
  *   - It writes only what is said at the function, also if the bytes are no trie. "Stays" says of a place that it is not
- *     written to.
+ *     written to. What a function only writes to may hold anything before.
  *   - Threads. There is no state between calls and no lock, so any number of threads may call at once over bytes that none
  *     of them writes. A cursor is for one thread at a time; a copy of it, made by =, is a cursor of its own.
  *
@@ -126,12 +127,18 @@ typedef struct zerotrie_pair {
     size_t value;
 } zerotrie_pair;
 
-/* A place in a trie, between two bytes of keys; zerotrie_cursor_new() or zerotrie_with_prefix() sets it. While run.len is not 0
- * it stands inside a span: every key from here on goes on with all of run, and then with a key of trie. Otherwise trie is a
- * trie by itself, that of what the keys have from here on: list it by zerotrie_list(). Nothing is left if both are empty. */
+/* A place in a trie, between two bytes of keys, as numbers: zerotrie_cursor_new() and zerotrie_with_prefix() tell them, and each call
+ * is given the bytes too. While run is below trie it stands inside a span: every key from here on goes on with the bytes from run
+ * to trie, and then with a key of the trie that lies from trie to end. Otherwise the bytes from trie to end are a trie by
+ * themselves, that of what the keys have from here on: list it by zerotrie_list(). Nothing is left if run is end.
+ *
+ * What the library tells never leaves the bytes, whatever they are: run <= trie <= end <= len. It may be given any numbers.
+ * Those that do not ascend or leave the bytes are a cursor with nothing left. So with a cursor that was made up, or that was told
+ * of other bytes, a call answers something, and reads nothing outside the bytes. */
 typedef struct zerotrie_cursor {
-    zerotrie_bytes run;
-    zerotrie_bytes trie;
+    size_t run;
+    size_t trie;
+    size_t end;
 } zerotrie_cursor;
 
 /* Bytes from any pointer; null stands for none. */
@@ -170,30 +177,54 @@ ZEROTRIE_ANSWERS
 bool zerotrie_longest_prefix(uint32_t kind, const uint8_t *bytes, size_t len, const uint8_t *text, size_t text_len,
                              size_t *key_len, size_t *value);
 
-/* Sets the cursor in front of all keys, of a trie of any kind. The calls below take the same kind each time. */
-ZEROTRIE_NONNULL
-void zerotrie_cursor_new(const uint8_t *bytes, size_t len, zerotrie_cursor *cursor);
+/* The cursor in front of all keys, of a trie of any kind. The calls below take the same bytes, and the same kind, each time. */
+ZEROTRIE_ANSWERS
+zerotrie_cursor zerotrie_cursor_new(const uint8_t *bytes, size_t len);
 
-/* Sets the cursor after a prefix, where a step by each byte of it leads. Answers whether some key begins with it; if none
- * does, or the kind is unknown, the cursor has nothing left. */
-ZEROTRIE_NONNULL
-bool zerotrie_with_prefix(uint32_t kind, const uint8_t *bytes, size_t len, const uint8_t *prefix, size_t prefix_len,
-                          zerotrie_cursor *cursor);
+/* The cursor after a prefix, where a step by each byte of it leads. If no key begins with it, or the kind is unknown, nothing is
+ * left, and its numbers are 0. */
+ZEROTRIE_ANSWERS
+zerotrie_cursor zerotrie_with_prefix(uint32_t kind, const uint8_t *bytes, size_t len, const uint8_t *prefix, size_t prefix_len);
 
 /* Goes along the edge that is this byte to the kind (in IGNORE_CASE a letter in either case). If there is one, its byte as it
  * is stored goes to *edge. If not, nothing is left and *edge stays. */
 ZEROTRIE_NONNULL
-bool zerotrie_cursor_step(uint32_t kind, zerotrie_cursor *cursor, uint8_t byte, uint8_t *edge);
+bool zerotrie_cursor_step(uint32_t kind, const uint8_t *bytes, size_t len, zerotrie_cursor *cursor, uint8_t byte, uint8_t *edge);
 
 /* Takes the value of the key that ends here: it goes to *value, and the cursor no longer has it. If there is none, nothing
  * changes. Ask before the next step, which goes past the value. */
 ZEROTRIE_NONNULL
-bool zerotrie_cursor_take_value(zerotrie_cursor *cursor, size_t *value);
+bool zerotrie_cursor_take_value(const uint8_t *bytes, size_t len, zerotrie_cursor *cursor, size_t *value);
 
 /* Goes along edge number `index`, from 0; its byte goes to *edge, and how many edges there are to *siblings. If there is no
  * such edge, nothing is left, and *edge and *siblings stay. Edges are numbered in the order of the bytes' listing. */
 ZEROTRIE_NONNULL
-bool zerotrie_cursor_probe(uint32_t kind, zerotrie_cursor *cursor, size_t index, uint8_t *edge, uint16_t *siblings);
+bool zerotrie_cursor_probe(uint32_t kind, const uint8_t *bytes, size_t len, zerotrie_cursor *cursor, size_t index, uint8_t *edge,
+                           uint16_t *siblings);
+
+/* Whether nothing is left of a cursor that was told: no key goes on from here, and none ends here. */
+ZEROTRIE_INLINE bool zerotrie_cursor_is_empty(zerotrie_cursor cursor) {
+    return cursor.run == cursor.end;
+}
+
+/* The bytes from one number up to another, where they lie; none if the numbers do not ascend or leave the bytes. */
+ZEROTRIE_INLINE zerotrie_bytes zerotrie_between(const uint8_t *bytes, size_t len, size_t from, size_t to) {
+    const bool inside = from <= to && to <= len;
+    zerotrie_bytes made;
+    made.ptr = inside ? bytes + from : bytes;
+    made.len = inside ? to - from : 0;
+    return made;
+}
+
+/* What is left of the span that a cursor stands in; no bytes outside of spans. */
+ZEROTRIE_INLINE zerotrie_bytes zerotrie_cursor_run(const uint8_t *bytes, size_t len, zerotrie_cursor cursor) {
+    return zerotrie_between(bytes, len, cursor.run, cursor.trie);
+}
+
+/* The trie after it: outside of spans, that of what the keys have from here on. */
+ZEROTRIE_INLINE zerotrie_bytes zerotrie_cursor_trie(const uint8_t *bytes, size_t len, zerotrie_cursor cursor) {
+    return zerotrie_between(bytes, len, cursor.trie, cursor.end);
+}
 
 /* The kind of tagged bytes goes to *kind. Their trie is what follows their first byte; it is not tested. Or answers
  * ZEROTRIE_NO_TAG or ZEROTRIE_INVALID_TAG, and *kind stays. */

@@ -237,40 +237,48 @@ private:
 // A place in a trie. A copy is a place of its own. The trie's bytes have to outlive it.
 class Cursor {
 public:
-    Cursor(Kind kind, Bytes bytes) noexcept : kind_(kind) {
-        const auto at = detail::of(bytes.view());
-        zerotrie_cursor_new(at.ptr, at.len, &cursor_);
+    Cursor(Kind kind, Bytes bytes) noexcept : kind_(kind), bytes_(bytes.view()) {
+        const auto at = detail::of(bytes_);
+        cursor_ = zerotrie_cursor_new(at.ptr, at.len);
     }
     // Goes along the edge that is the byte to the kind, and answers it as it is stored. nullopt: nothing is left.
     std::optional<uint8_t> step(uint8_t byte) noexcept {
-        uint8_t edge = 0;
-        if (!zerotrie_cursor_step(number(), &cursor_, byte, &edge)) return std::nullopt;
+        const auto at = detail::of(bytes_);
+        uint8_t edge;
+        if (!zerotrie_cursor_step(number(), at.ptr, at.len, &cursor_, byte, &edge)) return std::nullopt;
         return edge;
     }
     // The same along edge number `index`, from 0; answers its byte and how many edges there are.
     std::optional<std::pair<uint8_t, uint16_t>> probe(size_t index) noexcept {
-        uint8_t edge = 0;
-        uint16_t siblings = 0;
-        if (!zerotrie_cursor_probe(number(), &cursor_, index, &edge, &siblings)) return std::nullopt;
+        const auto at = detail::of(bytes_);
+        uint8_t edge;
+        uint16_t siblings;
+        if (!zerotrie_cursor_probe(number(), at.ptr, at.len, &cursor_, index, &edge, &siblings)) return std::nullopt;
         return std::pair(edge, siblings);
     }
     // Takes the value of the key that ends here. nullopt: no key does, or it was taken.
     std::optional<size_t> take_value() noexcept {
-        size_t value = 0;
-        if (!zerotrie_cursor_take_value(&cursor_, &value)) return std::nullopt;
+        const auto at = detail::of(bytes_);
+        size_t value;
+        if (!zerotrie_cursor_take_value(at.ptr, at.len, &cursor_, &value)) return std::nullopt;
         return value;
     }
     // What is left of the span that it stands in: every key goes on with it. Empty outside of spans.
-    [[nodiscard]] std::string_view run() const noexcept { return detail::text_of(cursor_.run); }
+    [[nodiscard]] std::string_view run() const noexcept {
+        const auto at = detail::of(bytes_);
+        return detail::text_of(zerotrie_cursor_run(at.ptr, at.len, cursor_));
+    }
     // Whether no key goes on from here, and none ends here.
-    [[nodiscard]] bool is_empty() const noexcept { return cursor_.run.len == 0 && cursor_.trie.len == 0; }
+    [[nodiscard]] bool is_empty() const noexcept { return zerotrie_cursor_is_empty(cursor_); }
 
 private:
     friend class Trie;
-    Cursor(const zerotrie_cursor &cursor, Kind kind) noexcept : kind_(kind), cursor_(cursor) {}
+    Cursor(const zerotrie_cursor &cursor, Kind kind, std::string_view bytes) noexcept
+        : kind_(kind), bytes_(bytes), cursor_(cursor) {}
     uint32_t number() const noexcept { return static_cast<uint32_t>(kind_); }
     Kind kind_;
-    zerotrie_cursor cursor_{};
+    std::string_view bytes_;
+    zerotrie_cursor cursor_;
 };
 
 // The pairs of a trie, in the order of its bytes: a range whose elements are pairs of a std::string_view and a value. All are
@@ -404,9 +412,9 @@ public:
     // A cursor after a prefix. nullopt: no key begins with it.
     [[nodiscard]] std::optional<Cursor> with_prefix(std::string_view prefix) const noexcept {
         const auto at = detail::of(bytes_), p = detail::of(prefix);
-        zerotrie_cursor cursor{};
-        if (!zerotrie_with_prefix(number(), at.ptr, at.len, p.ptr, p.len, &cursor)) return std::nullopt;
-        return Cursor(cursor, kind_);
+        const auto cursor = zerotrie_with_prefix(number(), at.ptr, at.len, p.ptr, p.len);
+        if (zerotrie_cursor_is_empty(cursor)) return std::nullopt;
+        return Cursor(cursor, kind_, bytes_);
     }
     // The pairs, or those whose keys begin with a prefix.
     [[nodiscard]] Items items(std::string_view prefix = {}) const { return Items(kind_, bytes_, prefix); }

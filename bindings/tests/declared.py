@@ -8,9 +8,9 @@ import subprocess
 import sys
 
 here, library = pathlib.Path(sys.argv[1]), sys.argv[2]
-NUMBERS = {"u8": 1, "u16": 2, "u32": 4, "usize": 8, "bool": "bool", "Bytes": 16, "Cursor": 32, "Pair": 24}
+NUMBERS = {"u8": 1, "u16": 2, "u32": 4, "usize": 8, "bool": "bool", "Bytes": 16, "Cursor": 24, "CursorPlace": 24, "Pair": 24}
 C_NUMBERS = {"uint8_t": 1, "uint16_t": 2, "uint32_t": 4, "size_t": 8, "bool": "bool", "void": None,
-             "zerotrie_bytes": 16, "zerotrie_cursor": 32, "zerotrie_pair": 24}
+             "zerotrie_bytes": 16, "zerotrie_cursor": 24, "zerotrie_pair": 24}
 #: what the texts of errors say to programs in other languages, in place of what they say to those in Rattle
 IN_OTHER_WORDS = {
     "take one of this many bytes: {0}": "take a smaller one",

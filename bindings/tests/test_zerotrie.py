@@ -127,6 +127,15 @@ cursor = trie.cursor()
 assert (cursor.step(ord("f")), cursor.probe(0), cursor.run, bool(cursor)) == (ord("f"), (ord("o"), 1), b"", True)
 assert cursor.step(ord("x")) is None and not cursor
 
+# any numbers may be a cursor: those that are none in the bytes have nothing left
+for numbers in ((0, 0, 1 << 40), (5, 3, 6), ((1 << 64) - 1,) * 3, (0, 1 << 63, 2), (1 << 63, 0, 1 << 62)):
+    kind, *lent = trie._lent
+    made_up, byte, count = zerotrie._Cursor(*numbers), ctypes.c_uint8(), ctypes.c_size_t()
+    assert not zerotrie._lib.zerotrie_cursor_take_value(*lent, made_up, count)
+    assert (made_up.run, made_up.trie, made_up.end) == numbers
+    assert not zerotrie._lib.zerotrie_cursor_step(kind, *lent, made_up, ord("f"), byte)
+    assert (made_up.run, made_up.trie, made_up.end) == (0, 0, 0)
+
 # what another module says of a function of Python stays its own
 with unittest.mock.patch.object(ctypes.pythonapi.PyObject_GetBuffer, "argtypes", [ctypes.c_int] * 3):
     assert ZeroTrie(memoryview(bytes(trie)))["foo"] == 1

@@ -122,12 +122,8 @@ class _Pair(Structure):
     _fields_ = [("key", _Bytes), ("value", c_size_t)]
 
 
-class _Part(Structure):
-    _fields_ = [("ptr", c_void_p), ("len", c_size_t)]
-
-
 class _Cursor(Structure):
-    _fields_ = [("run", _Part), ("trie", _Part)]
+    _fields_ = [("run", c_size_t), ("trie", c_size_t), ("end", c_size_t)]
 
 
 _TEXT = [c_char_p, c_size_t]
@@ -143,11 +139,11 @@ _DECLARED = {
     "zerotrie_get": (c_bool, [c_uint32, *_LENT, *_TEXT, _SIZE]),
     "zerotrie_get_many": (c_uint32, [c_uint32, *_LENT, *_TEXT, *_SIZES, c_size_t, *_SIZES]),
     "zerotrie_longest_prefix": (c_bool, [c_uint32, *_LENT, *_TEXT, _SIZE, _SIZE]),
-    "zerotrie_cursor_new": (None, [*_LENT, POINTER(_Cursor)]),
-    "zerotrie_with_prefix": (c_bool, [c_uint32, *_LENT, *_TEXT, POINTER(_Cursor)]),
-    "zerotrie_cursor_step": (c_bool, [c_uint32, POINTER(_Cursor), c_uint8, POINTER(c_uint8)]),
-    "zerotrie_cursor_take_value": (c_bool, [POINTER(_Cursor), _SIZE]),
-    "zerotrie_cursor_probe": (c_bool, [c_uint32, POINTER(_Cursor), c_size_t, POINTER(c_uint8), POINTER(c_uint16)]),
+    "zerotrie_cursor_new": (_Cursor, _LENT),
+    "zerotrie_with_prefix": (_Cursor, [c_uint32, *_LENT, *_TEXT]),
+    "zerotrie_cursor_step": (c_bool, [c_uint32, *_LENT, POINTER(_Cursor), c_uint8, POINTER(c_uint8)]),
+    "zerotrie_cursor_take_value": (c_bool, [*_LENT, POINTER(_Cursor), _SIZE]),
+    "zerotrie_cursor_probe": (c_bool, [c_uint32, *_LENT, POINTER(_Cursor), c_size_t, POINTER(c_uint8), POINTER(c_uint16)]),
     "zerotrie_tagged_kind": (c_uint32, [*_LENT, POINTER(c_uint32)]),
     "zerotrie_build": (c_uint32, [c_uint32, *_PAIRS, *_ROOM, _SIZE]),
     "zerotrie_build_sorted": (c_uint32, [c_uint32, *_PAIRS, *_ROOM, _SIZE]),
@@ -361,55 +357,57 @@ class _Reader:
 
 
 class _Place:
-    """What a cursor goes by, in bytes that a view keeps where they lie. It holds the kind, the place, and the view."""
+    """What a cursor goes by, in bytes that a view keeps where they lie. It holds the kind, where they lie, how many they are, the place,
+    and the view."""
 
     __slots__ = ("_held",)
-    _held: tuple[int, _Cursor, memoryview]
+    _held: tuple[int, int, int, _Cursor, memoryview]
 
     def _hold(self, view: memoryview, kind: int, at: int, length: int) -> None:
-        raw = _Cursor()
-        _lib.zerotrie_cursor_new(at, length, raw)
-        _once(_Place, self, (kind, raw, view))
+        _once(_Place, self, (kind, at, length, _lib.zerotrie_cursor_new(at, length), view))
 
     def _go(self, prefix: Key) -> bool:
         text = _key(prefix)
-        kind, raw, _ = self._held
-        return _lib.zerotrie_with_prefix(kind, raw.trie.ptr, raw.trie.len, text, len(text), raw)
+        kind, at, length, raw, _ = self._held
+        ctypes.pointer(raw)[0] = _lib.zerotrie_with_prefix(kind, at, length, text, len(text))
+        return bool(self)
 
     def _copied(self: Place) -> Place:
         made = object.__new__(type(self))
-        kind, raw, view = self._held
-        _once(_Place, made, (kind, _Cursor.from_buffer_copy(raw), view))
+        kind, at, length, raw, view = self._held
+        _once(_Place, made, (kind, at, length, _Cursor.from_buffer_copy(raw), view))
         return made
 
     def step(self, byte: int, /) -> Optional[int]:
         """Goes along the edge that is the byte to the kind, and answers its byte as it is stored. None: nothing is left."""
         number, edge = _number(byte, 8, "a byte"), c_uint8()
-        kind, raw, _ = self._held
-        return edge.value if _lib.zerotrie_cursor_step(kind, raw, number, edge) else None
+        kind, at, length, raw, _ = self._held
+        return edge.value if _lib.zerotrie_cursor_step(kind, at, length, raw, number, edge) else None
 
     def probe(self, index: int, /) -> Optional[tuple[int, int]]:
         """Goes along edge number `index`, from 0, and answers its byte and how many edges there are. None: nothing is left."""
         number, edge, siblings = _number(index, 64, "an index"), c_uint8(), c_uint16()
-        kind, raw, _ = self._held
-        found = _lib.zerotrie_cursor_probe(kind, raw, number, edge, siblings)
+        kind, at, length, raw, _ = self._held
+        found = _lib.zerotrie_cursor_probe(kind, at, length, raw, number, edge, siblings)
         return (edge.value, siblings.value) if found else None
 
     def take_value(self) -> Optional[int]:
         """Takes the value of the key that ends here. None: no key does, or it was taken."""
         value = c_size_t()
-        return value.value if _lib.zerotrie_cursor_take_value(self._held[1], value) else None
+        _, at, length, raw, _ = self._held
+        return value.value if _lib.zerotrie_cursor_take_value(at, length, raw, value) else None
 
     @property
     def run(self) -> bytes:
         """What is left of the span that it stands in: each key goes on with it. Empty outside of spans."""
+        _, at, _, raw, _ = self._held
         # a copy, as another thread may go on between the two
-        raw = _Cursor.from_buffer_copy(self._held[1])
-        return ctypes.string_at(raw.run.ptr, raw.run.len)
+        raw = _Cursor.from_buffer_copy(raw)
+        return ctypes.string_at(at + raw.run, raw.trie - raw.run)
 
     def __bool__(self) -> bool:
-        raw = _Cursor.from_buffer_copy(self._held[1])
-        return raw.run.len + raw.trie.len > 0
+        raw = _Cursor.from_buffer_copy(self._held[3])
+        return raw.run < raw.end
 
 
 def _extension() -> bool:

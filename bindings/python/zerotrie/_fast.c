@@ -60,7 +60,7 @@ static PyObject *hold(PyObject *object, PyObject *args) {
     held->kind = kind;
     held->bytes = (const uint8_t *)(uintptr_t)address;
     held->len = (size_t)len;
-    cursor_new(held->bytes, held->len, &held->cursor);
+    held->cursor = cursor_new(held->bytes, held->len);
     Py_INCREF(view);
     held->view = view;
     return none();
@@ -217,7 +217,7 @@ static PyObject *place_step(PyObject *object, PyObject *given) {
     size_t byte;
     uint8_t edge;
     Held *held = number_of(given, "a byte is a whole number", "a byte", 8, &byte) ? held_by(object) : NULL;
-    if (held && cursor_step(held->kind, &held->cursor, (uint8_t)byte, &edge))
+    if (held && cursor_step(held->kind, held->bytes, held->len, &held->cursor, (uint8_t)byte, &edge))
         return PyLong_FromLong(edge);
     return held ? none() : NULL;
 }
@@ -228,7 +228,7 @@ static PyObject *place_probe(PyObject *object, PyObject *given) {
     uint8_t edge;
     uint16_t siblings;
     Held *held = number_of(given, "an index is a whole number", "an index", 64, &index) ? held_by(object) : NULL;
-    if (held && cursor_probe(held->kind, &held->cursor, index, &edge, &siblings))
+    if (held && cursor_probe(held->kind, held->bytes, held->len, &held->cursor, index, &edge, &siblings))
         return Py_BuildValue("(ii)", edge, siblings);
     return held ? none() : NULL;
 }
@@ -237,7 +237,7 @@ static PyObject *place_probe(PyObject *object, PyObject *given) {
 static PyObject *place_take_value(PyObject *object, PyObject *Py_UNUSED(unused)) {
     size_t value;
     Held *held = held_by(object);
-    if (held && cursor_take_value(&held->cursor, &value))
+    if (held && cursor_take_value(held->bytes, held->len, &held->cursor, &value))
         return PyLong_FromSize_t(value);
     return held ? none() : NULL;
 }
@@ -247,8 +247,10 @@ static PyObject *place_go(PyObject *object, PyObject *prefix) {
     zerotrie_bytes text;
     PyObject *bytes = bytes_of(prefix, &text), *answer = NULL;
     Held *held = bytes ? held_by(object) : NULL;
-    if (held)
-        answer = PyBool_FromLong(with_prefix(held->kind, held->bytes, held->len, text.ptr, text.len, &held->cursor));
+    if (held) {
+        held->cursor = with_prefix(held->kind, held->bytes, held->len, text.ptr, text.len);
+        answer = PyBool_FromLong(!zerotrie_cursor_is_empty(held->cursor));
+    }
     Py_XDECREF(bytes);
     return answer;
 }
@@ -270,13 +272,17 @@ static PyObject *place_copied(PyObject *object, PyObject *Py_UNUSED(unused)) {
 /* cursor.run */
 static PyObject *place_run(PyObject *object, void *Py_UNUSED(unused)) {
     Held *held = held_by(object);
-    return held ? PyBytes_FromStringAndSize((const char *)held->cursor.run.ptr, (Py_ssize_t)held->cursor.run.len) : NULL;
+    zerotrie_bytes run;
+    if (!held)
+        return NULL;
+    run = zerotrie_cursor_run(held->bytes, held->len, held->cursor);
+    return PyBytes_FromStringAndSize((const char *)run.ptr, (Py_ssize_t)run.len);
 }
 
 /* bool(cursor) */
 static int place_bool(PyObject *object) {
     Held *held = held_by(object);
-    return held ? held->cursor.run.len > 0 || held->cursor.trie.len > 0 : -1;
+    return held ? !zerotrie_cursor_is_empty(held->cursor) : -1;
 }
 
 /* bind(handle): finds the functions in the library that has this handle of dlopen(). ImportError if it has not all of them. */

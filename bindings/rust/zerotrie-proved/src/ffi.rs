@@ -17,8 +17,9 @@ pub struct Pair {
 #[repr(C)]
 #[derive(Clone, Copy)]
 pub struct Cursor {
-    pub run: Bytes,
-    pub trie: Bytes,
+    pub run: usize,
+    pub trie: usize,
+    pub end: usize,
 }
 
 #[rustfmt::skip]
@@ -29,12 +30,12 @@ unsafe extern "C" {
         ends_len: usize, missing: usize, values: *mut usize, values_len: usize) -> u32;
     pub fn zerotrie_longest_prefix(kind: u32, bytes: *const u8, len: usize, text: *const u8, text_len: usize,
         key_len: *mut usize, value: *mut usize) -> bool;
-    pub fn zerotrie_cursor_new(bytes: *const u8, len: usize, cursor: *mut Cursor);
-    pub fn zerotrie_with_prefix(kind: u32, bytes: *const u8, len: usize, prefix: *const u8, prefix_len: usize,
-        cursor: *mut Cursor) -> bool;
-    pub fn zerotrie_cursor_step(kind: u32, cursor: *mut Cursor, byte: u8, edge: *mut u8) -> bool;
-    pub fn zerotrie_cursor_take_value(cursor: *mut Cursor, value: *mut usize) -> bool;
-    pub fn zerotrie_cursor_probe(kind: u32, cursor: *mut Cursor, index: usize, edge: *mut u8, siblings: *mut u16) -> bool;
+    pub fn zerotrie_cursor_new(bytes: *const u8, len: usize) -> Cursor;
+    pub fn zerotrie_with_prefix(kind: u32, bytes: *const u8, len: usize, prefix: *const u8, prefix_len: usize) -> Cursor;
+    pub fn zerotrie_cursor_step(kind: u32, bytes: *const u8, len: usize, cursor: *mut Cursor, byte: u8, edge: *mut u8) -> bool;
+    pub fn zerotrie_cursor_take_value(bytes: *const u8, len: usize, cursor: *mut Cursor, value: *mut usize) -> bool;
+    pub fn zerotrie_cursor_probe(kind: u32, bytes: *const u8, len: usize, cursor: *mut Cursor, index: usize, edge: *mut u8,
+        siblings: *mut u16) -> bool;
     pub fn zerotrie_tagged_kind(tagged: *const u8, len: usize, kind: *mut u32) -> u32;
     pub fn zerotrie_build(kind: u32, pairs: *const Pair, count: usize, out: *mut u8, out_len: usize, len: *mut usize) -> u32;
     pub fn zerotrie_build_sorted(kind: u32, pairs: *const Pair, count: usize, out: *mut u8, out_len: usize,

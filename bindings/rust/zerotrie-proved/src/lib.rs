@@ -48,7 +48,7 @@
 extern crate alloc;
 
 use alloc::{vec, vec::Vec};
-use core::{fmt, iter::FusedIterator, marker::PhantomData};
+use core::{fmt, iter::FusedIterator};
 
 mod ffi;
 
@@ -360,10 +360,9 @@ impl<'a> ZeroTrie<'a> {
     /// A cursor in front of all keys.
     #[must_use]
     pub fn cursor(&self) -> Cursor<'a> {
-        let mut raw = nowhere(self.bytes);
-        // SAFETY: a slice, and a cursor that is this call's own.
-        unsafe { ffi::zerotrie_cursor_new(self.bytes.as_ptr(), self.bytes.len(), &mut raw) };
-        Cursor { kind: self.kind, raw, bytes: PhantomData }
+        // SAFETY: a slice.
+        let raw = unsafe { ffi::zerotrie_cursor_new(self.bytes.as_ptr(), self.bytes.len()) };
+        Cursor { kind: self.kind, bytes: self.bytes, raw }
     }
 
     /// A cursor after a prefix. `None` if no key begins with it.
@@ -376,19 +375,13 @@ impl<'a> ZeroTrie<'a> {
     /// ```
     #[must_use]
     pub fn with_prefix(&self, prefix: impl AsRef<[u8]>) -> Option<Cursor<'a>> {
-        let (prefix, mut raw) = (prefix.as_ref(), nowhere(self.bytes));
-        // SAFETY: two slices, and a cursor that is this call's own.
-        let some = unsafe {
-            ffi::zerotrie_with_prefix(
-                self.number(),
-                self.bytes.as_ptr(),
-                self.bytes.len(),
-                prefix.as_ptr(),
-                prefix.len(),
-                &mut raw,
-            )
+        let prefix = prefix.as_ref();
+        // SAFETY: two slices.
+        let raw = unsafe {
+            ffi::zerotrie_with_prefix(self.number(), self.bytes.as_ptr(), self.bytes.len(), prefix.as_ptr(), prefix.len())
         };
-        some.then_some(Cursor { kind: self.kind, raw, bytes: PhantomData })
+        let cursor = Cursor { kind: self.kind, bytes: self.bytes, raw };
+        (!cursor.is_empty()).then_some(cursor)
     }
 
     /// The pairs, one after another, in the order of the bytes, which in `SimpleAscii` is that of the keys. It goes on as it is
@@ -493,46 +486,58 @@ impl<'a> IntoIterator for &ZeroTrie<'a> {
 #[derive(Clone, Copy)]
 pub struct Cursor<'a> {
     kind: Kind,
+    bytes: &'a [u8],
     raw: ffi::Cursor,
-    bytes: PhantomData<&'a [u8]>,
 }
 
 impl<'a> Cursor<'a> {
     /// Goes along the edge that is the byte to the kind, and answers its byte as it is stored. `None` if there is none, and then
     /// nothing is left.
     pub fn step(&mut self, byte: u8) -> Option<u8> {
-        let mut edge = 0;
-        // SAFETY: the library made the cursor over bytes that are still borrowed.
-        unsafe { ffi::zerotrie_cursor_step(self.kind as u32, &mut self.raw, byte, &mut edge) }.then_some(edge)
+        let (bytes, mut edge) = (self.bytes, 0);
+        // SAFETY: a slice, and two places that are this call's own. Any numbers may be a cursor.
+        unsafe {
+            ffi::zerotrie_cursor_step(self.kind as u32, bytes.as_ptr(), bytes.len(), &mut self.raw, byte, &mut edge)
+        }
+        .then_some(edge)
     }
 
     /// Goes along edge number `index`, from 0, and answers its byte and how many edges there are. `None` if there is no such
     /// edge, and then nothing is left.
     pub fn probe(&mut self, index: usize) -> Option<(u8, u16)> {
-        let (mut edge, mut siblings) = (0, 0);
+        let (bytes, mut edge, mut siblings) = (self.bytes, 0, 0);
         // SAFETY: as in `step`.
-        unsafe { ffi::zerotrie_cursor_probe(self.kind as u32, &mut self.raw, index, &mut edge, &mut siblings) }
-            .then_some((edge, siblings))
+        unsafe {
+            ffi::zerotrie_cursor_probe(
+                self.kind as u32,
+                bytes.as_ptr(),
+                bytes.len(),
+                &mut self.raw,
+                index,
+                &mut edge,
+                &mut siblings,
+            )
+        }
+        .then_some((edge, siblings))
     }
 
     /// Takes the value of the key that ends here. `None` if no key does, or if it was taken.
     pub fn take_value(&mut self) -> Option<usize> {
-        let mut value = 0;
+        let (bytes, mut value) = (self.bytes, 0);
         // SAFETY: as in `step`.
-        unsafe { ffi::zerotrie_cursor_take_value(&mut self.raw, &mut value) }.then_some(value)
+        unsafe { ffi::zerotrie_cursor_take_value(bytes.as_ptr(), bytes.len(), &mut self.raw, &mut value) }.then_some(value)
     }
 
     /// What is left of the span that the cursor stands in: each key goes on with it. It is empty outside of spans.
     #[must_use]
     pub fn run(&self) -> &'a [u8] {
-        // SAFETY: both parts of a cursor are parts of the bytes that it was made over.
-        unsafe { slice(self.raw.run) }
+        &self.bytes[self.raw.run..self.raw.trie]
     }
 
     /// Whether no key goes on from here, and none ends here.
     #[must_use]
     pub fn is_empty(&self) -> bool {
-        self.raw.run.len == 0 && self.raw.trie.len == 0
+        self.raw.run == self.raw.end
     }
 }
 
@@ -541,11 +546,6 @@ impl fmt::Debug for Cursor<'_> {
         f.debug_struct("Cursor").field("kind", &self.kind).field("run", &self.run()).finish_non_exhaustive()
     }
 }
-
-// SAFETY: a cursor is two slices of bytes that are only read.
-unsafe impl Send for Cursor<'_> {}
-// SAFETY: the same.
-unsafe impl Sync for Cursor<'_> {}
 
 /// The pairs of a trie, one after another.
 #[derive(Clone, Debug)]
@@ -778,18 +778,4 @@ pub fn build_dense<P: AsRef<[u8]>, S: AsRef<[u8]>>(entries: &[(P, S, usize)], de
             )
         }
     })
-}
-
-/// A cursor with nothing left, for the library to write over.
-fn nowhere(bytes: &[u8]) -> ffi::Cursor {
-    let none = ffi::Bytes { ptr: bytes.as_ptr(), len: 0 };
-    ffi::Cursor { run: none, trie: none }
-}
-
-/// # Safety
-///
-/// The bytes are a part of some that are borrowed for `'a`.
-unsafe fn slice<'a>(bytes: ffi::Bytes) -> &'a [u8] {
-    // SAFETY: as above.
-    unsafe { core::slice::from_raw_parts(bytes.ptr, bytes.len) }
 }
