@@ -1,0 +1,32 @@
+-- What is accepted at the end of a key.
+use Rattle.std.proofs.Common.{◌≡◌, ℕ, List, [], ◌∷◌, length, refl, arith, false, suc}
+use Rattle.std.specs.Prelude.{◌==◌, is_some, not}
+use Rattle.std.specs.Range.Bound.{is_from_start, is_up_to_end}
+use Rattle.std.specs.declared.ops.Bound.TheVariants.{Included, Excluded}
+use Rattle.std.proofs.lemmas.Bool.{ne_eqb}
+use Rattle.zerotrie_base.specs.Maps.{after_run}
+use Rattle.zerotrie_search.specs.Sets.{has_within, by_bytes}
+
+some_left : (n : ℕ) → (suc n == 0) ≡ false
+some_left n = ne_eqb (suc n) 0 (λ e. omega (arith, e))
+
+pub begins_here : (left : List ℕ) → (length left == 0) ≡ is_some (after_run left [])
+begins_here [] = refl
+begins_here (b ∷ left) = some_left (length left)
+
+pub within_here : (left : List ℕ) → (length left == 0) ≡ has_within left []
+within_here [] = refl
+within_here (b ∷ left) = some_left (length left)
+
+pub from_here : (from : List ℕ) → (length from == 0) ≡ is_from_start by_bytes (Included from) []
+from_here [] = refl
+from_here (b ∷ from) = some_left (length from)
+
+pub not_from_here : (from : List ℕ) → false ≡ is_from_start by_bytes (Excluded from) []
+not_from_here [] = refl
+not_from_here (b ∷ from) = refl
+
+pub none_to : (to : List ℕ) → not (length to == 0) ≡ false → (key : List ℕ) → is_up_to_end by_bytes (Excluded to) key ≡ false
+none_to [] none [] = refl
+none_to [] none (b ∷ key) = refl
+none_to (b ∷ to) none key = absurd (let some = some_left (length to) in cc)

@@ -1,0 +1,33 @@
+-- Sets of keys.
+use Rattle.std.specs.Prelude.{ℕ, List, [], ◌∷◌, Bool, true, false, Option, Some, None, ◌==◌, is_some, if◌then◌else◌}
+use Rattle.std.specs.Ordering.{nat_cmp}
+use Rattle.std.specs.declared.cmp.Ordering.{Ordering}
+use Rattle.std.specs.Range.Bound.{is_from_start, is_up_to_end}
+use Rattle.std.specs.declared.ops.Bound.{Bound}
+use Rattle.std.specs.Cmp.Lexicographic.{slice_cmp}
+use Rattle.zerotrie_base.specs.Maps.{after_run}
+
+-- whether a key begins with the rest of a front, if one is left
+abbrev pub begins_left : Option (List ℕ) → List ℕ → Bool
+begins_left None key = false
+begins_left (Some left) key = is_some (after_run left key)
+
+-- whether a key has these bytes in this order, whatever stands before, between and after them
+abbrev pub has_within : List ℕ → List ℕ → Bool
+has_within [] key = true
+has_within (b ∷ sought) [] = false
+has_within (b ∷ sought) (c ∷ key) = if b == c then has_within sought key else has_within (b ∷ sought) key
+
+-- the order of bytes
+abbrev pub by_bytes : List ℕ → List ℕ → Option Ordering
+by_bytes k l = Some (slice_cmp nat_cmp k l)
+
+-- whether a key is within a lower bound, if one is left
+abbrev pub from_left : Option (Bound (List ℕ)) → List ℕ → Bool
+from_left None key = false
+from_left (Some from) key = is_from_start by_bytes from key
+
+-- whether a key is within an upper bound, if one is left
+abbrev pub to_left : Option (Bound (List ℕ)) → List ℕ → Bool
+to_left None key = false
+to_left (Some to) key = is_up_to_end by_bytes to key

@@ -1,0 +1,54 @@
+//! What reads a key byte by byte, and accepts it or not.
+
+ghost use Rattle.std.specs.Prelude.{◌≡◌, ℕ, List, [], ◌∷◌, ◌++◌, Bool, false};
+
+/// A set of keys that is decided byte by byte.
+///
+/// ```
+/// let automaton = StartsWith(b"in");
+/// let mut state = automaton.start();
+/// assert!(rt; !automaton.is_match(state));
+/// for byte in b"into" {
+///     state = automaton.step(state, *byte);
+///     assert!(rt; automaton.can_match(state));
+/// }
+/// assert!(rt; automaton.is_match(state));
+/// ```
+///
+/// A state stands for the bytes that may follow, and `accepts_from` says which do. So the first
+/// state accepts the keys themselves, and a step takes its byte off the front of what follows.
+pub trait Automaton {
+    type State: Copy + Drop;
+
+    // Says whether a key is accepted.
+    ghost accepts: { Self → List ℕ → Bool };
+
+    // Says whether a key is accepted that goes on with these bytes after the state.
+    ghost accepts_from: { Self → Self.State → List ℕ → Bool };
+
+    // Holds of the states that the automaton may be in after these bytes.
+    ghost IsAfter: { Self → List ℕ → Self.State → Type 0 };
+
+    /// Returns the state before the first byte.
+    fn start(&self) -> Self::State
+        ensures after { IsAfter self.now [] result }
+        ensures is { (key : List ℕ) → accepts_from self.now result key ≡ accepts self.now key };
+
+    /// Returns the state after one more byte.
+    fn step(&self, state: Self::State, byte: u8) -> Self::State
+        requires { (front : List ℕ) × IsAfter self.now front state }
+        ensures after { (front : List ℕ) → IsAfter self.now front state
+            → IsAfter self.now (front ++ byte ∷ []) result }
+        ensures is { (key : List ℕ)
+            → accepts_from self.now result key ≡ accepts_from self.now state (byte ∷ key) };
+
+    /// Returns whether the bytes before the state are an accepted key.
+    fn is_match(&self, state: Self::State) -> bool
+        requires { (front : List ℕ) × IsAfter self.now front state }
+        ensures { result ≡ accepts_from self.now state [] };
+
+    /// Returns `false` only if no accepted key begins with the bytes before the state.
+    fn can_match(&self, state: Self::State) -> bool
+        requires { (front : List ℕ) × IsAfter self.now front state }
+        ensures { result ≡ false → (key : List ℕ) → accepts_from self.now state key ≡ false };
+}

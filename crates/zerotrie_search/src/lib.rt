@@ -1,0 +1,14 @@
+//! Searches: the pairs of a trie whose keys an automaton accepts.
+#![tactic(auto)]
+
+mod automaton;
+mod combination;
+mod prefix;
+mod range;
+mod subsequence;
+
+pub use automaton::Automaton;
+pub use combination::{AnyCase, Both, Either, Not};
+pub use prefix::StartsWith;
+pub use range::KeyRange;
+pub use subsequence::Subsequence;

@@ -1,0 +1,51 @@
+//! Keys that have given bytes in their order, with any bytes between them.
+
+ghost use Rattle.zerotrie_search.specs.Sets.{has_within};
+
+use crate::automaton::Automaton;
+
+/// Accepts the keys that have these bytes in this order, whatever stands before, between and after
+/// them.
+///
+/// ```
+/// let automaton = Subsequence(b"ae");
+/// let mut state = automaton.start();
+/// for byte in b"trade" {
+///     state = automaton.step(state, *byte);
+/// }
+/// assert!(rt; automaton.is_match(state));
+/// ```
+///
+/// A state is what is left of the bytes. Any key may go on with them, so a search passes over no
+/// pair unread.
+#[derive(Clone, Copy, Debug)]
+pub struct Subsequence<'p>(pub &'p [u8]);
+
+impl<'p> Automaton for Subsequence<'p> {
+    type State = &'p [u8];
+
+    ghost accepts = { λ s key. has_within s.0.now key };
+
+    ghost accepts_from = { λ _ left key. has_within left.now key };
+
+    ghost IsAfter = { λ _ _ _. Unit {0} };
+
+    fn start(&self) -> &'p [u8] {
+        self.0
+    }
+
+    fn step(&self, state: &'p [u8], byte: u8) -> &'p [u8] {
+        match state.split_first() {
+            None => state,
+            Some((first, more)) => { if *first == byte { more } else { state } }
+        }
+    }
+
+    fn is_match(&self, state: &'p [u8]) -> bool {
+        state.is_empty()
+    }
+
+    fn can_match(&self, _state: &'p [u8]) -> bool {
+        true
+    }
+}
