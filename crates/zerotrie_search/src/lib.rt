@@ -3,12 +3,14 @@
 
 mod automaton;
 mod combination;
+mod levenshtein;
 mod prefix;
 mod range;
 mod subsequence;
 
 pub use automaton::Automaton;
 pub use combination::{AnyCase, Both, Either, Not};
+pub use levenshtein::Levenshtein;
 pub use prefix::StartsWith;
 pub use range::KeyRange;
 pub use subsequence::Subsequence;
