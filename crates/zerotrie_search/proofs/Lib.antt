@@ -1,2 +1,4 @@
 mod EndLemmas
 mod EditLemmas
+mod TrailLemmas
+mod SearchLemmas

@@ -1,3 +1,5 @@
 pub mod Sets
 pub mod Ranges
 pub mod Edits
+pub mod Trails
+pub mod Searches

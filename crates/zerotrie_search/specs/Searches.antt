@@ -1,0 +1,18 @@
+-- Listings of the pairs whose keys are accepted.
+use Rattle.std.specs.Prelude.{ℕ, List, Bool, filter}
+use Rattle.zerotrie_base.specs.Maps.{Pairs}
+use Rattle.zerotrie_core.specs.Listings.{Left, Standing}
+
+-- the pairs whose keys are accepted, in their order
+abbrev pub accepted : (List ℕ → Bool) → Pairs → Pairs
+accepted accepts pairs = filter (λ e. accepts e.0) pairs
+
+-- what is left of a listing, of these pairs alone
+abbrev pub accepted_left : (List ℕ → Bool) → Left → Left
+accepted_left accepts left = record { pairs = accepted accepts left.pairs; ended = left.ended }
+
+-- A search: the pair in hand and what is left, the automaton, and its state after the key in hand.
+pub record Searching (T S : Type 0) : Type 0 where
+  pub standing : Standing
+  pub automaton : T
+  pub state : S

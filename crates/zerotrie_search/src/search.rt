@@ -1,0 +1,155 @@
+//! The pairs of a listing whose keys an automaton accepts.
+
+ghost use Rattle.std.specs.Prelude.{◌≡◌, [], true, IfOk};
+ghost use Rattle.zerotrie_core.specs.Listings.{ListsOne, MemoryOnly, item_of};
+ghost use Rattle.zerotrie_search.specs.Searches.{accepted_left};
+ghost use Rattle.zerotrie_search.specs.Trails.{IsTrail};
+
+use crate::automaton::Automaton;
+use crate::trail::{Verdict, read};
+use std::alloc::{AllocError, Allocator, Global};
+use std::marker::Model;
+use zerotrie_core::ZeroTrieStream;
+
+/// Lists the pairs of a stream whose keys an automaton accepts, in the stream's order, each key
+/// borrowed from one buffer.
+///
+/// ```
+/// // the keys "ab", "ac" and "b" with values 1, 2 and 3
+/// let bytes = b"\xC2ab\x05\xC2bc\x01\x81\x82\x83";
+/// let pairs = ZeroTrieStream::new::<Simple>(rt.alloc(), bytes);
+/// let near = Levenshtein::new(b"a", 1).ok_or("a long word")?;
+/// let mut search = ZeroTrieSearch::new(rt.alloc(), pairs, Both(near, Not(StartsWith(b"ab"))));
+/// assert!(rt; search.advance()?);
+/// assert_eq!(rt; (search.key(), search.value()), (b"ac".as_slice(), 2));
+/// assert!(rt; search.advance()?);
+/// assert_eq!(rt; (search.key(), search.value()), (b"b".as_slice(), 3));
+/// assert!(rt; !search.advance()?);
+/// ```
+///
+/// Once no accepted key begins with the bytes so far, it skips the pairs that begin with them and
+/// reads nothing of them. It allocates for the longest key alone, and nothing for each pair: the
+/// stream's buffer, and one state a byte, which keys that begin alike share. If memory for a state
+/// is refused, it reads the next key from an earlier byte.
+#[derive(Drop)]
+pub struct ZeroTrieSearch<'a, T: Automaton, A: Allocator = Global> {
+    pairs: ZeroTrieStream<'a, A>,
+    automaton: T,
+    trail: Vec<(u8, T::State), A>,
+    state: T::State,
+}
+
+impl<'a, T: Automaton, A: Allocator> Model for ZeroTrieSearch<'a, T, A> {
+    ghost use Rattle.std.specs.Prelude.{[]};
+    ghost use Rattle.zerotrie_search.specs.Searches.{Searching, accepted_left};
+    ghost use Rattle.zerotrie_search.specs.Trails.{IsTrail};
+
+    ghost Value = { Searching T T.State };
+
+    ghost view = { λ s. record {
+      standing = record {
+        key = s.pairs.key;
+        value = s.pairs.value;
+        left = accepted_left (T.accepts s.automaton) s.pairs.left;
+      };
+      automaton = s.automaton;
+      state = s.state;
+    } };
+
+    ghost invariant = { λ s.
+        IsTrail (T.IsAfter s.automaton) (T.accepts_from s.automaton) (T.accepts s.automaton)
+        [] s.trail.items };
+}
+
+impl<'a, T: Automaton, A: Allocator> ZeroTrieSearch<'a, T, A> {
+    /// Moves to the next pair whose key is accepted, and returns whether there is one. An error
+    /// ends the search.
+    ///
+    /// The only error is a failed allocation for a longer key or a deeper branch.
+    pub fn advance(&mut self) -> Result<bool, AllocError>
+        ensures lists { ListsOne (λ key. key) MemoryOnly self.old.standing.left
+            (item_of result self.new.standing) self.new.standing.left }
+        ensures automaton { self.new.automaton ≡ self.old.automaton }
+        ensures state { IfOk result (λ found. found ≡ true
+            → T.IsAfter self.new.automaton self.new.standing.key self.new.state) }
+    {
+        next_accepted(
+            &self.automaton,
+            &mut self.pairs,
+            &mut self.trail,
+            &mut self.state,
+        )
+    }
+
+    /// Returns the key of the current pair, the one that the last call of `advance` moved to.
+    /// Before the first call and after the end, it is not a key of the trie.
+    #[inline]
+    pub fn key(&self) -> &[u8]
+        ensures { result.now ≡ self.now.standing.key }
+    {
+        self.pairs.key()
+    }
+
+    /// Returns the value of the current pair.
+    #[inline]
+    pub fn value(&self) -> usize
+        ensures { result ≡ self.now.standing.value }
+    {
+        self.pairs.value()
+    }
+
+    /// Returns the state of the automaton after the key of the current pair.
+    #[inline]
+    pub fn state(&self) -> T::State
+        ensures { result ≡ self.now.state }
+    {
+        self.state
+    }
+}
+
+impl<'a, T: Automaton, A: Allocator + Copy> ZeroTrieSearch<'a, T, A> {
+    /// Lists the pairs of a stream whose keys are accepted. It does not allocate before the first
+    /// call of `advance`.
+    pub fn new(alloc: A, pairs: ZeroTrieStream<'a, A>, automaton: T) -> Self
+        ensures left { result.standing.left ≡ accepted_left (T.accepts automaton) pairs.entry.left }
+        ensures automaton { result.automaton ≡ automaton }
+    {
+        let state = automaton.start();
+        ZeroTrieSearch {
+            pairs,
+            automaton,
+            trail: Vec::new(alloc),
+            state,
+        }
+    }
+}
+
+/// Moves a stream to the next pair whose key is accepted.
+fn next_accepted<'a, T: Automaton, A: Allocator>(
+    automaton: &T,
+    pairs: &mut ZeroTrieStream<'a, A>,
+    trail: &mut Vec<(u8, T::State), A>,
+    state: &mut T::State,
+) -> Result<bool, AllocError>
+    requires { IsTrail (T.IsAfter automaton.now) (T.accepts_from automaton.now)
+        (T.accepts automaton.now) [] trail.old.items }
+    ensures trail { IsTrail (T.IsAfter automaton.now) (T.accepts_from automaton.now)
+        (T.accepts automaton.now) [] trail.new.items }
+    ensures lists { ListsOne (λ key. key) MemoryOnly
+        (accepted_left (T.accepts automaton.now) pairs.old.left)
+        (item_of result pairs.new) (accepted_left (T.accepts automaton.now) pairs.new.left) }
+    ensures state { IfOk result (λ found. found ≡ true
+        → T.IsAfter automaton.now pairs.new.key state.new) }
+{
+    while pairs.advance()? {
+        match read(automaton, pairs.key(), trail) {
+            Verdict::Accepted(after) => {
+                *state = after;
+                return Ok(true);
+            }
+            Verdict::Refused => {}
+            Verdict::Dead(depth) => pairs.skip(depth),
+        }
+    }
+    Ok(false)
+}
