@@ -2,3 +2,4 @@ mod EndLemmas
 mod EditLemmas
 mod TrailLemmas
 mod SearchLemmas
+mod GlobLemmas

@@ -3,3 +3,5 @@ pub mod Ranges
 pub mod Edits
 pub mod Trails
 pub mod Searches
+pub mod Globs
+pub mod GlobItems

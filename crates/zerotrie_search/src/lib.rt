@@ -3,6 +3,7 @@
 
 mod automaton;
 mod combination;
+mod glob;
 mod levenshtein;
 mod prefix;
 mod range;
@@ -12,6 +13,7 @@ mod trail;
 
 pub use automaton::Automaton;
 pub use combination::{AnyCase, Both, Either, Not};
+pub use glob::{Glob, GlobError};
 pub use levenshtein::Levenshtein;
 pub use prefix::StartsWith;
 pub use range::KeyRange;
