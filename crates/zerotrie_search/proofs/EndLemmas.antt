@@ -1,11 +1,11 @@
--- What is accepted at the end of a key.
-use Rattle.std.proofs.Common.{◌≡◌, ℕ, List, [], ◌∷◌, length, refl, arith, false, suc}
-use Rattle.std.specs.Prelude.{◌==◌, is_some, not}
+-- What is accepted at the end of a key, and what is not.
+use Rattle.std.proofs.Common.{◌≡◌, ◌∙◌, ℕ, Bool, List, [], ◌∷◌, length, refl, ap, arith, false, suc}
+use Rattle.std.specs.Prelude.{◌==◌, ◌||◌, is_some, not}
 use Rattle.std.specs.Range.Bound.{is_from_start, is_up_to_end}
 use Rattle.std.specs.declared.ops.Bound.TheVariants.{Included, Excluded}
 use Rattle.std.proofs.lemmas.Bool.{ne_eqb}
 use Rattle.zerotrie_base.specs.Maps.{after_run}
-use Rattle.zerotrie_search.specs.Sets.{has_within, by_bytes}
+use Rattle.zerotrie_search.specs.Sets.{has_within, by_bytes, some_front}
 
 some_left : (n : ℕ) → (suc n == 0) ≡ false
 some_left n = ne_eqb (suc n) 0 (λ e. omega (arith, e))
@@ -30,3 +30,8 @@ pub none_to : (to : List ℕ) → not (length to == 0) ≡ false → (key : List
 none_to [] none [] = refl
 none_to [] none (b ∷ key) = refl
 none_to (b ∷ to) none key = absurd (let some = some_left (length to) in cc)
+
+-- no front is accepted if nothing is
+pub no_front : (accepts : List ℕ → Bool) → ((key : List ℕ) → accepts key ≡ false) → (key : List ℕ) → some_front accepts key ≡ false
+no_front accepts none [] = none []
+no_front accepts none (b ∷ key) = ap (λ x. x || some_front (λ rest. accepts (b ∷ rest)) key) (none []) ∙ no_front (λ rest. accepts (b ∷ rest)) (λ rest. none (b ∷ rest)) key

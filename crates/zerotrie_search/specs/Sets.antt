@@ -1,5 +1,5 @@
 -- Sets of keys.
-use Rattle.std.specs.Prelude.{ℕ, List, [], ◌∷◌, Bool, true, false, Option, Some, None, ◌==◌, is_some, if◌then◌else◌}
+use Rattle.std.specs.Prelude.{ℕ, List, [], ◌∷◌, Bool, true, false, Option, Some, None, ◌==◌, ◌||◌, is_some, if◌then◌else◌}
 use Rattle.std.specs.Ordering.{nat_cmp}
 use Rattle.std.specs.declared.cmp.Ordering.{Ordering}
 use Rattle.std.specs.Range.Bound.{is_from_start, is_up_to_end}
@@ -31,3 +31,13 @@ from_left (Some from) key = is_from_start by_bytes from key
 abbrev pub to_left : Option (Bound (List ℕ)) → List ℕ → Bool
 to_left None key = false
 to_left (Some to) key = is_up_to_end by_bytes to key
+
+-- whether some front of a key is accepted
+abbrev pub some_front : (List ℕ → Bool) → List ℕ → Bool
+some_front accepts [] = accepts []
+some_front accepts (b ∷ key) = accepts [] || some_front (λ rest. accepts (b ∷ rest)) key
+
+-- the same from a state, or from where a front was accepted
+abbrev pub some_front_from : {S : Type 0} → (S → List ℕ → Bool) → Option S → List ℕ → Bool
+some_front_from accepts_from None key = true
+some_front_from accepts_from (Some state) key = some_front (accepts_from state) key

@@ -2,6 +2,7 @@
 #![tactic(auto)]
 
 mod automaton;
+mod beginning;
 mod combination;
 mod glob;
 mod levenshtein;
@@ -12,6 +13,7 @@ mod subsequence;
 mod trail;
 
 pub use automaton::Automaton;
+pub use beginning::BeginsWith;
 pub use combination::{AnyCase, Both, Either, Not};
 pub use glob::{Glob, GlobError};
 pub use levenshtein::Levenshtein;

@@ -16,7 +16,7 @@ use zerotrie_core::ZeroTrieStream;
 ///
 /// ```
 /// // the keys "ab", "ac" and "b" with values 1, 2 and 3
-/// let bytes = b"\xC2ab\x05\xC2bc\x01\x81\x82\x83";
+/// let bytes = b"\xC2ab\x06\xC2bc\x01\x81\x82\x83";
 /// let pairs = ZeroTrieStream::new::<Simple>(rt.alloc(), bytes);
 /// let near = Levenshtein::new(b"a", 1).ok_or("a long word")?;
 /// let mut search = ZeroTrieSearch::new(rt.alloc(), pairs, Both(near, Not(StartsWith(b"ab"))));
