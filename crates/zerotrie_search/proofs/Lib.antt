@@ -3,3 +3,5 @@ mod EditLemmas
 mod TrailLemmas
 mod SearchLemmas
 mod GlobLemmas
+mod WordLemmas
+mod CharLemmas

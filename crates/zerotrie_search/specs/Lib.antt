@@ -5,3 +5,5 @@ pub mod Trails
 pub mod Searches
 pub mod Globs
 pub mod GlobItems
+pub mod Words
+pub mod Pending

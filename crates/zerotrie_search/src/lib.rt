@@ -16,7 +16,7 @@ pub use automaton::Automaton;
 pub use beginning::BeginsWith;
 pub use combination::{AnyCase, Both, Either, Not};
 pub use glob::{Glob, GlobError};
-pub use levenshtein::Levenshtein;
+pub use levenshtein::{CharsState, Levenshtein, LevenshteinChars};
 pub use prefix::StartsWith;
 pub use range::KeyRange;
 pub use search::ZeroTrieSearch;
