@@ -1,5 +1,8 @@
 //! The rows of commands as clap takes them.
 
+ghost use Rattle.std.specs.Prelude.{IfOk, codes};
+ghost use Rattle.zerotrie_cli.specs.Words.{IsKind, IsPlace, IsSource, word_of};
+
 use crate::table::{COMMANDS, STATUSES};
 use clap::{Arg, ArgAction, ArgMatches, Command};
 use std::alloc::{AllocError, Global};
@@ -144,7 +147,9 @@ pub fn task_of(name: &str) -> Option<Task> {
 
 /// Returns the named kind. `None` if none is named, or the build chooses. It is an error, with the
 /// message, if the word is no kind.
-pub fn kind_in(matches: &ArgMatches<'_>) -> Result<Option<TrieKind>, &'static str> {
+pub fn kind_in(matches: &ArgMatches<'_>) -> Result<Option<TrieKind>, &'static str>
+    ensures { IfOk result (IsKind (word_of matches.now (codes "kind"))) }
+{
     match matches.get_str("kind") {
         None | Some("auto") => Ok(None),
         Some(name) => match TrieKind::named(name) {
@@ -155,13 +160,17 @@ pub fn kind_in(matches: &ArgMatches<'_>) -> Result<Option<TrieKind>, &'static st
 }
 
 /// Returns the place that an argument names.
-pub fn place_in<'a>(matches: &ArgMatches<'a>, name: &str) -> Place<'a> {
+pub fn place_in<'a>(matches: &ArgMatches<'a>, name: &str) -> Place<'a>
+    ensures { IsPlace (word_of matches.now name.now) result }
+{
     Place::named(matches.get_str(name).unwrap_or("-"))
 }
 
 /// Returns the place to read that an argument names. A path of standard input is that stream, so
 /// that it is not read twice.
-pub fn source_in<'a>(matches: &ArgMatches<'a>, name: &str) -> Place<'a> {
+pub fn source_in<'a>(matches: &ArgMatches<'a>, name: &str) -> Place<'a>
+    ensures { IsSource (word_of matches.now name.now) result }
+{
     match matches.get_str(name) {
         Some("/dev/stdin" | "/dev/fd/0") => Place::Stream,
         _ => place_in(matches, name),

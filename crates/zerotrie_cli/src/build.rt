@@ -1,5 +1,8 @@
 //! The build that the command line asks for.
 
+ghost use Rattle.std.specs.Prelude.{◌≡◌, Some, IfOk, codes};
+ghost use Rattle.zerotrie_cli.specs.Words.{IsFlag, IsKind, IsPlan, IsSource, IsTarget, flag_of, format_word, word_of};
+
 use crate::arguments::{kind_in, place_in, source_in};
 use clap::ArgMatches;
 use zerotrie_lines::Format;
@@ -7,7 +10,10 @@ use zerotrie_making::{Plan, Source};
 use zerotrie_run::{Build, Place};
 
 /// How the input is pairs.
-fn format_in(matches: &ArgMatches<'_>) -> Result<Source, &'static str> {
+fn format_in(matches: &ArgMatches<'_>) -> Result<Source, &'static str>
+    ensures { IfOk result (λ source.
+        word_of matches.now (codes "format") ≡ Some (format_word source)) }
+{
     match matches.get_str("format") {
         Some("tsv") => Ok(Source::Text(Format::Tsv)),
         Some("csv") => Ok(Source::Text(Format::Csv)),
@@ -18,7 +24,9 @@ fn format_in(matches: &ArgMatches<'_>) -> Result<Source, &'static str> {
 }
 
 /// How the file is to be made.
-fn plan_in(matches: &ArgMatches<'_>) -> Result<Plan, &'static str> {
+fn plan_in(matches: &ArgMatches<'_>) -> Result<Plan, &'static str>
+    ensures { IfOk result (IsPlan matches.now) }
+{
     Ok(Plan {
         source: format_in(matches)?,
         kind: kind_in(matches)?,
@@ -29,7 +37,9 @@ fn plan_in(matches: &ArgMatches<'_>) -> Result<Plan, &'static str> {
 }
 
 /// Where the file goes. A path of standard output is that stream: what it leads to is not replaced.
-fn target_in<'a>(matches: &ArgMatches<'a>) -> Place<'a> {
+fn target_in<'a>(matches: &ArgMatches<'a>) -> Place<'a>
+    ensures { IsTarget (word_of matches.now (codes "output")) result }
+{
     match matches.get_str("output") {
         Some("/dev/stdout" | "/dev/fd/1") => Place::Stream,
         _ => place_in(matches, "output"),
@@ -41,7 +51,11 @@ fn target_in<'a>(matches: &ArgMatches<'a>) -> Place<'a> {
 pub fn build_in<'a>(
     matches: &ArgMatches<'a>,
     to_terminal: bool,
-) -> Result<Build<'a>, &'static str> {
+) -> Result<Build<'a>, &'static str>
+    ensures from { IfOk result (λ build. IsSource (word_of matches.now (codes "IN")) build.from) }
+    ensures to { IfOk result (λ build. IsTarget (word_of matches.now (codes "output")) build.to) }
+    ensures plan { IfOk result (λ build. IsPlan matches.now build.plan) }
+{
     Ok(Build {
         from: source_in(matches, "IN"),
         to: target_in(matches),

@@ -7,14 +7,14 @@ use clap::ArgMatches;
 use clap::error::ErrorKind;
 use std::io::{BufWriter, IsTerminal};
 use std::{env, fs, io};
-use zerotrie_files::SystemStore;
+use zerotrie_files::{Noted, Store, SystemDisk};
 use zerotrie_run::{Build, Command, Place, Status, run};
 
-/// Reports that a fault stopped the program before the command ran. If the message can't be
-/// written, the status alone reports it.
-fn tell_fault(rt: &HostRuntime, error: &io::Error) -> Status {
-    let _ = eprintln!(rt; "zerotrie: {error}");
-    Status::Fault
+/// Reports that memory was refused before the command ran. If the message can't be written, the
+/// status alone reports it.
+fn tell_no_memory(rt: &HostRuntime) -> Status {
+    let _ = eprintln!(rt; "zerotrie: out of memory");
+    Status::OutOfMemory
 }
 
 /// Tells why a command is not run.
@@ -25,25 +25,23 @@ fn refuse(rt: &HostRuntime, why: &str) -> Status {
 
 /// Runs a command over the files and streams of the system.
 fn run_here(rt: &HostRuntime, command: Command<'_>) -> Status {
-    let mut output = match BufWriter::new(rt.alloc(), rt.stdout()) {
-        Ok(output) => output,
-        Err(error) => return tell_fault(rt, &error),
+    let Ok(mut output) = BufWriter::new(rt.alloc(), Noted::new(rt.stdout())) else {
+        return tell_no_memory(rt);
     };
     run(
         rt.alloc(),
         command,
-        &mut SystemStore::new(rt),
-        &mut rt.stdin(),
+        &mut Store::new(SystemDisk::new(rt)),
+        &mut Noted::new(rt.stdin()),
         &mut output,
-        &mut rt.stderr(),
+        &mut Noted::new(rt.stderr()),
     )
 }
 
 /// Answers a command that asks a trie.
 fn run_question(rt: &HostRuntime, matches: &ArgMatches<'_>, topic: Topic) -> Status {
-    let words = match words_in(rt.alloc(), matches, topic) {
-        Ok(words) => words,
-        Err(error) => return tell_fault(rt, &io::Error::from(error)),
+    let Ok(words) = words_in(rt.alloc(), matches, topic) else {
+        return tell_no_memory(rt);
     };
     match ask_in(matches, topic, &words) {
         Ok(command) => run_here(rt, command),
@@ -61,14 +59,14 @@ fn arguments(rt: &HostRuntime) -> io::Result<Vec<String>> {
 fn show(rt: &HostRuntime, said: &clap::Error) -> Status {
     let shown = said.print(rt);
     match said.kind() {
-        ErrorKind::OutOfMemory => Status::Fault,
+        ErrorKind::OutOfMemory => Status::OutOfMemory,
         ErrorKind::DisplayHelp | ErrorKind::DisplayVersion => match shown {
             Ok(()) => Status::Done,
             // who reads the output has enough
-            Err(error) if error.kind() == io::ErrorKind::BrokenPipe => Status::Fault,
+            Err(error) if error.kind() == io::ErrorKind::BrokenPipe => Status::Unwritten,
             Err(error) => {
                 let _ = eprintln!(rt; "zerotrie: standard output: {error}");
-                Status::Fault
+                Status::Unwritten
             }
         },
         _ => Status::BadUsage,
@@ -107,9 +105,8 @@ fn run_named(rt: &HostRuntime, matches: &ArgMatches<'_>, name: &str) -> Status {
 
 /// Does what the words ask.
 fn obey(rt: &HostRuntime, words: &[String]) -> Status {
-    let known = match command(rt.alloc()) {
-        Ok(known) => known,
-        Err(error) => return tell_fault(rt, &io::Error::from(error)),
+    let Ok(known) = command(rt.alloc()) else {
+        return tell_no_memory(rt);
     };
     match known.try_get_matches_from(words) {
         Ok(matches) => match matches.subcommand() {
@@ -132,7 +129,7 @@ pub fn run_words(rt: &HostRuntime) -> Status {
                 Status::BadUsage
             } else {
                 let _ = eprintln!(rt; "zerotrie: the arguments can't be read: {error}");
-                Status::Fault
+                Status::Unread
             }
         }
     }

@@ -4,7 +4,6 @@
 mod arguments;
 mod build;
 mod commands;
-mod keywords;
 mod question;
 mod table;
 

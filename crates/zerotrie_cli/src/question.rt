@@ -1,15 +1,42 @@
 //! The questions to a trie that the command line asks.
 
+ghost use Rattle.std.specs.Prelude.{◌≡◌, ◌≢◌, true, Some, None, IfOk, codes};
+ghost use Rattle.zerotrie_cli.specs.Words.{IsKind, IsSource, flag_of, form_word, language_word, word_of};
+ghost use Rattle.zerotrie_cli.specs.declared.arguments.Topic.TheVariants.{Check};
+
 use crate::arguments::{Topic, kind_in, source_in};
-use crate::keywords::is_taken;
 use crate::table::MOST;
 use clap::ArgMatches;
 use std::alloc::{AllocError, Global};
 use zerotrie_queries::{Form, Language, Style, View, is_name};
 use zerotrie_run::{Command, Keys, Question, TrieFile};
 
+/// The words of Rust that name nothing. Rattle has them too.
+const KEYWORDS: &[&str] = &[
+    "_", "abstract", "as", "async", "await", "become", "box", "break", "const", "continue",
+    "crate", "do", "dyn", "else", "enum", "extern", "false", "final", "fn", "for", "gen", "if",
+    "impl", "in", "let", "loop", "macro", "match", "mod", "move", "mut", "override", "priv", "pub",
+    "ref", "return", "self", "Self", "static", "struct", "super", "trait", "true", "try", "type",
+    "typeof", "unsafe", "unsized", "use", "virtual", "where", "while", "yield",
+];
+
+/// Returns whether the name is a keyword of the language. In C, also whether it begins with
+/// `zerotrie`: the names made from it could then be those of `zerotrie.h`.
+fn is_taken(language: Language, name: &str) -> bool {
+    match language {
+        Language::Rust | Language::Rattle => KEYWORDS.iter().any(|word| *word == name),
+        Language::C => name.starts_with("zerotrie"),
+    }
+}
+
 /// The file of the trie that is asked. A check takes no bytes on trust.
-fn file_in<'a>(matches: &ArgMatches<'a>, topic: Topic) -> Result<TrieFile<'a>, &'static str> {
+fn file_in<'a>(matches: &ArgMatches<'a>, topic: Topic) -> Result<TrieFile<'a>, &'static str>
+    ensures place { IfOk result (λ file. IsSource (word_of matches.now (codes "FILE")) file.place) }
+    ensures kind { IfOk result (λ file. IsKind (word_of matches.now (codes "kind")) file.kind) }
+    ensures trust { IfOk result (λ file. file.trust ≡ true
+        → (topic ≢ Check) × (flag_of matches.now (codes "trust") ≢ Some (codes "false"))
+        × (flag_of matches.now (codes "trust") ≢ None)) }
+{
     Ok(TrieFile {
         place: source_in(matches, "FILE"),
         kind: kind_in(matches)?,
@@ -50,7 +77,9 @@ fn keys_of<'w, 'a: 'w>(words: &'w Option<Vec<&'a [u8]>>) -> Keys<'w> {
 }
 
 /// How pairs are to be printed.
-fn form_in(matches: &ArgMatches<'_>) -> Result<Form, &'static str> {
+fn form_in(matches: &ArgMatches<'_>) -> Result<Form, &'static str>
+    ensures { IfOk result (λ form. word_of matches.now (codes "format") ≡ Some (form_word form)) }
+{
     match matches.get_str("format") {
         Some("tsv") => Ok(Form::Lines(Style::Tsv)),
         Some("keys") => Ok(Form::Lines(Style::Keys)),
@@ -61,7 +90,10 @@ fn form_in(matches: &ArgMatches<'_>) -> Result<Form, &'static str> {
 }
 
 /// The language that is named.
-fn language_in(matches: &ArgMatches<'_>) -> Result<Language, &'static str> {
+fn language_in(matches: &ArgMatches<'_>) -> Result<Language, &'static str>
+    ensures { IfOk result (λ language.
+        word_of matches.now (codes "lang") ≡ Some (language_word language)) }
+{
     match matches.get_str("lang") {
         Some("rust") => Ok(Language::Rust),
         Some("c") => Ok(Language::C),

@@ -1,5 +1,7 @@
 -- A disk from moment to moment, and what the calls that replace a file do to it.
 use Rattle.std.specs.Prelude.{◌≡◌, ◌≢◌, ◌⊎◌, ℕ, Bool, List, ◌++◌, All, Option, Some, None, Result, MatchBool, MatchResult, OnOk}
+use Rattle.std.specs.declared.io.Error.{Error}
+use Rattle.zerotrie_files.specs.Faults.{IsOutOfMemory}
 
 -- what the file of each path holds, if there is one; each path is a file of its own, so links are left out
 abbrev pub Files : Type 0
@@ -84,3 +86,11 @@ Replaces path beside bytes result old new = Passes (IsWhole path beside bytes ol
     × MatchResult result
     (λ free. MatchBool free ((old.now beside ≡ None) × Holds path bytes old.now new.now) (IsTaken beside old new))
     (λ _. (new.now path ≡ old.now path) × Spares beside old new)
+
+-- why a file is not read: there is none, or it is out of memory
+abbrev pub IsUnread : List ℕ → Story → Error → Type 0
+IsUnread path known e = (known.now path ≡ None) ⊎ IsOutOfMemory e
+
+-- there is no stream: it fails, and no file changes
+abbrev pub HasNoStream : {T E : Type 0} → Result T E → Story → Story → Type 0
+HasNoStream result old new = OnOk result ⊥ × Stays old new

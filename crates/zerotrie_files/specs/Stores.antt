@@ -1,5 +1,6 @@
 -- What files hold before and after one of them is replaced.
-use Rattle.std.specs.Prelude.{◌≡◌, ◌≢◌, ◌⊎◌, ◌<◌, ℕ, List, ◌++◌, Some, None, Result, MatchResult, codes, decimal}
+use Rattle.std.specs.Prelude.{◌≡◌, ◌≢◌, ◌⊎◌, ◌<◌, ℕ, List, ◌++◌, Some, None, Result, MatchResult, Bool, ◌||◌, eqb, codes, decimal}
+use Rattle.std.specs.List.{starts_with}
 use Rattle.zerotrie_files.specs.Disks.{Files, Story, Passes, Holds}
 
 -- the path with a number and `.tmp` after it: `PATH.N.tmp`
@@ -28,3 +29,15 @@ pub record IsWholeAlone (path bytes : List ℕ) (old new : Files) : Type 0 where
 -- a file is replaced by way of new ones beside it: it is whole at each moment, and in the end it is rewritten
 abbrev pub ReplacesBeside : {T E : Type 0} → List ℕ → List ℕ → Result T E → Story → Story → Type 0
 ReplacesBeside path bytes result old new = Passes (IsWholeAlone path bytes old.now) old new × Rewrites path bytes result old.now new.now
+
+-- it was replaced: in the end it holds the bytes
+abbrev pub WasReplaced : List ℕ → List ℕ → Story → Story → Type 0
+WasReplaced path bytes old new = Passes (IsWholeAlone path bytes old.now) old new × Holds path bytes old.now new.now
+
+-- it could not be: in the end it holds what it held
+abbrev pub WasKept : List ℕ → List ℕ → Story → Story → Type 0
+WasKept path bytes old new = Passes (IsWholeAlone path bytes old.now) old new × Kept path old.now new.now
+
+-- whether a path is that of an open file of a process
+abbrev pub names_open_file : List ℕ → Bool
+names_open_file path = starts_with eqb path (codes "/dev/fd/") || starts_with eqb path (codes "/dev/std") || starts_with eqb path (codes "/proc/")

@@ -1,18 +1,75 @@
-//! The calls of a file system that replace a file.
+//! The calls of a file system that read a file and replace one.
 
-ghost use Rattle.std.specs.Prelude.{List, ℕ, Option};
-ghost use Rattle.zerotrie_files.specs.Disks.{Story, Known, WritesNew, Renames, Removes};
+ghost use Rattle.std.specs.Prelude.{◌≡◌, ◌%◌, ◌<◌, List, ℕ, Option, IfOk, IfErr, IfSome};
+ghost use Rattle.std.specs.String.{string_bytes};
+ghost use Rattle.zerotrie_files.specs.Disks.{Story, Known, IsUnread, WritesNew, Renames, Removes, HasNoStream};
 
 use std::io;
 
-/// Where files are written, renamed and removed.
+/// Who may read, write and run a file: the bits of its mode that stay if it is replaced. There is
+/// no set-id bit.
+#[derive(Clone, Copy, Debug)]
+pub struct Mode {
+    bits: u32,
+    pub ghost kept: { bits < 512 },
+}
+
+impl Mode {
+    /// What stays of the mode of a file.
+    pub fn kept(mode: u32) -> Self
+        ensures { result.bits ≡ mode % 512 }
+    {
+        Mode {
+            bits: mode % 0o1000,
+        }
+    }
+
+    /// The bits.
+    pub fn bits(self) -> u32
+        ensures { result ≡ self.bits }
+    {
+        self.bits
+    }
+}
+
+/// What a path leads to.
+#[derive(Clone, Copy, Debug)]
+pub enum Found {
+    /// Nothing, and it is no link either.
+    Nothing,
+    /// A file.
+    File(Mode),
+    Folder,
+    /// A device or a pipe.
+    Stream,
+}
+
+/// Where files are read, written, renamed and removed.
 pub trait Disk {
     /// What the files hold, and held at each moment before. `None` says nothing of them.
     ghost story: { Self → Option Story };
 
+    /// Reads the file of a path.
+    fn read(&self, path: &str) -> io::Result<Vec<u8>>
+        ensures held { IfOk result (λ bytes.
+            IfSome (story self.now) (λ known. known.now path.now ≡ Some bytes.items)) }
+        ensures missing { IfErr result (λ e.
+            IfSome (story self.now) (λ known. IsUnread path.now known e)) };
+
+    /// Returns what a path leads to, by whatever links. A link to nothing is an error.
+    fn find(&self, path: &str) -> io::Result<Found>;
+
+    /// Tests that the file of a path can be written.
+    fn test_writable(&self, path: &str) -> io::Result<()>;
+
+    /// Returns the path of a file without links. A disk that tells what its files hold has none.
+    fn real_path(&self, path: &str) -> io::Result<String>
+        ensures { IfOk result (λ real.
+            IfSome (story self.now) (λ _. string_bytes real ≡ path.now)) };
+
     /// Writes a new file, if the path is free, and syncs it before it returns. Returns `false` if
     /// the path has a file, which stays. After an error it removes what it wrote, if it can.
-    fn write_new(&mut self, path: &str, bytes: &[u8]) -> io::Result<bool>
+    fn write_new(&mut self, path: &str, mode: Option<Mode>, bytes: &[u8]) -> io::Result<bool>
         ensures { Known (story self.old) (story self.new) (WritesNew path.now bytes.now result) };
 
     /// Moves a file to another path, and replaces the file there, atomically.
@@ -22,4 +79,9 @@ pub trait Disk {
     /// Removes a file.
     fn remove(&mut self, path: &str) -> io::Result<()>
         ensures { Known (story self.old) (story self.new) (Removes path.now result) };
+
+    /// Writes the bytes to a device or a pipe, or to the end of an open file. A disk that tells
+    /// what its files hold has none of these.
+    fn append(&mut self, path: &str, bytes: &[u8]) -> io::Result<()>
+        ensures { Known (story self.old) (story self.new) (HasNoStream result) };
 }

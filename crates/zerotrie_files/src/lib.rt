@@ -1,12 +1,18 @@
-//! Atomic replacement of files: a fault leaves the old file.
+//! Files that are read and replaced as a whole, and streams, with a note of what failed.
+//!
+//! A fault of a replacement leaves the old file.
 #![tactic(auto)]
 
 mod disk;
+mod noted;
 mod output;
 mod replacing;
 mod store;
 mod system;
 
-pub use disk::Disk;
+pub use disk::{Disk, Found, Mode};
+pub use noted::Noted;
+pub use output::write_output;
 pub use replacing::{replace, replace_beside};
-pub use store::{Store, SystemStore};
+pub use store::Store;
+pub use system::SystemDisk;

@@ -5,7 +5,7 @@ ghost use Rattle.std.specs.String.{string_bytes};
 ghost use Rattle.zerotrie_files.specs.Disks.{Known, Replaces};
 ghost use Rattle.zerotrie_files.specs.Stores.{numbered_path, ReplacesBeside};
 
-use crate::disk::Disk;
+use crate::disk::{Disk, Mode};
 use std::alloc::{AllocError, Global};
 use std::io;
 use std::io::ErrorKind;
@@ -14,17 +14,24 @@ use std::io::ErrorKind;
 const MOST_TRIES: usize = 100;
 
 /// Replaces the file of a path by these bytes, or makes it: writes them to a new file at `beside`
-/// and renames it. Returns `false` if `beside` has a file already, and then no file changes.
+/// with this mode and renames it. Returns `false` if `beside` has a file already, and then no file
+/// changes.
 ///
 /// At each moment the file holds its old bytes or all of the new ones. After an error it is
 /// unchanged, and the new file is removed, if that can be done.
 #[tactic(auto, using(crate::proofs::DiskLemmas::then_whole, crate::proofs::DiskLemmas::then_left))]
-pub fn replace<D: Disk>(disk: &mut D, path: &str, beside: &str, bytes: &[u8]) -> io::Result<bool>
+pub fn replace<D: Disk>(
+    disk: &mut D,
+    path: &str,
+    beside: &str,
+    mode: Option<Mode>,
+    bytes: &[u8],
+) -> io::Result<bool>
     requires { beside.now ≢ path.now }
     ensures { Known (D.story disk.old) (D.story disk.new)
         (Replaces path.now beside.now bytes.now result) }
 {
-    if !disk.write_new(beside, bytes)? {
+    if !disk.write_new(beside, mode, bytes)? {
         return Ok(false);
     }
     match disk.rename(beside, path) {
@@ -47,7 +54,7 @@ fn path_beside(alloc: Global, path: &str, number: usize) -> Result<String, Alloc
 }
 
 /// Replaces the file of a path by these bytes, or makes it: writes them to a new file at
-/// `PATH.N.tmp`, where N is a number below 100, and renames it.
+/// `PATH.N.tmp`, where N is a number below 100, with this mode and renames it.
 ///
 /// At each moment the file holds its old bytes or all of the new ones, and no other file that was
 /// there changes. After an error it is unchanged, and the new file is removed, if that can be done.
@@ -56,6 +63,7 @@ pub fn replace_beside<D: Disk>(
     alloc: Global,
     disk: &mut D,
     path: &str,
+    mode: Option<Mode>,
     bytes: &[u8],
 ) -> io::Result<()>
     ensures { Known (D.story disk.old) (D.story disk.new)
@@ -63,7 +71,7 @@ pub fn replace_beside<D: Disk>(
 {
     for number in 0..MOST_TRIES {
         let beside = path_beside(alloc, path, number)?;
-        if replace(disk, path, beside.as_str(), bytes)? {
+        if replace(disk, path, beside.as_str(), mode, bytes)? {
             return Ok(());
         }
     }

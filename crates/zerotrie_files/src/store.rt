@@ -1,60 +1,102 @@
 //! Reads and replacements of whole files.
 
-ghost use Rattle.std.specs.Prelude.{◌≡◌, Option, Some, None, IfOk, IfSome};
-ghost use Rattle.zerotrie_files.specs.Disks.{Files, Known};
-ghost use Rattle.zerotrie_files.specs.Stores.{Rewrites};
+ghost use Rattle.std.specs.Prelude.{◌≡◌, ◌↔◌, ◌⊎◌, Some, IfOk, IfErr, IfSome, IsTrue, false};
+ghost use Rattle.zerotrie_files.specs.Disks.{Known, IsUnread};
+ghost use Rattle.zerotrie_files.specs.Stores.{ReplacesBeside};
+ghost use Rattle.zerotrie_files.specs.Faults.{IsFault};
 
+use crate::disk::Disk;
 use crate::output::write_output;
-use std::fs::{File, OpenFile};
+use std::alloc::Global;
 use std::io;
-use std::io::Read;
+use std::io::ErrorKind;
+use std::marker::Model;
 
-/// Where files are read and replaced.
-pub trait Store {
-    /// What the files hold. `None` says nothing of them.
-    ghost files: { Self → Option Files };
+/// Returns whether a call failed, for another reason than memory.
+fn is_fault<T>(outcome: &io::Result<T>) -> bool
+    ensures { IsTrue result ↔ IsFault outcome.now }
+{
+    match outcome {
+        Ok(_) => false,
+        Err(error) => error.kind() != ErrorKind::OutOfMemory,
+    }
+}
+
+/// The files of a disk, read and replaced, with a note of what failed.
+#[derive(Drop)]
+pub struct Store<D> {
+    disk: D,
+    unread: bool,
+    unwritten: bool,
+}
+
+impl<D> Model for Store<D> {
+    ghost use Rattle.zerotrie_files.specs.Faults.{Files};
+
+    ghost Value = { Files D };
+
+    ghost view = { λ s. record { disk = s.disk; unread = s.unread; unwritten = s.unwritten } };
+}
+
+impl<D: Disk> Store<D> {
+    /// The files of a disk. Nothing failed so far.
+    pub fn new(disk: D) -> Self
+        ensures disk { result.disk ≡ disk }
+        ensures unread { result.unread ≡ false }
+        ensures unwritten { result.unwritten ≡ false }
+    {
+        Store {
+            disk,
+            unread: false,
+            unwritten: false,
+        }
+    }
+
+    /// The disk.
+    pub fn disk(&self) -> &D
+        ensures { result.now ≡ self.now.disk }
+    {
+        &self.disk
+    }
+
+    /// Whether a read failed, for another reason than memory.
+    pub fn unread(&self) -> bool
+        ensures { result ≡ self.now.unread }
+    {
+        self.unread
+    }
+
+    /// Whether a replacement failed, for another reason than memory.
+    pub fn unwritten(&self) -> bool
+        ensures { result ≡ self.now.unwritten }
+    {
+        self.unwritten
+    }
 
     /// Reads the file of a path.
-    fn read(&self, path: &str) -> io::Result<Vec<u8>>
-        ensures { IfOk result (λ bytes.
-            IfSome (files self.now) (λ held. held path.now ≡ Some bytes.items)) };
-
-    /// Replaces the file of a path by the bytes, or makes it. After an error it is unchanged, and
-    /// there may be new files at the paths `PATH.N.tmp`, where N is a number below 100.
-    ///
-    /// A device or a pipe is no such file: it is written in place, and so is a file that is open at
-    /// `/dev/fd/N`. After an error these may have a beginning of the bytes.
-    fn replace(&mut self, path: &str, bytes: &[u8]) -> io::Result<()>
-        ensures { Known (files self.old) (files self.new)
-            (Rewrites path.now bytes.now result) };
-}
-
-/// The files of the system. No clause says what they hold.
-#[derive(Drop)]
-pub struct SystemStore<'a, R> {
-    system: &'a R,
-}
-
-impl<'a, R> SystemStore<'a, R> {
-    /// The files of the system.
-    pub fn new(system: &'a R) -> Self {
-        SystemStore { system }
-    }
-}
-
-impl<'a, R: std::rt::Files + AllocGlobal> Store for SystemStore<'a, R> {
-    ghost files = { λ _. None };
-
-    fn read(&self, path: &str) -> io::Result<Vec<u8>> {
-        let mut bytes = Vec::new(self.system.alloc());
-        let mut file = File::open(self.system, path)?;
-        let size = file.metadata()?.len();
-        bytes.reserve(usize::try_from(size).unwrap_or(0).saturating_add(1))?;
-        file.read_to_end(&mut bytes)?;
-        Ok(bytes)
+    pub fn read(&mut self, path: &str) -> io::Result<Vec<u8>>
+        ensures held { IfOk result (λ bytes.
+            IfSome (D.story self.old.disk) (λ known. known.now path.now ≡ Some bytes.items)) }
+        ensures missing { IfErr result (λ e.
+            IfSome (D.story self.old.disk) (λ known. IsUnread path.now known e)) }
+        ensures same { self.new.disk ≡ self.old.disk }
+        ensures unread { IsTrue self.new.unread ↔ IsTrue self.old.unread ⊎ IsFault result }
+        ensures unwritten { self.new.unwritten ≡ self.old.unwritten }
+    {
+        let outcome = self.disk.read(path);
+        self.unread |= is_fault(&outcome);
+        outcome
     }
 
-    fn replace(&mut self, path: &str, bytes: &[u8]) -> io::Result<()> {
-        write_output(self.system, path, bytes)
+    /// Replaces the file of a path by the bytes, or makes it, as `write_output` does.
+    pub fn replace(&mut self, alloc: Global, path: &str, bytes: &[u8]) -> io::Result<()>
+        ensures replaced { Known (D.story self.old.disk) (D.story self.new.disk)
+            (ReplacesBeside path.now bytes.now result) }
+        ensures unread { self.new.unread ≡ self.old.unread }
+        ensures unwritten { IsTrue self.new.unwritten ↔ IsTrue self.old.unwritten ⊎ IsFault result }
+    {
+        let outcome = write_output(alloc, &mut self.disk, path, bytes);
+        self.unwritten |= is_fault(&outcome);
+        outcome
     }
 }

@@ -23,9 +23,10 @@ pub enum BadLine {
     Fields,
 }
 
-impl fmt::Display for BadLine {
-    fn fmt<W: fmt::Write>(&self, f: &mut fmt::Formatter<W>) -> fmt::Result {
-        f.write_str(match self {
+impl BadLine {
+    /// What a message says of it.
+    pub fn text(self) -> &'static str {
+        match self {
             BadLine::Empty => "an empty line",
             BadLine::NoTab => "no tab between a key and its value",
             BadLine::Escape =>
@@ -35,7 +36,13 @@ impl fmt::Display for BadLine {
                 "a carriage return after the value; a line ends in a line feed alone"
             }
             BadLine::Fields => "not two fields, a key and its value",
-        })
+        }
+    }
+}
+
+impl fmt::Display for BadLine {
+    fn fmt<W: fmt::Write>(&self, f: &mut fmt::Formatter<W>) -> fmt::Result {
+        f.write_str(self.text())
     }
 }
 

@@ -17,8 +17,8 @@ use Rattle.zerotrie_making.specs.Plans.{file_of}
 use Rattle.zerotrie_making.specs.Sources.{IsPairs}
 use Rattle.zerotrie_making.specs.Made.{IsFileOf}
 use Rattle.zerotrie_making.specs.Laws.{ListedIsMadeAgain}
-use Rattle.zerotrie_making.specs.declared.plan.Plan.{Plan}
-use Rattle.zerotrie_making.specs.declared.plan.Source.TheVariants.{Text}
+use Rattle.zerotrie_making.specs.declared.making.Plan.{Plan}
+use Rattle.zerotrie_making.specs.declared.making.Source.TheVariants.{Text}
 
 abbrev Small : List ℕ × ℕ → Type 0
 Small e = e.1 < 2 ^ 64

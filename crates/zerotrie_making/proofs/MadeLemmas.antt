@@ -7,9 +7,9 @@ use Rattle.zerotrie_lines.specs.declared.reading.Format.{Format}
 use Rattle.zerotrie_making.specs.Sources.{IsPairs, NoPairs}
 use Rattle.zerotrie_making.specs.Made.{OfInput, Explains, ExplainsOf}
 use Rattle.zerotrie_core.specs.declared.ZeroTrieBuildError.{ZeroTrieBuildError}
-use Rattle.zerotrie_making.specs.declared.plan.Plan.{Plan}
-use Rattle.zerotrie_making.specs.declared.plan.Source.{Source}
-use Rattle.zerotrie_making.specs.declared.plan.Source.TheVariants.{Text, Json}
+use Rattle.zerotrie_making.specs.declared.making.Plan.{Plan}
+use Rattle.zerotrie_making.specs.declared.making.Source.{Source}
+use Rattle.zerotrie_making.specs.declared.making.Source.TheVariants.{Text, Json}
 use Rattle.zerotrie_making.specs.declared.refused.Shown.{Shown}
 use Rattle.zerotrie_making.specs.declared.refused.MakeError.{MakeError}
 use Rattle.zerotrie_making.specs.declared.refused.MakeError.TheVariants.{Line, NotJson, NotPairs, NotPair, Keys, Refused, OutOfMemory}

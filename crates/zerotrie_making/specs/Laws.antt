@@ -10,8 +10,8 @@ use Rattle.zerotrie_queries.specs.declared.print.Style.TheVariants as style
 use Rattle.zerotrie_core.specs.declared.TrieKind.{TrieKind}
 use Rattle.zerotrie_making.specs.Plans.{file_of}
 use Rattle.zerotrie_making.specs.Made.{IsFile}
-use Rattle.zerotrie_making.specs.declared.plan.Plan.{Plan}
-use Rattle.zerotrie_making.specs.declared.plan.Source.TheVariants.{Text}
+use Rattle.zerotrie_making.specs.declared.making.Plan.{Plan}
+use Rattle.zerotrie_making.specs.declared.making.Source.TheVariants.{Text}
 
 -- a file of this kind that is made of the lines in which all pairs of a trie are listed has bytes that mean the map of that trie
 abbrev pub ListedIsMadeAgain : Type 0

@@ -10,7 +10,7 @@ use Rattle.zerotrie_lines.specs.declared.fault.ReadError.{ReadError}
 use Rattle.zerotrie_lines.specs.declared.fault.ReadError.TheVariants as fault
 use Rattle.zerotrie_making.specs.Sources.{IsPairs, NoPairs}
 use Rattle.zerotrie_making.specs.Plans.{route_of, kind_for, file_of}
-use Rattle.zerotrie_making.specs.declared.plan.Plan.{Plan}
+use Rattle.zerotrie_making.specs.declared.making.Plan.{Plan}
 use Rattle.zerotrie_making.specs.declared.refused.NumberedKey.{NumberedKey}
 use Rattle.zerotrie_making.specs.declared.refused.Shown.{Shown}
 use Rattle.zerotrie_making.specs.declared.refused.MakeError.{MakeError}

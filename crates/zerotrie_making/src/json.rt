@@ -6,7 +6,7 @@ ghost use Rattle.zerotrie_any.specs.Json.{number_in, byte_in, key_in, pair_in, p
 ghost use Rattle.zerotrie_any.specs.JsonCalls.{IsReading};
 ghost use Rattle.zerotrie_making.specs.Sources.{IsPairs, NoPairs};
 ghost use Rattle.zerotrie_making.specs.Unread.{first_unread, first_member, IsFirst};
-ghost use Rattle.zerotrie_making.specs.declared.plan.Source.TheVariants.{Json};
+ghost use Rattle.zerotrie_making.specs.declared.making.Source.TheVariants.{Json};
 
 use crate::refused::{MakeError, NoPair};
 use serde_json::{Map, Value};

@@ -2,13 +2,10 @@
 #![tactic(auto)]
 
 mod json;
-pub mod laws;
 mod making;
-mod plan;
 mod reading;
 mod refused;
 mod tries;
 
-pub use making::make;
-pub use plan::{Plan, Source};
+pub use making::{Plan, Source, listed_is_made_again, make};
 pub use refused::{MakeError, NoPair, NumberedKey, Shown};

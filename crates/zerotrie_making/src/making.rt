@@ -5,14 +5,43 @@ ghost use Rattle.zerotrie_core.specs.Kinds.{kind_of};
 ghost use Rattle.zerotrie_core.specs.Items.{pairs_of};
 ghost use Rattle.zerotrie_core.specs.Routes.{IsRefusal};
 ghost use Rattle.zerotrie_making.specs.Plans.{route_of, file_of};
+ghost use Rattle.zerotrie_making.specs.Laws.{ListedIsMadeAgain};
 ghost use Rattle.zerotrie_making.specs.Made.{IsFile, IsFileOf, IsRefusedAs, Explains, ExplainsOf};
 
-use crate::plan::Plan;
 use crate::reading::{items_in, read_input};
 use crate::refused::{MakeError, show};
 use crate::tries::{bytes_of, kind_for, why_refused};
 use std::alloc::{AllocError, Global};
 use zerotrie_core::{TrieKind, ZeroTrieBuildError};
+use zerotrie_lines::Format;
+use zerotrie_lines::laws::{lines_read_back, one_reading};
+
+/// How an input is pairs.
+#[derive(Clone, Copy, PartialEq, Eq, Debug)]
+pub enum Source {
+    /// Lines or records, one a pair.
+    Text(Format),
+    /// A JSON value: an object from keys to numbers, or a list of pairs. A pair is a list of two, a
+    /// key and a number, and a key is a text or a list of bytes. The pairs of an object are in the
+    /// order of their keys; if it has a name twice, the last number counts.
+    Json,
+}
+
+/// How a trie file is made.
+#[derive(Clone, Copy, PartialEq, Eq, Debug)]
+pub struct Plan {
+    /// How the input is pairs.
+    pub source: Source,
+    /// The kind of the trie. If `None`, it is `Simple` if all keys are ASCII and there are fewer
+    /// than `TrieKind::SIMPLE_LIMIT`, and else `Hash`.
+    pub kind: Option<TrieKind>,
+    /// Whether the keys must ascend strictly by their bytes. Else they may have any order.
+    pub sorted: bool,
+    /// Whether the ASCII letters of the keys become lower case first.
+    pub lower_case: bool,
+    /// Whether the file is the bytes of the trie alone. Else it begins with the number of the kind.
+    pub bare: bool,
+}
 
 /// Returns the file of a trie with these bytes. Unless it is bare, it begins with the number of the
 /// kind.
@@ -89,4 +118,13 @@ pub fn make(alloc: Global, plan: Plan, input: Vec<u8>) -> Result<Vec<u8>, MakeEr
     drop(input);
     let items = table.items(alloc)?;
     make_of(alloc, plan, items.as_slice())
+}
+
+/// A law: the lines in which a trie is listed, made into a file of the same kind, mean the same
+/// map. It is an empty function: a call of it brings its clause into the caller's proof.
+pub fn listed_is_made_again()
+    ensures { ListedIsMadeAgain }
+{
+    lines_read_back();
+    one_reading();
 }

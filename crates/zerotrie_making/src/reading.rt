@@ -5,7 +5,7 @@ ghost use Rattle.zerotrie_lines.specs.Tables.{Pairs, pairs_of, lowered};
 ghost use Rattle.zerotrie_making.specs.Sources.{IsPairs, NoPairs};
 
 use crate::json::read_json;
-use crate::plan::Source;
+use crate::making::Source;
 use crate::refused::MakeError;
 use std::alloc::{AllocError, Global};
 use zerotrie_lines::{Table, read_items, read_pairs};

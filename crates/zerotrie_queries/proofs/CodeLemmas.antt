@@ -6,8 +6,8 @@ use Rattle.std.proofs.lemmas.List.Elements.{All-head, All-tail}
 use Rattle.zerotrie_lines.specs.Escapes.{hex_digit}
 use Rattle.zerotrie_core.specs.declared.TrieKind.{TrieKind}
 use Rattle.zerotrie_core.specs.declared.TrieKind.TheVariants.{Simple, Ignore, Hash, Ext}
-use Rattle.zerotrie_queries.specs.declared.code.language.Language.{Language}
-use Rattle.zerotrie_queries.specs.declared.code.language.Language.TheVariants as lang
+use Rattle.zerotrie_queries.specs.declared.code.Language.{Language}
+use Rattle.zerotrie_queries.specs.declared.code.Language.TheVariants as lang
 use Rattle.zerotrie_queries.specs.code.Names.{is_letter, is_in_word, are_in_word, is_name}
 use Rattle.zerotrie_queries.specs.code.Texts.{rust_kind, c_kind, rattle_type, c_get, front, end}
 use Rattle.zerotrie_queries.specs.code.Items.{before_item, item_number, items, is_hex, digit_value, seen_after, numbers_after}

@@ -1,10 +1,31 @@
 //! Reports of a trie: its nodes by their sort, and its branches by their size.
 
+ghost use Rattle.std.specs.Prelude.{◌≡◌, OnOk, OnErr};
+ghost use Rattle.std.specs.Io.KnownBytes.{Appends};
+ghost use Rattle.zerotrie_queries.specs.Parts.{AppendsPart};
+ghost use Rattle.zerotrie_queries.specs.reports.Reports.{report_of};
+ghost use Rattle.zerotrie_queries.specs.reports.Lines.{report_lines};
+
 mod branches;
 mod counting;
-mod file;
 mod lines;
 
 pub use branches::Branches;
 pub use counting::Report;
-pub use file::write_trie_report;
+
+use crate::reports::lines::write_report;
+use crate::trie::Trie;
+use std::alloc::Global;
+use std::io;
+use std::io::Write;
+
+/// Writes the report of a trie. If it fails, a beginning of it was written.
+pub fn write_trie_report<W: Write>(alloc: Global, trie: &Trie<'_>, output: &mut W) -> io::Result<()>
+    ensures all { OnOk result (Appends (W.contents output.old) (W.contents output.new)
+        (report_lines (report_of trie.now.kind trie.now.bytes.now))) }
+    ensures part { OnErr result (AppendsPart (W.contents output.old) (W.contents output.new)
+        (report_lines (report_of trie.now.kind trie.now.bytes.now))) }
+{
+    let report = Report::of(alloc, trie)?;
+    write_report(alloc, &report, output)
+}

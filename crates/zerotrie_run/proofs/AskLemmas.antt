@@ -15,7 +15,12 @@ use Rattle.zerotrie_queries.specs.declared.lookups.Asked.{Asked}
 use Rattle.zerotrie_queries.specs.declared.lookups.Asked.TheVariants as asked
 use Rattle.zerotrie_queries.proofs.PartLemmas.{part_all}
 use Rattle.zerotrie_queries.proofs.AnswerLemmas.{begun_all}
-use Rattle.zerotrie_run.specs.Runs.{Answers, AnswersInPart, AreKeys, KeysAnswered, KeysAnsweredInPart, are_lines, of_lines}
+use Rattle.zerotrie_files.specs.Disks.{Story}
+use Rattle.zerotrie_queries.specs.declared.file.OpenError.TheVariants.{BadTag, NotWellFormed, OutOfMemory}
+use Rattle.zerotrie_run.specs.Runs.{Answers, AnswersInPart, AreKeys, KeysAnswered, KeysAnsweredInPart, IsRead, IsUnanswered, EndsAsk, ask_refusal, are_lines, of_lines}
+use Rattle.zerotrie_run.specs.declared.asking.AskError.{AskError}
+use Rattle.zerotrie_run.specs.declared.asking.AskError.TheVariants.{TwoInputs, Unread, NoTrie, Unanswered}
+use Rattle.zerotrie_run.specs.declared.command.TrieFile.{TrieFile}
 use Rattle.zerotrie_run.specs.declared.command.Place.{Place}
 use Rattle.zerotrie_run.specs.declared.command.Place.TheVariants.{Stream}
 use Rattle.zerotrie_run.specs.declared.command.Keys.{Keys}
@@ -90,3 +95,21 @@ same_part place remaining old new q kind bytes a b apart (inr is) h = subst (λ 
 -- what is false is not so
 pub is_not : (b : Bool) → b ≡ false → IsTrue b → ⊥
 is_not b is so = absurd (cc)
+
+-- what was read has no answer, and so the question ends
+pub ends_unanswered : (file : TrieFile) (q : Question) (i j : Option (List ℕ)) (files : Option Story) (held : List ℕ) (old new : Option (List ℕ)) (e : AskError) → IsRead file.place i files held
+    → ((kind : TrieKind) (bytes : List ℕ) → AnswersInPart q j kind bytes old new → AnswersInPart q i kind bytes old new) → IsUnanswered file q j held old new e
+    → EndsAsk file q i files old new (ask_refusal e)
+ends_unanswered file q i j files held old new TwoInputs read same h = absurd h
+ends_unanswered file q i j files held old new (Unread e) read same h = absurd h
+ends_unanswered file q i j files held old new (NoTrie (BadTag why)) read same h = ((held, read, BadTag why, h.0), h.1)
+ends_unanswered file q i j files held old new (NoTrie (NotWellFormed k f)) read same h = ((held, read, NotWellFormed k f, h.0), h.1)
+ends_unanswered file q i j files held old new (NoTrie OutOfMemory) read same h = inl h.1
+ends_unanswered file q i j files held old new (Unanswered e) read same h = inr (record {
+  held = held;
+  read = read;
+  kind = h.0;
+  bytes = h.1;
+  opens = h.2;
+  begun = same h.0 h.1 h.3;
+})

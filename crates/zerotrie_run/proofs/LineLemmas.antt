@@ -1,14 +1,16 @@
 -- An input whose lines are answered part by part.
-use Rattle.std.proofs.Common.{◌≡◌, ℕ, List, [], ◌++◌, Option, None, Some, Bool, true, false, refl, sym, ◌∙◌, ap, subst, append_assoc, append-nil}
+use Rattle.std.proofs.Common.{◌≡◌, ◌⊎◌, ℕ, zero, suc, ◌+◌, ◌<◌, ◌≤◌, List, [], ◌++◌, length, drop, get_or, Option, None, Some, Bool, true, false, refl, sym, ◌∙◌, ap, subst, inl, inr, arith, append_assoc, append-nil}
+use Rattle.std.proofs.lemmas.List.{length-drop, get_or-drop, get_or_append_left}
 use Rattle.std.specs.Prelude.{◌&&◌}
-use Rattle.std.specs.Io.KnownBytes.{Consumes, IsAtEnd}
+use Rattle.std.specs.Io.KnownBytes.{Consumes, IsAtEnd, Keeps}
 use Rattle.std.proofs.KnownBytes.{Consumes-nil, Consumes-trans, Consumes-whole}
 use Rattle.zerotrie_lines.specs.Lines.{lines_of}
-use Rattle.zerotrie_lines.specs.Blocks.{AreWhole, Gives}
+use Rattle.zerotrie_lines.specs.Blocks.{AreWhole, Gives, HasFeed}
 use Rattle.zerotrie_core.specs.declared.TrieKind.{TrieKind}
 use Rattle.zerotrie_queries.specs.declared.lookups.Asked.{Asked}
 use Rattle.zerotrie_queries.specs.Answers.{AreAnswered, AreAnsweredInPart}
 use Rattle.zerotrie_queries.proofs.AnswerLemmas.{none_answered, more_answered, begun_all, begun_front, more_begun}
+use Rattle.zerotrie_run.specs.Streams.{WholeAnswered}
 use Rattle.zerotrie_run.specs.Runs.{KeysAnswered, KeysAnsweredInPart, AreKeys}
 use Rattle.zerotrie_run.specs.declared.command.Keys.TheVariants.{Lines}
 
@@ -117,3 +119,42 @@ lines_fails of kind bytes input left held part rest old mid new all ended t n h 
     let k = next_lines ended input left t.done held part rest t.whole t.consumes n in
     let first = lines_of t.done ++ lines_of part in
     (first ++ k.0, k.1, begun_front of kind bytes first k.0 old new (more_begun of kind bytes (lines_of t.done) (lines_of part) old mid new all t.answered h))
+
+below_or_not : (a b : ℕ) → (a < b) ⊎ (b ≤ a)
+below_or_not zero zero = inr (omega arith)
+below_or_not zero (suc b) = inl (omega arith)
+below_or_not (suc a) zero = inr (omega arith)
+below_or_not (suc a) (suc b) = elim (below_or_not a b) [ inl l ↦ inl (omega (arith, l)) | inr l ↦ inr (omega (arith, l)) ]
+
+-- What is left of the bytes that are held has no line feed, if what was held before has none, and nor has what was read after what is
+-- answered.
+pub no_feed_left : (held bytes more : List ℕ) (len : ℕ) → more ≡ held ++ bytes → ((k : ℕ) → HasFeed held k → ⊥) → ((k : ℕ) → length held ≤ k → len ≤ k → HasFeed more k → ⊥) → (k : ℕ)
+    → HasFeed (drop len more) k → ⊥
+no_feed_left held bytes more len adds none last k f =
+    let at : get_or more (len + k) 0 ≡ 10 = sym (get_or-drop len more k 0) ∙ f.1 in
+    let within : len + k < length more = omega (arith, f.0, length-drop len more) in
+    elim (below_or_not (len + k) (length held)) [
+      | inl l ↦ none (len + k) (l, sym (get_or_append_left held bytes 0 (len + k) l) ∙ ap (λ m. get_or m (len + k) 0) (sym adds) ∙ at)
+      | inr l ↦ last (len + k) l (omega arith) (within, at)
+    ]
+
+-- the input keeps what it has
+consumes_kept : (input left after : Option (List ℕ)) (bytes : List ℕ) → Consumes input left bytes → Keeps left after → Consumes input after bytes
+consumes_kept None left after bytes c k = tt
+consumes_kept (Some known) None after bytes c k = absurd c
+consumes_kept (Some known) (Some l) None bytes c k = absurd k
+consumes_kept (Some known) (Some l) (Some a) bytes c k = rw k c
+
+-- no more can be read, and all whole lines so far were answered
+pub lines_break : {IsHanded : Type 0} (of : Asked) (kind : TrieKind) (bytes : List ℕ) (input left after : Option (List ℕ)) (held : List ℕ) (old new : Option (List ℕ)) (all : Bool)
+    → LinesAnswered of kind bytes input left held old new all → Keeps left after → ((k : ℕ) → HasFeed held k → ⊥) → IsHanded → WholeAnswered of kind bytes input after old new IsHanded
+lines_break of kind bytes input left after held old new all t keeps none handed = record {
+  whole = t.done;
+  part = held;
+  read = consumes_kept input left after (t.done ++ held) t.consumes keeps;
+  lines = t.whole;
+  no_more = none;
+  all = all;
+  answered = t.answered;
+  handed = handed;
+}

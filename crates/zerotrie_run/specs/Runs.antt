@@ -4,14 +4,13 @@ use Rattle.std.specs.Io.KnownBytes.{Appends}
 use Rattle.std.specs.Io.Buffered.{writer_buffer}
 use Rattle.std.specs.declared.io.buffered.BufWriter.{BufWriter}
 use Rattle.zerotrie_core.specs.WellFormed.{IsWellFormed}
-use Rattle.zerotrie_core.specs.Faults.{IsFirstFault}
-use Rattle.zerotrie_core.specs.declared.faults.Fault.{Fault as ByteFault}
 use Rattle.zerotrie_lines.specs.Lines.{lines_of}
 use Rattle.zerotrie_any.specs.Tagged.{tagged}
 use Rattle.zerotrie_core.specs.Kinds.{kind_of}
 use Rattle.zerotrie_queries.specs.Files.{Holds, HasNoKind, Explains}
 use Rattle.zerotrie_core.specs.declared.TrieKind.{TrieKind}
 use Rattle.zerotrie_queries.specs.declared.file.OpenError.{OpenError}
+use Rattle.zerotrie_queries.specs.declared.file.OpenError.TheVariants as unopened
 use Rattle.zerotrie_queries.specs.Parts.{AppendsPart}
 use Rattle.zerotrie_queries.specs.Answers.{AreAnswered, AreAnsweredInPart, AreListed, AreListedInPart}
 use Rattle.zerotrie_queries.specs.declared.lookups.Asked.{Asked}
@@ -20,15 +19,14 @@ use Rattle.zerotrie_queries.specs.code.Code.{code}
 use Rattle.zerotrie_queries.specs.views.Views.{shown}
 use Rattle.zerotrie_queries.specs.reports.Reports.{report_of}
 use Rattle.zerotrie_queries.specs.reports.Lines.{report_lines}
-use Rattle.zerotrie_files.specs.Disks as disks
-use Rattle.zerotrie_files.specs.Disks.{Files, Known}
-use Rattle.zerotrie_files.specs.Stores.{Kept}
+use Rattle.zerotrie_files.specs.Disks.{Story, Known}
+use Rattle.zerotrie_files.specs.Stores.{WasReplaced, WasKept}
 use Rattle.zerotrie_making.specs.Made.{IsFile}
 use Rattle.zerotrie_making.specs.Made as made
 use Rattle.zerotrie_making.specs.declared.refused.MakeError.{MakeError}
-use Rattle.zerotrie_run.specs.Statuses.{made_status}
+use Rattle.zerotrie_run.specs.Statuses.{made_refusal}
 use Rattle.zerotrie_run.specs.declared.status.Status.{Status}
-use Rattle.zerotrie_run.specs.declared.status.Status.TheVariants.{Done, Absent, Refused, BadUsage, BadInput, Fault}
+use Rattle.zerotrie_run.specs.declared.status.Status.TheVariants.{Done, Absent, Refused, BadUsage, BadInput, Unread, Unwritten, OutOfMemory}
 use Rattle.zerotrie_run.specs.declared.command.Place.{Place}
 use Rattle.zerotrie_run.specs.declared.command.Place.TheVariants.{File, Stream}
 use Rattle.zerotrie_run.specs.declared.command.Keys.{Keys}
@@ -44,13 +42,14 @@ use Rattle.zerotrie_run.specs.declared.building.BuildError.TheVariants as build
 use Rattle.zerotrie_run.specs.declared.command.Command.{Command}
 use Rattle.zerotrie_run.specs.declared.command.Command.TheVariants as commands
 
--- What files hold, and what was printed: what a stream has, and then what its buffer still holds. Each as far as it is known.
+-- What files hold and held at each moment, and what was printed: what a stream has, and then what its buffer still holds. Each as
+-- far as it is known.
 pub record World : Type 0 where
-  pub files : Option Files
+  pub files : Option Story
   pub printed : Option (List ℕ)
 
 -- the same of files and of what was printed
-abbrev pub world : Option Files → Option (List ℕ) → World
+abbrev pub world : Option Story → Option (List ℕ) → World
 world files printed = record { files = files; printed = printed }
 
 -- a buffer that was empty is empty: what was written to it was handed on
@@ -72,14 +71,14 @@ IsNameOf (File path) stream name = name ≡ path.now
 IsNameOf Stream stream name = name ≡ stream
 
 -- the bytes of a place: what its file holds, or all of standard input
-abbrev pub IsRead : Place → Option (List ℕ) → Option Files → List ℕ → Type 0
-IsRead (File path) input files bytes = IfSome files (λ held. held path.now ≡ Some bytes)
+abbrev pub IsRead : Place → Option (List ℕ) → Option Story → List ℕ → Type 0
+IsRead (File path) input files bytes = IfSome files (λ known. known.now path.now ≡ Some bytes)
 IsRead Stream input files bytes = IfSome input (λ known. bytes ≡ known)
 
--- the bytes were put in a place: its file holds them and no other file has changed, or they were printed
+-- the bytes were put in a place: its file was replaced by them, and no other file has changed, or they were printed
 abbrev pub IsWritten : Place → List ℕ → World → World → Type 0
 IsWritten (File path) bytes before after = (after.printed ≡ before.printed)
-    × Known before.files after.files (disks.Holds path.now bytes)
+    × Known before.files after.files (WasReplaced path.now bytes)
 IsWritten Stream bytes before after = Appends before.printed after.printed bytes × (after.files ≡ before.files)
 
 -- the keys of a question: words, or the lines of standard input
@@ -107,7 +106,9 @@ Opens file all kind bytes = Holds file.kind all kind bytes × (file.trust ≡ fa
 
 -- why what a file holds is not opened: its kind is not known, or it is tested, and its bytes are no trie
 abbrev pub IsUnopened : TrieFile → List ℕ → OpenError → Type 0
-IsUnopened file all why = Explains file.kind all why × (file.trust ≡ true → HasNoKind file.kind all why)
+IsUnopened file all (unopened.BadTag why) = HasNoKind file.kind all why
+IsUnopened file all (unopened.NotWellFormed kind fault) = (file.trust ≡ false) × Explains file.kind all (unopened.NotWellFormed kind fault)
+IsUnopened file all unopened.OutOfMemory = (file.trust ≡ false) × Explains file.kind all unopened.OutOfMemory
 
 -- what was printed, and whether all was found, belong to the keys and to the map that the bytes mean, if they mean one
 abbrev pub KeysAnswered : Asked → Keys → (input : Option (List ℕ)) → TrieKind → List ℕ → (old new : Option (List ℕ)) → Bool → Type 0
@@ -136,7 +137,7 @@ AnswersInPart Report input kind bytes old new = AppendsPart old new (report_line
 AnswersInPart (View view) input kind bytes old new = AppendsPart old new (shown view kind bytes)
 
 -- The trie of a file was asked: what was read, its bytes and their kind, and the answer.
-pub record IsAsked (file : TrieFile) (question : Question) (input : Option (List ℕ)) (files : Option Files) (old new : Option (List ℕ)) (all : Bool) : Type 0 where
+pub record IsAsked (file : TrieFile) (question : Question) (input : Option (List ℕ)) (files : Option Story) (old new : Option (List ℕ)) (all : Bool) : Type 0 where
   pub held : List ℕ
   pub read : IsRead file.place input files held
   pub kind : TrieKind
@@ -144,19 +145,8 @@ pub record IsAsked (file : TrieFile) (question : Question) (input : Option (List
   pub opens : Opens file held kind bytes
   pub answers : Answers question input kind bytes old new all
 
--- the fault is the first in the bytes that a file has
-abbrev pub IsFaultIn : Option TrieKind → List ℕ → ByteFault → Type 0
-IsFaultIn named held fault = (kind : TrieKind) × (bytes : List ℕ) × Holds named held kind bytes × IsFirstFault (kind_of kind) bytes fault
-
--- why there is no answer names the first fault in the bytes that a file has, if it names one
-abbrev pub NamesFault : TrieFile → (input : Option (List ℕ)) → Option Files → AskError → Type 0
-NamesFault file input files ask.TwoInputs = Unit {0}
-NamesFault file input files (ask.Unread e) = Unit {0}
-NamesFault file input files (ask.NoTrie why fault) = IfSome fault (λ f. (held : List ℕ) × IsRead file.place input files held × IsFaultIn file.kind held f)
-NamesFault file input files (ask.Unanswered e) = Unit {0}
-
 -- The trie of a file was asked, and a beginning of the answer was printed.
-pub record IsAskedInPart (file : TrieFile) (question : Question) (input : Option (List ℕ)) (files : Option Files) (old new : Option (List ℕ)) : Type 0 where
+pub record IsAskedInPart (file : TrieFile) (question : Question) (input : Option (List ℕ)) (files : Option Story) (old new : Option (List ℕ)) : Type 0 where
   pub held : List ℕ
   pub read : IsRead file.place input files held
   pub kind : TrieKind
@@ -165,39 +155,50 @@ pub record IsAskedInPart (file : TrieFile) (question : Question) (input : Option
   pub begun : AnswersInPart question input kind bytes old new
 
 -- the file has no trie
-abbrev pub HasNoTrie : TrieFile → Option (List ℕ) → Option Files → Type 0
+abbrev pub HasNoTrie : TrieFile → Option (List ℕ) → Option Story → Type 0
 HasNoTrie file input files = (held : List ℕ) × IsRead file.place input files held × (why : OpenError) × IsUnopened file held why
 
 -- what a file holds has no answer: it has no trie, and nothing was printed; or it has one, and a beginning of the answer was printed
 abbrev pub IsUnanswered : TrieFile → Question → (input : Option (List ℕ)) → List ℕ → (old new : Option (List ℕ)) → AskError → Type 0
 IsUnanswered file question input held old new ask.TwoInputs = ⊥
 IsUnanswered file question input held old new (ask.Unread e) = ⊥
-IsUnanswered file question input held old new (ask.NoTrie why fault) = IsUnopened file held why × (new ≡ old) × IfSome fault (IsFaultIn file.kind held)
+IsUnanswered file question input held old new (ask.NoTrie why) = IsUnopened file held why × (new ≡ old)
 IsUnanswered file question input held old new (ask.Unanswered e) = (kind : TrieKind) × (bytes : List ℕ) × Opens file held kind bytes × AnswersInPart question input kind bytes old new
 
+-- a question to the trie of a file failed: nothing was printed, or the file has a trie and a beginning of the answer was
+abbrev pub FailsAsk : TrieFile → Question → Option (List ℕ) → Option Story → (old new : Option (List ℕ)) → Type 0
+FailsAsk file question input files old new = (new ≡ old) ⊎ IsAskedInPart file question input files old new
+
 -- How a question to the trie of a file ends. The answer was printed, and all was found or not; the file and the keys are
--- both standard input; the file has no trie; or it is out of memory, a file can't be read or output can't be written, and then
--- nothing was printed, or the file has a trie and a beginning of the answer was.
-abbrev pub RunsAsk : TrieFile → Question → Option (List ℕ) → Option Files → (old new : Option (List ℕ)) → Status → Type 0
+-- both standard input; the file has no trie; or something failed.
+abbrev pub RunsAsk : TrieFile → Question → Option (List ℕ) → Option Story → (old new : Option (List ℕ)) → Status → Type 0
 RunsAsk file question input files old new Done = IsAsked file question input files old new true
 RunsAsk file question input files old new Absent = IsAsked file question input files old new false
 RunsAsk file question input files old new Refused = ⊥
 RunsAsk file question input files old new BadUsage = (file.place ≡ Stream) × (of_lines question ≡ true) × (new ≡ old)
 RunsAsk file question input files old new BadInput = HasNoTrie file input files × (new ≡ old)
-RunsAsk file question input files old new Fault = (new ≡ old) ⊎ IsAskedInPart file question input files old new
+RunsAsk file question input files old new Unread = FailsAsk file question input files old new
+RunsAsk file question input files old new Unwritten = FailsAsk file question input files old new
+RunsAsk file question input files old new OutOfMemory = FailsAsk file question input files old new
 
--- why a question has no answer, as the end of a run
-abbrev pub ask_status : AskError → Status
-ask_status ask.TwoInputs = BadUsage
-ask_status (ask.Unread e) = Fault
-ask_status (ask.NoTrie why fault) = BadInput
-ask_status (ask.Unanswered e) = Fault
+-- the same, if only that something failed is known
+abbrev pub EndsAsk : TrieFile → Question → Option (List ℕ) → Option Story → (old new : Option (List ℕ)) → Option Status → Type 0
+EndsAsk file question input files old new None = FailsAsk file question input files old new
+EndsAsk file question input files old new (Some status) = RunsAsk file question input files old new status
 
--- whether all was found, or why there is no answer, as the end of a run
-abbrev pub asked_status : Result Bool AskError → Status
-asked_status (Ok true) = Done
-asked_status (Ok false) = Absent
-asked_status (Err e) = ask_status e
+-- how a run ends if a question is refused; none if something failed
+abbrev pub ask_refusal : AskError → Option Status
+ask_refusal ask.TwoInputs = Some BadUsage
+ask_refusal (ask.Unread e) = None
+ask_refusal (ask.NoTrie (unopened.BadTag why)) = Some BadInput
+ask_refusal (ask.NoTrie (unopened.NotWellFormed kind fault)) = Some BadInput
+ask_refusal (ask.NoTrie unopened.OutOfMemory) = None
+ask_refusal (ask.Unanswered e) = None
+
+-- the same of a question that may have been answered
+abbrev pub asked_refusal : Result Bool AskError → Option Status
+asked_refusal (Ok all) = None
+asked_refusal (Err e) = ask_refusal e
 
 -- The file of a trie was made: what was read, and the file that was written.
 pub record IsMade (build : Build) (input : Option (List ℕ)) (before after : World) : Type 0 where
@@ -210,11 +211,11 @@ pub record IsMade (build : Build) (input : Option (List ℕ)) (before after : Wo
 -- the input makes no file, for a reason with this status, and nothing was touched
 abbrev pub IsRefused : Build → Option (List ℕ) → World → World → Status → Type 0
 IsRefused build input before after status = (all : List ℕ) × IsRead build.from input before.files all
-    × (e : MakeError) × made.Explains build.plan all e × (made_status e ≡ status) × Untouched before after
+    × (e : MakeError) × made.Explains build.plan all e × (made_refusal e ≡ Some status) × Untouched before after
 
 -- after a fault the file of a place holds what it held, or a beginning of the bytes was printed
 abbrev pub IsKept : Place → List ℕ → World → World → Type 0
-IsKept (File path) bytes before after = (after.printed ≡ before.printed) × Known before.files after.files (Kept path.now)
+IsKept (File path) bytes before after = (after.printed ≡ before.printed) × Known before.files after.files (WasKept path.now bytes)
 IsKept Stream bytes before after = AppendsPart before.printed after.printed bytes × (after.files ≡ before.files)
 
 -- The file of a trie was made, and could not be written, or not to the end.
@@ -225,21 +226,32 @@ pub record IsUnwritten (build : Build) (input : Option (List ℕ)) (before after
   pub made : IsFile build.plan all file
   pub kept : IsKept build.to file before after
 
--- How a build ends. The file was made; its keys are refused, or its input is no pairs; or it is out of memory, or a file can't be
--- read or written, and then nothing was touched, or the input makes a file, and the file at its place holds what it held, or a beginning of it was printed.
+-- a build failed: nothing was touched, or the input makes a file, and the file at its place holds what it held, or a beginning of it
+-- was printed
+abbrev pub FailsBuild : Build → Option (List ℕ) → World → World → Type 0
+FailsBuild build input before after = Untouched before after ⊎ IsUnwritten build input before after
+
+-- How a build ends. The file was made; its keys are refused, or its input is no pairs; or something failed.
 abbrev pub RunsBuild : Build → Option (List ℕ) → World → World → Status → Type 0
 RunsBuild build input before after Done = IsMade build input before after
 RunsBuild build input before after Absent = ⊥
 RunsBuild build input before after Refused = IsRefused build input before after Refused
 RunsBuild build input before after BadUsage = ⊥
 RunsBuild build input before after BadInput = IsRefused build input before after BadInput
-RunsBuild build input before after Fault = Untouched before after ⊎ IsUnwritten build input before after
+RunsBuild build input before after Unread = FailsBuild build input before after
+RunsBuild build input before after Unwritten = FailsBuild build input before after
+RunsBuild build input before after OutOfMemory = FailsBuild build input before after
 
--- why no file is made, as the end of a run
-abbrev pub build_status : BuildError → Status
-build_status (build.Unread e) = Fault
-build_status (build.NotMade e) = made_status e
-build_status (build.Unwritten e) = Fault
+-- the same, if only that something failed is known
+abbrev pub EndsBuild : Build → Option (List ℕ) → World → World → Option Status → Type 0
+EndsBuild build input before after None = FailsBuild build input before after
+EndsBuild build input before after (Some status) = RunsBuild build input before after status
+
+-- how a run ends if a build is refused; none if something failed
+abbrev pub build_refusal : BuildError → Option Status
+build_refusal (build.Unread e) = None
+build_refusal (build.NotMade e) = made_refusal e
+build_refusal (build.Unwritten e) = None
 
 -- the file is read as bare bytes of a kind that was named, and begins with the number of a kind, as one that has it does
 abbrev pub HasNumberToo : Option TrieKind → List ℕ → Type 0
@@ -247,11 +259,11 @@ HasNumberToo None held = ⊥
 HasNumberToo (Some named) held = (kind : TrieKind) × (rest : List ℕ) × (held ≡ tagged (kind_of kind) rest)
 
 -- what is read of the file does
-abbrev pub IsDoubtful : TrieFile → Option (List ℕ) → Option Files → Type 0
+abbrev pub IsDoubtful : TrieFile → Option (List ℕ) → Option Story → Type 0
 IsDoubtful file input files = (held : List ℕ) × IsRead file.place input files held × HasNumberToo file.kind held
 
 -- a command reads such a file, which is told
-abbrev pub TellsNumber : Command → Option (List ℕ) → Option Files → Type 0
+abbrev pub TellsNumber : Command → Option (List ℕ) → Option Story → Type 0
 TellsNumber (commands.Build build) input files = ⊥
 TellsNumber (commands.Ask file question) input files = IsDoubtful file input files
 
@@ -260,19 +272,18 @@ abbrev pub ReadsTwice : Command → Type 0
 ReadsTwice (commands.Build build) = ⊥
 ReadsTwice (commands.Ask file question) = (file.place ≡ Stream) × (of_lines question ≡ true)
 
--- A question that ends so doesn't read its keys from standard input, which it does not if its file has no trie.
-abbrev pub LeavesKeys : Question → Status → Type 0
-LeavesKeys question BadInput = Unit {0}
-LeavesKeys question Done = of_lines question ≡ true → ⊥
-LeavesKeys question Absent = of_lines question ≡ true → ⊥
-LeavesKeys question Refused = of_lines question ≡ true → ⊥
-LeavesKeys question BadUsage = of_lines question ≡ true → ⊥
-LeavesKeys question Fault = of_lines question ≡ true → ⊥
+-- a question that ends so doesn't read its keys from standard input, which it does not if its file has no trie
+abbrev pub LeavesKeys : Question → Option Status → Type 0
+LeavesKeys question ended = (ended ≡ Some BadInput) ⊎ (of_lines question ≡ true → ⊥)
 
--- a command that ends so doesn't read standard input
+-- a question to a file that ends so doesn't read standard input
+abbrev pub LeavesInputOf : TrieFile → Question → Option Status → Type 0
+LeavesInputOf file question ended = (ended ≡ Some BadUsage) ⊎ ((file.place ≡ Stream → ⊥) × LeavesKeys question ended)
+
+-- a command that ends so doesn't
 abbrev pub LeavesInput : Command → Status → Type 0
 LeavesInput (commands.Build build) status = build.from ≡ Stream → ⊥
-LeavesInput (commands.Ask file question) status = (status ≡ BadUsage) ⊎ ((file.place ≡ Stream → ⊥) × LeavesKeys question status)
+LeavesInput (commands.Ask file question) status = LeavesInputOf file question (Some status)
 
 -- whether the steps of a command are told
 abbrev pub tells_steps : Command → Bool

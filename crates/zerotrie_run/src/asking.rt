@@ -1,9 +1,9 @@
 //! A question to the trie of a file.
 
-ghost use Rattle.std.specs.Prelude.{◌≡◌, ◌↔◌, ℕ, List, true, false, Ok, Err, IfOk, IfErr, IfSome, IsTrue, OnErr};
+ghost use Rattle.std.specs.Prelude.{◌≡◌, ◌↔◌, ℕ, List, true, false, Ok, Err, IfOk, IfErr, IsTrue, OnErr};
 ghost use Rattle.std.specs.Io.Buffered.{writer_contents};
 ghost use Rattle.zerotrie_core.specs.declared.TrieKind.{TrieKind};
-ghost use Rattle.zerotrie_run.specs.Runs.{Opens, IsUnopened, KeysAnswered, KeysAnsweredInPart, Answers, AnswersInPart, IsAsked, RunsAsk, IsUnanswered, IsDoubtful, IsFaultIn, NamesFault, ReadsTwice, LeavesKeys, LeavesInput, HandsOn, ask_status, asked_status, are_lines, of_lines};
+ghost use Rattle.zerotrie_run.specs.Runs.{Opens, IsUnopened, KeysAnswered, KeysAnsweredInPart, Answers, AnswersInPart, IsAsked, EndsAsk, IsUnanswered, IsDoubtful, ReadsTwice, LeavesKeys, LeavesInputOf, HandsOn, ask_refusal, asked_refusal, are_lines, of_lines};
 ghost use Rattle.zerotrie_run.specs.declared.command.Place.TheVariants.{Stream};
 ghost use Rattle.zerotrie_run.specs.declared.command.Command.TheVariants.{Ask};
 ghost use Rattle.zerotrie_run.specs.declared.asking.AskError.TheVariants.{TwoInputs};
@@ -16,8 +16,7 @@ use crate::stdin_lines::{AnswerError, answer_lines};
 use std::alloc::Global;
 use std::io;
 use std::io::{BufWriter, Read, Write};
-use zerotrie_core::Fault;
-use zerotrie_files::Store;
+use zerotrie_files::{Disk, Store};
 use zerotrie_queries::{
     Asked, OpenError, Trie, write_answers, write_list, write_trie_code, write_trie_report,
     write_trie_view,
@@ -30,22 +29,24 @@ pub enum AskError {
     TwoInputs,
     /// The file can't be read.
     Unread(io::Error),
-    /// The file has no trie. With the first fault in its bytes, unless their kind is unknown or it
-    /// is out of memory.
-    NoTrie(OpenError, Option<Fault>),
+    /// The file has no trie.
+    NoTrie(OpenError),
     /// It can't be answered, or not to the end.
     Unanswered(AnswerError),
 }
 
 impl AskError {
-    /// How the run ends.
-    pub fn status(&self) -> Status
-        ensures { result ≡ ask_status self.now }
+    /// How the run ends if the question is refused. `None` if something failed.
+    pub fn refusal(&self) -> Option<Status>
+        ensures { result ≡ ask_refusal self.now }
     {
         match self {
-            AskError::TwoInputs => Status::BadUsage,
-            AskError::NoTrie(_, _) => Status::BadInput,
-            AskError::Unread(_) | AskError::Unanswered(_) => Status::Fault,
+            AskError::TwoInputs => Some(Status::BadUsage),
+            AskError::NoTrie(OpenError::BadTag(_) | OpenError::NotWellFormed(_, _)) => {
+                Some(Status::BadInput)
+            }
+            AskError::NoTrie(OpenError::OutOfMemory) => None,
+            AskError::Unread(_) | AskError::Unanswered(_) => None,
         }
     }
 }
@@ -71,40 +72,31 @@ fn reads_twice(place: Place<'_>, question: Question<'_>) -> bool
 }
 
 /// Opens the trie in the bytes of a file. It validates them, unless they are trusted.
-fn open<'a>(file: TrieFile<'_>, held: &'a [u8]) -> Result<Trie<'a>, OpenError>
+fn open<'a>(alloc: Global, file: TrieFile<'_>, held: &'a [u8]) -> Result<Trie<'a>, OpenError>
     ensures ok { IfOk result (λ trie. Opens file.entry held.now trie.kind trie.bytes.now) }
     ensures err { IfErr result (IsUnopened file.entry held.now) }
 {
     if file.trust {
-        Trie::open_untested(file.kind, held)
+        Ok(Trie::open_untested(file.kind, held)?)
     } else {
-        Trie::open(file.kind, held)
+        Trie::open(alloc, file.kind, held)
     }
-}
-
-/// Returns the first fault in the bytes of a file. `None` if they are a trie or of no kind, or it
-/// is out of memory.
-fn fault_in(alloc: Global, file: TrieFile<'_>, held: &[u8]) -> Option<Fault>
-    ensures { IfSome result (IsFaultIn file.entry.kind held.now) }
-{
-    let trie = Trie::open_untested(file.kind, held).ok()?;
-    trie.first_fault(alloc).ok()?
 }
 
 /// Answers keys or texts: the given words, or the lines of standard input. Returns whether all was
 /// found.
-fn answer_keys<R: Read, W: Write>(
+fn answer_keys<R: Read, W: Write + Drop>(
     alloc: Global,
     trie: &Trie<'_>,
     asked: Asked,
     keys: Keys<'_>,
     input: &mut R,
-    output: &mut W,
+    output: &mut BufWriter<W>,
 ) -> Result<bool, AnswerError>
     ensures answered { IfOk result (KeysAnswered asked keys.entry (R.remaining input.old)
-        trie.now.kind trie.now.bytes.now (W.contents output.old) (W.contents output.new)) }
+        trie.now.kind trie.now.bytes.now (writer_contents W.contents output.old) (writer_contents W.contents output.new)) }
     ensures part { OnErr result (KeysAnsweredInPart asked keys.entry (R.remaining input.old)
-        trie.now.kind trie.now.bytes.now (W.contents output.old) (W.contents output.new)) }
+        trie.now.kind trie.now.bytes.now (writer_contents W.contents output.old) (writer_contents W.contents output.new)) }
     ensures unread { are_lines keys.entry ≡ false → input.new ≡ input.old }
 {
     match keys {
@@ -115,17 +107,17 @@ fn answer_keys<R: Read, W: Write>(
 
 /// Answers a question to a trie, whose keys may be the lines of standard input, and returns whether
 /// all was found.
-fn answer<R: Read, W: Write>(
+fn answer<R: Read, W: Write + Drop>(
     alloc: Global,
     trie: &Trie<'_>,
     question: Question<'_>,
     input: &mut R,
-    output: &mut W,
+    output: &mut BufWriter<W>,
 ) -> Result<bool, AnswerError>
     ensures answered { IfOk result (Answers question.entry (R.remaining input.old)
-        trie.now.kind trie.now.bytes.now (W.contents output.old) (W.contents output.new)) }
+        trie.now.kind trie.now.bytes.now (writer_contents W.contents output.old) (writer_contents W.contents output.new)) }
     ensures part { OnErr result (AnswersInPart question.entry (R.remaining input.old)
-        trie.now.kind trie.now.bytes.now (W.contents output.old) (W.contents output.new)) }
+        trie.now.kind trie.now.bytes.now (writer_contents W.contents output.old) (writer_contents W.contents output.new)) }
     ensures unread { of_lines question.entry ≡ false → input.new ≡ input.old }
 {
     match question {
@@ -151,25 +143,25 @@ fn answer<R: Read, W: Write>(
 }
 
 /// Answers a question to the trie in the bytes of a file, and returns whether all was found.
-fn answer_held<R: Read, W: Write>(
+fn answer_held<R: Read, W: Write + Drop>(
     alloc: Global,
     file: TrieFile<'_>,
     held: &[u8],
     question: Question<'_>,
     input: &mut R,
-    output: &mut W,
+    output: &mut BufWriter<W>,
 ) -> Result<bool, AskError>
     ensures ok { IfOk result (λ all. (kind : TrieKind) × (bytes : List ℕ)
         × Opens file.entry held.now kind bytes
         × Answers question.entry (R.remaining input.old) kind bytes
-        (W.contents output.old) (W.contents output.new) all) }
+        (writer_contents W.contents output.old) (writer_contents W.contents output.new) all) }
     ensures err { IfErr result (IsUnanswered file.entry question.entry (R.remaining input.old)
-        held.now (W.contents output.old) (W.contents output.new)) }
-    ensures unread { LeavesKeys question.entry (asked_status result) → input.new ≡ input.old }
+        held.now (writer_contents W.contents output.old) (writer_contents W.contents output.new)) }
+    ensures unread { LeavesKeys question.entry (asked_refusal result) → input.new ≡ input.old }
 {
-    let trie = match open(file, held) {
+    let trie = match open(alloc, file, held) {
         Ok(trie) => trie,
-        Err(why) => return Err(AskError::NoTrie(why, fault_in(alloc, file, held))),
+        Err(why) => return Err(AskError::NoTrie(why)),
     };
     match answer(alloc, &trie, question, input, output) {
         Ok(all) => Ok(all),
@@ -179,25 +171,25 @@ fn answer_held<R: Read, W: Write>(
 
 /// Answers a question to the trie of a file, and returns whether all was found. If the file is read
 /// as bare bytes and begins with the number of a kind, a message says so.
-pub fn ask<F: Store, R: Read, W: Write + Drop, M: Write>(
+pub fn ask<D: Disk, R: Read, W: Write + Drop, M: Write>(
     alloc: Global,
     file: TrieFile<'_>,
     question: Question<'_>,
-    files: &F,
+    files: &mut Store<D>,
     input: &mut R,
     output: &mut BufWriter<W>,
     messages: &mut M,
 ) -> Result<bool, AskError>
     ensures ok { IfOk result (λ all. IsAsked file.entry question.entry (R.remaining input.old)
-        (F.files files.now) (writer_contents W.contents output.old) (writer_contents W.contents output.new) all) }
-    ensures err { IfErr result (λ e. RunsAsk file.entry question.entry (R.remaining input.old)
-        (F.files files.now) (writer_contents W.contents output.old) (writer_contents W.contents output.new) (ask_status e)) }
-    ensures fault { IfErr result (NamesFault file.entry (R.remaining input.old) (F.files files.now)) }
+        (D.story files.old.disk) (writer_contents W.contents output.old) (writer_contents W.contents output.new) all) }
+    ensures err { IfErr result (λ e. EndsAsk file.entry question.entry (R.remaining input.old)
+        (D.story files.old.disk) (writer_contents W.contents output.old) (writer_contents W.contents output.new) (ask_refusal e)) }
+    ensures same { files.new.disk ≡ files.old.disk }
     ensures handed { IfOk result (λ _. HandsOn output.old output.new) }
-    ensures quiet { (IsDoubtful file.entry (R.remaining input.old) (F.files files.now) → ⊥)
+    ensures quiet { (IsDoubtful file.entry (R.remaining input.old) (D.story files.old.disk) → ⊥)
         → messages.new ≡ messages.old }
     ensures twice { ReadsTwice (Ask file.entry question.entry) → result ≡ Err TwoInputs }
-    ensures unread { LeavesInput (Ask file.entry question.entry) (asked_status result)
+    ensures unread { LeavesInputOf file.entry question.entry (asked_refusal result)
         → input.new ≡ input.old }
 {
     if reads_twice(file.place, question) {
@@ -209,7 +201,10 @@ pub fn ask<F: Store, R: Read, W: Write + Drop, M: Write>(
     };
     let held = held.as_slice();
     tell_number(messages, file, held);
-    let all = answer_held(alloc, file, held, question, input, output)?;
+    let all = match answer_held(alloc, file, held, question, input, output) {
+        Ok(all) => all,
+        Err(error) => return Err(error),
+    };
     match output.flush() {
         Ok(()) => Ok(all),
         Err(error) => Err(AskError::Unanswered(AnswerError::Output(error))),

@@ -1,7 +1,7 @@
 //! A trie file that is made.
 
 ghost use Rattle.std.specs.Prelude.{◌≡◌, false, IfErr, OnOk};
-ghost use Rattle.zerotrie_run.specs.Runs.{world, IsMade, RunsBuild, HandsOn, build_status};
+ghost use Rattle.zerotrie_run.specs.Runs.{world, IsMade, EndsBuild, HandsOn, build_refusal};
 ghost use Rattle.std.specs.Io.Buffered.{writer_contents};
 ghost use Rattle.zerotrie_run.specs.declared.command.Place.TheVariants.{Stream};
 
@@ -12,7 +12,7 @@ use crate::status::Status;
 use std::alloc::Global;
 use std::io;
 use std::io::{BufWriter, Read, Write};
-use zerotrie_files::Store;
+use zerotrie_files::{Disk, Store};
 use zerotrie_making::{MakeError, make};
 
 /// Why no trie file is made.
@@ -27,33 +27,33 @@ pub enum BuildError {
 }
 
 impl BuildError {
-    /// How the run ends.
-    pub fn status(&self) -> Status
-        ensures { result ≡ build_status self.now }
+    /// How the run ends if the input is refused. `None` if something failed.
+    pub fn refusal(&self) -> Option<Status>
+        ensures { result ≡ build_refusal self.now }
     {
         match self {
             BuildError::NotMade(error) => Status::of_refusal(error),
-            BuildError::Unread(_) | BuildError::Unwritten(_) => Status::Fault,
+            BuildError::Unread(_) | BuildError::Unwritten(_) => None,
         }
     }
 }
 
 /// Makes a trie file, and writes it to its place. It reports each step as it ends, if that was
 /// asked for.
-pub fn build<F: Store, R: Read, W: Write + Drop, M: Write>(
+pub fn build<D: Disk, R: Read, W: Write + Drop, M: Write>(
     alloc: Global,
     build: Build<'_>,
-    files: &mut F,
+    files: &mut Store<D>,
     input: &mut R,
     output: &mut BufWriter<W>,
     messages: &mut M,
 ) -> Result<(), BuildError>
     ensures ok { OnOk result (IsMade build.entry (R.remaining input.old)
-        (world (F.files files.old) (writer_contents W.contents output.old))
-        (world (F.files files.new) (writer_contents W.contents output.new))) }
-    ensures err { IfErr result (λ e. RunsBuild build.entry (R.remaining input.old)
-        (world (F.files files.old) (writer_contents W.contents output.old))
-        (world (F.files files.new) (writer_contents W.contents output.new)) (build_status e)) }
+        (world (D.story files.old.disk) (writer_contents W.contents output.old))
+        (world (D.story files.new.disk) (writer_contents W.contents output.new))) }
+    ensures err { IfErr result (λ e. EndsBuild build.entry (R.remaining input.old)
+        (world (D.story files.old.disk) (writer_contents W.contents output.old))
+        (world (D.story files.new.disk) (writer_contents W.contents output.new)) (build_refusal e)) }
     ensures handed { OnOk result (HandsOn output.old output.new) }
     ensures quiet { build.entry.progress ≡ false → messages.new ≡ messages.old }
     ensures unread { (build.entry.from ≡ Stream → ⊥) → input.new ≡ input.old }
@@ -68,7 +68,7 @@ pub fn build<F: Store, R: Read, W: Write + Drop, M: Write>(
         Err(error) => return Err(BuildError::NotMade(error)),
     };
     tell_made(messages, build, file.len());
-    match write_place(build.to, file.as_slice(), files, output) {
+    match write_place(alloc, build.to, file.as_slice(), files, output) {
         Ok(()) => {
             tell_written(messages, build, file.len());
             Ok(())

@@ -11,7 +11,7 @@ use std::alloc::Global;
 use std::io;
 use std::io::{ErrorKind, Write};
 use zerotrie_any::TagError;
-use zerotrie_core::{Fault, TrieKind, ZeroTrieBuildError};
+use zerotrie_core::{TrieKind, ZeroTrieBuildError};
 use zerotrie_lines::{BadLine, Format, write_escaped};
 use zerotrie_making::{MakeError, NoPair, Shown, Source};
 use zerotrie_queries::{OpenError, Trie};
@@ -42,22 +42,17 @@ fn counted_from(file: TrieFile<'_>) -> &'static str {
 }
 
 /// Tells why a file has no trie, and where its first fault is.
-fn tell_no_trie<M: Write>(
-    messages: &mut M,
-    file: TrieFile<'_>,
-    why: &OpenError,
-    fault: &Option<Fault>,
-) -> io::Result<()> {
+fn tell_no_trie<M: Write>(messages: &mut M, file: TrieFile<'_>, why: &OpenError) -> io::Result<()> {
     let path = source_name(file.place);
-    match (why, fault) {
-        (OpenError::BadTag(TagError::Empty), _) => {
+    match why {
+        OpenError::BadTag(TagError::Empty) => {
             writeln!(messages, "zerotrie: {path}: the file is empty")
         }
-        (OpenError::BadTag(TagError::InvalidTag), _) => writeln!(
+        OpenError::BadTag(TagError::InvalidTag) => writeln!(
             messages,
             "zerotrie: {path}: no file of zerotrie build: no kind has the number that the file begins with; if it is bare bytes, name their kind by --kind"
         ),
-        (OpenError::NotWellFormed(kind), Some(fault)) => {
+        OpenError::NotWellFormed(kind, fault) => {
             let name = kind.name();
             let counted = counted_from(file);
             writeln!(
@@ -65,10 +60,7 @@ fn tell_no_trie<M: Write>(
                 "zerotrie: {path}: no trie of kind {name}: {fault}{counted}"
             )
         }
-        (OpenError::NotWellFormed(kind), None) => {
-            let name = kind.name();
-            writeln!(messages, "zerotrie: {path}: no trie of kind {name}")
-        }
+        OpenError::OutOfMemory => writeln!(messages, "zerotrie: {path}: out of memory"),
     }
 }
 
@@ -127,7 +119,7 @@ pub fn tell_ask<M: Write>(
             "zerotrie: standard input can't be both the file and the keys"
         ),
         AskError::Unread(error) => writeln!(messages, "zerotrie: {path}: {error}"),
-        AskError::NoTrie(why, fault) => tell_no_trie(messages, file, why, fault),
+        AskError::NoTrie(why) => tell_no_trie(messages, file, why),
         AskError::Unanswered(AnswerError::Input(error)) => {
             writeln!(messages, "zerotrie: standard input: {error}")
         }

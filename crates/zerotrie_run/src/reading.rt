@@ -9,7 +9,7 @@ use crate::command::Place;
 use std::alloc::Global;
 use std::io;
 use std::io::{BufWriter, Read, Write};
-use zerotrie_files::Store;
+use zerotrie_files::{Disk, Store};
 use zerotrie_queries::write_bytes;
 
 /// Reads the rest of a stream.
@@ -22,14 +22,15 @@ pub fn read_all<R: Read>(alloc: Global, input: &mut R) -> io::Result<Vec<u8>>
 }
 
 /// Reads all bytes of a place.
-pub fn read_place<F: Store, R: Read>(
+pub fn read_place<D: Disk, R: Read>(
     alloc: Global,
     place: Place<'_>,
-    files: &F,
+    files: &mut Store<D>,
     input: &mut R,
 ) -> io::Result<Vec<u8>>
     ensures read { IfOk result (λ bytes.
-        IsRead place.entry (R.remaining input.old) (F.files files.now) bytes.items) }
+        IsRead place.entry (R.remaining input.old) (D.story files.old.disk) bytes.items) }
+    ensures same { files.new.disk ≡ files.old.disk }
     ensures untouched { (place.entry ≡ Stream) ⊎ (input.new ≡ input.old) }
 {
     match place {
@@ -40,22 +41,23 @@ pub fn read_place<F: Store, R: Read>(
 
 /// Writes bytes to a place: replaces its file, or prints them and flushes the buffer. If that
 /// fails, the file is unchanged, or a beginning of them was printed.
-pub fn write_place<F: Store, W: Write + Drop>(
+pub fn write_place<D: Disk, W: Write + Drop>(
+    alloc: Global,
     place: Place<'_>,
     bytes: &[u8],
-    files: &mut F,
+    files: &mut Store<D>,
     output: &mut BufWriter<W>,
 ) -> io::Result<()>
     ensures ok { OnOk result (IsWritten place.entry bytes.now
-        (world (F.files files.old) (writer_contents W.contents output.old))
-        (world (F.files files.new) (writer_contents W.contents output.new))) }
+        (world (D.story files.old.disk) (writer_contents W.contents output.old))
+        (world (D.story files.new.disk) (writer_contents W.contents output.new))) }
     ensures err { OnErr result (IsKept place.entry bytes.now
-        (world (F.files files.old) (writer_contents W.contents output.old))
-        (world (F.files files.new) (writer_contents W.contents output.new))) }
+        (world (D.story files.old.disk) (writer_contents W.contents output.old))
+        (world (D.story files.new.disk) (writer_contents W.contents output.new))) }
     ensures handed { OnOk result (HandsOn output.old output.new) }
 {
     match place {
-        Place::File(path) => files.replace(path, bytes),
+        Place::File(path) => files.replace(alloc, path, bytes),
         Place::Stream => {
             write_bytes(output, bytes)?;
             output.flush()

@@ -1,7 +1,7 @@
 //! How a run ends.
 
 ghost use Rattle.std.specs.Prelude.{◌≡◌};
-ghost use Rattle.zerotrie_run.specs.Statuses.{number_of, made_status};
+ghost use Rattle.zerotrie_run.specs.Statuses.{number_of, made_refusal};
 
 use zerotrie_making::MakeError;
 
@@ -18,8 +18,12 @@ pub enum Status {
     BadUsage,
     /// A file has no trie, or the input of a build is no pairs.
     BadInput,
-    /// A file can't be read or written, or it is out of memory.
-    Fault,
+    /// A file or standard input can't be read.
+    Unread,
+    /// A file or output can't be written.
+    Unwritten,
+    /// It is out of memory.
+    OutOfMemory,
 }
 
 impl Status {
@@ -31,21 +35,21 @@ impl Status {
             Status::Done => 0,
             Status::Absent | Status::Refused => 1,
             Status::BadUsage | Status::BadInput => 2,
-            Status::Fault => 3,
+            Status::Unread | Status::Unwritten | Status::OutOfMemory => 3,
         }
     }
 
-    /// How a build ends that makes no file.
-    pub fn of_refusal(error: &MakeError) -> Self
-        ensures { result ≡ made_status error.now }
+    /// How a run ends if its input makes no file. `None` if it is out of memory.
+    pub fn of_refusal(error: &MakeError) -> Option<Self>
+        ensures { result ≡ made_refusal error.now }
     {
         match error {
             MakeError::Line(_, _)
             | MakeError::NotJson(_, _)
             | MakeError::NotPairs
-            | MakeError::NotPair(_) => Status::BadInput,
-            MakeError::Keys(_) | MakeError::Refused(_) => Status::Refused,
-            MakeError::OutOfMemory => Status::Fault,
+            | MakeError::NotPair(_) => Some(Status::BadInput),
+            MakeError::Keys(_) | MakeError::Refused(_) => Some(Status::Refused),
+            MakeError::OutOfMemory => None,
         }
     }
 }

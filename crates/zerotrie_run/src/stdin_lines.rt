@@ -1,16 +1,18 @@
 //! Lines of standard input, which are answered as they come.
 
-ghost use Rattle.std.specs.Prelude.{◌≡◌, ◌≤◌, length, take, drop, true, false, IfOk, OnErr};
+ghost use Rattle.std.specs.Prelude.{◌≡◌, ◌≤◌, ℕ, length, take, drop, true, false, IfOk, IfErr, OnOk, OnErr};
+ghost use Rattle.std.specs.Io.Buffered.{writer_contents};
 ghost use Rattle.zerotrie_lines.specs.Lines.{lines_of};
-ghost use Rattle.zerotrie_lines.specs.Blocks.{AreWhole};
+ghost use Rattle.zerotrie_lines.specs.Blocks.{AreWhole, HasFeed};
 ghost use Rattle.zerotrie_queries.specs.Answers.{AreAnswered, AreAnsweredInPart};
-ghost use Rattle.zerotrie_run.specs.Runs.{KeysAnswered, KeysAnsweredInPart};
+ghost use Rattle.zerotrie_run.specs.Runs.{KeysAnswered, KeysAnsweredInPart, HandsOn};
+ghost use Rattle.zerotrie_run.specs.Streams.{AreAnsweredSoFar};
 ghost use Rattle.zerotrie_run.specs.declared.command.Keys.TheVariants.{Lines};
 ghost use Rattle.zerotrie_run.specs.declared.stdin_lines.AnswerError.TheVariants.{Output};
 
 use std::alloc::Global;
 use std::io;
-use std::io::{ErrorKind, Read, Write};
+use std::io::{BufWriter, ErrorKind, Read, Write};
 use zerotrie_lines::{read_lines, read_more, whole_lines};
 use zerotrie_queries::{Asked, Trie, write_answers};
 
@@ -32,17 +34,18 @@ impl From<io::Error> for AnswerError {
 }
 
 /// Answers some lines, flushes the answers, and returns whether all was found.
-fn answer_part<W: Write>(
+fn answer_part<W: Write + Drop>(
     alloc: Global,
     trie: &Trie<'_>,
     asked: Asked,
     part: &[u8],
-    output: &mut W,
+    output: &mut BufWriter<W>,
 ) -> io::Result<bool>
     ensures answered { IfOk result (AreAnswered asked trie.now.kind trie.now.bytes.now
-        (lines_of part.now) (W.contents output.old) (W.contents output.new)) }
+        (lines_of part.now) (writer_contents W.contents output.old) (writer_contents W.contents output.new)) }
     ensures part { OnErr result (AreAnsweredInPart asked trie.now.kind trie.now.bytes.now
-        (lines_of part.now) (W.contents output.old) (W.contents output.new)) }
+        (lines_of part.now) (writer_contents W.contents output.old) (writer_contents W.contents output.new)) }
+    ensures handed { OnOk result (HandsOn output.old output.new) }
 {
     let lines = read_lines(alloc, part)?;
     let all = write_answers(alloc, trie, asked, lines.as_slice(), output)?;
@@ -55,6 +58,7 @@ fn answer_part<W: Write>(
 fn part_len(held: &[u8], before: usize, ended: bool) -> usize
     ensures within { result ≤ length held.now }
     ensures whole { ended ≡ false → AreWhole (take result held.now) }
+    ensures last { ended ≡ false → (k : ℕ) → before ≤ k → result ≤ k → HasFeed held.now k → ⊥ }
     ensures all { ended ≡ true → result ≡ length held.now }
 {
     if ended {
@@ -73,19 +77,24 @@ fn drop_front(held: &mut Vec<u8>, len: usize)
 }
 
 /// Answers the lines of an input, and returns whether all was found. It answers the lines of one
-/// read before the next, so a line is answered as soon as it is there. In memory are one read and
-/// the longest line, the list of its lines and the lines of 4,096 answers.
-pub fn answer_lines<R: Read, W: Write>(
+/// read before the next, so a line is answered as soon as it is there. If a read fails, the answers
+/// to all whole lines before it were handed on. In memory are one read and the longest line, the
+/// list of its lines and the lines of 4,096 answers.
+pub fn answer_lines<R: Read, W: Write + Drop>(
     alloc: Global,
     trie: &Trie<'_>,
     asked: Asked,
     input: &mut R,
-    output: &mut W,
+    output: &mut BufWriter<W>,
 ) -> Result<bool, AnswerError>
     ensures answered { IfOk result (KeysAnswered asked Lines (R.remaining input.old)
-        trie.now.kind trie.now.bytes.now (W.contents output.old) (W.contents output.new)) }
+        trie.now.kind trie.now.bytes.now (writer_contents W.contents output.old) (writer_contents W.contents output.new)) }
     ensures part { OnErr result (KeysAnsweredInPart asked Lines (R.remaining input.old)
-        trie.now.kind trie.now.bytes.now (W.contents output.old) (W.contents output.new)) }
+        trie.now.kind trie.now.bytes.now (writer_contents W.contents output.old) (writer_contents W.contents output.new)) }
+    ensures before { IfErr result (λ e. AreAnsweredSoFar asked trie.now.kind trie.now.bytes.now
+        (R.remaining input.old) (R.remaining input.new)
+        (writer_contents W.contents output.old) (writer_contents W.contents output.new)
+        (HandsOn output.old output.new) e) }
 {
     let mut held = Vec::new(alloc);
     let mut all = true;

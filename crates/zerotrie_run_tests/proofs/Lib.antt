@@ -1,2 +1,1 @@
-mod FakeLemmas
 mod StepLemmas

@@ -1,5 +1,5 @@
 -- What a step changes.
-use Rattle.std.proofs.Common.{◌≡◌, ◌≢◌, ◌∙◌, ℕ, List, [], ◌∷◌, ◌++◌, reverse, cond, Option, Some, None, bytes_eq, string_bytes, String, Vec, Global, Bor, is_some, false, option_map, append_assoc, sym, refl}
+use Rattle.std.proofs.Common.{◌≡◌, ◌≢◌, ◌∙◌, ℕ, List, [], ◌∷◌, ◌++◌, reverse, cond, Option, Some, None, bytes_eq, string_bytes, String, Vec, Global, Bor, is_some, Bool, true, false, option_map, append_assoc, sym, refl}
 use Rattle.std.proofs.lemmas.List.{reverse-append}
 use Rattle.std.proofs.lemmas.List.Elements.{All-nil, All-cons}
 use Rattle.std.proofs.lemmas.Slice.Eq.{bytes_eq-Decides}
@@ -7,7 +7,14 @@ use Rattle.zerotrie_files.specs.Disks.{Files, Passes, SameBeside, Moved, Holds}
 use Rattle.zerotrie_run_tests.specs.declared.memory.Step.{Step}
 use Rattle.zerotrie_run_tests.specs.declared.memory.Step.TheVariants.{Wrote, Renamed, Removed}
 use Rattle.zerotrie_run_tests.specs.Steps.{after, files_after, moments_after, story_of}
-use Rattle.zerotrie_run_tests.proofs.FakeLemmas.{pick_first, pick_next}
+
+pick_first : (b : Bool) (x y : Option (List ℕ)) → b ≡ true → cond b x y ≡ x
+pick_first true x y e = refl
+pick_first false x y e = cc
+
+pick_next : (b : Bool) (x y : Option (List ℕ)) → b ≢ true → cond b x y ≡ y
+pick_next true x y off = absurd (off refl)
+pick_next false x y off = refl
 
 -- a step is a moment
 pub one_step : (Fact : Files → Type 0) (steps : List Step) (step : Step) → Fact (after step (files_after (reverse steps))) → Passes Fact (story_of steps) (story_of (steps ++ step ∷ []))

@@ -3,10 +3,8 @@
 //! of `zerotrie_files` and `zerotrie_run` say something of them.
 #![tactic(auto)]
 
-mod fake;
 mod memory;
 
-pub use fake::Fake;
 pub use memory::MemoryDisk;
 
 #[cfg(test)]

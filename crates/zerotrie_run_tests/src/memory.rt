@@ -6,7 +6,7 @@ ghost use Rattle.zerotrie_run_tests.specs.Steps.{files_after, story_of};
 use std::alloc::Global;
 use std::io;
 use std::io::ErrorKind;
-use zerotrie_files::Disk;
+use zerotrie_files::{Disk, Found, Mode};
 
 /// What a disk did.
 #[derive(Drop)]
@@ -83,10 +83,35 @@ impl MemoryDisk {
 impl Disk for MemoryDisk {
     ghost story = { λ disk. Some (story_of disk.steps.items) };
 
-    /// The file is empty for a moment.
-    fn write_new(&mut self, path: &str, bytes: &[u8]) -> io::Result<bool> {
+    fn read(&self, path: &str) -> io::Result<Vec<u8>> {
+        match self.held(path) {
+            Some(bytes) => Ok(Vec::from_slice(self.alloc, bytes)?),
+            None => Err(io::Error::from(ErrorKind::NotFound)),
+        }
+    }
+
+    fn find(&self, path: &str) -> io::Result<Found> {
+        match self.held(path) {
+            Some(_) => Ok(Found::File(Mode::kept(0o644))),
+            None => Ok(Found::Nothing),
+        }
+    }
+
+    fn test_writable(&self, _path: &str) -> io::Result<()> {
+        Ok(())
+    }
+
+    fn real_path(&self, path: &str) -> io::Result<String> {
+        Ok(String::from_str(self.alloc, path)?)
+    }
+
+    /// The file is empty for a moment. There is no room for one whose path begins with `full`.
+    fn write_new(&mut self, path: &str, _mode: Option<Mode>, bytes: &[u8]) -> io::Result<bool> {
         if self.held(path).is_some() {
             return Ok(false);
+        }
+        if path.starts_with("full") {
+            return Err(io::Error::from(ErrorKind::StorageFull));
         }
         let made = String::from_str(self.alloc, path)?;
         let filled = String::from_str(self.alloc, path)?;
@@ -110,5 +135,9 @@ impl Disk for MemoryDisk {
         let name = String::from_str(self.alloc, path)?;
         self.steps.push(Step::Removed(name))?;
         Ok(())
+    }
+
+    fn append(&mut self, _path: &str, _bytes: &[u8]) -> io::Result<()> {
+        Err(io::Error::from(ErrorKind::Unsupported))
     }
 }

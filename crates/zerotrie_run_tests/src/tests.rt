@@ -1,10 +1,14 @@
+mod disk;
 mod files;
 
-use crate::fake::Fake;
+use crate::memory::MemoryDisk;
 use std::alloc::Global;
-use std::io::{BufWriter, Cursor, Read};
+use std::io;
+use std::io::{BufWriter, Cursor, ErrorKind, Read};
 use std::process::Abort;
 use std::test::Fail;
+use zerotrie_core::TrieKind;
+use zerotrie_files::{Disk, Noted, Store};
 use zerotrie_lines::Format;
 use zerotrie_making::{Plan, Source};
 use zerotrie_queries::{Form, Language, Style, View};
@@ -103,7 +107,7 @@ const REFUSED: &[Row] = &[
     Row {
         files: &[("names.trie", TRIE)],
         command: Command::Build(BUILD),
-        status: Status::Fault,
+        status: Status::Unread,
         printed: b"",
         told: b"zerotrie: names.tsv: entity not found\n",
         left: ("names.trie", TRIE),
@@ -114,7 +118,7 @@ const REFUSED: &[Row] = &[
             to: Place::File("full"),
             ..BUILD
         }),
-        status: Status::Fault,
+        status: Status::Unwritten,
         printed: b"",
         told: b"zerotrie: full: no storage space\n",
         left: ("names.tsv", NAMES),
@@ -243,22 +247,46 @@ const UNANSWERED: &[Row] = &[
     Row {
         files: &[("names.tsv", NAMES)],
         command: Command::Ask(FILE, Question::Get(Keys::Lines)),
-        status: Status::Fault,
+        status: Status::Unread,
         printed: b"",
         told: b"zerotrie: names.trie: entity not found\n",
         left: ("names.tsv", NAMES),
     },
 ];
 
+/// The file of the names as bare bytes of a kind, which they are not: the number of a kind stands in front.
+const BARE: TrieFile<'static> = TrieFile {
+    kind: Some(TrieKind::Simple),
+    trust: true,
+    ..FILE
+};
+
+/// A question to such a file, of which a note warns.
+const NOTED: &[Row] = &[Row {
+    files: &[("names.trie", TRIE)],
+    command: Command::Ask(BARE, Question::List(Form::Lines(Style::Values), b"\0c")),
+    status: Status::Done,
+    printed: b"",
+    told: b"zerotrie: names.trie: read as bare bytes, though its first byte is the number of kind simple: leave out --kind unless every key begins with that byte\n",
+    left: ("names.trie", TRIE),
+}];
+
+/// A disk with these files.
+fn disk_with(alloc: Global, files: &[(&str, &[u8])]) -> io::Result<MemoryDisk> {
+    let mut disk = MemoryDisk::new(alloc);
+    for (path, bytes) in files {
+        disk.write_new(path, None, bytes)?;
+    }
+    Ok(disk)
+}
+
 /// Whether a run prints, tells, leaves and ends as it is to.
-fn is_run(alloc: Global, row: &Row) -> bool {
-    let mut files = Fake::with(alloc, row.files);
-    let Ok(mut output) = BufWriter::new(alloc, Vec::new(alloc)) else {
-        return false;
-    };
-    let mut messages = Vec::new(alloc);
+fn is_run(alloc: Global, row: &Row) -> io::Result<bool> {
+    let mut files = Store::new(disk_with(alloc, row.files)?);
+    let mut output = BufWriter::new(alloc, Noted::new(Vec::new(alloc)))?;
+    let mut messages = Noted::new(Vec::new(alloc));
     let (first, second) = TYPED;
-    let mut input = first.chain(second);
+    let mut input = Noted::new(first.chain(second));
     let status = run(
         alloc,
         row.command,
@@ -268,16 +296,16 @@ fn is_run(alloc: Global, row: &Row) -> bool {
         &mut messages,
     );
     let (path, bytes) = row.left;
-    status == row.status
-        && output.get_ref().as_slice() == row.printed
-        && messages.as_slice() == row.told
-        && files.held(path) == Some(bytes)
+    Ok(status == row.status
+        && output.get_ref().get_ref().as_slice() == row.printed
+        && messages.get_ref().as_slice() == row.told
+        && files.disk().held(path) == Some(bytes))
 }
 
 /// Ends the test if a run is not as its row says.
 fn are_run<H: Abort>(rt: &H, alloc: Global, rows: &[Row]) -> Result<(), Fail> {
     for row in rows {
-        assert!(rt; is_run(alloc, row));
+        assert!(rt; is_run(alloc, row)?);
     }
     Ok(())
 }
@@ -307,28 +335,64 @@ fn what_is_no_trie_is_not_asked(rt: HostRuntime) -> Result<(), Fail> {
     are_run(&rt, rt.alloc(), UNANSWERED)
 }
 
+#[test]
+fn a_number_that_is_read_as_a_byte_is_told(rt: HostRuntime) -> Result<(), Fail> {
+    are_run(&rt, rt.alloc(), NOTED)
+}
+
+/// A stream that breaks off after some bytes.
+#[derive(Drop)]
+struct Broken {
+    left: &'static [u8],
+}
+
+impl Read for Broken {
+    fn read(&mut self, buf: &mut [u8]) -> io::Result<usize> {
+        if self.left.is_empty() {
+            return Err(io::Error::from(ErrorKind::ConnectionReset));
+        }
+        self.left.read(buf)
+    }
+}
+
+/// If an input breaks off, the lines that came whole are answered, and the answers are handed on.
+#[test]
+fn whole_lines_are_answered_before_a_fault(rt: HostRuntime) -> Result<(), Fail> {
+    let alloc = rt.alloc();
+    let mut files = Store::new(disk_with(alloc, &[("names.trie", TRIE)])?);
+    let mut output = BufWriter::new(alloc, Noted::new(Vec::new(alloc)))?;
+    let mut messages = Noted::new(Vec::new(alloc));
+    let mut input = Noted::new(Broken { left: b"barn\nf" });
+    let status = run(
+        alloc,
+        Command::Ask(FILE, Question::Longest(Keys::Lines)),
+        &mut files,
+        &mut input,
+        &mut output,
+        &mut messages,
+    );
+    assert!(rt; status == Status::Unread);
+    assert!(rt; output.get_ref().get_ref().as_slice() == b"bar\t2\n".as_slice());
+    assert!(rt; messages.get_ref().as_slice() == b"zerotrie: standard input: connection reset\n".as_slice());
+    Ok(())
+}
+
 /// If output has no room for a listing, a beginning of it is written, and the run ends in a fault.
 #[test]
 fn a_beginning_is_printed_as_far_as_there_is_room(rt: HostRuntime) -> Result<(), Fail> {
     let alloc = rt.alloc();
-    let given: [(&str, &[u8]); 1] = [("names.trie", TRIE)];
-    let mut files = Fake::with(alloc, &given);
-    let mut output = BufWriter::new(alloc, Cursor::new([0; 7]))?;
-    let mut messages = Vec::new(alloc);
-    let file = TrieFile {
-        place: Place::File("names.trie"),
-        kind: None,
-        trust: false,
-    };
+    let mut files = Store::new(disk_with(alloc, &[("names.trie", TRIE)])?);
+    let mut output = BufWriter::new(alloc, Noted::new(Cursor::new([0; 7])))?;
+    let mut messages = Noted::new(Vec::new(alloc));
     let status = run(
         alloc,
-        Command::Ask(file, Question::List(Form::Lines(Style::Tsv), b"")),
+        Command::Ask(FILE, Question::List(Form::Lines(Style::Tsv), b"")),
         &mut files,
-        &mut b"".as_slice(),
+        &mut Noted::new(b"".as_slice()),
         &mut output,
         &mut messages,
     );
-    assert!(rt; status == Status::Fault);
-    assert!(rt; output.get_ref().get_ref().as_slice() == b"bar\t2\nb".as_slice());
+    assert!(rt; status == Status::Unwritten);
+    assert!(rt; output.get_ref().get_ref().get_ref().as_slice() == b"bar\t2\nb".as_slice());
     Ok(())
 }

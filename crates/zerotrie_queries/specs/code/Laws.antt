@@ -1,7 +1,10 @@
 -- What is written as code is read back.
-use Rattle.std.specs.Prelude.{◌≡◌, ℕ, ◌<◌, List, All, true}
+use Rattle.std.specs.Prelude.{◌≡◌, ℕ, ◌<◌, List, [], ◌∷◌, All, true, Option, Some, None, bytes_eq, cond, codes}
+use Rattle.zerotrie_core.specs.Kind.{tag}
+use Rattle.zerotrie_core.specs.Kinds.{kind_of}
+use Rattle.zerotrie_queries.specs.code.Texts.{c_kind}
 use Rattle.zerotrie_core.specs.declared.TrieKind.{TrieKind}
-use Rattle.zerotrie_queries.specs.declared.code.language.Language.{Language}
+use Rattle.zerotrie_queries.specs.declared.code.Language.{Language}
 use Rattle.zerotrie_queries.specs.code.Names.{is_name}
 use Rattle.zerotrie_queries.specs.code.Items.{numbers_in}
 use Rattle.zerotrie_queries.specs.code.Code.{code}
@@ -10,3 +13,18 @@ use Rattle.zerotrie_queries.specs.code.Code.{code}
 abbrev pub CodeSpellsBytes : Type 0
 CodeSpellsBytes = (language : Language) (kind : TrieKind) (name bytes : List ℕ) → is_name name ≡ true → All (λ b. b < 256) bytes
     → numbers_in (code language kind name bytes) ≡ bytes
+
+-- the number of a name in a list of both
+abbrev pub number_at : List (List ℕ × ℕ) → List ℕ → Option ℕ
+number_at [] name = None
+number_at (row ∷ rows) name = cond (bytes_eq row.0 name) (Some row.1) (number_at rows name)
+
+-- the constants of `zerotrie.h`
+abbrev pub header_kinds : List (List ℕ × ℕ)
+header_kinds =
+    (codes "ZEROTRIE_SIMPLE_ASCII", 0) ∷ (codes "ZEROTRIE_PERFECT_HASH", 3) ∷ (codes "ZEROTRIE_EXTENDED_CAPACITY", 7)
+    ∷ (codes "ZEROTRIE_IGNORE_CASE", 8) ∷ []
+
+-- the constant that the code of C names is the number of the kind
+abbrev pub CodeNamesKind : Type 0
+CodeNamesKind = (kind : TrieKind) → number_at header_kinds (c_kind kind) ≡ Some (tag (kind_of kind))

@@ -2,8 +2,8 @@
 use Rattle.std.specs.Prelude.{ℕ, List, ◌++◌, codes}
 use Rattle.zerotrie_core.specs.declared.TrieKind.{TrieKind}
 use Rattle.zerotrie_core.specs.declared.TrieKind.TheVariants.{Simple, Ignore, Hash, Ext}
-use Rattle.zerotrie_queries.specs.declared.code.language.Language.{Language}
-use Rattle.zerotrie_queries.specs.declared.code.language.Language.TheVariants as lang
+use Rattle.zerotrie_queries.specs.declared.code.Language.{Language}
+use Rattle.zerotrie_queries.specs.declared.code.Language.TheVariants as lang
 
 -- a variant of the crate's `Kind`
 abbrev pub rust_kind : TrieKind → List ℕ

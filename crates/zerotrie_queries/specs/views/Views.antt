@@ -5,8 +5,8 @@ use Rattle.zerotrie_core.specs.Kinds.{kind_of}
 use Rattle.zerotrie_core.specs.declared.TrieKind.{TrieKind}
 use Rattle.zerotrie_queries.specs.views.Dumps.{dump_lines}
 use Rattle.zerotrie_queries.specs.views.Dots.{drawing}
-use Rattle.zerotrie_queries.specs.declared.views.view.View.{View}
-use Rattle.zerotrie_queries.specs.declared.views.view.View.TheVariants as views
+use Rattle.zerotrie_queries.specs.declared.views.View.{View}
+use Rattle.zerotrie_queries.specs.declared.views.View.TheVariants as views
 
 -- what a view of bytes of a kind shows: a line for each node, or a drawing
 abbrev pub shown : View → TrieKind → List ℕ → List ℕ

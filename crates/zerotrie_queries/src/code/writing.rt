@@ -7,7 +7,7 @@ ghost use Rattle.zerotrie_queries.specs.code.Texts.{rust_front, c_front, rattle_
 ghost use Rattle.zerotrie_queries.specs.code.Code.{code};
 
 use crate::code::items::write_items;
-use crate::code::language::{Language, c_kind, rattle_type, rust_kind};
+use crate::code::{Language, c_kind, rattle_type, rust_kind};
 use crate::output::write_bytes;
 use crate::trie::Trie;
 use std::alloc::{AllocError, Global};

@@ -9,15 +9,15 @@ returns-in-Ok-flush-clause-ok g c =
     let remaining = g.R.Read.remaining in
     let old = contents c.args.output.now in
     let now = contents c.answer_held.new.output in
-    let answered = c.in_ok-all.ensures.ok in
-    let kept = kept_answer c.args.question (remaining c.read_place.new.input) answered.0 answered.1 old now (contents c.flush.new.self) c.in_ok-all.all answered.3 c.flush.ensures.bytes in
+    let answered = c.in-Ok-answer_held.ensures.ok in
+    let kept = kept_answer c.args.question (remaining c.read_place.new.input) answered.0 answered.1 old now (contents c.flush.new.self) c.in-Ok-answer_held.all answered.3 c.flush.ensures.bytes in
     record {
       held = c.as_slice-held.result.now;
       read = rw c.as_slice-held.ensures.value c.in-Ok.ensures.read;
       kind = answered.0;
       bytes = answered.1;
       opens = answered.2;
-      answers = same_answer c.args.file.place remaining c.args.input.now c.read_place.new.input c.args.question answered.0 answered.1 old (contents c.flush.new.self) c.in_ok-all.all
+      answers = same_answer c.args.file.place remaining c.args.input.now c.read_place.new.input c.args.question answered.0 answered.1 old (contents c.flush.new.self) c.in-Ok-answer_held.all
           (λ both. is_not c.reads_twice.result c.if-reads_twice.false (c.reads_twice.ensures.1 both)) c.read_place.ensures.untouched kept;
     }
 
@@ -34,8 +34,8 @@ returns-clause-err g c =
     let contents = writer_contents g.W.Write.contents in
     let remaining = g.R.Read.remaining in
     let old = contents c.args.output.now in
-    let answered = c.in_ok-all.ensures.ok in
-    let kept = kept_answer c.args.question (remaining c.read_place.new.input) answered.0 answered.1 old (contents c.answer_held.new.output) (contents c.flush.new.self) c.in_ok-all.all answered.3 c.flush.ensures.bytes in
+    let answered = c.in-Ok-answer_held.ensures.ok in
+    let kept = kept_answer c.args.question (remaining c.read_place.new.input) answered.0 answered.1 old (contents c.answer_held.new.output) (contents c.flush.new.self) c.in-Ok-answer_held.all answered.3 c.flush.ensures.bytes in
     inr (record {
       held = c.as_slice-held.result.now;
       read = rw c.as_slice-held.ensures.value c.in-Ok.ensures.read;
@@ -44,5 +44,5 @@ returns-clause-err g c =
       opens = answered.2;
       begun = same_part c.args.file.place remaining c.args.input.now c.read_place.new.input c.args.question answered.0 answered.1 old (contents c.flush.new.self)
           (λ both. is_not c.reads_twice.result c.if-reads_twice.false (c.reads_twice.ensures.1 both)) c.read_place.ensures.untouched
-          (answer_in_part c.args.question (remaining c.read_place.new.input) answered.0 answered.1 old (contents c.flush.new.self) c.in_ok-all.all kept);
+          (answer_in_part c.args.question (remaining c.read_place.new.input) answered.0 answered.1 old (contents c.flush.new.self) c.in-Ok-answer_held.all kept);
     })

@@ -1,20 +1,21 @@
-use Rattle.std.proofs.Common.{◌++◌, length, take, drop, refl, sym, ◌∙◌, ap, subst, arith}
+use Rattle.std.proofs.Common.{◌++◌, ◌≤◌, ℕ, length, take, drop, refl, sym, ◌∙◌, ap, subst, arith, inl, inr}
 use Rattle.std.proofs.lemmas.List.{take_all, take-append-drop}
+use Rattle.std.specs.Io.Buffered.{writer_contents}
 use Rattle.zerotrie_lines.specs.Lines.{lines_of}
-use Rattle.zerotrie_lines.specs.Blocks.{AreWhole}
+use Rattle.zerotrie_lines.specs.Blocks.{AreWhole, HasFeed}
 use Rattle.zerotrie_queries.specs.Answers.{AreAnswered, AreAnsweredInPart}
 use Rattle.zerotrie_queries.proofs.PartLemmas.{on_err}
-use Rattle.zerotrie_run.proofs.LineLemmas.{IsNext, lines_read, lines_part, lines_ends, lines_stops, lines_fails}
+use Rattle.zerotrie_run.proofs.LineLemmas.{IsNext, lines_read, lines_part, lines_ends, lines_stops, lines_fails, lines_break, no_feed_left}
 use Rattle.zerotrie_run.proofs.stdin_lines.answer_lines.Goals as goal
 
 pub returns-then-ended-clause-answered : goal.returns-then-ended-clause-answered
 returns-then-ended-clause-answered g c =
     let remaining = g.R.Read.remaining in
-    let contents = g.W.Write.contents in
+    let contents = writer_contents g.W.Write.contents in
     let trie = c.args.trie.now in
     let held = c.read_more.new.held.items in
     let read = lines_read c.args.asked trie.kind trie.bytes.now (remaining c.args.input.now) (remaining c.loop.input) (remaining c.read_more.new.input) c.loop.held.items held
-    (contents c.args.output.now) (contents c.loop.output) c.loop.all c.in-Ok.ended c.loop.invariant c.in-Ok.ensures.gives in
+    (contents c.args.output.now) (contents c.loop.output) c.loop.all c.in-Ok.ended c.loop.invariant.lines c.in-Ok.ensures.gives in
     lines_ends c.args.asked trie.kind trie.bytes.now (remaining c.args.input.now) (remaining c.read_more.new.input) held (take c.part_len-len.result held)
     (contents c.args.output.now) (contents c.loop.output) (contents c.answer_part.new.output) c.loop.all c.in_ok-all.field-0 _ read
     (ap (λ n. take n held) (c.part_len-len.ensures.all c.if-ended.true ∙ ap length c.as_slice.ensures.value) ∙ take_all (length held) held (omega arith))
@@ -25,39 +26,46 @@ returns-then-ended-clause-answered g c =
 pub loop-preserved : goal.loop-preserved
 loop-preserved g c =
     let remaining = g.R.Read.remaining in
-    let contents = g.W.Write.contents in
+    let contents = writer_contents g.W.Write.contents in
     let trie = c.args.trie.now in
     let held = c.read_more.new.held.items in
     let read = lines_read c.args.asked trie.kind trie.bytes.now (remaining c.args.input.now) (remaining c.loop.input) (remaining c.read_more.new.input) c.loop.held.items held
-    (contents c.args.output.now) (contents c.loop.output) c.loop.all c.in-Ok.ended c.loop.invariant c.in-Ok.ensures.gives in
-    lines_part c.args.asked trie.kind trie.bytes.now (remaining c.args.input.now) (remaining c.read_more.new.input) held (take c.part_len-len.result held) _
+    (contents c.args.output.now) (contents c.loop.output) c.loop.all c.in-Ok.ended c.loop.invariant.lines c.in-Ok.ensures.gives in
+    record {
+      lines = lines_part c.args.asked trie.kind trie.bytes.now (remaining c.args.input.now) (remaining c.read_more.new.input) held (take c.part_len-len.result held) _
     (contents c.args.output.now) (contents c.loop.output) (contents c.answer_part.new.output) c.loop.all c.in_ok-all.field-0 _ read
     (sym (take-append-drop c.part_len-len.result held) ∙ ap (λ rest. take c.part_len-len.result held ++ rest) (sym c.drop_front.ensures))
     (subst (λ all. AreWhole (take c.part_len-len.result all)) c.as_slice.ensures.value (c.part_len-len.ensures.whole c.if-ended.false))
     (subst (λ all. AreAnswered c.args.asked trie.kind trie.bytes.now (lines_of (take c.part_len-len.result all)) (contents c.loop.output) (contents c.answer_part.new.output) c.in_ok-all.field-0) c.deref.ensures.value c.in_ok-all.ensures.answered)
-    refl
+    refl;
+      handed = λ empty. c.in_ok-all.ensures.handed (c.loop.invariant.handed empty);
+      no_feed = λ k. subst (λ left. HasFeed left k → ⊥) (sym c.drop_front.ensures)
+          (no_feed_left c.loop.held.items c.in-Ok.ensures.gives.bytes held c.part_len-len.result c.in-Ok.ensures.gives.adds c.loop.invariant.no_feed
+          (λ n below past. subst (λ all. HasFeed all n → ⊥) c.as_slice.ensures.value
+          (c.part_len-len.ensures.last c.if-ended.false n (omega (arith, below, c.len-before.ensures)) past)) k);
+    }
 
 pub returns-in-Err-clause-part : goal.returns-in-Err-clause-part
 returns-in-Err-clause-part g c =
     let trie = c.args.trie.now in
-    lines_stops c.args.asked trie.kind trie.bytes.now (g.R.Read.remaining c.args.input.now) (g.R.Read.remaining c.loop.input) c.loop.held.items (g.W.Write.contents c.args.output.now)
-    (g.W.Write.contents c.loop.output) c.loop.all c.loop.invariant
+    lines_stops c.args.asked trie.kind trie.bytes.now (g.R.Read.remaining c.args.input.now) (g.R.Read.remaining c.loop.input) c.loop.held.items (writer_contents g.W.Write.contents c.args.output.now)
+    (writer_contents g.W.Write.contents c.loop.output) c.loop.all c.loop.invariant.lines
 
 pub returns-clause-part : goal.returns-clause-part
 returns-clause-part g c =
     let trie = c.args.trie.now in
-    lines_stops c.args.asked trie.kind trie.bytes.now (g.R.Read.remaining c.args.input.now) (g.R.Read.remaining c.loop.input) c.loop.held.items (g.W.Write.contents c.args.output.now)
-    (g.W.Write.contents c.loop.output) c.loop.all c.loop.invariant
+    lines_stops c.args.asked trie.kind trie.bytes.now (g.R.Read.remaining c.args.input.now) (g.R.Read.remaining c.loop.input) c.loop.held.items (writer_contents g.W.Write.contents c.args.output.now)
+    (writer_contents g.W.Write.contents c.loop.output) c.loop.all c.loop.invariant.lines
 
 pub returns-in_err-all-clause-part : goal.returns-in_err-all-clause-part
 returns-in_err-all-clause-part g c =
     let remaining = g.R.Read.remaining in
-    let contents = g.W.Write.contents in
+    let contents = writer_contents g.W.Write.contents in
     let trie = c.args.trie.now in
     let held = c.read_more.new.held.items in
     let len = c.part_len-len.result in
     let read = lines_read c.args.asked trie.kind trie.bytes.now (remaining c.args.input.now) (remaining c.loop.input) (remaining c.read_more.new.input) c.loop.held.items held
-    (contents c.args.output.now) (contents c.loop.output) c.loop.all c.in-Ok.ended c.loop.invariant c.in-Ok.ensures.gives in
+    (contents c.args.output.now) (contents c.loop.output) c.loop.all c.in-Ok.ended c.loop.invariant.lines c.in-Ok.ensures.gives in
     let next : IsNext c.in-Ok.ended (remaining c.read_more.new.input) held (take len held) (drop len held) = record {
       cut = sym (take-append-drop len held);
       all = λ ended. (ap (λ n. take n held) (c.part_len-len.ensures.all ended ∙ ap length c.as_slice.ensures.value) ∙ take_all (length held) held (omega arith), c.in-Ok.ensures.gives.at_end ended);
@@ -67,3 +75,12 @@ returns-in_err-all-clause-part g c =
     (lines_fails c.args.asked trie.kind trie.bytes.now (remaining c.args.input.now) (remaining c.read_more.new.input) held (take len held) (drop len held)
     (contents c.args.output.now) (contents c.loop.output) (contents c.answer_part.new.output) c.loop.all c.in-Ok.ended read next
     (subst (λ all. AreAnsweredInPart c.args.asked trie.kind trie.bytes.now (lines_of (take len all)) (contents c.loop.output) (contents c.answer_part.new.output)) c.deref.ensures.value c.in_err-all.ensures.part))
+
+pub returns-in-Err-clause-before : goal.returns-in-Err-clause-before
+returns-in-Err-clause-before g c =
+    let trie = c.args.trie.now in
+    elim c.in-Err.ensures.stays [
+      | inl none ↦ inl none
+      | inr keeps ↦ inr (lines_break c.args.asked trie.kind trie.bytes.now (g.R.Read.remaining c.args.input.now) (g.R.Read.remaining c.loop.input) (g.R.Read.remaining c.read_more.new.input) c.loop.held.items
+          (writer_contents g.W.Write.contents c.args.output.now) (writer_contents g.W.Write.contents c.loop.output) c.loop.all c.loop.invariant.lines keeps c.loop.invariant.no_feed c.loop.invariant.handed)
+    ]

@@ -1,5 +1,6 @@
 use Rattle.std.proofs.Common.{◌∙◌, ap, map, subst}
 use Rattle.zerotrie_queries.specs.Answers.{AreAnswered, AreAnsweredInPart}
+use Rattle.std.specs.Io.Buffered.{writer_contents}
 use Rattle.zerotrie_lines.specs.Lines.{lines_of}
 use Rattle.zerotrie_queries.proofs.PartLemmas.{on_err}
 use Rattle.zerotrie_queries.proofs.AnswerLemmas.{begun_none, begun_all}
@@ -8,7 +9,7 @@ use Rattle.zerotrie_run.proofs.stdin_lines.answer_part.Goals as goal
 
 pub returns-clause-answered : goal.returns-clause-answered
 returns-clause-answered g c =
-    let contents = g.W.Write.contents in
+    let contents = writer_contents g.W.Write.contents in
     let trie = c.args.trie.now in
     let old = contents c.args.output.now in
     let mid = contents c.write_answers.new.output in
@@ -17,17 +18,17 @@ returns-clause-answered g c =
     kept_texts c.args.asked trie.kind trie.bytes.now _ old mid (contents c.flush.new.self) c.in_ok-all.all answered c.flush.ensures.bytes
 
 pub returns-in_err-lines-clause-part : goal.returns-in_err-lines-clause-part
-returns-in_err-lines-clause-part g c = on_err c.from_residual.result (begun_none c.args.asked c.args.trie.now.kind c.args.trie.now.bytes.now (lines_of c.args.part.now) (g.W.Write.contents c.args.output.now))
+returns-in_err-lines-clause-part g c = on_err c.from_residual.result (begun_none c.args.asked c.args.trie.now.kind c.args.trie.now.bytes.now (lines_of c.args.part.now) (writer_contents g.W.Write.contents c.args.output.now))
 
 pub returns-in_err-all-clause-part : goal.returns-in_err-all-clause-part
 returns-in_err-all-clause-part g c =
     let lines = ap (map (λ line. line.now)) c.as_slice.ensures.value ∙ c.in_ok-lines.ensures in
     on_err c.from_residual-in_err-all.result
-    (subst (λ ts. AreAnsweredInPart c.args.asked c.args.trie.now.kind c.args.trie.now.bytes.now ts (g.W.Write.contents c.args.output.now) (g.W.Write.contents c.write_answers.new.output)) lines c.in_err-all.ensures.part)
+    (subst (λ ts. AreAnsweredInPart c.args.asked c.args.trie.now.kind c.args.trie.now.bytes.now ts (writer_contents g.W.Write.contents c.args.output.now) (writer_contents g.W.Write.contents c.write_answers.new.output)) lines c.in_err-all.ensures.part)
 
 pub returns-in_err-flush-clause-part : goal.returns-in_err-flush-clause-part
 returns-in_err-flush-clause-part g c =
-    let contents = g.W.Write.contents in
+    let contents = writer_contents g.W.Write.contents in
     let trie = c.args.trie.now in
     let old = contents c.args.output.now in
     let mid = contents c.write_answers.new.output in

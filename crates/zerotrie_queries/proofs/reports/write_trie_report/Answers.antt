@@ -2,7 +2,7 @@ use Rattle.std.proofs.Common.{OnOk, OnErr, subst}
 use Rattle.std.specs.Io.KnownBytes.{Appends}
 use Rattle.zerotrie_queries.specs.Parts.{AppendsPart}
 use Rattle.zerotrie_queries.specs.reports.Lines.{report_lines}
-use Rattle.zerotrie_queries.proofs.reports.file.write_trie_report.Goals as goal
+use Rattle.zerotrie_queries.proofs.reports.write_trie_report.Goals as goal
 
 pub returns-clause-all : goal.returns-clause-all
 returns-clause-all g c =
