@@ -9,6 +9,6 @@ loop-pairs-preserved c =
     let before = c.loop-pairs.pairs.left in
     let after = c.advance.new.self in
     let more : c.advance.result ≡ Ok true = search rules in
-    let first = listed_first before c.advance.result after more c.advance.ensures in
+    let first = listed_first before c.advance.result after more c.advance.ensures.lists in
     let is : is_utf8 after.key ≡ true = search rules in
     text_more before.pairs after.left.pairs after.key after.value first is ∙ c.loop-pairs.invariant

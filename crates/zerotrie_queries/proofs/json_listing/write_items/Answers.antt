@@ -13,7 +13,7 @@ loop-text-preserved g c =
     let later = c.loop-text.later in
     let line : c.as_slice.result.now ≡ comma_if later ++ item_text in_object (c.advance.new.self.key, c.advance.new.self.value) = search rules in
     let more : c.advance.result ≡ Ok true = search rules in
-    let first = listed_first c.loop-text.pairs.left c.advance.result c.advance.new.self more c.advance.ensures in
+    let first = listed_first c.loop-text.pairs.left c.advance.result c.advance.new.self more c.advance.ensures.lists in
     let one : item_texts in_object later c.loop-text.pairs.left.pairs ≡ c.as_slice.result.now ++ item_texts in_object true left =
     ap (item_texts in_object later) first ∙ ap (λ l. l ++ item_texts in_object true left) (sym line) in
     wrote_more (contents c.args.output.now) (contents c.loop-text.output) (contents c.write_bytes.new.output) c.as_slice.result.now
@@ -28,7 +28,7 @@ returns-in_err-write_bytes-clause-part g c =
     let later = c.loop-text.later in
     let line : c.as_slice.result.now ≡ comma_if later ++ item_text in_object (c.advance.new.self.key, c.advance.new.self.value) = search rules in
     let more : c.advance.result ≡ Ok true = search rules in
-    let first = listed_first c.loop-text.pairs.left c.advance.result c.advance.new.self more c.advance.ensures in
+    let first = listed_first c.loop-text.pairs.left c.advance.result c.advance.new.self more c.advance.ensures.lists in
     let one : item_texts in_object later c.loop-text.pairs.left.pairs ≡ c.as_slice.result.now ++ item_texts in_object true left =
     ap (item_texts in_object later) first ∙ ap (λ l. l ++ item_texts in_object true left) (sym line) in
     on_err c.from_residual-in_err-write_bytes.result

@@ -10,7 +10,7 @@ loop-style-preserved c =
     let at = c.advance.new.self in
     let line : c.add_pair.new.line.items ≡ before ++ pair_line style (at.key, at.value) = search rules in
     let more : c.advance.result ≡ Ok true = search rules in
-    let first = listed_first c.loop-style.pairs.left c.advance.result at more c.advance.ensures in
+    let first = listed_first c.loop-style.pairs.left c.advance.result at more c.advance.ensures.lists in
     let len : length c.loop-style.pairs.left.pairs ≡ suc (length at.left.pairs) = ap length first in
     let most = c.loop-style.invariant.most in
     record {
