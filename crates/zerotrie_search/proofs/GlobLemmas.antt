@@ -8,8 +8,8 @@ use Rattle.std.proofs.lemmas.Bool.{and_right, and_from, ne_eqb, eq-eqb}
 use Rattle.std.proofs.lemmas.Nat.Bits.{bit_at-zero, bit_at-pow_other}
 use Rattle.zerotrie_search.specs.Globs.{letters, has, is_within, class_len, class_of, opened, escaped, first_item, items_to, left_to, items, no_item, takes, matches, any_match, Item, many, any, byte, class, Reading}
 use Rattle.zerotrie_search.specs.GlobItems.{item_of}
-use Rattle.zerotrie_search.specs.declared.glob.Item as read
-use Rattle.zerotrie_search.specs.declared.glob.Item.TheVariants.{Many, Any, Byte, Class}
+use Rattle.zerotrie_search.specs.declared.glob.pattern.Item as read
+use Rattle.zerotrie_search.specs.declared.glob.pattern.Item.TheVariants.{Many, Any, Byte, Class}
 
 -- no range goes on
 single_has : (from dash : Bool × ℕ) (more : List (Bool × ℕ)) (b : ℕ) → (not dash.0 && (dash.1 == 45)) ≡ false → has (from ∷ dash ∷ more) b ≡ (is_within from.1 from.1 b || has (dash ∷ more) b)

@@ -5,3 +5,4 @@ mod SearchLemmas
 mod GlobLemmas
 mod WordLemmas
 mod CharLemmas
+mod TableLemmas

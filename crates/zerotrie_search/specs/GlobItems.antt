@@ -1,7 +1,7 @@
 -- Items of a pattern, as they are read.
 use Rattle.zerotrie_search.specs.Globs as glob
-use Rattle.zerotrie_search.specs.declared.glob.Item.{Item}
-use Rattle.zerotrie_search.specs.declared.glob.Item.TheVariants.{Many, Any, Byte, Class}
+use Rattle.zerotrie_search.specs.declared.glob.pattern.Item.{Item}
+use Rattle.zerotrie_search.specs.declared.glob.pattern.Item.TheVariants.{Many, Any, Byte, Class}
 
 -- the item that is meant
 abbrev pub item_of : Item → glob.Item

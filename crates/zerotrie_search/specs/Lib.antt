@@ -7,3 +7,4 @@ pub mod Globs
 pub mod GlobItems
 pub mod Words
 pub mod Pending
+pub mod Laws

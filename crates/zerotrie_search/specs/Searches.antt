@@ -11,8 +11,10 @@ accepted accepts pairs = filter (λ e. accepts e.0) pairs
 abbrev pub accepted_left : (List ℕ → Bool) → Left → Left
 accepted_left accepts left = record { pairs = accepted accepts left.pairs; ended = left.ended }
 
--- A search: the pair in hand and what is left, the automaton, and its state after the key in hand.
+-- A search: the stream that it reads, what is left of that, of the accepted pairs alone, the
+-- automaton, and its state after the key in hand.
 pub record Searching (T S : Type 0) : Type 0 where
-  pub standing : Standing
+  pub stream : Standing
+  pub left : Left
   pub automaton : T
   pub state : S

@@ -5,6 +5,7 @@ mod automaton;
 mod beginning;
 mod combination;
 mod glob;
+pub mod laws;
 mod levenshtein;
 mod prefix;
 mod range;

@@ -47,11 +47,8 @@ impl<'a, T: Automaton, A: Allocator> Model for ZeroTrieSearch<'a, T, A> {
     ghost Value = { Searching T T.State };
 
     ghost view = { λ s. record {
-      standing = record {
-        key = s.pairs.key;
-        value = s.pairs.value;
-        left = accepted_left (T.accepts s.automaton) s.pairs.left;
-      };
+      stream = s.pairs;
+      left = accepted_left (T.accepts s.automaton) s.pairs.left;
       automaton = s.automaton;
       state = s.state;
     } };
@@ -67,11 +64,11 @@ impl<'a, T: Automaton, A: Allocator> ZeroTrieSearch<'a, T, A> {
     ///
     /// The only error is a failed allocation for a longer key or a deeper branch.
     pub fn advance(&mut self) -> Result<bool, AllocError>
-        ensures lists { ListsOne (λ key. key) MemoryOnly self.old.standing.left
-            (item_of result self.new.standing) self.new.standing.left }
+        ensures lists { ListsOne (λ key. key) MemoryOnly self.old.left
+            (item_of result self.new.stream) self.new.left }
         ensures automaton { self.new.automaton ≡ self.old.automaton }
         ensures state { IfOk result (λ found. found ≡ true
-            → T.IsAfter self.new.automaton self.new.standing.key self.new.state) }
+            → T.IsAfter self.new.automaton self.new.stream.key self.new.state) }
     {
         next_accepted(
             &self.automaton,
@@ -85,7 +82,7 @@ impl<'a, T: Automaton, A: Allocator> ZeroTrieSearch<'a, T, A> {
     /// Before the first call and after the end, it is not a key of the trie.
     #[inline]
     pub fn key(&self) -> &[u8]
-        ensures { result.now ≡ self.now.standing.key }
+        ensures { result.now ≡ self.now.stream.key }
     {
         self.pairs.key()
     }
@@ -93,7 +90,7 @@ impl<'a, T: Automaton, A: Allocator> ZeroTrieSearch<'a, T, A> {
     /// Returns the value of the current pair.
     #[inline]
     pub fn value(&self) -> usize
-        ensures { result ≡ self.now.standing.value }
+        ensures { result ≡ self.now.stream.value }
     {
         self.pairs.value()
     }
@@ -111,7 +108,7 @@ impl<'a, T: Automaton, A: Allocator + Copy> ZeroTrieSearch<'a, T, A> {
     /// Lists the pairs of a stream whose keys are accepted. It does not allocate before the first
     /// call of `advance`.
     pub fn new(alloc: A, pairs: ZeroTrieStream<'a, A>, automaton: T) -> Self
-        ensures left { result.standing.left ≡ accepted_left (T.accepts automaton) pairs.entry.left }
+        ensures left { result.left ≡ accepted_left (T.accepts automaton) pairs.entry.left }
         ensures automaton { result.automaton ≡ automaton }
     {
         let state = automaton.start();

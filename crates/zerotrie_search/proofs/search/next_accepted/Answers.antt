@@ -10,7 +10,7 @@ loop-pairs-preserved g c =
     let hand = c.advance.new.self in
     let dead : (more : List ℕ) → accepts (take depth hand.key ++ more) ≡ false =
     subst (λ key. (more : List ℕ) → accepts (take depth key ++ more) ≡ false) c.key.ensures c.in-Dead.ensures.says in
-    let next = rw c.if-branch.true at c.in_ok-advance.ensures in
+    let next = rw c.if-branch.true at c.in_ok-advance.ensures.lists in
     record {
       trail = c.in-Dead.ensures.trail;
       same = skipped accepts (take depth hand.key) hand.left c.skip.new.self.left dead c.skip.ensures.skips

@@ -1,7 +1,7 @@
 use Rattle.std.proofs.Common.{◌≡◌, ◌+◌, length}
 use Rattle.std.specs.Option.{option_map}
 use Rattle.zerotrie_search.specs.Globs as glob
-use Rattle.zerotrie_search.proofs.glob.class_len.Given as goal
+use Rattle.zerotrie_search.proofs.glob.pattern.class_len.Given as goal
 
 abbrev pub invariant-loop-first : goal.invariant-loop-first
 invariant-loop-first l = record {

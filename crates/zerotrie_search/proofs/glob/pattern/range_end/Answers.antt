@@ -1,5 +1,5 @@
 use Rattle.zerotrie_search.proofs.GlobLemmas.{single_escaped, single_letter, range}
-use Rattle.zerotrie_search.proofs.glob.range_end.Goals as goal
+use Rattle.zerotrie_search.proofs.glob.pattern.range_end.Goals as goal
 
 pub returns-then-escaped-clause-has : goal.returns-then-escaped-clause-has
 returns-then-escaped-clause-has c e b =
