@@ -147,13 +147,13 @@ begins kind counts bytes text m means s is =
 pub takes : (counts : ℕ → Bool) (found whole : Option ℕ) (before after : Along) (f : ℕ × ℕ) → NextFront before (Some f) after → counts f.0 ≡ true
     → Finds counts found before whole → Finds counts (Some f.1) after whole
 takes counts found whole before after f next count old =
-    let n = next old.0 old.1 in
+    let n = next.2 old.0 old.1 in
     (n.0, n.1, sym (ap (λ b. last_of counts (cond b (Some f.1) found) (fronts_left after n.0)) count) ∙ sym (ap (last_of counts found) n.2) ∙ old.2)
 
 pub passes : (counts : ℕ → Bool) (found whole : Option ℕ) (before after : Along) (f : ℕ × ℕ) → NextFront before (Some f) after → counts f.0 ≡ false
     → Finds counts found before whole → Finds counts found after whole
 passes counts found whole before after f next count old =
-    let n = next old.0 old.1 in
+    let n = next.2 old.0 old.1 in
     (n.0, n.1, sym (ap (λ b. last_of counts (cond b (Some f.1) found) (fronts_left after n.0)) count) ∙ sym (ap (last_of counts found) n.2) ∙ old.2)
 
 -- no key comes any more, so what was found is the last of all that count

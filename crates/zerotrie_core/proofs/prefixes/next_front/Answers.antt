@@ -1,4 +1,4 @@
-use Rattle.std.proofs.Common.{◌≡◌, ◌≤◌, sym, subst, arith, length, Some, None}
+use Rattle.std.proofs.Common.{◌≡◌, ◌≤◌, refl, sym, subst, arith, length, Some, None}
 use Rattle.std.proofs.lemmas.Bool.{ltb-false}
 use Rattle.zerotrie_base.specs.Kind.{kind_with}
 use Rattle.zerotrie_core.specs.Places.{ListsAt, IsStep}
@@ -19,7 +19,7 @@ returns-in-Some-clause-next c =
     let kind = kind_with c.args.options in
     let start = along kind c.args.cursor.now c.args.text.now c.args.len.now c.args.looked.now in
     rw c.in-Some.ensures.looked
-    (found kind c.args.text.now start c.loop-value.cursor c.value_here.new.cursor c.loop-value.len c.in-Some.value c.loop-value.looked c.loop-value.invariant.goes (c.in-Some.ensures.take kind))
+    (found kind c.args.text.now start c.loop-value.cursor c.value_here.new.cursor c.loop-value.len c.in-Some.value c.loop-value.looked c.loop-value.invariant.inside refl c.loop-value.invariant.goes (c.in-Some.ensures.take kind))
 
 pub returns-in-Some-clause-less : goal.returns-in-Some-clause-less
 returns-in-Some-clause-less c =
