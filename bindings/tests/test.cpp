@@ -260,6 +260,11 @@ int main(int count, char **arguments) {
     } catch (const zerotrie::Error &error) {
         CHECK(error.status == ZEROTRIE_DUPLICATE_KEY && std::string(error.what()) == "a key was given twice: give each key once");
     }
+    // a cursor inside a span, the key C3 A9 with 5
+    const std::string span = "\xA2\xC3\xA9\x85";
+    auto inside = zerotrie::Trie(Kind::PerfectHash, span).with_prefix("\xC3");
+    CHECK(inside && inside->run() == "\xA9" && !inside->take_value() && inside->step(0xA9) == 0xA9 && inside->run().empty());
+    CHECK(inside->take_value() == 5 && inside->is_empty() && !inside->probe(0) && inside->run().empty());
     builds(map, bytes);
     rooms();
     keys_that_go();

@@ -378,7 +378,13 @@ impl<'a> ZeroTrie<'a> {
         let prefix = prefix.as_ref();
         // SAFETY: two slices.
         let raw = unsafe {
-            ffi::zerotrie_with_prefix(self.number(), self.bytes.as_ptr(), self.bytes.len(), prefix.as_ptr(), prefix.len())
+            ffi::zerotrie_with_prefix(
+                self.number(),
+                self.bytes.as_ptr(),
+                self.bytes.len(),
+                prefix.as_ptr(),
+                prefix.len(),
+            )
         };
         let cursor = Cursor { kind: self.kind, bytes: self.bytes, raw };
         (!cursor.is_empty()).then_some(cursor)
@@ -525,7 +531,8 @@ impl<'a> Cursor<'a> {
     pub fn take_value(&mut self) -> Option<usize> {
         let (bytes, mut value) = (self.bytes, 0);
         // SAFETY: as in `step`.
-        unsafe { ffi::zerotrie_cursor_take_value(bytes.as_ptr(), bytes.len(), &mut self.raw, &mut value) }.then_some(value)
+        unsafe { ffi::zerotrie_cursor_take_value(bytes.as_ptr(), bytes.len(), &mut self.raw, &mut value) }
+            .then_some(value)
     }
 
     /// What is left of the span that the cursor stands in: each key goes on with it. It is empty outside of spans.

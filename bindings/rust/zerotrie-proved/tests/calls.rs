@@ -73,6 +73,15 @@ fn a_long_key_takes_little() {
     assert!(pairs.eq([(long.into_bytes(), 1), (b"xy".to_vec(), 3)]));
 }
 
+/// The key C3 A9 with 5 is a span.
+#[test]
+fn a_cursor_stands_inside_a_span() {
+    let mut cursor = ZeroTrie::from_bytes(Kind::PerfectHash, b"\xA2\xC3\xA9\x85").with_prefix([0xC3]).unwrap();
+    assert_eq!((cursor.run(), cursor.take_value(), cursor.is_empty()), (&b"\xA9"[..], None, false));
+    assert_eq!((cursor.step(0xA9), cursor.run(), cursor.take_value()), (Some(0xA9), &b""[..], Some(5)));
+    assert!(cursor.is_empty() && cursor.run().is_empty() && cursor.probe(0).is_none());
+}
+
 #[test]
 fn refusals() {
     assert_eq!(build(Kind::SimpleAscii, [("å", 1)]), Err(Error::NonAscii));
