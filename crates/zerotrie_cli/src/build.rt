@@ -48,10 +48,7 @@ fn target_in<'a>(matches: &ArgMatches<'a>) -> Place<'a>
 
 /// Returns the build that is asked for. It reports its steps if that was asked for, or if messages
 /// go to a terminal. It is an error, with the message, if an option has a wrong word.
-pub fn build_in<'a>(
-    matches: &ArgMatches<'a>,
-    to_terminal: bool,
-) -> Result<Build<'a>, &'static str>
+pub fn build_in<'a>(matches: &ArgMatches<'a>, to_terminal: bool) -> Result<Build<'a>, &'static str>
     ensures from { IfOk result (λ build. IsSource (word_of matches.now (codes "IN")) build.from) }
     ensures to { IfOk result (λ build. IsTarget (word_of matches.now (codes "output")) build.to) }
     ensures plan { IfOk result (λ build. IsPlan matches.now build.plan) }

@@ -59,10 +59,7 @@ impl<'a, R: Files + AllocGlobal> Disk for SystemDisk<'a, R> {
             Ok(metadata) => Ok(found(&metadata)),
             Err(error)
                 if error.kind() == ErrorKind::NotFound
-                    && fs::symlink_metadata(self.system, path).is_err() =>
-            {
-                Ok(Found::Nothing)
-            }
+                    && fs::symlink_metadata(self.system, path).is_err() => { Ok(Found::Nothing) }
             Err(error) => Err(error),
         }
     }

@@ -10,7 +10,6 @@ mod writing;
 
 pub use name::is_name;
 pub use writing::write_trie_code;
-
 use zerotrie_core::TrieKind;
 
 /// A language that has the library.

@@ -51,11 +51,7 @@ impl<'a> Trie<'a> {
     ///
     /// It is an error exactly if the file has no trie. Only the search of the first fault takes
     /// memory.
-    pub fn open(
-        alloc: Global,
-        named: Option<TrieKind>,
-        file: &'a [u8],
-    ) -> Result<Self, OpenError>
+    pub fn open(alloc: Global, named: Option<TrieKind>, file: &'a [u8]) -> Result<Self, OpenError>
         ensures ok { IfOk result (λ trie. Holds named file.now trie.kind trie.bytes.now
             × IsWellFormed (kind_of trie.kind) trie.bytes.now) }
         ensures err { IfErr result (Explains named file.now) }

@@ -10,11 +10,10 @@ mod branches;
 mod counting;
 mod lines;
 
-pub use branches::Branches;
-pub use counting::Report;
-
 use crate::reports::lines::write_report;
 use crate::trie::Trie;
+pub use branches::Branches;
+pub use counting::Report;
 use std::alloc::Global;
 use std::io;
 use std::io::Write;

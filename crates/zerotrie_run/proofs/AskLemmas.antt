@@ -18,6 +18,7 @@ use Rattle.zerotrie_queries.proofs.AnswerLemmas.{begun_all}
 use Rattle.zerotrie_files.specs.Disks.{Story}
 use Rattle.zerotrie_queries.specs.declared.file.OpenError.TheVariants.{BadTag, NotWellFormed, OutOfMemory}
 use Rattle.zerotrie_run.specs.Runs.{Answers, AnswersInPart, AreKeys, KeysAnswered, KeysAnsweredInPart, IsRead, IsUnanswered, EndsAsk, ask_refusal, are_lines, of_lines}
+use Rattle.zerotrie_run.specs.Told.{HasReason}
 use Rattle.zerotrie_run.specs.declared.asking.AskError.{AskError}
 use Rattle.zerotrie_run.specs.declared.asking.AskError.TheVariants.{TwoInputs, Unread, NoTrie, Unanswered}
 use Rattle.zerotrie_run.specs.declared.command.TrieFile.{TrieFile}
@@ -113,3 +114,12 @@ ends_unanswered file q i j files held old new (Unanswered e) read same h = inr (
   opens = h.2;
   begun = same h.0 h.1 h.3;
 })
+
+-- why it has none is so of what was read
+pub reason_unanswered : (file : TrieFile) (q : Question) (i j : Option (List ℕ)) (files : Option Story) (held : List ℕ) (old new : Option (List ℕ)) (e : AskError) → IsRead file.place i files held
+    → IsUnanswered file q j held old new e
+    → HasReason file i files e
+reason_unanswered file q i j files held old new TwoInputs read h = tt
+reason_unanswered file q i j files held old new (Unread e) read h = tt
+reason_unanswered file q i j files held old new (NoTrie why) read h = (held, read, h.0)
+reason_unanswered file q i j files held old new (Unanswered e) read h = tt

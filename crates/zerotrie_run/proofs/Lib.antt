@@ -1,3 +1,5 @@
 mod AskLemmas
 mod LineLemmas
 mod MadeLemmas
+mod MessageLemmas
+mod ToldLemmas

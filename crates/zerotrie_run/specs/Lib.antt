@@ -2,3 +2,5 @@ pub mod Statuses
 pub mod Runs
 pub mod Laws
 pub mod Streams
+pub mod Messages
+pub mod Told

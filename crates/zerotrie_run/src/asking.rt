@@ -4,6 +4,7 @@ ghost use Rattle.std.specs.Prelude.{◌≡◌, ◌↔◌, ℕ, List, true, false
 ghost use Rattle.std.specs.Io.Buffered.{writer_contents};
 ghost use Rattle.zerotrie_core.specs.declared.TrieKind.{TrieKind};
 ghost use Rattle.zerotrie_run.specs.Runs.{Opens, IsUnopened, KeysAnswered, KeysAnsweredInPart, Answers, AnswersInPart, IsAsked, EndsAsk, IsUnanswered, IsDoubtful, ReadsTwice, LeavesKeys, LeavesInputOf, HandsOn, ask_refusal, asked_refusal, are_lines, of_lines};
+ghost use Rattle.zerotrie_run.specs.Told.{HasReason, NotesNumber, TellsMore};
 ghost use Rattle.zerotrie_run.specs.declared.command.Place.TheVariants.{Stream};
 ghost use Rattle.zerotrie_run.specs.declared.command.Command.TheVariants.{Ask};
 ghost use Rattle.zerotrie_run.specs.declared.asking.AskError.TheVariants.{TwoInputs};
@@ -15,8 +16,8 @@ use crate::status::Status;
 use crate::stdin_lines::{AnswerError, answer_lines};
 use std::alloc::Global;
 use std::io;
-use std::io::{BufWriter, Read, Write};
-use zerotrie_files::{Disk, Store};
+use std::io::{BufWriter, ErrorKind, Read, Write};
+use zerotrie_files::{Disk, Noted, Store};
 use zerotrie_queries::{
     Asked, OpenError, Trie, write_answers, write_list, write_trie_code, write_trie_report,
     write_trie_view,
@@ -27,7 +28,7 @@ use zerotrie_queries::{
 pub enum AskError {
     /// Standard input can't be both the file and the keys.
     TwoInputs,
-    /// The file can't be read.
+    /// The file can't be read, or memory was refused before it was opened.
     Unread(io::Error),
     /// The file has no trie.
     NoTrie(OpenError),
@@ -49,6 +50,16 @@ impl AskError {
             AskError::Unread(_) | AskError::Unanswered(_) => None,
         }
     }
+
+    /// Whether who reads the output has closed it.
+    pub fn is_closed(&self) -> bool {
+        match self {
+            AskError::Unanswered(AnswerError::Output(error)) => {
+                error.kind() == ErrorKind::BrokenPipe
+            }
+            _ => false,
+        }
+    }
 }
 
 /// Whether the keys of a question are the lines of standard input.
@@ -62,7 +73,7 @@ fn reads_lines(question: Question<'_>) -> bool
 }
 
 /// Returns whether standard input is to be both the file and the keys.
-fn reads_twice(place: Place<'_>, question: Question<'_>) -> bool
+pub fn reads_twice(place: Place<'_>, question: Question<'_>) -> bool
     ensures { IsTrue result ↔ (place.entry ≡ Stream) × (of_lines question.entry ≡ true) }
 {
     match place {
@@ -178,7 +189,7 @@ pub fn ask<D: Disk, R: Read, W: Write + Drop, M: Write>(
     files: &mut Store<D>,
     input: &mut R,
     output: &mut BufWriter<W>,
-    messages: &mut M,
+    messages: &mut Noted<M>,
 ) -> Result<bool, AskError>
     ensures ok { IfOk result (λ all. IsAsked file.entry question.entry (R.remaining input.old)
         (D.story files.old.disk) (writer_contents W.contents output.old) (writer_contents W.contents output.new) all) }
@@ -186,6 +197,12 @@ pub fn ask<D: Disk, R: Read, W: Write + Drop, M: Write>(
         (D.story files.old.disk) (writer_contents W.contents output.old) (writer_contents W.contents output.new) (ask_refusal e)) }
     ensures same { files.new.disk ≡ files.old.disk }
     ensures handed { IfOk result (λ _. HandsOn output.old output.new) }
+    ensures why { IfErr result (HasReason file.entry (R.remaining input.old) (D.story files.old.disk)) }
+    ensures notes { IfOk result (λ _. messages.new.failed ≡ false
+        → NotesNumber file.entry (R.remaining input.old) (D.story files.old.disk)
+        (M.contents messages.old.inner) (M.contents messages.new.inner)) }
+    ensures tells { messages.new.failed ≡ false
+        → TellsMore (M.contents messages.old.inner) (M.contents messages.new.inner) }
     ensures quiet { (IsDoubtful file.entry (R.remaining input.old) (D.story files.old.disk) → ⊥)
         → messages.new ≡ messages.old }
     ensures twice { ReadsTwice (Ask file.entry question.entry) → result ≡ Err TwoInputs }
@@ -200,7 +217,9 @@ pub fn ask<D: Disk, R: Read, W: Write + Drop, M: Write>(
         Err(error) => return Err(AskError::Unread(error)),
     };
     let held = held.as_slice();
-    tell_number(messages, file, held);
+    if let Err(error) = tell_number(alloc, messages, file, held) {
+        return Err(AskError::Unread(io::Error::from(error)));
+    }
     let all = match answer_held(alloc, file, held, question, input, output) {
         Ok(all) => all,
         Err(error) => return Err(error),

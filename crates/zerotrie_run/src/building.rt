@@ -3,16 +3,19 @@
 ghost use Rattle.std.specs.Prelude.{◌≡◌, false, IfErr, OnOk};
 ghost use Rattle.zerotrie_run.specs.Runs.{world, IsMade, EndsBuild, HandsOn, build_refusal};
 ghost use Rattle.std.specs.Io.Buffered.{writer_contents};
+ghost use Rattle.zerotrie_making.specs.declared.refused.MakeError.TheVariants.{OutOfMemory};
+ghost use Rattle.zerotrie_run.specs.Told.{HasCause, TellsMore, TellsSteps};
+ghost use Rattle.zerotrie_run.specs.declared.building.BuildError.TheVariants.{NotMade};
 ghost use Rattle.zerotrie_run.specs.declared.command.Place.TheVariants.{Stream};
 
 use crate::command::Build;
-use crate::messages::{tell_made, tell_read, tell_written};
+use crate::messages::{source_name, step_text, target_name, tell};
 use crate::reading::{read_place, write_place};
 use crate::status::Status;
-use std::alloc::Global;
+use std::alloc::{AllocError, Global};
 use std::io;
-use std::io::{BufWriter, Read, Write};
-use zerotrie_files::{Disk, Store};
+use std::io::{BufWriter, ErrorKind, Read, Write};
+use zerotrie_files::{Disk, Noted, Store};
 use zerotrie_making::{MakeError, make};
 
 /// Why no trie file is made.
@@ -36,6 +39,22 @@ impl BuildError {
             BuildError::Unread(_) | BuildError::Unwritten(_) => None,
         }
     }
+
+    /// Whether who reads the output has closed it.
+    pub fn is_closed(&self) -> bool {
+        match self {
+            BuildError::Unwritten(error) => error.kind() == ErrorKind::BrokenPipe,
+            BuildError::Unread(_) | BuildError::NotMade(_) => false,
+        }
+    }
+}
+
+impl From<AllocError> for BuildError {
+    ghost from_gives = { λ _ e. e ≡ NotMade OutOfMemory };
+
+    fn from(_: AllocError) -> Self {
+        BuildError::NotMade(MakeError::OutOfMemory)
+    }
 }
 
 /// Makes a trie file, and writes it to its place. It reports each step as it ends, if that was
@@ -46,7 +65,7 @@ pub fn build<D: Disk, R: Read, W: Write + Drop, M: Write>(
     files: &mut Store<D>,
     input: &mut R,
     output: &mut BufWriter<W>,
-    messages: &mut M,
+    messages: &mut Noted<M>,
 ) -> Result<(), BuildError>
     ensures ok { OnOk result (IsMade build.entry (R.remaining input.old)
         (world (D.story files.old.disk) (writer_contents W.contents output.old))
@@ -55,6 +74,12 @@ pub fn build<D: Disk, R: Read, W: Write + Drop, M: Write>(
         (world (D.story files.old.disk) (writer_contents W.contents output.old))
         (world (D.story files.new.disk) (writer_contents W.contents output.new)) (build_refusal e)) }
     ensures handed { OnOk result (HandsOn output.old output.new) }
+    ensures why { IfErr result (HasCause build.entry (R.remaining input.old) (D.story files.old.disk)) }
+    ensures steps { OnOk result (messages.new.failed ≡ false
+        → TellsSteps build.entry (R.remaining input.old) (D.story files.old.disk)
+        (M.contents messages.old.inner) (M.contents messages.new.inner)) }
+    ensures tells { messages.new.failed ≡ false
+        → TellsMore (M.contents messages.old.inner) (M.contents messages.new.inner) }
     ensures quiet { build.entry.progress ≡ false → messages.new ≡ messages.old }
     ensures unread { (build.entry.from ≡ Stream → ⊥) → input.new ≡ input.old }
 {
@@ -62,15 +87,25 @@ pub fn build<D: Disk, R: Read, W: Write + Drop, M: Write>(
         Ok(held) => held,
         Err(error) => return Err(BuildError::Unread(error)),
     };
-    tell_read(messages, build, held.len());
+    let read = step_text(
+        alloc,
+        build.progress,
+        source_name(build.from),
+        "read",
+        held.len(),
+    )?;
+    tell(messages, read.as_slice());
     let file = match make(alloc, build.plan, held) {
         Ok(file) => file,
         Err(error) => return Err(BuildError::NotMade(error)),
     };
-    tell_made(messages, build, file.len());
+    let place = target_name(build.to);
+    let made = step_text(alloc, build.progress, place, "made", file.len())?;
+    let written = step_text(alloc, build.progress, place, "wrote", file.len())?;
+    tell(messages, made.as_slice());
     match write_place(alloc, build.to, file.as_slice(), files, output) {
         Ok(()) => {
-            tell_written(messages, build, file.len());
+            tell(messages, written.as_slice());
             Ok(())
         }
         Err(error) => Err(BuildError::Unwritten(error)),

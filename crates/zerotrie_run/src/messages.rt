@@ -1,22 +1,28 @@
-//! Messages on standard error. If one can't be written, the status alone reports the fault.
+//! Messages on standard error: each is a line of text, that is made before it is written.
 
-ghost use Rattle.std.specs.Prelude.{◌≡◌, false, IfSome};
+ghost use Rattle.std.specs.Prelude.{◌≡◌, ◌≢◌, ◌⊎◌, ◌++◌, ◌∷◌, [], List, ℕ, true, false, IfOk, IfSome, IfNone, OnOk, codes, take};
+ghost use Rattle.std.specs.Io.KnownBytes.{Appends};
 ghost use Rattle.zerotrie_run.specs.Runs.{HasNumberToo};
+ghost use Rattle.zerotrie_run.specs.Messages.{BeginsWithNoDigit, Extends, IsLine, Names, NamesPairs, Says, SaysKeys, TellsAsk, TellsBuild, TellsMade, TellsNoPair, TellsNoTrie, told_key};
+ghost use Rattle.zerotrie_run.specs.Told.{LineTold, TellsMore, place_name, told_step};
 
 use crate::asking::AskError;
 use crate::building::BuildError;
 use crate::command::{Build, Place, TrieFile};
 use crate::stdin_lines::AnswerError;
-use std::alloc::Global;
+use std::alloc::{AllocError, Global};
 use std::io;
 use std::io::{ErrorKind, Write};
 use zerotrie_any::TagError;
-use zerotrie_core::{TrieKind, ZeroTrieBuildError};
-use zerotrie_lines::{BadLine, Format, write_escaped};
+use zerotrie_core::{Fault, TrieKind, ZeroTrieBuildError};
+use zerotrie_files::Noted;
+use zerotrie_lines::{BadLine, Format, write_escaped, write_number};
 use zerotrie_making::{MakeError, NoPair, Shown, Source};
 use zerotrie_queries::{OpenError, Trie};
 
 const STANDARD_INPUT: &str = "standard input";
+
+const TWO_INPUTS: &str = "zerotrie: standard input can't be both the file and the keys";
 
 const STANDARD_OUTPUT: &str = "standard output";
 
@@ -24,108 +30,270 @@ const STANDARD_OUTPUT: &str = "standard output";
 const SHOWN: usize = 100;
 
 /// How messages name the place that bytes come from.
-fn source_name(place: Place<'_>) -> &str {
+pub fn source_name(place: Place<'_>) -> &str
+    ensures { result.now ≡ place_name place.entry (codes "standard input") }
+{
     place.name(STANDARD_INPUT)
 }
 
 /// How messages name the place that bytes go to.
-fn target_name(place: Place<'_>) -> &str {
+pub fn target_name(place: Place<'_>) -> &str
+    ensures { result.now ≡ place_name place.entry (codes "standard output") }
+{
     place.name(STANDARD_OUTPUT)
 }
 
 /// From where the places in a file are counted.
-fn counted_from(file: TrieFile<'_>) -> &'static str {
+fn counted_from(file: TrieFile<'_>) -> &'static str
+    ensures { BeginsWithNoDigit result.now }
+{
     match file.kind {
-        Some(_) => "",
+        Some(_) => " of the file",
         None => " after the number of the kind",
     }
 }
 
-/// Tells why a file has no trie, and where its first fault is.
-fn tell_no_trie<M: Write>(messages: &mut M, file: TrieFile<'_>, why: &OpenError) -> io::Result<()> {
+/// Writes a text. If that fails, the messages note it, and the status alone tells the rest.
+pub fn tell<M: Write>(messages: &mut Noted<M>, text: &[u8])
+    ensures told { messages.new.failed ≡ false → (messages.old.failed ≡ false)
+        × Appends (M.contents messages.old.inner) (M.contents messages.new.inner) text.now }
+    ensures quiet { text.now ≡ [] → messages.new ≡ messages.old }
+{
+    if !text.is_empty() {
+        let _ = messages.write_all(text);
+    }
+}
+
+/// Adds words.
+fn add(text: &mut Vec<u8>, words: &str) -> Result<(), AllocError>
+    ensures exact { OnOk result (text.new.items ≡ text.old.items ++ words.now) }
+    ensures adds { OnOk result (Extends text.old.items text.new.items) }
+{
+    text.extend_from_slice(words.as_bytes())
+}
+
+/// Adds a number after words and a space, and then other words.
+#[tactic(auto, using(crate::proofs::MessageLemmas::extends_both, crate::proofs::MessageLemmas::names_here))]
+fn add_number(
+    text: &mut Vec<u8>,
+    before: &str,
+    number: usize,
+    after: &str,
+) -> Result<(), AllocError>
+    requires { BeginsWithNoDigit after.now }
+    ensures names { OnOk result (Names text.new.items number) }
+    ensures adds { OnOk result (Extends text.old.items text.new.items) }
+{
+    add(text, before)?;
+    add(text, " ")?;
+    write_number(text, number)?;
+    add(text, after)
+}
+
+/// Adds the place that a message is about.
+#[tactic(auto, using(crate::proofs::MessageLemmas::extends_both))]
+fn add_place(text: &mut Vec<u8>, place: &str) -> Result<(), AllocError>
+    ensures { OnOk result (Extends text.old.items text.new.items) }
+{
+    add(text, "zerotrie: ")?;
+    add(text, place)?;
+    add(text, ": ")
+}
+
+/// Ends a line.
+fn end_line(text: &mut Vec<u8>) -> Result<(), AllocError>
+    ensures line { OnOk result (IsLine text.new.items) }
+    ensures adds { OnOk result (Extends text.old.items text.new.items) }
+{
+    text.push(b'\n')?;
+    Ok(())
+}
+
+/// A line that tells of a place.
+fn line_on(alloc: Global, place: &str, words: &str) -> Result<Vec<u8>, AllocError>
+    ensures { IfOk result (λ text. IsLine text.items) }
+{
+    let mut text = Vec::new(alloc);
+    add_place(&mut text, place)?;
+    add(&mut text, words)?;
+    end_line(&mut text)?;
+    Ok(text)
+}
+
+/// A line that tells of a fault at a place.
+fn fault_on(alloc: Global, place: &str, error: &io::Error) -> Result<Vec<u8>, AllocError>
+    ensures { IfOk result (λ text. IsLine text.items) }
+{
+    let mut text = Vec::new(alloc);
+    write!(text, "zerotrie: {place}: {error}").map_err(|_| AllocError)?;
+    end_line(&mut text)?;
+    Ok(text)
+}
+
+/// A line that tells of the first fault in the bytes of a file.
+#[tactic(auto, using(crate::proofs::MessageLemmas::names_on))]
+fn malformed(
+    alloc: Global,
+    file: TrieFile<'_>,
+    kind: TrieKind,
+    fault: Fault,
+) -> Result<Vec<u8>, AllocError>
+    ensures line { IfOk result (λ text. IsLine text.items) }
+    ensures names { IfOk result (λ text. Names text.items fault.place) }
+{
+    let path = source_name(file.place);
+    let name = kind.name();
+    let cause = fault.cause;
+    let mut text = Vec::new(alloc);
+    write!(text, "zerotrie: {path}: no trie of kind {name}: {cause}").map_err(|_| AllocError)?;
+    add_number(&mut text, ", at byte", fault.place, counted_from(file))?;
+    end_line(&mut text)?;
+    Ok(text)
+}
+
+/// A line that tells why a file has no trie.
+fn no_trie(alloc: Global, file: TrieFile<'_>, why: &OpenError) -> Result<Vec<u8>, AllocError>
+    ensures line { IfOk result (λ text. IsLine text.items) }
+    ensures tells { IfOk result (λ text. TellsNoTrie why.now text.items) }
+{
     let path = source_name(file.place);
     match why {
-        OpenError::BadTag(TagError::Empty) => {
-            writeln!(messages, "zerotrie: {path}: the file is empty")
-        }
-        OpenError::BadTag(TagError::InvalidTag) => writeln!(
-            messages,
-            "zerotrie: {path}: no file of zerotrie build: no kind has the number that the file begins with; if it is bare bytes, name their kind by --kind"
+        OpenError::BadTag(TagError::Empty) => line_on(alloc, path, "the file is empty"),
+        OpenError::BadTag(TagError::InvalidTag) => line_on(
+            alloc,
+            path,
+            "no file of zerotrie build: no kind has the number that the file begins with; if it is bare bytes, name their kind by --kind",
         ),
-        OpenError::NotWellFormed(kind, fault) => {
-            let name = kind.name();
-            let counted = counted_from(file);
-            writeln!(
-                messages,
-                "zerotrie: {path}: no trie of kind {name}: {fault}{counted}"
-            )
-        }
-        OpenError::OutOfMemory => writeln!(messages, "zerotrie: {path}: out of memory"),
+        OpenError::NotWellFormed(kind, fault) => malformed(alloc, file, *kind, *fault),
+        OpenError::OutOfMemory => line_on(alloc, path, "out of memory"),
     }
 }
 
 /// The kind whose number a file begins with, if it is read as bare bytes of a kind that was named.
 fn number_too(file: TrieFile<'_>, held: &[u8]) -> Option<TrieKind>
-    ensures { IfSome result (λ _. HasNumberToo file.entry.kind held.now) }
+    ensures some { IfSome result (λ _. HasNumberToo file.entry.kind held.now) }
+    ensures none { IfNone result (HasNumberToo file.entry.kind held.now → ⊥) }
 {
     file.kind?;
     let trie = Trie::of_tagged(held).ok()?;
     Some(trie.kind)
 }
 
-/// Warns if a file that is read as bare bytes begins with the number of a kind. Most often its kind
-/// was named again as for its build, and the number is read as the first byte of every key.
-pub fn tell_number<M: Write>(messages: &mut M, file: TrieFile<'_>, held: &[u8])
-    ensures { (HasNumberToo file.entry.kind held.now → ⊥) → messages.new ≡ messages.old }
-{
-    if let Some(kind) = number_too(file, held) {
-        let path = source_name(file.place);
-        let name = kind.name();
-        let _ = writeln!(
-            messages,
-            "zerotrie: {path}: read as bare bytes, though its first byte is the number of kind {name}: leave out --kind unless every key begins with that byte"
-        );
-    }
-}
-
-/// Reports that bytes can't be written to a place. It says nothing if the reader has closed the
-/// pipe.
-fn tell_unwritten<M: Write>(messages: &mut M, place: &str, error: &io::Error) -> io::Result<()> {
-    match error.kind() {
-        ErrorKind::BrokenPipe => Ok(()),
-        ErrorKind::OutOfMemory => writeln!(messages, "zerotrie: out of memory"),
-        ErrorKind::AlreadyExists => writeln!(
-            messages,
-            "zerotrie: {place}: builds that were interrupted left a hundred new files beside it, or beside the file that it leads to, with .0.tmp to .99.tmp after its name: remove these"
-        ),
-        ErrorKind::PermissionDenied => writeln!(
-            messages,
-            "zerotrie: {place}: {error}; it has to be writable, and so has its folder, where a new file is made that takes its place"
-        ),
-        _ => writeln!(messages, "zerotrie: {place}: {error}"),
-    }
-}
-
-/// Tells why a question has no answer.
-pub fn tell_ask<M: Write>(
-    messages: &mut M,
+/// A warning if a file that is read as bare bytes begins with the number of a kind. Most often its
+/// kind was named again as for its build, and the number is read as the first byte of every key.
+fn note_on_number(
+    alloc: Global,
     file: TrieFile<'_>,
-    error: &AskError,
-) -> io::Result<()> {
+    held: &[u8],
+) -> Result<Option<Vec<u8>>, AllocError>
+    ensures some { IfOk result (λ note. IfSome note (λ text. IsLine text.items)) }
+    ensures why { IfOk result (λ note. IfSome note (λ _. HasNumberToo file.entry.kind held.now)) }
+    ensures none { IfOk result (λ note. IfNone note (HasNumberToo file.entry.kind held.now → ⊥)) }
+{
+    let Some(kind) = number_too(file, held) else {
+        return Ok(None);
+    };
+    let mut text = Vec::new(alloc);
+    add_place(&mut text, source_name(file.place))?;
+    add(
+        &mut text,
+        "read as bare bytes, though its first byte is the number of kind ",
+    )?;
+    add(&mut text, kind.name())?;
+    add(
+        &mut text,
+        ": leave out --kind unless every key begins with that byte",
+    )?;
+    end_line(&mut text)?;
+    Ok(Some(text))
+}
+
+/// Warns if a file that is read as bare bytes begins with the number of a kind. It fails only if it
+/// is out of memory.
+pub fn tell_number<M: Write>(
+    alloc: Global,
+    messages: &mut Noted<M>,
+    file: TrieFile<'_>,
+    held: &[u8],
+) -> Result<(), AllocError>
+    ensures quiet { (HasNumberToo file.entry.kind held.now → ⊥) → messages.new ≡ messages.old }
+    ensures tells { messages.new.failed ≡ false → (messages.old.failed ≡ false)
+        × TellsMore (M.contents messages.old.inner) (M.contents messages.new.inner) }
+    ensures notes { OnOk result (messages.new.failed ≡ false
+        → HasNumberToo file.entry.kind held.now → (text : List ℕ) × IsLine text
+        × Appends (M.contents messages.old.inner) (M.contents messages.new.inner) text) }
+{
+    match note_on_number(alloc, file, held)? {
+        Some(note) => {
+            tell(messages, note.as_slice());
+            Ok(())
+        }
+        None => Ok(()),
+    }
+}
+
+/// A line that tells that bytes can't be written to a place.
+fn unwritten(alloc: Global, place: &str, error: &io::Error) -> Result<Vec<u8>, AllocError>
+    ensures { IfOk result (λ text. IsLine text.items) }
+{
+    match error.kind() {
+        ErrorKind::AlreadyExists => line_on(
+            alloc,
+            place,
+            "builds that were interrupted left a hundred new files beside it, or beside the file that it leads to, with .0.tmp to .99.tmp after its name: remove these",
+        ),
+        ErrorKind::PermissionDenied => {
+            let mut text = Vec::new(alloc);
+            write!(
+                text,
+                "zerotrie: {place}: {error}; it has to be writable, and so has its folder, where a new file is made that takes its place"
+            )
+            .map_err(|_| AllocError)?;
+            end_line(&mut text)?;
+            Ok(text)
+        }
+        _ => fault_on(alloc, place, error),
+    }
+}
+
+/// Tells that standard input can't be both the file and the keys. It takes no memory.
+pub fn tell_two_inputs<M: Write>(messages: &mut Noted<M>)
+    ensures { messages.new.failed ≡ false → (messages.old.failed ≡ false)
+        × LineTold (M.contents messages.old.inner) (M.contents messages.new.inner) }
+{
+    let words = TWO_INPUTS.as_bytes();
+    tell(messages, words);
+    tell(messages, b"\n");
+}
+
+/// The bytes that tell that it is out of memory.
+pub const NO_MEMORY: &[u8] = b"zerotrie: out of memory\n";
+
+/// A line that tells that standard input can't be both the file and the keys.
+fn two_inputs(alloc: Global) -> Result<Vec<u8>, AllocError>
+    ensures { IfOk result (λ text. IsLine text.items) }
+{
+    let mut text = Vec::new(alloc);
+    add(&mut text, TWO_INPUTS)?;
+    end_line(&mut text)?;
+    Ok(text)
+}
+
+/// A line that tells why a question has no answer.
+pub fn ask_text(alloc: Global, file: TrieFile<'_>, error: &AskError) -> Result<Vec<u8>, AllocError>
+    ensures { IfOk result (λ text. TellsAsk error.now text.items) }
+{
     let path = source_name(file.place);
     match error {
-        AskError::TwoInputs => writeln!(
-            messages,
-            "zerotrie: standard input can't be both the file and the keys"
+        AskError::TwoInputs => two_inputs(alloc),
+        AskError::Unread(error) => fault_on(alloc, path, error),
+        AskError::NoTrie(why) => no_trie(alloc, file, why),
+        AskError::Unanswered(AnswerError::Input(error)) => fault_on(alloc, STANDARD_INPUT, error),
+        AskError::Unanswered(AnswerError::Output(error)) => unwritten(
+            alloc,
+            STANDARD_OUTPUT,
+            error,
         ),
-        AskError::Unread(error) => writeln!(messages, "zerotrie: {path}: {error}"),
-        AskError::NoTrie(why) => tell_no_trie(messages, file, why),
-        AskError::Unanswered(AnswerError::Input(error)) => {
-            writeln!(messages, "zerotrie: standard input: {error}")
-        }
-        AskError::Unanswered(AnswerError::Output(error)) => {
-            tell_unwritten(messages, STANDARD_OUTPUT, error)
-        }
     }
 }
 
@@ -149,51 +317,138 @@ fn are_same_without_case(shown: &Shown) -> bool {
     key.eq_ignore_ascii_case(shown.second.key.as_slice())
 }
 
-/// Adds why keys are refused together.
-fn add_reason(text: &mut Vec<u8>, unit: &str, shown: &Shown) -> io::Result<()> {
-    let first = shown.first.number;
-    let second = shown.second.number;
+/// Adds the numbers of two pairs, and what is said of them.
+#[tactic(auto, using(crate::proofs::MessageLemmas::extends_both, crate::proofs::MessageLemmas::names_on))]
+fn add_both(text: &mut Vec<u8>, unit: &str, shown: &Shown, words: &str) -> Result<(), AllocError>
+    requires { BeginsWithNoDigit words.now }
+    ensures names { OnOk result (NamesPairs shown.now text.new.items) }
+    ensures adds { OnOk result (Extends text.old.items text.new.items) }
+{
+    add(text, unit)?;
+    add_number(text, "s", shown.first.number, " and")?;
+    add_number(text, "", shown.second.number, words)
+}
+
+/// Adds why keys are refused together, and the numbers of their pairs.
+#[tactic(auto, using(crate::proofs::MessageLemmas::extends_both, crate::proofs::MessageLemmas::names_on))]
+fn add_reason(text: &mut Vec<u8>, unit: &str, shown: &Shown) -> Result<(), AllocError>
+    ensures names { OnOk result (NamesPairs shown.now text.new.items) }
+    ensures adds { OnOk result (Extends text.old.items text.new.items) }
+{
     match &shown.error {
         ZeroTrieBuildError::DuplicateKey | ZeroTrieBuildError::Unsorted if are_same(shown) => {
-            write!(text, "{unit}s {first} and {second} have the same key: ")
+            add_both(text, unit, shown, " have the same key: ")
         }
-        ZeroTrieBuildError::Unsorted => write!(
+        ZeroTrieBuildError::Unsorted => {
+            add_number(
+                text,
+                unit,
+                shown.second.number,
+                ": its key is not above that of ",
+            )?;
+            add_number(
+                text,
+                unit,
+                shown.first.number,
+                "; sort the input by the bytes of its keys, or leave out --sorted: ",
+            )
+        }
+        ZeroTrieBuildError::NonAsciiError => add_number(
             text,
-            "{unit} {second}: its key is not above that of {unit} {first}; sort the input by the bytes of its keys, or leave out --sorted: "
+            unit,
+            shown.first.number,
+            ": its key is not ASCII; take --kind hash or --kind ext: ",
         ),
-        ZeroTrieBuildError::NonAsciiError => write!(
+        _ if are_same_without_case(shown) => add_both(
             text,
-            "{unit} {first}: its key is not ASCII; take --kind hash or --kind ext: "
+            unit,
+            shown,
+            ": their keys differ only in case, so they are one key to the kind; leave one out: ",
         ),
-        _ if are_same_without_case(shown) => write!(
+        _ => add_both(
             text,
-            "{unit}s {first} and {second}: their keys differ only in case, so they are one key to the kind; leave one out: "
-        ),
-        _ => write!(
-            text,
-            "{unit}s {first} and {second}: their keys begin alike but for the case of a letter; --lower-case brings all keys into lower case: "
+            unit,
+            shown,
+            ": their keys begin alike but for the case of a letter; --lower-case brings all keys into lower case: ",
         ),
     }
+}
+
+/// The bytes of a key that a message shows: its first 100.
+#[tactic(auto, using(crate::proofs::MessageLemmas::is_short))]
+fn front_of(key: &[u8]) -> &[u8]
+    ensures { result.now ≡ take 100 key.now }
+{
+    if key.len() <= SHOWN {
+        return key;
+    }
+    let (front, _) = key.split_at(SHOWN);
+    front
+}
+
+/// Adds the length of a key of which only the front is told.
+#[tactic(auto, using(crate::proofs::MessageLemmas::extends_both))]
+fn add_len(text: &mut Vec<u8>, len: usize) -> Result<(), AllocError>
+    ensures { OnOk result (Extends text.old.items text.new.items) }
+{
+    add(text, ".. (")?;
+    write_number(text, len)?;
+    add(text, " bytes)")
+}
+
+/// Adds the front of a key with its escapes.
+#[tactic(auto, using(crate::proofs::MessageLemmas::says_here))]
+fn add_front(text: &mut Vec<u8>, key: &[u8]) -> Result<(), AllocError>
+    ensures says { OnOk result (Says text.new.items (told_key key.now)) }
+    ensures adds { OnOk result (Extends text.old.items text.new.items) }
+{
+    write_escaped(text, front_of(key))
 }
 
 /// Adds a key with its escapes, the front of a key that is too long to read, or words for the empty
 /// key.
-fn add_key(text: &mut Vec<u8>, key: &[u8]) -> io::Result<()> {
+#[tactic(auto, using(crate::proofs::MessageLemmas::extends_both, crate::proofs::MessageLemmas::says_on))]
+fn add_key(text: &mut Vec<u8>, key: &[u8]) -> Result<(), AllocError>
+    ensures says { OnOk result (Says text.new.items (told_key key.now)) }
+    ensures adds { OnOk result (Extends text.old.items text.new.items) }
+{
+    add_front(text, key)?;
     if key.is_empty() {
-        return write!(text, "the empty key");
+        return add(text, "the empty key");
     }
-    match key.get(..SHOWN) {
-        Some(front) if key.len() > SHOWN => {
-            write_escaped(text, front)?;
-            write!(text, ".. ({} bytes)", key.len())?;
-        }
-        _ => write_escaped(text, key)?,
+    if key.len() <= SHOWN {
+        return Ok(());
     }
-    Ok(())
+    add_len(text, key.len())
+}
+
+/// Adds a second key.
+#[tactic(auto, using(crate::proofs::MessageLemmas::extends_both))]
+fn add_next_key(text: &mut Vec<u8>, key: &[u8]) -> Result<(), AllocError>
+    ensures says { OnOk result (Says text.new.items (told_key key.now)) }
+    ensures adds { OnOk result (Extends text.old.items text.new.items) }
+{
+    add(text, " and ")?;
+    add_key(text, key)
+}
+
+/// Adds two keys.
+#[tactic(auto, using(crate::proofs::MessageLemmas::extends_both))]
+fn add_two_keys(text: &mut Vec<u8>, first: &[u8], second: &[u8]) -> Result<(), AllocError>
+    ensures first { OnOk result (Says text.new.items (told_key first.now)) }
+    ensures second { OnOk result (Says text.new.items (told_key second.now)) }
+    ensures adds { OnOk result (Extends text.old.items text.new.items) }
+{
+    add_key(text, first)?;
+    add_next_key(text, second)
 }
 
 /// Adds the keys that show it.
-fn add_keys(text: &mut Vec<u8>, shown: &Shown) -> io::Result<()> {
+#[tactic(auto, using(crate::proofs::MessageLemmas::extends_both, crate::proofs::MessageLemmas::says_on))]
+fn add_keys(text: &mut Vec<u8>, shown: &Shown) -> Result<(), AllocError>
+    ensures says { OnOk result (SaysKeys shown.now text.new.items) }
+    ensures adds { OnOk result (Extends text.old.items text.new.items) }
+{
     let first = shown.first.key.as_slice();
     let second = shown.second.key.as_slice();
     match &shown.error {
@@ -201,11 +456,7 @@ fn add_keys(text: &mut Vec<u8>, shown: &Shown) -> io::Result<()> {
             add_key(text, first)
         }
         ZeroTrieBuildError::Unsorted => add_key(text, second),
-        _ => {
-            add_key(text, first)?;
-            write!(text, " and ")?;
-            add_key(text, second)
-        }
+        _ => add_two_keys(text, first, second),
     }
 }
 
@@ -221,124 +472,149 @@ fn hint(source: Source, number: usize, bad: BadLine) -> &'static str {
 }
 
 /// Adds where text is no JSON value.
-fn add_not_json(text: &mut Vec<u8>, line: usize, column: usize) -> io::Result<()> {
-    write!(text, "line {line}, column {column}: no JSON value")?;
-    if line == 1 && column == 1 {
-        write!(text, "; if a byte order mark stands in front, leave it out")?;
-    }
-    Ok(())
+#[tactic(auto, using(crate::proofs::MessageLemmas::extends_both, crate::proofs::MessageLemmas::names_on))]
+fn add_not_json(text: &mut Vec<u8>, line: usize, column: usize) -> Result<(), AllocError>
+    ensures line { OnOk result (Names text.new.items line) }
+    ensures column { OnOk result (Names text.new.items column) }
+    ensures adds { OnOk result (Extends text.old.items text.new.items) }
+{
+    let hint = if line == 1 && column == 1 {
+        "; if a byte order mark stands in front, leave it out"
+    } else {
+        ""
+    };
+    add_number(text, "line", line, ",")?;
+    add_number(text, " column", column, ": no JSON value")?;
+    add(text, hint)
 }
 
 /// Adds which member or item of a JSON value is no pair.
-fn add_no_pair(text: &mut Vec<u8>, bad: &NoPair) -> io::Result<()> {
+#[tactic(auto, using(crate::proofs::MessageLemmas::extends_both, crate::proofs::MessageLemmas::says_on))]
+fn add_no_pair(text: &mut Vec<u8>, bad: &NoPair) -> Result<(), AllocError>
+    ensures tells { OnOk result (TellsNoPair bad.now text.new.items) }
+    ensures adds { OnOk result (Extends text.old.items text.new.items) }
+{
     match bad {
         NoPair::Member(key) => {
-            write!(
+            add(
                 text,
-                "the value of this key is not written as a whole number below 2^64: "
+                "the value of this key is not written as a whole number below 2^64: ",
             )?;
             add_key(text, key.as_slice())
         }
-        NoPair::Item(number) => write!(
+        NoPair::Item(number) => add_number(
             text,
-            "pair {number}: no list of a key and of a value that is written as a whole number below 2^64"
+            "pair",
+            *number,
+            ": no list of a key and of a value that is written as a whole number below 2^64",
         ),
     }
 }
 
-/// Why no file is made, as a line of text.
-fn refusal(alloc: Global, path: &str, source: Source, error: &MakeError) -> io::Result<Vec<u8>> {
-    let unit = unit_of(source);
-    let mut text = Vec::new(alloc);
-    write!(text, "zerotrie: {path}: ")?;
+/// Adds which line is no pair, and why.
+#[tactic(auto, using(crate::proofs::MessageLemmas::extends_both, crate::proofs::MessageLemmas::names_on))]
+fn add_bad_line(
+    text: &mut Vec<u8>,
+    source: Source,
+    number: usize,
+    bad: BadLine,
+) -> Result<(), AllocError>
+    ensures names { OnOk result (Names text.new.items number) }
+    ensures adds { OnOk result (Extends text.old.items text.new.items) }
+{
+    add_number(text, unit_of(source), number, ": ")?;
+    add(text, bad.text())?;
+    add(text, hint(source, number, bad))
+}
+
+/// Adds the keys that show a refusal, and the numbers of their pairs.
+#[tactic(auto, using(crate::proofs::MessageLemmas::extends_both, crate::proofs::MessageLemmas::names_on))]
+fn add_shown(text: &mut Vec<u8>, unit: &str, shown: &Shown) -> Result<(), AllocError>
+    ensures names { OnOk result (NamesPairs shown.now text.new.items) }
+    ensures says { OnOk result (SaysKeys shown.now text.new.items) }
+    ensures adds { OnOk result (Extends text.old.items text.new.items) }
+{
+    add_reason(text, unit, shown)?;
+    add_keys(text, shown)
+}
+
+/// What is said of a refusal that no keys show.
+fn refused(error: &ZeroTrieBuildError) -> &'static str {
     match error {
-        MakeError::Line(number, bad) => {
-            let hint = hint(source, *number, *bad);
-            write!(text, "{unit} {number}: {bad}{hint}")?
-        }
-        MakeError::NotJson(line, column) => add_not_json(&mut text, *line, *column)?,
-        MakeError::NotPairs => write!(text, "neither an object nor a list")?,
-        MakeError::NotPair(bad) => add_no_pair(&mut text, bad)?,
-        MakeError::Keys(shown) => {
-            add_reason(&mut text, unit, shown)?;
-            add_keys(&mut text, shown)?;
-        }
-        MakeError::Refused(ZeroTrieBuildError::CapacityExceeded) => write!(
-            text,
+        ZeroTrieBuildError::CapacityExceeded => {
             "the trie would be too long for its kind: take --kind ext, or fewer pairs"
-        )?,
-        MakeError::Refused(ZeroTrieBuildError::CouldNotSolvePerfectHash) => write!(
-            text,
+        }
+        ZeroTrieBuildError::CouldNotSolvePerfectHash => {
             "no hashed table was found for the bytes that keys go on with at some place, as happens if these are random: take --kind simple if all keys are ASCII, or other keys, as their hexadecimal digits"
-        )?,
-        MakeError::Refused(error) => write!(text, "{error}")?,
-        MakeError::OutOfMemory => write!(text, "out of memory")?,
+        }
+        _ => "the build of the pairs is refused",
     }
-    text.push(b'\n')?;
+}
+
+/// Adds why no file is made.
+fn add_refusal(text: &mut Vec<u8>, source: Source, error: &MakeError) -> Result<(), AllocError>
+    ensures tells { OnOk result (TellsMade error.now text.new.items) }
+    ensures adds { OnOk result (Extends text.old.items text.new.items) }
+{
+    match error {
+        MakeError::Line(number, bad) => add_bad_line(text, source, *number, *bad),
+        MakeError::NotJson(line, column) => add_not_json(text, *line, *column),
+        MakeError::NotPairs => add(text, "neither an object nor a list"),
+        MakeError::NotPair(bad) => add_no_pair(text, bad),
+        MakeError::Keys(shown) => add_shown(text, unit_of(source), shown),
+        MakeError::Refused(error) => add(text, refused(error)),
+        MakeError::OutOfMemory => add(text, "out of memory"),
+    }
+}
+
+/// A line that tells why no file is made.
+#[tactic(auto, using(crate::proofs::MessageLemmas::made_on))]
+fn refusal(
+    alloc: Global,
+    path: &str,
+    source: Source,
+    error: &MakeError,
+) -> Result<Vec<u8>, AllocError>
+    ensures line { IfOk result (λ text. IsLine text.items) }
+    ensures tells { IfOk result (λ text. TellsMade error.now text.items) }
+{
+    let mut text = Vec::new(alloc);
+    add_place(&mut text, path)?;
+    add_refusal(&mut text, source, error)?;
+    end_line(&mut text)?;
     Ok(text)
 }
 
-/// Reports that a step of a build has ended, and how many bytes it read, made or wrote, if steps
-/// are reported.
-fn tell_step<M: Write>(messages: &mut M, is_told: bool, place: &str, step: &str, len: usize)
-    ensures { is_told ≡ false → messages.new ≡ messages.old }
-{
-    if is_told {
-        let _ = writeln!(messages, "zerotrie: {place}: {step} {len} bytes");
-    }
-}
-
-/// Tells that the input of a build was read, if its steps are told.
-pub fn tell_read<M: Write>(messages: &mut M, build: Build<'_>, len: usize)
-    ensures { build.entry.progress ≡ false → messages.new ≡ messages.old }
-{
-    tell_step(
-        messages,
-        build.progress,
-        source_name(build.from),
-        "read",
-        len,
-    );
-}
-
-/// Tells that the file of a build was made, and is now written, if its steps are told.
-pub fn tell_made<M: Write>(messages: &mut M, build: Build<'_>, len: usize)
-    ensures { build.entry.progress ≡ false → messages.new ≡ messages.old }
-{
-    tell_step(messages, build.progress, target_name(build.to), "made", len);
-}
-
-/// Tells that the file of a build was written, if its steps are told.
-pub fn tell_written<M: Write>(messages: &mut M, build: Build<'_>, len: usize)
-    ensures { build.entry.progress ≡ false → messages.new ≡ messages.old }
-{
-    tell_step(
-        messages,
-        build.progress,
-        target_name(build.to),
-        "wrote",
-        len,
-    );
-}
-
-/// Tells why no file is made.
-pub fn tell_build<M: Write>(
+/// A line that tells that a step of a build has ended, and how many bytes it read, made or wrote.
+/// It is empty if steps are not told.
+pub fn step_text(
     alloc: Global,
-    messages: &mut M,
+    is_told: bool,
+    place: &str,
+    step: &str,
+    len: usize,
+) -> Result<Vec<u8>, AllocError>
+    ensures { IfOk result (λ text. text.items ≡ told_step is_told place.now step.now len) }
+{
+    let mut text = Vec::new(alloc);
+    if is_told {
+        write!(text, "zerotrie: {place}: {step} {len} bytes\n").map_err(|_| AllocError)?;
+    }
+    Ok(text)
+}
+
+/// A line that tells why no file is made.
+pub fn build_text(
+    alloc: Global,
     build: Build<'_>,
     error: &BuildError,
-) -> io::Result<()> {
+) -> Result<Vec<u8>, AllocError>
+    ensures { IfOk result (λ text. TellsBuild error.now text.items) }
+{
     let from = source_name(build.from);
     match error {
-        BuildError::Unread(error) => writeln!(messages, "zerotrie: {from}: {error}"),
-        // a text of its own would take memory
-        BuildError::NotMade(MakeError::OutOfMemory) => {
-            writeln!(messages, "zerotrie: {from}: out of memory")
-        }
-        BuildError::NotMade(error) => {
-            let text = refusal(alloc, from, build.plan.source, error)?;
-            messages.write_all(text.as_slice())
-        }
-        BuildError::Unwritten(error) => tell_unwritten(messages, target_name(build.to), error),
+        BuildError::Unread(error) => fault_on(alloc, from, error),
+        BuildError::NotMade(error) => refusal(alloc, from, build.plan.source, error),
+        BuildError::Unwritten(error) => unwritten(alloc, target_name(build.to), error),
     }
 }

@@ -1,17 +1,19 @@
 //! The program over files and streams.
 
-ghost use Rattle.std.specs.Prelude.{◌≡◌, ◌⊎◌, ◌||◌, false, true};
+ghost use Rattle.std.specs.Prelude.{◌≡◌, ◌⊎◌, ◌||◌, false, true, unwrap_or};
+ghost use Rattle.std.specs.Io.KnownBytes.{Appends};
 ghost use Rattle.std.specs.Io.Buffered.{writer_contents, writer_inner};
 ghost use Rattle.zerotrie_run.specs.Runs.{Runs, TellsNumber, ReadsTwice, LeavesInput, HandsOn, tells_steps, world};
 ghost use Rattle.zerotrie_run.specs.Statuses.{failure};
+ghost use Rattle.zerotrie_run.specs.Told.{IsTold, Notes, ended, last_text};
 ghost use Rattle.zerotrie_run.specs.declared.status.Status.TheVariants.{Done, Absent, BadUsage, Unread, Unwritten};
 
-use crate::asking::ask;
+use crate::asking::{ask, reads_twice};
 use crate::building::build;
 use crate::command::Command;
-use crate::messages::{tell_ask, tell_build};
+use crate::messages::{NO_MEMORY, ask_text, build_text, tell, tell_two_inputs};
 use crate::status::Status;
-use std::alloc::Global;
+use std::alloc::{AllocError, Global};
 use std::io::{BufWriter, Read, Write};
 use zerotrie_files::{Disk, Noted, Store};
 
@@ -34,11 +36,54 @@ fn failure<D: Disk, R: Read, W: Write + Drop>(
     }
 }
 
+/// How a run ends that is refused so, or in which something failed.
+fn end_of<D: Disk, R: Read, W: Write + Drop>(
+    refusal: Option<Status>,
+    files: &Store<D>,
+    input: &Noted<R>,
+    output: &BufWriter<Noted<W>>,
+) -> Status
+    ensures { result ≡ unwrap_or refusal (failure (input.now.failed || files.now.unread)
+        ((writer_inner output.now).failed || files.now.unwritten)) }
+{
+    match refusal {
+        Some(status) => status,
+        None => failure(files, input, output),
+    }
+}
+
+/// Tells why a run ends so, and returns how it ends: without memory for the message it is out of
+/// memory. It says nothing if output can't be written since who reads it has closed it.
+fn end<M: Write>(
+    messages: &mut Noted<M>,
+    status: Status,
+    is_closed: bool,
+    message: Result<Vec<u8>, AllocError>,
+) -> Status
+    ensures status { result ≡ ended status message }
+    ensures told { messages.new.failed ≡ false → (messages.old.failed ≡ false)
+        × ((result ≡ Unwritten) ⊎ Appends (M.contents messages.old.inner)
+        (M.contents messages.new.inner) (last_text message)) }
+{
+    match message {
+        Ok(text) => match status {
+            Status::Unwritten if is_closed => status,
+            _ => {
+                tell(messages, text.as_slice());
+                status
+            }
+        },
+        Err(_) => {
+            tell(messages, NO_MEMORY);
+            Status::OutOfMemory
+        }
+    }
+}
+
 /// Runs a command, and returns how it ended. A message says what is wrong.
 ///
 /// `Runs` defines what is printed and what files hold then, by the command, the files and the
-/// input. After a fault a beginning of it was printed, or nothing. If a message can't be written,
-/// the status alone reports the fault.
+/// input. After a fault a beginning of it was printed, or nothing.
 ///
 /// It ends in `Unread` only if a read of a file or of standard input failed, in `Unwritten` only if
 /// a replacement of a file or a write to the output did, and if neither did, it ends by itself or
@@ -55,7 +100,7 @@ pub fn run<D: Disk, R: Read, W: Write + Drop, M: Write>(
     files: &mut Store<D>,
     input: &mut Noted<R>,
     output: &mut BufWriter<Noted<W>>,
-    messages: &mut M,
+    messages: &mut Noted<M>,
 ) -> Status
     ensures runs { Runs command.entry (R.remaining input.old.inner)
         (world (D.story files.old.disk)
@@ -67,6 +112,12 @@ pub fn run<D: Disk, R: Read, W: Write + Drop, M: Write>(
     ensures write_failed { result ≡ Unwritten
         → ((writer_inner output.new).failed ≡ true) ⊎ (files.new.unwritten ≡ true) }
     ensures handed { (result ≡ Done) ⊎ (result ≡ Absent) → HandsOn output.old output.new }
+    ensures told { messages.new.failed ≡ false
+        → IsTold command.entry (R.remaining input.old.inner) (D.story files.old.disk)
+        (M.contents messages.old.inner) (M.contents messages.new.inner) result }
+    ensures notes { (result ≡ Done) ⊎ (result ≡ Absent) → messages.new.failed ≡ false
+        → Notes command.entry (R.remaining input.old.inner) (D.story files.old.disk)
+        (M.contents messages.old.inner) (M.contents messages.new.inner) }
     ensures quiet { tells_steps command.entry ≡ false
         → (TellsNumber command.entry (R.remaining input.old.inner) (D.story files.old.disk) → ⊥)
         → (result ≡ Done) ⊎ (result ≡ Absent) → messages.new ≡ messages.old }
@@ -77,23 +128,31 @@ pub fn run<D: Disk, R: Read, W: Write + Drop, M: Write>(
         Command::Build(plan) => match build(alloc, plan, files, input, output, messages) {
             Ok(()) => Status::Done,
             Err(error) => {
-                let _ = tell_build(alloc, messages, plan, &error);
-                match error.refusal() {
-                    Some(status) => status,
-                    None => failure(files, input, output),
-                }
+                let status = end_of(error.refusal(), files, input, output);
+                end(
+                    messages,
+                    status,
+                    error.is_closed(),
+                    build_text(alloc, plan, &error),
+                )
             }
         },
         Command::Ask(file, question) => {
+            if reads_twice(file.place, question) {
+                tell_two_inputs(messages);
+                return Status::BadUsage;
+            }
             match ask(alloc, file, question, files, input, output, messages) {
                 Ok(true) => Status::Done,
                 Ok(false) => Status::Absent,
                 Err(error) => {
-                    let _ = tell_ask(messages, file, &error);
-                    match error.refusal() {
-                        Some(status) => status,
-                        None => failure(files, input, output),
-                    }
+                    let status = end_of(error.refusal(), files, input, output);
+                    end(
+                        messages,
+                        status,
+                        error.is_closed(),
+                        ask_text(alloc, file, &error),
+                    )
                 }
             }
         }

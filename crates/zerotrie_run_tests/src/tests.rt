@@ -296,10 +296,12 @@ fn is_run(alloc: Global, row: &Row) -> io::Result<bool> {
         &mut messages,
     );
     let (path, bytes) = row.left;
-    Ok(status == row.status
-        && output.get_ref().get_ref().as_slice() == row.printed
-        && messages.get_ref().as_slice() == row.told
-        && files.disk().held(path) == Some(bytes))
+    Ok(
+        status == row.status
+            && output.get_ref().get_ref().as_slice() == row.printed
+            && messages.get_ref().as_slice() == row.told
+            && files.disk().held(path) == Some(bytes),
+    )
 }
 
 /// Ends the test if a run is not as its row says.
@@ -373,7 +375,9 @@ fn whole_lines_are_answered_before_a_fault(rt: HostRuntime) -> Result<(), Fail> 
     );
     assert!(rt; status == Status::Unread);
     assert!(rt; output.get_ref().get_ref().as_slice() == b"bar\t2\n".as_slice());
-    assert!(rt; messages.get_ref().as_slice() == b"zerotrie: standard input: connection reset\n".as_slice());
+    assert!(rt;
+        messages.get_ref().as_slice() == b"zerotrie: standard input: connection reset\n".as_slice()
+    );
     Ok(())
 }
 

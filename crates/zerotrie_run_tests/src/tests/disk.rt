@@ -31,7 +31,9 @@ fn has_mode<R: Files + AllocGlobal>(rt: &R, path: &str, mode: u32) -> bool {
 
 /// Replaces a file, and returns whether that was done.
 fn replaces<R: Files + AllocGlobal>(rt: &R, path: &str, bytes: &[u8]) -> bool {
-    Store::new(SystemDisk::new(rt)).replace(rt.alloc(), path, bytes).is_ok()
+    Store::new(SystemDisk::new(rt))
+        .replace(rt.alloc(), path, bytes)
+        .is_ok()
 }
 
 #[test]

@@ -33,11 +33,11 @@ loop-preserved g c =
     (contents c.args.output.now) (contents c.loop.output) c.loop.all c.in-Ok.ended c.loop.invariant.lines c.in-Ok.ensures.gives in
     record {
       lines = lines_part c.args.asked trie.kind trie.bytes.now (remaining c.args.input.now) (remaining c.read_more.new.input) held (take c.part_len-len.result held) _
-    (contents c.args.output.now) (contents c.loop.output) (contents c.answer_part.new.output) c.loop.all c.in_ok-all.field-0 _ read
-    (sym (take-append-drop c.part_len-len.result held) ∙ ap (λ rest. take c.part_len-len.result held ++ rest) (sym c.drop_front.ensures))
-    (subst (λ all. AreWhole (take c.part_len-len.result all)) c.as_slice.ensures.value (c.part_len-len.ensures.whole c.if-ended.false))
-    (subst (λ all. AreAnswered c.args.asked trie.kind trie.bytes.now (lines_of (take c.part_len-len.result all)) (contents c.loop.output) (contents c.answer_part.new.output) c.in_ok-all.field-0) c.deref.ensures.value c.in_ok-all.ensures.answered)
-    refl;
+          (contents c.args.output.now) (contents c.loop.output) (contents c.answer_part.new.output) c.loop.all c.in_ok-all.field-0 _ read
+          (sym (take-append-drop c.part_len-len.result held) ∙ ap (λ rest. take c.part_len-len.result held ++ rest) (sym c.drop_front.ensures))
+          (subst (λ all. AreWhole (take c.part_len-len.result all)) c.as_slice.ensures.value (c.part_len-len.ensures.whole c.if-ended.false))
+          (subst (λ all. AreAnswered c.args.asked trie.kind trie.bytes.now (lines_of (take c.part_len-len.result all)) (contents c.loop.output) (contents c.answer_part.new.output) c.in_ok-all.field-0) c.deref.ensures.value c.in_ok-all.ensures.answered)
+          refl;
       handed = λ empty. c.in_ok-all.ensures.handed (c.loop.invariant.handed empty);
       no_feed = λ k. subst (λ left. HasFeed left k → ⊥) (sym c.drop_front.ensures)
           (no_feed_left c.loop.held.items c.in-Ok.ensures.gives.bytes held c.part_len-len.result c.in-Ok.ensures.gives.adds c.loop.invariant.no_feed

@@ -10,7 +10,7 @@ invariant-loop g l =
     let remaining = g.R.Read.remaining in
     let contents = writer_contents g.W.Write.contents in record {
       lines : LinesAnswered l.asked l.trie.kind l.trie.bytes.now (remaining l.initial.input) (remaining l.input) l.held.items
-      (contents l.initial.output) (contents l.output) l.all;
+          (contents l.initial.output) (contents l.output) l.all;
       handed : HandsOn l.initial.output l.output;
       no_feed : (k : ℕ) → HasFeed l.held.items k → ⊥;
     }

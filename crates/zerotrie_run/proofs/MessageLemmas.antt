@@ -1,0 +1,95 @@
+-- What stands in a text, while more is added to it.
+use Rattle.std.proofs.Common.{◌≡◌, ℕ, ◌≤◌, List, [], ◌∷◌, ◌++◌, length, take, Option, Bool, false, Result, Ok, Err, OnOk, codes, decimal, refl, sym, ◌∙◌, ap, append_assoc, append-nil, subst, arith}
+use Rattle.std.proofs.lemmas.List.{take_all}
+use Rattle.std.specs.Io.KnownBytes.{Appends}
+use Rattle.std.proofs.KnownBytes.{Appends-trans}
+use Rattle.zerotrie_making.specs.declared.refused.Shown.{Shown}
+use Rattle.zerotrie_making.specs.declared.refused.NoPair.{NoPair}
+use Rattle.zerotrie_making.specs.declared.refused.NoPair.TheVariants.{Member, Item}
+use Rattle.zerotrie_making.specs.declared.refused.MakeError.{MakeError}
+use Rattle.zerotrie_making.specs.declared.refused.MakeError.TheVariants.{Line, NotJson, NotPairs, NotPair, Keys, Refused, OutOfMemory}
+use Rattle.zerotrie_run.specs.Told.{told_step}
+use Rattle.zerotrie_run.specs.Messages.{BeginsWithNoDigit, Extends, Names, NamesPairs, Says, SaysKeys, TellsMade, TellsNoPair, told_key}
+
+pub extends_both : (a b c : List ℕ) → Extends a b → Extends b c → Extends a c
+extends_both a b c p q = (p.0 ++ q.0, q.1 ∙ ap (λ t. t ++ q.0) p.1 ∙ append_assoc a p.0 q.0)
+
+no_digit_on : (back more : List ℕ) → BeginsWithNoDigit back → BeginsWithNoDigit (back ++ more)
+no_digit_on [] more h = absurd h
+no_digit_on (b ∷ back) more h = h
+
+-- a number stays named
+pub names_on : (a b : List ℕ) (n : ℕ) → Names a n → Extends a b → Names b n
+names_on a b n h e = (
+  h.0,
+  h.1 ++ e.0,
+  no_digit_on h.1 e.0 h.2,
+  e.1
+      ∙ ap (λ t. t ++ e.0) h.3
+      ∙ append_assoc h.0 (32 ∷ (decimal n ++ h.1)) e.0
+      ∙ ap (λ t. h.0 ++ (32 ∷ t)) (append_assoc (decimal n) h.1 e.0),
+)
+
+-- words stay said
+pub says_on : (a b words : List ℕ) → Says a words → Extends a b → Says b words
+says_on a b words h e = (h.0, h.1 ++ e.0, e.1 ∙ ap (λ t. t ++ e.0) h.2 ∙ append_assoc h.0 (words ++ h.1) e.0 ∙ ap (λ t. h.0 ++ t) (append_assoc words h.1 e.0))
+
+-- a number that is added by itself is named
+pub names_here : (old before after : List ℕ) (n : ℕ) → BeginsWithNoDigit after → Names ((((old ++ before) ++ codes " ") ++ decimal n) ++ after) n
+names_here old before after n h = (
+  old ++ before,
+  after,
+  h,
+  append_assoc ((old ++ before) ++ codes " ") (decimal n) after ∙ append_assoc (old ++ before) (codes " ") (decimal n ++ after),
+)
+
+pub says_here : (old words : List ℕ) → Says (old ++ words) words
+says_here old words = (old, [], ap (λ w. old ++ w) (sym (append-nil words)))
+
+pub pairs_on : (s : Shown) (a b : List ℕ) → NamesPairs s a → Extends a b → NamesPairs s b
+pairs_on s a b h e = (names_on a b s.first.number h.0 e, λ two. names_on a b s.second.number (h.1 two) e)
+
+pub keys_on : (s : Shown) (a b : List ℕ) → SaysKeys s a → Extends a b → SaysKeys s b
+keys_on s a b h e = (λ one. says_on a b (told_key s.first.key.items) (h.0 one) e, λ one two. says_on a b (told_key s.second.key.items) (h.1 one two) e)
+
+no_pair_on : (bad : NoPair) (a b : List ℕ) → TellsNoPair bad a → Extends a b → TellsNoPair bad b
+no_pair_on (Member key) a b h e = says_on a b (told_key key.items) h e
+no_pair_on (Item number) a b h e = names_on a b number h e
+
+-- why no file is made stays told
+pub made_on : (why : MakeError) (a b : List ℕ) → TellsMade why a → Extends a b → TellsMade why b
+made_on (Line number bad) a b h e = names_on a b number h e
+made_on (NotJson line column) a b h e = (names_on a b line h.0 e, names_on a b column h.1 e)
+made_on NotPairs a b h e = tt
+made_on (NotPair bad) a b h e = no_pair_on bad a b h e
+made_on (Keys s) a b h e = (pairs_on s a b h.0 e, keys_on s a b h.1 e)
+made_on (Refused why) a b h e = tt
+made_on OutOfMemory a b h e = tt
+
+-- a key that is told whole
+pub is_short : (key : List ℕ) → length key ≤ 100 → key ≡ take 100 key
+is_short key l = sym (take_all 100 key l)
+
+pub pairs_after : {E : Type 0} (r : Result (Unit {0}) E) (s : Shown) (a b : List ℕ) → NamesPairs s a → OnOk r (Extends a b) → OnOk r (NamesPairs s b)
+pairs_after (Ok u) s a b h e = pairs_on s a b h e
+pairs_after (Err e) s a b h x = tt
+
+-- two texts that are told, one after the other
+pub tell_then : (f g h : Bool) (a b c : Option (List ℕ)) (v w : List ℕ) → (g ≡ false → (f ≡ false) × Appends a b v) → (h ≡ false → (g ≡ false) × Appends b c w) → h ≡ false
+    → (f ≡ false) × Appends a c (v ++ w)
+tell_then f g h a b c v w p q ok = let two = q ok in let one = p two.0 in (one.0, Appends-trans a b c v w one.1 two.1)
+
+pub says_after : {E : Type 0} (r : Result (Unit {0}) E) (a b words : List ℕ) → Says a words → OnOk r (Extends a b) → OnOk r (Says b words)
+says_after (Ok u) a b words h e = says_on a b words h e
+says_after (Err e) a b words h x = tt
+
+-- a step that is told of a place and a length is told of those that are the same
+pub step_is : (told : Bool) (text place name step : List ℕ) (len n : ℕ) → text ≡ told_step told place step len → place ≡ name → len ≡ n → text ≡ told_step told name step n
+step_is told text place name step len n is p l = subst (λ m. text ≡ told_step told name step m) l (subst (λ q. text ≡ told_step told q step len) p is)
+
+pub join_three : (r m w a b d : List ℕ) → r ≡ a → m ≡ b → w ≡ d → r ++ (m ++ w) ≡ a ++ (b ++ d)
+join_three r m w a b d one two three = ap (λ x. x ++ (m ++ w)) one ∙ ap (λ x. a ++ (x ++ w)) two ∙ ap (λ x. a ++ (b ++ x)) three
+
+pub keys_after : {E : Type 0} (r : Result (Unit {0}) E) (s : Shown) (text : List ℕ) → OnOk r (Says text (told_key s.first.key.items)) → OnOk r (Says text (told_key s.second.key.items)) → OnOk r (SaysKeys s text)
+keys_after (Ok u) s text one two = (λ _. one, λ _ _. two)
+keys_after (Err e) s text one two = tt

@@ -1,0 +1,109 @@
+-- What is told of a run on standard error.
+use Rattle.std.specs.Prelude.{◌≡◌, ℕ, List, [], ◌∷◌, ◌++◌, length, Option, Some, None, Bool, true, false, Result, Ok, Err, Vec, codes}
+use Rattle.std.specs.Io.KnownBytes.{Appends}
+use Rattle.zerotrie_files.specs.Disks.{Story}
+use Rattle.zerotrie_queries.specs.declared.file.OpenError.{OpenError}
+use Rattle.zerotrie_making.specs.Made.{IsFile}
+use Rattle.zerotrie_making.specs.Made as made
+use Rattle.zerotrie_making.specs.declared.refused.MakeError.{MakeError}
+use Rattle.zerotrie_run.specs.Statuses.{made_refusal}
+use Rattle.zerotrie_run.specs.Messages.{IsLine, TellsMade, TellsNoTrie, step_line}
+use Rattle.zerotrie_run.specs.Runs.{IsRead, IsUnopened, HasNumberToo}
+use Rattle.zerotrie_run.specs.declared.status.Status.{Status}
+use Rattle.zerotrie_run.specs.declared.status.Status.TheVariants.{Done, Absent, Refused, BadUsage, BadInput, Unread, Unwritten, OutOfMemory}
+use Rattle.zerotrie_run.specs.declared.command.Place.{Place}
+use Rattle.zerotrie_run.specs.declared.command.Place.TheVariants.{File, Stream}
+use Rattle.zerotrie_run.specs.declared.command.Build.{Build}
+use Rattle.zerotrie_run.specs.declared.command.Command.{Command}
+use Rattle.zerotrie_run.specs.declared.command.Command.TheVariants as commands
+use Rattle.zerotrie_run.specs.declared.command.TrieFile.{TrieFile}
+use Rattle.zerotrie_run.specs.declared.asking.AskError.{AskError}
+use Rattle.zerotrie_run.specs.declared.asking.AskError.TheVariants as ask
+use Rattle.zerotrie_run.specs.declared.building.BuildError.{BuildError}
+use Rattle.zerotrie_run.specs.declared.building.BuildError.TheVariants as unmade
+
+-- some words were told, or none
+abbrev pub TellsMore : (old new : Option (List ℕ)) → Type 0
+TellsMore old new = (words : List ℕ) × Appends old new words
+
+-- a text was told last
+abbrev pub ToldLast : (old new : Option (List ℕ)) → List ℕ → Type 0
+ToldLast old new text = (words : List ℕ) × Appends old new (words ++ text)
+
+-- a line was
+abbrev pub LineTold : (old new : Option (List ℕ)) → Type 0
+LineTold old new = (text : List ℕ) × IsLine text × ToldLast old new text
+
+-- why a question has no answer is so of what was read of the file
+abbrev pub HasReason : TrieFile → Option (List ℕ) → Option Story → AskError → Type 0
+HasReason file input files ask.TwoInputs = Unit {0}
+HasReason file input files (ask.Unread e) = Unit {0}
+HasReason file input files (ask.NoTrie why) = (held : List ℕ) × IsRead file.place input files held × IsUnopened file held why
+HasReason file input files (ask.Unanswered e) = Unit {0}
+
+-- why no file was made is so of what was read
+abbrev pub HasCause : Build → Option (List ℕ) → Option Story → BuildError → Type 0
+HasCause build input files (unmade.Unread e) = Unit {0}
+HasCause build input files (unmade.NotMade e) = (all : List ℕ) × IsRead build.from input files all × made.Explains build.plan all e
+HasCause build input files (unmade.Unwritten e) = Unit {0}
+
+-- a line is told if the file is read as bare bytes and begins with the number of a kind
+abbrev pub NotesNumber : TrieFile → Option (List ℕ) → Option Story → (old new : Option (List ℕ)) → Type 0
+NotesNumber file input files old new = (held : List ℕ) × IsRead file.place input files held
+    × (HasNumberToo file.kind held → (text : List ℕ) × IsLine text × Appends old new text)
+
+-- a step is told or not
+abbrev pub told_step : Bool → List ℕ → List ℕ → ℕ → List ℕ
+told_step true place step len = step_line place step len
+told_step false place step len = []
+
+-- how messages name a place: by its path, and a stream by these words
+abbrev pub place_name : Place → List ℕ → List ℕ
+place_name (File path) stream = path.now
+place_name Stream stream = stream
+
+-- the steps of a build: how many bytes were read, made and written
+abbrev pub steps_told : Build → List ℕ → List ℕ → List ℕ
+steps_told build all file =
+    told_step build.progress (place_name build.from (codes "standard input")) (codes "read") (length all)
+    ++ (told_step build.progress (place_name build.to (codes "standard output")) (codes "made") (length file)
+    ++ told_step build.progress (place_name build.to (codes "standard output")) (codes "wrote") (length file))
+
+-- they are told
+abbrev pub TellsSteps : Build → Option (List ℕ) → Option Story → (old new : Option (List ℕ)) → Type 0
+TellsSteps build input files old new = (all : List ℕ) × IsRead build.from input files all × (file : List ℕ) × IsFile build.plan all file
+    × Appends old new (steps_told build all file)
+
+-- a line tells why what was read is refused: which pairs of an input, or which fault in a trie
+abbrev pub TellsRefusal : Command → Option (List ℕ) → Option Story → (old new : Option (List ℕ)) → Status → Type 0
+TellsRefusal (commands.Build build) input files old new status = (all : List ℕ) × IsRead build.from input files all
+    × (e : MakeError) × made.Explains build.plan all e × (made_refusal e ≡ Some status)
+    × (text : List ℕ) × IsLine text × TellsMade e text × ToldLast old new text
+TellsRefusal (commands.Ask file question) input files old new status = (held : List ℕ) × IsRead file.place input files held
+    × (why : OpenError) × IsUnopened file held why × (text : List ℕ) × IsLine text × TellsNoTrie why text × ToldLast old new text
+
+-- what is told last of a run that ends so; one that can't write its output tells nothing if who reads it has closed it
+abbrev pub IsTold : Command → Option (List ℕ) → Option Story → (old new : Option (List ℕ)) → Status → Type 0
+IsTold command input files old new Done = Unit {0}
+IsTold command input files old new Absent = Unit {0}
+IsTold command input files old new Refused = TellsRefusal command input files old new Refused
+IsTold command input files old new BadUsage = LineTold old new
+IsTold command input files old new BadInput = TellsRefusal command input files old new BadInput
+IsTold command input files old new Unread = LineTold old new
+IsTold command input files old new Unwritten = Unit {0}
+IsTold command input files old new OutOfMemory = LineTold old new
+
+-- what a run that succeeds tells
+abbrev pub Notes : Command → Option (List ℕ) → Option Story → (old new : Option (List ℕ)) → Type 0
+Notes (commands.Build build) input files old new = TellsSteps build input files old new
+Notes (commands.Ask file question) input files old new = NotesNumber file input files old new
+
+-- the text of the last message: that it is out of memory if there is no memory for another
+abbrev pub last_text : {E A : Type 0} → Result (Vec ℕ A) E → List ℕ
+last_text (Ok text) = text.items
+last_text (Err e) = codes "zerotrie: out of memory\n"
+
+-- how a run ends that is to end so, after this message
+abbrev pub ended : {T E : Type 0} → Status → Result T E → Status
+ended status (Ok text) = status
+ended status (Err e) = OutOfMemory
