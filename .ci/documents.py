@@ -35,7 +35,7 @@ LIMITS = {
     "docs/DECISIONS.md": 2970,
     "docs/DIFFERENCES.md": 1980,
     "docs/FORMAT.md": 4210,
-    "docs/MODEL.md": 2080,
+    "docs/MODEL.md": 2000,
     "docs/SPEED.md": 1500,
     "docs/speed/fast.md": 870,
     "docs/speed/tables.md": 2970,
