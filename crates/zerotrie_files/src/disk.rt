@@ -1,7 +1,8 @@
 //! The calls of a file system that read a file and replace one.
 
-ghost use Rattle.std.specs.Prelude.{◌≡◌, ◌%◌, ◌<◌, List, ℕ, Option, IfOk, IfErr, IfSome};
+ghost use Rattle.std.specs.Prelude.{◌≡◌, ◌⊎◌, ◌%◌, ◌<◌, List, ℕ, Option, true, IfOk, IfErr, IfSome};
 ghost use Rattle.std.specs.String.{string_bytes};
+ghost use Rattle.zerotrie_files.specs.Stores.{names_open_file};
 ghost use Rattle.zerotrie_files.specs.Disks.{Story, Known, IsUnread, WritesNew, Renames, Removes, HasNoStream};
 
 use std::io;
@@ -46,8 +47,13 @@ pub enum Found {
 
 /// Where files are read, written, renamed and removed.
 pub trait Disk {
+    ghost use Rattle.zerotrie_files.specs.declared.disk.Found.TheVariants.{Stream};
+
     /// What the files hold, and held at each moment before. `None` says nothing of them.
     ghost story: { Self → Option Story };
+
+    /// Whether a path leads to a device or a pipe.
+    ghost is_stream: { Self → List ℕ → Type 0 };
 
     /// Reads the file of a path.
     fn read(&self, path: &str) -> io::Result<Vec<u8>>
@@ -57,7 +63,8 @@ pub trait Disk {
             IfSome (story self.now) (λ known. IsUnread path.now known e)) };
 
     /// Returns what a path leads to, by whatever links. A link to nothing is an error.
-    fn find(&self, path: &str) -> io::Result<Found>;
+    fn find(&self, path: &str) -> io::Result<Found>
+        ensures { IfOk result (λ found. found ≡ Stream → is_stream self.now path.now) };
 
     /// Tests that the file of a path can be written.
     fn test_writable(&self, path: &str) -> io::Result<()>;
@@ -83,5 +90,6 @@ pub trait Disk {
     /// Writes the bytes to a device or a pipe, or to the end of an open file. A disk that tells
     /// what its files hold has none of these.
     fn append(&mut self, path: &str, bytes: &[u8]) -> io::Result<()>
+        requires { (names_open_file path.now ≡ true) ⊎ is_stream self.old path.now }
         ensures { Known (story self.old) (story self.new) (HasNoStream result) };
 }

@@ -45,6 +45,8 @@ fn fill<F: OpenFile + Write>(file: &mut F, mode: Option<Mode>, bytes: &[u8]) -> 
 impl<'a, R: Files + AllocGlobal> Disk for SystemDisk<'a, R> {
     ghost story = { λ _. None };
 
+    ghost is_stream = { λ _ _. Unit {0} };
+
     fn read(&self, path: &str) -> io::Result<Vec<u8>> {
         let mut bytes = Vec::new(self.system.alloc());
         let mut file = File::open(self.system, path)?;

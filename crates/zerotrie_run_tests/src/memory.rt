@@ -83,6 +83,8 @@ impl MemoryDisk {
 impl Disk for MemoryDisk {
     ghost story = { λ disk. Some (story_of disk.steps.items) };
 
+    ghost is_stream = { λ _ _. ⊥ };
+
     fn read(&self, path: &str) -> io::Result<Vec<u8>> {
         match self.held(path) {
             Some(bytes) => Ok(Vec::from_slice(self.alloc, bytes)?),
