@@ -1,4 +1,5 @@
-//! What files of the system hold after one is replaced. Each test has an empty folder of its own.
+//! What files of the system hold after one is replaced. The tests may run in one folder, so each has
+//! names of its own.
 
 use std::fs;
 use std::fs::Permissions;
@@ -39,39 +40,39 @@ fn replaces<R: Files + AllocGlobal>(rt: &R, path: &str, bytes: &[u8]) -> bool {
 #[test]
 fn a_file_is_made_and_replaced(rt: HostRuntime) -> Result<(), Fail> {
     fs::write(&rt, "other", b"kept")?;
-    fs::write(&rt, "names.0.tmp", b"taken")?;
-    assert!(rt; replaces(&rt, "names", b"one"));
-    assert!(rt; holds(&rt, "names", b"one"));
-    assert!(rt; replaces(&rt, "names", b"a second text"));
-    assert!(rt; holds(&rt, "names", b"a second text"));
-    assert!(rt; holds(&rt, "names.0.tmp", b"taken"));
-    assert!(rt; is_free(&rt, "names.1.tmp"));
+    fs::write(&rt, "made.0.tmp", b"taken")?;
+    assert!(rt; replaces(&rt, "made", b"one"));
+    assert!(rt; holds(&rt, "made", b"one"));
+    assert!(rt; replaces(&rt, "made", b"a second text"));
+    assert!(rt; holds(&rt, "made", b"a second text"));
+    assert!(rt; holds(&rt, "made.0.tmp", b"taken"));
+    assert!(rt; is_free(&rt, "made.1.tmp"));
     assert!(rt; holds(&rt, "other", b"kept"));
     Ok(())
 }
 
 #[test]
 fn a_file_keeps_who_may_read_it(rt: HostRuntime) -> Result<(), Fail> {
-    fs::write(&rt, "names", b"old")?;
-    fs::set_permissions(&rt, "names", Permissions::from_mode(0o640))?;
-    assert!(rt; replaces(&rt, "names", b"new"));
-    assert!(rt; has_mode(&rt, "names", 0o640));
-    fs::set_permissions(&rt, "names", Permissions::from_mode(0o6755))?;
-    assert!(rt; replaces(&rt, "names", b"newer"));
-    assert!(rt; has_mode(&rt, "names", 0o755));
-    assert!(rt; holds(&rt, "names", b"newer"));
+    fs::write(&rt, "read", b"old")?;
+    fs::set_permissions(&rt, "read", Permissions::from_mode(0o640))?;
+    assert!(rt; replaces(&rt, "read", b"new"));
+    assert!(rt; has_mode(&rt, "read", 0o640));
+    fs::set_permissions(&rt, "read", Permissions::from_mode(0o6755))?;
+    assert!(rt; replaces(&rt, "read", b"newer"));
+    assert!(rt; has_mode(&rt, "read", 0o755));
+    assert!(rt; holds(&rt, "read", b"newer"));
     Ok(())
 }
 
 #[test]
 fn a_link_stays(rt: HostRuntime) -> Result<(), Fail> {
-    fs::write(&rt, "names", b"old")?;
-    symlink(&rt, "names", "link")?;
+    fs::write(&rt, "linked", b"old")?;
+    symlink(&rt, "linked", "link")?;
     symlink(&rt, "nothing", "dead")?;
     assert!(rt; replaces(&rt, "link", b"new"));
     assert!(rt; fs::symlink_metadata(&rt, "link")?.is_symlink());
-    assert!(rt; holds(&rt, "names", b"new"));
-    assert!(rt; is_free(&rt, "link.0.tmp") && is_free(&rt, "names.0.tmp"));
+    assert!(rt; holds(&rt, "linked", b"new"));
+    assert!(rt; is_free(&rt, "link.0.tmp") && is_free(&rt, "linked.0.tmp"));
     assert!(rt; !replaces(&rt, "dead", b"new"));
     assert!(rt; is_free(&rt, "nothing"));
     Ok(())
