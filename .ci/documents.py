@@ -32,7 +32,7 @@ LIMITS = {
     "crates/zerotrie_tool/README.md": 480,
     "docs/ARCHITECTURE.md": 1700,
     "docs/CALLING.md": 2620,
-    "docs/DECISIONS.md": 2970,
+    "docs/DECISIONS.md": 2000,
     "docs/DIFFERENCES.md": 1980,
     "docs/FORMAT.md": 4210,
     "docs/MODEL.md": 2000,
