@@ -62,7 +62,7 @@ RETIRED = {
     r"which it may outlive": "it may outlive",
 }
 # These are in doc comments still.
-PAGES_ONLY = [r"(is|are|was|were) refused", r"takes? (no|the|up|all|more) memory", r"answers? (the|a|an|what|no|nothing|as|its|all|by|it)", r"stands?"]
+PAGES_ONLY = []
 
 
 def prose(text):

@@ -15,7 +15,7 @@ use std::marker::Model;
 use zerotrie_base::ZeroTrieBuildError;
 
 /// A builder of a trie over ASCII keys in an array of `N` bytes, which it fills from the end. It
-/// takes no memory.
+/// does not allocate.
 ///
 /// ```
 /// let items = [("ad", 22), ("adef", 33)];
@@ -42,7 +42,7 @@ impl<const N: usize> ZeroTrieBuilderConst<N> {
     /// 100.
     ///
     /// It is `from_tuple_slice_with_stack` with room for 100 targets that wait for their branch,
-    /// and is refused as that is.
+    /// and has the same errors.
     pub fn from_tuple_slice(items: ByteSliceWithIndices<'_>) -> Result<Self, ZeroTrieBuildError>
         ensures { IsBuildWithin N 100 (λ bytes. bytes) (pairs items.entry) result }
     {
@@ -51,10 +51,10 @@ impl<const N: usize> ZeroTrieBuilderConst<N> {
 
     /// Builds the trie of the items, whose keys ascend strictly by their bytes, with a stack of
     /// `K`. The bytes are the one text of the map of the items, and need not fill the array. It
-    /// takes no memory. `K` has to be below 2^58, as a stack that fits a machine is.
+    /// does not allocate. `K` has to be below 2^58, as a stack that fits a machine is.
     ///
-    /// It is `fill_from_end` over an array, which says how large the stack has to be, and is
-    /// refused as that is.
+    /// It is `fill_from_end` over an array, which says how large the stack has to be, and has the
+    /// same errors.
     pub fn from_tuple_slice_with_stack<const K: usize>(
         items: ByteSliceWithIndices<'_>,
     ) -> Result<Self, ZeroTrieBuildError>
@@ -77,7 +77,7 @@ impl<const N: usize> ZeroTrieBuilderConst<N> {
 
     /// The array, which the bytes of the trie have to fill.
     ///
-    /// It is refused with `BufferTooLarge`, which has their number, exactly if they are fewer.
+    /// The error is `BufferTooLarge`, which has their number, exactly if they are fewer.
     pub fn build(self) -> Result<[u8; N], ZeroTrieBuildError>
         ensures full { IsOk result ↔ (length self.entry ≡ N) }
         ensures bytes { IfOk result (λ array. array ≡ self.entry) }

@@ -112,7 +112,7 @@ fn build_ascending<K: ZeroTrieWithOptions, S: TrieBuilderStore + Drop, A: Alloca
 /// The bytes of the trie of items that ascend by the bytes of their keys, in the kind of the
 /// options. What it takes beside the store comes from the allocator `spare`.
 ///
-/// A build is refused as one by `ZeroTrieBuilder` is.
+/// The errors are those of a build by `ZeroTrieBuilder`.
 pub fn build_slice<S: TrieBuilderStore + Drop, A: Allocator + Copy>(
     alloc: Global,
     spare: A,
@@ -129,7 +129,7 @@ pub fn build_slice<S: TrieBuilderStore + Drop, A: Allocator + Copy>(
 }
 
 /// The bytes of the trie of items in any order. If they are in the order of the kind, they are read
-/// where they stand, and else they are sorted.
+/// in place, and else they are sorted.
 fn build_given<
     K: ZeroTrieWithOptions,
     Key: TrieKey,
@@ -229,9 +229,9 @@ fn len_slice<A: Allocator + Copy>(
 /// assert_eq!(rt; encoded_len(rt.alloc(), items, ZeroTrieBuilderOptions::of::<Simple>())?, 8);
 /// ```
 ///
-/// It is refused with `Unsorted`, `NonAsciiError`, `MixedCase`, `CapacityExceeded` or
-/// `OutOfMemory`, each for the reason that `ZeroTrieBuildError` gives, and so exactly if a build
-/// is, but for a hashed table that isn't found.
+/// The errors are `Unsorted`, `NonAsciiError`, `MixedCase`, `CapacityExceeded` and `OutOfMemory`,
+/// each for the reason that `ZeroTrieBuildError` gives. So they are those of a build, but for a
+/// hashed table that isn't found.
 pub fn encoded_len(
     alloc: Global,
     items: ByteSliceWithIndices<'_>,
@@ -273,10 +273,9 @@ impl<S: TrieBuilderStore + Drop> ZeroTrieBuilder<S> {
     /// The bytes mean the map of the items, and for a kind whose tables are all sorted they are the
     /// map's one text.
     ///
-    /// A build of any kind is refused with `Unsorted`, `CapacityExceeded` or `OutOfMemory`. The
-    /// kinds over ASCII refuse with `NonAsciiError` too, the kind without case with `MixedCase`,
-    /// and the hashed kinds with `CouldNotSolvePerfectHash`. Each has the reason that
-    /// `ZeroTrieBuildError` gives.
+    /// The errors of every kind are `Unsorted`, `CapacityExceeded` and `OutOfMemory`. The kinds
+    /// over ASCII also have `NonAsciiError`, the kind without case `MixedCase`, and the hashed
+    /// kinds `CouldNotSolvePerfectHash`. Each has the reason that `ZeroTrieBuildError` gives.
     pub fn from_sorted_tuple_slice(
         alloc: Global,
         items: ByteSliceWithIndices<'_>,
@@ -293,11 +292,11 @@ impl<S: TrieBuilderStore + Drop> ZeroTrieBuilder<S> {
     }
 
     /// Builds the trie of the items of a slice, in any order. An empty input gives an empty trie.
-    /// If they are in the order of the kind, they are read where they stand, and else a sorted copy
-    /// of the items is made.
+    /// If they are in the order of the kind, they are read in place, and else a sorted copy of the
+    /// items is made.
     ///
-    /// A build is refused as `from_bytes_iter` is, each time for the reason that
-    /// `ZeroTrieBuildError` gives.
+    /// The errors are those of `from_bytes_iter`, each for the reason that `ZeroTrieBuildError`
+    /// gives.
     pub fn from_tuple_slice<K: TrieKey>(
         alloc: Global,
         items: &[(K, usize)],
@@ -313,8 +312,8 @@ impl<S: TrieBuilderStore + Drop> ZeroTrieBuilder<S> {
     /// Builds the trie of all pairs that the iterator gives, in any order. An empty input gives an
     /// empty trie.
     ///
-    /// A build is refused as one of a slice is, each time for the reason that `ZeroTrieBuildError`
-    /// gives, but with `DuplicateKey` in place of `Unsorted`.
+    /// The errors are those of `from_sorted_tuple_slice`, each for the reason that
+    /// `ZeroTrieBuildError` gives, with `DuplicateKey` in place of `Unsorted`.
     pub fn from_bytes_iter<K: TrieKey + Drop, U: IntoIterator<Item = (K, usize)>>(
         alloc: Global,
         iter: U,
@@ -385,8 +384,8 @@ fn build_ascending_text(
 /// assert_eq!(rt; bytes.as_slice(), b"ad\x90\x06ef\x90\x11".as_slice());
 /// ```
 ///
-/// A build is refused with the errors with which `ZeroTrieBuilder::from_sorted_tuple_slice` refuses
-/// one, each for the reason that `ZeroTrieBuildError` gives.
+/// The errors are those of `ZeroTrieBuilder::from_sorted_tuple_slice`, each for the reason that
+/// `ZeroTrieBuildError` gives.
 pub fn build_text(
     alloc: Global,
     items: &TextItems<'_>,

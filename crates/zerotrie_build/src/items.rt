@@ -71,8 +71,8 @@ pub(crate) fn item_at<Key: TrieKey>(given: &[(Key, usize)], index: usize) -> (&[
 /// assert_eq!(rt; items.get(1), (b"adef".as_slice(), 33));
 /// ```
 ///
-/// Every call answers as the list of pairs of key bytes and value, in the order of the slice. None
-/// but `to_vec_u8` takes memory.
+/// Every call sees the list of pairs of key bytes and value, in the order of the slice. Only
+/// `to_vec_u8` allocates.
 #[derive(Clone, Copy, Debug)]
 pub enum ByteSliceWithIndices<'a> {
     /// Items whose keys are bytes.

@@ -1,6 +1,6 @@
 //! The builders of a trie's bytes. `ZeroTrieBuilder` measures them first, which `encoded_len` does
 //! alone, and then writes them from the first to the last into memory of their length, which a
-//! `VecDeque` takes over. `ZeroTrieBuilderConst` and `fill_from_end` take no memory: they write
+//! `VecDeque` takes over. `ZeroTrieBuilderConst` and `fill_from_end` do not allocate: they write
 //! them from the last to the first into an array or a buffer.
 #![tactic(auto)]
 

@@ -34,11 +34,11 @@ pub(crate) struct Measured<A: Allocator> {
 /// A branch whose targets are measured, one after another.
 #[derive(Clone, Copy)]
 struct OpenBranch {
-    /// Where the items of the target that is measured begin, and how many bytes of their keys stand
-    /// in front of its edge.
+    /// Where the items of the target that is measured begin, and how many bytes of their keys are
+    /// before its edge.
     from: usize,
     depth: usize,
-    /// How many bytes of the text stand in front of the branch.
+    /// How many bytes of the text are before the branch.
     len: usize,
     /// The slots of the targets are those from `first` to below `end`, and `next` is that of the
     /// target that is measured.
@@ -48,7 +48,7 @@ struct OpenBranch {
 }
 
 impl OpenBranch {
-    /// The branch that stands first in the window, after `len` bytes, whose slots are those from
+    /// The branch that is first in the window, after `len` bytes, whose slots are those from
     /// `first` to below `end`.
     #[inline(always)]
     fn new(window: Window, len: usize, first: usize, end: usize) -> Self
@@ -91,7 +91,7 @@ enum Turn {
     Whole(usize),
 }
 
-/// The slots, and the branches that the window stands in which is measured, the innermost last.
+/// The slots, and the branches around the window that is measured, the innermost last.
 #[derive(Drop)]
 struct FirstPass<I, A: Allocator> {
     items: I,
@@ -145,7 +145,7 @@ fn after_leaf<'a, K: ZeroTrieWithOptions, I: IndexedItems<'a>>(
     Ok(Some((end, checked_sum(len, value_len(value))?)))
 }
 
-/// The window after the values, literals and spans that stand first, and how many bytes these have.
+/// The window after the values, literals and spans that are first, and how many bytes these have.
 #[inline(always)]
 fn after_front<'a, K: ZeroTrieWithOptions, I: IndexedItems<'a>>(
     items: I,
@@ -292,7 +292,7 @@ impl<'a, I: IndexedItems<'a>, A: Allocator + Copy> FirstPass<I, A> {
         })
     }
 
-    /// Adds a slot for each target of the branch that stands first in the window. Until the target
+    /// Adds a slot for each target of the branch that is first in the window. Until the target
     /// is measured, it tells where its items end.
     fn push_ends<K: ZeroTrieWithOptions>(&mut self, window: Window) -> Result<(), AllocError>
         requires within { window.to ≤ length (I.pairs self.old.items) }
@@ -328,7 +328,7 @@ impl<'a, I: IndexedItems<'a>, A: Allocator + Copy> FirstPass<I, A> {
         Window::new(branch.from, self.slots[branch.next], branch.depth + 1)
     }
 
-    /// Opens the branch that stands first in the window, after `len` bytes. Returns the window of
+    /// Opens the branch that is first in the window, after `len` bytes. Returns the window of
     /// its first target.
     fn push_branch<K: ZeroTrieWithOptions>(
         &mut self,

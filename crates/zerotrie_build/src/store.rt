@@ -22,7 +22,7 @@ use std::collections::VecDeque;
 pub trait TrieBuilderStore: Sized {
     ghost list: { Self → List ℕ };
 
-    /// No bytes. It takes no memory.
+    /// No bytes. It does not allocate.
     fn atbs_new_empty(alloc: Global) -> Self
         ensures { list result ≡ [] };
 
@@ -71,7 +71,7 @@ pub trait TrieBuilderStore: Sized {
         Ok(())
     }
 
-    /// Takes the first byte off and answers it.
+    /// Removes the first byte and returns it.
     fn atbs_pop_front(&mut self) -> u8
         requires { 0 < length (list self.old) }
         ensures { list self.old ≡ result ∷ list self.new };

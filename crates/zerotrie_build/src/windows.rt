@@ -1,4 +1,4 @@
-//! What stands first in the text of a window of the items.
+//! What is first in the text of a window of the items.
 
 ghost use Rattle.std.specs.Prelude.{◌≡◌, ℕ, ◌+◌, ◌-◌, ◌^◌, ◌<◌, ◌≤◌, IfSome, Some, drop, slice_index, length, All, IsTrue, false};
 ghost use Rattle.zerotrie_build.specs.Order.{Ordered, AreAsciiKeys};
@@ -25,7 +25,7 @@ impl Window {
     }
 }
 
-/// What stands first in the text of a window.
+/// What is first in the text of a window.
 #[derive(Clone, Copy)]
 pub(crate) enum Step {
     /// There are no items.
@@ -127,7 +127,7 @@ fn span_len<'a, I: IndexedItems<'a>>(items: I, window: Window, byte: u8) -> usiz
     high_front_len(rest, &last[window.depth..])
 }
 
-/// What stands first in the text of the window, if its first and its last key both go on with this
+/// What is first in the text of the window, if its first and its last key both go on with this
 /// byte.
 fn common_step<'a, K: ZeroTrieWithOptions, I: IndexedItems<'a>>(
     items: I,
@@ -147,7 +147,7 @@ fn common_step<'a, K: ZeroTrieWithOptions, I: IndexedItems<'a>>(
     Step::Span(span_len(items, window, byte))
 }
 
-/// What stands first in the text of the window.
+/// What is first in the text of the window.
 pub(crate) fn first_step<'a, K: ZeroTrieWithOptions, I: IndexedItems<'a>>(
     items: I,
     window: Window,

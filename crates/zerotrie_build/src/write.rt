@@ -65,7 +65,7 @@ impl Writing {
         requires { HasRoom self.old (length bytes.now) }
         ensures { Writes self.old self.new bytes.now }
     {
-        // As there is room, no memory is taken, and none can be refused.
+        // there is room, so this does not allocate and can't fail
         let _ = self.bytes.extend_from_slice(bytes);
     }
 
@@ -221,7 +221,7 @@ impl Writing {
         self.put_offsets(lens, numbers, width + 1);
     }
 
-    /// Writes the values, literals and spans that stand first in the window. Returns the window
+    /// Writes the values, literals and spans that are first in the window. Returns the window
     /// after them.
     #[inline(always)]
     fn put_front<'a, K: ZeroTrieWithOptions, I: IndexedItems<'a>>(

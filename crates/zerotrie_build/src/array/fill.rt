@@ -11,9 +11,9 @@ use std::alloc::Global;
 use zerotrie_base::{ZeroTrieBuildError, laws};
 
 /// Writes the text of the trie of the items, whose keys ascend strictly by their bytes, at the end
-/// of a buffer, with a stack of `K`, and answers where it begins. The bytes from there on are the
-/// one text of the map of the items, and those before stay. If it is refused, any of the buffer's
-/// bytes may have changed. It takes no memory.
+/// of a buffer, with a stack of `K`, and returns where it begins. The bytes from there on are the
+/// one text of the map of the items, and those before stay. After an error any of the buffer's
+/// bytes may have changed. It does not allocate.
 ///
 /// ```
 /// let items = [("ad", 22), ("adef", 33)];
@@ -26,7 +26,7 @@ use zerotrie_base::{ZeroTrieBuildError, laws};
 /// each target waits for those before it. As many of them as wait at once the stack has to hold.
 /// `K` has to be below 2^58, as a stack that fits a machine is.
 ///
-/// A build is refused with `Unsorted`, `NonAsciiError`, `CapacityExceeded`, `BufferTooSmall` or
+/// The errors are `Unsorted`, `NonAsciiError`, `CapacityExceeded`, `BufferTooSmall` and
 /// `StackExceeded`, each for the reason that `ZeroTrieBuildError` gives, and never if there is
 /// none.
 pub fn fill_from_end<const K: usize>(
@@ -48,11 +48,11 @@ pub fn fill_from_end<const K: usize>(
     Ok(buffer.len() - len)
 }
 
-/// Builds the trie of the items as `fill_from_end`, in memory of its own, and answers its bytes, of
-/// which there may be `most`.
+/// Builds the trie of the items as `fill_from_end` does, and returns its bytes, of which there may
+/// be `most`.
 ///
-/// They are counted first, and then it takes memory for as many. A build is refused as one in a
-/// buffer of `most` bytes is, or with `OutOfMemory`.
+/// It counts them first, and then allocates as many. The errors are those of a build in a buffer of
+/// `most` bytes, and `OutOfMemory`.
 pub fn bytes_within<const K: usize>(
     alloc: Global,
     most: usize,
@@ -73,7 +73,7 @@ pub fn bytes_within<const K: usize>(
 }
 
 /// Writes the text of the trie of the items at the end of the buffer, if it has room for it, and
-/// answers how many bytes the text has, or the greatest number if it has more.
+/// returns how many bytes the text has, or the greatest number if it has more.
 fn write<const K: usize>(
     buffer: &mut [u8],
     items: ByteSliceWithIndices<'_>,

@@ -1,0 +1,281 @@
+//! Times searches beside a scan of sorted keys, and fst with the same automata.
+
+#[allow(dead_code)]
+mod calls;
+#[allow(dead_code)]
+mod sets;
+#[allow(dead_code)]
+mod table;
+
+use calls::Kind;
+use sets::Set;
+use std::path::Path;
+use table::{Contestants, Table};
+
+#[link(name = "zerotrie_search_calls", kind = "static")]
+unsafe extern "C" {
+    #[link_name = "search_many"]
+    fn search_many_(
+        kind: u8, bytes: *const u8, len: usize, question: u8, text: *const u8, text_len: usize, end: *const u8, end_len: usize,
+        times: usize,
+    ) -> usize;
+}
+
+/// What is searched for.
+enum Question {
+    Prefix(&'static str),
+    Range(&'static str, &'static str),
+    Subsequence(&'static str),
+    Glob(&'static str),
+    Near(&'static str, usize),
+}
+
+const QUESTIONS: [Question; 14] = [
+    Question::Prefix("inter"),
+    Question::Range("mm", "mp"),
+    Question::Glob("s*ing"),
+    Question::Glob("?a?e?"),
+    Question::Glob("*ing"),
+    Question::Subsequence("zzx"),
+    Question::Subsequence("trie"),
+    Question::Near("exampel", 1),
+    Question::Near("example", 1),
+    Question::Near("example", 2),
+    Question::Near("internationalization", 1),
+    Question::Near("internationalization", 2),
+    Question::Near("cat", 1),
+    Question::Near("cat", 2),
+];
+
+impl Question {
+    fn name(&self) -> String {
+        match self {
+            Question::Prefix(text) => format!("begins with {text}"),
+            Question::Range(from, end) => format!("from {from} to below {end}"),
+            Question::Subsequence(text) => format!("subsequence {text}"),
+            Question::Glob(pattern) => format!("pattern `{pattern}`"),
+            Question::Near(word, edits) => format!("distance {edits} of {word}"),
+        }
+    }
+
+    /// The number of the question for the library, and its two texts.
+    fn parts(&self) -> (u8, &'static str, &'static str) {
+        match *self {
+            Question::Prefix(text) => (0, text, ""),
+            Question::Range(from, end) => (1, from, end),
+            Question::Subsequence(text) => (2, text, ""),
+            Question::Glob(pattern) => (3, pattern, ""),
+            Question::Near(word, edits) => (3 + edits as u8, word, ""),
+        }
+    }
+
+    fn automaton(&self) -> Automaton {
+        match *self {
+            Question::Prefix(text) => Automaton::Glob(items(text).chain([Item::Any]).collect()),
+            Question::Range(from, end) => Automaton::Range(from.as_bytes(), end.as_bytes()),
+            Question::Subsequence(text) => {
+                Automaton::Glob(items(text).flat_map(|item| [Item::Any, item]).chain([Item::Any]).collect())
+            }
+            Question::Glob(pattern) => Automaton::Glob(items(pattern).collect()),
+            Question::Near(word, edits) => Automaton::Near(word.as_bytes(), edits as u8),
+        }
+    }
+}
+
+/// A part of a pattern.
+#[derive(Clone, Copy)]
+enum Item {
+    Any,
+    One,
+    Byte(u8),
+}
+
+fn items(pattern: &'static str) -> impl Iterator<Item = Item> {
+    pattern.bytes().map(|byte| match byte {
+        b'*' => Item::Any,
+        b'?' => Item::One,
+        _ => Item::Byte(byte),
+    })
+}
+
+/// An automaton whose state is a set of places in a pattern, a row of distances, or what is left of two bounds.
+enum Automaton {
+    Glob(Vec<Item>),
+    Range(&'static [u8], &'static [u8]),
+    Near(&'static [u8], u8),
+}
+
+#[derive(Clone)]
+enum State {
+    Places(u64),
+    Row([u8; 32]),
+    Bounds(Option<&'static [u8]>, Option<&'static [u8]>),
+    Dead,
+}
+
+impl Automaton {
+    /// The places of a pattern with those that follow a `*` at once.
+    fn spread(items: &[Item], mut places: u64) -> u64 {
+        for (place, item) in items.iter().enumerate() {
+            if matches!(item, Item::Any) && places >> place & 1 == 1 {
+                places |= 1 << (place + 1);
+            }
+        }
+        places
+    }
+
+    fn start(&self) -> State {
+        match self {
+            Automaton::Glob(items) => State::Places(Automaton::spread(items, 1)),
+            Automaton::Range(from, end) => State::Bounds(Some(from), Some(end)),
+            Automaton::Near(..) => State::Row(std::array::from_fn(|place| place as u8)),
+        }
+    }
+
+    fn is_match(&self, state: &State) -> bool {
+        match (self, state) {
+            (Automaton::Glob(items), State::Places(places)) => places >> items.len() & 1 == 1,
+            (Automaton::Near(word, edits), State::Row(row)) => row[word.len()] <= *edits,
+            (_, State::Bounds(from, end)) => from.is_none_or(<[u8]>::is_empty) && end.is_none_or(|end| !end.is_empty()),
+            _ => false,
+        }
+    }
+
+    fn can_match(&self, state: &State) -> bool {
+        match (self, state) {
+            (_, State::Places(places)) => *places != 0,
+            (Automaton::Near(word, edits), State::Row(row)) => row[..=word.len()].iter().any(|cell| cell <= edits),
+            (_, State::Bounds(..)) => true,
+            _ => false,
+        }
+    }
+
+    fn step(&self, state: &State, byte: u8) -> State {
+        match (self, state) {
+            (Automaton::Glob(items), State::Places(places)) => {
+                let mut next = 0;
+                for (place, item) in items.iter().enumerate() {
+                    if places >> place & 1 == 1 {
+                        next |= match item {
+                            Item::Any => 1 << place,
+                            Item::One => 1 << (place + 1),
+                            Item::Byte(wanted) => u64::from(*wanted == byte) << (place + 1),
+                        };
+                    }
+                }
+                State::Places(Automaton::spread(items, next))
+            }
+            (Automaton::Near(word, _), State::Row(row)) => {
+                let mut next = [row[0] + 1; 32];
+                for (place, wanted) in word.iter().enumerate() {
+                    next[place + 1] = (row[place] + u8::from(*wanted != byte)).min(row[place + 1] + 1).min(next[place] + 1);
+                }
+                State::Row(next)
+            }
+            (_, State::Bounds(from, end)) => {
+                let from = match from.and_then(<[u8]>::split_first) {
+                    Some((first, _)) if byte < *first => return State::Dead,
+                    Some((first, rest)) if byte == *first => Some(rest),
+                    _ => None,
+                };
+                let end = match end.map(<[u8]>::split_first) {
+                    None => None,
+                    Some(Some((first, _))) if byte < *first => None,
+                    Some(Some((first, rest))) if byte == *first => Some(rest),
+                    _ => return State::Dead,
+                };
+                State::Bounds(from, end)
+            }
+            _ => State::Dead,
+        }
+    }
+}
+
+#[cfg(fst)]
+impl peers::fst::Automaton for &Automaton {
+    type State = State;
+    fn start(&self) -> State {
+        Automaton::start(self)
+    }
+    fn is_match(&self, state: &State) -> bool {
+        Automaton::is_match(self, state)
+    }
+    fn can_match(&self, state: &State) -> bool {
+        Automaton::can_match(self, state)
+    }
+    fn accept(&self, state: &State, byte: u8) -> State {
+        Automaton::step(self, state, byte)
+    }
+}
+
+/// The number of pairs that were found times 2^32, and the sum of their values.
+fn search(kind: Kind, bytes: &[u8], question: &Question) -> usize {
+    let (number, text, end) = question.parts();
+    let kind = u8::from(kind == Kind::Hash);
+    // SAFETY: the function reads the three slices.
+    unsafe { search_many_(kind, bytes.as_ptr(), bytes.len(), number, text.as_ptr(), text.len(), end.as_ptr(), end.len(), 1) }
+}
+
+fn is_accepted(automaton: &Automaton, key: &[u8]) -> bool {
+    let mut state = automaton.start();
+    for byte in key {
+        state = automaton.step(&state, *byte);
+        if !automaton.can_match(&state) {
+            return false;
+        }
+    }
+    automaton.is_match(&state)
+}
+
+fn scanned(set: &Set, automaton: &Automaton) -> usize {
+    set.pairs().filter(|(key, _)| is_accepted(automaton, key)).fold(0, |sum, (_, value)| sum + value + (1 << 32))
+}
+
+#[cfg(fst)]
+fn searched(map: &peers::fst::Map, automaton: &Automaton) -> usize {
+    use peers::fst::{IntoStreamer, Streamer};
+    let mut found = map.search(automaton).into_stream();
+    let mut sum = 0;
+    while let Some((_, value)) = found.next() {
+        sum += value as usize + (1 << 32);
+    }
+    sum
+}
+
+#[cfg(fst)]
+fn fst_of(set: &Set) -> peers::fst::Map {
+    let mut builder = peers::fst::MapBuilder::memory();
+    for (key, value) in set.pairs() {
+        builder.insert(key, value as u64).unwrap();
+    }
+    peers::fst::Map::from_bytes(builder.into_inner().unwrap()).unwrap()
+}
+
+fn main() {
+    let words: Vec<String> = std::env::args().skip(1).collect();
+    let file = words.first().map_or("/usr/share/dict/american-english-huge", String::as_str);
+    let rounds = words.get(1).and_then(|word| word.parse().ok()).unwrap_or(9);
+    let set = Set::of_file(Path::new(file)).expect("the file of keys can't be read");
+    let mut kinds = Kind::of(&set.keys);
+    kinds.retain(|kind| matches!(kind, Kind::Simple | Kind::Hash));
+    let tries: Vec<(Kind, Vec<u8>)> = kinds.into_iter().map(|kind| (kind, calls::built(kind, set.pairs()))).collect();
+    #[cfg(fst)]
+    let map = fst_of(&set);
+    let mut table = Table::of_shares(&format!("Microseconds of a search in {}", set.name));
+    for question in &QUESTIONS {
+        let automaton = question.automaton();
+        for (kind, bytes) in &tries {
+            let mut contestants: Contestants<'_> = vec![
+                ("here", Box::new(|| search(*kind, bytes, question))),
+                ("a scan", Box::new(|| scanned(&set, &automaton))),
+                #[cfg(fst)]
+                ("`fst`", Box::new(|| searched(&map, &automaton))),
+            ];
+            let sums: Vec<usize> = contestants.iter_mut().map(|(_, work)| work()).collect();
+            assert!(sums.iter().all(|sum| *sum == sums[0]), "the answers differ: {sums:?}, {}", question.name());
+            let row = format!("{}, {}: {}", question.name(), kind.name(), sums[0] >> 32);
+            table.measure(row, rounds, 1000, contestants);
+        }
+    }
+    table.print();
+}
