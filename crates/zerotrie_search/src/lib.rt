@@ -4,6 +4,7 @@
 mod automaton;
 mod beginning;
 mod combination;
+mod cursors;
 mod glob;
 pub mod laws;
 mod levenshtein;
@@ -12,13 +13,16 @@ mod range;
 mod search;
 mod subsequence;
 mod trail;
+mod tries;
 
 pub use automaton::Automaton;
 pub use beginning::BeginsWith;
 pub use combination::{AnyCase, Both, Either, Not};
+pub use cursors::SearchBelow;
 pub use glob::{Glob, GlobError};
 pub use levenshtein::{CharsState, Levenshtein, LevenshteinChars};
 pub use prefix::StartsWith;
 pub use range::KeyRange;
 pub use search::ZeroTrieSearch;
 pub use subsequence::Subsequence;
+pub use tries::Search;

@@ -109,6 +109,7 @@ impl<'a, T: Automaton, A: Allocator + Copy> ZeroTrieSearch<'a, T, A> {
     /// call of `advance`.
     pub fn new(alloc: A, pairs: ZeroTrieStream<'a, A>, automaton: T) -> Self
         ensures left { result.left ≡ accepted_left (T.accepts automaton) pairs.entry.left }
+        ensures stream { result.stream ≡ pairs.entry }
         ensures automaton { result.automaton ≡ automaton }
     {
         let state = automaton.start();
