@@ -7,3 +7,4 @@ mod WalkLemmas
 mod CursorLemmas
 mod WellFormedLemmas
 mod FaultLemmas
+pub mod ForCallers

@@ -2,6 +2,7 @@
 pub mod Ascending
 pub mod Grouped
 pub mod Left
+pub mod Moved
 pub mod Nodes
 pub mod Passed
 pub mod Prefixes

@@ -24,6 +24,7 @@ pub mod Places
 pub mod reader
 pub mod Listings
 pub mod Skips
+pub mod Nodewise
 pub mod listing
 pub mod cursor
 pub mod CursorLaws

@@ -2,5 +2,6 @@
 pub mod Listed
 pub mod Grouped
 pub mod Opened
+pub mod Moved
 pub mod Runs
 pub mod Passed

@@ -32,7 +32,7 @@ pub use plain::plain_encode;
 pub use prefixes::{CommonPrefixes, longest_prefix};
 pub use reader::{get, get_counted};
 pub use span_cursor::{ByteProbeResult, SpanCursor};
-pub use stream::ZeroTrieStream;
+pub use stream::{Reached, ZeroTrieStream};
 pub use walk::{Nodes, Part, Visit, count_pairs};
 pub use well_formed::{is_well_formed, is_well_formed_counted};
 pub use zerotrie_base::{

@@ -1,8 +1,9 @@
 //! The branches that a stream has opened.
 
-ghost use Rattle.std.specs.Prelude.{◌≡◌, ◌<◌, ◌∷◌, ℕ, List, [], false, length, reverse, IfOk, OnOk, IsTrue};
+ghost use Rattle.std.specs.Prelude.{◌≡◌, ◌<◌, ◌≤◌, ◌∷◌, ℕ, List, [], false, length, reverse, take, IfOk, OnOk, IsTrue};
 ghost use Rattle.zerotrie_base.specs.Kind.{Kind};
 ghost use Rattle.zerotrie_core.specs.listing.Opened.{Nested, Stands, Leaves, still_open, pairs_open, pairs_left, work_open, work_left};
+ghost use Rattle.zerotrie_core.specs.listing.Moved.{first_depth};
 ghost use Rattle.zerotrie_core.specs.listing.Grouped.{AreEntered, CanEnter, AreGrouped, StandsBelow};
 ghost use Rattle.zerotrie_core.specs.declared.stream.opened.OpenBranch.{OpenBranch};
 
@@ -35,6 +36,14 @@ impl<'a, A: Allocator> OpenBranches<'a, A> {
             top: OpenBranch::closed(),
             outer: Vec::new(alloc),
         }
+    }
+
+    /// Returns after how many bytes of the key the innermost branch is.
+    #[inline(always)]
+    pub(crate) fn depth(&self) -> usize
+        ensures { result ≡ first_depth self.now }
+    {
+        self.top.depth
     }
 
     /// Leaves the innermost branch if none of its targets is left, and returns whether any branch
@@ -72,6 +81,7 @@ impl<'a, A: Allocator> OpenBranches<'a, A> {
     pub(crate) fn leave(&mut self, depth: usize)
         ensures leaves { Leaves depth self.old self.new }
         ensures below { StandsBelow depth self.new }
+        ensures less { work_open self.new ≤ work_open self.old }
     {
         while depth <= self.top.depth {
             let Some(outer) = self.outer.pop() else {
@@ -92,6 +102,8 @@ impl<'a, A: Allocator> OpenBranches<'a, A> {
             pairs_left kind key.new.items here.rest.now self.new ≡ pairs_open kind key.old.items self.old) }
         ensures grouped { (kind : Kind) → IfOk result (λ here. CanEnter kind key.old.items self.old
             → AreGrouped kind key.new.items here.rest.now self.new) }
+        ensures kept { IfOk result (λ _. take (first_depth self.old) key.new.items
+            ≡ take (first_depth self.old) key.old.items) }
         ensures less { IfOk result (λ here. work_left here.rest.now self.new < work_open self.old) }
     {
         key.truncate(self.top.depth);

@@ -1,6 +1,6 @@
 //! One branch that a stream has opened.
 
-ghost use Rattle.std.specs.Prelude.{◌≡◌, ◌≤◌, ◌<◌, ◌+◌, ◌-◌, ◌*◌, ◌↔◌, length, take, IsTrue};
+ghost use Rattle.std.specs.Prelude.{◌≡◌, ◌≤◌, ◌<◌, ◌+◌, ◌-◌, ◌*◌, ◌↔◌, [], length, take, IsTrue};
 ghost use Rattle.std.specs.Option.{option_map};
 ghost use Rattle.zerotrie_base.specs.Nodes.{targets_behind, begin_of, IsTargetResult};
 ghost use Rattle.zerotrie_core.specs.listing.Runs.{EndsWith};
@@ -38,6 +38,7 @@ impl<'a> OpenBranch<'a> {
         ensures edges { result.edges ≡ 0 }
         ensures next { result.next ≡ 0 }
         ensures depth { result.depth ≡ 0 }
+        ensures behind { result.behind.now ≡ [] }
     {
         OpenBranch {
             behind: &[],
