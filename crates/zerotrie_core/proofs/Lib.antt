@@ -5,6 +5,8 @@ mod ReaderLemmas
 mod ListingLemmas
 mod WalkLemmas
 mod CursorLemmas
+mod BorderLemmas
+pub mod ListedLemmas
 mod WellFormedLemmas
 mod FaultLemmas
 pub mod ForCallers

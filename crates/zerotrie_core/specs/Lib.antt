@@ -19,6 +19,7 @@ pub use Rattle.zerotrie_base.specs.Laws
 pub use Rattle.zerotrie_base.specs.Cursors
 pub mod Shapes
 pub mod Prefixes
+pub mod Borders
 pub mod Machine
 pub mod Places
 pub mod reader

@@ -1,6 +1,7 @@
 //! What reads tries in place: look-ups, listings, cursors and validation. Also the plain encoder.
 #![tactic(auto)]
 
+mod borders;
 mod branch;
 mod cursor;
 mod cursor_place;
@@ -21,6 +22,7 @@ mod stream;
 mod walk;
 mod well_formed;
 
+pub use borders::longest_prefix_at;
 pub use branch::Branch;
 pub use cursor::{AsciiProbeResult, probe, step, take_value};
 pub use cursor_place::CursorPlace;
