@@ -1,16 +1,18 @@
 """Packs the one package for `pip install .`, so that no other one is asked for. The library goes along: a libzerotrie.so that lies
-in the package, or else where bindings/make leaves it, is installed in the package, which finds it there. Without one nothing is
-packed. The extension zerotrie/_fast.c, by which single look-ups are fast, is compiled and goes along if a C compiler and Python.h
+in the package, or else where bindings/make leaves it or in the folder ZEROTRIE_LIB, is installed in the package, which finds it
+there. Without one nothing is packed. The version is that of the file VERSION, and goes into the module zerotrie._version. The extension zerotrie/_fast.c, by which single look-ups are fast, is compiled and goes along if a C compiler and Python.h
 are there; else the package does without. `pip install -e .` installs the way to this folder alone: the library and the extension are
 those that bindings/make made, before or after.
 
-As a program, which bindings/make calls, it compiles the extension into the folder that is its argument."""
+As a program, which bindings/make calls, it makes that module, and compiles the extension into the folder that is its argument."""
 
 import base64
+import gzip
 import hashlib
 import io
 import os
 import pathlib
+import re
 import shlex
 import subprocess
 import sys
@@ -19,20 +21,31 @@ import tarfile
 import tempfile
 import zipfile
 
-NAME = "zerotrie-0.2.5.post1"
-METADATA = """Metadata-Version: 2.1
-Name: zerotrie
-Version: 0.2.5.post1
-Summary: Maps from byte strings to numbers, read from flat bytes, by a library that is proved
-License: Unicode-3.0
-Requires-Python: >=3.9
-"""
-
-
 HERE = pathlib.Path(__file__).resolve().parent
 EXTENSION = "_fast.abi3.so"
-#: What the wheel serves: with the extension each CPython from 3.9 on, and without it each Python.
-WITH_EXTENSION, WITHOUT = "cp39-abi3-linux_x86_64", "py3-none-linux_x86_64"
+#: What a wheel serves: with the extension each CPython from 3.9 on, and without it each Python.
+WITH_EXTENSION, WITHOUT = "cp39-abi3", "py3-none"
+METADATA = """Metadata-Version: 2.1
+Name: zerotrie
+Version: {version}
+Summary: Maps from byte strings to numbers, read from flat bytes, by a library that is proved
+Keywords: trie,map,prefix,succinct
+License: Unicode-3.0
+License-File: LICENSE
+Project-URL: Format, https://docs.rs/zerotrie/0.2.5
+Classifier: Development Status :: 4 - Beta
+Classifier: Intended Audience :: Developers
+Classifier: License :: OSI Approved
+Classifier: Operating System :: POSIX :: Linux
+Classifier: Programming Language :: C
+Classifier: Programming Language :: Python :: 3
+Classifier: Programming Language :: Python :: Implementation :: CPython
+Classifier: Topic :: Software Development :: Libraries
+Classifier: Typing :: Typed
+Requires-Python: >=3.9
+Description-Content-Type: text/markdown
+
+{description}"""
 
 
 def first_of(*paths):
@@ -45,12 +58,47 @@ def read(*names):
     return {name: (HERE / name).read_bytes() for name in names}
 
 
+def beside(name, *places):
+    """The bytes of a file that an sdist has in this folder, and a checkout at one of these places."""
+    data = first_of(HERE / name, *places)
+    if data is None:
+        raise SystemExit(f"no {name}: take the whole of a checkout or of the sdist")
+    return data
+
+
+def version():
+    return beside("VERSION", HERE.parent.parent / "VERSION").decode().strip()
+
+
+def version_module():
+    """The module by which the package knows its version."""
+    return f'"""Made from the file VERSION."""\n\n__version__ = "{version()}"\n'.encode()
+
+
+def name():
+    return f"zerotrie-{version()}"
+
+
+def metadata():
+    return METADATA.format(version=version(), description=(HERE / "README.md").read_text()).encode()
+
+
+def platforms(*binaries):
+    """The platforms of a wheel with these files: manylinux2014 takes no symbol of glibc that is later than 2.17."""
+    if sysconfig.get_platform() != "linux-x86_64" or "musl" in (sysconfig.get_config_var("HOST_GNU_TYPE") or ""):
+        return [sysconfig.get_platform().replace("-", "_").replace(".", "_")]
+    newest = max((int(found) for data in binaries for found in re.findall(rb"GLIBC_2\.(\d+)", data)), default=0)
+    return ["manylinux_2_17_x86_64", "manylinux2014_x86_64"] if newest <= 17 else [f"manylinux_2_{newest}_x86_64"]
+
+
 def package():
     """The package with the library, by the names of the files."""
-    library = first_of(HERE / "zerotrie/libzerotrie.so", HERE.parent / "build/libzerotrie.so")
+    made = pathlib.Path(os.environ.get("ZEROTRIE_LIB") or HERE.parent / "build")
+    library = first_of(HERE / "zerotrie/libzerotrie.so", made / "libzerotrie.so")
     if library is None:
-        raise SystemExit("no libzerotrie.so: run bindings/make first")
-    return {**read("zerotrie/__init__.py", "zerotrie/py.typed"), "zerotrie/libzerotrie.so": library}
+        raise SystemExit("no libzerotrie.so: run bindings/make first, or take a wheel of a release")
+    modules = [str(path.relative_to(HERE)) for path in sorted((HERE / "zerotrie").glob("*.py")) if path.name != "_version.py"]
+    return {**read(*modules, "zerotrie/py.typed"), "zerotrie/_version.py": version_module(), "zerotrie/libzerotrie.so": library}
 
 
 def extension(folder):
@@ -76,53 +124,59 @@ def extension(folder):
     return None
 
 
-def licence(name):
-    """The licence, by this name. Nothing if it isn't there."""
-    text = first_of(HERE / "LICENSE", HERE.parent.parent / "LICENSE")
-    return {} if text is None else {name: text}
+def licence():
+    return beside("LICENSE", HERE.parent.parent / "LICENSE")
 
 
-def wheel(directory, files, tag=WITHOUT):
-    """Writes the wheel of these files, and what it says of itself. Answers its name."""
-    about = f"{NAME}.dist-info"
-    files = {**files, **licence(f"{about}/LICENSE"), f"{about}/METADATA": METADATA.encode()}
-    files[f"{about}/WHEEL"] = f"Wheel-Version: 1.0\nGenerator: packed\nRoot-Is-Purelib: false\nTag: {tag}\n".encode()
+def wheel(directory, files, tag, platforms):
+    """Writes the wheel of these files, and what it says of itself. Answers its name. The same files make the same bytes."""
+    about = f"{name()}.dist-info"
+    files = {**files, f"{about}/LICENSE": licence(), f"{about}/METADATA": metadata()}
+    tags = "".join(f"Tag: {tag}-{platform}\n" for platform in platforms)
+    files[f"{about}/WHEEL"] = f"Wheel-Version: 1.0\nGenerator: packed\nRoot-Is-Purelib: false\n{tags}".encode()
     rows = []
-    for name, data in files.items():
+    for path, data in files.items():
         digest = base64.urlsafe_b64encode(hashlib.sha256(data).digest()).rstrip(b"=").decode()
-        rows.append(f"{name},sha256={digest},{len(data)}\n")
+        rows.append(f"{path},sha256={digest},{len(data)}\n")
     files[f"{about}/RECORD"] = "".join([*rows, f"{about}/RECORD,,\n"]).encode()
-    with zipfile.ZipFile(pathlib.Path(directory) / f"{NAME}-{tag}.whl", "w") as packed:
-        for name, data in files.items():
-            entry = zipfile.ZipInfo(name)
+    made = f"{name()}-{tag}-{'.'.join(platforms)}.whl"
+    with zipfile.ZipFile(pathlib.Path(directory) / made, "w") as packed:
+        for path, data in files.items():
+            entry = zipfile.ZipInfo(path)
             entry.external_attr = 0o644 << 16
+            entry.compress_type = zipfile.ZIP_DEFLATED
             packed.writestr(entry, data)
-    return f"{NAME}-{tag}.whl"
+    return made
 
 
 def build_sdist(sdist_directory, config_settings=None):
-    files = {**package(), **licence("LICENSE"), **read("packed.py", "pyproject.toml", "zerotrie/_fast.c"), "PKG-INFO": METADATA.encode()}
-    files["zerotrie.h"] = first_of(HERE / "zerotrie.h", HERE.parent / "c/zerotrie.h")
-    with tarfile.open(pathlib.Path(sdist_directory) / f"{NAME}.tar.gz", "w:gz") as packed:
-        for name, data in files.items():
-            entry = tarfile.TarInfo(f"{NAME}/{name}")
+    files = {**package(), **read("packed.py", "pyproject.toml", "README.md", "zerotrie/_fast.c"), "PKG-INFO": metadata(), "LICENSE": licence(),
+             "VERSION": f"{version()}\n".encode(), "zerotrie.h": beside("zerotrie.h", HERE.parent / "c/zerotrie.h")}
+    made, stream = f"{name()}.tar.gz", io.BytesIO()
+    with tarfile.open(fileobj=stream, mode="w", format=tarfile.PAX_FORMAT) as packed:
+        for path, data in files.items():
+            entry = tarfile.TarInfo(f"{name()}/{path}")
             entry.size = len(data)
             packed.addfile(entry, io.BytesIO(data))
-    return f"{NAME}.tar.gz"
+    (pathlib.Path(sdist_directory) / made).write_bytes(gzip.compress(stream.getvalue(), mtime=0))
+    return made
 
 
 def build_wheel(wheel_directory, config_settings=None, metadata_directory=None):
     files = package()
+    library = files["zerotrie/libzerotrie.so"]
     with tempfile.TemporaryDirectory() as room:
         fast = extension(room)
     if fast is None:
-        return wheel(wheel_directory, files)
-    return wheel(wheel_directory, {**files, f"zerotrie/{EXTENSION}": fast}, WITH_EXTENSION)
+        return wheel(wheel_directory, files, WITHOUT, platforms(library))
+    return wheel(wheel_directory, {**files, f"zerotrie/{EXTENSION}": fast}, WITH_EXTENSION, platforms(library, fast))
 
 
 def build_editable(wheel_directory, config_settings=None, metadata_directory=None):
-    return wheel(wheel_directory, {"zerotrie.pth": f"{HERE}\n".encode()})
+    (HERE / "zerotrie/_version.py").write_bytes(version_module())
+    return wheel(wheel_directory, {"zerotrie.pth": f"{HERE}\n".encode()}, WITHOUT, ["any"])
 
 
 if __name__ == "__main__":
+    (HERE / "zerotrie/_version.py").write_bytes(version_module())
     extension(sys.argv[1])
