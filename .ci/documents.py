@@ -34,7 +34,7 @@ LIMITS = {
     "docs/CALLING.md": 2620,
     "docs/DECISIONS.md": 2000,
     "docs/DIFFERENCES.md": 1980,
-    "docs/FORMAT.md": 4210,
+    "docs/FORMAT.md": 4500,
     "docs/MODEL.md": 2000,
     "docs/SPEED.md": 1500,
     "docs/speed/fast.md": 870,

@@ -1,0 +1,5 @@
+mod Remainders
+mod Chunks
+mod Table
+mod Headers
+mod Damage

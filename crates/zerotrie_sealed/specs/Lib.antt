@@ -1,0 +1,4 @@
+pub mod Checksum
+pub mod Sealed
+pub mod Faults
+pub mod Laws

@@ -1,0 +1,21 @@
+//! Laws of the definitions alone, as contracts that a caller's proof can cite.
+//!
+//! Each function does nothing: a call brings its law into a proof.
+
+ghost use Rattle.zerotrie_sealed.specs.Laws.{OneTrie, NoneLonger, OneByteShows};
+
+/// A file is the seal of one trie at most, in one kind.
+pub fn one_trie()
+    ensures { OneTrie }
+{}
+
+/// No sealed file is the beginning of a longer one: neither a cut file nor one with bytes behind it
+/// is sealed.
+pub fn none_longer()
+    ensures { NoneLonger }
+{}
+
+/// A sealed file in which one byte is replaced by another is no sealed file.
+pub fn one_byte_shows()
+    ensures { OneByteShows }
+{}

@@ -1,0 +1,70 @@
+//! Sealing: the header of a trie, and a trie behind its header.
+
+ghost use Rattle.std.specs.Prelude.{◌≡◌, IfOk, ◌++◌};
+ghost use Rattle.std.specs.Int.{w32, to_le_bytes};
+ghost use Rattle.zerotrie_base.specs.Kinds.{kind_of};
+ghost use Rattle.zerotrie_sealed.specs.Sealed.{front, header, IsSealed};
+
+use crate::checksum::crc32c_of_both;
+use std::alloc::{AllocError, Global};
+use zerotrie_base::TrieKind;
+
+/// What each sealed file begins with.
+pub(crate) const MAGIC: [u8; 8] = [0x7A, 0x74, 0x72, 0x69, 0x89, 0x8A, 0x0D, 0x0A];
+
+/// The version of the format.
+pub(crate) const VERSION: u16 = 1;
+
+/// The number of bytes in front of the checksum.
+pub(crate) const FRONT_LEN: usize = 20;
+
+/// The number of bytes in front of the trie in a sealed file.
+pub const HEADER_LEN: usize = 24;
+
+/// Returns the header of this trie, with this checksum.
+fn header_with(kind: TrieKind, trie: &[u8], checksum: u32) -> [u8; HEADER_LEN]
+    ensures { result ≡ front (kind_of kind) trie.now ++ to_le_bytes w32 checksum }
+{
+    let [m0, m1, m2, m3, m4, m5, m6, m7] = MAGIC;
+    let [v0, v1] = VERSION.to_le_bytes();
+    let [k0, k1] = u16::from(kind.tag()).to_le_bytes();
+    let [l0, l1, l2, l3, l4, l5, l6, l7] = trie.len().to_le_bytes();
+    let [c0, c1, c2, c3] = checksum.to_le_bytes();
+    [
+        m0, m1, m2, m3, m4, m5, m6, m7, v0, v1, k0, k1, l0, l1, l2, l3, l4, l5, l6, l7, c0, c1, c2,
+        c3,
+    ]
+}
+
+/// Returns the header of the sealed file of this trie: the file is the header, followed by the
+/// trie.
+///
+/// ```
+/// let header = header_of(TrieKind::Hash, b"a\x85");
+/// assert_eq!(rt; header[..12], b"ztri\x89\x8A\r\n\x01\x00\x03\x00"[..]);
+/// ```
+pub fn header_of(kind: TrieKind, trie: &[u8]) -> [u8; HEADER_LEN]
+    ensures { result ≡ header (kind_of kind) trie.now }
+{
+    let unchecked = header_with(kind, trie, 0);
+    let checksum = crc32c_of_both(&unchecked[..FRONT_LEN], trie);
+    header_with(kind, trie, checksum)
+}
+
+/// Returns the sealed file of this trie, which `open` reads.
+///
+/// ```
+/// let file = seal(rt.alloc(), TrieKind::Hash, b"a\x85")?;
+/// let sealed = open(file.as_slice())?;
+/// assert_eq!(rt; sealed.trie, b"a\x85".as_slice());
+/// ```
+///
+/// The bytes need not be a valid trie. An error means that an allocation failed.
+pub fn seal(alloc: Global, kind: TrieKind, trie: &[u8]) -> Result<Vec<u8>, AllocError>
+    ensures { IfOk result (λ file. IsSealed (kind_of kind) trie.now file.items) }
+{
+    let mut file = Vec::new(alloc);
+    file.extend_from_slice(&header_of(kind, trie))?;
+    file.extend_from_slice(trie)?;
+    Ok(file)
+}
