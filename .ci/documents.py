@@ -31,7 +31,7 @@ LIMITS = {
     "crates/zerotrie_search/README.md": 430,
     "crates/zerotrie_tool/README.md": 480,
     "docs/ARCHITECTURE.md": 1700,
-    "docs/CALLING.md": 2620,
+    "docs/CALLING.md": 2940,
     "docs/DECISIONS.md": 2000,
     "docs/DIFFERENCES.md": 1980,
     "docs/FORMAT.md": 4500,

@@ -1,10 +1,17 @@
 -- The value of the longest front of a text that is a key, among those that count, by the keys that the text begins with.
-use Rattle.std.proofs.Common.{◌≡◌, ℕ, zero, suc, ◌+◌, ◌<◌, ◌≤◌, ◌⊎◌, inl, inr, List, [], ◌∷◌, ◌++◌, length, take, refl, sym, ◌∙◌, ap, subst, arith, Bool, true, false, cond, Option, Some, None}
+-- Also what `longest_prefix` and `longest_prefix_at` return, by the keys alone.
+use Rattle.std.proofs.Common.{◌≡◌, ℕ, zero, suc, ◌+◌, ◌<◌, ◌≤◌, ◌⊎◌, inl, inr, List, [], ◌∷◌, ◌++◌, length, take, drop, refl, sym, ◌∙◌, ap, subst, arith, Bool, true, false, cond, Option, Some, None}
+use Rattle.std.specs.Prelude.{◌||◌}
+use Rattle.std.proofs.Math.Dec.{eqb-suc-zero}
+use Rattle.std.proofs.Math.Seq.{take-append_seam, drop-append_seam}
+use Rattle.std.proofs.lemmas.List.{take-append-drop, length-append, length-take-le}
 use Rattle.std.specs.Option.{option_map, option_to_list}
 use Rattle.zerotrie_core.specs.Kind.{Kind}
 use Rattle.zerotrie_core.specs.Maps.{Pairs, Map, look, value_at}
 use Rattle.zerotrie_core.specs.Texts.{Means}
-use Rattle.zerotrie_core.specs.Prefixes.{Along, fronts, common_prefixes, at_front, Leaves, fronts_left, NextFront}
+use Rattle.zerotrie_core.specs.Borders.{is_end, is_border, at_borders, IsLongestPrefixAt}
+use Rattle.zerotrie_core.specs.Prefixes.{IsLongestPrefix, Along, fronts, common_prefixes, at_front, Leaves, fronts_left, NextFront}
+use Rattle.zerotrie.specs.Fallback.{BeginsWithParts, BeginsWith, IsFallback, IsLongestKey}
 use Rattle.zerotrie.proofs.Lookups.{listed_answer}
 
 -- the value of the last of some fronts whose length counts, or what was found before
@@ -161,3 +168,90 @@ pub ends : (kind : Kind) (counts : ℕ → Bool) (text : List ℕ) (m : Map) (fo
     → Finds counts found before (last_of counts None (common_prefixes kind m text)) → IsLast counts (look kind m) text found
 ends kind counts text m found before after next old =
     subst (IsLast counts (look kind m) text) (sym (sym (ap (last_of counts found) (next old.0 old.1)) ∙ old.2)) (last_is counts (look kind m) text)
+
+-- a key that the text begins with, by its length
+count : (text key rest : List ℕ) → text ≡ key ++ rest → (length key ≤ length text) × (take (length key) text ≡ key)
+count text key rest is =
+    let len = ap length is ∙ length-append key rest in
+    (omega arith, ap (take (length key)) is ∙ take-append_seam key rest)
+
+module _ (delimiters : List ℕ) where
+  -- a front of this many bytes that ends at a border
+  front : (name : List ℕ) (n : ℕ) → n ≤ length name → is_border delimiters name n ≡ true → BeginsWithParts delimiters name (take n name)
+  front [] zero l ends = tt
+  front [] (suc n) l ends = absurd (omega arith)
+  front (b ∷ name) zero l ends = tt
+  front (b ∷ name) (suc n) l ends =
+      (drop n name, ap (λ rest. b ∷ rest) (sym (take-append-drop n name)), ap (λ none. none || is_end delimiters (drop n name)) (sym (eqb-suc-zero n)) ∙ ends)
+
+  ended : (name : List ℕ) (b : ℕ) (key rest : List ℕ) → name ≡ b ∷ key ++ rest → is_end delimiters rest ≡ true → is_border delimiters name (length (b ∷ key)) ≡ true
+  ended name b key rest is ends =
+      ap (λ none. none || is_end delimiters (drop (length (b ∷ key)) name)) (eqb-suc-zero (length key))
+      ∙ ap (is_end delimiters) (ap (drop (length (b ∷ key))) is ∙ drop-append_seam (b ∷ key) rest) ∙ ends
+
+  -- a longer key by whole parts has no value if no longer front has
+  beyond : (name : List ℕ) (at : List ℕ → Option ℕ) (n : ℕ) → ((k : ℕ) → n < k → k ≤ length name → is_border delimiters name k ≡ true → at (take k name) ≡ None)
+      → (key : List ℕ) → BeginsWithParts delimiters name key → n < length key → at key ≡ None
+  beyond name at n none [] begins l = absurd (omega arith)
+  beyond name at n none (b ∷ key) begins l =
+      let is = count name (b ∷ key) begins.0 begins.1 in
+      subst (λ k. at k ≡ None) is.1 (none (length (b ∷ key)) l is.0 (ended name b key begins.0 begins.1 begins.2))
+
+  every : (name : List ℕ) (at : List ℕ → Option ℕ) → IsLast (is_border delimiters name) at name None → (key : List ℕ) → BeginsWithParts delimiters name key → at key ≡ None
+  every name at none [] begins = none 0 (omega arith) refl
+  every name at none (b ∷ key) begins =
+      let is = count name (b ∷ key) begins.0 begins.1 in
+      subst (λ k. at k ≡ None) is.1 (none (length (b ∷ key)) is.0 (ended name b key begins.0 begins.1 begins.2))
+
+  -- the last front that ends at a border is what the name falls back to
+  pub is_fallback : (kind : Kind) (m : Map) (name : List ℕ) (answer : Option ℕ) → IsLast (is_border delimiters name) (look kind m) name answer
+      → IsFallback kind m delimiters name answer
+  is_fallback kind m name None none = every name (look kind m) none
+  is_fallback kind m name (Some v) last =
+      let len = length-take-le last.0 name last.1 in
+      (take last.0 name, front name last.0 last.1 last.2, last.3, λ longer begins l. beyond name (look kind m) last.0 last.4 longer begins (subst (λ k. k < length longer) len l))
+
+  -- what is looked for at a border
+  at_one : (text : List ℕ) (at : List ℕ → Option ℕ) (n : ℕ) → n ≤ length text → is_border delimiters text n ≡ true → at_borders delimiters text at (take n text) ≡ at (take n text)
+  at_one text at n low holds =
+      ap (λ l. cond (is_border delimiters text l) (at (take n text)) None) (length-take-le n text low) ∙ ap (λ b. cond b (at (take n text)) None) holds
+
+  -- and elsewhere
+  at_none : (text : List ℕ) (at : List ℕ → Option ℕ) (n : ℕ) → n ≤ length text → is_border delimiters text n ≡ false → at_borders delimiters text at (take n text) ≡ None
+  at_none text at n low other =
+      ap (λ l. cond (is_border delimiters text l) (at (take n text)) None) (length-take-le n text low) ∙ ap (λ b. cond b (at (take n text)) None) other
+
+  -- What `longest_prefix_at` returns is the last front that ends at a border.
+  pub last_at_border : (kind : Kind) (m : Map) (text : List ℕ) (len value : ℕ) → IsLongestPrefixAt kind m delimiters text (Some (len, value))
+      → IsLast (is_border delimiters text) (look kind m) text (Some value)
+  last_at_border kind m text len value longest = by (is_border delimiters text len) refl
+    where
+      by : (b : Bool) → is_border delimiters text len ≡ b → IsLast (is_border delimiters text) (look kind m) text (Some value)
+      by true is = (
+        len,
+        longest.0,
+        is,
+        sym (at_one text (look kind m) len longest.0 is) ∙ longest.1,
+        λ k more low holds. sym (at_one text (look kind m) k low holds) ∙ longest.2 k more low,
+      )
+      by false is = let none = sym (at_none text (look kind m) len longest.0 is) ∙ longest.1 in absurd (cc)
+
+  pub none_at_border : (kind : Kind) (m : Map) (text : List ℕ) → IsLongestPrefixAt kind m delimiters text None → IsLast (is_border delimiters text) (look kind m) text None
+  none_at_border kind m text none n low holds = sym (at_one text (look kind m) n low holds) ∙ none n low
+
+-- the longest front that is a key is the longest key
+pub is_longest_key : (kind : Kind) (m : Map) (text : List ℕ) (len value : ℕ) → IsLongestPrefix kind m text (Some (len, value))
+    → IsLongestKey kind m text (Some value)
+is_longest_key kind m text len value longest =
+    (take len text, (drop len text, sym (take-append-drop len text)), longest.1, none)
+  where
+    none : (longer : List ℕ) → BeginsWith text longer → length (take len text) < length longer → look kind m longer ≡ None
+    none longer begins l =
+        let is = count text longer begins.0 begins.1 in
+        let size = length-take-le len text longest.0 in
+        subst (λ k. look kind m k ≡ None) is.1 (longest.2 (length longer) (omega arith) is.0)
+
+pub no_longest_key : (kind : Kind) (m : Map) (text : List ℕ) → IsLongestPrefix kind m text None → IsLongestKey kind m text None
+no_longest_key kind m text none key begins =
+    let is = count text key begins.0 begins.1 in
+    subst (λ k. look kind m k ≡ None) is.1 (none (length key) is.0)

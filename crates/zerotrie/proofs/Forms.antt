@@ -1,12 +1,11 @@
--- What a trie is that was written in another form and read again, and what a build lists.
+-- What a trie is that was written in another form and read again.
 use Rattle.std.proofs.Common.{◌≡◌, List, ℕ, Ok, Some, sym, ap, subst, ◌∙◌}
 use Rattle.std.specs.FinMap.{entries, same_map, get-from_entries, get-entries, slice_cmp-IsAntisymmetric, nat_cmp-IsAntisymmetric}
 use Rattle.std.specs.Cmp.Lexicographic.{nat_list_cmp_total}
 use Rattle.serde_json.specs.Data.{Data}
-use Rattle.zerotrie_core.specs.Kind.{Kind, simple_ascii}
+use Rattle.zerotrie_core.specs.Kind.{Kind}
 use Rattle.zerotrie_core.specs.Maps.{Pairs, Map, Ascends, map_of}
-use Rattle.zerotrie_core.specs.Texts.{Lists, Means}
-use Rattle.zerotrie_core.specs.Built.{IsBuilt}
+use Rattle.zerotrie_core.specs.Texts.{Means}
 use Rattle.zerotrie_core.specs.Fits.{Fits}
 pub use Rattle.zerotrie_core.proofs.CallerLemmas.{entries-map_of}
 use Rattle.zerotrie_any.specs.Auto.{auto_kind}
@@ -46,11 +45,3 @@ pub auto_read_back : {B : Type 0} (kind_of : B → Kind) (bytes : B → List ℕ
 auto_read_back kind_of bytes pairs d b law ascends fits is of h =
     subst (λ own. (kind_of b ≡ auto_kind own) × Means (auto_kind own) (bytes b) (map_of pairs)) (entries-map_of pairs ascends)
     (auto_read_back_map (auto_kind pairs) kind_of bytes (map_of pairs) d b law fits is of h)
-
--- A build of pairs that ascend lists these pairs, in this order: `law` is the clause `by_bytes` of `laws::listing_is_the_map`.
-pub lists_pairs : (pairs : Pairs) (bytes : List ℕ) → ((other : List ℕ) (own : Pairs) → Lists simple_ascii other own → Ascends own) → Ascends pairs
-    → IsBuilt simple_ascii pairs bytes → Lists simple_ascii bytes pairs
-lists_pairs pairs bytes law ascends built =
-    let means = built.means in
-    let same : means.pairs ≡ pairs = sym (entries-map_of means.pairs (law bytes means.pairs means.lists)) ∙ ap entries (sym means.is) ∙ entries-map_of pairs ascends in
-    subst (Lists simple_ascii bytes) same means.lists

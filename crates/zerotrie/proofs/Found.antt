@@ -9,6 +9,7 @@ use Rattle.zerotrie_any.specs.Auto.{is_simple, auto_kind}
 use Rattle.zerotrie_core.specs.Built.{IsBuilt}
 use Rattle.zerotrie_core.specs.Routes.{Route, Takes}
 use Rattle.zerotrie_core.specs.ArrayRoutes.{IsArrayBuilt}
+use Rattle.zerotrie.specs.Keywords.{IsNumberOf}
 use Rattle.zerotrie.proofs.Lookups.{look_is, present, absent, found, same_itself, same_ignoring_case, takes_distinct}
 use Rattle.zerotrie_core.proofs.CallerLemmas.{ascends_apart}
 pub use Rattle.zerotrie_core.proofs.CallerLemmas.{exact_same}
@@ -26,15 +27,10 @@ pub record AnswerWithoutCase (pairs : Pairs) (key : List ℕ) (answer : Option �
   pub absent : All (λ e. str_eq_ignore_ascii_case e.0 key ≡ false) pairs → answer ≡ None
   pub found : (v : ℕ) → answer ≡ Some v → (own : List ℕ) × Contains pairs (own, v) × (str_eq_ignore_ascii_case own key ≡ true)
 
--- the answer is the value beside the key, and none exactly if no pair has the key
-abbrev pub Exactly : Pairs → List ℕ → Option ℕ → Type 0
-Exactly pairs key (Some v) = Contains pairs (key, v)
-Exactly pairs key None = (v : ℕ) → Contains pairs (key, v) → ⊥
-
--- the same in the kinds that keep case
+-- what it answers in the kinds that keep case
 pub record ExactAnswer (pairs : Pairs) (key : List ℕ) (answer : Option ℕ) : Type 0 where
   pub present : (v : ℕ) → Contains pairs (key, v) → answer ≡ Some v
-  pub exactly : Exactly pairs key answer
+  pub exactly : IsNumberOf pairs key answer
 
 -- keys that are one to the kind are the same
 abbrev pub KeepsCase : Kind → Type 0
@@ -87,7 +83,7 @@ pub get_by_kind : {own kind : Kind} (bytes key : List ℕ) (answer : Option ℕ)
     → (m : Map) → Means kind bytes m → answer ≡ look kind m key
 get_by_kind bytes key answer is get = subst (λ k. (m : Map) → Means k bytes m → answer ≡ look k m key) is get
 
-exact : (kind : Kind) (pairs : Pairs) (key : List ℕ) (answer : Option ℕ) → KeepsCase kind → Answer kind pairs key answer → Exactly pairs key answer
+exact : (kind : Kind) (pairs : Pairs) (key : List ℕ) (answer : Option ℕ) → KeepsCase kind → Answer kind pairs key answer → IsNumberOf pairs key answer
 exact kind pairs key (Some v) keeps a = let f = a.found v refl in subst (λ k. Contains pairs (k, v)) (same_kept kind keeps f.0 key f.2) f.1
 exact kind pairs key None keeps a = λ v has. let is = a.present key v has (same_itself kind key) in absurd (cc)
 

@@ -2,6 +2,7 @@ pub mod Builds
 pub mod Constants
 pub mod Cursors
 pub mod Fallbacks
+pub mod Listings
 pub mod Forms
 pub mod Found
 pub mod Lookups

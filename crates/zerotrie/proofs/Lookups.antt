@@ -86,21 +86,25 @@ not_true true h = absurd (h refl)
 not_true false h = refl
 
 -- a pair of pairs with distinct keys is found by its key
-held : (pairs : Pairs) (key : List ℕ) (v i : ℕ) → (RepeatsKey pairs → ⊥) → i < length pairs → slice_index_or pairs i (key, v) ≡ (key, v) → value_at simple_ascii pairs key ≡ Some v
-held [] key v i distinct below is = absurd (omega arith)
-held (e ∷ pairs) key v zero distinct below is = subst (λ f. value_at simple_ascii (e ∷ pairs) f.0 ≡ Some f.1) is (first_found e pairs)
-held (e ∷ pairs) key v (suc i) distinct below is =
+pub at_pair : (pairs : Pairs) (key : List ℕ) (v i : ℕ) → (RepeatsKey pairs → ⊥) → i < length pairs → slice_index_or pairs i (key, v) ≡ (key, v) → value_at simple_ascii pairs key ≡ Some v
+at_pair [] key v i distinct below is = absurd (omega arith)
+at_pair (e ∷ pairs) key v zero distinct below is = subst (λ f. value_at simple_ascii (e ∷ pairs) f.0 ≡ Some f.1) is (first_found e pairs)
+at_pair (e ∷ pairs) key v (suc i) distinct below is =
     let other : same_key simple_ascii e.0 key ≡ false =
     not_true (same_key simple_ascii e.0 key)
     (λ same. distinct (inl (subst (λ k. Contains (map {B = List ℕ} (λ f. f.0) pairs) k) (sym (exact_same e.0 key same)) (key_there pairs key v i (omega arith) is)))) in
-    rw other (held pairs key v i (λ twice. distinct (inr twice)) (omega arith) is)
+    rw other (at_pair pairs key v i (λ twice. distinct (inr twice)) (omega arith) is)
+
+-- and what is found exactly is one of the pairs
+pub held_exactly : (pairs : Pairs) (key : List ℕ) (v : ℕ) → value_at simple_ascii pairs key ≡ Some v → Contains pairs (key, v)
+held_exactly pairs key v found = let r = one_of simple_ascii pairs key v found in subst (λ k. Contains pairs (k, v)) (exact_same r.0 key r.2) r.1
 
 -- a key that one of the pairs has is found by every key that is the same to the kind
 pub present : (kind : Kind) (pairs : Pairs) (bytes key own : List ℕ) (v : ℕ) → IsBuilt kind pairs bytes → (RepeatsKey pairs → ⊥) → Contains pairs (own, v)
     → same_key kind own key ≡ true → look kind (map_of pairs) key ≡ Some v
 present kind pairs bytes key own v built distinct has same =
     let means = built.means in
-    let exact : value_at simple_ascii pairs own ≡ Some v = held pairs own v has.0 distinct has.1 has.2 in
+    let exact : value_at simple_ascii pairs own ≡ Some v = at_pair pairs own v has.0 distinct has.1 has.2 in
     let moved : value_at simple_ascii means.pairs own ≡ value_at simple_ascii pairs own =
     sym (same-entries means.pairs own) ∙ sym (ap (λ m. value_at simple_ascii (entries m) own) means.is) ∙ same-entries pairs own in
     let listed : value_at kind means.pairs own ≡ Some v = picked (λ k w. value_at kind means.pairs k ≡ Some w) means.pairs own v (lists_found means.lists) (moved ∙ exact) in

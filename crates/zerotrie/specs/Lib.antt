@@ -13,6 +13,7 @@ pub use Rattle.zerotrie_core.specs.Machine
 pub use Rattle.zerotrie_core.specs.Places
 pub use Rattle.zerotrie_core.specs.Listings
 pub use Rattle.zerotrie_core.specs.Prefixes
+pub use Rattle.zerotrie_core.specs.Borders
 pub use Rattle.zerotrie_core.specs.Canonical
 pub use Rattle.zerotrie_core.specs.Bounds
 pub use Rattle.zerotrie_core.specs.Fits
@@ -43,4 +44,6 @@ pub use Rattle.zerotrie_ascii.specs.Writing
 pub use Rattle.zerotrie_any.specs.Listed
 pub use Rattle.zerotrie_ascii.specs.ListedTexts
 pub use Rattle.zerotrie_core.specs.CursorLaws
+pub mod Keywords
+pub mod Fallback
 pub mod dense

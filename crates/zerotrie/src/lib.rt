@@ -36,8 +36,8 @@
 //! A crate that depends on `zerotrie` alone can state and prove contracts over it.
 //! `Rattle.zerotrie.specs` has the definitions that the library's clauses cite.
 //! `Rattle.zerotrie.proofs` has lemmas: `Builds` on builds from an iterator, by its list of pairs;
-//! `Lookups` and `Found` on look-ups, by the pairs alone; `Cursors` on cursors; `Fallbacks` on the
-//! last of the keys that a string begins with; `Forms` on JSON that is written and read again; and
+//! `Lookups` and `Found` on look-ups, by the pairs alone; `Listings` on listings, likewise; `Cursors`
+//! on cursors; `Fallbacks` on the longest of the keys that a string begins with; `Forms` on JSON that is written and read again; and
 //! `Tables` on the records of dense tables. The crate `zerotrie_uses` has callers to copy. `laws`
 //! has the laws of encodings and maps, and `json_keeps_the_pairs` that of JSON.
 #![tactic(auto)]
@@ -47,8 +47,8 @@ mod error;
 
 pub use error::Error;
 pub use zerotrie_any::{
-    CursorAnswer, CursorOp, HasFlavor, JsonError, LoadError, NotWellFormed, TagError, TextKey,
-    ZeroTrie, ZeroTrieFlavor, ZeroTrieKeys, ZeroTrieValues, json_keeps_the_pairs,
+    CursorAnswer, CursorOp, HasFlavor, JsonError, LoadError, NoPair, NotWellFormed, TagError,
+    TextKey, ZeroTrie, ZeroTrieFlavor, ZeroTrieKeys, ZeroTrieValues, json_keeps_the_pairs,
 };
 pub use zerotrie_ascii::{
     AsciiKind, AsciiTrie, ZeroAsciiIgnoreCaseTrie, ZeroTrieSimpleAscii, ZeroTrieStringIterator,
@@ -99,8 +99,8 @@ pub mod bytes {
     pub use zerotrie_core::{
         Branch, Fault, FaultCause, LookUps, Node, Nodes, Part, SpanCursor, Visit, count_pairs,
         first_fault, get, get_counted, is_well_formed, is_well_formed_counted, longest_prefix,
-        plain_encode, probe, read_varint_meta2, read_varint_meta3, step, take_value,
-        write_varint_meta2, write_varint_meta3,
+        longest_prefix_at, plain_encode, probe, read_varint_meta2, read_varint_meta3, step,
+        take_value, write_varint_meta2, write_varint_meta3,
     };
 }
 

@@ -16,7 +16,7 @@ mod walks;
 
 pub use bytes::{LoadError, NotWellFormed, TagError, loaded, tagged, untagged};
 pub use cursor::ZeroTrieCursor;
-pub use json::{JsonError, bytes_from_json, json_keeps_the_pairs, json_of};
+pub use json::{JsonError, NoPair, bytes_from_json, json_keeps_the_pairs, json_of};
 pub use keys_values::{ZeroTrieKeys, ZeroTrieValues};
 pub use list::{first_key_of, map_of};
 pub use routes::{bytes_from_iter, bytes_from_map, bytes_from_slice, bytes_from_unsorted_slice};

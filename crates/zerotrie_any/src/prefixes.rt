@@ -5,11 +5,14 @@ ghost use Rattle.zerotrie_core.specs.Maps.{Map, Pairs, beginning};
 ghost use Rattle.zerotrie_core.specs.Texts.{Lists, Means};
 ghost use Rattle.zerotrie_core.specs.Listings.{to_come};
 ghost use Rattle.zerotrie_core.specs.Prefixes.{IsLongestPrefix, at_front};
+ghost use Rattle.zerotrie_core.specs.Borders.{IsLongestPrefixAt};
 ghost use Rattle.zerotrie_any.specs.Flavors.{flavor_kind};
 
 use crate::trie::{ZeroTrie, by_flavor};
 use std::alloc::{AllocError, Global};
-use zerotrie_core::{CommonPrefixes, TrieStore, ZeroTrieIterator, ZeroTrieStream, longest_prefix};
+use zerotrie_core::{
+    CommonPrefixes, TrieStore, ZeroTrieIterator, ZeroTrieStream, longest_prefix, longest_prefix_at,
+};
 
 impl<S: TrieStore> ZeroTrie<S> {
     /// Returns an iterator over the pairs whose keys begin with a prefix, each with its whole key,
@@ -71,6 +74,27 @@ impl<S: TrieStore> ZeroTrie<S> {
     {
         let bytes = self.store.bytes();
         by_flavor!(self.flavor, longest_prefix::<_>(bytes, text))
+    }
+
+    /// Returns the length in bytes and the value of the longest key that `text` begins with and
+    /// that ends at a border of `text`, or `None` if there is none. A border is the end of `text`,
+    /// or a place with one of the delimiters next. The empty key always counts.
+    ///
+    /// ```
+    /// let trie = ZeroTrie::try_from_iter(rt.alloc(), [("en", 1), ("en-Latn", 2)])?;
+    /// assert_eq!(rt; trie.longest_prefix_at(b"en-Latn-US", b"-_"), Some((7, 2)));
+    /// assert_eq!(rt; trie.longest_prefix_at(b"en_GB", b"-_"), Some((2, 1)));
+    /// assert_eq!(rt; trie.longest_prefix_at(b"english", b"-_"), None);
+    /// ```
+    ///
+    /// Reads `text` once, up to the first byte that no key has there. Does not allocate.
+    pub fn longest_prefix_at(&self, text: &[u8], delimiters: &[u8]) -> Option<(usize, usize)>
+        ensures longest { (m : Map) → Means (flavor_kind self.now.flavor) (S.stored self.now.store) m
+            → IsLongestPrefixAt (flavor_kind self.now.flavor) m delimiters.now text.now result }
+        ensures within { IfSome result (λ r. r.0 ≤ length text.now) }
+    {
+        let bytes = self.store.bytes();
+        by_flavor!(self.flavor, longest_prefix_at::<_>(bytes, text, delimiters))
     }
 
     /// Returns an iterator over the keys that `text` begins with, the shortest first: the length in

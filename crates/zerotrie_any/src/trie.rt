@@ -30,8 +30,11 @@ use zerotrie_core::{
 /// The kinds that a `ZeroTrie` may have.
 #[derive(Clone, Copy, Debug, PartialEq, Eq)]
 pub enum ZeroTrieFlavor {
+    /// ASCII keys, as `ZeroTrieSimpleAscii` has them.
     SimpleAscii,
+    /// Keys of any bytes, as `ZeroTriePerfectHash` has them.
     PerfectHash,
+    /// Keys of any bytes, also in more than 4 GB, as `ZeroTrieExtendedCapacity` has them.
     ExtendedCapacity,
 }
 

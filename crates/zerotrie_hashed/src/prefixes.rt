@@ -5,10 +5,13 @@ ghost use Rattle.zerotrie_core.specs.Maps.{Map, Pairs, beginning};
 ghost use Rattle.zerotrie_core.specs.Texts.{Lists, Means};
 ghost use Rattle.zerotrie_core.specs.Listings.{to_come};
 ghost use Rattle.zerotrie_core.specs.Prefixes.{IsLongestPrefix, at_front};
+ghost use Rattle.zerotrie_core.specs.Borders.{IsLongestPrefixAt};
 
 use crate::trie::{HashedKind, HashedTrie};
 use std::alloc::{AllocError, Global};
-use zerotrie_core::{CommonPrefixes, TrieStore, ZeroTrieIterator, ZeroTrieStream, longest_prefix};
+use zerotrie_core::{
+    CommonPrefixes, TrieStore, ZeroTrieIterator, ZeroTrieStream, longest_prefix, longest_prefix_at,
+};
 
 impl<K: HashedKind, S: TrieStore> HashedTrie<K, S> {
     /// Returns an iterator over the pairs whose keys begin with a prefix, each with its whole key,
@@ -59,6 +62,26 @@ impl<K: HashedKind, S: TrieStore> HashedTrie<K, S> {
         ensures within { IfSome result (λ r. r.0 ≤ length text.now) }
     {
         longest_prefix::<K>(self.as_bytes(), text)
+    }
+
+    /// Returns the length in bytes and the value of the longest key that `text` begins with and
+    /// that ends at a border of `text`, or `None` if there is none. A border is the end of `text`,
+    /// or a place with one of the delimiters next. The empty key always counts.
+    ///
+    /// ```
+    /// let trie = ZeroTriePerfectHash::try_from_iter(rt.alloc(), [("en", 1), ("en-Latn", 2)])?;
+    /// assert_eq!(rt; trie.longest_prefix_at(b"en-Latn-US", b"-_"), Some((7, 2)));
+    /// assert_eq!(rt; trie.longest_prefix_at(b"en_GB", b"-_"), Some((2, 1)));
+    /// assert_eq!(rt; trie.longest_prefix_at(b"english", b"-_"), None);
+    /// ```
+    ///
+    /// Reads `text` once, up to the first byte that no key has there. Does not allocate.
+    pub fn longest_prefix_at(&self, text: &[u8], delimiters: &[u8]) -> Option<(usize, usize)>
+        ensures longest { (m : Map) → Means K.kind (S.stored self.now.store) m
+            → IsLongestPrefixAt K.kind m delimiters.now text.now result }
+        ensures within { IfSome result (λ r. r.0 ≤ length text.now) }
+    {
+        longest_prefix_at::<K>(self.as_bytes(), text, delimiters)
     }
 
     /// Returns an iterator over the keys that `text` begins with, the shortest first: the length in

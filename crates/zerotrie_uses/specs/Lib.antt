@@ -1,3 +1,1 @@
-pub mod Keywords
 pub mod Methods
-pub mod Fallback

@@ -5,7 +5,7 @@ ghost use Rattle.std.specs.Prelude.{IfOk};
 ghost use Rattle.zerotrie.specs.Kind.{simple_ascii};
 ghost use Rattle.zerotrie.specs.Items.{keyed};
 ghost use Rattle.zerotrie.specs.Built.{IsBuilt};
-ghost use Rattle.zerotrie_uses.specs.Keywords.{IsNumberOf};
+ghost use Rattle.zerotrie.specs.Keywords.{IsNumberOf};
 ghost use Rattle.zerotrie_uses.specs.Methods.{methods};
 ghost use Rattle.zerotrie_uses.specs.declared.constants.TheConstants.{HEADERS};
 

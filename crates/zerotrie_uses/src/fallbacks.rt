@@ -1,23 +1,13 @@
 //! Tables with a fallback: the longest key that a name or a text begins with.
 
-ghost use Rattle.std.specs.Prelude.{◌≡◌};
+ghost use Rattle.std.specs.Prelude.{◌≡◌, codes};
+ghost use Rattle.zerotrie.specs.Borders.{is_border};
+ghost use Rattle.zerotrie.specs.Fallback.{IsFallback, IsLongestKey};
 ghost use Rattle.zerotrie.specs.Kind.{simple_ascii, perfect_hash};
 ghost use Rattle.zerotrie.specs.Maps.{Map};
 ghost use Rattle.zerotrie.specs.Texts.{Means};
-ghost use Rattle.zerotrie_uses.specs.Fallback.{ends_part, IsFallback, IsLongestKey};
 
 use zerotrie::{TrieStore, ZeroTriePerfectHash, ZeroTrieSimpleAscii};
-
-/// The byte between the parts of a locale.
-const HYPHEN: u8 = b'-';
-
-/// Returns whether a part of a name ends after this many bytes: at its beginning, before a hyphen, or
-/// at its end.
-fn ends_part(name: &[u8], len: usize) -> bool
-    ensures { result ≡ ends_part name.now len }
-{
-    len == 0 || name.get(len).is_none_or(|byte| *byte == HYPHEN)
-}
 
 /// Returns the value that a locale falls back to: that of the longest key that is the name itself, or
 /// the part of it before one of its hyphens. So `en-Latn-GB` falls back to `en-Latn`, and `fil-PH` to
@@ -27,24 +17,28 @@ fn ends_part(name: &[u8], len: usize) -> bool
 /// either.
 pub fn fall_back<S: TrieStore>(trie: &ZeroTrieSimpleAscii<S>, name: &[u8]) -> Option<usize>
     ensures { (m : Map) → Means simple_ascii (S.stored trie.now.store) m
-        → IsFallback simple_ascii m name.now result }
+        → IsFallback simple_ascii m (codes "-") name.now result }
 {
-    let mut found = None;
-    for (len, value) in trie.common_prefixes(name) {
-        if ends_part(name, len) {
-            found = Some(value);
-        }
-    }
-    found
+    let (_len, value) = trie.longest_prefix_at(name, b"-")?;
+    Some(value)
 }
 
-/// Like `fall_back`, among keys of any bytes.
+/// Returns whether a part of a name ends after this many bytes: at its beginning, before a hyphen, or
+/// at its end.
+fn ends_part(name: &[u8], len: usize) -> bool
+    ensures { result ≡ is_border (codes "-") name.now len }
+{
+    len == 0 || name.get(len).is_none_or(|byte| *byte == b'-')
+}
+
+/// Like `fall_back`, among keys of any bytes, by a loop over all prefixes that are keys: copy it if
+/// your test of a prefix is another.
 pub fn fall_back_in_hashed<S: TrieStore>(
     trie: &ZeroTriePerfectHash<S>,
     name: &[u8],
 ) -> Option<usize>
     ensures { (m : Map) → Means perfect_hash (S.stored trie.now.store) m
-        → IsFallback perfect_hash m name.now result }
+        → IsFallback perfect_hash m (codes "-") name.now result }
 {
     let mut found = None;
     for (len, value) in trie.common_prefixes(name) {

@@ -2,7 +2,7 @@
 
 ghost use Rattle.std.specs.Prelude.{◌≡◌, ◌<◌, ℕ, Some, IfOk, All, Contains, length, slice_index, List, None, true, false};
 ghost use Rattle.zerotrie.specs.Items.{pairs_of, keyed};
-ghost use Rattle.zerotrie_uses.specs.Keywords.{IsNumberOf, IsRecordOf};
+ghost use Rattle.zerotrie.specs.Keywords.{IsNumberOf, IsRecordOf};
 ghost use Rattle.std.specs.String.{string_bytes};
 ghost use Rattle.std.specs.Str.{str_eq_ignore_ascii_case};
 
@@ -10,24 +10,6 @@ use std::alloc::Global;
 use zerotrie::{
     ZeroAsciiIgnoreCaseTrie, ZeroTrie, ZeroTrieBuildError, ZeroTriePerfectHash, ZeroTrieSimpleAscii,
 };
-
-/// Returns the number of a keyword, from pairs in ascending order, or `None` exactly if the word is
-/// no keyword.
-///
-/// The errors are those of `ZeroTrieSimpleAscii::try_from_sorted_slice`.
-pub fn find_keyword(
-    alloc: Global,
-    pairs: &[(&[u8], usize)],
-    word: &[u8],
-) -> Result<Option<usize>, ZeroTrieBuildError>
-    ensures present { IfOk result (λ answer.
-        (number : ℕ) → Contains (pairs_of pairs.now) (word.now, number)
-        → answer ≡ Some number) }
-    ensures exact { IfOk result (λ answer. IsNumberOf (pairs_of pairs.now) word.now answer) }
-{
-    let trie = ZeroTrieSimpleAscii::try_from_sorted_slice(alloc, pairs)?;
-    Ok(trie.get(word))
-}
 
 /// Looks up one of three literals. The contract states the result outright.
 pub fn second_of_three(alloc: Global) -> Result<Option<usize>, ZeroTrieBuildError>

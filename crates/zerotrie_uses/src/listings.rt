@@ -9,7 +9,7 @@ ghost use Rattle.zerotrie.specs.Walks.{ops_of, answers_of};
 
 use std::alloc::Global;
 use std::collections::BTreeMap;
-use zerotrie::{CursorAnswer, CursorOp, ZeroTrieBuildError, ZeroTrieSimpleAscii, laws};
+use zerotrie::{CursorAnswer, CursorOp, ZeroTrieBuildError, ZeroTrieSimpleAscii};
 
 /// Builds a trie of pairs in ascending order, and returns it as an ordered map: these pairs.
 ///
@@ -40,7 +40,6 @@ pub fn walk_over(
     ensures { IfOk result (λ answers.
         answers_of answers.items ≡ run simple_ascii (ops_of calls.now) (pairs_of pairs.now)) }
 {
-    laws::listing_is_the_map();
     let trie = ZeroTrieSimpleAscii::try_from_sorted_slice(alloc, pairs)?;
     Ok(trie.walk(alloc, calls)?)
 }

@@ -7,7 +7,7 @@ ghost use Rattle.zerotrie.specs.Texts.{Means};
 ghost use Rattle.zerotrie.specs.WellFormed.{IsWellFormed};
 ghost use Rattle.zerotrie.specs.Items.{pairs_of};
 ghost use Rattle.zerotrie.specs.Auto.{auto_kind};
-ghost use Rattle.zerotrie_uses.specs.Keywords.{IsNumberOf};
+ghost use Rattle.zerotrie.specs.Keywords.{IsNumberOf};
 ghost use Rattle.zerotrie.specs.dense.Rows.{entry};
 ghost use Rattle.zerotrie.specs.dense.Views.{rows_in};
 

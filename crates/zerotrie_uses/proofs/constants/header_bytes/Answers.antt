@@ -1,6 +1,4 @@
-use Rattle.std.proofs.Common.{◌≡◌, true, rules}
-use Rattle.std.specs.Prelude.{IsOk}
-use Rattle.zerotrie.specs.Kind.{simple_ascii}
+use Rattle.std.proofs.Common.{rules}
 use Rattle.zerotrie.specs.ArrayRoutes.{IsBuildWithin}
 use Rattle.zerotrie.proofs.Constants.{clean_within}
 use Rattle.zerotrie_uses.proofs.HeaderTable.{headers, clean, room, waits}

@@ -1,7 +1,4 @@
-use Rattle.std.proofs.Common.{refl, rules, sym, subst}
-use Rattle.std.specs.Prelude.{◌≡◌, true}
-use Rattle.zerotrie.specs.Kind.{simple_ascii}
-use Rattle.zerotrie.specs.Built.{IsBuilt}
+use Rattle.std.proofs.Common.{refl, rules, sym}
 use Rattle.zerotrie.specs.Bounds.{build_bound, is_clean}
 use Rattle.zerotrie.specs.ArrayRoutes.{IsArrayBuilt}
 use Rattle.zerotrie.proofs.Constants.{clean_within}

@@ -1,23 +1,18 @@
-use Rattle.std.proofs.Common.{◌∙◌, sym}
+use Rattle.std.proofs.Common.{Some, None, sym, subst}
+use Rattle.std.specs.Prelude.{codes}
+use Rattle.zerotrie.specs.Fallback.{IsFallback}
 use Rattle.zerotrie.specs.Kind.{simple_ascii}
-use Rattle.zerotrie.proofs.Fallbacks.{begins, takes, passes, ends}
-use Rattle.zerotrie_uses.specs.Fallback.{ends_part}
-use Rattle.zerotrie_uses.proofs.Parts.{is_fallback}
+use Rattle.zerotrie.proofs.Fallbacks.{is_fallback, last_at_border, none_at_border}
 use Rattle.zerotrie_uses.proofs.fallbacks.fall_back.Goals as goal
 
-pub loop-len-init : goal.loop-len-init
-loop-len-init g c m means =
-    begins simple_ascii (ends_part c.args.name.now) _ c.args.name.now m means _ (c.into_iter-len-iterator.ensures.into_iter_gives ∙ c.common_prefixes-len-items.ensures)
-
-pub loop-len-preserved-then-ends_part : goal.loop-len-preserved-then-ends_part
-loop-len-preserved-then-ends_part g c m means =
-    takes (ends_part c.args.name.now) c.loop-len.found _ c.loop-len.len-iterator c.next.new.self (c.in-Some.len, c.in-Some.value) c.in-Some.ensures.steps (sym c.ends_part.ensures ∙ c.if-ends_part.true) (c.loop-len.invariant m means)
-
-pub loop-len-preserved : goal.loop-len-preserved
-loop-len-preserved g c m means =
-    passes (ends_part c.args.name.now) c.loop-len.found _ c.loop-len.len-iterator c.next.new.self (c.in-Some.len, c.in-Some.value) c.in-Some.ensures.steps (sym c.ends_part.ensures ∙ c.if-ends_part.false) (c.loop-len.invariant m means)
+pub returns-in_err-_len : goal.returns-in_err-_len
+returns-in_err-_len g c m means =
+    let name = c.args.name.now in
+    subst (IsFallback simple_ascii m (codes "-") name) (sym c.from_residual.ensures)
+    (is_fallback (codes "-") simple_ascii m name None (none_at_border (codes "-") simple_ascii m name (c.in_err-_len.ensures.longest m means)))
 
 pub returns : goal.returns
 returns g c m means =
-    is_fallback simple_ascii m c.args.name.now c.loop-len.found
-    (ends simple_ascii (ends_part c.args.name.now) c.args.name.now m c.loop-len.found c.loop-len.len-iterator c.next.new.self c.in-None.ensures.steps (c.loop-len.invariant m means))
+    let name = c.args.name.now in
+    let found = c.in_ok-_len in
+    is_fallback (codes "-") simple_ascii m name (Some found.value) (last_at_border (codes "-") simple_ascii m name found._len found.value (found.ensures.longest m means))

@@ -1,7 +1,7 @@
 use Rattle.std.proofs.Common.{sym, subst}
 use Rattle.zerotrie.specs.Kind.{simple_ascii}
-use Rattle.zerotrie_uses.specs.Fallback.{IsLongestKey}
-use Rattle.zerotrie_uses.proofs.Parts.{is_longest_key, no_longest_key}
+use Rattle.zerotrie.specs.Fallback.{IsLongestKey}
+use Rattle.zerotrie.proofs.Fallbacks.{is_longest_key, no_longest_key}
 use Rattle.zerotrie_uses.proofs.fallbacks.longest_key.Goals as goal
 
 pub returns-in_err-_len : goal.returns-in_err-_len

@@ -1,7 +1,7 @@
 use Rattle.zerotrie.specs.Items.{pairs_of}
 use Rattle.zerotrie.specs.Routes.{ascending}
 use Rattle.zerotrie.proofs.Found.{ExactAnswer, answered, exactly}
-use Rattle.zerotrie_uses.proofs.keywords.find_keyword.Goals as goal
+use Rattle.zerotrie_uses.proofs.keyword.find_keyword.Goals as goal
 
 answer : (c : goal.After-drop-trie) → ExactAnswer (pairs_of c.args.pairs.now) c.args.word.now c.get.result
 answer c = exactly (answered ascending c.in_ok-trie.ensures c.get.ensures) tt

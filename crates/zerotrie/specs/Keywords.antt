@@ -1,6 +1,6 @@
 -- What a look-up of a word answers by the pairs of words and numbers, both ways.
 use Rattle.std.specs.Prelude.{◌≡◌, ℕ, List, Option, Some, None, Contains, slice_index}
-use Rattle.zerotrie.specs.Maps.{Pairs}
+use Rattle.zerotrie_core.specs.Maps.{Pairs}
 
 -- the answer is the number beside the word, and none exactly if the word is none of the words
 abbrev pub IsNumberOf : Pairs → List ℕ → Option ℕ → Type 0
