@@ -1,4 +1,5 @@
 mod ArrayLemmas
+mod BlockLemmas
 mod Building
 mod Filling
 mod ItemLemmas

@@ -6,3 +6,4 @@ pub mod Writes
 pub mod Walking
 pub mod Sorts
 pub mod OtherCase
+pub mod Blocks

@@ -77,7 +77,7 @@ impl<const N: usize> ZeroTrieBuilderConst<N> {
 
     /// The array, which the bytes of the trie have to fill.
     ///
-    /// The error is `BufferTooLarge`, which has their number, exactly if they are fewer.
+    /// It returns `BufferTooLarge`, which has their number, exactly if they are fewer.
     pub fn build(self) -> Result<[u8; N], ZeroTrieBuildError>
         ensures full { IsOk result ↔ (length self.entry ≡ N) }
         ensures bytes { IfOk result (λ array. array ≡ self.entry) }

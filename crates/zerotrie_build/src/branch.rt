@@ -281,7 +281,7 @@ impl<A: Allocator + Copy> Layout<A> {
             → AreCrooked K.kind (map (edge_of (I.pairs items)) cs))) }
     {
         let slots = input.slots;
-        // That a length is below 2^64 tells the proof that so are the places of the slots.
+        // That a length is below 2^64 shows the proof that so are the places of the slots.
         let _len = slots.len();
         self.set_sorted::<K, I>(items, window)?;
         let edges = self.windows.len();

@@ -1,6 +1,6 @@
 //! The builder.
 
-ghost use Rattle.std.specs.Prelude.{◌≡◌, ◌≢◌, ◌<◌, IfOk, IfErr, IsTrue, length};
+ghost use Rattle.std.specs.Prelude.{◌≡◌, ◌≢◌, ◌<◌, IfOk, IfErr, IfSome, IsTrue, length};
 ghost use Rattle.std.specs.List.Sorted.{IsPermutation};
 ghost use Rattle.std.specs.Iterator.{IsFiniteIterable};
 ghost use Rattle.zerotrie_base.specs.Items.{pairs_of, keyed};
@@ -10,11 +10,12 @@ ghost use Rattle.zerotrie_base.specs.Routes.{ascending, any_order, IsRefusal, Is
 ghost use Rattle.zerotrie_build.specs.Items.{pairs};
 ghost use Rattle.zerotrie_build.specs.Order.{Ordered, AreKeys, AreAsciiKeys, AreValues};
 
+use crate::blocks::items_by_blocks;
 use crate::branch::{Layout, WriteInput, all_pending};
 use crate::items::{ByteSliceWithIndices, IndexedItems, TextItems};
 use crate::measure::measure_all;
 use crate::order::{are_ascii, are_in_order, are_keys, is_ordered};
-use crate::sort::sorted_by_fold;
+use crate::sort::sorted_by_keys;
 use crate::store::TrieBuilderStore;
 use crate::write::Writing;
 use std::alloc::{AllocError, Allocator, Global};
@@ -23,7 +24,58 @@ use zerotrie_base::{
     TrieKey, ZeroTrieBuildError, ZeroTrieBuilderOptions, ZeroTrieWithOptions, by_kind, laws,
 };
 
-/// The items in the order of the kind.
+/// The items in the order of the kind, sorted by blocks of their keys. `None` if an allocation
+/// failed, or if they have no order of the kind, as where a key comes twice.
+fn in_order_by_blocks<K: ZeroTrieWithOptions, Key: TrieKey, A: Allocator + Copy>(
+    alloc: A,
+    given: &[(Key, usize)],
+) -> Option<Vec<(&[u8], usize), A>>
+    ensures same { IfSome result (λ items.
+        IsPermutation (keyed Key.key given.now) (pairs_of items.items)) }
+    ensures ordered { IfSome result (λ items. Ordered K.kind (pairs_of items.items)) }
+    ensures keys { IfSome result (λ items. AreKeys K.kind (pairs_of items.items)) }
+    ensures values { IfSome result (λ items. AreValues (pairs_of items.items)) }
+{
+    // The given order is often that in which the keys lie in memory.
+    if !are_keys::<K, _>(given) {
+        return None;
+    }
+    let Ok(items) = items_by_blocks::<K, Key, A>(alloc, given) else {
+        return None;
+    };
+    let sorted = ByteSliceWithIndices::from_byte_slice(items.as_slice());
+    if !is_ordered::<K, _>(sorted) {
+        return None;
+    }
+    Some(items)
+}
+
+/// The items in the order of the kind, sorted by their whole keys.
+fn in_order_by_keys<K: ZeroTrieWithOptions, Key: TrieKey, A: Allocator + Copy>(
+    alloc: A,
+    given: &[(Key, usize)],
+) -> Result<Vec<(&[u8], usize), A>, ZeroTrieBuildError>
+    ensures same { IfOk result (λ items.
+        IsPermutation (keyed Key.key given.now) (pairs_of items.items)) }
+    ensures ordered { IfOk result (λ items. Ordered K.kind (pairs_of items.items)) }
+    ensures keys { IfOk result (λ items. AreKeys K.kind (pairs_of items.items)) }
+    ensures values { IfOk result (λ items. AreValues (pairs_of items.items)) }
+    ensures refused { IfErr result (IsRefusal any_order K.kind (keyed Key.key given.now)) }
+    ensures no_search { IfErr result (λ e. e ≢ ZeroTrieBuildError.CouldNotSolvePerfectHash) }
+{
+    let items = sorted_by_keys::<K, Key, A>(alloc, given)?;
+    if !are_keys::<K, _>(given) {
+        return Err(ZeroTrieBuildError::NonAsciiError);
+    }
+    let sorted = ByteSliceWithIndices::from_byte_slice(items.as_slice());
+    if K::IGNORE_CASE && !is_ordered::<K, _>(sorted) {
+        return Err(ZeroTrieBuildError::MixedCase);
+    }
+    Ok(items)
+}
+
+/// The items in the order of the kind. A sort by whole keys shows why they have none, and needs less
+/// memory.
 fn in_order<K: ZeroTrieWithOptions, Key: TrieKey, A: Allocator + Copy>(
     alloc: A,
     given: &[(Key, usize)],
@@ -36,16 +88,10 @@ fn in_order<K: ZeroTrieWithOptions, Key: TrieKey, A: Allocator + Copy>(
     ensures refused { IfErr result (IsRefusal any_order K.kind (keyed Key.key given.now)) }
     ensures no_search { IfErr result (λ e. e ≢ ZeroTrieBuildError.CouldNotSolvePerfectHash) }
 {
-    let items = sorted_by_fold::<K, Key, A>(alloc, given)?;
-    // The given order is often that in which the keys lie in memory.
-    if !are_keys::<K, _>(given) {
-        return Err(ZeroTrieBuildError::NonAsciiError);
+    match in_order_by_blocks::<K, Key, A>(alloc, given) {
+        Some(items) => Ok(items),
+        None => in_order_by_keys::<K, Key, A>(alloc, given),
     }
-    let sorted = ByteSliceWithIndices::from_byte_slice(items.as_slice());
-    if K::IGNORE_CASE && !is_ordered::<K, _>(sorted) {
-        return Err(ZeroTrieBuildError::MixedCase);
-    }
-    Ok(items)
 }
 
 /// Builds the trie of items in the order of the kind: measures it and then writes it. Its bytes and
@@ -112,7 +158,7 @@ fn build_ascending<K: ZeroTrieWithOptions, S: TrieBuilderStore + Drop, A: Alloca
 /// The bytes of the trie of items that ascend by the bytes of their keys, in the kind of the
 /// options. What it takes beside the store comes from the allocator `spare`.
 ///
-/// The errors are those of a build by `ZeroTrieBuilder`.
+/// A build has the errors of one by `ZeroTrieBuilder`.
 pub fn build_slice<S: TrieBuilderStore + Drop, A: Allocator + Copy>(
     alloc: Global,
     spare: A,
@@ -129,7 +175,7 @@ pub fn build_slice<S: TrieBuilderStore + Drop, A: Allocator + Copy>(
 }
 
 /// The bytes of the trie of items in any order. If they are in the order of the kind, they are read
-/// in place, and else they are sorted.
+/// where they are, and else they are sorted.
 fn build_given<
     K: ZeroTrieWithOptions,
     Key: TrieKey,
@@ -229,9 +275,9 @@ fn len_slice<A: Allocator + Copy>(
 /// assert_eq!(rt; encoded_len(rt.alloc(), items, ZeroTrieBuilderOptions::of::<Simple>())?, 8);
 /// ```
 ///
-/// The errors are `Unsorted`, `NonAsciiError`, `MixedCase`, `CapacityExceeded` and `OutOfMemory`,
-/// each for the reason that `ZeroTrieBuildError` gives. So they are those of a build, but for a
-/// hashed table that isn't found.
+/// It returns the error `Unsorted`, `NonAsciiError`, `MixedCase`, `CapacityExceeded` or
+/// `OutOfMemory`, each for the reason that `ZeroTrieBuildError` gives, and so exactly if a build
+/// does, but for a hashed table that isn't found.
 pub fn encoded_len(
     alloc: Global,
     items: ByteSliceWithIndices<'_>,
@@ -273,8 +319,8 @@ impl<S: TrieBuilderStore + Drop> ZeroTrieBuilder<S> {
     /// The bytes mean the map of the items, and for a kind whose tables are all sorted they are the
     /// map's one text.
     ///
-    /// The errors of every kind are `Unsorted`, `CapacityExceeded` and `OutOfMemory`. The kinds
-    /// over ASCII also have `NonAsciiError`, the kind without case `MixedCase`, and the hashed
+    /// A build of any kind returns the error `Unsorted`, `CapacityExceeded` or `OutOfMemory`. The
+    /// kinds over ASCII have `NonAsciiError` too, the kind without case `MixedCase`, and the hashed
     /// kinds `CouldNotSolvePerfectHash`. Each has the reason that `ZeroTrieBuildError` gives.
     pub fn from_sorted_tuple_slice(
         alloc: Global,
@@ -292,10 +338,10 @@ impl<S: TrieBuilderStore + Drop> ZeroTrieBuilder<S> {
     }
 
     /// Builds the trie of the items of a slice, in any order. An empty input gives an empty trie.
-    /// If they are in the order of the kind, they are read in place, and else a sorted copy of the
-    /// items is made.
+    /// If they are in the order of the kind, they are read where they are, and else a sorted copy
+    /// of the items is made.
     ///
-    /// The errors are those of `from_bytes_iter`, each for the reason that `ZeroTrieBuildError`
+    /// A build has the errors of `from_bytes_iter`, each for the reason that `ZeroTrieBuildError`
     /// gives.
     pub fn from_tuple_slice<K: TrieKey>(
         alloc: Global,
@@ -312,8 +358,8 @@ impl<S: TrieBuilderStore + Drop> ZeroTrieBuilder<S> {
     /// Builds the trie of all pairs that the iterator gives, in any order. An empty input gives an
     /// empty trie.
     ///
-    /// The errors are those of `from_sorted_tuple_slice`, each for the reason that
-    /// `ZeroTrieBuildError` gives, with `DuplicateKey` in place of `Unsorted`.
+    /// A build has the errors of one of a slice, each for the reason that `ZeroTrieBuildError`
+    /// gives, but `DuplicateKey` in place of `Unsorted`.
     pub fn from_bytes_iter<K: TrieKey + Drop, U: IntoIterator<Item = (K, usize)>>(
         alloc: Global,
         iter: U,
@@ -384,7 +430,7 @@ fn build_ascending_text(
 /// assert_eq!(rt; bytes.as_slice(), b"ad\x90\x06ef\x90\x11".as_slice());
 /// ```
 ///
-/// The errors are those of `ZeroTrieBuilder::from_sorted_tuple_slice`, each for the reason that
+/// A build has the errors of `ZeroTrieBuilder::from_sorted_tuple_slice`, each for the reason that
 /// `ZeroTrieBuildError` gives.
 pub fn build_text(
     alloc: Global,

@@ -71,8 +71,8 @@ pub(crate) fn item_at<Key: TrieKey>(given: &[(Key, usize)], index: usize) -> (&[
 /// assert_eq!(rt; items.get(1), (b"adef".as_slice(), 33));
 /// ```
 ///
-/// Every call sees the list of pairs of key bytes and value, in the order of the slice. Only
-/// `to_vec_u8` allocates.
+/// Every call returns what it would of the list of pairs of key bytes and value, in the order of the
+/// slice. Only `to_vec_u8` allocates.
 #[derive(Clone, Copy, Debug)]
 pub enum ByteSliceWithIndices<'a> {
     /// Items whose keys are bytes.
@@ -276,8 +276,8 @@ impl<'a> TextItems<'a> {
     /// Adds the pair of a value and the key of `len` bytes that begins at the place `start` of the
     /// text.
     ///
-    /// The answer is `false`, and no pair is added, exactly if the text ends before the key does,
-    /// or one of the numbers has more than 32 bits. The only error is that it is out of memory.
+    /// It returns `false`, and adds no pair, exactly if the text ends before the key does, or one
+    /// of the numbers has more than 32 bits. The only error is that it is out of memory.
     #[inline(always)]
     pub fn push(&mut self, start: usize, len: usize, value: usize) -> Result<bool, AllocError>
         ensures text { self.new.text ≡ self.old.text }
@@ -365,7 +365,7 @@ impl<'a> MarkedItems<'a> {
         ensures marks { result.marks.now ≡ marks.now }
         ensures bytes { All (λ b. b < 256) text.now }
     {
-        // That the text was read tells the proof that its bytes are below 256.
+        // That the text was read shows the proof that its bytes are below 256.
         let _first = text.first();
         MarkedItems { text, marks }
     }

@@ -5,6 +5,7 @@
 #![tactic(auto)]
 
 mod array;
+mod blocks;
 mod branch;
 mod builder;
 mod items;

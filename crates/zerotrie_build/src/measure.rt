@@ -35,10 +35,10 @@ pub(crate) struct Measured<A: Allocator> {
 #[derive(Clone, Copy)]
 struct OpenBranch {
     /// Where the items of the target that is measured begin, and how many bytes of their keys are
-    /// before its edge.
+    /// in front of its edge.
     from: usize,
     depth: usize,
-    /// How many bytes of the text are before the branch.
+    /// How many bytes of the text are in front of the branch.
     len: usize,
     /// The slots of the targets are those from `first` to below `end`, and `next` is that of the
     /// target that is measured.
@@ -91,7 +91,7 @@ enum Turn {
     Whole(usize),
 }
 
-/// The slots, and the branches around the window that is measured, the innermost last.
+/// The slots, and the branches that the window is in which is measured, the innermost last.
 #[derive(Drop)]
 struct FirstPass<I, A: Allocator> {
     items: I,
@@ -116,7 +116,7 @@ fn value_len(value: usize) -> usize
 }
 
 /// The end of a window of one item, as most are, and how many bytes its text has. `None` if there
-/// are more items, or if the rest of the key has spans that are told one by one. If `ascii` is
+/// are more items, or if the rest of the key has spans that are counted one by one. If `ascii` is
 /// true, all keys are ASCII.
 #[inline(always)]
 fn after_leaf<'a, K: ZeroTrieWithOptions, I: IndexedItems<'a>>(
@@ -184,7 +184,7 @@ fn after_front<'a, K: ZeroTrieWithOptions, I: IndexedItems<'a>>(
     }
 }
 
-/// Like `after_front`, but tells a window of one item at once. If `ascii` is true, all keys are
+/// Like `after_front`, but measures a window of one item at once. If `ascii` is true, all keys are
 /// ASCII.
 #[inline(always)]
 fn after_nodes<'a, K: ZeroTrieWithOptions, I: IndexedItems<'a>>(
@@ -292,8 +292,8 @@ impl<'a, I: IndexedItems<'a>, A: Allocator + Copy> FirstPass<I, A> {
         })
     }
 
-    /// Adds a slot for each target of the branch that is first in the window. Until the target
-    /// is measured, it tells where its items end.
+    /// Adds a slot for each target of the branch that is first in the window. Until the target is
+    /// measured, it says where its items end.
     fn push_ends<K: ZeroTrieWithOptions>(&mut self, window: Window) -> Result<(), AllocError>
         requires within { window.to ≤ length (I.pairs self.old.items) }
         requires order { window.from ≤ window.to }
@@ -328,8 +328,8 @@ impl<'a, I: IndexedItems<'a>, A: Allocator + Copy> FirstPass<I, A> {
         Window::new(branch.from, self.slots[branch.next], branch.depth + 1)
     }
 
-    /// Opens the branch that is first in the window, after `len` bytes. Returns the window of
-    /// its first target.
+    /// Opens the branch that is first in the window, after `len` bytes. Returns the window of its
+    /// first target.
     fn push_branch<K: ZeroTrieWithOptions>(
         &mut self,
         window: Window,

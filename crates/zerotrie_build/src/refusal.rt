@@ -1,4 +1,4 @@
-//! Which keys cause a build's error.
+//! Which keys show why a build returns an error.
 
 ghost use Rattle.std.specs.Ordering.{nat_cmp, is_lt};
 ghost use Rattle.std.specs.Cmp.Lexicographic.{slice_cmp};
@@ -21,8 +21,8 @@ use std::alloc::{AllocError, Global};
 use std::fmt;
 use zerotrie_base::{Simple, TrieKey, ZeroTrieBuildError, ZeroTrieWithOptions, folded};
 
-/// Which keys cause a build's error, by their numbers, counted from 0 in the order in which they
-/// are given.
+/// Which keys show why a build returns an error, by their numbers, counted from 0 in the order in
+/// which they are given.
 ///
 /// ```
 /// let refusal = why_slice_refused::<Simple, _>(&[("to", 1), ("in", 2)]).ok_or("taken")?;
@@ -72,7 +72,7 @@ impl Refusal {
     }
 }
 
-/// What two keys do that the kind without case refuses together.
+/// What two keys do that the kind without case cannot have together.
 const ALIKE: &str = "begin alike but for the case of a letter";
 
 impl fmt::Display for Refusal {
@@ -151,7 +151,7 @@ fn key_after<Key: TrieKey>(items: &[(Key, usize)], front: &[u8], byte: u8) -> Op
     }
 }
 
-/// The number of a key that goes on with the other case of the letter by which the key parts from
+/// The number of a key that continues with the other case of the letter by which the key parts from
 /// the next, of keys that ascend.
 fn other_case<K: ZeroTrieWithOptions, Key: TrieKey>(
     items: &[(Key, usize)],
@@ -176,8 +176,8 @@ fn other_case<K: ZeroTrieWithOptions, Key: TrieKey>(
 }
 
 /// Two keys that differ in case, of keys that ascend. It does not allocate: if a key parts from the
-/// next by a letter in upper case, those that have this letter in lower case there are next to one
-/// another, and are searched for.
+/// next by a letter in upper case, those that continue with this letter in lower case are side by
+/// side, and are searched for.
 fn mixed<K: ZeroTrieWithOptions, Key: TrieKey>(items: &[(Key, usize)]) -> Option<Refusal>
     requires { Ascends (keyed Key.key items.now) }
     ensures some { IfSome result (λ r. (r.error ≡ ZeroTrieBuildError.MixedCase)
@@ -195,8 +195,8 @@ fn mixed<K: ZeroTrieWithOptions, Key: TrieKey>(items: &[(Key, usize)]) -> Option
     None
 }
 
-/// Which keys cause the error of a build of a slice, as `try_from_sorted_slice` of the kind's tries,
-/// whose keys must ascend strictly by their bytes. `None` if none do.
+/// Which keys show why a build of a slice returns an error, as `try_from_sorted_slice` of the
+/// kind's tries, whose keys are to ascend strictly by their bytes. `None` if none do.
 ///
 /// ```
 /// let items = [("Accept-CH", 1), ("Accept-Charset", 2), ("Host", 3)];
@@ -205,14 +205,13 @@ fn mixed<K: ZeroTrieWithOptions, Key: TrieKey>(items: &[(Key, usize)]) -> Option
 /// assert_eq!(rt; (refusal.first, refusal.second), (0, 1));
 /// ```
 ///
-/// It looks first for keys that do not ascend, `Unsorted`, then for one with a byte from 128 on in a
-/// kind for ASCII, `NonAsciiError`, and then for two that differ in case in the kind without case,
-/// `MixedCase`. If it returns `None`, a build can fail only for its length, for a hashed table or as
-/// out of memory.
+/// It asks first for keys that do not ascend, `Unsorted`, then for one with a byte from 128 on in a
+/// kind for ASCII, `NonAsciiError`, and then for two that the kind without case cannot have
+/// together, `MixedCase`. On `None` a build returns an error only for its length, for a hashed
+/// table or as out of memory.
 ///
-/// It does not allocate, and reads each byte of the keys once in kinds with case. In the kind
-/// without case, each key that parts from the next by an upper-case letter costs a binary search
-/// besides.
+/// It does not allocate, and takes time as the keys' bytes in kinds with case. In the kind without
+/// case, each key that parts from the next by an upper-case letter costs a binary search besides.
 pub fn why_slice_refused<K: ZeroTrieWithOptions, Key: TrieKey>(
     items: &[(Key, usize)],
 ) -> Option<Refusal>
@@ -243,8 +242,8 @@ fn first_repeated(items: &[(&[u8], usize)]) -> Option<usize>
     None
 }
 
-/// Which keys cause the error of a build of items in any order, by the items in the order of these
-/// prefixes, which is that of the folds of their keys.
+/// Which keys show why a build of items in any order returns an error, by the items in the order of
+/// these prefixes, which is that of the folds of their keys.
 fn why_sorted_refused<K: ZeroTrieWithOptions, Key: TrieKey>(
     items: &[(Key, usize)],
     prefixes: &[KeyPrefix],
@@ -269,8 +268,8 @@ fn why_sorted_refused<K: ZeroTrieWithOptions, Key: TrieKey>(
     Some(Refusal::between(error, prefixes[place].index, prefixes[place + 1].index))
 }
 
-/// Which keys cause the error of a build of the pairs that an iterator gives, as `try_from_iter` of
-/// the kind's tries, which takes them in any order. `None` if none do.
+/// Which keys show why a build of the pairs that an iterator gives returns an error, as
+/// `try_from_iter` of the kind's tries, which takes them in any order. `None` if none do.
 ///
 /// ```
 /// let items = [("to", 1), ("in", 2), ("to", 3)];
@@ -279,13 +278,13 @@ fn why_sorted_refused<K: ZeroTrieWithOptions, Key: TrieKey>(
 /// assert_eq!(rt; (refusal.first, refusal.second), (0, 2));
 /// ```
 ///
-/// It looks first for two keys that are the same, `DuplicateKey`, then for one with a byte from 128
-/// on in a kind for ASCII, `NonAsciiError`, and then for two that differ in case in the kind without
-/// case, `MixedCase`. If it returns `None`, a build can fail only for its length, for a hashed table
-/// or as out of memory.
+/// It asks first for two keys that are the same, `DuplicateKey`, then for one with a byte from 128
+/// on in a kind for ASCII, `NonAsciiError`, and then for two that the kind without case cannot have
+/// together, `MixedCase`. On `None` a build returns an error only for its length, for a hashed
+/// table or as out of memory.
 ///
-/// It sorts the keys as a build does, in about the same time and memory. The only error is out of
-/// memory.
+/// It sorts the keys in about the memory of a build. It compares whole keys, which takes longer than
+/// a build if many of them begin alike. The only error is out of memory.
 pub fn why_iter_refused<K: ZeroTrieWithOptions, Key: TrieKey>(
     alloc: Global,
     items: &[(Key, usize)],

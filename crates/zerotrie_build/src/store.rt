@@ -81,7 +81,7 @@ pub trait TrieBuilderStore: Sized {
         ensures ok { OnOk result (list self.new ≡ replicate count 0 ++ list self.old) }
         ensures err { OnErr result (list self.new ≡ list self.old) };
 
-    /// Cuts the front into ranges of these lengths, in bytes, and lays them out in this order: the
+    /// Cuts the front into ranges of these lengths, in bytes, and arranges them in this order: the
     /// range of number `order[0]` comes first. What lies after the ranges stays.
     ///
     /// ```

@@ -47,7 +47,7 @@ pub(crate) fn byte_at<'a, I: IndexedItems<'a>>(items: I, index: usize, depth: us
     ensures room { IfSome result (λ _. depth + 1 < 2 ^ 64) }
 {
     let (key, _) = items.get(index);
-    // That a length is below 2^64 tells the proof that so is a place in it.
+    // That a length is below 2^64 shows the proof that so is a place in it.
     let _len = key.len();
     key.get(depth).copied()
 }
@@ -106,7 +106,7 @@ pub(crate) fn literals_end<'a, I: IndexedItems<'a>>(items: I, window: Window) ->
     low_end(first, last, window.depth)
 }
 
-/// How many bytes from 128 on all keys of the window have in common in front, if they go on with
+/// How many bytes from 128 on all keys of the window have in common in front, if they continue with
 /// this byte.
 fn span_len<'a, I: IndexedItems<'a>>(items: I, window: Window, byte: u8) -> usize
     requires some { window.from < window.to }
@@ -127,7 +127,7 @@ fn span_len<'a, I: IndexedItems<'a>>(items: I, window: Window, byte: u8) -> usiz
     high_front_len(rest, &last[window.depth..])
 }
 
-/// What is first in the text of the window, if its first and its last key both go on with this
+/// What is first in the text of the window, if its first and its last key both continue with this
 /// byte.
 fn common_step<'a, K: ZeroTrieWithOptions, I: IndexedItems<'a>>(
     items: I,
@@ -238,7 +238,7 @@ pub(crate) fn single_item<'a, I: IndexedItems<'a>>(
         return None;
     }
     let (key, value) = items.get(window.from);
-    // That a length is below 2^64 tells the proof that so is a place in it.
+    // That a length is below 2^64 shows the proof that so is a place in it.
     let _len = key.len();
     let rest = key.get(window.depth..)?;
     Some((rest, value))
@@ -264,7 +264,7 @@ pub(crate) fn ascii_leaf<'a, I: IndexedItems<'a>>(
     Some((rest, value))
 }
 
-/// Returns the encoded length of one byte of a short rest. `high` tells whether the byte before it
+/// Returns the encoded length of one byte of a short rest. `high` says whether the byte before it
 /// is 128 or more. A byte that begins a span has the byte of the span's length before it.
 #[inline(always)]
 fn byte_len(high: bool, byte: u8) -> usize
@@ -290,8 +290,8 @@ fn short_len(rest: &[u8]) -> usize
     len
 }
 
-/// How many bytes the literals and spans of the rest of a key have, if its spans need not be told
-/// one by one. If `ascii` is true, it has none.
+/// How many bytes the literals and spans of the rest of a key have, if its spans need not be
+/// counted one by one. If `ascii` is true, it has none.
 #[inline(always)]
 pub(crate) fn rest_len<K: ZeroTrieWithOptions>(rest: &[u8], ascii: bool) -> Option<usize>
     requires { IsTrue ascii → All (λ b. b < 128) rest.now }

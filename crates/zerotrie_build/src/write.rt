@@ -65,7 +65,7 @@ impl Writing {
         requires { HasRoom self.old (length bytes.now) }
         ensures { Writes self.old self.new bytes.now }
     {
-        // there is room, so this does not allocate and can't fail
+        // As there is room, it does not allocate, so it cannot fail.
         let _ = self.bytes.extend_from_slice(bytes);
     }
 
@@ -143,7 +143,7 @@ impl Writing {
         self.put_number(VALUE, 16, value);
     }
 
-    /// Writes the literals that the window's keys go on with up to a depth.
+    /// Writes the literals that the window's keys continue with up to a depth.
     #[inline(always)]
     fn put_literals<'a, I: IndexedItems<'a>>(&mut self, items: I, window: Window, end: usize)
         requires item { window.from < length (I.pairs items) }
@@ -157,7 +157,7 @@ impl Writing {
         self.put_all(&key[window.depth..end]);
     }
 
-    /// Writes a span of the bytes that the window's keys go on with.
+    /// Writes a span of the bytes that the window's keys continue with.
     #[inline(always)]
     fn put_span<'a, I: IndexedItems<'a>>(&mut self, items: I, window: Window, run: usize)
         requires item { window.from < length (I.pairs items) }
@@ -221,8 +221,8 @@ impl Writing {
         self.put_offsets(lens, numbers, width + 1);
     }
 
-    /// Writes the values, literals and spans that are first in the window. Returns the window
-    /// after them.
+    /// Writes the values, literals and spans that are first in the window. Returns the window after
+    /// them.
     #[inline(always)]
     fn put_front<'a, K: ZeroTrieWithOptions, I: IndexedItems<'a>>(
         &mut self,
@@ -291,7 +291,7 @@ impl Writing {
             self.put_value(value);
             return Ok(());
         }
-        // That a length is below 2^64 tells the proof that so are the places of the slots.
+        // That a length is below 2^64 shows the proof that so are the places of the slots.
         let _len = input.slots.len();
         let rest = self.put_front::<K, I>(items, window);
         if rest.from < rest.to {

@@ -12,7 +12,7 @@ use zerotrie_base::{ZeroTrieBuildError, laws};
 
 /// Writes the text of the trie of the items, whose keys ascend strictly by their bytes, at the end
 /// of a buffer, with a stack of `K`, and returns where it begins. The bytes from there on are the
-/// one text of the map of the items, and those before stay. After an error any of the buffer's
+/// one text of the map of the items, and those before stay. After an error, any of the buffer's
 /// bytes may have changed. It does not allocate.
 ///
 /// ```
@@ -26,7 +26,7 @@ use zerotrie_base::{ZeroTrieBuildError, laws};
 /// each target waits for those before it. As many of them as wait at once the stack has to hold.
 /// `K` has to be below 2^58, as a stack that fits a machine is.
 ///
-/// The errors are `Unsorted`, `NonAsciiError`, `CapacityExceeded`, `BufferTooSmall` and
+/// A build returns the error `Unsorted`, `NonAsciiError`, `CapacityExceeded`, `BufferTooSmall` or
 /// `StackExceeded`, each for the reason that `ZeroTrieBuildError` gives, and never if there is
 /// none.
 pub fn fill_from_end<const K: usize>(
@@ -48,11 +48,11 @@ pub fn fill_from_end<const K: usize>(
     Ok(buffer.len() - len)
 }
 
-/// Builds the trie of the items as `fill_from_end` does, and returns its bytes, of which there may
-/// be `most`.
+/// Builds the trie of the items as `fill_from_end`, in memory of its own, and returns its bytes, of
+/// which there may be `most`.
 ///
-/// It counts them first, and then allocates as many. The errors are those of a build in a buffer of
-/// `most` bytes, and `OutOfMemory`.
+/// They are counted first, and then it allocates memory for as many. Its errors are those of a
+/// build in a buffer of `most` bytes, and `OutOfMemory`.
 pub fn bytes_within<const K: usize>(
     alloc: Global,
     most: usize,

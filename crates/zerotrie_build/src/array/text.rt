@@ -25,7 +25,7 @@ pub(crate) struct Text<'a> {
     pub(crate) buffer: &'a mut [u8],
     /// How many bytes the text has, those that were lost too.
     pub(crate) len: usize,
-    /// How many bytes are before the siblings.
+    /// How many bytes are in front of the siblings.
     pub(crate) front: usize,
 }
 

@@ -1,7 +1,7 @@
 //! The items, from the last to the first, and the branches where they part.
 //!
-//! First is the text of what lies under the first bytes of one key, and after it are the targets
-//! of open branches, the siblings, of which the one that was saved last is first.
+//! In front is the text of what lies under the first bytes of one key, and after it the targets of
+//! open branches, the siblings, of which the one that was set aside last comes first.
 
 ghost use Rattle.std.specs.Prelude.{◌≡◌, ◌≢◌, ℕ, ◌+◌, ◌^◌, ◌<◌, ◌≤◌, ◌∷◌, length, take, drop, All, IfOk, IfErr, OnOk, true, false, suc, List};
 ghost use Rattle.zerotrie_base.specs.Kind.{simple_ascii};
@@ -196,7 +196,7 @@ fn add<const K: usize>(
 }
 
 /// Writes the text of the trie of the items at the end of the buffer, if it has room for it, and
-/// returns how many bytes the text has, or the greatest number if it has more. What is before the
+/// returns how many bytes the text has, or the greatest number if it has more. What lies before the
 /// text stays.
 pub(crate) fn build_text<const K: usize>(
     buffer: &mut [u8],

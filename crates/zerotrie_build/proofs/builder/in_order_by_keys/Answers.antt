@@ -4,8 +4,8 @@ use Rattle.zerotrie_build.specs.Order.{Ordered}
 use Rattle.zerotrie_build.proofs.Building.{some_foreign}
 use Rattle.zerotrie_build.proofs.OrderLemmas.Permuted.{consistent_permuted, keys_permuted, values_permuted}
 use Rattle.zerotrie_build.proofs.OrderLemmas.Sorting.{sorted_ordered, plain_consistent}
-use Rattle.zerotrie_build.proofs.builder.in_order.Goals as goal
-use Rattle.zerotrie_build.proofs.builder.in_order.Goals.{else-IGNORE_CASE-via-then-IGNORE_CASE+else-not-is_ordered, else-IGNORE_CASE-via-else-IGNORE_CASE}
+use Rattle.zerotrie_build.proofs.builder.in_order_by_keys.Goals as goal
+use Rattle.zerotrie_build.proofs.builder.in_order_by_keys.Goals.{else-IGNORE_CASE-via-then-IGNORE_CASE+else-not-is_ordered, else-IGNORE_CASE-via-else-IGNORE_CASE}
 
 pub returns-then-not-are_keys-clause-refused : goal.returns-then-not-are_keys-clause-refused
 returns-then-not-are_keys-clause-refused g c =
