@@ -1,60 +1,68 @@
-/* zerotrie for C99 and later, and for C++: maps from byte strings to numbers, as flat bytes that are read where they lie.
+/**
+ * @file
+ * @brief zerotrie for C99 and later, and for C++: maps from byte strings to numbers, each as flat
+ * bytes that are read in place.
  *
- *     zerotrie_pair pairs[] = { { ZEROTRIE_TEXT("foo"), 1 }, { ZEROTRIE_TEXT("bar"), 2 }, { ZEROTRIE_TEXT("bazzoo"), 3 } };
+ *     zerotrie_pair pairs[] = {
+ *         { ZEROTRIE_TEXT("foo"), 1 }, { ZEROTRIE_TEXT("bar"), 2 }, { ZEROTRIE_TEXT("bazzoo"), 3 }
+ *     };
  *     uint8_t trie[64];
  *     size_t len, value;
  *     if (zerotrie_build(ZEROTRIE_SIMPLE_ASCII, pairs, 3, trie, sizeof trie, &len) == ZEROTRIE_DONE
  *         && zerotrie_get(ZEROTRIE_SIMPLE_ASCII, trie, len, (const uint8_t *)"bar", 3, &value))
  *         printf("bar is %zu, in %zu bytes\n", value, len);
  *
- * A file that the program `zerotrie build` wrote is tagged bytes: the number of the kind, then the trie. Given whole to another
- * function it can pass for a trie whose keys all begin with that number. Take the number off first:
+ * A file that the program `zerotrie build` wrote is tagged bytes: the number of the kind, then the
+ * trie. Another function would take the number for the first byte of each key. Read such a file by
+ * zerotrie_trie_from_tagged():
  *
- *     uint32_t kind;
- *     zerotrie_bytes trie;
- *     if (zerotrie_untagged(file, file_len, &kind, &trie) == ZEROTRIE_DONE
- *         && zerotrie_is_well_formed(kind, trie.ptr, trie.len)
- *         && zerotrie_get(kind, trie.ptr, trie.len, (const uint8_t *)"bar", 3, &value))
+ *     zerotrie_trie trie;
+ *     if (zerotrie_trie_from_tagged(file, file_len, &trie) == ZEROTRIE_DONE
+ *         && zerotrie_trie_is_well_formed(trie)
+ *         && zerotrie_trie_get(trie, (const uint8_t *)"bar", 3, &value))
  *         printf("bar is %zu\n", value);
  *
- * bindings/make makes libzerotrie.a and libzerotrie.so in bindings/build, for 64-bit Linux on x86-64:
+ * `bindings/make` makes libzerotrie.a and libzerotrie.so in bindings/build, for 64-bit Linux.
+ * `bindings/install PREFIX` copies them and the headers to PREFIX/lib and PREFIX/include.
  *
  *     cc -Ibindings/c program.c bindings/build/libzerotrie.a
- *     cc program.c $(PKG_CONFIG_PATH=bindings/build pkg-config --cflags --libs zerotrie)    (runs with LD_LIBRARY_PATH=bindings/build)
+ *     cc program.c $(pkg-config --cflags --libs zerotrie)
  *
- * bindings/install PREFIX copies them and the headers to PREFIX/lib and PREFIX/include.
+ * Each function of the library is proved to meet its contract over the map that the bytes mean. No
+ * proof sees what a caller does, nor the inline functions of this header.
  *
- * Each function of the library is proved to meet its contract over the map that the bytes mean. What a proof can't see is what a
- * caller does, and the few functions that stand here whole.
- *
- * A caller owes:
- *   - Pointers. A pointer with a length after it leads to that many elements, which can be read and which nothing writes
- *     to during the call. What a function writes to can be written, and overlaps nothing else that the call is given.
- *     A pointer is aligned for its type. A length is at most PTRDIFF_MAX bytes.
- *   - Null. No pointer may be null, even with length 0: pass any valid address of the type then. zerotrie_bytes_of() turns a
- *     pointer that may be null into a zerotrie_bytes whose pointer never is.
- *   - Lifetimes. A trie is only your bytes: there is nothing to open, close or free. What zerotrie_untagged(),
- *     zerotrie_cursor_run() and zerotrie_cursor_trie() hand out points into the bytes that were given. Use it only while they
- *     stay where they are and unchanged. A cursor points nowhere, and may outlive them. Keys and pairs are needed during the
- *     call alone.
- *   - Memory. "Takes memory" marks the functions that call malloc, realloc and free. Call none of them from a signal handler,
- *     nor in the forked child of a process with threads.
+ * What a caller must keep to:
+ *   - Pointers. A pointer with a length after it points to that many elements, which can be read and
+ *     which nobody writes during the call. What a function writes can be written, and overlaps
+ *     nothing else that the call is given. A pointer is aligned for its type. A length is at most
+ *     PTRDIFF_MAX bytes.
+ *   - NULL. A pointer with the length 0 may be NULL. No other pointer may: not that of a key in a
+ *     zerotrie_pair, for which zerotrie_bytes_of() exists, and not a place for a result. The
+ *     address of a function of the library, as in `f = zerotrie_get`, is the library's own
+ *     function, to which NULL may not be passed at all.
+ *   - Lifetimes. A trie is only your bytes: there is nothing to open, close or free. A zerotrie_trie,
+ *     zerotrie_untagged(), zerotrie_cursor_run() and zerotrie_cursor_trie() point into them: use
+ *     the result only while the bytes stay where they are and unchanged. A cursor has no pointer.
+ *     Keys and pairs are needed during the call only.
+ *   - Memory. "Allocates" marks the functions that call malloc, realloc and free. Call none of them
+ *     from a signal handler, nor in the forked child of a process with threads.
  *
  * What holds then:
- *   - Every function returns, whatever the bytes hold. It reads nothing outside them, and never aborts or throws.
- *   - It writes only what is said at the function, also if the bytes are no trie. "Stays" says of a place that it is not
- *     written to. What a function only writes to may hold anything before.
- *   - Threads. There is no state between calls and no lock, so any number of threads may call at once over bytes that none
- *     of them writes. A cursor is for one thread at a time; a copy of it, made by =, is a cursor of its own.
+ *   - Every function returns, whatever the bytes are. It reads nothing outside them, and never aborts
+ *     or throws.
+ *   - It writes only what is said at the function, also for malformed bytes. "Stays" says that
+ *     something is not written. What a function only writes may hold anything before.
+ *   - Threads. There is no state between calls and no lock, so any number of threads may call at once
+ *     over bytes that none of them writes. A cursor is for one thread at a time; a copy of it, made
+ *     by =, is another cursor.
+ *   - What a function allocates it frees before it returns. Tests show that, and no contract does.
  *
- * What takes memory gives back all of it before it returns; tests show that, and no contract does.
+ * Statements about keys hold for valid bytes: those that a build wrote, and those from elsewhere
+ * for which zerotrie_is_well_formed() returned true. Check them once. On malformed bytes each
+ * function still returns and writes no more, but the result is unspecified, except for what is said
+ * at the function.
  *
- * Statements about keys hold for bytes that are a trie of the kind: those that a build wrote, and those from elsewhere that
- * zerotrie_is_well_formed() accepts; check them once. On any other bytes each function still returns, and writes no more, but its
- * answer is that of no map. What holds there too is said at the function.
- *
- * A bool says yes or no: found, or well-formed. A uint32_t is a zerotrie_status, except from zerotrie_auto_kind(), which returns a
- * zerotrie_kind.
+ * A bool says whether something was found, or is well-formed.
  */
 #ifndef ZEROTRIE_H
 #define ZEROTRIE_H
@@ -63,85 +71,170 @@
 #include <stddef.h>
 #include <stdint.h>
 
-/* What the declarations below say beyond C: that a function stands here whole, that none of its pointers may be null, and that
- * its answer is worth a look. */
+/** The version of this header. zerotrie_version() returns that of the library. */
+#define ZEROTRIE_VERSION_MAJOR 0
+/** Changes with each version that adds calls. */
+#define ZEROTRIE_VERSION_MINOR 3
+/** Changes with each version that only mends. */
+#define ZEROTRIE_VERSION_PATCH 0
+/** The version as one number, which is 1002003 in version 1.2.3. */
+#define ZEROTRIE_VERSION                                                                           \
+    (1000000 * ZEROTRIE_VERSION_MAJOR + 1000 * ZEROTRIE_VERSION_MINOR + ZEROTRIE_VERSION_PATCH)
+
+/** @cond */
 #ifdef __cplusplus
 #define ZEROTRIE_INLINE inline
 #define ZEROTRIE_POINTER(type, pointer) reinterpret_cast<type>(pointer)
+#define ZEROTRIE_AS_KIND(number) static_cast<zerotrie_kind>(number)
+#define ZEROTRIE_ENUM : uint32_t
 #else
 #define ZEROTRIE_INLINE static inline
 #define ZEROTRIE_POINTER(type, pointer) ((type)(pointer))
+#define ZEROTRIE_AS_KIND(number) ((zerotrie_kind)(number))
+#define ZEROTRIE_ENUM
 #endif
 #ifdef __GNUC__
 #define ZEROTRIE_NONNULL __attribute__((nonnull))
 #define ZEROTRIE_ANSWERS __attribute__((nonnull, warn_unused_result))
+#define ZEROTRIE_MUST_USE __attribute__((warn_unused_result))
+#define ZEROTRIE_NEEDS(numbers) __attribute__((nonnull numbers))
 #else
 #define ZEROTRIE_NONNULL
 #define ZEROTRIE_ANSWERS
+#define ZEROTRIE_MUST_USE
+#define ZEROTRIE_NEEDS(numbers)
 #endif
 
 #ifdef __cplusplus
 extern "C" {
 #endif
+/** @endcond */
 
-/* The kind of a trie. The same number is the first byte of tagged bytes. A function that is given another number answers
- * false or ZEROTRIE_UNKNOWN_KIND. */
-typedef enum zerotrie_kind {
-    ZEROTRIE_SIMPLE_ASCII = 0,      /* ASCII keys */
-    ZEROTRIE_PERFECT_HASH = 3,      /* any bytes; a branch of 16 edges or more is a perfect hash */
-    ZEROTRIE_EXTENDED_CAPACITY = 7, /* the same, and a branch may reach 2^32 bytes */
-    ZEROTRIE_IGNORE_CASE = 8        /* ASCII keys, whose letters are found in either case */
+/** The kind of a trie. The same number is the first byte of tagged bytes. */
+typedef enum zerotrie_kind ZEROTRIE_ENUM {
+    /** ASCII keys */
+    ZEROTRIE_SIMPLE_ASCII = 0,
+    /** any bytes; a branch of 16 edges or more is a perfect hash */
+    ZEROTRIE_PERFECT_HASH = 3,
+    /** the same, and a branch may reach 2^32 bytes */
+    ZEROTRIE_EXTENDED_CAPACITY = 7,
+    /** ASCII keys, whose letters are found in either case */
+    ZEROTRIE_IGNORE_CASE = 8
 } zerotrie_kind;
 
-/* What a call comes to. */
-typedef enum zerotrie_status {
+/** @cond */
+/* A kind as a parameter is a zerotrie_kind or the number of one. C turns any number into the enum,
+ * and C++ the enum into any number. */
+#ifdef __cplusplus
+typedef uint32_t zerotrie_kind_number;
+#else
+typedef zerotrie_kind zerotrie_kind_number;
+#endif
+/** @endcond */
+
+/** What a call comes to. For a number that no kind has it is ZEROTRIE_UNKNOWN_KIND, false or 0. */
+typedef enum zerotrie_status ZEROTRIE_ENUM {
+    /** the call succeeded */
     ZEROTRIE_DONE = 0,
-    ZEROTRIE_NON_ASCII = 1,          /* a key holds a byte of 128 or more, and the kind is for ASCII alone */
-    ZEROTRIE_CAPACITY_EXCEEDED = 2,  /* a branch would reach 2^32 bytes (not in EXTENDED_CAPACITY), or the trie 2^64;
-                                        zerotrie_dense_build: also more than 65,535 suffixes */
-    ZEROTRIE_NO_PERFECT_HASH = 3,    /* no perfect hash was found for the edges of a branch; this is rare */
-    ZEROTRIE_MIXED_CASE = 4,         /* IGNORE_CASE: two keys begin alike up to case, but not byte by byte */
-    ZEROTRIE_ILLEGAL_DELIMITER = 5,  /* zerotrie_dense_build: a text has the delimiter in it */
-    ZEROTRIE_DUPLICATE_KEY = 6,      /* zerotrie_build: a key comes twice */
-    ZEROTRIE_UNSORTED = 7,           /* zerotrie_build_sorted: the keys don't ascend strictly by their bytes */
-    ZEROTRIE_BUFFER_TOO_SMALL = 8,   /* the room is too small; the function says what it tells then */
-    ZEROTRIE_BUFFER_TOO_LARGE = 9,   /* no function here answers this */
-    ZEROTRIE_STACK_EXCEEDED = 10,    /* no function here answers this */
+    /** a key has a byte of 128 or more, and the kind is for ASCII only */
+    ZEROTRIE_NON_ASCII = 1,
+    /** a branch would reach 2^32 bytes (not in EXTENDED_CAPACITY), or the trie 2^64;
+     * zerotrie_dense_build(): also more than 65,535 suffixes */
+    ZEROTRIE_CAPACITY_EXCEEDED = 2,
+    /** no perfect hash was found for the edges of a branch; this is rare */
+    ZEROTRIE_NO_PERFECT_HASH = 3,
+    /** IGNORE_CASE: two keys begin alike up to case, but not byte by byte */
+    ZEROTRIE_MIXED_CASE = 4,
+    /** zerotrie_dense_build(): a text has the delimiter in it */
+    ZEROTRIE_ILLEGAL_DELIMITER = 5,
+    /** zerotrie_build(): a key comes twice */
+    ZEROTRIE_DUPLICATE_KEY = 6,
+    /** zerotrie_build_sorted(): the keys don't ascend strictly by their bytes */
+    ZEROTRIE_UNSORTED = 7,
+    /** the room is too small; the function says what it returns then */
+    ZEROTRIE_BUFFER_TOO_SMALL = 8,
+    /** no function here returns this */
+    ZEROTRIE_BUFFER_TOO_LARGE = 9,
+    /** no function here returns this */
+    ZEROTRIE_STACK_EXCEEDED = 10,
+    /** an allocation failed */
     ZEROTRIE_OUT_OF_MEMORY = 11,
+    /** no kind has this number */
     ZEROTRIE_UNKNOWN_KIND = 12,
-    ZEROTRIE_NO_TAG = 13,            /* zerotrie_untagged: there are no bytes */
-    ZEROTRIE_INVALID_TAG = 14,       /* zerotrie_untagged: the first byte is the number of no kind */
-    ZEROTRIE_NO_ENTRY = 15,          /* zerotrie_dense_get: the table has no value for the two texts */
-    ZEROTRIE_RECORD_TRUNCATED = 16,  /* zerotrie_dense_get: fewer bytes than a record of a table asks for */
-    ZEROTRIE_TRAILING_BYTES = 17     /* zerotrie_dense_get: more bytes than a record of a table asks for */
+    /** zerotrie_untagged(): there are no bytes */
+    ZEROTRIE_NO_TAG = 13,
+    /** zerotrie_untagged(): the first byte is the number of no kind */
+    ZEROTRIE_INVALID_TAG = 14,
+    /** zerotrie_dense_get(): the table has no value for the two texts */
+    ZEROTRIE_NO_ENTRY = 15,
+    /** zerotrie_dense_get(): fewer bytes than a record of a table asks for */
+    ZEROTRIE_RECORD_TRUNCATED = 16,
+    /** zerotrie_dense_get(): more bytes than a record of a table asks for */
+    ZEROTRIE_TRAILING_BYTES = 17
 } zerotrie_status;
 
-/* Bytes that lie elsewhere, as a key. They may hold zeros; none stands at their end. */
+/** The rule of the format that malformed bytes break first. */
+typedef enum zerotrie_fault ZEROTRIE_ENUM {
+    /** the bytes are valid */
+    ZEROTRIE_NO_FAULT = 0,
+    /** no node begins here: it is cut off, or has too large a number */
+    ZEROTRIE_FAULT_NO_NODE = 1,
+    /** a span, in a kind that has none */
+    ZEROTRIE_FAULT_NO_SPANS = 2,
+    /** the bytes end where a key has to continue */
+    ZEROTRIE_FAULT_UNEXPECTED_END = 3,
+    /** a value follows a value */
+    ZEROTRIE_FAULT_VALUE_AFTER_VALUE = 4,
+    /** a span follows a span */
+    ZEROTRIE_FAULT_SPAN_AFTER_SPAN = 5,
+    /** a span has no bytes */
+    ZEROTRIE_FAULT_EMPTY_SPAN = 6,
+    /** a span has a byte below 128 */
+    ZEROTRIE_FAULT_ASCII_IN_SPAN = 7,
+    /** the search table of a branch is not one of the kind */
+    ZEROTRIE_FAULT_WRONG_TABLE = 8,
+    /** the offsets of a branch are wider than they need to be */
+    ZEROTRIE_FAULT_WRONG_WIDTH = 9,
+    /** the offsets of a branch don't ascend within its targets */
+    ZEROTRIE_FAULT_WRONG_OFFSETS = 10,
+    /** an allocation failed, so the rule is unknown */
+    ZEROTRIE_FAULT_UNKNOWN = ZEROTRIE_OUT_OF_MEMORY,
+    /** no kind has this number */
+    ZEROTRIE_FAULT_OF_NO_KIND = ZEROTRIE_UNKNOWN_KIND
+} zerotrie_fault;
+
+/** Bytes that are elsewhere, as a key. They may have zeros, and need none at their end. */
 typedef struct zerotrie_bytes {
-    const uint8_t *ptr; /* never null */
-    size_t len;
+    const uint8_t *ptr; /**< where they begin */
+    size_t len;         /**< how many they are */
 } zerotrie_bytes;
 
+/** A key and its value. */
 typedef struct zerotrie_pair {
-    zerotrie_bytes key;
-    size_t value;
+    zerotrie_bytes key; /**< its pointer is never NULL: see ZEROTRIE_TEXT and zerotrie_bytes_of() */
+    size_t value;       /**< any number */
 } zerotrie_pair;
 
-/* A place in a trie, between two bytes of keys, as numbers: zerotrie_cursor_new() and zerotrie_with_prefix() tell them, and each call
- * is given the bytes too. While run is below trie it stands inside a span: every key from here on goes on with the bytes from run
- * to trie, and then with a key of the trie that lies from trie to end. Otherwise the bytes from trie to end are a trie by
- * themselves, that of what the keys have from here on: list it by zerotrie_list(). Nothing is left if run is end.
+/**
+ * A place in a trie, between two bytes of keys, as numbers, which zerotrie_cursor_new() and
+ * zerotrie_with_prefix() return. Each call gets the bytes too. While `run` is below `trie` it is
+ * inside a span: every key continues with the bytes from `run` to `trie`, and then with a key of
+ * the trie from `trie` to `end`. Otherwise the bytes from `trie` to `end` are a trie of their own,
+ * of what the keys have from here on: list it by zerotrie_list(). Nothing is left if `run` is
+ * `end`.
  *
- * What the library tells never leaves the bytes, whatever they are: run <= trie <= end <= len. It may be given any numbers.
- * Those that do not ascend or leave the bytes are a cursor with nothing left. So with a cursor that was made up, or that was told
- * of other bytes, a call answers something, and reads nothing outside the bytes. */
+ * What the library returns never leaves the bytes, whatever they are: run <= trie <= end <= len. It
+ * takes any numbers. Those that don't ascend, or leave the bytes, are a cursor with nothing left.
+ * With a cursor that was made up, or of other bytes, the result is unspecified, and nothing outside
+ * the bytes is read.
+ */
 typedef struct zerotrie_cursor {
-    size_t run;
-    size_t trie;
-    size_t end;
+    size_t run;  /**< where the rest of a span begins */
+    size_t trie; /**< where it ends, and a trie begins */
+    size_t end;  /**< where that ends */
 } zerotrie_cursor;
 
-/* Bytes from any pointer; null stands for none. */
+/** Returns bytes from any pointer; NULL is no bytes. */
 ZEROTRIE_INLINE zerotrie_bytes zerotrie_bytes_of(const void *ptr, size_t len) {
     zerotrie_bytes made;
     made.ptr = ZEROTRIE_POINTER(const uint8_t *, ptr ? ptr : "");
@@ -149,220 +242,896 @@ ZEROTRIE_INLINE zerotrie_bytes zerotrie_bytes_of(const void *ptr, size_t len) {
     return made;
 }
 
-/* The bytes of a string literal, without its end, as an initializer. */
-#define ZEROTRIE_TEXT(literal) { ZEROTRIE_POINTER(const uint8_t *, "" literal), sizeof("" literal) - 1 }
+/** The bytes of a string literal, without its end, as an initializer. */
+#define ZEROTRIE_TEXT(literal)                                                                     \
+    { ZEROTRIE_POINTER(const uint8_t *, "" literal), sizeof("" literal) - 1 }
 
-/* --- Reading: no memory is taken ------------------------------------------------------------------------------------ */
+/** Returns the version of the library as one number, as ZEROTRIE_VERSION. */
+uint32_t zerotrie_version(void);
 
-/* Whether the bytes are a trie of the kind, every rule of the format kept. */
+/** @name Reading
+ * None of these allocates. */
+/** @{ */
+
+/** Returns whether the bytes are a valid trie of the kind, by every rule of the format. */
 ZEROTRIE_ANSWERS
-bool zerotrie_is_well_formed(uint32_t kind, const uint8_t *bytes, size_t len);
+bool zerotrie_is_well_formed(zerotrie_kind_number kind, const uint8_t *bytes, size_t len);
 
-/* Whether the trie has the key. If so its value goes to *value, else *value stays. */
+/** Returns whether the trie has the key, and then sets *value to its value; otherwise *value stays.
+ */
 ZEROTRIE_ANSWERS
-bool zerotrie_get(uint32_t kind, const uint8_t *bytes, size_t len, const uint8_t *key, size_t key_len, size_t *value);
+bool zerotrie_get(zerotrie_kind_number kind, const uint8_t *bytes, size_t len, const uint8_t *key,
+                  size_t key_len, size_t *value);
 
-/* Looks up many keys at once, which lie one after another in `keys`: each goes from where the one before it ended up to its
- * own end. Writes the value of each, or `missing` for a key that the trie hasn't. An end beyond keys_len stands for
- * keys_len, and one below the end before it makes an empty key. It answers as many keys as the smaller of ends_len and
- * values_len; the rest of the room stays, whatever the bytes are. Answers ZEROTRIE_DONE, or ZEROTRIE_UNKNOWN_KIND and writes
- * nothing. */
+/**
+ * Looks up many keys, which are one after another in `keys`: each begins where the one before it
+ * ends, and `ends` says where it ends. Writes the value of each, or `missing` for a key that the
+ * trie does not have. An end past `keys_len` counts as `keys_len`, and an end below the one before
+ * it makes an empty key. It writes as many values as the smaller of `ends_len` and `values_len`;
+ * the rest of the room stays, whatever the bytes are. Returns ZEROTRIE_DONE, or
+ * ZEROTRIE_UNKNOWN_KIND and writes nothing.
+ */
 ZEROTRIE_NONNULL
-uint32_t zerotrie_get_many(uint32_t kind, const uint8_t *bytes, size_t len, const uint8_t *keys, size_t keys_len,
-                           const size_t *ends, size_t ends_len, size_t missing, size_t *values, size_t values_len);
+zerotrie_status zerotrie_get_many(zerotrie_kind_number kind, const uint8_t *bytes, size_t len,
+                                  const uint8_t *keys, size_t keys_len, const size_t *ends,
+                                  size_t ends_len, size_t missing, size_t *values,
+                                  size_t values_len);
 
-/* Whether the text begins with a key, the empty one too. If so, the length of the longest such key goes to *key_len and
- * its value to *value, else both stay. The length is never beyond text_len, whatever the bytes are. */
+/**
+ * Returns whether the text begins with a key, the empty one too, and then sets *key_len and *value
+ * to the length and the value of the longest one; otherwise both stay. The length is at most
+ * `text_len`, whatever the bytes are.
+ */
 ZEROTRIE_ANSWERS
-bool zerotrie_longest_prefix(uint32_t kind, const uint8_t *bytes, size_t len, const uint8_t *text, size_t text_len,
-                             size_t *key_len, size_t *value);
+bool zerotrie_longest_prefix(zerotrie_kind_number kind, const uint8_t *bytes, size_t len,
+                             const uint8_t *text, size_t text_len, size_t *key_len, size_t *value);
 
-/* The cursor in front of all keys, of a trie of any kind. The calls below take the same bytes, and the same kind, each time. */
+/**
+ * Returns whether the text begins with a key after which it ends or continues with one of the
+ * delimiters, and then sets *prefix_len and *value to the length and the value of the longest one;
+ * otherwise both stay. So with the delimiter '-' the text "en-Latn-US" finds the key "en-Latn" or
+ * "en", and "english" does not find "en". The empty key counts whatever follows. The length is at
+ * most `text_len`, whatever the bytes are.
+ */
+ZEROTRIE_ANSWERS
+bool zerotrie_longest_prefix_at(zerotrie_kind_number kind, const uint8_t *bytes, size_t len,
+                                const uint8_t *text, size_t text_len, const uint8_t *delimiters,
+                                size_t delimiters_len, size_t *prefix_len, size_t *value);
+
+/**
+ * Returns how many keys the text begins with. Writes the length of each to `lens` and its value to
+ * `values`, the shortest key first, as far as each of the two has room; the rest of the room stays.
+ * On malformed bytes too it returns at most `text_len` + 1, and writes no length above `text_len`.
+ */
+ZEROTRIE_NONNULL
+size_t zerotrie_common_prefixes(zerotrie_kind_number kind, const uint8_t *bytes, size_t len,
+                                const uint8_t *text, size_t text_len, size_t *lens,
+                                size_t lens_room, size_t *values, size_t values_room);
+
+/** Returns the cursor before all keys, of a trie of any kind. The calls below get the same bytes
+ * and the same kind each time. */
 ZEROTRIE_ANSWERS
 zerotrie_cursor zerotrie_cursor_new(const uint8_t *bytes, size_t len);
 
-/* The cursor after a prefix, where a step by each byte of it leads. If no key begins with it, or the kind is unknown, nothing is
- * left, and its numbers are 0. */
+/**
+ * Returns the cursor after a prefix, as a step by each of its bytes would leave it. If no key
+ * begins with it, nothing is left, and the numbers are 0.
+ */
 ZEROTRIE_ANSWERS
-zerotrie_cursor zerotrie_with_prefix(uint32_t kind, const uint8_t *bytes, size_t len, const uint8_t *prefix, size_t prefix_len);
+zerotrie_cursor zerotrie_with_prefix(zerotrie_kind_number kind, const uint8_t *bytes, size_t len,
+                                     const uint8_t *prefix, size_t prefix_len);
 
-/* Goes along the edge that is this byte to the kind (in IGNORE_CASE a letter in either case). If there is one, its byte as it
- * is stored goes to *edge. If not, nothing is left and *edge stays. */
+/**
+ * Follows the edge for this byte, as the kind compares bytes: in IGNORE_CASE a letter in either
+ * case. Returns whether there is one, and then sets *edge to its byte as it is stored; otherwise
+ * nothing is left and *edge stays.
+ */
 ZEROTRIE_NONNULL
-bool zerotrie_cursor_step(uint32_t kind, const uint8_t *bytes, size_t len, zerotrie_cursor *cursor, uint8_t byte, uint8_t *edge);
+bool zerotrie_cursor_step(zerotrie_kind_number kind, const uint8_t *bytes, size_t len,
+                          zerotrie_cursor *cursor, uint8_t byte, uint8_t *edge);
 
-/* Takes the value of the key that ends here: it goes to *value, and the cursor no longer has it. If there is none, nothing
- * changes. Ask before the next step, which goes past the value. */
+/**
+ * Takes the value of the key that ends here. Returns whether there is one, and then sets *value,
+ * and the cursor no longer has it; otherwise nothing changes. Call it before the next step, which
+ * leaves the value behind.
+ */
 ZEROTRIE_NONNULL
-bool zerotrie_cursor_take_value(const uint8_t *bytes, size_t len, zerotrie_cursor *cursor, size_t *value);
+bool zerotrie_cursor_take_value(const uint8_t *bytes, size_t len, zerotrie_cursor *cursor,
+                                size_t *value);
 
-/* Goes along edge number `index`, from 0; its byte goes to *edge, and how many edges there are to *siblings. If there is no
- * such edge, nothing is left, and *edge and *siblings stay. Edges are numbered in the order of the bytes' listing. */
+/**
+ * Follows edge number `index`, from 0. Returns whether there is one, and then sets *edge to its
+ * byte and *siblings to the number of edges; otherwise nothing is left, and both stay. Edges are
+ * numbered in the order of a listing.
+ */
 ZEROTRIE_NONNULL
-bool zerotrie_cursor_probe(uint32_t kind, const uint8_t *bytes, size_t len, zerotrie_cursor *cursor, size_t index, uint8_t *edge,
+bool zerotrie_cursor_probe(zerotrie_kind_number kind, const uint8_t *bytes, size_t len,
+                           zerotrie_cursor *cursor, size_t index, uint8_t *edge,
                            uint16_t *siblings);
 
-/* Whether nothing is left of a cursor that was told: no key goes on from here, and none ends here. */
+/** Returns whether nothing is left of a cursor: no key continues from here, and none ends here. */
 ZEROTRIE_INLINE bool zerotrie_cursor_is_empty(zerotrie_cursor cursor) {
     return cursor.run == cursor.end;
 }
 
-/* The bytes from one number up to another, where they lie; none if the numbers do not ascend or leave the bytes. */
-ZEROTRIE_INLINE zerotrie_bytes zerotrie_between(const uint8_t *bytes, size_t len, size_t from, size_t to) {
-    const bool inside = from <= to && to <= len;
-    zerotrie_bytes made;
-    made.ptr = inside ? bytes + from : bytes;
-    made.len = inside ? to - from : 0;
-    return made;
+/** Returns the bytes from one number up to another, in place; none if the numbers don't ascend or
+ * leave the bytes. */
+ZEROTRIE_INLINE zerotrie_bytes zerotrie_between(const uint8_t *bytes, size_t len, size_t from,
+                                                size_t to) {
+    const bool inside = bytes && from <= to && to <= len;
+    return inside ? zerotrie_bytes_of(bytes + from, to - from) : zerotrie_bytes_of(bytes, 0);
 }
 
-/* What is left of the span that a cursor stands in; no bytes outside of spans. */
-ZEROTRIE_INLINE zerotrie_bytes zerotrie_cursor_run(const uint8_t *bytes, size_t len, zerotrie_cursor cursor) {
+/** Returns what is left of the span that a cursor is in; no bytes outside of spans. */
+ZEROTRIE_INLINE zerotrie_bytes zerotrie_cursor_run(const uint8_t *bytes, size_t len,
+                                                   zerotrie_cursor cursor) {
     return zerotrie_between(bytes, len, cursor.run, cursor.trie);
 }
 
-/* The trie after it: outside of spans, that of what the keys have from here on. */
-ZEROTRIE_INLINE zerotrie_bytes zerotrie_cursor_trie(const uint8_t *bytes, size_t len, zerotrie_cursor cursor) {
+/** Returns the trie after it: outside of spans, that of what the keys have from here on. */
+ZEROTRIE_INLINE zerotrie_bytes zerotrie_cursor_trie(const uint8_t *bytes, size_t len,
+                                                    zerotrie_cursor cursor) {
     return zerotrie_between(bytes, len, cursor.trie, cursor.end);
 }
 
-/* The kind of tagged bytes goes to *kind. Their trie is what follows their first byte; it is not tested. Or answers
- * ZEROTRIE_NO_TAG or ZEROTRIE_INVALID_TAG, and *kind stays. */
+/**
+ * Sets *kind to the kind of tagged bytes. Their trie is what follows their first byte; it is not
+ * validated. Or returns ZEROTRIE_NO_TAG or ZEROTRIE_INVALID_TAG, and *kind stays.
+ */
 ZEROTRIE_ANSWERS
-uint32_t zerotrie_tagged_kind(const uint8_t *tagged, size_t len, uint32_t *kind);
+zerotrie_status zerotrie_tagged_kind(const uint8_t *tagged, size_t len, uint32_t *kind);
+/** @} */
 
-/* The same, and what follows the first byte goes to *trie, where it lies. If there is no kind, *trie stays. */
+/** @name Faults
+ * Which bytes are wrong. Allocates. */
+/** @{ */
+
+/**
+ * Returns the rule of the format that fails first in the bytes, and sets *at to the number of bytes
+ * before the node where it fails, or before the end that comes too early. Returns ZEROTRIE_NO_FAULT
+ * if the bytes are valid; *at stays then, and also if the result is ZEROTRIE_FAULT_UNKNOWN or
+ * ZEROTRIE_FAULT_OF_NO_KIND. What it writes is at most `len`.
+ */
 ZEROTRIE_ANSWERS
-ZEROTRIE_INLINE uint32_t zerotrie_untagged(const uint8_t *tagged, size_t len, uint32_t *kind, zerotrie_bytes *trie) {
-    const uint32_t status = zerotrie_tagged_kind(tagged, len, kind);
-    if (status == ZEROTRIE_DONE) {
-        trie->ptr = tagged + 1;
-        trie->len = len - 1;
-    }
+zerotrie_fault zerotrie_first_fault(zerotrie_kind_number kind, const uint8_t *bytes, size_t len,
+                                    size_t *at);
+/** @} */
+
+/** @name Building */
+/** @{ */
+
+/**
+ * Builds the trie of pairs in any order. Allocates.
+ *
+ * ZEROTRIE_DONE: it is the first *len bytes of `out`, and the rest stays.
+ * ZEROTRIE_BUFFER_TOO_SMALL: it has *len bytes, more than `out_len`, and `out` stays; call again
+ * with as many. Otherwise the result is an error with its cause in the pairs, or
+ * ZEROTRIE_OUT_OF_MEMORY, and nothing is written. zerotrie_build_bound() says how many bytes are
+ * always enough, and zerotrie_why_refused() which keys are the cause.
+ */
+ZEROTRIE_ANSWERS
+zerotrie_status zerotrie_build(zerotrie_kind_number kind, const zerotrie_pair *pairs, size_t count,
+                               uint8_t *out, size_t out_len, size_t *len);
+
+/** The same of pairs whose keys ascend strictly by their bytes, as memcmp orders them, in
+ * IGNORE_CASE too. Allocates. */
+ZEROTRIE_ANSWERS
+zerotrie_status zerotrie_build_sorted(zerotrie_kind_number kind, const zerotrie_pair *pairs,
+                                      size_t count, uint8_t *out, size_t out_len, size_t *len);
+
+/**
+ * Like zerotrie_build(), of keys that are one after another in `keys`: each begins where the one
+ * before it ends, and `ends` says where it ends. An end past `keys_len` counts as `keys_len`, and
+ * an end below the one before it makes an empty key. There are as many pairs as the smaller of
+ * `ends_len` and `values_len`. Allocates.
+ */
+ZEROTRIE_ANSWERS
+zerotrie_status zerotrie_build_many(zerotrie_kind_number kind, const uint8_t *keys, size_t keys_len,
+                                    const size_t *ends, size_t ends_len, const size_t *values,
+                                    size_t values_len, uint8_t *out, size_t out_len, size_t *len);
+
+/**
+ * Returns a number of bytes that is enough for any build of at most `count` pairs whose keys have
+ * at most `key_bytes` bytes together: 20 for a pair, and 2 for a byte of a key; SIZE_MAX if that is
+ * more. Most builds need much less.
+ */
+size_t zerotrie_build_bound(size_t count, size_t key_bytes);
+
+/** Sets *len to the number of bytes that zerotrie_build_sorted() of these pairs writes. Builds
+ * nothing. Allocates. */
+ZEROTRIE_ANSWERS
+zerotrie_status zerotrie_encoded_len(zerotrie_kind_number kind, const zerotrie_pair *pairs,
+                                     size_t count, size_t *len);
+
+/**
+ * Returns the error of zerotrie_build() of these pairs that keys are the cause of:
+ * ZEROTRIE_DUPLICATE_KEY, ZEROTRIE_NON_ASCII or ZEROTRIE_MIXED_CASE. Sets *first and *second to the
+ * places of the two keys in `pairs`, from 0 on; they are equal if one key is the cause.
+ * ZEROTRIE_DONE: no key is a cause. Then both stay, as with ZEROTRIE_OUT_OF_MEMORY and
+ * ZEROTRIE_UNKNOWN_KIND. Allocates.
+ */
+ZEROTRIE_ANSWERS
+zerotrie_status zerotrie_why_refused(zerotrie_kind_number kind, const zerotrie_pair *pairs,
+                                     size_t count, size_t *first, size_t *second);
+
+/** Returns the kind for pairs if you have no wish: SIMPLE_ASCII if all keys are ASCII and there are
+ * fewer than 512, else PERFECT_HASH. */
+ZEROTRIE_ANSWERS
+zerotrie_kind zerotrie_auto_kind(const zerotrie_pair *pairs, size_t count);
+
+/** Writes the kind's number and then the bytes to `out`, so that the bytes say their kind.
+ * ZEROTRIE_DONE and ZEROTRIE_BUFFER_TOO_SMALL as in a build. */
+ZEROTRIE_ANSWERS
+zerotrie_status zerotrie_tagged(zerotrie_kind_number kind, const uint8_t *bytes, size_t len,
+                                uint8_t *out, size_t out_len, size_t *tagged_len);
+/** @} */
+
+/** @name Dense tables
+ * A dense table is a map from two texts, a prefix and a suffix, to numbers, as one record of bytes.
+ * It is for many prefixes that have the same suffixes: each value of such a row takes two bytes. A
+ * text is ASCII and does not have the delimiter, a byte below 128 with which the table was built.
+ * Either text may be empty. */
+/** @{ */
+
+/**
+ * Looks up a suffix under a prefix in the table of a record. ZEROTRIE_DONE: sets *value.
+ * ZEROTRIE_NO_ENTRY: there is no value. A record says its own length: with fewer bytes the result
+ * is ZEROTRIE_RECORD_TRUNCATED, with more ZEROTRIE_TRAILING_BYTES. In all cases but the first
+ * *value stays. What zerotrie_dense_build() wrote is a record; other bytes of a record's length are
+ * not validated, and the result is unspecified. Does not allocate.
+ */
+ZEROTRIE_ANSWERS
+zerotrie_status zerotrie_dense_get(const uint8_t *record, size_t len, const uint8_t *prefix,
+                                   size_t prefix_len, const uint8_t *suffix, size_t suffix_len,
+                                   size_t *value);
+
+/**
+ * Builds the table of entries, each a prefix, a suffix and a value, in the order of the prefixes as
+ * memcmp orders them, a shorter one first, and under one prefix in that of the suffixes; no two are
+ * equal in both. The entries are three lists: the prefixes are one after another in `prefixes`,
+ * each up to its end, so a prefix comes once for each of its suffixes; the suffixes are in
+ * `suffixes` likewise; and `values` has the values. An end past all bytes counts as their end, and
+ * an end below the one before it makes an empty text. There are as many entries as the shortest of
+ * `prefix_ends`, `suffix_ends` and `values` has. Allocates.
+ *
+ *     const size_t prefix_ends[] = { 2, 4, 6 }, suffix_ends[] = { 2, 4, 6 }, values[] = { 8, 9, 5
+ * }; zerotrie_dense_build((const uint8_t *)"dedeen", 6, prefix_ends, 3, (const uint8_t *)"ATCHUS",
+ * 6, suffix_ends, 3, values, 3, '/', record, sizeof record, &len);
+ *
+ * ZEROTRIE_DONE: the record is the first *len bytes of `out`, and the rest stays.
+ * ZEROTRIE_BUFFER_TOO_SMALL: it has *len bytes, more than `out_len`, and `out` stays. Otherwise the
+ * result is an error with its cause in the entries, and nothing is written: ZEROTRIE_UNSORTED;
+ * ZEROTRIE_NON_ASCII, of a text or the delimiter; ZEROTRIE_ILLEGAL_DELIMITER;
+ * ZEROTRIE_CAPACITY_EXCEEDED, of more than 65,535 suffixes too; or ZEROTRIE_OUT_OF_MEMORY.
+ */
+ZEROTRIE_ANSWERS
+zerotrie_status zerotrie_dense_build(const uint8_t *prefixes, size_t prefixes_len,
+                                     const size_t *prefix_ends, size_t prefix_count,
+                                     const uint8_t *suffixes, size_t suffixes_len,
+                                     const size_t *suffix_ends, size_t suffix_count,
+                                     const size_t *values, size_t value_count, uint8_t delimiter,
+                                     uint8_t *out, size_t out_len, size_t *len);
+/** @} */
+
+/** @name Listing */
+/** @{ */
+
+/**
+ * Lists the pairs whose keys begin with the prefix (an empty one: all), in the order of the trie's
+ * bytes, which in SIMPLE_ASCII is that of the keys. Writes the keys one after another to `keys`,
+ * where each ends to `ends`, and the values to `values`; the rest of each room stays. Sets
+ * *key_bytes and *count to how many there are. With ZEROTRIE_BUFFER_TOO_SMALL some room has too few
+ * places, and nothing is written to such a one; so a call with three rooms of 0 says what rooms it
+ * needs. ZEROTRIE_OUT_OF_MEMORY and ZEROTRIE_UNKNOWN_KIND: nothing is written. A trie of n bytes
+ * has at most n pairs.
+ *
+ * Malformed bytes list some pairs, for which all this holds too. So after ZEROTRIE_DONE, whatever
+ * the bytes are, *count is at most `ends_len` and `values_len`, no end is below the one before it,
+ * and the last is *key_bytes, which is at most `keys_len`.
+ *
+ * Allocates as much as it lists. zerotrie_list_some() lists a large trie in parts.
+ */
+ZEROTRIE_ANSWERS
+zerotrie_status zerotrie_list(zerotrie_kind_number kind, const uint8_t *bytes, size_t len,
+                              const uint8_t *prefix, size_t prefix_len, uint8_t *keys,
+                              size_t keys_len, size_t *ends, size_t ends_len, size_t *values,
+                              size_t values_len, size_t *key_bytes, size_t *count);
+
+/**
+ * Lists the next pairs of the same listing, as many as the three rooms have places for: those after
+ * the key `last` if `goes_on`, and else the first ones. `last` is the last key that the call before
+ * wrote; if no key of the listing is this one, nothing comes. It may not be in `keys`:
+ * zerotrie_listing_next() takes care of it. Sets *count to the number of pairs that were written;
+ * the rest of each room stays. ZEROTRIE_DONE: none is left, and *next_len is 0.
+ * ZEROTRIE_BUFFER_TOO_SMALL: pairs are left, and the key of the next one has *next_len bytes; if
+ * *count is 0, some room has too few places for even this one. ZEROTRIE_OUT_OF_MEMORY: the pairs
+ * that are counted are written all the same, and *next_len stays. ZEROTRIE_UNKNOWN_KIND: nothing is
+ * written.
+ *
+ * Malformed bytes list some pairs, for which all this holds too. So with each status but
+ * ZEROTRIE_UNKNOWN_KIND, whatever the bytes are, *count is at most `ends_len` and `values_len`, and
+ * of that many ends none is below the one before it or past `keys_len`. But a key may come twice
+ * there, and the parts then repeat without end: a trie of n bytes has at most n pairs, so stop
+ * after more.
+ *
+ * A call costs a look-up of `last` and what it lists. Allocates as much as the longest key and the
+ * deepest branches take.
+ */
+ZEROTRIE_ANSWERS
+zerotrie_status zerotrie_list_some(zerotrie_kind_number kind, const uint8_t *bytes, size_t len,
+                                   const uint8_t *prefix, size_t prefix_len, bool goes_on,
+                                   const uint8_t *last, size_t last_len, uint8_t *keys,
+                                   size_t keys_len, size_t *ends, size_t ends_len, size_t *values,
+                                   size_t values_len, size_t *count, size_t *next_len);
+/** @} */
+
+/** @cond */
+/* The kinds, the statuses and the faults are numbers of 32 bits to the library: do not compile with
+ * -fshort-enums. */
+typedef char zerotrie_enums_have_32_bits[sizeof(zerotrie_kind) == 4 &&
+                                                 sizeof(zerotrie_status) == 4 &&
+                                                 sizeof(zerotrie_fault) == 4
+                                             ? 1
+                                             : -1];
+
+/* NULL with the length 0. The library itself takes no null pointer, so a call of one of its
+ * functions that has such pointers passes the address of an object in place of NULL. */
+#define ZEROTRIE_SOME(pointer, some) ((pointer) ? (pointer) : (some))
+
+ZEROTRIE_MUST_USE
+ZEROTRIE_INLINE bool zerotrie_is_well_formed_or_null(zerotrie_kind_number kind,
+                                                     const uint8_t *bytes, size_t len) {
+    const uint8_t no_byte = 0;
+    return zerotrie_is_well_formed(kind, ZEROTRIE_SOME(bytes, &no_byte), len);
+}
+#define zerotrie_is_well_formed(...) zerotrie_is_well_formed_or_null(__VA_ARGS__)
+
+ZEROTRIE_MUST_USE
+ZEROTRIE_NEEDS((6))
+ZEROTRIE_INLINE bool zerotrie_get_or_null(zerotrie_kind_number kind, const uint8_t *bytes,
+                                          size_t len, const uint8_t *key, size_t key_len,
+                                          size_t *value) {
+    const uint8_t no_byte = 0;
+    return zerotrie_get(kind, ZEROTRIE_SOME(bytes, &no_byte), len, ZEROTRIE_SOME(key, &no_byte),
+                        key_len, value);
+}
+#define zerotrie_get(...) zerotrie_get_or_null(__VA_ARGS__)
+
+ZEROTRIE_INLINE zerotrie_status zerotrie_get_many_or_null(zerotrie_kind_number kind,
+                                                          const uint8_t *bytes, size_t len,
+                                                          const uint8_t *keys, size_t keys_len,
+                                                          const size_t *ends, size_t ends_len,
+                                                          size_t missing, size_t *values,
+                                                          size_t values_len) {
+    const uint8_t no_byte = 0;
+    const size_t no_number = 0;
+    size_t number;
+    return zerotrie_get_many(kind, ZEROTRIE_SOME(bytes, &no_byte), len,
+                             ZEROTRIE_SOME(keys, &no_byte), keys_len,
+                             ZEROTRIE_SOME(ends, &no_number), ends_len, missing,
+                             ZEROTRIE_SOME(values, &number), values_len);
+}
+#define zerotrie_get_many(...) zerotrie_get_many_or_null(__VA_ARGS__)
+
+ZEROTRIE_MUST_USE
+ZEROTRIE_NEEDS((6, 7))
+ZEROTRIE_INLINE bool zerotrie_longest_prefix_or_null(zerotrie_kind_number kind,
+                                                     const uint8_t *bytes, size_t len,
+                                                     const uint8_t *text, size_t text_len,
+                                                     size_t *key_len, size_t *value) {
+    const uint8_t no_byte = 0;
+    return zerotrie_longest_prefix(kind, ZEROTRIE_SOME(bytes, &no_byte), len,
+                                   ZEROTRIE_SOME(text, &no_byte), text_len, key_len, value);
+}
+#define zerotrie_longest_prefix(...) zerotrie_longest_prefix_or_null(__VA_ARGS__)
+
+ZEROTRIE_MUST_USE
+ZEROTRIE_NEEDS((8, 9))
+ZEROTRIE_INLINE bool zerotrie_longest_prefix_at_or_null(zerotrie_kind_number kind,
+                                                        const uint8_t *bytes, size_t len,
+                                                        const uint8_t *text, size_t text_len,
+                                                        const uint8_t *delimiters,
+                                                        size_t delimiters_len, size_t *prefix_len,
+                                                        size_t *value) {
+    const uint8_t no_byte = 0;
+    return zerotrie_longest_prefix_at(
+        kind, ZEROTRIE_SOME(bytes, &no_byte), len, ZEROTRIE_SOME(text, &no_byte), text_len,
+        ZEROTRIE_SOME(delimiters, &no_byte), delimiters_len, prefix_len, value);
+}
+#define zerotrie_longest_prefix_at(...) zerotrie_longest_prefix_at_or_null(__VA_ARGS__)
+
+ZEROTRIE_INLINE size_t zerotrie_common_prefixes_or_null(zerotrie_kind_number kind,
+                                                        const uint8_t *bytes, size_t len,
+                                                        const uint8_t *text, size_t text_len,
+                                                        size_t *lens, size_t lens_room,
+                                                        size_t *values, size_t values_room) {
+    const uint8_t no_byte = 0;
+    size_t number;
+    return zerotrie_common_prefixes(
+        kind, ZEROTRIE_SOME(bytes, &no_byte), len, ZEROTRIE_SOME(text, &no_byte), text_len,
+        ZEROTRIE_SOME(lens, &number), lens_room, ZEROTRIE_SOME(values, &number), values_room);
+}
+#define zerotrie_common_prefixes(...) zerotrie_common_prefixes_or_null(__VA_ARGS__)
+
+ZEROTRIE_MUST_USE
+ZEROTRIE_INLINE zerotrie_cursor zerotrie_cursor_new_or_null(const uint8_t *bytes, size_t len) {
+    const uint8_t no_byte = 0;
+    return zerotrie_cursor_new(ZEROTRIE_SOME(bytes, &no_byte), len);
+}
+#define zerotrie_cursor_new(...) zerotrie_cursor_new_or_null(__VA_ARGS__)
+
+ZEROTRIE_MUST_USE
+ZEROTRIE_INLINE zerotrie_cursor zerotrie_with_prefix_or_null(zerotrie_kind_number kind,
+                                                             const uint8_t *bytes, size_t len,
+                                                             const uint8_t *prefix,
+                                                             size_t prefix_len) {
+    const uint8_t no_byte = 0;
+    return zerotrie_with_prefix(kind, ZEROTRIE_SOME(bytes, &no_byte), len,
+                                ZEROTRIE_SOME(prefix, &no_byte), prefix_len);
+}
+#define zerotrie_with_prefix(...) zerotrie_with_prefix_or_null(__VA_ARGS__)
+
+ZEROTRIE_NEEDS((4, 6))
+ZEROTRIE_INLINE bool zerotrie_cursor_step_or_null(zerotrie_kind_number kind, const uint8_t *bytes,
+                                                  size_t len, zerotrie_cursor *cursor, uint8_t byte,
+                                                  uint8_t *edge) {
+    const uint8_t no_byte = 0;
+    return zerotrie_cursor_step(kind, ZEROTRIE_SOME(bytes, &no_byte), len, cursor, byte, edge);
+}
+#define zerotrie_cursor_step(...) zerotrie_cursor_step_or_null(__VA_ARGS__)
+
+ZEROTRIE_NEEDS((3, 4))
+ZEROTRIE_INLINE bool zerotrie_cursor_take_value_or_null(const uint8_t *bytes, size_t len,
+                                                        zerotrie_cursor *cursor, size_t *value) {
+    const uint8_t no_byte = 0;
+    return zerotrie_cursor_take_value(ZEROTRIE_SOME(bytes, &no_byte), len, cursor, value);
+}
+#define zerotrie_cursor_take_value(...) zerotrie_cursor_take_value_or_null(__VA_ARGS__)
+
+ZEROTRIE_NEEDS((4, 6, 7))
+ZEROTRIE_INLINE bool zerotrie_cursor_probe_or_null(zerotrie_kind_number kind, const uint8_t *bytes,
+                                                   size_t len, zerotrie_cursor *cursor,
+                                                   size_t index, uint8_t *edge,
+                                                   uint16_t *siblings) {
+    const uint8_t no_byte = 0;
+    return zerotrie_cursor_probe(kind, ZEROTRIE_SOME(bytes, &no_byte), len, cursor, index, edge,
+                                 siblings);
+}
+#define zerotrie_cursor_probe(...) zerotrie_cursor_probe_or_null(__VA_ARGS__)
+
+ZEROTRIE_MUST_USE
+ZEROTRIE_NEEDS((3))
+ZEROTRIE_INLINE zerotrie_status zerotrie_tagged_kind_or_null(const uint8_t *tagged, size_t len,
+                                                             uint32_t *kind) {
+    const uint8_t no_byte = 0;
+    return zerotrie_tagged_kind(ZEROTRIE_SOME(tagged, &no_byte), len, kind);
+}
+#define zerotrie_tagged_kind(...) zerotrie_tagged_kind_or_null(__VA_ARGS__)
+
+ZEROTRIE_MUST_USE
+ZEROTRIE_NEEDS((4))
+ZEROTRIE_INLINE zerotrie_fault zerotrie_first_fault_or_null(zerotrie_kind_number kind,
+                                                            const uint8_t *bytes, size_t len,
+                                                            size_t *at) {
+    const uint8_t no_byte = 0;
+    return zerotrie_first_fault(kind, ZEROTRIE_SOME(bytes, &no_byte), len, at);
+}
+#define zerotrie_first_fault(...) zerotrie_first_fault_or_null(__VA_ARGS__)
+
+ZEROTRIE_MUST_USE
+ZEROTRIE_NEEDS((6))
+ZEROTRIE_INLINE zerotrie_status zerotrie_build_or_null(zerotrie_kind_number kind,
+                                                       const zerotrie_pair *pairs, size_t count,
+                                                       uint8_t *out, size_t out_len, size_t *len) {
+    const uint8_t no_byte = 0;
+    const zerotrie_pair no_pair = { { &no_byte, 0 }, 0 };
+    uint8_t byte;
+    return zerotrie_build(kind, ZEROTRIE_SOME(pairs, &no_pair), count, ZEROTRIE_SOME(out, &byte),
+                          out_len, len);
+}
+#define zerotrie_build(...) zerotrie_build_or_null(__VA_ARGS__)
+
+ZEROTRIE_MUST_USE
+ZEROTRIE_NEEDS((6))
+ZEROTRIE_INLINE zerotrie_status zerotrie_build_sorted_or_null(zerotrie_kind_number kind,
+                                                              const zerotrie_pair *pairs,
+                                                              size_t count, uint8_t *out,
+                                                              size_t out_len, size_t *len) {
+    const uint8_t no_byte = 0;
+    const zerotrie_pair no_pair = { { &no_byte, 0 }, 0 };
+    uint8_t byte;
+    return zerotrie_build_sorted(kind, ZEROTRIE_SOME(pairs, &no_pair), count,
+                                 ZEROTRIE_SOME(out, &byte), out_len, len);
+}
+#define zerotrie_build_sorted(...) zerotrie_build_sorted_or_null(__VA_ARGS__)
+
+ZEROTRIE_MUST_USE
+ZEROTRIE_NEEDS((10))
+ZEROTRIE_INLINE zerotrie_status zerotrie_build_many_or_null(zerotrie_kind_number kind,
+                                                            const uint8_t *keys, size_t keys_len,
+                                                            const size_t *ends, size_t ends_len,
+                                                            const size_t *values, size_t values_len,
+                                                            uint8_t *out, size_t out_len,
+                                                            size_t *len) {
+    const uint8_t no_byte = 0;
+    const size_t no_number = 0;
+    uint8_t byte;
+    return zerotrie_build_many(
+        kind, ZEROTRIE_SOME(keys, &no_byte), keys_len, ZEROTRIE_SOME(ends, &no_number), ends_len,
+        ZEROTRIE_SOME(values, &no_number), values_len, ZEROTRIE_SOME(out, &byte), out_len, len);
+}
+#define zerotrie_build_many(...) zerotrie_build_many_or_null(__VA_ARGS__)
+
+ZEROTRIE_MUST_USE
+ZEROTRIE_NEEDS((4))
+ZEROTRIE_INLINE zerotrie_status zerotrie_encoded_len_or_null(zerotrie_kind_number kind,
+                                                             const zerotrie_pair *pairs,
+                                                             size_t count, size_t *len) {
+    const uint8_t no_byte = 0;
+    const zerotrie_pair no_pair = { { &no_byte, 0 }, 0 };
+    return zerotrie_encoded_len(kind, ZEROTRIE_SOME(pairs, &no_pair), count, len);
+}
+#define zerotrie_encoded_len(...) zerotrie_encoded_len_or_null(__VA_ARGS__)
+
+ZEROTRIE_MUST_USE
+ZEROTRIE_NEEDS((4, 5))
+ZEROTRIE_INLINE zerotrie_status zerotrie_why_refused_or_null(zerotrie_kind_number kind,
+                                                             const zerotrie_pair *pairs,
+                                                             size_t count, size_t *first,
+                                                             size_t *second) {
+    const uint8_t no_byte = 0;
+    const zerotrie_pair no_pair = { { &no_byte, 0 }, 0 };
+    return zerotrie_why_refused(kind, ZEROTRIE_SOME(pairs, &no_pair), count, first, second);
+}
+#define zerotrie_why_refused(...) zerotrie_why_refused_or_null(__VA_ARGS__)
+
+ZEROTRIE_MUST_USE
+ZEROTRIE_INLINE zerotrie_kind zerotrie_auto_kind_or_null(const zerotrie_pair *pairs, size_t count) {
+    const uint8_t no_byte = 0;
+    const zerotrie_pair no_pair = { { &no_byte, 0 }, 0 };
+    return zerotrie_auto_kind(ZEROTRIE_SOME(pairs, &no_pair), count);
+}
+#define zerotrie_auto_kind(...) zerotrie_auto_kind_or_null(__VA_ARGS__)
+
+ZEROTRIE_MUST_USE
+ZEROTRIE_NEEDS((6))
+ZEROTRIE_INLINE zerotrie_status zerotrie_tagged_or_null(zerotrie_kind_number kind,
+                                                        const uint8_t *bytes, size_t len,
+                                                        uint8_t *out, size_t out_len,
+                                                        size_t *tagged_len) {
+    const uint8_t no_byte = 0;
+    uint8_t byte;
+    return zerotrie_tagged(kind, ZEROTRIE_SOME(bytes, &no_byte), len, ZEROTRIE_SOME(out, &byte),
+                           out_len, tagged_len);
+}
+#define zerotrie_tagged(...) zerotrie_tagged_or_null(__VA_ARGS__)
+
+ZEROTRIE_MUST_USE
+ZEROTRIE_NEEDS((7))
+ZEROTRIE_INLINE zerotrie_status zerotrie_dense_get_or_null(const uint8_t *record, size_t len,
+                                                           const uint8_t *prefix, size_t prefix_len,
+                                                           const uint8_t *suffix, size_t suffix_len,
+                                                           size_t *value) {
+    const uint8_t no_byte = 0;
+    return zerotrie_dense_get(ZEROTRIE_SOME(record, &no_byte), len, ZEROTRIE_SOME(prefix, &no_byte),
+                              prefix_len, ZEROTRIE_SOME(suffix, &no_byte), suffix_len, value);
+}
+#define zerotrie_dense_get(...) zerotrie_dense_get_or_null(__VA_ARGS__)
+
+ZEROTRIE_MUST_USE
+ZEROTRIE_NEEDS((14))
+ZEROTRIE_INLINE zerotrie_status zerotrie_dense_build_or_null(
+    const uint8_t *prefixes, size_t prefixes_len, const size_t *prefix_ends, size_t prefix_count,
+    const uint8_t *suffixes, size_t suffixes_len, const size_t *suffix_ends, size_t suffix_count,
+    const size_t *values, size_t value_count, uint8_t delimiter, uint8_t *out, size_t out_len,
+    size_t *len) {
+    const uint8_t no_byte = 0;
+    const size_t no_number = 0;
+    uint8_t byte;
+    return zerotrie_dense_build(
+        ZEROTRIE_SOME(prefixes, &no_byte), prefixes_len, ZEROTRIE_SOME(prefix_ends, &no_number),
+        prefix_count, ZEROTRIE_SOME(suffixes, &no_byte), suffixes_len,
+        ZEROTRIE_SOME(suffix_ends, &no_number), suffix_count, ZEROTRIE_SOME(values, &no_number),
+        value_count, delimiter, ZEROTRIE_SOME(out, &byte), out_len, len);
+}
+#define zerotrie_dense_build(...) zerotrie_dense_build_or_null(__VA_ARGS__)
+
+ZEROTRIE_MUST_USE
+ZEROTRIE_NEEDS((12, 13))
+ZEROTRIE_INLINE zerotrie_status zerotrie_list_or_null(
+    zerotrie_kind_number kind, const uint8_t *bytes, size_t len, const uint8_t *prefix,
+    size_t prefix_len, uint8_t *keys, size_t keys_len, size_t *ends, size_t ends_len,
+    size_t *values, size_t values_len, size_t *key_bytes, size_t *count) {
+    const uint8_t no_byte = 0;
+    uint8_t byte;
+    size_t number;
+    return zerotrie_list(kind, ZEROTRIE_SOME(bytes, &no_byte), len, ZEROTRIE_SOME(prefix, &no_byte),
+                         prefix_len, ZEROTRIE_SOME(keys, &byte), keys_len,
+                         ZEROTRIE_SOME(ends, &number), ends_len, ZEROTRIE_SOME(values, &number),
+                         values_len, key_bytes, count);
+}
+#define zerotrie_list(...) zerotrie_list_or_null(__VA_ARGS__)
+
+ZEROTRIE_MUST_USE
+ZEROTRIE_NEEDS((15, 16))
+ZEROTRIE_INLINE zerotrie_status zerotrie_list_some_or_null(
+    zerotrie_kind_number kind, const uint8_t *bytes, size_t len, const uint8_t *prefix,
+    size_t prefix_len, bool goes_on, const uint8_t *last, size_t last_len, uint8_t *keys,
+    size_t keys_len, size_t *ends, size_t ends_len, size_t *values, size_t values_len,
+    size_t *count, size_t *next_len) {
+    const uint8_t no_byte = 0;
+    uint8_t byte;
+    size_t number;
+    return zerotrie_list_some(kind, ZEROTRIE_SOME(bytes, &no_byte), len,
+                              ZEROTRIE_SOME(prefix, &no_byte), prefix_len, goes_on,
+                              ZEROTRIE_SOME(last, &no_byte), last_len, ZEROTRIE_SOME(keys, &byte),
+                              keys_len, ZEROTRIE_SOME(ends, &number), ends_len,
+                              ZEROTRIE_SOME(values, &number), values_len, count, next_len);
+}
+#define zerotrie_list_some(...) zerotrie_list_some_or_null(__VA_ARGS__)
+/** @endcond */
+
+/** @name A trie as one value */
+/** @{ */
+
+/** A trie: its kind, and where its bytes are. The functions over it pass its parts to the function
+ * of the same name. */
+typedef struct zerotrie_trie {
+    zerotrie_kind kind;   /**< the kind */
+    zerotrie_bytes bytes; /**< the bytes without a tag */
+} zerotrie_trie;
+
+/** Returns a trie of its parts, which are not validated. `bytes` may be NULL if `len` is 0. */
+ZEROTRIE_INLINE zerotrie_trie zerotrie_trie_of(zerotrie_kind kind, const uint8_t *bytes,
+                                               size_t len) {
+    zerotrie_trie made;
+    made.kind = kind;
+    made.bytes = zerotrie_bytes_of(bytes, len);
+    return made;
+}
+
+/** Sets *kind to the kind of tagged bytes, and *trie to what follows their first byte, in place. It
+ * is not validated. Or returns ZEROTRIE_NO_TAG or ZEROTRIE_INVALID_TAG, and both stay. */
+ZEROTRIE_MUST_USE
+ZEROTRIE_NEEDS((3, 4))
+ZEROTRIE_INLINE zerotrie_status zerotrie_untagged(const uint8_t *tagged, size_t len, uint32_t *kind,
+                                                  zerotrie_bytes *trie) {
+    const zerotrie_status status = zerotrie_tagged_kind(tagged, len, kind);
+    if (status == ZEROTRIE_DONE) *trie = zerotrie_bytes_of(tagged + 1, len - 1);
     return status;
 }
 
-/* --- Building ------------------------------------------------------------------------------------------------------- */
+/** Sets *trie to the trie of tagged bytes, in place. It is not validated. Or returns
+ * ZEROTRIE_NO_TAG or ZEROTRIE_INVALID_TAG, and *trie stays. */
+ZEROTRIE_MUST_USE
+ZEROTRIE_NEEDS((3))
+ZEROTRIE_INLINE zerotrie_status zerotrie_trie_from_tagged(const uint8_t *tagged, size_t len,
+                                                          zerotrie_trie *trie) {
+    uint32_t kind = 0;
+    const zerotrie_status status = zerotrie_tagged_kind(tagged, len, &kind);
+    if (status == ZEROTRIE_DONE)
+        *trie = zerotrie_trie_of(ZEROTRIE_AS_KIND(kind), tagged + 1, len - 1);
+    return status;
+}
 
-/* Builds the trie of pairs in any order. ZEROTRIE_DONE: it is the first *len bytes of `out`, and the rest stays.
- * ZEROTRIE_BUFFER_TOO_SMALL: it has *len bytes, more than out_len, and `out` stays; call again with as many. Otherwise the
- * answer is a reason that is true of the pairs, or ZEROTRIE_OUT_OF_MEMORY, and nothing is written. Takes memory. */
-ZEROTRIE_ANSWERS
-uint32_t zerotrie_build(uint32_t kind, const zerotrie_pair *pairs, size_t count, uint8_t *out, size_t out_len, size_t *len);
+/** See zerotrie_is_well_formed(). */
+ZEROTRIE_MUST_USE
+ZEROTRIE_INLINE bool zerotrie_trie_is_well_formed(zerotrie_trie trie) {
+    return zerotrie_is_well_formed(trie.kind, trie.bytes.ptr, trie.bytes.len);
+}
 
-/* The same of pairs whose keys ascend strictly by their bytes, as memcmp orders them, in IGNORE_CASE too. Takes memory. */
-ZEROTRIE_ANSWERS
-uint32_t zerotrie_build_sorted(uint32_t kind, const zerotrie_pair *pairs, size_t count, uint8_t *out, size_t out_len,
-                               size_t *len);
+/** See zerotrie_first_fault(). */
+ZEROTRIE_MUST_USE
+ZEROTRIE_NEEDS((2))
+ZEROTRIE_INLINE zerotrie_fault zerotrie_trie_first_fault(zerotrie_trie trie, size_t *at) {
+    return zerotrie_first_fault(trie.kind, trie.bytes.ptr, trie.bytes.len, at);
+}
 
-/* How many bytes zerotrie_build_sorted() of these pairs would write; it builds nothing. Takes memory. */
-ZEROTRIE_ANSWERS
-uint32_t zerotrie_encoded_len(uint32_t kind, const zerotrie_pair *pairs, size_t count, size_t *len);
+/** See zerotrie_get(). */
+ZEROTRIE_MUST_USE
+ZEROTRIE_NEEDS((4))
+ZEROTRIE_INLINE bool zerotrie_trie_get(zerotrie_trie trie, const uint8_t *key, size_t key_len,
+                                       size_t *value) {
+    return zerotrie_get(trie.kind, trie.bytes.ptr, trie.bytes.len, key, key_len, value);
+}
 
-/* The kind for pairs if you have no wish: SIMPLE_ASCII if all keys are ASCII and there are fewer than 512, else
- * PERFECT_HASH. */
-ZEROTRIE_ANSWERS
-uint32_t zerotrie_auto_kind(const zerotrie_pair *pairs, size_t count);
+/** See zerotrie_longest_prefix(). */
+ZEROTRIE_MUST_USE
+ZEROTRIE_NEEDS((4, 5))
+ZEROTRIE_INLINE bool zerotrie_trie_longest_prefix(zerotrie_trie trie, const uint8_t *text,
+                                                  size_t text_len, size_t *key_len, size_t *value) {
+    return zerotrie_longest_prefix(trie.kind, trie.bytes.ptr, trie.bytes.len, text, text_len,
+                                   key_len, value);
+}
 
-/* Writes the kind's number and then the bytes to `out`, so that they tell their kind. ZEROTRIE_DONE and
- * ZEROTRIE_BUFFER_TOO_SMALL as in a build. */
-ZEROTRIE_ANSWERS
-uint32_t zerotrie_tagged(uint32_t kind, const uint8_t *bytes, size_t len, uint8_t *out, size_t out_len, size_t *tagged_len);
+/** See zerotrie_longest_prefix_at(). */
+ZEROTRIE_MUST_USE
+ZEROTRIE_NEEDS((6, 7))
+ZEROTRIE_INLINE bool zerotrie_trie_longest_prefix_at(zerotrie_trie trie, const uint8_t *text,
+                                                     size_t text_len, const uint8_t *delimiters,
+                                                     size_t delimiters_len, size_t *prefix_len,
+                                                     size_t *value) {
+    return zerotrie_longest_prefix_at(trie.kind, trie.bytes.ptr, trie.bytes.len, text, text_len,
+                                      delimiters, delimiters_len, prefix_len, value);
+}
 
-/* --- Dense tables --------------------------------------------------------------------------------------------------- */
+/** See zerotrie_common_prefixes(). */
+ZEROTRIE_INLINE size_t zerotrie_trie_common_prefixes(zerotrie_trie trie, const uint8_t *text,
+                                                     size_t text_len, size_t *lens,
+                                                     size_t lens_room, size_t *values,
+                                                     size_t values_room) {
+    return zerotrie_common_prefixes(trie.kind, trie.bytes.ptr, trie.bytes.len, text, text_len, lens,
+                                    lens_room, values, values_room);
+}
 
-/* A dense table is a map from two texts, a prefix and a suffix, to numbers, as one record of bytes. It is for many prefixes
- * that have the same suffixes: each value of such a row takes two bytes. A text is ASCII and hasn't the delimiter, a byte
- * below 128 that the table was built with. Either text may be empty. */
+/** See zerotrie_list(). */
+ZEROTRIE_MUST_USE
+ZEROTRIE_NEEDS((10, 11))
+ZEROTRIE_INLINE zerotrie_status zerotrie_trie_list(zerotrie_trie trie, const uint8_t *prefix,
+                                                   size_t prefix_len, uint8_t *keys,
+                                                   size_t keys_len, size_t *ends, size_t ends_len,
+                                                   size_t *values, size_t values_len,
+                                                   size_t *key_bytes, size_t *count) {
+    return zerotrie_list(trie.kind, trie.bytes.ptr, trie.bytes.len, prefix, prefix_len, keys,
+                         keys_len, ends, ends_len, values, values_len, key_bytes, count);
+}
 
-/* Looks up a suffix under a prefix in the table of a record. ZEROTRIE_DONE: its value goes to *value. ZEROTRIE_NO_ENTRY: there is
- * none. A record tells its own length: with fewer bytes the answer is ZEROTRIE_RECORD_TRUNCATED, with more
- * ZEROTRIE_TRAILING_BYTES. In all cases but the first *value stays. What zerotrie_dense_build() wrote is a record; on other
- * bytes of a record's length, which are not tested, the function answers something. Takes no memory. */
-ZEROTRIE_ANSWERS
-uint32_t zerotrie_dense_get(const uint8_t *record, size_t len, const uint8_t *prefix, size_t prefix_len,
-                            const uint8_t *suffix, size_t suffix_len, size_t *value);
+/** See zerotrie_cursor_new(). */
+ZEROTRIE_MUST_USE
+ZEROTRIE_INLINE zerotrie_cursor zerotrie_trie_cursor(zerotrie_trie trie) {
+    return zerotrie_cursor_new(trie.bytes.ptr, trie.bytes.len);
+}
 
-/* Builds the table of entries, each a prefix, a suffix and the value of both, in the order of the prefixes as memcmp orders
- * them, a shorter one first, and under one prefix in that of the suffixes; no two are equal in both. The entries are three
- * lists: the prefix of each lies in `prefixes` from where the one before it ended up to its own end, so a prefix stands
- * there once for each of its suffixes; the suffixes lie in `suffixes` likewise; and `values` has the values. An end beyond all
- * bytes stands for theirs, and one below the end before it makes an empty text. There are as many entries as the shortest
- * of `prefix_ends`, `suffix_ends` and `values` has.
+/** See zerotrie_with_prefix(). */
+ZEROTRIE_MUST_USE
+ZEROTRIE_INLINE zerotrie_cursor zerotrie_trie_with_prefix(zerotrie_trie trie, const uint8_t *prefix,
+                                                          size_t prefix_len) {
+    return zerotrie_with_prefix(trie.kind, trie.bytes.ptr, trie.bytes.len, prefix, prefix_len);
+}
+
+/** See zerotrie_cursor_step(). */
+ZEROTRIE_NEEDS((2, 4))
+ZEROTRIE_INLINE bool zerotrie_trie_step(zerotrie_trie trie, zerotrie_cursor *cursor, uint8_t byte,
+                                        uint8_t *edge) {
+    return zerotrie_cursor_step(trie.kind, trie.bytes.ptr, trie.bytes.len, cursor, byte, edge);
+}
+
+/** See zerotrie_cursor_take_value(). */
+ZEROTRIE_NEEDS((2, 3))
+ZEROTRIE_INLINE bool zerotrie_trie_take_value(zerotrie_trie trie, zerotrie_cursor *cursor,
+                                              size_t *value) {
+    return zerotrie_cursor_take_value(trie.bytes.ptr, trie.bytes.len, cursor, value);
+}
+
+/** See zerotrie_cursor_probe(). */
+ZEROTRIE_NEEDS((2, 4, 5))
+ZEROTRIE_INLINE bool zerotrie_trie_probe(zerotrie_trie trie, zerotrie_cursor *cursor, size_t index,
+                                         uint8_t *edge, uint16_t *siblings) {
+    return zerotrie_cursor_probe(trie.kind, trie.bytes.ptr, trie.bytes.len, cursor, index, edge,
+                                 siblings);
+}
+/** @} */
+
+/** @name A listing in parts */
+/** @{ */
+
+/**
+ * A listing of which one part is there at a time, in rooms of the caller. The first N pairs are
+ * those of a first part with N places.
  *
- *     const size_t prefix_ends[] = { 2, 4, 6 }, suffix_ends[] = { 2, 4, 6 }, values[] = { 8, 9, 5 };
- *     zerotrie_dense_build((const uint8_t *)"dedeen", 6, prefix_ends, 3, (const uint8_t *)"ATCHUS", 6, suffix_ends, 3,
- *                          values, 3, '/', record, sizeof record, &len);
- *
- * ZEROTRIE_DONE: the record is the first *len bytes of `out`, and the rest stays. ZEROTRIE_BUFFER_TOO_SMALL: it has *len bytes,
- * more than out_len, and `out` stays. Otherwise the answer is a reason that is true of the entries, and nothing is written:
- * ZEROTRIE_UNSORTED; ZEROTRIE_NON_ASCII, of a text or the delimiter; ZEROTRIE_ILLEGAL_DELIMITER; ZEROTRIE_CAPACITY_EXCEEDED, of more
- * than 65,535 suffixes too; or ZEROTRIE_OUT_OF_MEMORY. Takes memory. */
-ZEROTRIE_ANSWERS
-uint32_t zerotrie_dense_build(const uint8_t *prefixes, size_t prefixes_len, const size_t *prefix_ends, size_t prefix_count,
-                              const uint8_t *suffixes, size_t suffixes_len, const size_t *suffix_ends, size_t suffix_count,
-                              const size_t *values, size_t value_count, uint8_t delimiter, uint8_t *out, size_t out_len,
-                              size_t *len);
+ *     uint8_t room[512];
+ *     size_t ends[10], values[10];
+ *     zerotrie_listing part = zerotrie_listing_of(trie, (const uint8_t *)"ba", 2, room, sizeof
+ * room, ends, values, 10); while (zerotrie_listing_next(&part)) for (size_t i = 0; i < part.count;
+ * i++) printf("%.*s %zu\n", (int)zerotrie_listing_key(&part, i).len, (const char
+ * *)zerotrie_listing_key(&part, i).ptr, values[i]);
+ */
+typedef struct zerotrie_listing {
+    zerotrie_trie trie;    /**< the trie */
+    zerotrie_bytes prefix; /**< what the keys begin with */
+    uint8_t *room; /**< room for keys: one half for those of a part, the other for those of the part
+                      before */
+    size_t room_len;     /**< its bytes */
+    size_t *ends;        /**< where each key of the part ends */
+    size_t *values;      /**< the value of each */
+    size_t places;       /**< the places of `ends`, and of `values` */
+    const uint8_t *keys; /**< the keys of the part, one after another */
+    size_t count;        /**< the number of its pairs */
+    size_t next_len; /**< with ZEROTRIE_BUFFER_TOO_SMALL the length of the key that comes next */
+    size_t listed;   /**< the number of pairs of all parts so far */
+    zerotrie_bytes last;    /**< the last key of the part */
+    zerotrie_status status; /**< what the part came to, as zerotrie_list_some() returned it */
+} zerotrie_listing;
 
-/* --- Listing -------------------------------------------------------------------------------------------------------- */
+/** Returns a listing of the pairs whose keys begin with a prefix, before its first part. The key of
+ * a pair has room if it has at most half of `room_len` bytes. */
+ZEROTRIE_INLINE zerotrie_listing zerotrie_listing_of(zerotrie_trie trie, const uint8_t *prefix,
+                                                     size_t prefix_len, uint8_t *room,
+                                                     size_t room_len, size_t *ends, size_t *values,
+                                                     size_t places) {
+    zerotrie_listing made;
+    made.trie = trie;
+    made.prefix = zerotrie_bytes_of(prefix, prefix_len);
+    made.room = room;
+    made.room_len = room_len;
+    made.ends = ends;
+    made.values = values;
+    made.places = places;
+    made.keys = room;
+    made.count = made.next_len = made.listed = 0;
+    made.last = zerotrie_bytes_of("", 0);
+    made.status = ZEROTRIE_BUFFER_TOO_SMALL;
+    return made;
+}
 
-/* Lists the pairs whose keys begin with the prefix (an empty one: all), in the order of the trie's bytes, which in
- * SIMPLE_ASCII is that of the keys. The keys go to `keys` one after another, where each ends to `ends`, the values to
- * `values`; the rest of each room stays. *key_bytes and *count tell how long they are. With ZEROTRIE_BUFFER_TOO_SMALL some room
- * has too few places, and nothing is written to such a one; so a call with three lengths of 0 tells what rooms to take.
- * ZEROTRIE_OUT_OF_MEMORY and ZEROTRIE_UNKNOWN_KIND: nothing is written. A trie of n bytes has at most n pairs.
- *
- * Bytes that are no trie list some pairs, of which all this holds too. So after ZEROTRIE_DONE, whatever the bytes are, *count is
- * at most ends_len and values_len, no end is below the one before it, and the last is *key_bytes, which is at most keys_len.
- *
- * Takes memory, as much as it lists. zerotrie_list_some() lists a large trie in parts. */
-ZEROTRIE_ANSWERS
-uint32_t zerotrie_list(uint32_t kind, const uint8_t *bytes, size_t len, const uint8_t *prefix, size_t prefix_len,
-                       uint8_t *keys, size_t keys_len, size_t *ends, size_t ends_len, size_t *values, size_t values_len,
-                       size_t *key_bytes, size_t *count);
+/** Returns the key of number `i` of the part, in place; `i` is below `count`. */
+ZEROTRIE_NEEDS((1))
+ZEROTRIE_INLINE zerotrie_bytes zerotrie_listing_key(const zerotrie_listing *listing, size_t i) {
+    const size_t from = i == 0 ? 0 : listing->ends[i - 1];
+    return zerotrie_bytes_of(listing->keys + from, listing->ends[i] - from);
+}
 
-/* Lists the next pairs of the same listing, as many as the three rooms have places for: those after the key `last` if
- * `goes_on`, and else the first ones. `last` is the last key that the call before wrote; if no key of the listing is this
- * one, nothing comes. It may not lie in `keys`, so copy it. *count tells how many pairs were written; the rest of each room
- * stays. ZEROTRIE_DONE: none is left, and *next_len is 0. ZEROTRIE_BUFFER_TOO_SMALL: pairs are left, and the key of the next one
- * takes *next_len bytes; if *count is 0, some room has too few places for even this one. ZEROTRIE_OUT_OF_MEMORY: the pairs that
- * are counted are written all the same, and *next_len stays. ZEROTRIE_UNKNOWN_KIND: nothing is written.
- *
- * Bytes that are no trie list some pairs, of which all this holds too. So with each status but ZEROTRIE_UNKNOWN_KIND, whatever the
- * bytes are, *count is at most ends_len and values_len, and of that many ends none is below the one before it or beyond
- * keys_len. But a key may come twice there, and the parts then come round without end: a trie of n bytes has at most n pairs,
- * so stop after more.
- *
- * A call costs a look-up of `last` and what it lists. Takes memory, as much as the longest key and the deepest branches. */
-ZEROTRIE_ANSWERS
-uint32_t zerotrie_list_some(uint32_t kind, const uint8_t *bytes, size_t len, const uint8_t *prefix, size_t prefix_len,
-                            bool goes_on, const uint8_t *last, size_t last_len, uint8_t *keys, size_t keys_len,
-                            size_t *ends, size_t ends_len, size_t *values, size_t values_len, size_t *count,
-                            size_t *next_len);
+/**
+ * Lists the next part. Returns whether it has a pair. If not, `status` says why: ZEROTRIE_DONE if
+ * none is left; ZEROTRIE_BUFFER_TOO_SMALL if the next key, of `next_len` bytes, has no room, or
+ * there are no places; or an error. The keys of the part before stay where they are, and its ends
+ * and values do not. On malformed bytes too the parts end. Allocates.
+ */
+ZEROTRIE_NEEDS((1))
+ZEROTRIE_INLINE bool zerotrie_listing_next(zerotrie_listing *listing) {
+    const size_t half = listing->room_len / 2;
+    uint8_t *const keys =
+        half > 0 && listing->keys == listing->room ? listing->room + half : listing->room;
+    listing->count = 0;
+    if (listing->status != ZEROTRIE_BUFFER_TOO_SMALL) return false;
+    if (listing->listed > listing->trie.bytes.len) {
+        listing->status = ZEROTRIE_DONE;
+        return false;
+    }
+    listing->status = zerotrie_list_some(
+        listing->trie.kind, listing->trie.bytes.ptr, listing->trie.bytes.len, listing->prefix.ptr,
+        listing->prefix.len, listing->listed > 0, listing->last.ptr, listing->last.len, keys, half,
+        listing->ends, listing->places, listing->values, listing->places, &listing->count,
+        &listing->next_len);
+    listing->keys = keys;
+    listing->listed += listing->count;
+    if (listing->count > 0) listing->last = zerotrie_listing_key(listing, listing->count - 1);
+    return listing->count > 0;
+}
+/** @} */
 
-/* --- Texts ---------------------------------------------------------------------------------------------------------- */
+/** @name Texts */
+/** @{ */
 
-/* The text of a status, in UTF-8, as "the keys do not ascend: sort them by their bytes, each once". It is never freed. */
+/** Returns the text of a status, in UTF-8, as "the keys do not ascend: sort them by their bytes,
+ * each once". It is never freed. */
 ZEROTRIE_INLINE const char *zerotrie_status_text(uint32_t status) {
     switch (status) {
     case ZEROTRIE_DONE: return "Done";
-    case ZEROTRIE_NON_ASCII: return "a key has a byte that is not ASCII: take a kind of trie for keys of any bytes";
+    case ZEROTRIE_NON_ASCII:
+        return "a key has a byte that is not ASCII: take a kind of trie for keys of any bytes";
     case ZEROTRIE_CAPACITY_EXCEEDED:
-        return "the text of the trie would be too long for its kind: take extended capacity, kind 7, or fewer pairs; a dense "
+        return "the text of the trie would be too long for its kind: take extended capacity, kind "
+               "7, or fewer pairs; a dense "
                "table has at most 65,535 suffixes";
     case ZEROTRIE_NO_PERFECT_HASH:
-        return "no perfect hash was found for the edges of a branch: take a kind without hashed tables, or change a key";
-    case ZEROTRIE_MIXED_CASE: return "two keys begin alike but for the case of a letter: lower-case the keys first";
-    case ZEROTRIE_ILLEGAL_DELIMITER: return "a text has the delimiter in it: take a delimiter that none has";
+        return "no perfect hash was found for the edges of a branch: take a kind without hashed "
+               "tables, or change a key";
+    case ZEROTRIE_MIXED_CASE:
+        return "two keys begin alike but for the case of a letter: lower-case the keys first";
+    case ZEROTRIE_ILLEGAL_DELIMITER:
+        return "a text has the delimiter in it: take a delimiter that none has";
     case ZEROTRIE_DUPLICATE_KEY: return "a key was given twice: give each key once";
     case ZEROTRIE_UNSORTED: return "the keys do not ascend: sort them by their bytes, each once";
     case ZEROTRIE_BUFFER_TOO_SMALL: return "the array is too small for the trie: take a larger one";
-    case ZEROTRIE_BUFFER_TOO_LARGE: return "the array is too large for the trie: take a smaller one";
+    case ZEROTRIE_BUFFER_TOO_LARGE:
+        return "the array is too large for the trie: take a smaller one";
     case ZEROTRIE_STACK_EXCEEDED: return "the stack is too small for the trie: take a larger one";
     case ZEROTRIE_OUT_OF_MEMORY: return "out of memory";
     case ZEROTRIE_UNKNOWN_KIND: return "the number is no kind of trie: take 0, 3, 7 or 8";
     case ZEROTRIE_NO_TAG: return "there are no bytes, and so no tag: give all of the tagged bytes";
-    case ZEROTRIE_INVALID_TAG: return "the first byte is the tag of no kind: give bytes that were written with a tag";
+    case ZEROTRIE_INVALID_TAG:
+        return "the first byte is the tag of no kind: give bytes that were written with a tag";
     case ZEROTRIE_NO_ENTRY: return "the table has no such entry";
     case ZEROTRIE_RECORD_TRUNCATED: return "the record is cut: give all of its bytes";
     case ZEROTRIE_TRAILING_BYTES: return "bytes follow the record: give its bytes alone";
@@ -370,7 +1139,30 @@ ZEROTRIE_INLINE const char *zerotrie_status_text(uint32_t status) {
     }
 }
 
+/** Returns the text of a fault, in UTF-8, as "a value follows a value". It is never freed. */
+ZEROTRIE_INLINE const char *zerotrie_fault_text(uint32_t fault) {
+    switch (fault) {
+    case ZEROTRIE_NO_FAULT: return "the bytes are valid";
+    case ZEROTRIE_FAULT_NO_NODE: return "no whole node of this kind of trie begins here";
+    case ZEROTRIE_FAULT_NO_SPANS: return "a span stands in a kind of trie that has none";
+    case ZEROTRIE_FAULT_UNEXPECTED_END: return "the bytes end where a key has to go on";
+    case ZEROTRIE_FAULT_VALUE_AFTER_VALUE: return "a value follows a value";
+    case ZEROTRIE_FAULT_SPAN_AFTER_SPAN: return "a span follows a span";
+    case ZEROTRIE_FAULT_EMPTY_SPAN: return "a span is empty";
+    case ZEROTRIE_FAULT_ASCII_IN_SPAN: return "a span has an ASCII byte";
+    case ZEROTRIE_FAULT_WRONG_TABLE:
+        return "the search table of a branch is not one of this kind of trie";
+    case ZEROTRIE_FAULT_WRONG_WIDTH: return "the offsets of a branch do not have the least width";
+    case ZEROTRIE_FAULT_WRONG_OFFSETS:
+        return "the offsets of a branch do not ascend within its targets";
+    default: return zerotrie_status_text(fault);
+    }
+}
+/** @} */
+
+/** @cond */
 #ifdef __cplusplus
 }
 #endif
+/** @endcond */
 #endif

@@ -1,23 +1,31 @@
-// zerotrie for C++17 and later, over zerotrie.h, whose rules hold here too. Keys are std::string_view, of any bytes; a literal with
-// a zero in it is written "a\0b"sv.
-//
-//     const std::map<std::string, size_t> map{{"foo", 1}, {"bar", 2}, {"bazzoo", 3}};
-//     const std::string bytes = zerotrie::build(zerotrie::Kind::SimpleAscii, map);
-//     const zerotrie::Trie trie(zerotrie::Kind::SimpleAscii, bytes);
-//     trie.get("bar"); // 2
-//
-// A file that the program `zerotrie build` wrote is tagged: Trie::from_tagged(file) reads it, and Trie::checked(kind, file) would
-// take its first byte for that of every key. The table that `zerotrie code --lang c --name names` wrote has a zero after it, which
-// is not of the trie: Trie(Kind(names_kind), Bytes(names_bytes, names_len)).
-//
-// Bytes, Trie, Cursor and DenseTable are views: copying one copies no bytes, and the bytes that it was made of have to outlive it,
-// as those of a std::string_view. A Trie is made at no cost: a class that owns bytes makes one of them when it is asked, and keeps
-// none, which a copy or a move of the class would leave behind. Items owns what it lists.
-//
-// What is refused is thrown as Error, a value below 0 or from 2^64 on as std::out_of_range, and out of memory as std::bad_alloc;
-// what is noexcept throws nothing. With exceptions off (-fno-exceptions) std::abort() ends the program instead: there
-// zerotrie_build() and the other functions of zerotrie.h answer a status. Many threads may ask one Trie at once; a Cursor is for
-// one thread at a time.
+/// @file
+/// @brief zerotrie for C++17 and later, over zerotrie.h, whose rules hold here too. Keys are
+/// std::string_view, of any bytes; a literal with a zero in it is written "a\0b"sv.
+///
+///     const zerotrie::Map map{{"foo", 1}, {"bar", 2}, {"bazzoo", 3}};
+///     map.get("bar"); // 2
+///     for (const auto [key, value] : map) use(key, value);
+///
+/// A zerotrie::Map owns its bytes. A zerotrie::Trie reads bytes that are elsewhere, as in a file or
+/// a constant:
+///
+///     const std::string bytes = zerotrie::build(zerotrie::Kind::SimpleAscii, pairs);
+///     const zerotrie::Trie trie(zerotrie::Kind::SimpleAscii, bytes);
+///
+/// A file that the program `zerotrie build` wrote is tagged: Trie::from_tagged(file) reads it, and
+/// Trie::checked(kind, file) would take its first byte for that of every key. The table that
+/// `zerotrie code --lang c --name names` wrote has a zero after it, which is no part of the trie:
+/// Trie(Kind(names_kind), Bytes(names_bytes, names_len)).
+///
+/// Bytes, Trie, Cursor, Stream and DenseTable are views: copying one copies no bytes, and the bytes
+/// that it was made of have to outlive it, as those of a std::string_view. clang warns of some that
+/// do not. Map owns its bytes, and Items what it lists.
+///
+/// Errors are thrown as Error, a value below 0 or from 2^64 on as std::out_of_range, and out of
+/// memory as std::bad_alloc; what is noexcept throws nothing. With exceptions off (-fno-exceptions)
+/// std::abort() ends the program instead: there zerotrie_build() and the other functions of
+/// zerotrie.h return a status. Many threads may ask one Trie or Map at once; a Cursor, and an
+/// iterator, is for one thread at a time.
 #pragma once
 #include "zerotrie.h"
 
@@ -27,6 +35,7 @@
 #include <cstdlib>
 #include <initializer_list>
 #include <iterator>
+#include <memory>
 #include <new>
 #include <optional>
 #include <stdexcept>
@@ -40,26 +49,86 @@
 #include <span>
 #endif
 
+/// @cond
+#if defined(__has_cpp_attribute)
+#if __has_cpp_attribute(clang::lifetimebound)
+#define ZEROTRIE_LIFETIMEBOUND [[clang::lifetimebound]]
+#endif
+#endif
+#ifndef ZEROTRIE_LIFETIMEBOUND
+#define ZEROTRIE_LIFETIMEBOUND
+#endif
+#ifdef __clang__
+#define ZEROTRIE_VIEW [[gsl::Pointer]]
+#else
+#define ZEROTRIE_VIEW
+#endif
+/// @endcond
+
+/// Maps from byte strings to numbers, as flat bytes that are read in place.
 namespace zerotrie {
 
+/// The version of this header: its first number.
+inline constexpr uint32_t version_major = ZEROTRIE_VERSION_MAJOR;
+/// Its second number.
+inline constexpr uint32_t version_minor = ZEROTRIE_VERSION_MINOR;
+/// Its third number.
+inline constexpr uint32_t version_patch = ZEROTRIE_VERSION_PATCH;
+/// The same as one number, which is 1002003 in version 1.2.3.
+inline constexpr uint32_t version = ZEROTRIE_VERSION;
+/// Returns the version of the library, which may be a later one.
+[[nodiscard]] inline uint32_t library_version() noexcept { return zerotrie_version(); }
+
+/// The kind of a trie.
 enum class Kind : uint32_t {
+    /// ASCII keys
     SimpleAscii = ZEROTRIE_SIMPLE_ASCII,
+    /// any bytes; a branch of 16 edges or more is a perfect hash
     PerfectHash = ZEROTRIE_PERFECT_HASH,
+    /// the same, and a branch may reach 2^32 bytes
     ExtendedCapacity = ZEROTRIE_EXTENDED_CAPACITY,
+    /// ASCII keys, whose letters are found in either case
     IgnoreCase = ZEROTRIE_IGNORE_CASE,
 };
 
-// Why something was refused: what() is the text of `status`.
-class Error : public std::runtime_error {
-public:
-    explicit Error(uint32_t number) : std::runtime_error(zerotrie_status_text(number)), status(number) {}
-    uint32_t status;
+/// Where bytes are malformed, and by which rule of the format.
+struct Fault {
+    zerotrie_fault cause; ///< the rule that fails first
+    size_t place;         ///< the number of bytes before the node where it fails
 };
 
+/// Why a call fails. what() is the text of `status`, with the keys or the place that are the cause.
+class Error : public std::runtime_error {
+public:
+    /// The error of a status.
+    explicit Error(uint32_t number)
+        : std::runtime_error(zerotrie_status_text(number)), status(number) {}
+    /// The error of a build that pairs are the cause of.
+    Error(uint32_t number, std::pair<size_t, size_t> cause, const std::string &keys)
+        : std::runtime_error(std::string(zerotrie_status_text(number)) + " (" + keys + ")"),
+          status(number), pairs(cause) {}
+    /// The error of malformed bytes.
+    explicit Error(const Fault &malformed)
+        : std::runtime_error(std::string(zerotrie_fault_text(malformed.cause)) + ", at byte " +
+                             std::to_string(malformed.place)),
+          status(malformed.cause == ZEROTRIE_FAULT_OF_NO_KIND ? ZEROTRIE_UNKNOWN_KIND
+                                                              : ZEROTRIE_DONE),
+          fault(malformed) {}
+    /// A zerotrie_status; ZEROTRIE_DONE for malformed bytes.
+    uint32_t status;
+    /// The places of the two pairs that are the cause among those that were given, from 0 on; equal
+    /// if one is.
+    std::optional<std::pair<size_t, size_t>> pairs;
+    /// Where bytes are malformed.
+    std::optional<Fault> fault;
+};
+
+/// @cond
 namespace detail {
 template <class T> using Bare = std::remove_cv_t<std::remove_reference_t<T>>;
 template <class T, class U> constexpr bool is = std::is_same_v<std::remove_cv_t<T>, U>;
-template <class T> constexpr bool is_byte = sizeof(T) == 1 && (std::is_integral_v<T> || is<T, std::byte>);
+template <class T>
+constexpr bool is_byte = sizeof(T) == 1 && (std::is_integral_v<T> || is<T, std::byte>);
 // An array of characters is mostly a string literal, whose last zero is no byte of a trie.
 template <class T>
 constexpr bool is_literal = std::is_array_v<T> && !is<std::remove_extent_t<T>, unsigned char> &&
@@ -72,38 +141,56 @@ template <class T, size_t N> constexpr bool is_view<std::span<T, N>> = true;
 // Whether a T && can lend the bytes of a trie.
 template <class T, class = void> constexpr bool lends_bytes = false;
 template <class T>
-constexpr bool lends_bytes<T, std::void_t<decltype(std::data(std::declval<T &>())), decltype(std::size(std::declval<T &>()))>> =
-    is_byte<std::remove_pointer_t<decltype(std::data(std::declval<T &>()))>> && !is_literal<Bare<T>> &&
-    !is<Bare<T>, std::string_view> && (std::is_lvalue_reference_v<T> || is_view<Bare<T>>);
+constexpr bool lends_bytes<T, std::void_t<decltype(std::data(std::declval<T &>())),
+                                          decltype(std::size(std::declval<T &>()))>> =
+    is_byte<std::remove_pointer_t<decltype(std::data(std::declval<T &>()))>> &&
+    !is_literal<Bare<T>> && !is<Bare<T>, std::string_view> &&
+    (std::is_lvalue_reference_v<T> || is_view<Bare<T>>);
 // A text that may be gone after the statement, such as a std::string that a function returns.
 template <class T>
-using Passing = std::enable_if_t<!std::is_lvalue_reference_v<T> && std::is_convertible_v<T, std::string_view> &&
-                                 std::is_class_v<Bare<T>> && !is<Bare<T>, std::string_view>>;
+using Passing =
+    std::enable_if_t<!std::is_lvalue_reference_v<T> && std::is_convertible_v<T, std::string_view> &&
+                     std::is_class_v<Bare<T>> && !is<Bare<T>, std::string_view>>;
 } // namespace detail
+/// @endcond
 
-// The bytes of a trie or of a table, which lie elsewhere and have to outlive it. They are made of a std::string_view; of a
-// std::string, a std::vector<uint8_t>, an array of uint8_t or the like that has a name; and of a pointer and a length. No temporary
-// std::string makes them, in braces neither, as it would be gone, and no `const char *`, as it would end at its first zero: write
-// "..."sv.
-class Bytes {
+/// The bytes of a trie or of a table, which are elsewhere and have to outlive it. They are made of
+/// a std::string_view; of a std::string, a std::vector<uint8_t>, an array of uint8_t or the like
+/// that has a name; and of a pointer and a length. A temporary std::string does not make them, in
+/// braces neither, as it would be gone, nor does a `const char *`, as it would end at its first
+/// zero: write "..."sv.
+class ZEROTRIE_VIEW Bytes {
 public:
+    /// No bytes.
     constexpr Bytes() noexcept = default;
-    constexpr Bytes(std::string_view bytes) noexcept : bytes_(bytes) {}
-    Bytes(const void *ptr, size_t len) noexcept : bytes_(static_cast<const char *>(ptr), len) {}
+    /// The bytes of a view.
+    constexpr Bytes(std::string_view bytes ZEROTRIE_LIFETIMEBOUND) noexcept : bytes_(bytes) {}
+    /// The bytes from a pointer on, which may be null if there are none.
+    Bytes(const void *ptr ZEROTRIE_LIFETIMEBOUND, size_t len) noexcept
+        : bytes_(static_cast<const char *>(ptr), len) {}
+    /// The bytes of a container that has a name.
     template <class T, class = std::enable_if_t<detail::lends_bytes<T>>>
-    Bytes(T &&bytes) noexcept : Bytes(std::data(bytes), std::size(bytes)) {}
+    Bytes(T &&bytes ZEROTRIE_LIFETIMEBOUND) noexcept : Bytes(std::data(bytes), std::size(bytes)) {}
     template <class T, class = detail::Passing<T>, class = void> Bytes(T &&) = delete;
     Bytes(const char *) = delete;
+    /// The bytes as a view.
     [[nodiscard]] constexpr std::string_view view() const noexcept { return bytes_; }
 
 private:
     std::string_view bytes_;
 };
 
+/// @cond
 namespace detail {
-inline zerotrie_bytes of(std::string_view text) noexcept { return zerotrie_bytes_of(text.data(), text.size()); }
-inline std::string_view text_of(zerotrie_bytes bytes) noexcept { return {reinterpret_cast<const char *>(bytes.ptr), bytes.len}; }
-inline uint8_t *room(std::string &text) noexcept { return reinterpret_cast<uint8_t *>(text.data()); }
+inline zerotrie_bytes of(std::string_view text) noexcept {
+    return zerotrie_bytes_of(text.data(), text.size());
+}
+inline std::string_view text_of(zerotrie_bytes bytes) noexcept {
+    return {reinterpret_cast<const char *>(bytes.ptr), bytes.len};
+}
+inline uint8_t *room(std::string &text) noexcept {
+    return reinterpret_cast<uint8_t *>(text.data());
+}
 // Throws, or ends the program if exceptions are off.
 template <class Exception> [[noreturn]] void refuse([[maybe_unused]] const Exception &why) {
 #ifdef __cpp_exceptions
@@ -125,9 +212,24 @@ inline void check(uint32_t status) {
     if (status == ZEROTRIE_OUT_OF_MEMORY) refuse(std::bad_alloc());
     if (status != ZEROTRIE_DONE) refuse(Error(status));
 }
-// What a call writes into a room of this length, or else into one of the length that it asks for. Keys that lie in one another may
-// have far more bytes together than their trie, so the first room has a limit.
-template <class Call> std::string written(size_t len, Call call) {
+// A key as the text of an error shows it: its first bytes, those that are not ASCII as numbers.
+inline std::string shown(zerotrie_bytes key) {
+    const size_t most = 40;
+    std::string text = "\"";
+    for (size_t i = 0; i < std::min(key.len, most); i++) {
+        const char *const digits = "0123456789abcdef";
+        const uint8_t byte = key.ptr[i];
+        if (byte >= ' ' && byte < 127)
+            text += static_cast<char>(byte);
+        else
+            text += {'\\', 'x', digits[byte / 16], digits[byte % 16]};
+    }
+    return text + (key.len > most ? "..\"" : "\"");
+}
+// What a call writes into a room of this length, or else into one of the length that it asks for.
+// Keys that overlap may have far more bytes together than their trie, so the first room has a
+// limit. `fail` gets the status of an error.
+template <class Call, class Fail> std::string written(size_t len, Call call, Fail fail) {
     std::string out;
     len = std::min<size_t>(len, 1 << 30);
     uint32_t status = ZEROTRIE_BUFFER_TOO_SMALL;
@@ -135,46 +237,69 @@ template <class Call> std::string written(size_t len, Call call) {
         out.resize(len);
         status = call(room(out), out.size(), &len);
     }
-    check(status);
+    fail(status);
     out.resize(len);
     out.shrink_to_fit();
     return out;
 }
 
-// Whether what an iterator leads to stays while the range is gone over: it is no object of the iterator's own, nor made as it goes.
+// Whether what an iterator leads to stays while the range is gone over: it is no object of the
+// iterator's own, nor made as it goes.
 template <class Iterator, class = void> constexpr bool stays = false;
 template <class Iterator>
-constexpr bool stays<Iterator, std::void_t<typename std::iterator_traits<Iterator>::iterator_category>> =
-    std::is_base_of_v<std::forward_iterator_tag, typename std::iterator_traits<Iterator>::iterator_category> &&
-    std::is_lvalue_reference_v<decltype(*std::declval<Iterator &>())>;
+constexpr bool
+    stays<Iterator, std::void_t<typename std::iterator_traits<Iterator>::iterator_category>> =
+        std::is_base_of_v<std::forward_iterator_tag,
+                          typename std::iterator_traits<Iterator>::iterator_category>
+            &&std::is_lvalue_reference_v<decltype(*std::declval<Iterator &>())>;
 
-// Whether a structured binding of an element calls a get() that is not the library's, and so may make the key as it goes.
+// Whether a structured binding of an element calls a get() that is not the library's, and so may
+// make the key as it goes.
 template <class T, class = void> constexpr bool makes_key = false;
-template <class T> constexpr bool makes_key<T, std::void_t<decltype(std::tuple_size<T>::value)>> = true;
+template <class T>
+constexpr bool makes_key<T, std::void_t<decltype(std::tuple_size<T>::value)>> = true;
 template <class A, class B> constexpr bool makes_key<std::pair<A, B>> = false;
 template <class... A> constexpr bool makes_key<std::tuple<A...>> = false;
 template <class T, size_t N> constexpr bool makes_key<std::array<T, N>> = false;
 
-// Pairs as C has them, of a range whose elements have a key, which makes a std::string_view, and a value. Keys that would not stay
-// are copied.
+// Pairs as C has them, of a range whose elements have a key, which makes a std::string_view, and a
+// value. Keys that would not stay are copied.
 class Pairs {
 public:
     template <class Range> explicit Pairs(Range &range) {
         using std::begin;
-        constexpr bool keys_stay = stays<Bare<decltype(begin(range))>> && !makes_key<Bare<decltype(*begin(range))>>;
+        static_assert(!std::is_convertible_v<decltype(*begin(range)), std::string_view>,
+                      "these are keys without values: give pairs of a key and a value, as a "
+                      "std::map or a std::vector of std::pair");
+        constexpr bool keys_stay =
+            stays<Bare<decltype(begin(range))>> && !makes_key<Bare<decltype(*begin(range))>>;
         for (auto &&[key, value] : range) {
             const std::string_view text(key);
             if constexpr (!keys_stay) texts_ += text;
             pairs_.push_back({of(text), number_of(value)});
         }
         if constexpr (!keys_stay) lead_to_texts();
-        // so that there is a place to point at
-        pairs_.reserve(1);
     }
     Pairs(const Pairs &) = delete;
     Pairs &operator=(const Pairs &) = delete;
     const zerotrie_pair *data() const noexcept { return pairs_.data(); }
     size_t size() const noexcept { return pairs_.size(); }
+    // Throws the error of a build of these pairs in this kind, with the pairs that are the cause.
+    void check(Kind kind, uint32_t status) const {
+        if (status == ZEROTRIE_OUT_OF_MEMORY || status == ZEROTRIE_UNKNOWN_KIND)
+            return detail::check(status);
+        if (status == ZEROTRIE_DONE) return;
+        size_t first = 0, second = 0;
+        if (status == ZEROTRIE_UNSORTED)
+            first = first_unsorted(), second = first + 1;
+        else if (zerotrie_why_refused(static_cast<uint32_t>(kind), data(), size(), &first,
+                                      &second) != status)
+            detail::check(status);
+        std::string keys = "pair " + std::to_string(first) + ", " + shown(pairs_[first].key);
+        if (second != first)
+            keys += "; pair " + std::to_string(second) + ", " + shown(pairs_[second].key);
+        refuse(Error(status, {first, second}, keys));
+    }
     // As many bytes as a build of the pairs takes as a rule.
     size_t most_bytes() const noexcept {
         size_t len = 16;
@@ -183,6 +308,12 @@ public:
     }
 
 private:
+    size_t first_unsorted() const noexcept {
+        size_t at = 0;
+        while (at + 2 < pairs_.size() && text_of(pairs_[at].key) < text_of(pairs_[at + 1].key))
+            at++;
+        return at;
+    }
     void lead_to_texts() noexcept {
         const uint8_t *at = room(texts_);
         for (auto &pair : pairs_) pair.key.ptr = at, at += pair.key.len;
@@ -191,21 +322,24 @@ private:
     std::vector<zerotrie_pair> pairs_;
 };
 
-// The parts of a listing, one after another. Each has twice the room of the one before, up to a megabyte, and places for keys as
-// long as those so far.
+// The parts of a listing, one after another. Each has twice the room of the one before, up to a
+// megabyte, and places for keys as long as those so far.
 class Parts {
 public:
-    Parts(Kind kind, Bytes bytes, std::string_view prefix) : kind_(kind), trie_(of(bytes.view())), prefix_(of(prefix)) {}
+    Parts(Kind kind, Bytes bytes, std::string_view prefix, size_t first_room = 4096)
+        : kind_(kind), trie_(of(bytes.view())), prefix_(prefix), room_(first_room) {}
     // Goes on to the next part. false: none is left.
     bool next() {
         if (status_ != ZEROTRIE_BUFFER_TOO_SMALL) return false;
-        const size_t places = room_ / std::max<size_t>(listed_ == 0 ? 0 : bytes_listed_ / listed_, 4) + 1;
+        const size_t places =
+            room_ / std::max<size_t>(listed_ == 0 ? 0 : bytes_listed_ / listed_, 4) + 1;
         keys_.resize(room_), ends_.resize(places), values_.resize(places);
-        const auto last = of(last_);
+        const auto last = of(last_), prefix = of(prefix_);
         size_t next_len = 0;
-        status_ = zerotrie_list_some(static_cast<uint32_t>(kind_), trie_.ptr, trie_.len, prefix_.ptr, prefix_.len, listed_ > 0,
-                                     last.ptr, last.len, room(keys_), room_, ends_.data(), places, values_.data(), places, &count_,
-                                     &next_len);
+        status_ =
+            zerotrie_list_some(static_cast<uint32_t>(kind_), trie_.ptr, trie_.len, prefix.ptr,
+                               prefix.len, listed_ > 0, last.ptr, last.len, room(keys_), room_,
+                               ends_.data(), places, values_.data(), places, &count_, &next_len);
         if (status_ != ZEROTRIE_BUFFER_TOO_SMALL) check(status_);
         room_ = std::max(std::min<size_t>(2 * room_, 1 << 20), next_len);
         listed_ += count_, bytes_listed_ += keys().size();
@@ -220,55 +354,71 @@ public:
         return {std::string_view(keys_).substr(from, ends_[i] - from), values_[i]};
     }
     // All keys of the part, one after another; where each ends; and their values.
-    std::string_view keys() const noexcept { return std::string_view(keys_).substr(0, count_ == 0 ? 0 : ends_[count_ - 1]); }
+    std::string_view keys() const noexcept {
+        return std::string_view(keys_).substr(0, count_ == 0 ? 0 : ends_[count_ - 1]);
+    }
     const size_t *ends() const noexcept { return ends_.data(); }
     const size_t *values() const noexcept { return values_.data(); }
 
 private:
     Kind kind_;
-    zerotrie_bytes trie_, prefix_;
+    zerotrie_bytes trie_;
+    std::string prefix_;
     uint32_t status_ = ZEROTRIE_BUFFER_TOO_SMALL;
-    size_t room_ = 4096, count_ = 0, listed_ = 0, bytes_listed_ = 0;
+    size_t room_, count_ = 0, listed_ = 0, bytes_listed_ = 0;
     std::string keys_, last_;
     std::vector<size_t> ends_, values_;
 };
-} // namespace detail
 
-// A place in a trie. A copy is a place of its own. The trie's bytes have to outlive it.
-class Cursor {
+// The pairs that overload `->` of an iterator whose elements are made as it is read.
+struct Pointer {
+    std::pair<std::string_view, size_t> pair;
+    const std::pair<std::string_view, size_t> *operator->() const noexcept { return &pair; }
+};
+} // namespace detail
+/// @endcond
+
+/// A place in a trie. A copy is another place. The trie's bytes have to outlive it.
+class ZEROTRIE_VIEW Cursor {
 public:
-    Cursor(Kind kind, Bytes bytes) noexcept : kind_(kind), bytes_(bytes.view()) {
+    /// Before all keys of a trie.
+    Cursor(Kind kind, Bytes bytes ZEROTRIE_LIFETIMEBOUND) noexcept
+        : kind_(kind), bytes_(bytes.view()) {
         const auto at = detail::of(bytes_);
         cursor_ = zerotrie_cursor_new(at.ptr, at.len);
     }
-    // Goes along the edge that is the byte to the kind, and answers it as it is stored. nullopt: nothing is left.
+    /// Follows the edge for the byte, as the kind compares bytes, and returns the edge's byte.
+    /// nullopt: there is none, and nothing is left.
     std::optional<uint8_t> step(uint8_t byte) noexcept {
         const auto at = detail::of(bytes_);
         uint8_t edge;
-        if (!zerotrie_cursor_step(number(), at.ptr, at.len, &cursor_, byte, &edge)) return std::nullopt;
+        if (!zerotrie_cursor_step(number(), at.ptr, at.len, &cursor_, byte, &edge))
+            return std::nullopt;
         return edge;
     }
-    // The same along edge number `index`, from 0; answers its byte and how many edges there are.
+    /// Follows edge number `index`, from 0, and returns its byte and the number of edges. nullopt:
+    /// there is none, and nothing is left.
     std::optional<std::pair<uint8_t, uint16_t>> probe(size_t index) noexcept {
         const auto at = detail::of(bytes_);
         uint8_t edge;
         uint16_t siblings;
-        if (!zerotrie_cursor_probe(number(), at.ptr, at.len, &cursor_, index, &edge, &siblings)) return std::nullopt;
+        if (!zerotrie_cursor_probe(number(), at.ptr, at.len, &cursor_, index, &edge, &siblings))
+            return std::nullopt;
         return std::pair(edge, siblings);
     }
-    // Takes the value of the key that ends here. nullopt: no key does, or it was taken.
+    /// Takes the value of the key that ends here. nullopt: no key does, or it was taken.
     std::optional<size_t> take_value() noexcept {
         const auto at = detail::of(bytes_);
         size_t value;
         if (!zerotrie_cursor_take_value(at.ptr, at.len, &cursor_, &value)) return std::nullopt;
         return value;
     }
-    // What is left of the span that it stands in: every key goes on with it. Empty outside of spans.
+    /// What is left of the span that it is in: every key continues with it. Empty outside of spans.
     [[nodiscard]] std::string_view run() const noexcept {
         const auto at = detail::of(bytes_);
         return detail::text_of(zerotrie_cursor_run(at.ptr, at.len, cursor_));
     }
-    // Whether no key goes on from here, and none ends here.
+    /// Whether no key continues from here, and none ends here.
     [[nodiscard]] bool is_empty() const noexcept { return zerotrie_cursor_is_empty(cursor_); }
 
 private:
@@ -281,27 +431,26 @@ private:
     zerotrie_cursor cursor_;
 };
 
-// The pairs of a trie, in the order of its bytes: a range whose elements are pairs of a std::string_view and a value. All are
-// listed when it is made. The views and the iterators are good as long as it stays where it is: a move ends them. Trie::for_each()
-// holds only a part of the pairs at a time.
+/// The pairs of a trie, in the order of its bytes: a range whose elements are pairs of a
+/// std::string_view and a value. All are listed when it is made. The views and the iterators are
+/// valid while it stays where it is: a move ends them. Trie::begin() and Trie::for_each() have only
+/// a part of the pairs at a time.
 class Items {
 public:
+    /// @cond
     using value_type = std::pair<std::string_view, size_t>;
     using reference = value_type;
     using size_type = size_t;
     using difference_type = std::ptrdiff_t;
     class iterator {
     public:
-        // before C++20 an iterator whose elements are made as it goes is no more
+        // before C++20 an iterator whose elements are made as it is read is no more
         using iterator_category = std::input_iterator_tag;
         using iterator_concept = std::random_access_iterator_tag;
         using value_type = Items::value_type;
         using difference_type = std::ptrdiff_t;
         using reference = value_type;
-        struct pointer {
-            Items::value_type pair;
-            const Items::value_type *operator->() const noexcept { return &pair; }
-        };
+        using pointer = detail::Pointer;
         iterator() = default;
         value_type operator*() const noexcept { return (*items_)[static_cast<size_t>(at_)]; }
         pointer operator->() const noexcept { return {**this}; }
@@ -315,13 +464,27 @@ public:
         friend iterator operator+(iterator it, difference_type n) noexcept { return it += n; }
         friend iterator operator+(difference_type n, iterator it) noexcept { return it += n; }
         friend iterator operator-(iterator it, difference_type n) noexcept { return it -= n; }
-        friend difference_type operator-(const iterator &a, const iterator &b) noexcept { return a.at_ - b.at_; }
-        friend bool operator==(const iterator &a, const iterator &b) noexcept { return a.at_ == b.at_; }
-        friend bool operator!=(const iterator &a, const iterator &b) noexcept { return a.at_ != b.at_; }
-        friend bool operator<(const iterator &a, const iterator &b) noexcept { return a.at_ < b.at_; }
-        friend bool operator>(const iterator &a, const iterator &b) noexcept { return a.at_ > b.at_; }
-        friend bool operator<=(const iterator &a, const iterator &b) noexcept { return a.at_ <= b.at_; }
-        friend bool operator>=(const iterator &a, const iterator &b) noexcept { return a.at_ >= b.at_; }
+        friend difference_type operator-(const iterator &a, const iterator &b) noexcept {
+            return a.at_ - b.at_;
+        }
+        friend bool operator==(const iterator &a, const iterator &b) noexcept {
+            return a.at_ == b.at_;
+        }
+        friend bool operator!=(const iterator &a, const iterator &b) noexcept {
+            return a.at_ != b.at_;
+        }
+        friend bool operator<(const iterator &a, const iterator &b) noexcept {
+            return a.at_ < b.at_;
+        }
+        friend bool operator>(const iterator &a, const iterator &b) noexcept {
+            return a.at_ > b.at_;
+        }
+        friend bool operator<=(const iterator &a, const iterator &b) noexcept {
+            return a.at_ <= b.at_;
+        }
+        friend bool operator>=(const iterator &a, const iterator &b) noexcept {
+            return a.at_ >= b.at_;
+        }
 
     private:
         friend class Items;
@@ -330,6 +493,8 @@ public:
         difference_type at_ = 0;
     };
     using const_iterator = iterator;
+    /// @endcond
+    /// Lists the pairs of a trie whose keys begin with a prefix.
     Items(Kind kind, Bytes bytes, std::string_view prefix = {}) {
         for (detail::Parts parts(kind, bytes, prefix); parts.next();) {
             const size_t from = keys_.size();
@@ -338,97 +503,272 @@ public:
             values_.insert(values_.end(), parts.values(), parts.values() + parts.size());
         }
     }
+    /// The number of pairs.
     [[nodiscard]] size_t size() const noexcept { return ends_.size(); }
+    /// Whether there are none.
     [[nodiscard]] bool empty() const noexcept { return ends_.empty(); }
-    [[nodiscard]] value_type operator[](size_t i) const noexcept {
+    /// The pair of this number, which is below size().
+    [[nodiscard]] value_type operator[](size_t i) const noexcept ZEROTRIE_LIFETIMEBOUND {
         const size_t from = i == 0 ? 0 : ends_[i - 1];
         return {std::string_view(keys_).substr(from, ends_[i] - from), values_[i]};
     }
-    [[nodiscard]] iterator begin() const noexcept { return {this, 0}; }
-    [[nodiscard]] iterator end() const noexcept { return {this, static_cast<difference_type>(size())}; }
+    /// The first pair.
+    [[nodiscard]] iterator begin() const noexcept ZEROTRIE_LIFETIMEBOUND { return {this, 0}; }
+    /// After the last.
+    [[nodiscard]] iterator end() const noexcept ZEROTRIE_LIFETIMEBOUND {
+        return {this, static_cast<difference_type>(size())};
+    }
 
 private:
     std::string keys_;
     std::vector<size_t> ends_, values_;
 };
 
-// A trie over bytes that lie elsewhere, which have to outlive it.
-class Trie {
+/// A pair of a key and a value, as it is read.
+using Entry = std::pair<std::string_view, size_t>;
+
+/// An iterator over the pairs of a trie, in the order of its bytes. It lists a part of them at a
+/// time, so the first few cost little. Copies share their place. A key is a view that is valid
+/// until the iterator is moved on.
+class StreamIterator {
 public:
-    // Without keys.
+    /// @cond
+    using iterator_category = std::input_iterator_tag;
+    using value_type = Entry;
+    using difference_type = std::ptrdiff_t;
+    using reference = value_type;
+    using pointer = detail::Pointer;
+    /// @endcond
+    /// After the last pair.
+    StreamIterator() noexcept = default;
+    /// At the first pair whose key begins with a prefix.
+    StreamIterator(Kind kind, Bytes bytes, std::string_view prefix)
+        : parts_(std::make_shared<detail::Parts>(kind, bytes, prefix, 256)) {
+        next_part();
+    }
+    /// The pair.
+    value_type operator*() const noexcept { return (*parts_)[at_]; }
+    /// The pair.
+    pointer operator->() const noexcept { return {**this}; }
+    /// Moves on to the next pair.
+    StreamIterator &operator++() {
+        if (++at_ == parts_->size()) next_part();
+        return *this;
+    }
+    /// Moves on to the next pair.
+    void operator++(int) { ++*this; }
+    /// Whether both are after the last pair, or share their place.
+    friend bool operator==(const StreamIterator &a, const StreamIterator &b) noexcept {
+        return a.parts_ == b.parts_;
+    }
+    /// The contrary.
+    friend bool operator!=(const StreamIterator &a, const StreamIterator &b) noexcept {
+        return !(a == b);
+    }
+
+private:
+    void next_part() {
+        at_ = 0;
+        while (parts_->next()) {
+            if (parts_->size() > 0) return;
+        }
+        parts_.reset();
+    }
+    std::shared_ptr<detail::Parts> parts_;
+    size_t at_ = 0;
+};
+
+/// The pairs of a trie whose keys begin with a prefix, as a range that lists a part of them at a
+/// time. The trie's bytes have to outlive it.
+class ZEROTRIE_VIEW Stream {
+public:
+    /// The pairs of a trie whose keys begin with a prefix.
+    Stream(Kind kind, Bytes bytes ZEROTRIE_LIFETIMEBOUND, std::string_view prefix)
+        : kind_(kind), bytes_(bytes), prefix_(prefix) {}
+    /// The first pair.
+    [[nodiscard]] StreamIterator begin() const { return StreamIterator(kind_, bytes_, prefix_); }
+    /// After the last.
+    [[nodiscard]] StreamIterator end() const noexcept { return {}; }
+
+private:
+    Kind kind_;
+    Bytes bytes_;
+    std::string prefix_;
+};
+
+/// A trie over bytes that are elsewhere, which have to outlive it. It is a range of its pairs.
+class ZEROTRIE_VIEW Trie {
+public:
+    /// @cond
+    using value_type = Entry;
+    using iterator = StreamIterator;
+    using const_iterator = StreamIterator;
+    /// @endcond
+    /// Without keys.
     constexpr Trie() noexcept = default;
-    // The bytes are not tested; if they are no trie of the kind, each call answers something.
-    constexpr Trie(Kind kind, Bytes bytes) noexcept : kind_(kind), bytes_(bytes.view()) {}
-    // Tests the bytes. nullopt: they are no trie of the kind.
-    [[nodiscard]] static std::optional<Trie> checked(Kind kind, Bytes bytes) noexcept {
+    /// The bytes are not validated; if they are malformed, the result of each call is unspecified.
+    constexpr Trie(Kind kind, Bytes bytes ZEROTRIE_LIFETIMEBOUND) noexcept
+        : kind_(kind), bytes_(bytes.view()) {}
+    /// Validates the bytes. nullopt: they are no trie of the kind.
+    [[nodiscard]] static std::optional<Trie> checked(Kind kind,
+                                                     Bytes bytes ZEROTRIE_LIFETIMEBOUND) noexcept {
         const auto at = detail::of(bytes.view());
-        if (!zerotrie_is_well_formed(static_cast<uint32_t>(kind), at.ptr, at.len)) return std::nullopt;
+        if (!zerotrie_is_well_formed(static_cast<uint32_t>(kind), at.ptr, at.len))
+            return std::nullopt;
         return Trie(kind, bytes);
     }
-    // Of tagged bytes, which tell their kind; they are tested. nullopt: they have no tag of a kind, or are no trie of it.
-    [[nodiscard]] static std::optional<Trie> from_tagged(Bytes tagged) noexcept {
+    /// Validates the bytes. Throws Error with the place where they are malformed.
+    [[nodiscard]] static Trie valid(Kind kind, Bytes bytes ZEROTRIE_LIFETIMEBOUND) {
+        const Trie made(kind, bytes);
+        if (const auto fault = made.first_fault()) detail::refuse(Error(*fault));
+        return made;
+    }
+    /// Of tagged bytes, which say their kind; they are validated. nullopt: they have no tag of a
+    /// kind, or are no trie of it.
+    [[nodiscard]] static std::optional<Trie> from_tagged(
+        Bytes tagged ZEROTRIE_LIFETIMEBOUND) noexcept {
         const auto at = detail::of(tagged.view());
         uint32_t kind;
         if (zerotrie_tagged_kind(at.ptr, at.len, &kind) != ZEROTRIE_DONE) return std::nullopt;
         return checked(static_cast<Kind>(kind), tagged.view().substr(1));
     }
+    /// Where the bytes are malformed. nullopt: they are valid.
+    [[nodiscard]] std::optional<Fault> first_fault() const {
+        const auto at = detail::of(bytes_);
+        size_t place = 0;
+        const zerotrie_fault cause = zerotrie_first_fault(number(), at.ptr, at.len, &place);
+        if (cause == ZEROTRIE_FAULT_UNKNOWN) detail::refuse(std::bad_alloc());
+        if (cause == ZEROTRIE_NO_FAULT) return std::nullopt;
+        return Fault{cause, place};
+    }
+    /// The kind.
     [[nodiscard]] constexpr Kind kind() const noexcept { return kind_; }
+    /// The bytes.
     [[nodiscard]] constexpr std::string_view bytes() const noexcept { return bytes_; }
-    // The value of the key. nullopt: the trie has no such key.
+    /// The value of the key. nullopt: the trie does not have it.
     [[nodiscard]] std::optional<size_t> get(std::string_view key) const noexcept {
         const auto at = detail::of(bytes_), k = detail::of(key);
         size_t value = 0;
         if (!zerotrie_get(number(), at.ptr, at.len, k.ptr, k.len, &value)) return std::nullopt;
         return value;
     }
-    [[nodiscard]] bool contains(std::string_view key) const noexcept { return get(key).has_value(); }
-    // The values of a range of keys, each of which makes a std::string_view, in its order, and `missing` for a key that the trie
-    // hasn't. It copies the keys.
+    /// Whether the trie has the key.
+    [[nodiscard]] bool contains(std::string_view key) const noexcept {
+        return get(key).has_value();
+    }
+    /// The values of a range of keys, each of which makes a std::string_view, in its order, and
+    /// `missing` for a key that the trie does not have. It copies the keys.
     template <class Keys = std::initializer_list<std::string_view>>
     [[nodiscard]] std::vector<size_t> get_many(Keys &&keys, size_t missing) const {
         std::string text;
         std::vector<size_t> ends;
         for (auto &&key : keys) text += std::string_view(key), ends.push_back(text.size());
         std::vector<size_t> values(ends.size());
-        // so that there is a place to point at
-        ends.reserve(1), values.reserve(1);
         const auto at = detail::of(bytes_), k = detail::of(text);
-        detail::check(zerotrie_get_many(number(), at.ptr, at.len, k.ptr, k.len, ends.data(), ends.size(), missing, values.data(),
-                                        values.size()));
+        detail::check(zerotrie_get_many(number(), at.ptr, at.len, k.ptr, k.len, ends.data(),
+                                        ends.size(), missing, values.data(), values.size()));
         return values;
     }
-    // The longest key that the text begins with, as a view into the text, and its value. nullopt: it begins with no key.
-    [[nodiscard]] std::optional<std::pair<std::string_view, size_t>> longest_prefix(std::string_view text) const noexcept {
+    /// The longest key that the text begins with, as a view into the text, and its value. nullopt:
+    /// it begins with no key.
+    [[nodiscard]] std::optional<Entry> longest_prefix(
+        std::string_view text ZEROTRIE_LIFETIMEBOUND) const noexcept {
         const auto at = detail::of(bytes_), t = detail::of(text);
         size_t len = 0, value = 0;
-        if (!zerotrie_longest_prefix(number(), at.ptr, at.len, t.ptr, t.len, &len, &value)) return std::nullopt;
-        return std::pair(text.substr(0, len), value);
+        if (!zerotrie_longest_prefix(number(), at.ptr, at.len, t.ptr, t.len, &len, &value))
+            return std::nullopt;
+        return Entry(text.substr(0, len), value);
     }
     template <class T, class = detail::Passing<T>>
-    std::optional<std::pair<std::string_view, size_t>> longest_prefix(T &&) const = delete;
-    template <class T> std::optional<std::pair<std::string_view, size_t>> longest_prefix(std::initializer_list<T>) const = delete;
-    // A cursor in front of all keys.
+    std::optional<Entry> longest_prefix(T &&) const = delete;
+    template <class T> std::optional<Entry> longest_prefix(std::initializer_list<T>) const = delete;
+    /// The longest key that the text begins with and after which the text ends or continues with
+    /// one of the delimiters, as a view into the text, and its value. nullopt: there is none. The
+    /// empty key counts whatever follows.
+    [[nodiscard]] std::optional<Entry> longest_prefix_at(
+        std::string_view text ZEROTRIE_LIFETIMEBOUND, std::string_view delimiters) const noexcept {
+        const auto at = detail::of(bytes_), t = detail::of(text), d = detail::of(delimiters);
+        size_t len = 0, value = 0;
+        if (!zerotrie_longest_prefix_at(number(), at.ptr, at.len, t.ptr, t.len, d.ptr, d.len, &len,
+                                        &value))
+            return std::nullopt;
+        return Entry(text.substr(0, len), value);
+    }
+    template <class T, class = detail::Passing<T>>
+    std::optional<Entry> longest_prefix_at(T &&, std::string_view) const = delete;
+    /// All keys that the text begins with, as views into the text, the shortest first, and their
+    /// values.
+    [[nodiscard]] std::vector<Entry> common_prefixes(
+        std::string_view text ZEROTRIE_LIFETIMEBOUND) const {
+        const auto at = detail::of(bytes_), t = detail::of(text);
+        std::vector<size_t> lens(16), values(16);
+        size_t count = 0;
+        for (int turn = 0; turn < 2; turn++) {
+            count = zerotrie_common_prefixes(number(), at.ptr, at.len, t.ptr, t.len, lens.data(),
+                                             lens.size(), values.data(), values.size());
+            if (count <= lens.size()) break;
+            lens.resize(count), values.resize(count);
+        }
+        std::vector<Entry> found;
+        for (size_t i = 0; i < count; i++) found.emplace_back(text.substr(0, lens[i]), values[i]);
+        return found;
+    }
+    template <class T, class = detail::Passing<T>>
+    std::vector<Entry> common_prefixes(T &&) const = delete;
+    template <class T> std::vector<Entry> common_prefixes(std::initializer_list<T>) const = delete;
+    /// A cursor before all keys.
     [[nodiscard]] Cursor cursor() const noexcept { return Cursor(kind_, bytes_); }
-    // A cursor after a prefix. nullopt: no key begins with it.
+    /// A cursor after a prefix. nullopt: no key begins with it.
     [[nodiscard]] std::optional<Cursor> with_prefix(std::string_view prefix) const noexcept {
         const auto at = detail::of(bytes_), p = detail::of(prefix);
         const auto cursor = zerotrie_with_prefix(number(), at.ptr, at.len, p.ptr, p.len);
         if (zerotrie_cursor_is_empty(cursor)) return std::nullopt;
         return Cursor(cursor, kind_, bytes_);
     }
-    // The pairs, or those whose keys begin with a prefix.
-    [[nodiscard]] Items items(std::string_view prefix = {}) const { return Items(kind_, bytes_, prefix); }
-    // Calls each(key, value) for these pairs in their order. They are listed a part at a time; a key is a view for the call alone.
-    template <class Each> void for_each(Each &&each, std::string_view prefix = {}) const {
-        for (detail::Parts parts(kind_, bytes_, prefix); parts.next();) {
+    /// The first pair whose key begins with a prefix. It lists a part of the pairs at a time.
+    [[nodiscard]] StreamIterator begin(std::string_view prefix = {}) const {
+        return StreamIterator(kind_, bytes_, prefix);
+    }
+    /// After the last pair.
+    [[nodiscard]] StreamIterator end() const noexcept { return {}; }
+    /// The pairs whose keys begin with a prefix, as a range that lists a part of them at a time.
+    [[nodiscard]] Stream stream(std::string_view prefix = {}) const {
+        return Stream(kind_, bytes_, prefix);
+    }
+    /// The pairs, or those whose keys begin with a prefix, all listed at once.
+    [[nodiscard]] Items items(std::string_view prefix = {}) const {
+        return Items(kind_, bytes_, prefix);
+    }
+    /// The number of pairs. It lists them.
+    [[nodiscard]] size_t size() const {
+        size_t count = 0;
+        for (detail::Parts parts(kind_, bytes_, {}); parts.next();) count += parts.size();
+        return count;
+    }
+    /// Whether there is no pair.
+    [[nodiscard]] bool empty() const noexcept { return bytes_.empty(); }
+    /// Calls each(key, value) for these pairs in their order, until it returns false, if it returns
+    /// a bool. They are listed a part at a time; a key is a view for the call alone. Returns
+    /// whether no call returned false.
+    template <class Each> bool for_each(Each &&each, std::string_view prefix = {}) const {
+        for (detail::Parts parts(kind_, bytes_, prefix, 256); parts.next();) {
             for (size_t i = 0; i < parts.size(); i++) {
                 const auto [key, value] = parts[i];
-                each(key, value);
+                if constexpr (std::is_same_v<decltype(each(key, value)), bool>) {
+                    if (!each(key, value)) return false;
+                } else {
+                    each(key, value);
+                }
             }
         }
+        return true;
     }
-    // Whether kinds and bytes are the same. Well-formed tries of an ASCII kind are so exactly if their pairs are.
-    friend constexpr bool operator==(const Trie &a, const Trie &b) noexcept { return a.kind_ == b.kind_ && a.bytes_ == b.bytes_; }
+    /// Whether kinds and bytes are the same. Well-formed tries of an ASCII kind are so exactly if
+    /// their pairs are.
+    friend constexpr bool operator==(const Trie &a, const Trie &b) noexcept {
+        return a.kind_ == b.kind_ && a.bytes_ == b.bytes_;
+    }
+    /// The contrary.
     friend constexpr bool operator!=(const Trie &a, const Trie &b) noexcept { return !(a == b); }
 
 private:
@@ -437,63 +777,216 @@ private:
     std::string_view bytes_;
 };
 
-// A pair that is written into a call, as in build(kind, {{"foo", 1}, {"bar", 2}}).
+/// A pair that is written into a call, as in build(kind, {{"foo", 1}, {"bar", 2}}).
 struct Pair {
-    template <class Value> Pair(std::string_view k, Value v) : key(k), value(detail::number_of(v)) {}
-    std::string_view key;
-    size_t value;
+    /// Of a key and a value.
+    template <class Value>
+    Pair(std::string_view k, Value v) : key(k), value(detail::number_of(v)) {}
+    std::string_view key; ///< the key
+    size_t value;         ///< its value
 };
+/// Pairs that are written into a call.
 using PairList = std::initializer_list<Pair>;
 
-// The bytes of the trie of pairs in any order: of a map, another range or a list whose elements have a key, which makes a
-// std::string_view, and a value.
+/// The bytes of the trie of pairs in any order: of a map, another range or a list whose elements
+/// have a key, which makes a std::string_view, and a value.
 template <class Pairs = PairList> [[nodiscard]] std::string build(Kind kind, Pairs &&pairs) {
     const detail::Pairs list(pairs);
-    return detail::written(list.most_bytes(), [&](uint8_t *out, size_t room, size_t *len) {
-        return zerotrie_build(static_cast<uint32_t>(kind), list.data(), list.size(), out, room, len);
-    });
+    return detail::written(
+        list.most_bytes(),
+        [&](uint8_t *out, size_t room, size_t *len) {
+            return zerotrie_build(static_cast<uint32_t>(kind), list.data(), list.size(), out, room,
+                                  len);
+        },
+        [&](uint32_t status) { list.check(kind, status); });
 }
 
-// The same of pairs whose keys already ascend by their bytes, as those of a std::map of std::string: nothing is sorted. Refused if
-// they don't.
+/// The same of pairs whose keys already ascend by their bytes, as those of a std::map of
+/// std::string: nothing is sorted. It is an error if they don't.
 template <class Pairs = PairList> [[nodiscard]] std::string build_sorted(Kind kind, Pairs &&pairs) {
     const detail::Pairs list(pairs);
-    return detail::written(list.most_bytes(), [&](uint8_t *out, size_t room, size_t *len) {
-        return zerotrie_build_sorted(static_cast<uint32_t>(kind), list.data(), list.size(), out, room, len);
-    });
+    return detail::written(
+        list.most_bytes(),
+        [&](uint8_t *out, size_t room, size_t *len) {
+            return zerotrie_build_sorted(static_cast<uint32_t>(kind), list.data(), list.size(), out,
+                                         room, len);
+        },
+        [&](uint32_t status) { list.check(kind, status); });
 }
 
-// How many bytes build_sorted() of these pairs makes. It builds nothing.
+/// The number of bytes that build_sorted() of these pairs makes. It builds nothing.
 template <class Pairs = PairList> [[nodiscard]] size_t encoded_len(Kind kind, Pairs &&pairs) {
     const detail::Pairs list(pairs);
     size_t len = 0;
-    detail::check(zerotrie_encoded_len(static_cast<uint32_t>(kind), list.data(), list.size(), &len));
+    list.check(kind,
+               zerotrie_encoded_len(static_cast<uint32_t>(kind), list.data(), list.size(), &len));
     return len;
 }
 
-// The kind for pairs if you have no wish: SimpleAscii if all keys are ASCII and there are fewer than 512, else PerfectHash.
+/// The kind for pairs if you have no wish: SimpleAscii if all keys are ASCII and there are fewer
+/// than 512, else PerfectHash.
 template <class Pairs = PairList> [[nodiscard]] Kind auto_kind(Pairs &&pairs) {
     const detail::Pairs list(pairs);
     return static_cast<Kind>(zerotrie_auto_kind(list.data(), list.size()));
 }
 
-// Tagged bytes: the number of the kind, and then the bytes.
+/// Tagged bytes: the number of the kind, and then the bytes.
 [[nodiscard]] inline std::string tagged(Kind kind, Bytes bytes) {
     const auto at = detail::of(bytes.view());
-    return detail::written(at.len + 1, [&](uint8_t *out, size_t room, size_t *len) {
-        return zerotrie_tagged(static_cast<uint32_t>(kind), at.ptr, at.len, out, room, len);
-    });
+    return detail::written(
+        at.len + 1,
+        [&](uint8_t *out, size_t room, size_t *len) {
+            return zerotrie_tagged(static_cast<uint32_t>(kind), at.ptr, at.len, out, room, len);
+        },
+        detail::check);
 }
 
-// A map from two texts to numbers over the record of a dense table, which has to outlive it.
-class DenseTable {
+/// A trie that owns its bytes. It is a range of its pairs.
+class Map {
 public:
-    explicit constexpr DenseTable(Bytes record) noexcept : record_(record.view()) {}
-    // The value of a suffix under a prefix. nullopt: there is none. Throws Error if the bytes are no record.
-    [[nodiscard]] std::optional<size_t> get(std::string_view prefix, std::string_view suffix) const {
+    /// @cond
+    using value_type = Entry;
+    using iterator = StreamIterator;
+    using const_iterator = StreamIterator;
+    /// @endcond
+    /// Without keys.
+    Map() noexcept = default;
+    /// Copies the bytes.
+    Map(const Map &) = default;
+    /// Leaves the other map without keys.
+    Map(Map &&other) noexcept
+        : kind_(other.kind_), bytes_(std::exchange(other.bytes_, {})),
+          size_(std::exchange(other.size_, 0)) {}
+    /// Copies the bytes.
+    Map &operator=(const Map &) = default;
+    /// Leaves the other map without keys.
+    Map &operator=(Map &&other) noexcept {
+        kind_ = other.kind_;
+        bytes_ = std::exchange(other.bytes_, {});
+        size_ = std::exchange(other.size_, 0);
+        return *this;
+    }
+    ~Map() = default;
+    /// Of pairs in any order, as build() takes them, in the kind that suits them.
+    template <class Pairs, class = std::enable_if_t<!std::is_same_v<detail::Bare<Pairs>, Map>>>
+    explicit Map(Pairs &&pairs) : Map(auto_kind(pairs), pairs) {}
+    /// Of a list of pairs, in the kind that suits them.
+    Map(PairList pairs) : Map(auto_kind(pairs), pairs) {}
+    /// Of pairs in any order, in this kind.
+    template <class Pairs = PairList>
+    Map(Kind kind, Pairs &&pairs) : kind_(kind), bytes_(build(kind, pairs)), size_(trie().size()) {}
+    /// Of the bytes of a trie, which are validated. Throws Error with the place where they are
+    /// malformed.
+    [[nodiscard]] static Map from_bytes(Kind kind, std::string bytes) {
+        Map made;
+        made.size_ = Trie::valid(kind, bytes).size();
+        made.kind_ = kind;
+        made.bytes_ = std::move(bytes);
+        return made;
+    }
+    /// Of tagged bytes, which say their kind; they are validated. Throws Error.
+    [[nodiscard]] static Map from_tagged(std::string_view tagged) {
+        const auto at = detail::of(tagged);
+        uint32_t kind = 0;
+        detail::check(zerotrie_tagged_kind(at.ptr, at.len, &kind));
+        return from_bytes(static_cast<Kind>(kind), std::string(tagged.substr(1)));
+    }
+    /// Tagged bytes, for a file.
+    [[nodiscard]] std::string tagged() const { return zerotrie::tagged(kind_, bytes_); }
+    /// The trie as a view.
+    [[nodiscard]] Trie trie() const &noexcept ZEROTRIE_LIFETIMEBOUND { return Trie(kind_, bytes_); }
+    Trie trie() const && = delete;
+    /// The kind.
+    [[nodiscard]] Kind kind() const noexcept { return kind_; }
+    /// The bytes, without a tag.
+    [[nodiscard]] const std::string &bytes() const &noexcept ZEROTRIE_LIFETIMEBOUND {
+        return bytes_;
+    }
+    /// The bytes, without a tag.
+    [[nodiscard]] std::string bytes() &&noexcept { return size_ = 0, std::exchange(bytes_, {}); }
+    /// The value of the key. nullopt: the map does not have it.
+    [[nodiscard]] std::optional<size_t> get(std::string_view key) const noexcept {
+        return trie().get(key);
+    }
+    /// Whether the map has the key.
+    [[nodiscard]] bool contains(std::string_view key) const noexcept {
+        return trie().contains(key);
+    }
+    /// The value of the key. Throws std::out_of_range if the map does not have it.
+    [[nodiscard]] size_t at(std::string_view key) const {
+        const auto value = get(key);
+        if (!value)
+            detail::refuse(std::out_of_range("the map does not have the key " +
+                                             detail::shown(detail::of(key))));
+        return *value;
+    }
+    /// See Trie::longest_prefix().
+    [[nodiscard]] std::optional<Entry> longest_prefix(
+        std::string_view text ZEROTRIE_LIFETIMEBOUND) const noexcept {
+        return trie().longest_prefix(text);
+    }
+    template <class T, class = detail::Passing<T>>
+    std::optional<Entry> longest_prefix(T &&) const = delete;
+    /// See Trie::longest_prefix_at().
+    [[nodiscard]] std::optional<Entry> longest_prefix_at(
+        std::string_view text ZEROTRIE_LIFETIMEBOUND, std::string_view delimiters) const noexcept {
+        return trie().longest_prefix_at(text, delimiters);
+    }
+    template <class T, class = detail::Passing<T>>
+    std::optional<Entry> longest_prefix_at(T &&, std::string_view) const = delete;
+    /// See Trie::common_prefixes().
+    [[nodiscard]] std::vector<Entry> common_prefixes(
+        std::string_view text ZEROTRIE_LIFETIMEBOUND) const {
+        return trie().common_prefixes(text);
+    }
+    template <class T, class = detail::Passing<T>>
+    std::vector<Entry> common_prefixes(T &&) const = delete;
+    /// See Trie::begin().
+    [[nodiscard]] StreamIterator begin(std::string_view prefix = {}) const &ZEROTRIE_LIFETIMEBOUND {
+        return trie().begin(prefix);
+    }
+    /// After the last pair.
+    [[nodiscard]] StreamIterator end() const noexcept { return {}; }
+    /// See Trie::stream().
+    [[nodiscard]] Stream stream(std::string_view prefix = {}) const &ZEROTRIE_LIFETIMEBOUND {
+        return trie().stream(prefix);
+    }
+    Stream stream(std::string_view prefix = {}) const && = delete;
+    /// See Trie::items().
+    [[nodiscard]] Items items(std::string_view prefix = {}) const { return trie().items(prefix); }
+    /// See Trie::for_each().
+    template <class Each> bool for_each(Each &&each, std::string_view prefix = {}) const {
+        return trie().for_each(std::forward<Each>(each), prefix);
+    }
+    /// The number of pairs.
+    [[nodiscard]] size_t size() const noexcept { return size_; }
+    /// Whether there is none.
+    [[nodiscard]] bool empty() const noexcept { return size_ == 0; }
+    /// Whether kinds and bytes are the same.
+    friend bool operator==(const Map &a, const Map &b) noexcept { return a.trie() == b.trie(); }
+    /// The contrary.
+    friend bool operator!=(const Map &a, const Map &b) noexcept { return !(a == b); }
+
+private:
+    Kind kind_ = Kind::SimpleAscii;
+    std::string bytes_;
+    size_t size_ = 0;
+};
+
+/// A map from two texts to numbers over the record of a dense table, which has to outlive it.
+class ZEROTRIE_VIEW DenseTable {
+public:
+    /// The record is not validated.
+    explicit constexpr DenseTable(Bytes record ZEROTRIE_LIFETIMEBOUND) noexcept
+        : record_(record.view()) {}
+    /// The value of a suffix under a prefix. nullopt: there is none. Throws Error if the bytes are
+    /// no record.
+    [[nodiscard]] std::optional<size_t> get(std::string_view prefix,
+                                            std::string_view suffix) const {
         const auto at = detail::of(record_), p = detail::of(prefix), s = detail::of(suffix);
         size_t value = 0;
-        const uint32_t status = zerotrie_dense_get(at.ptr, at.len, p.ptr, p.len, s.ptr, s.len, &value);
+        const uint32_t status =
+            zerotrie_dense_get(at.ptr, at.len, p.ptr, p.len, s.ptr, s.len, &value);
         if (status == ZEROTRIE_NO_ENTRY) return std::nullopt;
         detail::check(status);
         return value;
@@ -503,8 +996,8 @@ private:
     std::string_view record_;
 };
 
-// The record of the dense table of rows: a range of prefixes, each with a range of suffixes and values, both ascending, as a
-// std::map of std::maps.
+/// The record of the dense table of rows: a range of prefixes, each with a range of suffixes and
+/// values, both ascending, as a std::map of std::maps.
 template <class Rows> [[nodiscard]] std::string build_dense(Rows &&rows, char delimiter) {
     std::string prefixes, suffixes;
     std::vector<size_t> prefix_ends, suffix_ends, values;
@@ -516,13 +1009,15 @@ template <class Rows> [[nodiscard]] std::string build_dense(Rows &&rows, char de
         }
     }
     const size_t count = values.size();
-    // so that there is a place to point at
-    prefix_ends.reserve(1), suffix_ends.reserve(1), values.reserve(1);
     const auto p = detail::of(prefixes), s = detail::of(suffixes);
-    return detail::written(64 + prefixes.size() + suffixes.size() + 8 * count, [&](uint8_t *out, size_t room, size_t *len) {
-        return zerotrie_dense_build(p.ptr, p.len, prefix_ends.data(), count, s.ptr, s.len, suffix_ends.data(), count, values.data(),
-                                    count, static_cast<uint8_t>(delimiter), out, room, len);
-    });
+    return detail::written(
+        64 + prefixes.size() + suffixes.size() + 8 * count,
+        [&](uint8_t *out, size_t room, size_t *len) {
+            return zerotrie_dense_build(p.ptr, p.len, prefix_ends.data(), count, s.ptr, s.len,
+                                        suffix_ends.data(), count, values.data(), count,
+                                        static_cast<uint8_t>(delimiter), out, room, len);
+        },
+        detail::check);
 }
 
 } // namespace zerotrie

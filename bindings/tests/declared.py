@@ -12,6 +12,7 @@ import sys
 here, library = pathlib.Path(sys.argv[1]), sys.argv[2] if len(sys.argv) > 2 else None
 NUMBERS = {"u8": 1, "u16": 2, "u32": 4, "usize": 8, "bool": "bool", "Bytes": 16, "Cursor": 24, "CursorPlace": 24, "Pair": 24}
 C_NUMBERS = {"uint8_t": 1, "uint16_t": 2, "uint32_t": 4, "size_t": 8, "bool": "bool", "void": None,
+             "zerotrie_kind": 4, "zerotrie_kind_number": 4, "zerotrie_status": 4, "zerotrie_fault": 4,
              "zerotrie_bytes": 16, "zerotrie_cursor": 24, "zerotrie_pair": 24}
 #: what the texts of errors say to programs in other languages, in place of what they say to those in Rattle
 IN_OTHER_WORDS = {
@@ -49,7 +50,7 @@ def in_c():
     text = re.sub(r"/\*.*?\*/", "", (here / "c/zerotrie.h").read_text(), flags=re.S)
     for answer, name, taken in re.findall(r"^(\w+) (zerotrie_\w+)\(([^)]*)\);", text, re.M):
         sizes = []
-        for part in parts(taken):
+        for part in parts("" if taken == "void" else taken):
             kind, star = re.fullmatch(r"(?:const )?(\w+) (\*?)\w+", part).groups()
             sizes.append(("to", C_NUMBERS[kind]) if star else C_NUMBERS[kind])
         found[name] = (sizes, C_NUMBERS[answer])
@@ -93,13 +94,46 @@ def in_python():
     return {name: ([size(kind) for kind in taken], answer and size(answer)) for name, (answer, taken) in declared_in_python().items()}
 
 
+def numbers_of(header, enum):
+    """The constants of an enum of the header."""
+    body = re.search(rf"typedef enum zerotrie_{enum} .*?\n\}}", header, re.S)[0]
+    return {name: int(number) for name, number in re.findall(r"(ZEROTRIE_\w+) = (\d+)", body)}
+
+
+def texts_of(header, enum):
+    """The texts of its constants."""
+    body = re.search(rf"zerotrie_{enum}_text\(uint32_t \w+\) \{{.*?\n\}}", header, re.S)[0]
+    return {name: "".join(re.findall(r'"(.*?)"', text)) for name, text in re.findall(r'case (ZEROTRIE_\w+):\s+return ((?:\s*"[^"]*")+);', body)}
+
+
+def faults():
+    """The texts of the rules of the format are those of the library, in the order of their numbers, which those of statuses continue."""
+    header = (here / "c/zerotrie.h").read_text()
+    numbers, texts = numbers_of(header, "fault"), texts_of(header, "fault")
+    causes = re.search(r"pub enum FaultCause \{.*?\n\}", (here / "../crates/zerotrie_core/src/faults.rt").read_text(), re.S)[0]
+    want = re.findall(r'#\[error\("(.*?)"\)\]\n\s+(\w+)', causes)
+    assert len(want) == 10 and [*numbers.values()] == [*range(11)], numbers
+    assert [texts[name] for name in numbers if numbers[name]] == [text for text, _ in want], (texts, want)
+    names = [name.removeprefix("ZEROTRIE_FAULT_").replace("_", "").lower() for name in numbers if numbers[name]]
+    assert names == [name.lower() for _, name in want], (names, want)
+
+
+def versions():
+    """The header, and the numbers in the sources of the library, are of one version."""
+    header = (here / "c/zerotrie.h").read_text()
+    crate = (here / "../crates/zerotrie_c/src/version.rt").read_text()
+    for part in ("MAJOR", "MINOR", "PATCH"):
+        want = re.search(rf"const {part}: u32 = (\d+);", crate)[1]
+        assert re.search(rf"#define ZEROTRIE_VERSION_{part} (\d+)", header)[1] == want, (part, want)
+
+
 def statuses():
     """The text of each status is that of the library's error, in each language, and the numbers are those of the header and of Rust."""
     header = (here / "c/zerotrie.h").read_text()
-    numbers = {name: int(number) for name, number in re.findall(r"(ZEROTRIE_\w+) = (\d+)", header)}
-    by_name = dict(re.findall(r'case (ZEROTRIE_\w+):\s+return ((?:\s*"[^"]*")+);', header))
+    numbers = numbers_of(header, "status")
+    by_name = texts_of(header, "status")
     cases = [name for name in by_name if name in numbers]
-    texts = ["".join(re.findall(r'"(.*?)"', by_name[name])) for name in sorted(cases, key=numbers.get)]
+    texts = [by_name[name] for name in sorted(cases, key=numbers.get)]
     assert len(texts) == len(by_name) == 18 and [numbers[name] for name in cases] == [*range(18)], by_name
     errors = re.findall(r'#\[error\("(.*?)"\)\]\n\s+(\w+)', (here / "../crates/zerotrie_base/src/error.rt").read_text())
     for number, (text, name) in enumerate(errors, 1):
@@ -126,4 +160,6 @@ for language, have in [("c", in_c()), ("rust", in_rust()), ("python", in_python(
     for name in sorted(set(want) | set(have)):
         assert want.get(name) == have.get(name), (language, name, want.get(name), have.get(name))
 statuses()
+faults()
+versions()
 print(f"declared: {len(want)} functions, in C, Rust and Python as they are exported")

@@ -38,6 +38,16 @@ static Map::const_iterator longest(const Map &map, std::string text) {
     }
 }
 
+// All keys that the text begins with.
+static std::vector<zerotrie::Entry> fronts(const Map &map, std::string_view text) {
+    std::vector<zerotrie::Entry> found;
+    for (size_t len = 0; len <= text.size(); len++) {
+        const auto it = map.find(std::string(text.substr(0, len)));
+        if (it != map.end()) found.emplace_back(text.substr(0, len), it->second);
+    }
+    return found;
+}
+
 static void one(zerotrie::Trie trie, const Map &map, const std::string &key) {
     const auto found = map.find(key);
     CHECK(trie.get(key) == (found == map.end() ? std::nullopt : std::optional(found->second)));
@@ -45,6 +55,15 @@ static void one(zerotrie::Trie trie, const Map &map, const std::string &key) {
     const auto best = longest(map, key);
     CHECK(front.has_value() == (best != map.end()));
     CHECK(!front || (front->first == best->first && front->second == best->second));
+    const auto all = fronts(map, key);
+    CHECK(trie.common_prefixes(key) == all);
+    const std::string_view delimiters = key.empty() ? "" : std::string_view(key).substr(below(key.size()), 1);
+    std::optional<zerotrie::Entry> at_border;
+    for (const auto &[text, value] : all) {
+        const bool ends = text.empty() || text.size() == key.size() || delimiters.find(key[text.size()]) != std::string_view::npos;
+        if (ends) at_border.emplace(text, value);
+    }
+    CHECK(trie.longest_prefix_at(key, delimiters) == at_border);
     const auto after = map.lower_bound(key);
     const bool some = after != map.end() && after->first.compare(0, key.size(), key) == 0;
     auto cursor = trie.with_prefix(key);
@@ -66,6 +85,15 @@ static void against_a_map(size_t calls) {
         Map listed;
         for (const auto [key, value] : trie->items()) listed.emplace(key, value);
         CHECK(listed == map);
+        CHECK(trie->size() == map.size() && trie->empty() == map.empty());
+        const std::string prefix = key_of(ascii, letters).substr(0, below(3));
+        const auto items = trie->items(prefix);
+        size_t count = 0;
+        for (const auto [key, value] : trie->stream(prefix)) CHECK(items[count++] == zerotrie::Entry(key, value));
+        CHECK(count == items.size());
+        CHECK(!trie->first_fault());
+        const zerotrie::Map owner(kind, map);
+        CHECK(owner.bytes() == bytes && owner.size() == map.size() && zerotrie::Map::from_tagged(owner.tagged()) == owner);
         std::vector<std::string> keys;
         std::vector<size_t> want;
         for (size_t n = 0; n < 200; n++, done += 3) {
@@ -167,6 +195,91 @@ static void bytes_that_stay() {
     CHECK(zerotrie::Cursor(Kind::SimpleAscii, {}).is_empty() && !zerotrie::Cursor(Kind::SimpleAscii, array).is_empty());
 }
 
+// What a call throws.
+template <class Call> static zerotrie::Error thrown(Call call) {
+    try {
+        call();
+    } catch (const zerotrie::Error &error) {
+        return error;
+    }
+    std::fprintf(stderr, "nothing was thrown\n");
+    std::exit(1);
+}
+
+// Errors name the keys and the place.
+static void causes() {
+    using Places = std::pair<size_t, size_t>;
+    const auto twice = thrown([] { CHECK(zerotrie::build(Kind::SimpleAscii, {{"to", 1}, {"a", 2}, {"to", 3}}).empty()); });
+    CHECK(twice.status == ZEROTRIE_DUPLICATE_KEY && twice.pairs == Places(0, 2) && !twice.fault);
+    CHECK(twice.what() == "a key was given twice: give each key once (pair 0, \"to\"; pair 2, \"to\")"s);
+    const auto foreign = thrown([] { CHECK(zerotrie::build(Kind::SimpleAscii, {{"to", 1}, {"\xC3\xA9", 2}}).empty()); });
+    CHECK(foreign.status == ZEROTRIE_NON_ASCII && foreign.pairs == Places(1, 1));
+    CHECK(std::string(foreign.what()).find("(pair 1, \"\\xc3\\xa9\")") != std::string::npos);
+    const auto mixed = thrown([] { CHECK(zerotrie::Map(Kind::IgnoreCase, zerotrie::PairList{{"To", 1}, {"a", 2}, {"tea", 3}}).empty()); });
+    CHECK(mixed.status == ZEROTRIE_MIXED_CASE && mixed.pairs == Places(0, 2));
+    const auto falls = thrown([] { CHECK(zerotrie::build_sorted(Kind::SimpleAscii, {{"a", 1}, {"c", 2}, {"b", 3}}).empty()); });
+    CHECK(falls.status == ZEROTRIE_UNSORTED && falls.pairs == Places(1, 2));
+    const auto len = thrown([] { CHECK(zerotrie::encoded_len(Kind::SimpleAscii, {{"b", 1}, {"b", 3}}) == 0); });
+    CHECK(len.status == ZEROTRIE_UNSORTED && len.pairs == Places(0, 1));
+    const auto kind = thrown([] { CHECK(zerotrie::build(static_cast<Kind>(5), {{"b", 1}}).empty()); });
+    CHECK(kind.status == ZEROTRIE_UNKNOWN_KIND && !kind.pairs);
+    const auto cut = thrown([] { CHECK(zerotrie::Map::from_bytes(Kind::SimpleAscii, "ab").empty()); });
+    CHECK(cut.fault && cut.fault->cause == ZEROTRIE_FAULT_UNEXPECTED_END && cut.fault->place == 2);
+    CHECK(cut.what() == "the bytes end where a key has to go on, at byte 2"s);
+    const auto bad = thrown([] { CHECK(zerotrie::Trie::valid(Kind::SimpleAscii, "a\x81\x82"sv).empty()); });
+    CHECK(bad.fault && bad.fault->place == 2);
+    CHECK(thrown([] { CHECK(zerotrie::Map::from_tagged("\1").empty()); }).status == ZEROTRIE_INVALID_TAG);
+    CHECK(thrown([] { CHECK(zerotrie::Map::from_tagged({}).empty()); }).status == ZEROTRIE_NO_TAG);
+    CHECK(thrown([] { CHECK(zerotrie::Trie::valid(static_cast<Kind>(5), {}).empty()); }).status == ZEROTRIE_UNKNOWN_KIND);
+    static_assert(zerotrie::version == 1000000 * zerotrie::version_major + 1000 * zerotrie::version_minor + zerotrie::version_patch);
+    CHECK(zerotrie::library_version() == zerotrie::version);
+}
+
+// A map that owns its bytes, and what is listed before it is asked for.
+static void owner() {
+    const Map many = [] {
+        Map made;
+        for (size_t n = 0; n < 100000; n++) made["key " + std::to_string(n)] = n;
+        return made;
+    }();
+    const zerotrie::Map map(many);
+    CHECK(map.kind() == Kind::PerfectHash && map.size() == 100000 && map.get("key 77") == 77 && map.at("key 1") == 1);
+    CHECK(map.contains("key 5") && !map.contains("key") && Map(map.begin(), map.end()) == many);
+    try {
+        CHECK(map.at("none") == 1);
+        CHECK(false);
+    } catch (const std::out_of_range &why) {
+        CHECK(why.what() == "the map does not have the key \"none\""s);
+    }
+    size_t calls = 0;
+    CHECK(!map.for_each([&](std::string_view, size_t) { return ++calls < 3; }, "key 9") && calls == 3);
+    CHECK(map.for_each([&](std::string_view, size_t) { calls++; }, "key 99999") && calls == 4);
+    auto it = map.begin("key 9");
+    const auto share = it;
+    CHECK(it != map.end() && it->first.substr(0, 5) == "key 9" && share == it);
+    ++it;
+    CHECK(it->second >= 9 && std::distance(map.begin("key 9"), map.end()) == 11111);
+    CHECK(map.begin("none") == map.end());
+    // copies and moves
+    zerotrie::Map copy = map, moved = std::move(copy);
+    CHECK(moved == map && moved.trie() == map.trie() && copy.empty() && copy.begin() == copy.end()); // NOLINT: it is empty then
+    copy = moved;
+    moved = zerotrie::Map({{"foo", 1}, {"bar", 2}});
+    CHECK(copy == map && copy != moved && moved.size() == 2 && moved.kind() == Kind::SimpleAscii && moved.items().size() == 2);
+    CHECK(zerotrie::Map().empty() && zerotrie::Map().size() == 0 && !zerotrie::Map().get(""));
+    const zerotrie::Map listed{{"en", 1}, {"en-Latn", 2}, {"", 3}};
+    CHECK(listed.longest_prefix_at("en-Latn-US"sv, "-")->second == 2 && listed.longest_prefix_at("english"sv, "-")->second == 3);
+    CHECK(listed.common_prefixes("en-Latn"sv).size() == 3 && listed.longest_prefix("en-L"sv)->first == "en");
+    const std::string text(40, 'x');
+    Map nested;
+    for (size_t n = 0; n < 40; n++) nested[text.substr(0, n)] = n;
+    CHECK(zerotrie::Map(nested).common_prefixes(text).size() == 40);
+#ifdef HAS_RANGES
+    static_assert(std::ranges::input_range<const zerotrie::Map> && std::ranges::sized_range<const zerotrie::Map>);
+    static_assert(std::ranges::input_range<const zerotrie::Stream>);
+#endif
+}
+
 // Routes of a build, and values that are too large or too small.
 static void builds(const Map &map, const std::string &bytes) {
     CHECK(zerotrie::build(Kind::SimpleAscii, {{"foo", 1}, {"bazzoo", 3}, {"bar", 2}}) == bytes);
@@ -258,7 +371,7 @@ int main(int count, char **arguments) {
         CHECK(zerotrie::build(Kind::SimpleAscii, std::vector<std::pair<const char *, int>>{{"a", 1}, {"a", 2}}).empty());
         CHECK(false);
     } catch (const zerotrie::Error &error) {
-        CHECK(error.status == ZEROTRIE_DUPLICATE_KEY && std::string(error.what()) == "a key was given twice: give each key once");
+        CHECK(error.status == ZEROTRIE_DUPLICATE_KEY);
     }
     // a cursor inside a span, the key C3 A9 with 5
     const std::string span = "\xA2\xC3\xA9\x85";
@@ -266,6 +379,8 @@ int main(int count, char **arguments) {
     CHECK(inside && inside->run() == "\xA9" && !inside->take_value() && inside->step(0xA9) == 0xA9 && inside->run().empty());
     CHECK(inside->take_value() == 5 && inside->is_empty() && !inside->probe(0) && inside->run().empty());
     builds(map, bytes);
+    causes();
+    owner();
     rooms();
     keys_that_go();
     bytes_that_stay();

@@ -5,3 +5,6 @@ mod FrontLemmas
 mod EntryLemmas
 mod DenseLemmas
 pub mod Parts
+mod FlatLemmas
+mod FrontsLemmas
+mod BoundLemmas

@@ -1,16 +1,21 @@
 -- Builds as C is told of them.
-use Rattle.std.specs.Prelude.{◌≡◌, ℕ, ◌≤◌, ◌<◌, ◌⊎◌, List, Result, Ok, Err, length, drop, ◌++◌, map}
+use Rattle.std.specs.Prelude.{◌≡◌, ℕ, ◌≤◌, ◌<◌, ◌⊎◌, List, Result, Ok, Err, length, drop, ◌++◌, map, zip}
 use Rattle.zerotrie_core.specs.Kind.{Kind}
 use Rattle.zerotrie_core.specs.Maps.{Pairs}
 use Rattle.zerotrie_core.specs.Routes.{Route, IsBuild, IsLength}
 use Rattle.zerotrie_core.specs.declared.ZeroTrieBuildError.{ZeroTrieBuildError}
 use Rattle.zerotrie_core.specs.declared.ZeroTrieBuildError.TheVariants.{BufferTooSmall}
+use Rattle.zerotrie_c.specs.Keys.{keys_from}
 use Rattle.zerotrie_c.specs.Statuses.{done, status_of}
 use Rattle.zerotrie_c.specs.declared.builds.Pair.{Pair}
 
 -- the pairs that were given
 abbrev pub given : List Pair → Pairs
 given pairs = map {B = List ℕ × ℕ} (λ p. (p.key.now, p.value)) pairs
+
+-- the pairs of the keys that lie one after another up to these ends, and of the values, as many as the shorter of both
+abbrev pub given_flat : List ℕ → List ℕ → List ℕ → Pairs
+given_flat keys ends values = zip (keys_from 0 keys ends) values
 
 -- The bytes stand at the front of the room, and the rest of it stays; or it has no room for them, and all of it
 -- stays. Their length is told.

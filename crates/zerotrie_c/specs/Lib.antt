@@ -3,6 +3,9 @@ pub mod Statuses
 pub mod Answers
 pub mod Keys
 pub mod Builds
+pub mod Refusals
+pub mod FaultNumbers
+pub mod Fronts
 pub mod Tags
 pub mod Listed
 pub mod Entries

@@ -26,7 +26,7 @@ pub struct Pair<'a> {
 }
 
 /// Returns the pairs as items. The keys are borrowed.
-fn items_of<'a>(alloc: Global, pairs: &[Pair<'a>]) -> Result<Vec<(&'a [u8], usize)>, AllocError>
+pub fn items_of<'a>(alloc: Global, pairs: &[Pair<'a>]) -> Result<Vec<(&'a [u8], usize)>, AllocError>
     ensures { IfOk result (λ items. pairs_of items.items ≡ given pairs.now) }
 {
     let mut items = Vec::with_capacity(alloc, pairs.len())?;

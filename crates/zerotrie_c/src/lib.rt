@@ -4,11 +4,17 @@
 //! declares the exports, and says what a caller must keep to: nothing checks it.
 #![tactic(auto)]
 
+pub mod bounds;
 pub mod builds;
 pub mod cursors;
 pub mod dense;
 mod entries;
+pub mod faults;
+pub mod flat;
+pub mod fronts;
 pub mod listings;
 pub mod look_up;
 pub mod numbers;
+pub mod refusals;
 pub mod tags;
+pub mod version;
