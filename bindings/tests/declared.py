@@ -143,11 +143,13 @@ def statuses():
     records = dict(zip(("ZEROTRIE_RECORD_TRUNCATED", "ZEROTRIE_TRAILING_BYTES"),
                        re.findall(r'#\[error\("(.*?)"\)\]', (here / "../crates/zerotrie/src/dense/record.rt").read_text())))
     assert len(records) == 2 and all(texts[numbers[name]] == text for name, text in records.items())
-    in_rust = (here / "rust/zerotrie-proved/src/lib.rs").read_text()
-    for language, text in [("rust", in_rust), ("python", (here / "python/zerotrie/__init__.py").read_text())]:
-        table = re.search(r"TEXTS\b.*?[\[(]\n(.*?)\n[\])]", text, re.S)[1]
-        assert re.findall(r'^    "(.*)",$', table, re.M) == texts, language
-    cases = {int(number): name for number, name in re.findall(r"\((\d+), Error::(\w+)\)", in_rust)}
+    in_rust = (here / "rust/zerotrie-proved/src/error.rs").read_text()
+    rules = [text for name, text in texts_of(header, "fault").items() if numbers_of(header, "fault").get(name)]
+    for language, text in [("rust", in_rust), ("python", (here / "python/zerotrie/_errors.py").read_text())]:
+        for name, wanted in [("TEXTS", texts), ("RULES", rules)]:
+            table = re.search(rf"{name}\b.*?[\[(]\n(.*?)\n[\])]", text, re.S)[1]
+            assert re.findall(r'^    "(.*)",$', table, re.M) == wanted, (language, name)
+    cases = {int(number): name for number, name in re.findall(r"\((\d+), ErrorKind::(\w+)\)", in_rust)}
     in_c = {number: name.removeprefix("ZEROTRIE_").replace("_", "").lower() for name, number in numbers.items()}
     assert cases and all(name.lower() == in_c[number] for number, name in cases.items()), (cases, in_c)
 

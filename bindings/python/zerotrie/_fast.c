@@ -1,66 +1,98 @@
-/* The calls of zerotrie that a program makes one by one, for CPython: look-ups of a Reader, which ZeroTrie is, and steps of a Place,
- * which Cursor is. __init__.py has both types once more, by ctypes, and takes these if they are there.
+/* The calls of zerotrie that a program makes one by one, for CPython: look-ups and listings of a
+ * Reader, which a trie is, and steps of a Place, which Cursor is. __init__.py has both types once
+ * more, by ctypes, and takes these if they are there.
  *
- * A call keeps the lock of the interpreter, as a look-up takes less time than to let go of it. What may run code in Python, such as
- * to ask a number or a key of another type, comes before anything that the object holds is read. An object is set up once, for good. */
+ * A short call keeps the lock of the interpreter, as a look-up takes less time than to release it.
+ * A long one releases it, and holds a reference to the bytes meanwhile. What may run code in
+ * Python, such as to ask a number or a key of another type, comes before anything that the object
+ * holds is read. */
 #define Py_LIMITED_API 0x03090000
 #define PY_SSIZE_T_CLEAN
 #include <Python.h>
-#include <dlfcn.h>
+#include <stdlib.h>
 #include <string.h>
 
 #include "zerotrie.h"
 
-/* The functions of the library. bind() finds them in the one that __init__.py loaded, which stays loaded. */
-static __typeof__(zerotrie_get) *get;
-static __typeof__(zerotrie_longest_prefix) *longest_prefix;
-static __typeof__(zerotrie_cursor_new) *cursor_new;
-static __typeof__(zerotrie_with_prefix) *with_prefix;
-static __typeof__(zerotrie_cursor_step) *cursor_step;
-static __typeof__(zerotrie_cursor_take_value) *cursor_take_value;
-static __typeof__(zerotrie_cursor_probe) *cursor_probe;
+/* The functions of the library, and their names in the same order. __init__.py loads the library,
+ * which stays loaded, and passes their addresses to bind(). */
+static struct {
+    __typeof__(zerotrie_get) *get;
+    __typeof__(zerotrie_longest_prefix) *longest_prefix;
+    __typeof__(zerotrie_longest_prefix_at) *longest_prefix_at;
+    __typeof__(zerotrie_common_prefixes) *common_prefixes;
+    __typeof__(zerotrie_list_some) *list_some;
+    __typeof__(zerotrie_cursor_new) *cursor_new;
+    __typeof__(zerotrie_with_prefix) *with_prefix;
+    __typeof__(zerotrie_cursor_step) *cursor_step;
+    __typeof__(zerotrie_cursor_take_value) *cursor_take_value;
+    __typeof__(zerotrie_cursor_probe) *cursor_probe;
+} library;
+static const char *const names[] = {
+    "zerotrie_get", "zerotrie_longest_prefix", "zerotrie_longest_prefix_at",
+    "zerotrie_common_prefixes", "zerotrie_list_some", "zerotrie_cursor_new", "zerotrie_with_prefix",
+    "zerotrie_cursor_step", "zerotrie_cursor_take_value", "zerotrie_cursor_probe",
+};
+enum { NAMES = sizeof names / sizeof *names };
 
-/* A Reader or a Place: a kind, bytes that `view` keeps where they lie, and where a Place is. With no view nothing is set up. */
+/* From this many keys on get_many() lets other threads run. */
+enum { MANY = 256 };
+/* This many prefixes of a text are found without an allocation. */
+enum { FEW = 32 };
+
+/* A Reader or a Place: a kind, bytes that `view` keeps in place, whether keys are returned as text,
+ * and the cursor of a Place. Before it is set up it has neither view nor bytes, and no view once
+ * closed. */
 typedef struct {
     PyObject_HEAD
     PyObject *view;
     const uint8_t *bytes;
     size_t len;
     uint32_t kind;
+    bool text;
     zerotrie_cursor cursor;
 } Held;
 
-/* None, as an answer. Py_RETURN_NONE of Python 3.12's headers counts no reference, and an older Python that runs it needs one. */
+/* None, as a result. Py_RETURN_NONE of Python 3.12's headers counts no reference, and an older
+ * Python that runs it needs one. */
 static PyObject *none(void) {
     return Py_BuildValue("");
 }
 
-/* What the object holds. NULL and AttributeError if it is not set up. */
+/* What the object holds. NULL and an exception if it is not set up, or closed. */
 static Held *held_by(PyObject *object) {
     Held *held = (Held *)object;
     if (held->view)
         return held;
-    PyErr_SetString(PyExc_AttributeError, "nothing is set up here: __init__() was not called, or was refused");
+    if (held->bytes)
+        PyErr_SetString(PyExc_ValueError, "the trie is closed");
+    else
+        PyErr_SetString(PyExc_AttributeError,
+                        "nothing is set up here: __init__() was not called, or failed");
     return NULL;
 }
 
-/* Sets the object up, once: _hold(view, kind, address, length). The view keeps that many bytes at the address. */
+/* Sets the object up, once: _hold(view, kind, address, length, text). The view keeps that many
+ * bytes at the address. */
 static PyObject *hold(PyObject *object, PyObject *args) {
     Held *held = (Held *)object;
     PyObject *view;
     unsigned int kind;
     unsigned long long address;
     Py_ssize_t len;
-    if (!PyArg_ParseTuple(args, "OIKn:_hold", &view, &kind, &address, &len))
+    int text = 0;
+    if (!PyArg_ParseTuple(args, "OIKn|p:_hold", &view, &kind, &address, &len, &text))
         return NULL;
-    if (held->view) {
-        PyErr_SetString(PyExc_TypeError, "this is set up already, and stays as it is: make another one");
+    if (held->bytes) {
+        PyErr_SetString(PyExc_TypeError,
+                        "this is set up already, and stays as it is: make another one");
         return NULL;
     }
     held->kind = kind;
     held->bytes = (const uint8_t *)(uintptr_t)address;
     held->len = (size_t)len;
-    held->cursor = cursor_new(held->bytes, held->len);
+    held->text = text;
+    held->cursor = library.cursor_new(held->bytes, held->len);
     Py_INCREF(view);
     held->view = view;
     return none();
@@ -73,7 +105,7 @@ static int traverse(PyObject *object, visitproc visit, void *arg) {
     return 0;
 }
 
-/* Lets go of the bytes. From here on nothing is set up. */
+/* Drops the bytes. From here on the object is closed. */
 static int clear(PyObject *object) {
     Py_CLEAR(((Held *)object)->view);
     return 0;
@@ -88,7 +120,8 @@ static void dealloc(PyObject *object) {
     Py_DECREF(type);
 }
 
-/* Puts into words that the object is of no type that serves, if the exception is a TypeError: "a key is text or bytes, not int". */
+/* Says in words that the object is of no type that serves, if the exception is a TypeError: "a key
+ * is text or bytes, not int". */
 static void in_words(const char *what, PyObject *given) {
     PyObject *name;
     if (!PyErr_ExceptionMatches(PyExc_TypeError))
@@ -100,7 +133,8 @@ static void in_words(const char *what, PyObject *given) {
     Py_XDECREF(name);
 }
 
-/* A `bytes` of the key, to let go of, whose bytes go to *text. NULL and an exception if it is no key. */
+/* A new reference to a `bytes` of the key, whose bytes go to *text. NULL and an exception if it is
+ * no key. */
 static PyObject *bytes_of(PyObject *key, zerotrie_bytes *text) {
     PyObject *bytes;
     char *start;
@@ -111,7 +145,7 @@ static PyObject *bytes_of(PyObject *key, zerotrie_bytes *text) {
     } else if (PyUnicode_Check(key)) {
         bytes = PyUnicode_AsUTF8String(key);
     } else {
-        /* a copy, as what lends its bytes may change them; a number lends none */
+        /* a copy, as what has a buffer may change it; a number has none */
         PyObject *view = PyMemoryView_FromObject(key);
         bytes = view ? PyObject_Bytes(view) : NULL;
         if (!view)
@@ -125,24 +159,44 @@ static PyObject *bytes_of(PyObject *key, zerotrie_bytes *text) {
     return bytes;
 }
 
-/* 1 if the trie has the key, whose value goes to *value. 0 if not. -1 and an exception if it is no key. */
+/* Bytes of a key as they are returned: `bytes`, or text. */
+static PyObject *word_of(bool text, const uint8_t *start, size_t len) {
+    if (text)
+        return PyUnicode_DecodeUTF8((const char *)start, (Py_ssize_t)len, NULL);
+    return PyBytes_FromStringAndSize((const char *)start, (Py_ssize_t)len);
+}
+
+/* A pair of a key and its value, as it is returned. */
+static PyObject *pair_of(bool text, const uint8_t *start, size_t len, size_t value) {
+    PyObject *key = word_of(text, start, len), *number = key ? PyLong_FromSize_t(value) : NULL;
+    PyObject *pair = number ? PyTuple_Pack(2, key, number) : NULL;
+    Py_XDECREF(key);
+    Py_XDECREF(number);
+    return pair;
+}
+
+/* 1 if the trie has the key, whose value goes to *value. 0 if not. -1 and an exception if it is no
+ * key. */
 static int find(PyObject *object, PyObject *key, size_t *value) {
     zerotrie_bytes text;
     PyObject *bytes = bytes_of(key, &text);
     Held *held = bytes ? held_by(object) : NULL;
-    int answer = held ? get(held->kind, held->bytes, held->len, text.ptr, text.len, value) : -1;
+    int found = -1;
+    if (held)
+        found = library.get(held->kind, held->bytes, held->len, text.ptr, text.len, value);
     Py_XDECREF(bytes);
-    return answer;
+    return found;
 }
 
 /* trie[key] */
 static PyObject *reader_getitem(PyObject *object, PyObject *key) {
     size_t value;
-    int answer = find(object, key, &value);
-    if (answer > 0)
+    int found = find(object, key, &value);
+    if (found > 0)
         return PyLong_FromSize_t(value);
-    if (!answer) {
-        /* the error is made here: to raise a key that is a tuple or an error would spread it, or raise the key itself */
+    if (!found) {
+        /* the error is made here: to raise a key that is a tuple or an error would spread it, or
+         * raise the key itself */
         PyObject *error = PyObject_CallFunctionObjArgs(PyExc_KeyError, key, NULL);
         if (error)
             PyErr_SetObject(PyExc_KeyError, error);
@@ -159,46 +213,116 @@ static int reader_contains(PyObject *object, PyObject *key) {
 
 /* trie.get(key, default=None) */
 static PyObject *reader_get(PyObject *object, PyObject *args, PyObject *words) {
-    static char *names[] = { "key", "default", NULL };
-    PyObject *key, *answer = Py_None;
+    static char *parameters[] = { "key", "default", NULL };
+    PyObject *key, *result = Py_None;
     size_t value;
     int found;
     if (!words && PyTuple_Size(args) == 1)
         key = PyTuple_GetItem(args, 0);
-    else if (!PyArg_ParseTupleAndKeywords(args, words, "O|O:get", names, &key, &answer))
+    else if (!PyArg_ParseTupleAndKeywords(args, words, "O|O:get", parameters, &key, &result))
         return NULL;
     /* held, as the words may be those of somebody else, who changes them meanwhile */
     Py_INCREF(key);
-    Py_INCREF(answer);
+    Py_INCREF(result);
     found = find(object, key, &value);
     Py_DECREF(key);
     if (found) {
-        Py_DECREF(answer);
-        answer = found > 0 ? PyLong_FromSize_t(value) : NULL;
+        Py_DECREF(result);
+        result = found > 0 ? PyLong_FromSize_t(value) : NULL;
     }
-    return answer;
+    return result;
 }
 
-/* trie.longest_prefix(text) */
-static PyObject *reader_longest_prefix(PyObject *object, PyObject *given) {
-    zerotrie_bytes text;
-    PyObject *bytes = bytes_of(given, &text), *answer = NULL;
-    Held *held = bytes ? held_by(object) : NULL;
+/* A new reference to a `bytes` of the delimiters, which go to *borders. NULL and an exception if
+ * they are none: a delimiter is one byte, and a character beyond ASCII has more. */
+static PyObject *delimiters_of(PyObject *given, zerotrie_bytes *borders) {
+    PyObject *bytes = bytes_of(given, borders);
+    if (bytes && PyUnicode_Check(given) && PyUnicode_GetLength(given) != PyBytes_Size(bytes)) {
+        PyErr_SetString(PyExc_ValueError, "a delimiter is one byte: name ASCII characters");
+        Py_CLEAR(bytes);
+    }
+    return bytes;
+}
+
+/* trie.longest_prefix(text, at=None) */
+static PyObject *reader_longest_prefix(PyObject *object, PyObject *args, PyObject *words) {
+    static char *parameters[] = { "", "at", NULL };
+    PyObject *given, *at = Py_None, *bytes, *borders = NULL, *result = NULL;
+    zerotrie_bytes text, ends;
     size_t len, value;
-    if (held && longest_prefix(held->kind, held->bytes, held->len, text.ptr, text.len, &len, &value)) {
-        PyObject *key = PyBytes_FromStringAndSize((const char *)text.ptr, (Py_ssize_t)len), *number = PyLong_FromSize_t(value);
-        answer = key && number ? PyTuple_Pack(2, key, number) : NULL;
-        Py_XDECREF(key);
-        Py_XDECREF(number);
-    } else if (held) {
-        answer = none();
-    }
+    Held *held;
+    bool found = false;
+    if (!words && PyTuple_Size(args) == 1)
+        given = PyTuple_GetItem(args, 0);
+    else if (!PyArg_ParseTupleAndKeywords(args, words, "O|O:longest_prefix", parameters, &given,
+                                          &at))
+        return NULL;
+    Py_INCREF(given);
+    Py_INCREF(at);
+    bytes = bytes_of(given, &text);
+    if (bytes && at != Py_None)
+        borders = delimiters_of(at, &ends);
+    held = bytes && (at == Py_None || borders) ? held_by(object) : NULL;
+    if (held && borders)
+        found = library.longest_prefix_at(held->kind, held->bytes, held->len, text.ptr, text.len,
+                                          ends.ptr, ends.len, &len, &value);
+    else if (held)
+        found = library.longest_prefix(held->kind, held->bytes, held->len, text.ptr, text.len, &len,
+                                       &value);
+    if (held)
+        result = found ? pair_of(held->text, text.ptr, len, value) : none();
     Py_XDECREF(bytes);
-    return answer;
+    Py_XDECREF(borders);
+    Py_DECREF(given);
+    Py_DECREF(at);
+    return result;
 }
 
-/* Whether the object is a number of so many bits, which goes to *number. If not, an exception says what it should be. */
-static bool number_of(PyObject *given, const char *words, const char *what, unsigned bits, size_t *number) {
+/* A list of the beginnings of the text that have these lengths, with their values. */
+static PyObject *fronts_of(bool text, const uint8_t *start, size_t count, const size_t *lens,
+                           const size_t *values) {
+    PyObject *list = PyList_New((Py_ssize_t)count);
+    for (size_t number = 0; list && number < count; number++) {
+        PyObject *pair = pair_of(text, start, lens[number], values[number]);
+        if (!pair || PyList_SetItem(list, (Py_ssize_t)number, pair) < 0)
+            Py_CLEAR(list);
+    }
+    return list;
+}
+
+/* trie.prefixes(text) */
+static PyObject *reader_prefixes(PyObject *object, PyObject *given) {
+    size_t few[2 * FEW], *rooms = few, room = FEW, count;
+    zerotrie_bytes text;
+    PyObject *bytes = bytes_of(given, &text), *result = NULL;
+    Held *held = bytes ? held_by(object) : NULL;
+    while (held) {
+        count = library.common_prefixes(held->kind, held->bytes, held->len, text.ptr, text.len,
+                                        rooms, room, rooms + room, room);
+        if (count <= room) {
+            result = fronts_of(held->text, text.ptr, count, rooms, rooms + room);
+            break;
+        }
+        if (rooms != few)
+            free(rooms);
+        room = count;
+        rooms = malloc(2 * sizeof *rooms * room);
+        if (!rooms) {
+            rooms = few;
+            PyErr_NoMemory();
+            break;
+        }
+    }
+    if (rooms != few)
+        free(rooms);
+    Py_XDECREF(bytes);
+    return result;
+}
+
+/* Whether the object is a number of so many bits, which goes to *number. If not, an exception says
+ * what it should be. */
+static bool number_of(PyObject *given, const char *words, const char *what, unsigned bits,
+                      size_t *number) {
     PyObject *whole = PyNumber_Index(given);
     if (!whole) {
         in_words(words, given);
@@ -212,12 +336,193 @@ static bool number_of(PyObject *given, const char *words, const char *what, unsi
     return false;
 }
 
+/* Looks the keys up, and replaces each by its value, or by `missing`. It releases the lock if they
+ * are many. */
+static void look_up(Held *held, const zerotrie_bytes *keys, size_t count, size_t missing,
+                    size_t *values) {
+    PyObject *view = held->view;
+    const uint8_t *bytes = held->bytes;
+    size_t len = held->len;
+    uint32_t kind = held->kind;
+    PyThreadState *state;
+    Py_INCREF(view);
+    state = count < MANY ? NULL : PyEval_SaveThread();
+    for (size_t number = 0; number < count; number++) {
+        values[number] = missing;
+        (void)!library.get(kind, bytes, len, keys[number].ptr, keys[number].len, values + number);
+    }
+    if (state)
+        PyEval_RestoreThread(state);
+    Py_DECREF(view);
+}
+
+/* The values of a list of keys, as the bytes of an array. It makes each key of the list a `bytes`,
+ * which keeps its bytes in place. */
+static PyObject *values_of(PyObject *object, PyObject *list, size_t missing) {
+    Py_ssize_t count = PyList_Size(list);
+    zerotrie_bytes *keys = malloc((size_t)count * sizeof *keys + 1);
+    const Py_ssize_t size = count * (Py_ssize_t)sizeof(size_t);
+    PyObject *values = keys ? PyBytes_FromStringAndSize(NULL, size) : NULL;
+    Held *held = NULL;
+    Py_ssize_t number = 0;
+    if (!keys)
+        PyErr_NoMemory();
+    for (; values && number < count; number++) {
+        PyObject *bytes = bytes_of(PyList_GetItem(list, number), keys + number);
+        if (!bytes || PyList_SetItem(list, number, bytes) < 0)
+            break;
+    }
+    if (values && number == count)
+        held = held_by(object);
+    if (held)
+        look_up(held, keys, (size_t)count, missing, (size_t *)(void *)PyBytes_AsString(values));
+    else
+        Py_CLEAR(values);
+    free(keys);
+    return values;
+}
+
+/* _values_of(keys, missing): the value of each key, as the bytes of an array. */
+static PyObject *reader_values_of(PyObject *object, PyObject *args) {
+    PyObject *keys, *given, *list, *values = NULL;
+    size_t missing;
+    if (!PyArg_ParseTuple(args, "OO:_values_of", &keys, &given))
+        return NULL;
+    /* a list of this call's own, whose keys nobody else replaces */
+    list = PySequence_List(keys);
+    if (list && number_of(given, "missing is a whole number", "missing", 64, &missing))
+        values = values_of(object, list, missing);
+    Py_XDECREF(list);
+    return values;
+}
+
+/* What a listing is asked for. __init__.py has the same numbers. */
+enum { KEYS, VALUES, PAIRS, COUNT };
+
+/* A part of a listing: rooms for keys, where each ends, and values; and how many there are. */
+typedef struct {
+    uint8_t *keys;
+    size_t room, places, *ends, *values, count, next_len;
+    uint32_t status;
+} Part;
+
+/* The list of what was asked for; a range, if only the number was. */
+static PyObject *list_of(const Part *part, long what, bool text) {
+    PyObject *list;
+    size_t from = 0;
+    if (what == COUNT)
+        return PyObject_CallFunction((PyObject *)&PyRange_Type, "n", (Py_ssize_t)part->count);
+    list = PyList_New((Py_ssize_t)part->count);
+    for (size_t number = 0; list && number < part->count; number++) {
+        const uint8_t *key = part->keys + from;
+        const size_t len = part->ends[number] - from;
+        PyObject *made = what == KEYS     ? word_of(text, key, len)
+                         : what == VALUES ? PyLong_FromSize_t(part->values[number])
+                                          : pair_of(text, key, len, part->values[number]);
+        if (!made || PyList_SetItem(list, (Py_ssize_t)number, made) < 0)
+            Py_CLEAR(list);
+        from = part->ends[number];
+    }
+    return list;
+}
+
+/* Lists a part behind the key `last`, or from the front if it is null. It releases the lock. */
+static void list_part(Held *held, zerotrie_bytes front, const zerotrie_bytes *last, Part *part) {
+    const zerotrie_bytes after = last ? *last : zerotrie_bytes_of(NULL, 0);
+    PyObject *view = held->view;
+    const uint8_t *bytes = held->bytes;
+    size_t len = held->len;
+    uint32_t kind = held->kind;
+    PyThreadState *state;
+    Py_INCREF(view);
+    state = PyEval_SaveThread();
+    part->status = library.list_some(kind, bytes, len, front.ptr, front.len, last != NULL,
+                                     after.ptr, after.len, part->keys, part->room, part->ends,
+                                     part->places, part->values, part->places, &part->count,
+                                     &part->next_len);
+    PyEval_RestoreThread(state);
+    Py_DECREF(view);
+}
+
+/* The result of _part(): a list, the last key, the status, and the length of the next key. */
+static PyObject *told_of(const Part *part, long what, bool text, PyObject *last) {
+    PyObject *list = list_of(part, what, text);
+    size_t from = part->count > 1 ? part->ends[part->count - 2] : 0;
+    if (!list)
+        return NULL;
+    if (!part->count)
+        return Py_BuildValue("(NOIn)", list, last, part->status, (Py_ssize_t)part->next_len);
+    return Py_BuildValue("(Ny#In)", list, (const char *)part->keys + from,
+                         (Py_ssize_t)(part->ends[part->count - 1] - from), part->status,
+                         (Py_ssize_t)part->next_len);
+}
+
+/* _part(what, front, last, room, places): the pairs of a listing behind the key `last`, or the
+ * first ones if it is None, as many as there is room for. */
+static PyObject *reader_part(PyObject *object, PyObject *args) {
+    PyObject *front, *last, *result = NULL;
+    zerotrie_bytes begins, after;
+    Py_ssize_t room, places;
+    long what;
+    Part part = { 0 };
+    Held *held = held_by(object);
+    if (!held || !PyArg_ParseTuple(args, "lSOnn:_part", &what, &front, &last, &room, &places))
+        return NULL;
+    begins = zerotrie_bytes_of(PyBytes_AsString(front), (size_t)PyBytes_Size(front));
+    if (last != Py_None) {
+        if (!PyBytes_Check(last)) {
+            PyErr_SetString(PyExc_TypeError, "the last key is bytes");
+            return NULL;
+        }
+        after = zerotrie_bytes_of(PyBytes_AsString(last), (size_t)PyBytes_Size(last));
+    }
+    part.room = (size_t)room;
+    part.places = (size_t)places;
+    part.keys = malloc(part.room + 1);
+    part.ends = malloc(2 * sizeof *part.ends * part.places + 1);
+    part.values = part.ends + part.places;
+    if (part.keys && part.ends) {
+        list_part(held, begins, last == Py_None ? NULL : &after, &part);
+        result = told_of(&part, what, held->text, last);
+    } else {
+        PyErr_NoMemory();
+    }
+    free(part.keys);
+    free(part.ends);
+    return result;
+}
+
+/* _lent(): the view, the kind, where its bytes are, and how many they are. */
+static PyObject *reader_lent(PyObject *object, PyObject *Py_UNUSED(unused)) {
+    Held *held = held_by(object);
+    if (!held)
+        return NULL;
+    return Py_BuildValue("(OIKn)", held->view, held->kind,
+                         (unsigned long long)(uintptr_t)held->bytes, (Py_ssize_t)held->len);
+}
+
+/* _close(): drops the bytes. */
+static PyObject *reader_close(PyObject *object, PyObject *Py_UNUSED(unused)) {
+    (void)clear(object);
+    return none();
+}
+
+/* Reader[Word], as annotations and base classes write it, is Reader. */
+static PyObject *reader_of(PyObject *type, PyObject *Py_UNUSED(word)) {
+    Py_INCREF(type);
+    return type;
+}
+
 /* cursor.step(byte) */
 static PyObject *place_step(PyObject *object, PyObject *given) {
     size_t byte;
     uint8_t edge;
-    Held *held = number_of(given, "a byte is a whole number", "a byte", 8, &byte) ? held_by(object) : NULL;
-    if (held && cursor_step(held->kind, held->bytes, held->len, &held->cursor, (uint8_t)byte, &edge))
+    Held *held = NULL;
+    if (number_of(given, "a byte is a whole number", "a byte", 8, &byte))
+        held = held_by(object);
+    if (held
+        && library.cursor_step(held->kind, held->bytes, held->len, &held->cursor, (uint8_t)byte,
+                               &edge))
         return PyLong_FromLong(edge);
     return held ? none() : NULL;
 }
@@ -227,8 +532,12 @@ static PyObject *place_probe(PyObject *object, PyObject *given) {
     size_t index;
     uint8_t edge;
     uint16_t siblings;
-    Held *held = number_of(given, "an index is a whole number", "an index", 64, &index) ? held_by(object) : NULL;
-    if (held && cursor_probe(held->kind, held->bytes, held->len, &held->cursor, index, &edge, &siblings))
+    Held *held = NULL;
+    if (number_of(given, "an index is a whole number", "an index", 64, &index))
+        held = held_by(object);
+    if (held
+        && library.cursor_probe(held->kind, held->bytes, held->len, &held->cursor, index, &edge,
+                                &siblings))
         return Py_BuildValue("(ii)", edge, siblings);
     return held ? none() : NULL;
 }
@@ -237,27 +546,30 @@ static PyObject *place_probe(PyObject *object, PyObject *given) {
 static PyObject *place_take_value(PyObject *object, PyObject *Py_UNUSED(unused)) {
     size_t value;
     Held *held = held_by(object);
-    if (held && cursor_take_value(held->bytes, held->len, &held->cursor, &value))
+    if (held && library.cursor_take_value(held->bytes, held->len, &held->cursor, &value))
         return PyLong_FromSize_t(value);
     return held ? none() : NULL;
 }
 
-/* _go(prefix): from the front of the trie, goes behind a prefix. Answers whether some key begins with it. */
+/* _go(prefix): from the front of the trie, goes behind a prefix. Returns whether a key begins with
+ * it. */
 static PyObject *place_go(PyObject *object, PyObject *prefix) {
     zerotrie_bytes text;
-    PyObject *bytes = bytes_of(prefix, &text), *answer = NULL;
+    PyObject *bytes = bytes_of(prefix, &text), *result = NULL;
     Held *held = bytes ? held_by(object) : NULL;
     if (held) {
-        held->cursor = with_prefix(held->kind, held->bytes, held->len, text.ptr, text.len);
-        answer = PyBool_FromLong(!zerotrie_cursor_is_empty(held->cursor));
+        held->cursor = library.with_prefix(held->kind, held->bytes, held->len, text.ptr, text.len);
+        result = PyBool_FromLong(!zerotrie_cursor_is_empty(held->cursor));
     }
     Py_XDECREF(bytes);
-    return answer;
+    return result;
 }
 
 /* _copied(): a Place of the same type that holds the same. */
 static PyObject *place_copied(PyObject *object, PyObject *Py_UNUSED(unused)) {
-    Held *held = held_by(object), *made = held ? (Held *)PyType_GenericAlloc(Py_TYPE(object), 0) : NULL;
+    Held *held = held_by(object), *made = NULL;
+    if (held)
+        made = (Held *)PyType_GenericAlloc(Py_TYPE(object), 0);
     if (made) {
         made->kind = held->kind;
         made->bytes = held->bytes;
@@ -285,41 +597,51 @@ static int place_bool(PyObject *object) {
     return held ? !zerotrie_cursor_is_empty(held->cursor) : -1;
 }
 
-/* bind(handle): finds the functions in the library that has this handle of dlopen(). ImportError if it has not all of them. */
-static PyObject *bind(PyObject *Py_UNUSED(module), PyObject *handle) {
-    const struct { const char *name; void *to; } wanted[] = {
-        { "zerotrie_get", &get }, { "zerotrie_longest_prefix", &longest_prefix }, { "zerotrie_cursor_new", &cursor_new },
-        { "zerotrie_with_prefix", &with_prefix }, { "zerotrie_cursor_step", &cursor_step },
-        { "zerotrie_cursor_take_value", &cursor_take_value }, { "zerotrie_cursor_probe", &cursor_probe },
-    };
-    void *library = PyLong_AsVoidPtr(handle);
-    if (PyErr_Occurred())
-        return NULL;
-    for (size_t number = 0; number < sizeof wanted / sizeof *wanted; number++) {
-        void *function = dlsym(library, wanted[number].name);
-        if (!function)
-            return PyErr_Format(PyExc_ImportError, "the library has no function %s", wanted[number].name);
-        memcpy(wanted[number].to, &function, sizeof function);
+/* bind(addresses): where the functions are, in the order of NAMES. */
+static PyObject *bind(PyObject *Py_UNUSED(module), PyObject *addresses) {
+    void *found[NAMES];
+    if (PySequence_Size(addresses) != NAMES)
+        return PyErr_Format(PyExc_ValueError, "bind() takes %d addresses", NAMES);
+    for (Py_ssize_t number = 0; number < NAMES; number++) {
+        PyObject *address = PySequence_GetItem(addresses, number);
+        found[number] = address ? PyLong_AsVoidPtr(address) : NULL;
+        Py_XDECREF(address);
+        if (PyErr_Occurred())
+            return NULL;
     }
+    memcpy(&library, found, sizeof library);
     return none();
 }
 
 /* A pointer to a function among pointers to data, for which ISO C has no cast. */
 #define SLOT(id, function) { id, __extension__(void *)(function) }
 #define HOLD SLOT(Py_tp_dealloc, dealloc), SLOT(Py_tp_traverse, traverse), SLOT(Py_tp_clear, clear)
+#define WORDS(function) (PyCFunction)(void (*)(void))(function), METH_VARARGS | METH_KEYWORDS
 #define DOC(signature, text) signature "\n--\n\n" text
 #define FLAGS Py_TPFLAGS_DEFAULT | Py_TPFLAGS_BASETYPE | Py_TPFLAGS_HAVE_GC
 
 static PyMethodDef reader_methods[] = {
     { "_hold", hold, METH_VARARGS, NULL },
-    { "get", (PyCFunction)(void (*)(void))reader_get, METH_VARARGS | METH_KEYWORDS,
+    { "_lent", reader_lent, METH_NOARGS, NULL },
+    { "_close", reader_close, METH_NOARGS, NULL },
+    { "_part", reader_part, METH_VARARGS, NULL },
+    { "_values_of", reader_values_of, METH_VARARGS, NULL },
+    { "__class_getitem__", reader_of, METH_O | METH_CLASS, NULL },
+    { "get", WORDS(reader_get),
       DOC("get($self, /, key, default=None)", "The value of the key, or `default`.") },
-    { "longest_prefix", reader_longest_prefix, METH_O,
-      DOC("longest_prefix($self, text, /)", "The longest key that the text begins with, and its value. None: it begins with no key.") },
+    { "longest_prefix", WORDS(reader_longest_prefix),
+      DOC("longest_prefix($self, text, /, at=None)",
+          "The longest key that the text begins with, and its value. None: it begins with no key."
+          "\n\nWith `at`, which names delimiters, it is the longest key after which the text ends or "
+          "continues with one\nof them; the empty key counts too.") },
+    { "prefixes", reader_prefixes, METH_O,
+      DOC("prefixes($self, text, /)",
+          "All keys that the text begins with, and their values, the shortest first.") },
     { NULL, NULL, 0, NULL },
 };
 static PyType_Slot reader_slots[] = {
-    HOLD, SLOT(Py_mp_subscript, reader_getitem), SLOT(Py_sq_contains, reader_contains), { Py_tp_methods, reader_methods }, { 0, NULL },
+    HOLD, SLOT(Py_mp_subscript, reader_getitem), SLOT(Py_sq_contains, reader_contains),
+    { Py_tp_methods, reader_methods }, { 0, NULL },
 };
 static PyType_Spec reader = { "zerotrie._fast.Reader", sizeof(Held), 0, FLAGS, reader_slots };
 
@@ -329,39 +651,62 @@ static PyMethodDef place_methods[] = {
     { "_copied", place_copied, METH_NOARGS, NULL },
     { "step", place_step, METH_O,
       DOC("step($self, byte, /)",
-          "Goes along the edge that is the byte to the kind, and answers its byte as it is stored. None: nothing is left.") },
+          "Follows the edge that is the byte to the kind, and returns its byte as it is stored. "
+          "None: nothing is left.") },
     { "probe", place_probe, METH_O,
       DOC("probe($self, index, /)",
-          "Goes along edge number `index`, from 0, and answers its byte and how many edges there are. None: nothing is left.") },
+          "Follows edge number `index`, from 0, and returns its byte and how many edges there are. "
+          "None: nothing is left.") },
     { "take_value", place_take_value, METH_NOARGS,
-      DOC("take_value($self, /)", "Takes the value of the key that ends here. None: no key does, or it was taken.") },
+      DOC("take_value($self, /)",
+          "Takes the value of the key that ends here. None: no key does, or it was taken.") },
     { NULL, NULL, 0, NULL },
 };
 static PyGetSetDef place_parts[] = {
-    { "run", place_run, NULL, "What is left of the span that it stands in: each key goes on with it. Empty outside of spans.", NULL },
+    { "run", place_run, NULL,
+      "What is left of the span that it is in: each key continues with it. Empty outside of spans.",
+      NULL },
     { NULL, NULL, NULL, NULL, NULL },
 };
 static PyType_Slot place_slots[] = {
-    HOLD, SLOT(Py_nb_bool, place_bool), { Py_tp_methods, place_methods }, { Py_tp_getset, place_parts }, { 0, NULL },
+    HOLD, SLOT(Py_nb_bool, place_bool), { Py_tp_methods, place_methods },
+    { Py_tp_getset, place_parts }, { 0, NULL },
 };
 static PyType_Spec place = { "zerotrie._fast.Place", sizeof(Held), 0, FLAGS, place_slots };
 
-/* Fills the module: its two types. */
-static int fill(PyObject *module) {
-    const struct { const char *name; PyType_Spec *spec; } types[] = { { "Reader", &reader }, { "Place", &place } };
-    for (int number = 0; number < 2; number++) {
-        PyObject *type = PyType_FromSpec(types[number].spec);
-        if (!type || PyModule_AddObject(module, types[number].name, type) < 0) {
-            Py_XDECREF(type);
-            return -1;
-        }
+/* Adds an object, which it takes over, to the module. */
+static int add(PyObject *module, const char *name, PyObject *object) {
+    if (object && PyModule_AddObject(module, name, object) == 0)
+        return 0;
+    Py_XDECREF(object);
+    return -1;
+}
+
+/* The names of the functions that bind() takes. */
+static PyObject *names_wanted(void) {
+    PyObject *list = PyList_New(NAMES);
+    for (Py_ssize_t number = 0; list && number < NAMES; number++) {
+        PyObject *name = PyUnicode_FromString(names[number]);
+        if (!name || PyList_SetItem(list, number, name) < 0)
+            Py_CLEAR(list);
     }
-    return 0;
+    return list;
+}
+
+/* Fills the module: its two types, and the names. */
+static int fill(PyObject *module) {
+    if (add(module, "Reader", PyType_FromSpec(&reader)) < 0)
+        return -1;
+    if (add(module, "Place", PyType_FromSpec(&place)) < 0)
+        return -1;
+    return add(module, "NAMES", names_wanted());
 }
 
 static PyMethodDef functions[] = { { "bind", bind, METH_O, NULL }, { NULL, NULL, 0, NULL } };
 static PyModuleDef_Slot steps[] = { SLOT(Py_mod_exec, fill), { 0, NULL } };
-static PyModuleDef definition = { PyModuleDef_HEAD_INIT, "zerotrie._fast", NULL, 0, functions, steps, NULL, NULL, NULL };
+static PyModuleDef definition = {
+    PyModuleDef_HEAD_INIT, "zerotrie._fast", NULL, 0, functions, steps, NULL, NULL, NULL,
+};
 
 PyMODINIT_FUNC PyInit__fast(void);
 

@@ -1,4 +1,4 @@
-//! Links libzerotrie.a: that of the folder which ZEROTRIE_LIB names; else that which a release has inside of the crate, in
+//! Links libzerotrie.a: that of the folder which `ZEROTRIE_LIB` names; else that which a release has inside of the crate, in
 //! native/TARGET; else where `bindings/make` leaves it; else where pkg-config finds it. `cargo check` and `cargo doc` need none.
 use std::{env, path::PathBuf, process::Command};
 
@@ -21,17 +21,23 @@ fn main() {
     let here = PathBuf::from(env::var_os("CARGO_MANIFEST_DIR").unwrap());
     let inside = here.join("native").join(env::var_os("TARGET").unwrap());
     let named = env::var_os("ZEROTRIE_LIB").map(PathBuf::from);
-    let near = [inside, here.join("../../build")].into_iter().find(|lib| lib.join("libzerotrie.a").exists());
-    let lib = match named.or(near).or_else(installed) {
-        Some(lib) => lib,
-        None => {
-            let help = "take the crate of a release, run bindings/make, or name its folder in ZEROTRIE_LIB";
-            println!("cargo:warning=no libzerotrie.a: {help}");
-            return;
-        }
+    let near = [inside, here.join("../../build")]
+        .into_iter()
+        .find(|lib| lib.join("libzerotrie.a").exists());
+    let lib = if let Some(lib) = named.or(near).or_else(installed) {
+        lib
+    } else {
+        let help =
+            "take the crate of a release, run bindings/make, or name its folder in ZEROTRIE_LIB";
+        println!("cargo:warning=no libzerotrie.a: {help}");
+        return;
     };
     let archive = lib.join("libzerotrie.a");
     println!("cargo:rerun-if-changed={}", archive.display());
-    assert!(archive.exists(), "no {}: name the folder of libzerotrie.a in ZEROTRIE_LIB by its whole path", archive.display());
+    assert!(
+        archive.exists(),
+        "no {}: name the folder of libzerotrie.a in ZEROTRIE_LIB by its whole path",
+        archive.display()
+    );
     println!("cargo:rustc-link-search=native={}", lib.display());
 }

@@ -23,37 +23,61 @@ pub struct Cursor {
 }
 
 #[rustfmt::skip]
-unsafe extern "C" {
+extern "C" {
+    pub fn zerotrie_version() -> u32;
     pub fn zerotrie_is_well_formed(kind: u32, bytes: *const u8, len: usize) -> bool;
-    pub fn zerotrie_get(kind: u32, bytes: *const u8, len: usize, key: *const u8, key_len: usize, value: *mut usize) -> bool;
-    pub fn zerotrie_get_many(kind: u32, bytes: *const u8, len: usize, keys: *const u8, keys_len: usize, ends: *const usize,
-        ends_len: usize, missing: usize, values: *mut usize, values_len: usize) -> u32;
-    pub fn zerotrie_longest_prefix(kind: u32, bytes: *const u8, len: usize, text: *const u8, text_len: usize,
-        key_len: *mut usize, value: *mut usize) -> bool;
+    pub fn zerotrie_first_fault(kind: u32, bytes: *const u8, len: usize, at: *mut usize) -> u32;
+    pub fn zerotrie_get(kind: u32, bytes: *const u8, len: usize, key: *const u8, key_len: usize,
+        value: *mut usize) -> bool;
+    pub fn zerotrie_get_many(kind: u32, bytes: *const u8, len: usize, keys: *const u8,
+        keys_len: usize, ends: *const usize, ends_len: usize, missing: usize, values: *mut usize,
+        values_len: usize) -> u32;
+    pub fn zerotrie_longest_prefix(kind: u32, bytes: *const u8, len: usize, text: *const u8,
+        text_len: usize, key_len: *mut usize, value: *mut usize) -> bool;
+    pub fn zerotrie_longest_prefix_at(kind: u32, bytes: *const u8, len: usize, text: *const u8,
+        text_len: usize, delimiters: *const u8, delimiters_len: usize, prefix_len: *mut usize,
+        value: *mut usize) -> bool;
+    pub fn zerotrie_common_prefixes(kind: u32, bytes: *const u8, len: usize, text: *const u8,
+        text_len: usize, lens: *mut usize, lens_room: usize, values: *mut usize,
+        values_room: usize) -> usize;
     pub fn zerotrie_cursor_new(bytes: *const u8, len: usize) -> Cursor;
-    pub fn zerotrie_with_prefix(kind: u32, bytes: *const u8, len: usize, prefix: *const u8, prefix_len: usize) -> Cursor;
-    pub fn zerotrie_cursor_step(kind: u32, bytes: *const u8, len: usize, cursor: *mut Cursor, byte: u8, edge: *mut u8) -> bool;
-    pub fn zerotrie_cursor_take_value(bytes: *const u8, len: usize, cursor: *mut Cursor, value: *mut usize) -> bool;
-    pub fn zerotrie_cursor_probe(kind: u32, bytes: *const u8, len: usize, cursor: *mut Cursor, index: usize, edge: *mut u8,
-        siblings: *mut u16) -> bool;
+    pub fn zerotrie_with_prefix(kind: u32, bytes: *const u8, len: usize, prefix: *const u8,
+        prefix_len: usize) -> Cursor;
+    pub fn zerotrie_cursor_step(kind: u32, bytes: *const u8, len: usize, cursor: *mut Cursor,
+        byte: u8, edge: *mut u8) -> bool;
+    pub fn zerotrie_cursor_take_value(bytes: *const u8, len: usize, cursor: *mut Cursor,
+        value: *mut usize) -> bool;
+    pub fn zerotrie_cursor_probe(kind: u32, bytes: *const u8, len: usize, cursor: *mut Cursor,
+        index: usize, edge: *mut u8, siblings: *mut u16) -> bool;
     pub fn zerotrie_tagged_kind(tagged: *const u8, len: usize, kind: *mut u32) -> u32;
-    pub fn zerotrie_build(kind: u32, pairs: *const Pair, count: usize, out: *mut u8, out_len: usize, len: *mut usize) -> u32;
-    pub fn zerotrie_build_sorted(kind: u32, pairs: *const Pair, count: usize, out: *mut u8, out_len: usize,
+    pub fn zerotrie_build(kind: u32, pairs: *const Pair, count: usize, out: *mut u8, out_len: usize,
         len: *mut usize) -> u32;
-    pub fn zerotrie_encoded_len(kind: u32, pairs: *const Pair, count: usize, len: *mut usize) -> u32;
-    pub fn zerotrie_auto_kind(pairs: *const Pair, count: usize) -> u32;
-    pub fn zerotrie_tagged(kind: u32, bytes: *const u8, len: usize, out: *mut u8, out_len: usize, tagged_len: *mut usize)
+    pub fn zerotrie_build_sorted(kind: u32, pairs: *const Pair, count: usize, out: *mut u8,
+        out_len: usize, len: *mut usize) -> u32;
+    #[allow(dead_code)] // keys of this crate are slices, which need not be joined
+    pub fn zerotrie_build_many(kind: u32, keys: *const u8, keys_len: usize, ends: *const usize,
+        ends_len: usize, values: *const usize, values_len: usize, out: *mut u8, out_len: usize,
+        len: *mut usize) -> u32;
+    pub fn zerotrie_build_bound(count: usize, key_bytes: usize) -> usize;
+    pub fn zerotrie_encoded_len(kind: u32, pairs: *const Pair, count: usize, len: *mut usize)
         -> u32;
-    pub fn zerotrie_dense_get(record: *const u8, len: usize, prefix: *const u8, prefix_len: usize, suffix: *const u8,
-        suffix_len: usize, value: *mut usize) -> u32;
-    pub fn zerotrie_dense_build(prefixes: *const u8, prefixes_len: usize, prefix_ends: *const usize, prefix_count: usize,
-        suffixes: *const u8, suffixes_len: usize, suffix_ends: *const usize, suffix_count: usize, values: *const usize,
-        value_count: usize, delimiter: u8, out: *mut u8, out_len: usize, len: *mut usize) -> u32;
+    pub fn zerotrie_why_refused(kind: u32, pairs: *const Pair, count: usize, first: *mut usize,
+        second: *mut usize) -> u32;
+    pub fn zerotrie_auto_kind(pairs: *const Pair, count: usize) -> u32;
+    pub fn zerotrie_tagged(kind: u32, bytes: *const u8, len: usize, out: *mut u8, out_len: usize,
+        tagged_len: *mut usize) -> u32;
+    pub fn zerotrie_dense_get(record: *const u8, len: usize, prefix: *const u8, prefix_len: usize,
+        suffix: *const u8, suffix_len: usize, value: *mut usize) -> u32;
+    pub fn zerotrie_dense_build(prefixes: *const u8, prefixes_len: usize, prefix_ends: *const usize,
+        prefix_count: usize, suffixes: *const u8, suffixes_len: usize, suffix_ends: *const usize,
+        suffix_count: usize, values: *const usize, value_count: usize, delimiter: u8, out: *mut u8,
+        out_len: usize, len: *mut usize) -> u32;
     #[allow(dead_code)] // this crate lists in parts
-    pub fn zerotrie_list(kind: u32, bytes: *const u8, len: usize, prefix: *const u8, prefix_len: usize, keys: *mut u8,
-        keys_len: usize, ends: *mut usize, ends_len: usize, values: *mut usize, values_len: usize, key_bytes: *mut usize,
-        count: *mut usize) -> u32;
-    pub fn zerotrie_list_some(kind: u32, bytes: *const u8, len: usize, prefix: *const u8, prefix_len: usize, goes_on: bool,
-        last: *const u8, last_len: usize, keys: *mut u8, keys_len: usize, ends: *mut usize, ends_len: usize,
-        values: *mut usize, values_len: usize, count: *mut usize, next_len: *mut usize) -> u32;
+    pub fn zerotrie_list(kind: u32, bytes: *const u8, len: usize, prefix: *const u8,
+        prefix_len: usize, keys: *mut u8, keys_len: usize, ends: *mut usize, ends_len: usize,
+        values: *mut usize, values_len: usize, key_bytes: *mut usize, count: *mut usize) -> u32;
+    pub fn zerotrie_list_some(kind: u32, bytes: *const u8, len: usize, prefix: *const u8,
+        prefix_len: usize, goes_on: bool, last: *const u8, last_len: usize, keys: *mut u8,
+        keys_len: usize, ends: *mut usize, ends_len: usize, values: *mut usize, values_len: usize,
+        count: *mut usize, next_len: *mut usize) -> u32;
 }

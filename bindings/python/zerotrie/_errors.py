@@ -1,0 +1,132 @@
+"""The kinds of trie, and why something is invalid."""
+
+from __future__ import annotations
+
+import os
+from enum import IntEnum
+from typing import Any, Optional, TypeVar
+
+Other = TypeVar("Other")
+
+
+class Kind(IntEnum):
+    """The kinds of trie, by the numbers that are the first of tagged bytes."""
+
+    __module__ = "zerotrie"
+
+    #: ASCII keys.
+    SIMPLE_ASCII = 0
+    #: Any bytes; a branch of 16 edges or more is a perfect hash.
+    PERFECT_HASH = 3
+    #: The same, and a branch may reach 2**32 bytes.
+    EXTENDED_CAPACITY = 7
+    #: ASCII keys, whose letters are found in either case.
+    IGNORE_CASE = 8
+
+
+DONE, UNSORTED, TOO_SMALL, NO_MEMORY, UNKNOWN_KIND, NO_ENTRY = 0, 7, 8, 11, 12, 15
+
+#: The texts of the statuses from 0 on, as zerotrie.h has them. The test compares them.
+TEXTS = (
+    "Done",
+    "a key has a byte that is not ASCII: take a kind of trie for keys of any bytes",
+    "the text of the trie would be too long for its kind: take extended capacity, kind 7, or fewer pairs; a dense table has at most 65,535 suffixes",
+    "no perfect hash was found for the edges of a branch: take a kind without hashed tables, or change a key",
+    "two keys begin alike but for the case of a letter: lower-case the keys first",
+    "a text has the delimiter in it: take a delimiter that none has",
+    "a key was given twice: give each key once",
+    "the keys do not ascend: sort them by their bytes, each once",
+    "the array is too small for the trie: take a larger one",
+    "the array is too large for the trie: take a smaller one",
+    "the stack is too small for the trie: take a larger one",
+    "out of memory",
+    "the number is no kind of trie: take 0, 3, 7 or 8",
+    "there are no bytes, and so no tag: give all of the tagged bytes",
+    "the first byte is the tag of no kind: give bytes that were written with a tag",
+    "the table has no such entry",
+    "the record is cut: give all of its bytes",
+    "bytes follow the record: give its bytes alone",
+)
+
+#: The texts of the rules of the format, by their numbers from 1 on. The test compares them.
+RULES = (
+    "no whole node of this kind of trie begins here",
+    "a span stands in a kind of trie that has none",
+    "the bytes end where a key has to go on",
+    "a value follows a value",
+    "a span follows a span",
+    "a span is empty",
+    "a span has an ASCII byte",
+    "the search table of a branch is not one of this kind of trie",
+    "the offsets of a branch do not have the least width",
+    "the offsets of a branch do not ascend within its targets",
+)
+
+
+def remade(cls: type[Other], base: Any, *arguments: Any) -> Other:
+    """What copies and pickles make: an object of the class, set up by `base`, as a subclass may
+    want other arguments.
+    """
+    made = cls.__new__(cls)
+    base.__init__(made, *arguments)
+    return made
+
+
+def with_attributes(made: Other, of: Other) -> Other:
+    """The object, with the other one's `__dict__`, if a subclass has one."""
+    if hasattr(of, "__dict__"):
+        made.__dict__.update(of.__dict__)
+    return made
+
+
+class ZeroTrieError(ValueError):
+    """Why a build or bytes are invalid, as text that says what to do.
+
+    >>> try:
+    ...     build([("a", 1), ("b", 2), ("a", 3)])
+    ... except ZeroTrieError as error:
+    ...     error.key, error.index, error.other
+    ('a', 0, 2)
+    """
+
+    __module__ = "zerotrie"
+
+    #: The number that zerotrie.h has for it; None for malformed bytes.
+    status: Optional[int]
+    #: The key that is the cause, as it was given, and its place among the pairs, from 0.
+    key: Any
+    index: Optional[int]
+    #: The place of the second key, if two keys are the cause.
+    other: Optional[int]
+    #: How many bytes precede the first place where malformed bytes break a rule of the format.
+    at: Optional[int]
+    #: The file, if open() was called.
+    path: Any
+
+    def __init__(self, text: str = "", status: Optional[int] = None, **places: Any) -> None:
+        super().__init__(text)
+        self.status = status
+        self.key = places.get("key")
+        self.index = places.get("index")
+        self.other = places.get("other")
+        self.at = places.get("at")
+        self.path = places.get("path")
+
+    def __str__(self) -> str:
+        text = super().__str__()
+        return text if self.path is None else f"{os.fsdecode(self.path)}: {text}"
+
+    def __reduce__(self) -> tuple[Any, ...]:
+        return remade, (type(self), ZeroTrieError, *self.args), self.__dict__
+
+
+def error_of(status: int) -> ZeroTrieError:
+    text = TEXTS[status] if 0 <= status < len(TEXTS) else f"unknown status {status}"
+    return ZeroTrieError(text, status)
+
+
+def check_status(status: int) -> None:
+    if status == NO_MEMORY:
+        raise MemoryError
+    if status != DONE:
+        raise error_of(status)

@@ -1,0 +1,248 @@
+"""Keys and pairs as the library takes them, and builds."""
+
+from __future__ import annotations
+
+import ctypes
+import operator
+import os
+import reprlib
+from array import array
+from collections.abc import Iterable, Mapping
+from ctypes import addressof, c_size_t, c_uint8
+from itertools import accumulate, chain
+from typing import Any, Optional, Union
+
+from ._errors import (
+    DONE, NO_MEMORY, TEXTS, TOO_SMALL, UNKNOWN_KIND, UNSORTED, Kind, ZeroTrieError, check_status,
+    error_of,
+)
+from ._library import NOTHING, Pair, lib
+
+Key = Union[str, bytes, bytearray, memoryview]
+Pairs = Union[Mapping[Any, int], Iterable["tuple[Key, int]"]]
+Path = Union[str, bytes, "os.PathLike[Any]"]
+
+#: From this many pairs on auto_kind() is PERFECT_HASH whatever the keys are.
+MANY_PAIRS = 512
+
+
+def key_bytes(key: Any) -> bytes:
+    if type(key) is bytes:
+        return key
+    if issubclass(type(key), str):
+        # not encode() of a subclass, which may return anything
+        return str.encode(key)
+    try:
+        # a number is no key: bytes() would make as many zeros of it
+        view = memoryview(key)
+    except TypeError:
+        raise TypeError(f"a key is text or bytes, not {type(key).__name__}") from None
+    return bytes(view)
+
+
+def all_key_bytes(keys: Iterable[Any]) -> list[bytes]:
+    """The keys as bytes."""
+    return [
+        key if type(key) is bytes else key.encode() if type(key) is str else key_bytes(key)
+        for key in keys
+    ]
+
+
+def delimiter_bytes(given: Key) -> bytes:
+    borders = key_bytes(given)
+    if isinstance(given, str) and not borders.isascii():
+        raise ValueError("a delimiter is one byte: name ASCII characters")
+    return borders
+
+
+def whole_number(number: Any, bits: int, what: str) -> int:
+    try:
+        whole = operator.index(number)
+    except TypeError:
+        raise TypeError(f"{what} is a whole number, not {type(number).__name__}") from None
+    # ctypes would cut off what is too much
+    if not 0 <= whole < 1 << bits:
+        raise OverflowError(f"{what} is from 0 to 2**{bits} - 1")
+    return whole
+
+
+def number_array(numbers: list[Any], what: str) -> array[int]:
+    """The numbers as an array of 64 bits each."""
+    try:
+        return array("Q", numbers)
+    except (TypeError, OverflowError):
+        # to say what is wrong
+        return array("Q", [whole_number(number, 64, what) for number in numbers])
+
+
+def sizes(numbers: array[int]) -> Any:
+    """The numbers of an array, in place, as ctypes takes them."""
+    return (c_size_t * len(numbers)).from_buffer(numbers)
+
+
+def known_kind(kind: Any) -> Kind:
+    number = whole_number(kind, 32, "a kind")
+    try:
+        return Kind(number)
+    except ValueError:
+        raise error_of(UNKNOWN_KIND) from None
+
+
+class FlatPairs:
+    """Pairs as the library takes them: keys one after another, where each ends, and the values."""
+
+    def __init__(self, pairs: Pairs) -> None:
+        #: The keys as they were given, and as bytes.
+        self.given: list[Any]
+        if isinstance(pairs, Mapping):
+            self.given, values = list(pairs.keys()), list(pairs.values())
+        else:
+            given = list(pairs)
+            self.given, values = [key for key, _ in given], [value for _, value in given]
+        self.texts = all_key_bytes(self.given)
+        self.joined = b"".join(self.texts)
+        self.ends = array("Q", accumulate(map(len, self.texts)))
+        self.values = number_array(values, "a value")
+
+    def __len__(self) -> int:
+        return len(self.texts)
+
+    def pairs(self, most: Optional[int] = None) -> tuple[Any, int]:
+        """The pairs, or the first ones, as zerotrie_pair, and how many they are."""
+        ends = self.ends[:most]
+        keys = ctypes.create_string_buffer(self.joined[: ends[-1] if ends else 0])
+        at = addressof(keys)
+        starts = chain((at,), map(at.__add__, ends))
+        rows = zip(starts, map(len, self.texts), self.values)
+        flat = array("Q", chain.from_iterable(row for row, _ in zip(rows, ends)))
+        raw: Any = (Pair * len(ends)).from_buffer(flat) if ends else (Pair * 1)()
+        # the pairs have the addresses of the keys, and keep them in use
+        raw.keys = keys
+        return raw, len(ends)
+
+    def kind(self, kind: Optional[int]) -> int:
+        """The number of the kind, which is that of auto_kind() if none is named."""
+        if kind is not None:
+            return whole_number(kind, 32, "a kind")
+        return int(lib.zerotrie_auto_kind(*self.pairs(MANY_PAIRS)))
+
+    def error(self, status: int, first: int, second: int) -> ZeroTrieError:
+        """The error that names two keys, or one."""
+        places = (first,) if first == second else (first, second)
+        keys = ", ".join(f"key {place} is {reprlib.repr(self.given[place])}" for place in places)
+        return ZeroTrieError(
+            f"{TEXTS[status]}: {keys}", status, key=self.given[first], index=first,
+            other=None if first == second else second)
+
+    def check_order(self) -> None:
+        """ZeroTrieError if the keys do not ascend."""
+        for place, (key, following) in enumerate(zip(self.texts, self.texts[1:])):
+            if key >= following:
+                raise self.error(UNSORTED, place, place + 1)
+
+    def check(self, status: int, kind: int) -> None:
+        """Raises what a status of a build means."""
+        if status not in (DONE, NO_MEMORY, UNKNOWN_KIND):
+            first, second = c_size_t(), c_size_t()
+            why: int = lib.zerotrie_why_refused(kind, *self.pairs(), first, second)
+            if why == status:
+                raise self.error(status, first.value, second.value)
+        check_status(status)
+
+    def built(self, kind: Optional[int]) -> bytes:
+        """The tagged bytes of the trie."""
+        number, length = self.kind(kind), c_size_t()
+        most = lib.zerotrie_build_bound(len(self), len(self.joined))
+        room = (c_uint8 * (1 + most))()
+        status = lib.zerotrie_build_many(
+            number, self.joined, len(self.joined), sizes(self.ends), len(self),
+            sizes(self.values), len(self), addressof(room) + 1, most, length)
+        self.check(status, number)
+        room[0] = number
+        return ctypes.string_at(room, 1 + length.value)
+
+
+def build(pairs: Pairs, kind: Optional[int] = None) -> bytes:
+    """The tagged bytes of the trie of pairs in any order, or of a mapping:
+    bytes(ZeroTrie.build(pairs, kind)).
+
+    With no kind it is that of auto_kind(). ZeroTrieError if a key comes twice or is none of the
+    kind, OverflowError if a value is out of range.
+
+    >>> build([("a", 1), ("a", 2)])
+    Traceback (most recent call last):
+    zerotrie.ZeroTrieError: a key was given twice: give each key once: key 0 is 'a', key 1 is 'a'
+    """
+    return FlatPairs(pairs).built(kind)
+
+
+def build_sorted(pairs: Pairs, kind: Optional[int] = None) -> bytes:
+    """As build(), but of pairs whose keys ascend by their bytes, which are not sorted;
+    ZeroTrieError if they don't.
+
+    >>> build_sorted([("b", 1), ("a", 2)])
+    Traceback (most recent call last):
+    zerotrie.ZeroTrieError: the keys do not ascend: sort them by their bytes, each once: key 0 is...
+    """
+    flat = FlatPairs(pairs)
+    flat.check_order()
+    return flat.built(kind)
+
+
+def auto_kind(pairs: Pairs) -> Kind:
+    """SIMPLE_ASCII if all keys are ASCII and there are fewer than 512, else PERFECT_HASH."""
+    return Kind(FlatPairs(pairs).kind(None))
+
+
+def encoded_len(pairs: Pairs, kind: int) -> int:
+    """How many bytes the trie has, without the tag, of pairs whose keys ascend by their bytes;
+    ZeroTrieError if they don't.
+
+    It builds nothing.
+    """
+    flat, number, length = FlatPairs(pairs), whole_number(kind, 32, "a kind"), c_size_t()
+    flat.check_order()
+    flat.check(lib.zerotrie_encoded_len(number, *flat.pairs(), length), number)
+    return length.value
+
+
+def tagged(data: Any, kind: int) -> bytes:
+    """Tagged bytes: the number of the kind, then the bytes of a trie that have no tag, which it
+    copies once.
+    """
+    view, tag, length = memoryview(data), (c_uint8 * 1)(), c_size_t()
+    # the library writes the tag alone: what else it wrote would be copied once more, into an object
+    number = whole_number(kind, 32, "a kind")
+    check_status(lib.zerotrie_tagged(number, NOTHING, 0, tag, len(tag), length))
+    return b"".join((tag, view if view.c_contiguous else bytes(view)))
+
+
+def build_dense(rows: Mapping[Any, Mapping[Any, int]], delimiter: Key = b"/") -> bytes:
+    """The record of the dense table of a mapping of mappings, in any order, of texts that are ASCII
+    without the delimiter.
+
+    >>> table = DenseTable(build_dense({"de": {"AT": 8, "CH": 9}, "en": {"US": 5}}))
+    >>> table.get("de", "AT"), table.get("en", "AT")
+    (8, None)
+    """
+    entries = sorted(
+        ((key_bytes(prefix), key_bytes(suffix)), value)
+        for prefix, row in rows.items() for suffix, value in row.items())
+    byte = key_bytes(delimiter)
+    if len(byte) != 1:
+        raise ValueError("the delimiter is one byte")
+    texts: list[Any] = []
+    for which in (0, 1):
+        words = [words[which] for words, _ in entries]
+        joined, ends = b"".join(words), array("Q", accumulate(map(len, words)))
+        texts += joined, len(joined), sizes(ends), len(ends)
+    values = number_array([value for _, value in entries], "a value")
+    length = c_size_t(64 + texts[1] + texts[5] + 8 * len(values))
+    for _ in range(2):
+        room = (c_uint8 * length.value)()
+        status = lib.zerotrie_dense_build(
+            *texts, sizes(values), len(values), byte[0], room, len(room), length)
+        if status != TOO_SMALL:
+            break
+    check_status(status)
+    return ctypes.string_at(room, length.value)

@@ -1,0 +1,85 @@
+"""The views of a trie."""
+
+from __future__ import annotations
+
+from collections.abc import ItemsView, Iterator, KeysView, MappingView, ValuesView
+from itertools import chain
+from typing import TYPE_CHECKING, Any, cast
+
+from ._errors import Kind
+from ._pairs import Key, key_bytes
+from ._readers import COUNT, KEYS, PAIRS, VALUES, Word
+
+if TYPE_CHECKING:
+    from . import _Trie
+
+
+class Listed(MappingView):
+    """What the views of a trie have in common: a prefix, with which their keys begin."""
+
+    __slots__ = ("_prefix",)
+
+    def __init__(self, trie: _Trie[Any], prefix: Key = b"") -> None:
+        super().__init__(trie)
+        self._prefix = key_bytes(prefix)
+
+    def _list(self, what: int) -> Iterator[Any]:
+        return chain.from_iterable(self._trie()._parts(what, self._prefix))
+
+    def _trie(self) -> _Trie[Any]:
+        return cast("_Trie[Any]", vars(MappingView)["_mapping"].__get__(self))
+
+    def _begins(self, key: Any) -> bool:
+        """Whether the key begins with the prefix, as the kind compares bytes."""
+        front = key_bytes(key)[: len(self._prefix)]
+        if self._trie().kind == Kind.IGNORE_CASE:
+            return front.lower() == self._prefix.lower()
+        return front == self._prefix
+
+    def __len__(self) -> int:
+        """How many pairs there are. Those of a prefix are counted by listing them."""
+        if not self._prefix:
+            return len(self._trie())
+        return sum(map(len, self._trie()._parts(COUNT, self._prefix)))
+
+
+class Keys(Listed, KeysView[Word]):
+    """The keys that begin with a prefix. `in` finds what the trie finds; the other set operations
+    compare what is listed.
+    """
+
+    __slots__ = ()
+
+    def __contains__(self, key: object) -> bool:
+        return key in self._trie() and self._begins(key)
+
+    def __iter__(self) -> Iterator[Word]:
+        return self._list(KEYS)
+
+
+class Items(Listed, ItemsView[Word, int]):
+    """The pairs whose keys begin with a prefix. `in` finds what the trie finds; the other set
+    operations compare what is listed.
+    """
+
+    __slots__ = ()
+
+    def __contains__(self, item: object) -> bool:
+        if not isinstance(item, tuple) or len(item) != 2:
+            return False
+        return bool(self._trie().get(item[0]) == item[1]) and self._begins(item[0])
+
+    def __iter__(self) -> Iterator[tuple[Word, int]]:
+        return self._list(PAIRS)
+
+
+class Values(Listed, ValuesView[int]):
+    """The values of the keys that begin with a prefix."""
+
+    __slots__ = ()
+
+    def __contains__(self, value: object) -> bool:
+        return any(value == listed for listed in self)
+
+    def __iter__(self) -> Iterator[int]:
+        return self._list(VALUES)

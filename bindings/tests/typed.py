@@ -1,0 +1,36 @@
+"""A program that mypy --strict accepts. It is not run."""
+
+from __future__ import annotations
+
+from collections.abc import Mapping
+from typing import Optional, Union
+
+from zerotrie import Cursor, Kind, StrTrie, ZeroTrie, ZeroTrieError, build
+
+
+def total(mapping: Mapping[str, int]) -> int:
+    return sum(mapping.values())
+
+
+t = ZeroTrie.build({"foo": 1, b"bar": 2})
+s = StrTrie.build([("foo", 1)])
+if "foo" in t and b"foo" in t and "foo" in s:
+    number: int = t["foo"] + s["foo"] + total(s) + sum(t.get_many(["foo", b"bar"]))
+value: Optional[int] = t.get("foo")
+either: Union[int, str] = t.get("foo", "none")
+keys: list[bytes] = sorted(t)
+words: list[str] = list(s.keys("f"))
+both: set[str] = s.keys() & {"foo"}
+rest: set[bytes] = t.keys() - {b"foo"}
+pairs: dict[bytes, int] = dict(t.items())
+texts: dict[str, int] = dict(s)
+longest: Optional[tuple[str, int]] = s.longest_prefix("food", at="-_")
+fronts: list[tuple[bytes, int]] = t.prefixes("food")
+cursor: Optional[Cursor] = t.with_prefix("f")
+kind: Kind = t.kind
+with ZeroTrie.open("names.trie", check=False) as opened:
+    opened.save("other.trie")
+try:
+    raw: bytes = build([("a", 1)], Kind.SIMPLE_ASCII)
+except ZeroTrieError as error:
+    print(error.key, error.index, error.other, error.at, error.path)
