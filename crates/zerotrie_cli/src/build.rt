@@ -1,7 +1,7 @@
 //! The build that the command line asks for.
 
 ghost use Rattle.std.specs.Prelude.{◌≡◌, Some, IfOk, codes};
-ghost use Rattle.zerotrie_cli.specs.Words.{IsFlag, IsKind, IsPlan, IsSource, IsTarget, flag_of, format_word, word_of};
+ghost use Rattle.zerotrie_cli.specs.Words.{IsFlag, IsKind, IsPlan, IsProgress, IsSource, IsTarget, flag_of, format_word, word_of};
 
 use crate::arguments::{kind_in, place_in, source_in};
 use clap::ArgMatches;
@@ -52,6 +52,8 @@ pub fn build_in<'a>(matches: &ArgMatches<'a>, to_terminal: bool) -> Result<Build
     ensures from { IfOk result (λ build. IsSource (word_of matches.now (codes "IN")) build.from) }
     ensures to { IfOk result (λ build. IsTarget (word_of matches.now (codes "output")) build.to) }
     ensures plan { IfOk result (λ build. IsPlan matches.now build.plan) }
+    ensures progress { IfOk result (λ build.
+        IsProgress to_terminal (flag_of matches.now (codes "progress")) build.progress) }
 {
     Ok(Build {
         from: source_in(matches, "IN"),

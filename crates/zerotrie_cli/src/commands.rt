@@ -25,7 +25,7 @@ fn refuse(rt: &HostRuntime, why: &str) -> Status {
 
 /// Runs a command over the files and streams of the system.
 fn run_here(rt: &HostRuntime, command: Command<'_>) -> Status {
-    let Ok(mut output) = BufWriter::new(rt.alloc(), Noted::new(rt.stdout())) else {
+    let Ok(output) = BufWriter::new(rt.alloc(), rt.stdout()) else {
         return tell_no_memory(rt);
     };
     run(
@@ -33,7 +33,7 @@ fn run_here(rt: &HostRuntime, command: Command<'_>) -> Status {
         command,
         &mut Store::new(SystemDisk::new(rt)),
         &mut Noted::new(rt.stdin()),
-        &mut output,
+        &mut Noted::new(output),
         &mut Noted::new(rt.stderr()),
     )
 }

@@ -1,8 +1,11 @@
 //! The questions to a trie that the command line asks.
 
-ghost use Rattle.std.specs.Prelude.{◌≡◌, ◌≢◌, true, Some, None, IfOk, codes};
-ghost use Rattle.zerotrie_cli.specs.Words.{IsKind, IsSource, flag_of, form_word, language_word, word_of};
-ghost use Rattle.zerotrie_cli.specs.declared.arguments.Topic.TheVariants.{Check};
+ghost use Rattle.std.specs.Prelude.{◌≡◌, ℕ, List, Some, IfOk, codes, map};
+ghost use Rattle.std.specs.Borrow.{Bor};
+ghost use Rattle.zerotrie_queries.specs.declared.code.Language.{Language};
+ghost use Rattle.zerotrie_cli.specs.Words.{AreKeysOf, IsAsk, IsCode, IsFile, IsQuestion, form_word, given_words, language_word, texts_of, word_of};
+ghost use Rattle.zerotrie_queries.specs.declared.views.View.TheVariants.{Dot};
+ghost use Rattle.zerotrie_run.specs.declared.command.Question.TheVariants as question;
 
 use crate::arguments::{Topic, kind_in, source_in};
 use crate::table::MOST;
@@ -31,11 +34,7 @@ fn is_taken(language: Language, name: &str) -> bool {
 
 /// The file of the trie that is asked. A check takes no bytes on trust.
 fn file_in<'a>(matches: &ArgMatches<'a>, topic: Topic) -> Result<TrieFile<'a>, &'static str>
-    ensures place { IfOk result (λ file. IsSource (word_of matches.now (codes "FILE")) file.place) }
-    ensures kind { IfOk result (λ file. IsKind (word_of matches.now (codes "kind")) file.kind) }
-    ensures trust { IfOk result (λ file. file.trust ≡ true
-        → (topic ≢ Check) × (flag_of matches.now (codes "trust") ≢ Some (codes "false"))
-        × (flag_of matches.now (codes "trust") ≢ None)) }
+    ensures { IfOk result (IsFile matches.now topic) }
 {
     Ok(TrieFile {
         place: source_in(matches, "FILE"),
@@ -47,29 +46,41 @@ fn file_in<'a>(matches: &ArgMatches<'a>, topic: Topic) -> Result<TrieFile<'a>, &
     })
 }
 
+/// Words as bytes.
+fn bytes_of<'a>(alloc: Global, words: &[&'a str]) -> Result<Vec<&'a [u8]>, AllocError>
+    ensures { IfOk result (λ keys.
+        map (λ key. key.now) keys.items ≡ map (λ word. word.now) words.now) }
+{
+    let mut keys = Vec::new(alloc);
+    for word in words {
+        keys.push(word.as_bytes())?;
+    }
+    Ok(keys)
+}
+
 /// The keys or texts that are words of the command line, as bytes. `None` if there are none.
 pub fn words_in<'a>(
     alloc: Global,
     matches: &ArgMatches<'a>,
     topic: Topic,
-) -> Result<Option<Vec<&'a [u8]>>, AllocError> {
+) -> Result<Option<Vec<&'a [u8]>>, AllocError>
+    ensures { IfOk result (λ words. texts_of words ≡ given_words matches.now topic) }
+{
     let given = match topic {
         Topic::Get => matches.get_strs("KEY"),
         Topic::Longest => matches.get_strs("TEXT"),
         Topic::List | Topic::Check | Topic::Dump | Topic::Dot | Topic::Code => None,
     };
-    let Some(words) = given else {
-        return Ok(None);
-    };
-    let mut keys = Vec::new(alloc);
-    for word in words {
-        keys.push(word.as_bytes())?;
+    match given {
+        Some(words) => Ok(Some(bytes_of(alloc, words)?)),
+        None => Ok(None),
     }
-    Ok(Some(keys))
 }
 
 /// The keys that are asked for: words, or with none the lines of standard input.
-fn keys_of<'w, 'a: 'w>(words: &'w Option<Vec<&'a [u8]>>) -> Keys<'w> {
+fn keys_of<'w, 'a: 'w>(words: &'w Option<Vec<&'a [u8]>>) -> Keys<'w>
+    ensures { AreKeysOf (texts_of words.now) result }
+{
     match words {
         Some(words) => Keys::Words(words.as_slice()),
         None => Keys::Lines,
@@ -103,7 +114,10 @@ fn language_in(matches: &ArgMatches<'_>) -> Result<Language, &'static str>
 }
 
 /// Returns the code that is asked for. It is an error, with the message, if it can't have its name.
-fn code_in<'a>(matches: &ArgMatches<'a>) -> Result<Question<'a>, &'static str> {
+fn code_in<'a>(matches: &ArgMatches<'a>) -> Result<Question<'a>, &'static str>
+    ensures { IfOk result (λ asked. (language : Language) × (name : Bor (List ℕ))
+        × IsCode matches.now language name.now × (asked ≡ question.Code language name)) }
+{
     let language = language_in(matches)?;
     let name = matches.get_str("name").unwrap_or(language.usual_name());
     if !is_name(name) {
@@ -119,7 +133,9 @@ fn code_in<'a>(matches: &ArgMatches<'a>) -> Result<Question<'a>, &'static str> {
 
 /// Returns the drawing that is asked for. It is an error, with the message, if its number of nodes
 /// is no number.
-fn dot_in<'a>(matches: &ArgMatches<'a>) -> Result<Question<'a>, &'static str> {
+fn dot_in<'a>(matches: &ArgMatches<'a>) -> Result<Question<'a>, &'static str>
+    ensures { IfOk result (λ asked. (most : ℕ) × (asked ≡ question.View (Dot most))) }
+{
     match matches.get_str("most").unwrap_or(MOST).parse() {
         Ok(most) => Ok(Question::View(View::Dot(most))),
         Err(_) => Err("--most asks for a number"),
@@ -132,7 +148,9 @@ fn question_in<'w, 'a: 'w>(
     matches: &ArgMatches<'a>,
     topic: Topic,
     words: &'w Option<Vec<&'a [u8]>>,
-) -> Result<Question<'w>, &'static str> {
+) -> Result<Question<'w>, &'static str>
+    ensures { IfOk result (IsQuestion matches.now topic (texts_of words.now)) }
+{
     match topic {
         Topic::Get => Ok(Question::Get(keys_of(words))),
         Topic::Longest => Ok(Question::Longest(keys_of(words))),
@@ -153,7 +171,9 @@ pub fn ask_in<'w, 'a: 'w>(
     matches: &ArgMatches<'a>,
     topic: Topic,
     words: &'w Option<Vec<&'a [u8]>>,
-) -> Result<Command<'w>, &'static str> {
+) -> Result<Command<'w>, &'static str>
+    ensures { IfOk result (IsAsk matches.now topic (texts_of words.now)) }
+{
     let file = file_in(matches, topic)?;
     let question = question_in(matches, topic, words)?;
     Ok(Command::Ask(file, question))

@@ -1,2 +1,3 @@
 mod BesideLemmas
 mod DiskLemmas
+pub mod WroteLemmas

@@ -1,5 +1,5 @@
 -- What failed, and what clauses see of files and streams that note it.
-use Rattle.std.specs.Prelude.{◌≡◌, ◌==◌, ◌&&◌, not, ℕ, List, length, Bool, true, Result, Ok, Err}
+use Rattle.std.specs.Prelude.{◌≡◌, ◌⊎◌, Bool, true, Result, Ok, Err}
 use Rattle.std.specs.IoError.{error_kind}
 use Rattle.std.specs.declared.io.Error.{Error}
 use Rattle.std.specs.declared.io.ErrorKind.TheVariants as kind
@@ -13,10 +13,10 @@ abbrev pub IsFault : {T : Type 0} → Result T Error → Type 0
 IsFault (Ok value) = ⊥
 IsFault (Err e) = IsOutOfMemory e → ⊥
 
--- a writer took none of some bytes: it failed, or has no room
-abbrev pub takes_none : {E : Type 0} → Result ℕ E → List ℕ → Bool
-takes_none (Ok count) bytes = (count == 0) && not (length bytes == 0)
-takes_none (Err e) bytes = true
+-- what a call notes of whether one failed: nothing new, or after an error that it did, unless memory is wanting
+abbrev pub IsNoted : {T : Type 0} → Result T Error → Bool → Bool → Type 0
+IsNoted (Ok value) old new = new ≡ old
+IsNoted (Err e) old new = IsOutOfMemory e ⊎ (new ≡ true)
 
 -- a reader or writer itself, and whether some call of it failed
 pub record Watched (T : Type 0) : Type 0 where

@@ -4,11 +4,13 @@
 #![tactic(auto)]
 
 mod disk;
+mod faults;
 mod noted;
 mod output;
 mod replacing;
 mod store;
 mod system;
+mod writing;
 
 pub use disk::{Disk, Found, Mode};
 pub use noted::Noted;

@@ -1,26 +1,25 @@
 //! Readers and writers that remember whether a call failed.
 
-ghost use Rattle.std.specs.Prelude.{◌≡◌, ◌||◌, false, is_err, OnOk};
-ghost use Rattle.std.specs.Io.KnownBytes.{ReadConsumes, WriteAppends, Appends, Keeps};
-ghost use Rattle.std.specs.Io.{ReadsAtMost, WritesAtMost};
-ghost use Rattle.zerotrie_files.specs.Faults.{takes_none};
+ghost use Rattle.std.specs.Prelude.{◌≡◌, ◌⊎◌, ◌≤◌, ◌+◌, ◌^◌, [], length, true, false, IfOk, IfErr, IfSome, OnOk, OnErr, MatchResult};
+ghost use Rattle.std.specs.Io.KnownBytes.{Appends, Keeps};
+ghost use Rattle.std.specs.Io.Buffered.{writer_contents, writer_buffer};
+ghost use Rattle.zerotrie_files.specs.Faults.{IsNoted, IsOutOfMemory};
+ghost use Rattle.zerotrie_files.specs.Parts.{AppendsPart};
+ghost use Rattle.zerotrie_files.specs.Reads.{Gives};
 
+use crate::faults::is_fault;
+use crate::writing::write_bytes;
+use std::alloc::Global;
 use std::io;
-use std::io::{Read, Write};
+use std::io::{BufWriter, ErrorKind, Read, Write};
 use std::marker::Model;
 
-/// Returns whether a writer took none of these bytes: it failed, or has no room.
-fn takes_none(outcome: &io::Result<usize>, bytes: &[u8]) -> bool
-    ensures { result ≡ takes_none outcome.now bytes.now }
-{
-    match outcome {
-        Ok(count) => *count == 0 && !bytes.is_empty(),
-        Err(_) => true,
-    }
-}
+/// The size of one read. The lines and answers of so few bytes fit in memory that the allocator
+/// keeps for the next read.
+const ROOM: usize = 1 << 14;
 
-/// A reader or writer with a flag that is set from its first fault on. It is one too if a writer
-/// takes none of some bytes.
+/// A reader or writer with a flag that is set from its first fault on. A call that a signal
+/// interrupts is made again, and is no fault.
 #[derive(Debug, Drop)]
 pub struct Noted<T> {
     inner: T,
@@ -62,50 +61,74 @@ impl<T> Noted<T> {
     }
 }
 
-impl<R: Read> Read for Noted<R> {
-    ghost remaining = { λ n. R.remaining n.inner };
-
-    fn read(&mut self, buf: &mut [u8]) -> io::Result<usize>
-        ensures bound { ReadsAtMost result buf.new }
-        ensures bytes { ReadConsumes (R.remaining self.old.inner) (R.remaining self.new.inner)
-            result buf.new }
-        ensures flag { self.new.failed ≡ (self.old.failed || is_err result) }
+impl<R: Read> Noted<R> {
+    /// Reads once, at most 16 KiB, appends the bytes to `held`, and returns whether the stream has
+    /// ended. A read that a signal interrupts adds nothing. If the read fails, the stream has what
+    /// it had.
+    pub fn read_more(&mut self, held: &mut Vec<u8>) -> io::Result<bool>
+        ensures gives { IfOk result (Gives (R.remaining self.old.inner)
+            (R.remaining self.new.inner) held.old.items held.new.items) }
+        ensures stays { IfErr result (λ e. IsOutOfMemory e
+            ⊎ Keeps (R.remaining self.old.inner) (R.remaining self.new.inner)) }
+        ensures few { IfOk result (λ _. length held.new.items ≤ length held.old.items + 2 ^ 14) }
+        ensures noted { IsNoted result self.old.failed self.new.failed }
     {
-        let outcome = self.inner.read(buf);
+        let mut room = [0; ROOM];
+        match self.inner.read(&mut room) {
+            Ok(count) => {
+                held.extend_from_slice(&room[..count])?;
+                Ok(count == 0)
+            }
+            Err(error) if error.kind() == ErrorKind::Interrupted => Ok(false),
+            Err(error) => {
+                self.failed = true;
+                Err(error)
+            }
+        }
+    }
+
+    /// Reads the rest of a stream.
+    pub fn read_all(&mut self, alloc: Global) -> io::Result<Vec<u8>>
+        ensures all { IfOk result (λ bytes.
+            IfSome (R.remaining self.old.inner) (λ known. bytes.items ≡ known)) }
+        ensures noted { IsNoted result self.old.failed self.new.failed }
+    {
+        let mut bytes = Vec::new(alloc);
+        let outcome = self.inner.read_to_end(&mut bytes);
+        self.failed |= is_fault(&outcome);
+        match outcome {
+            Ok(_) => Ok(bytes),
+            Err(error) => Err(error),
+        }
+    }
+}
+
+impl<W: Write> Noted<W> {
+    /// Writes bytes. If it fails, a beginning of them was written.
+    pub fn write_bytes(&mut self, bytes: &[u8]) -> io::Result<()>
+        ensures all { OnOk result
+            (Appends (W.contents self.old.inner) (W.contents self.new.inner) bytes.now) }
+        ensures part { OnErr result
+            (AppendsPart (W.contents self.old.inner) (W.contents self.new.inner) bytes.now) }
+        ensures noted { MatchResult result (λ _. self.new.failed ≡ self.old.failed)
+            (λ _. self.new.failed ≡ true) }
+    {
+        let outcome = write_bytes(&mut self.inner, bytes);
         self.failed |= outcome.is_err();
         outcome
     }
 }
 
-impl<W: Write> Write for Noted<W> {
-    ghost contents = { λ n. W.contents n.inner };
-
-    fn write(&mut self, buf: &[u8]) -> io::Result<usize>
-        ensures bound { WritesAtMost result buf.now }
-        ensures bytes { WriteAppends (W.contents self.old.inner) (W.contents self.new.inner) result
-            buf.now }
-        ensures flag { self.new.failed ≡ (self.old.failed || takes_none result buf.now) }
-    {
-        let outcome = self.inner.write(buf);
-        self.failed |= takes_none(&outcome, buf);
-        outcome
-    }
-
-    fn flush(&mut self) -> io::Result<()>
-        ensures bytes { Keeps (W.contents self.old.inner) (W.contents self.new.inner) }
-        ensures flag { self.new.failed ≡ (self.old.failed || is_err result) }
+impl<W: Write + Drop> Noted<BufWriter<W>> {
+    /// Hands all that the buffer holds to the writer.
+    pub fn hand_on(&mut self) -> io::Result<()>
+        ensures bytes { Keeps (writer_contents W.contents self.old.inner)
+            (writer_contents W.contents self.new.inner) }
+        ensures empty { OnOk result (writer_buffer self.new.inner ≡ []) }
+        ensures noted { MatchResult result (λ _. self.new.failed ≡ self.old.failed)
+            (λ _. self.new.failed ≡ true) }
     {
         let outcome = self.inner.flush();
-        self.failed |= outcome.is_err();
-        outcome
-    }
-
-    fn write_all(&mut self, buf: &[u8]) -> io::Result<()>
-        ensures bytes { OnOk result
-            (Appends (W.contents self.old.inner) (W.contents self.new.inner) buf.now) }
-        ensures flag { self.new.failed ≡ (self.old.failed || is_err result) }
-    {
-        let outcome = self.inner.write_all(buf);
         self.failed |= outcome.is_err();
         outcome
     }

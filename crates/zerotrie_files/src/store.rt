@@ -3,24 +3,14 @@
 ghost use Rattle.std.specs.Prelude.{◌≡◌, ◌↔◌, ◌⊎◌, Some, IfOk, IfErr, IfSome, IsTrue, false};
 ghost use Rattle.zerotrie_files.specs.Disks.{Known, IsUnread};
 ghost use Rattle.zerotrie_files.specs.Stores.{ReplacesBeside};
-ghost use Rattle.zerotrie_files.specs.Faults.{IsFault};
+ghost use Rattle.zerotrie_files.specs.Faults.{IsFault, IsNoted};
 
 use crate::disk::Disk;
+use crate::faults::is_fault;
 use crate::output::write_output;
 use std::alloc::Global;
 use std::io;
-use std::io::ErrorKind;
 use std::marker::Model;
-
-/// Returns whether a call failed, for another reason than memory.
-fn is_fault<T>(outcome: &io::Result<T>) -> bool
-    ensures { IsTrue result ↔ IsFault outcome.now }
-{
-    match outcome {
-        Ok(_) => false,
-        Err(error) => error.kind() != ErrorKind::OutOfMemory,
-    }
-}
 
 /// The files of a disk, read and replaced, with a note of what failed.
 #[derive(Drop)]
@@ -82,6 +72,7 @@ impl<D: Disk> Store<D> {
         ensures same { self.new.disk ≡ self.old.disk }
         ensures unread { IsTrue self.new.unread ↔ IsTrue self.old.unread ⊎ IsFault result }
         ensures unwritten { self.new.unwritten ≡ self.old.unwritten }
+        ensures noted { IsNoted result self.old.unread self.new.unread }
     {
         let outcome = self.disk.read(path);
         self.unread |= is_fault(&outcome);
@@ -94,6 +85,7 @@ impl<D: Disk> Store<D> {
             (ReplacesBeside path.now bytes.now result) }
         ensures unread { self.new.unread ≡ self.old.unread }
         ensures unwritten { IsTrue self.new.unwritten ↔ IsTrue self.old.unwritten ⊎ IsFault result }
+        ensures noted { IsNoted result self.old.unwritten self.new.unwritten }
     {
         let outcome = write_output(alloc, &mut self.disk, path, bytes);
         self.unwritten |= is_fault(&outcome);

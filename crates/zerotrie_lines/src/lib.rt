@@ -21,7 +21,7 @@ mod records;
 mod strings;
 mod table;
 
-pub use blocks::{read_more, whole_lines};
+pub use blocks::whole_lines;
 pub use escapes::{hex_digit, write_escaped};
 pub use fault::{BadLine, ReadError};
 pub use items::{read_items, take_plain};

@@ -15,7 +15,7 @@ use Rattle.zerotrie_queries.specs.declared.lookups.Asked.{Asked}
 use Rattle.zerotrie_queries.specs.declared.lookups.Asked.TheVariants.{Value, Longest}
 use Rattle.zerotrie_queries.specs.Printed.{value_lines, found_line, found_lines, are_found}
 use Rattle.zerotrie_queries.specs.Answers.{AreLongest, LongestLines, Belongs, AreAnswered, AreAnsweredInPart}
-use Rattle.zerotrie_queries.specs.Parts.{AppendsPart}
+use Rattle.zerotrie_files.specs.Parts.{AppendsPart}
 use Rattle.zerotrie_queries.proofs.FoundLemmas.{answers_of, answers_are, nows, no_key, and_true, value_lines-append, are_found-append}
 use Rattle.zerotrie_queries.proofs.PartLemmas.{part_all, part_front, part_behind}
 use Rattle.zerotrie_queries.proofs.LongestLemmas.{each_found}

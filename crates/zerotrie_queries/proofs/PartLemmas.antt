@@ -3,8 +3,8 @@ use Rattle.std.proofs.Common.{◌≡◌, ℕ, List, [], ◌++◌, Option, Result
 use Rattle.std.specs.Prelude.{OnErr}
 use Rattle.std.specs.Io.KnownBytes.{Appends}
 use Rattle.std.proofs.KnownBytes.{Appends-nil, Appends-trans}
-use Rattle.zerotrie_queries.specs.Parts.{AppendsPart}
-use Rattle.zerotrie_queries.proofs.WriteLemmas.{Wrote}
+use Rattle.zerotrie_files.specs.Parts.{AppendsPart}
+use Rattle.zerotrie_files.proofs.WroteLemmas.{Wrote}
 
 -- what holds anyway holds if it failed
 pub on_err : {T E P : Type 0} (r : Result T E) → P → OnErr r P
@@ -14,10 +14,6 @@ on_err (Err e) p = p
 -- nothing of it
 pub part_none : (a : Option (List ℕ)) (all : List ℕ) → AppendsPart a a all
 part_none a all = record { part = []; rest = all; is = refl; appends = Appends-nil a }
-
--- what was written of it, as far as it goes
-pub part_wrote : (a b : Option (List ℕ)) (rest all : List ℕ) → Wrote a b rest all → AppendsPart a b all
-part_wrote a b rest all w = record { part = w.done; rest = rest; is = sym w.is; appends = w.appends }
 
 -- what was written of it, and then a beginning of what comes next
 pub part_next : (a b c : Option (List ℕ)) (next left rest all : List ℕ) → Wrote a b rest all → AppendsPart b c next → rest ≡ next ++ left → AppendsPart a c all

@@ -5,4 +5,3 @@ pub mod Answers
 pub mod code
 pub mod views
 pub mod reports
-pub mod Parts

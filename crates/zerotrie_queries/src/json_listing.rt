@@ -7,15 +7,16 @@ ghost use Rattle.serde_json.specs.Written.{compact_text, comma_if};
 ghost use Rattle.zerotrie_any.specs.Json.{are_text, list_of, whole, pair_list};
 ghost use Rattle.zerotrie_queries.specs.Answers.{AreListed, AreListedInPart};
 ghost use Rattle.zerotrie_queries.specs.Json.{item_text, item_texts, opening, closing};
-ghost use Rattle.zerotrie_queries.specs.Parts.{AppendsPart};
+ghost use Rattle.zerotrie_files.specs.Faults.{IsNoted};
+ghost use Rattle.zerotrie_files.specs.Parts.{AppendsPart};
 ghost use Rattle.zerotrie_queries.specs.declared.print.Form.TheVariants.{Json};
 
-use crate::output::write_bytes;
 use crate::trie::Trie;
 use std::alloc::{AllocError, Global};
 use std::io;
 use std::io::Write;
 use zerotrie_core::ZeroTrieStream;
+use zerotrie_files::Noted;
 use zerotrie_lines::{write_number, write_quoted};
 
 /// Returns whether a key is UTF-8.
@@ -97,12 +98,13 @@ fn write_items<W: Write>(
     alloc: Global,
     pairs: &mut ZeroTrieStream<'_>,
     in_object: bool,
-    output: &mut W,
+    output: &mut Noted<W>,
 ) -> io::Result<()>
-    ensures all { OnOk result (Appends (W.contents output.old) (W.contents output.new)
+    ensures all { OnOk result (Appends (W.contents output.old.inner) (W.contents output.new.inner)
         (item_texts in_object false pairs.old.left.pairs)) }
-    ensures part { OnErr result (AppendsPart (W.contents output.old) (W.contents output.new)
+    ensures part { OnErr result (AppendsPart (W.contents output.old.inner) (W.contents output.new.inner)
         (item_texts in_object false pairs.old.left.pairs)) }
+    ensures noted { IsNoted result output.old.failed output.new.failed }
 {
     let mut text = Vec::new(alloc);
     let mut later = false;
@@ -113,7 +115,7 @@ fn write_items<W: Write>(
         text.clear();
         add_comma(&mut text, later)?;
         add_item(&mut text, in_object, pairs.key(), pairs.value())?;
-        write_bytes(output, text.as_slice())?;
+        output.write_bytes(text.as_slice())?;
         later = true;
     }
 }
@@ -137,18 +139,19 @@ fn write_value<W: Write>(
     alloc: Global,
     pairs: &mut ZeroTrieStream<'_>,
     in_object: bool,
-    output: &mut W,
+    output: &mut Noted<W>,
 ) -> io::Result<()>
-    ensures all { OnOk result (Appends (W.contents output.old) (W.contents output.new)
+    ensures all { OnOk result (Appends (W.contents output.old.inner) (W.contents output.new.inner)
         ((opening in_object ++ item_texts in_object false pairs.old.left.pairs)
         ++ closing in_object)) }
-    ensures part { OnErr result (AppendsPart (W.contents output.old) (W.contents output.new)
+    ensures part { OnErr result (AppendsPart (W.contents output.old.inner) (W.contents output.new.inner)
         ((opening in_object ++ item_texts in_object false pairs.old.left.pairs)
         ++ closing in_object)) }
+    ensures noted { IsNoted result output.old.failed output.new.failed }
 {
-    write_bytes(output, opening(in_object).as_bytes())?;
+    output.write_bytes(opening(in_object).as_bytes())?;
     write_items(alloc, pairs, in_object, output)?;
-    write_bytes(output, closing(in_object).as_bytes())
+    output.write_bytes(closing(in_object).as_bytes())
 }
 
 /// Writes the pairs whose keys begin with a prefix as one JSON value and a line feed: an object
@@ -161,12 +164,13 @@ pub fn write_json<W: Write>(
     alloc: Global,
     trie: &Trie<'_>,
     prefix: &[u8],
-    output: &mut W,
+    output: &mut Noted<W>,
 ) -> io::Result<()>
     ensures all { OnOk result (AreListed Json prefix.now trie.now.kind trie.now.bytes.now
-        (W.contents output.old) (W.contents output.new)) }
+        (W.contents output.old.inner) (W.contents output.new.inner)) }
     ensures part { OnErr result (AreListedInPart Json prefix.now trie.now.kind trie.now.bytes.now
-        (W.contents output.old) (W.contents output.new)) }
+        (W.contents output.old.inner) (W.contents output.new.inner)) }
+    ensures noted { IsNoted result output.old.failed output.new.failed }
 {
     let mut seen = trie.stream_prefix(alloc, prefix)?;
     let in_object = are_text(&mut seen)?;

@@ -3,18 +3,19 @@
 ghost use Rattle.std.specs.Prelude.{◌≡◌, ◌++◌, ◌<◌, [], length, true, false, IfOk, OnOk, OnErr};
 ghost use Rattle.std.specs.Io.KnownBytes.{Appends};
 ghost use Rattle.zerotrie_queries.specs.Answers.{AreListed, AreListedInPart};
-ghost use Rattle.zerotrie_queries.specs.Parts.{AppendsPart};
+ghost use Rattle.zerotrie_files.specs.Faults.{IsNoted};
+ghost use Rattle.zerotrie_files.specs.Parts.{AppendsPart};
 ghost use Rattle.zerotrie_queries.specs.Printed.{pair_lines};
 ghost use Rattle.zerotrie_queries.specs.declared.print.Form.TheVariants.{Lines};
 
 use crate::json_listing::write_json;
-use crate::output::write_bytes;
 use crate::print::{Form, Style, add_pair};
 use crate::trie::Trie;
 use std::alloc::{AllocError, Global};
 use std::io;
 use std::io::Write;
 use zerotrie_core::ZeroTrieStream;
+use zerotrie_files::Noted;
 
 /// The least number of bytes that one write has, but for the last.
 const BLOCK: usize = 1 << 16;
@@ -48,17 +49,18 @@ fn write_stream<W: Write>(
     alloc: Global,
     pairs: &mut ZeroTrieStream<'_>,
     style: Style,
-    output: &mut W,
+    output: &mut Noted<W>,
 ) -> io::Result<()>
-    ensures all { OnOk result (Appends (W.contents output.old) (W.contents output.new)
+    ensures all { OnOk result (Appends (W.contents output.old.inner) (W.contents output.new.inner)
         (pair_lines style pairs.old.left.pairs)) }
-    ensures part { OnErr result (AppendsPart (W.contents output.old) (W.contents output.new)
+    ensures part { OnErr result (AppendsPart (W.contents output.old.inner) (W.contents output.new.inner)
         (pair_lines style pairs.old.left.pairs)) }
+    ensures noted { IsNoted result output.old.failed output.new.failed }
 {
     let mut lines = Vec::new(alloc);
     loop {
         let more = add_block(&mut lines, pairs, style)?;
-        write_bytes(output, lines.as_slice())?;
+        output.write_bytes(lines.as_slice())?;
         if !more {
             return Ok(());
         }
@@ -72,12 +74,13 @@ fn write_lines<W: Write>(
     trie: &Trie<'_>,
     style: Style,
     prefix: &[u8],
-    output: &mut W,
+    output: &mut Noted<W>,
 ) -> io::Result<()>
     ensures all { OnOk result (AreListed (Lines style) prefix.now trie.now.kind trie.now.bytes.now
-        (W.contents output.old) (W.contents output.new)) }
+        (W.contents output.old.inner) (W.contents output.new.inner)) }
     ensures part { OnErr result (AreListedInPart (Lines style) prefix.now trie.now.kind
-        trie.now.bytes.now (W.contents output.old) (W.contents output.new)) }
+        trie.now.bytes.now (W.contents output.old.inner) (W.contents output.new.inner)) }
+    ensures noted { IsNoted result output.old.failed output.new.failed }
 {
     let mut pairs = trie.stream_prefix(alloc, prefix)?;
     write_stream(alloc, &mut pairs, style, output)
@@ -90,12 +93,13 @@ pub fn write_list<W: Write>(
     trie: &Trie<'_>,
     form: Form,
     prefix: &[u8],
-    output: &mut W,
+    output: &mut Noted<W>,
 ) -> io::Result<()>
     ensures all { OnOk result (AreListed form prefix.now trie.now.kind trie.now.bytes.now
-        (W.contents output.old) (W.contents output.new)) }
+        (W.contents output.old.inner) (W.contents output.new.inner)) }
     ensures part { OnErr result (AreListedInPart form prefix.now trie.now.kind trie.now.bytes.now
-        (W.contents output.old) (W.contents output.new)) }
+        (W.contents output.old.inner) (W.contents output.new.inner)) }
+    ensures noted { IsNoted result output.old.failed output.new.failed }
 {
     match form {
         Form::Lines(style) => write_lines(alloc, trie, style, prefix, output),

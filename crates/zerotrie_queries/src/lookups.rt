@@ -4,17 +4,18 @@ ghost use Rattle.std.specs.Prelude.{◌≡◌, ◌++◌, map, IfOk, OnErr};
 ghost use Rattle.zerotrie_core.specs.Maps.{Map};
 ghost use Rattle.zerotrie_core.specs.Texts.{Means};
 ghost use Rattle.zerotrie_core.specs.Kinds.{kind_of};
+ghost use Rattle.zerotrie_files.specs.Faults.{IsNoted};
 ghost use Rattle.zerotrie_queries.specs.Printed.{value_lines, are_found};
 ghost use Rattle.zerotrie_queries.specs.Answers.{answers, AreAnswered, AreAnsweredInPart};
 ghost use Rattle.zerotrie_queries.specs.declared.lookups.Asked.TheVariants.{Value, Longest};
 
-use crate::output::write_bytes;
 use crate::print::{add_found, add_value};
 use crate::trie::Trie;
 use std::alloc::{AllocError, Global};
 use std::io;
 use std::io::Write;
 use zerotrie_core::{LookUps, ZeroTrieWithOptions, by_kind};
+use zerotrie_files::Noted;
 
 /// The number of keys whose lines are written at once.
 const BLOCK: usize = 4096;
@@ -64,12 +65,13 @@ fn write_values<W: Write>(
     alloc: Global,
     trie: &Trie<'_>,
     keys: &[&[u8]],
-    output: &mut W,
+    output: &mut Noted<W>,
 ) -> io::Result<bool>
     ensures answered { IfOk result (AreAnswered Value trie.now.kind trie.now.bytes.now
-        (map (λ key. key.now) keys.now) (W.contents output.old) (W.contents output.new)) }
+        (map (λ key. key.now) keys.now) (W.contents output.old.inner) (W.contents output.new.inner)) }
     ensures part { OnErr result (AreAnsweredInPart Value trie.now.kind trie.now.bytes.now
-        (map (λ key. key.now) keys.now) (W.contents output.old) (W.contents output.new)) }
+        (map (λ key. key.now) keys.now) (W.contents output.old.inner) (W.contents output.new.inner)) }
+    ensures noted { IsNoted result output.old.failed output.new.failed }
 {
     let mut lines = Vec::new(alloc);
     let mut all = true;
@@ -79,7 +81,7 @@ fn write_values<W: Write>(
         let (block, _) = left.split_at(left.len().min(BLOCK));
         lines.clear();
         all &= add_values(&mut lines, trie, block)?;
-        write_bytes(output, lines.as_slice())?;
+        output.write_bytes(lines.as_slice())?;
         begin += block.len();
     }
     Ok(all)
@@ -91,12 +93,13 @@ fn write_longest<W: Write>(
     alloc: Global,
     trie: &Trie<'_>,
     texts: &[&[u8]],
-    output: &mut W,
+    output: &mut Noted<W>,
 ) -> io::Result<bool>
     ensures answered { IfOk result (AreAnswered Longest trie.now.kind trie.now.bytes.now
-        (map (λ t. t.now) texts.now) (W.contents output.old) (W.contents output.new)) }
+        (map (λ t. t.now) texts.now) (W.contents output.old.inner) (W.contents output.new.inner)) }
     ensures part { OnErr result (AreAnsweredInPart Longest trie.now.kind trie.now.bytes.now
-        (map (λ t. t.now) texts.now) (W.contents output.old) (W.contents output.new)) }
+        (map (λ t. t.now) texts.now) (W.contents output.old.inner) (W.contents output.new.inner)) }
+    ensures noted { IsNoted result output.old.failed output.new.failed }
 {
     let mut line = Vec::new(alloc);
     let mut all = true;
@@ -105,7 +108,7 @@ fn write_longest<W: Write>(
         all &= found.is_some();
         line.clear();
         add_found(&mut line, text, found)?;
-        write_bytes(output, line.as_slice())?;
+        output.write_bytes(line.as_slice())?;
     }
     Ok(all)
 }
@@ -120,12 +123,13 @@ pub fn write_answers<W: Write>(
     trie: &Trie<'_>,
     asked: Asked,
     texts: &[&[u8]],
-    output: &mut W,
+    output: &mut Noted<W>,
 ) -> io::Result<bool>
     ensures answered { IfOk result (AreAnswered asked trie.now.kind trie.now.bytes.now
-        (map (λ t. t.now) texts.now) (W.contents output.old) (W.contents output.new)) }
+        (map (λ t. t.now) texts.now) (W.contents output.old.inner) (W.contents output.new.inner)) }
     ensures part { OnErr result (AreAnsweredInPart asked trie.now.kind trie.now.bytes.now
-        (map (λ t. t.now) texts.now) (W.contents output.old) (W.contents output.new)) }
+        (map (λ t. t.now) texts.now) (W.contents output.old.inner) (W.contents output.new.inner)) }
+    ensures noted { IsNoted result output.old.failed output.new.failed }
 {
     match asked {
         Asked::Value => write_values(alloc, trie, texts, output),

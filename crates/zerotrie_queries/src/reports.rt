@@ -2,7 +2,8 @@
 
 ghost use Rattle.std.specs.Prelude.{◌≡◌, OnOk, OnErr};
 ghost use Rattle.std.specs.Io.KnownBytes.{Appends};
-ghost use Rattle.zerotrie_queries.specs.Parts.{AppendsPart};
+ghost use Rattle.zerotrie_files.specs.Faults.{IsNoted};
+ghost use Rattle.zerotrie_files.specs.Parts.{AppendsPart};
 ghost use Rattle.zerotrie_queries.specs.reports.Reports.{report_of};
 ghost use Rattle.zerotrie_queries.specs.reports.Lines.{report_lines};
 
@@ -17,13 +18,19 @@ pub use counting::Report;
 use std::alloc::Global;
 use std::io;
 use std::io::Write;
+use zerotrie_files::Noted;
 
 /// Writes the report of a trie. If it fails, a beginning of it was written.
-pub fn write_trie_report<W: Write>(alloc: Global, trie: &Trie<'_>, output: &mut W) -> io::Result<()>
-    ensures all { OnOk result (Appends (W.contents output.old) (W.contents output.new)
+pub fn write_trie_report<W: Write>(
+    alloc: Global,
+    trie: &Trie<'_>,
+    output: &mut Noted<W>,
+) -> io::Result<()>
+    ensures all { OnOk result (Appends (W.contents output.old.inner) (W.contents output.new.inner)
         (report_lines (report_of trie.now.kind trie.now.bytes.now))) }
-    ensures part { OnErr result (AppendsPart (W.contents output.old) (W.contents output.new)
+    ensures part { OnErr result (AppendsPart (W.contents output.old.inner) (W.contents output.new.inner)
         (report_lines (report_of trie.now.kind trie.now.bytes.now))) }
+    ensures noted { IsNoted result output.old.failed output.new.failed }
 {
     let report = Report::of(alloc, trie)?;
     write_report(alloc, &report, output)

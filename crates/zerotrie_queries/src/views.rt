@@ -2,7 +2,8 @@
 
 ghost use Rattle.std.specs.Prelude.{OnOk, OnErr};
 ghost use Rattle.std.specs.Io.KnownBytes.{Appends};
-ghost use Rattle.zerotrie_queries.specs.Parts.{AppendsPart};
+ghost use Rattle.zerotrie_files.specs.Faults.{IsNoted};
+ghost use Rattle.zerotrie_files.specs.Parts.{AppendsPart};
 ghost use Rattle.zerotrie_queries.specs.views.Views.{shown};
 
 mod dot;
@@ -15,6 +16,7 @@ use crate::views::dump::write_dump;
 use std::alloc::Global;
 use std::io;
 use std::io::Write;
+use zerotrie_files::Noted;
 
 /// What is shown of a trie.
 #[derive(Clone, Copy, PartialEq, Eq, Debug)]
@@ -31,12 +33,13 @@ pub fn write_trie_view<W: Write>(
     alloc: Global,
     trie: &Trie<'_>,
     view: View,
-    output: &mut W,
+    output: &mut Noted<W>,
 ) -> io::Result<()>
-    ensures all { OnOk result (Appends (W.contents output.old) (W.contents output.new)
+    ensures all { OnOk result (Appends (W.contents output.old.inner) (W.contents output.new.inner)
         (shown view trie.now.kind trie.now.bytes.now)) }
-    ensures part { OnErr result (AppendsPart (W.contents output.old) (W.contents output.new)
+    ensures part { OnErr result (AppendsPart (W.contents output.old.inner) (W.contents output.new.inner)
         (shown view trie.now.kind trie.now.bytes.now)) }
+    ensures noted { IsNoted result output.old.failed output.new.failed }
 {
     match view {
         View::Dump => write_dump(alloc, trie, output),

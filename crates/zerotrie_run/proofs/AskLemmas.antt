@@ -16,6 +16,7 @@ use Rattle.zerotrie_queries.specs.declared.lookups.Asked.TheVariants as asked
 use Rattle.zerotrie_queries.proofs.PartLemmas.{part_all}
 use Rattle.zerotrie_queries.proofs.AnswerLemmas.{begun_all}
 use Rattle.zerotrie_files.specs.Disks.{Story}
+use Rattle.zerotrie_files.specs.Faults.{Watched}
 use Rattle.zerotrie_queries.specs.declared.file.OpenError.TheVariants.{BadTag, NotWellFormed, OutOfMemory}
 use Rattle.zerotrie_run.specs.Runs.{Answers, AnswersInPart, AreKeys, KeysAnswered, KeysAnsweredInPart, IsRead, IsUnanswered, EndsAsk, ask_refusal, are_lines, of_lines}
 use Rattle.zerotrie_run.specs.Told.{HasReason}
@@ -60,10 +61,10 @@ other_input Report i j kind bytes a b all apart h = h
 other_input (View view) i j kind bytes a b all apart h = h
 
 -- the input that is left after a file was read answers as all of it
-pub same_answer : {R : Type 0} (place : Place) (remaining : R → Option (List ℕ)) (old new : R) (q : Question) (kind : TrieKind) (bytes : List ℕ) (a b : Option (List ℕ)) (all : Bool)
-    → ((place ≡ Stream) × (of_lines q ≡ true) → ⊥) → (place ≡ Stream) ⊎ (new ≡ old) → Answers q (remaining new) kind bytes a b all → Answers q (remaining old) kind bytes a b all
-same_answer place remaining old new q kind bytes a b all apart (inl is) h = other_input q (remaining new) (remaining old) kind bytes a b all (λ lines. apart (is, lines)) h
-same_answer place remaining old new q kind bytes a b all apart (inr is) h = subst (λ r. Answers q (remaining r) kind bytes a b all) is h
+pub same_answer : {R : Type 0} (place : Place) (remaining : R → Option (List ℕ)) (old new : Watched R) (q : Question) (kind : TrieKind) (bytes : List ℕ) (a b : Option (List ℕ)) (all : Bool)
+    → ((place ≡ Stream) × (of_lines q ≡ true) → ⊥) → (place ≡ Stream) ⊎ (new ≡ old) → Answers q (remaining new.inner) kind bytes a b all → Answers q (remaining old.inner) kind bytes a b all
+same_answer place remaining old new q kind bytes a b all apart (inl is) h = other_input q (remaining new.inner) (remaining old.inner) kind bytes a b all (λ lines. apart (is, lines)) h
+same_answer place remaining old new q kind bytes a b all apart (inr is) h = subst (λ r. Answers q (remaining r.inner) kind bytes a b all) is h
 
 -- an answer to keys is a beginning of itself
 keys_in_part : (of : Asked) (keys : Keys) (input : Option (List ℕ)) (kind : TrieKind) (bytes : List ℕ) (a b : Option (List ℕ)) (all : Bool) → KeysAnswered of keys input kind bytes a b all
@@ -88,10 +89,10 @@ other_part (Code language name) i j kind bytes a b apart h = h
 other_part Report i j kind bytes a b apart h = h
 other_part (View view) i j kind bytes a b apart h = h
 
-pub same_part : {R : Type 0} (place : Place) (remaining : R → Option (List ℕ)) (old new : R) (q : Question) (kind : TrieKind) (bytes : List ℕ) (a b : Option (List ℕ))
-    → ((place ≡ Stream) × (of_lines q ≡ true) → ⊥) → (place ≡ Stream) ⊎ (new ≡ old) → AnswersInPart q (remaining new) kind bytes a b → AnswersInPart q (remaining old) kind bytes a b
-same_part place remaining old new q kind bytes a b apart (inl is) h = other_part q (remaining new) (remaining old) kind bytes a b (λ lines. apart (is, lines)) h
-same_part place remaining old new q kind bytes a b apart (inr is) h = subst (λ r. AnswersInPart q (remaining r) kind bytes a b) is h
+pub same_part : {R : Type 0} (place : Place) (remaining : R → Option (List ℕ)) (old new : Watched R) (q : Question) (kind : TrieKind) (bytes : List ℕ) (a b : Option (List ℕ))
+    → ((place ≡ Stream) × (of_lines q ≡ true) → ⊥) → (place ≡ Stream) ⊎ (new ≡ old) → AnswersInPart q (remaining new.inner) kind bytes a b → AnswersInPart q (remaining old.inner) kind bytes a b
+same_part place remaining old new q kind bytes a b apart (inl is) h = other_part q (remaining new.inner) (remaining old.inner) kind bytes a b (λ lines. apart (is, lines)) h
+same_part place remaining old new q kind bytes a b apart (inr is) h = subst (λ r. AnswersInPart q (remaining r.inner) kind bytes a b) is h
 
 -- what is false is not so
 pub is_not : (b : Bool) → b ≡ false → IsTrue b → ⊥

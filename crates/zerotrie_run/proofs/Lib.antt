@@ -3,3 +3,5 @@ mod LineLemmas
 mod MadeLemmas
 mod MessageLemmas
 mod ToldLemmas
+mod NoteLemmas
+mod RefusedLemmas

@@ -5,7 +5,8 @@ use Rattle.std.specs.Prelude.{◌&&◌}
 use Rattle.std.specs.Io.KnownBytes.{Consumes, IsAtEnd, Keeps}
 use Rattle.std.proofs.KnownBytes.{Consumes-nil, Consumes-trans, Consumes-whole}
 use Rattle.zerotrie_lines.specs.Lines.{lines_of}
-use Rattle.zerotrie_lines.specs.Blocks.{AreWhole, Gives, HasFeed}
+use Rattle.zerotrie_lines.specs.Blocks.{AreWhole, HasFeed}
+use Rattle.zerotrie_files.specs.Reads.{Gives}
 use Rattle.zerotrie_core.specs.declared.TrieKind.{TrieKind}
 use Rattle.zerotrie_queries.specs.declared.lookups.Asked.{Asked}
 use Rattle.zerotrie_queries.specs.Answers.{AreAnswered, AreAnsweredInPart}

@@ -53,7 +53,7 @@ read_back (File path) stdin bytes got before after held files known same apart w
 read_back Stream stdin bytes got before after held files known same apart written read = absurd (apart refl)
 
 -- a file that is named as it was made has the bytes and the kind that it was made of
-same_trie : (named : Option TrieKind) (bare : Bool) (kind : Kind) (bytes file : List ℕ) (k : TrieKind) (bs : List ℕ) → Holds named file k bs → file ≡ file_of bare kind bytes
+pub same_trie : (named : Option TrieKind) (bare : Bool) (kind : Kind) (bytes file : List ℕ) (k : TrieKind) (bs : List ℕ) → Holds named file k bs → file ≡ file_of bare kind bytes
     → IsNamedAsMade bare kind named → (kind_of k ≡ kind) × (bs ≡ bytes)
 same_trie None false kind bytes file k bs holds is as_made =
     let both : tagged (kind_of k) bs ≡ tagged kind bytes = sym holds ∙ is in
@@ -72,7 +72,7 @@ named perfect_hash = (Hash, refl)
 named extended_capacity = (Ext, refl)
 
 -- the number of a kind is no fault
-no_tag_fault : (choice : Option TrieKind) (bare : Bool) (kind : Kind) (bytes file : List ℕ) (why : TagError) → HasNoKind choice file why → file ≡ file_of bare kind bytes → IsNamedAsMade bare kind choice → ⊥
+pub no_tag_fault : (choice : Option TrieKind) (bare : Bool) (kind : Kind) (bytes file : List ℕ) (why : TagError) → HasNoKind choice file why → file ≡ file_of bare kind bytes → IsNamedAsMade bare kind choice → ⊥
 no_tag_fault None false kind bytes file why fault is as_made =
     let told : IsTagFault IsTag (tagged kind bytes) why = subst (λ f. IsTagFault IsTag f why) is fault in
     let n = named kind in

@@ -1,5 +1,5 @@
 -- A trie file is made, and then opened.
-use Rattle.std.specs.Prelude.{◌≡◌, ℕ, List, Option, Some, None, Bool, true, false}
+use Rattle.std.specs.Prelude.{◌≡◌, ◌⊎◌, ℕ, List, Option, Some, None, Bool, true, false}
 use Rattle.zerotrie_core.specs.Kind.{Kind}
 use Rattle.zerotrie_core.specs.Maps.{Pairs, map_of}
 use Rattle.zerotrie_core.specs.Texts.{Means}
@@ -7,8 +7,12 @@ use Rattle.zerotrie_core.specs.Kinds.{kind_of}
 use Rattle.zerotrie_core.specs.declared.TrieKind.{TrieKind}
 use Rattle.zerotrie_files.specs.Disks.{Story}
 use Rattle.zerotrie_making.specs.Plans.{kind_for, file_of}
-use Rattle.zerotrie_making.specs.Made.{OfInput}
-use Rattle.zerotrie_run.specs.Runs.{World, IsRead, Opens, HasNoTrie, IsMade}
+use Rattle.zerotrie_making.specs.Made.{IsFile, OfInput}
+use Rattle.zerotrie_run.specs.Runs.{World, IsRead, Opens, HasNoTrie, IsMade, RunsAsk, RunsBuild}
+use Rattle.zerotrie_run.specs.Statuses.{number_of}
+use Rattle.zerotrie_run.specs.declared.status.Status.{Status}
+use Rattle.zerotrie_run.specs.declared.status.Status.TheVariants.{Refused, BadUsage, BadInput}
+use Rattle.zerotrie_run.specs.declared.command.Question.{Question}
 use Rattle.zerotrie_run.specs.declared.command.Place.TheVariants.{Stream}
 use Rattle.zerotrie_run.specs.declared.command.TrieFile.{TrieFile}
 use Rattle.zerotrie_run.specs.declared.command.Build.{Build}
@@ -32,3 +36,27 @@ MadeOpens = (build : Build) (input : Option (List ℕ)) (before after : World) (
     → (made : IsMade build input before after) (file : TrieFile) (stdin : Option (List ℕ)) → (build.to ≡ Stream → ⊥) → file.place ≡ build.to
     → OfInput build.plan made.all (λ pairs. IsNamedAsMade build.plan.bare (kind_for build.plan.kind pairs) file.kind
     → OpensAsMade file stdin after.files build.plan.bare (kind_for build.plan.kind pairs) pairs made.file)
+
+-- the file that is read has a trie, which is opened
+abbrev pub HasTrie : TrieFile → List ℕ → Story → Type 0
+HasTrie file input files = (held : List ℕ) × IsRead file.place (Some input) (Some files) held × (kind : TrieKind) × (bytes : List ℕ) × Opens file held kind bytes
+
+-- A question to a file that is tested is refused as bad input only if the file has no trie; and if it has none, that is how it ends,
+-- unless the usage is bad or something failed.
+pub record IsRefusedExactly (file : TrieFile) (input : List ℕ) (files : Story) (status : Status) : Type 0 where
+  pub only : status ≡ BadInput → HasTrie file input files → ⊥
+  pub always : (HasTrie file input files → ⊥) → (status ≡ BadInput) ⊎ (status ≡ BadUsage) ⊎ (number_of status ≡ 3)
+
+-- so each question ends, over files and an input that are known
+abbrev pub RefusedExactly : Type 0
+RefusedExactly = (file : TrieFile) (question : Question) (input : List ℕ) (files : Story) (old new : Option (List ℕ)) (status : Status) → file.trust ≡ false
+    → RunsAsk file question (Some input) (Some files) old new status → IsRefusedExactly file input files status
+
+-- the input that is read makes a file
+abbrev pub MakesFile : Build → List ℕ → Story → Type 0
+MakesFile build input files = (all : List ℕ) × IsRead build.from (Some input) (Some files) all × (file : List ℕ) × IsFile build.plan all file
+
+-- a build whose input makes no file is refused, unless something failed
+abbrev pub UnmadeIsRefused : Type 0
+UnmadeIsRefused = (build : Build) (input : List ℕ) (files : Story) (before after : World) (status : Status) → before.files ≡ Some files
+    → RunsBuild build (Some input) before after status → (MakesFile build input files → ⊥) → (status ≡ Refused) ⊎ (status ≡ BadInput) ⊎ (number_of status ≡ 3)

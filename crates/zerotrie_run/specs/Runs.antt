@@ -1,5 +1,5 @@
 -- What each command prints, what it leaves in files, and how it ends.
-use Rattle.std.specs.Prelude.{◌≡◌, ◌≢◌, ◌⊎◌, ℕ, List, [], Option, Some, None, IfSome, Result, Ok, Err, Bool, true, false, map, codes}
+use Rattle.std.specs.Prelude.{◌≡◌, ◌≢◌, ◌⊎◌, ℕ, List, [], Option, Some, None, IfSome, Result, Ok, Err, Bool, true, false, is_none, map, codes}
 use Rattle.std.specs.Io.KnownBytes.{Appends}
 use Rattle.std.specs.Io.Buffered.{writer_buffer}
 use Rattle.std.specs.declared.io.buffered.BufWriter.{BufWriter}
@@ -11,7 +11,7 @@ use Rattle.zerotrie_queries.specs.Files.{Holds, HasNoKind, Explains}
 use Rattle.zerotrie_core.specs.declared.TrieKind.{TrieKind}
 use Rattle.zerotrie_queries.specs.declared.file.OpenError.{OpenError}
 use Rattle.zerotrie_queries.specs.declared.file.OpenError.TheVariants as unopened
-use Rattle.zerotrie_queries.specs.Parts.{AppendsPart}
+use Rattle.zerotrie_files.specs.Parts.{AppendsPart}
 use Rattle.zerotrie_queries.specs.Answers.{AreAnswered, AreAnsweredInPart, AreListed, AreListedInPart}
 use Rattle.zerotrie_queries.specs.declared.lookups.Asked.{Asked}
 use Rattle.zerotrie_queries.specs.declared.lookups.Asked.TheVariants as asked
@@ -200,6 +200,11 @@ abbrev pub asked_refusal : Result Bool AskError → Option Status
 asked_refusal (Ok all) = None
 asked_refusal (Err e) = ask_refusal e
 
+-- whether a question failed: it was neither answered nor refused
+abbrev pub ask_fails : Result Bool AskError → Bool
+ask_fails (Ok all) = false
+ask_fails (Err e) = is_none (ask_refusal e)
+
 -- The file of a trie was made: what was read, and the file that was written.
 pub record IsMade (build : Build) (input : Option (List ℕ)) (before after : World) : Type 0 where
   pub all : List ℕ
@@ -252,6 +257,11 @@ abbrev pub build_refusal : BuildError → Option Status
 build_refusal (build.Unread e) = None
 build_refusal (build.NotMade e) = made_refusal e
 build_refusal (build.Unwritten e) = None
+
+-- whether a build failed: a file was neither made nor refused
+abbrev pub build_fails : {A : Type 0} → Result A BuildError → Bool
+build_fails (Ok made) = false
+build_fails (Err e) = is_none (build_refusal e)
 
 -- the file is read as bare bytes of a kind that was named, and begins with the number of a kind, as one that has it does
 abbrev pub HasNumberToo : Option TrieKind → List ℕ → Type 0

@@ -1,9 +1,10 @@
 //! A question to the trie of a file.
 
-ghost use Rattle.std.specs.Prelude.{◌≡◌, ◌↔◌, ℕ, List, true, false, Ok, Err, IfOk, IfErr, IsTrue, OnErr};
+ghost use Rattle.std.specs.Prelude.{◌≡◌, ◌↔◌, ℕ, List, true, false, Ok, Err, IfOk, IfErr, IsTrue, OnOk, OnErr};
 ghost use Rattle.std.specs.Io.Buffered.{writer_contents};
 ghost use Rattle.zerotrie_core.specs.declared.TrieKind.{TrieKind};
-ghost use Rattle.zerotrie_run.specs.Runs.{Opens, IsUnopened, KeysAnswered, KeysAnsweredInPart, Answers, AnswersInPart, IsAsked, EndsAsk, IsUnanswered, IsDoubtful, ReadsTwice, LeavesKeys, LeavesInputOf, HandsOn, ask_refusal, asked_refusal, are_lines, of_lines};
+ghost use Rattle.zerotrie_files.specs.Notes.{NothingFailed, SameNotes};
+ghost use Rattle.zerotrie_run.specs.Runs.{Opens, IsUnopened, KeysAnswered, KeysAnsweredInPart, Answers, AnswersInPart, IsAsked, EndsAsk, IsUnanswered, IsDoubtful, ReadsTwice, LeavesKeys, LeavesInputOf, HandsOn, ask_fails, ask_refusal, asked_refusal, are_lines, of_lines};
 ghost use Rattle.zerotrie_run.specs.Told.{HasReason, NotesNumber, TellsMore};
 ghost use Rattle.zerotrie_run.specs.declared.command.Place.TheVariants.{Stream};
 ghost use Rattle.zerotrie_run.specs.declared.command.Command.TheVariants.{Ask};
@@ -101,13 +102,14 @@ fn answer_keys<R: Read, W: Write + Drop>(
     trie: &Trie<'_>,
     asked: Asked,
     keys: Keys<'_>,
-    input: &mut R,
-    output: &mut BufWriter<W>,
+    input: &mut Noted<R>,
+    output: &mut Noted<BufWriter<W>>,
 ) -> Result<bool, AnswerError>
-    ensures answered { IfOk result (KeysAnswered asked keys.entry (R.remaining input.old)
-        trie.now.kind trie.now.bytes.now (writer_contents W.contents output.old) (writer_contents W.contents output.new)) }
-    ensures part { OnErr result (KeysAnsweredInPart asked keys.entry (R.remaining input.old)
-        trie.now.kind trie.now.bytes.now (writer_contents W.contents output.old) (writer_contents W.contents output.new)) }
+    ensures answered { IfOk result (KeysAnswered asked keys.entry (R.remaining input.old.inner)
+        trie.now.kind trie.now.bytes.now (writer_contents W.contents output.old.inner) (writer_contents W.contents output.new.inner)) }
+    ensures part { OnErr result (KeysAnsweredInPart asked keys.entry (R.remaining input.old.inner)
+        trie.now.kind trie.now.bytes.now (writer_contents W.contents output.old.inner) (writer_contents W.contents output.new.inner)) }
+    ensures noted { OnOk result (SameNotes input.old input.new output.old output.new) }
     ensures unread { are_lines keys.entry ≡ false → input.new ≡ input.old }
 {
     match keys {
@@ -122,13 +124,14 @@ fn answer<R: Read, W: Write + Drop>(
     alloc: Global,
     trie: &Trie<'_>,
     question: Question<'_>,
-    input: &mut R,
-    output: &mut BufWriter<W>,
+    input: &mut Noted<R>,
+    output: &mut Noted<BufWriter<W>>,
 ) -> Result<bool, AnswerError>
-    ensures answered { IfOk result (Answers question.entry (R.remaining input.old)
-        trie.now.kind trie.now.bytes.now (writer_contents W.contents output.old) (writer_contents W.contents output.new)) }
-    ensures part { OnErr result (AnswersInPart question.entry (R.remaining input.old)
-        trie.now.kind trie.now.bytes.now (writer_contents W.contents output.old) (writer_contents W.contents output.new)) }
+    ensures answered { IfOk result (Answers question.entry (R.remaining input.old.inner)
+        trie.now.kind trie.now.bytes.now (writer_contents W.contents output.old.inner) (writer_contents W.contents output.new.inner)) }
+    ensures part { OnErr result (AnswersInPart question.entry (R.remaining input.old.inner)
+        trie.now.kind trie.now.bytes.now (writer_contents W.contents output.old.inner) (writer_contents W.contents output.new.inner)) }
+    ensures noted { OnOk result (SameNotes input.old input.new output.old output.new) }
     ensures unread { of_lines question.entry ≡ false → input.new ≡ input.old }
 {
     match question {
@@ -159,15 +162,17 @@ fn answer_held<R: Read, W: Write + Drop>(
     file: TrieFile<'_>,
     held: &[u8],
     question: Question<'_>,
-    input: &mut R,
-    output: &mut BufWriter<W>,
+    input: &mut Noted<R>,
+    output: &mut Noted<BufWriter<W>>,
 ) -> Result<bool, AskError>
     ensures ok { IfOk result (λ all. (kind : TrieKind) × (bytes : List ℕ)
         × Opens file.entry held.now kind bytes
-        × Answers question.entry (R.remaining input.old) kind bytes
-        (writer_contents W.contents output.old) (writer_contents W.contents output.new) all) }
-    ensures err { IfErr result (IsUnanswered file.entry question.entry (R.remaining input.old)
-        held.now (writer_contents W.contents output.old) (writer_contents W.contents output.new)) }
+        × Answers question.entry (R.remaining input.old.inner) kind bytes
+        (writer_contents W.contents output.old.inner) (writer_contents W.contents output.new.inner) all) }
+    ensures err { IfErr result (IsUnanswered file.entry question.entry (R.remaining input.old.inner)
+        held.now (writer_contents W.contents output.old.inner) (writer_contents W.contents output.new.inner)) }
+    ensures noted { ask_fails result ≡ false
+        → SameNotes input.old input.new output.old output.new }
     ensures unread { LeavesKeys question.entry (asked_refusal result) → input.new ≡ input.old }
 {
     let trie = match open(alloc, file, held) {
@@ -187,25 +192,27 @@ pub fn ask<D: Disk, R: Read, W: Write + Drop, M: Write>(
     file: TrieFile<'_>,
     question: Question<'_>,
     files: &mut Store<D>,
-    input: &mut R,
-    output: &mut BufWriter<W>,
+    input: &mut Noted<R>,
+    output: &mut Noted<BufWriter<W>>,
     messages: &mut Noted<M>,
 ) -> Result<bool, AskError>
-    ensures ok { IfOk result (λ all. IsAsked file.entry question.entry (R.remaining input.old)
-        (D.story files.old.disk) (writer_contents W.contents output.old) (writer_contents W.contents output.new) all) }
-    ensures err { IfErr result (λ e. EndsAsk file.entry question.entry (R.remaining input.old)
-        (D.story files.old.disk) (writer_contents W.contents output.old) (writer_contents W.contents output.new) (ask_refusal e)) }
+    ensures ok { IfOk result (λ all. IsAsked file.entry question.entry (R.remaining input.old.inner)
+        (D.story files.old.disk) (writer_contents W.contents output.old.inner) (writer_contents W.contents output.new.inner) all) }
+    ensures err { IfErr result (λ e. EndsAsk file.entry question.entry (R.remaining input.old.inner)
+        (D.story files.old.disk) (writer_contents W.contents output.old.inner) (writer_contents W.contents output.new.inner) (ask_refusal e)) }
     ensures same { files.new.disk ≡ files.old.disk }
-    ensures handed { IfOk result (λ _. HandsOn output.old output.new) }
-    ensures why { IfErr result (HasReason file.entry (R.remaining input.old) (D.story files.old.disk)) }
+    ensures handed { IfOk result (λ _. HandsOn output.old.inner output.new.inner) }
+    ensures why { IfErr result (HasReason file.entry (R.remaining input.old.inner) (D.story files.old.disk)) }
     ensures notes { IfOk result (λ _. messages.new.failed ≡ false
-        → NotesNumber file.entry (R.remaining input.old) (D.story files.old.disk)
+        → NotesNumber file.entry (R.remaining input.old.inner) (D.story files.old.disk)
         (M.contents messages.old.inner) (M.contents messages.new.inner)) }
     ensures tells { messages.new.failed ≡ false
         → TellsMore (M.contents messages.old.inner) (M.contents messages.new.inner) }
-    ensures quiet { (IsDoubtful file.entry (R.remaining input.old) (D.story files.old.disk) → ⊥)
+    ensures quiet { (IsDoubtful file.entry (R.remaining input.old.inner) (D.story files.old.disk) → ⊥)
         → messages.new ≡ messages.old }
     ensures twice { ReadsTwice (Ask file.entry question.entry) → result ≡ Err TwoInputs }
+    ensures noted { ask_fails result ≡ false
+        → NothingFailed input.old input.new output.old output.new files.old files.new }
     ensures unread { LeavesInputOf file.entry question.entry (asked_refusal result)
         → input.new ≡ input.old }
 {
@@ -224,7 +231,7 @@ pub fn ask<D: Disk, R: Read, W: Write + Drop, M: Write>(
         Ok(all) => all,
         Err(error) => return Err(error),
     };
-    match output.flush() {
+    match output.hand_on() {
         Ok(()) => Ok(all),
         Err(error) => Err(AskError::Unanswered(AnswerError::Output(error))),
     }

@@ -1,7 +1,8 @@
 //! A trie file that is made.
 
 ghost use Rattle.std.specs.Prelude.{◌≡◌, false, IfErr, OnOk};
-ghost use Rattle.zerotrie_run.specs.Runs.{world, IsMade, EndsBuild, HandsOn, build_refusal};
+ghost use Rattle.zerotrie_files.specs.Notes.{NothingFailed};
+ghost use Rattle.zerotrie_run.specs.Runs.{world, IsMade, EndsBuild, HandsOn, build_fails, build_refusal};
 ghost use Rattle.std.specs.Io.Buffered.{writer_contents};
 ghost use Rattle.zerotrie_making.specs.declared.refused.MakeError.TheVariants.{OutOfMemory};
 ghost use Rattle.zerotrie_run.specs.Told.{HasCause, TellsMore, TellsSteps};
@@ -63,24 +64,26 @@ pub fn build<D: Disk, R: Read, W: Write + Drop, M: Write>(
     alloc: Global,
     build: Build<'_>,
     files: &mut Store<D>,
-    input: &mut R,
-    output: &mut BufWriter<W>,
+    input: &mut Noted<R>,
+    output: &mut Noted<BufWriter<W>>,
     messages: &mut Noted<M>,
 ) -> Result<(), BuildError>
-    ensures ok { OnOk result (IsMade build.entry (R.remaining input.old)
-        (world (D.story files.old.disk) (writer_contents W.contents output.old))
-        (world (D.story files.new.disk) (writer_contents W.contents output.new))) }
-    ensures err { IfErr result (λ e. EndsBuild build.entry (R.remaining input.old)
-        (world (D.story files.old.disk) (writer_contents W.contents output.old))
-        (world (D.story files.new.disk) (writer_contents W.contents output.new)) (build_refusal e)) }
-    ensures handed { OnOk result (HandsOn output.old output.new) }
-    ensures why { IfErr result (HasCause build.entry (R.remaining input.old) (D.story files.old.disk)) }
+    ensures ok { OnOk result (IsMade build.entry (R.remaining input.old.inner)
+        (world (D.story files.old.disk) (writer_contents W.contents output.old.inner))
+        (world (D.story files.new.disk) (writer_contents W.contents output.new.inner))) }
+    ensures err { IfErr result (λ e. EndsBuild build.entry (R.remaining input.old.inner)
+        (world (D.story files.old.disk) (writer_contents W.contents output.old.inner))
+        (world (D.story files.new.disk) (writer_contents W.contents output.new.inner)) (build_refusal e)) }
+    ensures handed { OnOk result (HandsOn output.old.inner output.new.inner) }
+    ensures why { IfErr result (HasCause build.entry (R.remaining input.old.inner) (D.story files.old.disk)) }
     ensures steps { OnOk result (messages.new.failed ≡ false
-        → TellsSteps build.entry (R.remaining input.old) (D.story files.old.disk)
+        → TellsSteps build.entry (R.remaining input.old.inner) (D.story files.old.disk)
         (M.contents messages.old.inner) (M.contents messages.new.inner)) }
     ensures tells { messages.new.failed ≡ false
         → TellsMore (M.contents messages.old.inner) (M.contents messages.new.inner) }
     ensures quiet { build.entry.progress ≡ false → messages.new ≡ messages.old }
+    ensures noted { build_fails result ≡ false
+        → NothingFailed input.old input.new output.old output.new files.old files.new }
     ensures unread { (build.entry.from ≡ Stream → ⊥) → input.new ≡ input.old }
 {
     let held = match read_place(alloc, build.from, files, input) {

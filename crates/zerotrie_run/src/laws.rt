@@ -1,10 +1,21 @@
-//! A law of the definitions. It is an empty function: a call of it brings its clause into the
+//! Laws of the definitions. A law is an empty function: a call of it brings its clause into the
 //! caller's proof.
 
-ghost use Rattle.zerotrie_run.specs.Laws.{MadeOpens};
+ghost use Rattle.zerotrie_run.specs.Laws.{MadeOpens, RefusedExactly, UnmadeIsRefused};
 
 /// A file that a build made opens as the trie of the pairs that the build read, if its kind is
 /// named as it was for the build. So each question to it is answered by them.
 pub fn made_opens()
     ensures { MadeOpens }
+{}
+
+/// A question to a file that is tested is refused exactly if the file has no trie, unless the usage
+/// is bad or something failed.
+pub fn refused_exactly()
+    ensures { RefusedExactly }
+{}
+
+/// A build whose input makes no file is refused, unless something failed.
+pub fn unmade_is_refused()
+    ensures { UnmadeIsRefused }
 {}

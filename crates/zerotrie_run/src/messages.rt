@@ -3,7 +3,7 @@
 ghost use Rattle.std.specs.Prelude.{◌≡◌, ◌≢◌, ◌⊎◌, ◌++◌, ◌∷◌, [], List, ℕ, true, false, IfOk, IfSome, IfNone, OnOk, codes, take};
 ghost use Rattle.std.specs.Io.KnownBytes.{Appends};
 ghost use Rattle.zerotrie_run.specs.Runs.{HasNumberToo};
-ghost use Rattle.zerotrie_run.specs.Messages.{BeginsWithNoDigit, Extends, IsLine, Names, NamesPairs, Says, SaysKeys, TellsAsk, TellsBuild, TellsMade, TellsNoPair, TellsNoTrie, told_key};
+ghost use Rattle.zerotrie_run.specs.Messages.{BeginsWithNoDigit, Extends, IsLine, Names, NamesPairs, Says, SaysKeys, TellsAsk, TellsBuild, TellsMade, TellsNoPair, TellsNoTrie, rule_text, told_key};
 ghost use Rattle.zerotrie_run.specs.Told.{LineTold, TellsMore, place_name, told_step};
 
 use crate::asking::AskError;
@@ -14,7 +14,7 @@ use std::alloc::{AllocError, Global};
 use std::io;
 use std::io::{ErrorKind, Write};
 use zerotrie_any::TagError;
-use zerotrie_core::{Fault, TrieKind, ZeroTrieBuildError};
+use zerotrie_core::{Fault, FaultCause, TrieKind, ZeroTrieBuildError};
 use zerotrie_files::Noted;
 use zerotrie_lines::{BadLine, Format, write_escaped, write_number};
 use zerotrie_making::{MakeError, NoPair, Shown, Source};
@@ -60,7 +60,7 @@ pub fn tell<M: Write>(messages: &mut Noted<M>, text: &[u8])
     ensures quiet { text.now ≡ [] → messages.new ≡ messages.old }
 {
     if !text.is_empty() {
-        let _ = messages.write_all(text);
+        let _ = messages.write_bytes(text);
     }
 }
 
@@ -130,8 +130,35 @@ fn fault_on(alloc: Global, place: &str, error: &io::Error) -> Result<Vec<u8>, Al
     Ok(text)
 }
 
+/// The rule of the format that fails, as the library's errors say it.
+fn rule_text(cause: FaultCause) -> &'static str
+    ensures { result.now ≡ rule_text cause }
+{
+    match cause {
+        FaultCause::NoNode => "no whole node of this kind of trie begins here",
+        FaultCause::NoSpans => "a span stands in a kind of trie that has none",
+        FaultCause::UnexpectedEnd => "the bytes end where a key has to go on",
+        FaultCause::ValueAfterValue => "a value follows a value",
+        FaultCause::SpanAfterSpan => "a span follows a span",
+        FaultCause::EmptySpan => "a span is empty",
+        FaultCause::AsciiInSpan => "a span has an ASCII byte",
+        FaultCause::WrongTable => { "the search table of a branch is not one of this kind of trie" }
+        FaultCause::WrongWidth => "the offsets of a branch do not have the least width",
+        FaultCause::WrongOffsets => "the offsets of a branch do not ascend within its targets",
+    }
+}
+
+/// Adds the rule that fails.
+#[tactic(auto, using(crate::proofs::MessageLemmas::says_here))]
+fn add_rule(text: &mut Vec<u8>, cause: FaultCause) -> Result<(), AllocError>
+    ensures says { OnOk result (Says text.new.items (rule_text cause)) }
+    ensures adds { OnOk result (Extends text.old.items text.new.items) }
+{
+    add(text, rule_text(cause))
+}
+
 /// A line that tells of the first fault in the bytes of a file.
-#[tactic(auto, using(crate::proofs::MessageLemmas::names_on))]
+#[tactic(auto, using(crate::proofs::MessageLemmas::extends_both, crate::proofs::MessageLemmas::names_on, crate::proofs::MessageLemmas::says_here, crate::proofs::MessageLemmas::says_on))]
 fn malformed(
     alloc: Global,
     file: TrieFile<'_>,
@@ -139,13 +166,14 @@ fn malformed(
     fault: Fault,
 ) -> Result<Vec<u8>, AllocError>
     ensures line { IfOk result (λ text. IsLine text.items) }
+    ensures says { IfOk result (λ text. Says text.items (rule_text fault.cause)) }
     ensures names { IfOk result (λ text. Names text.items fault.place) }
 {
     let path = source_name(file.place);
     let name = kind.name();
-    let cause = fault.cause;
     let mut text = Vec::new(alloc);
-    write!(text, "zerotrie: {path}: no trie of kind {name}: {cause}").map_err(|_| AllocError)?;
+    write!(text, "zerotrie: {path}: no trie of kind {name}: ").map_err(|_| AllocError)?;
+    add_rule(&mut text, fault.cause)?;
     add_number(&mut text, ", at byte", fault.place, counted_from(file))?;
     end_line(&mut text)?;
     Ok(text)

@@ -1,6 +1,8 @@
 //! Reads and writes of whole files and streams.
 
-ghost use Rattle.std.specs.Prelude.{◌≡◌, ◌⊎◌, IfOk, IfSome, OnOk, OnErr};
+ghost use Rattle.std.specs.Prelude.{◌≡◌, ◌⊎◌, true, IfOk, IfErr, OnOk, OnErr};
+ghost use Rattle.zerotrie_files.specs.Faults.{IsOutOfMemory};
+ghost use Rattle.zerotrie_files.specs.Notes.{SameReads, SameWrites};
 ghost use Rattle.zerotrie_run.specs.Runs.{world, IsRead, IsWritten, IsKept, HandsOn};
 ghost use Rattle.std.specs.Io.Buffered.{writer_contents};
 ghost use Rattle.zerotrie_run.specs.declared.command.Place.TheVariants.{Stream};
@@ -9,33 +11,27 @@ use crate::command::Place;
 use std::alloc::Global;
 use std::io;
 use std::io::{BufWriter, Read, Write};
-use zerotrie_files::{Disk, Store};
-use zerotrie_queries::write_bytes;
-
-/// Reads the rest of a stream.
-pub fn read_all<R: Read>(alloc: Global, input: &mut R) -> io::Result<Vec<u8>>
-    ensures { IfOk result (λ bytes. IfSome (R.remaining input.old) (λ known. bytes.items ≡ known)) }
-{
-    let mut bytes = Vec::new(alloc);
-    input.read_to_end(&mut bytes)?;
-    Ok(bytes)
-}
+use zerotrie_files::{Disk, Noted, Store};
 
 /// Reads all bytes of a place.
 pub fn read_place<D: Disk, R: Read>(
     alloc: Global,
     place: Place<'_>,
     files: &mut Store<D>,
-    input: &mut R,
+    input: &mut Noted<R>,
 ) -> io::Result<Vec<u8>>
     ensures read { IfOk result (λ bytes.
-        IsRead place.entry (R.remaining input.old) (D.story files.old.disk) bytes.items) }
+        IsRead place.entry (R.remaining input.old.inner) (D.story files.old.disk) bytes.items) }
     ensures same { files.new.disk ≡ files.old.disk }
     ensures untouched { (place.entry ≡ Stream) ⊎ (input.new ≡ input.old) }
+    ensures noted { OnOk result (SameReads input.old input.new files.old files.new) }
+    ensures why { IfErr result (λ e. IsOutOfMemory e ⊎ (input.new.failed ≡ true)
+        ⊎ (files.new.unread ≡ true)) }
+    ensures unwritten { files.new.unwritten ≡ files.old.unwritten }
 {
     match place {
         Place::File(path) => files.read(path),
-        Place::Stream => read_all(alloc, input),
+        Place::Stream => input.read_all(alloc),
     }
 }
 
@@ -46,21 +42,25 @@ pub fn write_place<D: Disk, W: Write + Drop>(
     place: Place<'_>,
     bytes: &[u8],
     files: &mut Store<D>,
-    output: &mut BufWriter<W>,
+    output: &mut Noted<BufWriter<W>>,
 ) -> io::Result<()>
     ensures ok { OnOk result (IsWritten place.entry bytes.now
-        (world (D.story files.old.disk) (writer_contents W.contents output.old))
-        (world (D.story files.new.disk) (writer_contents W.contents output.new))) }
+        (world (D.story files.old.disk) (writer_contents W.contents output.old.inner))
+        (world (D.story files.new.disk) (writer_contents W.contents output.new.inner))) }
     ensures err { OnErr result (IsKept place.entry bytes.now
-        (world (D.story files.old.disk) (writer_contents W.contents output.old))
-        (world (D.story files.new.disk) (writer_contents W.contents output.new))) }
-    ensures handed { OnOk result (HandsOn output.old output.new) }
+        (world (D.story files.old.disk) (writer_contents W.contents output.old.inner))
+        (world (D.story files.new.disk) (writer_contents W.contents output.new.inner))) }
+    ensures handed { OnOk result (HandsOn output.old.inner output.new.inner) }
+    ensures noted { OnOk result (SameWrites output.old output.new files.old files.new) }
+    ensures why { IfErr result (λ e. IsOutOfMemory e ⊎ (output.new.failed ≡ true)
+        ⊎ (files.new.unwritten ≡ true)) }
+    ensures unread { files.new.unread ≡ files.old.unread }
 {
     match place {
         Place::File(path) => files.replace(alloc, path, bytes),
         Place::Stream => {
-            write_bytes(output, bytes)?;
-            output.flush()
+            output.write_bytes(bytes)?;
+            output.hand_on()
         }
     }
 }

@@ -1,10 +1,11 @@
 //! The program over files and streams.
 
-ghost use Rattle.std.specs.Prelude.{◌≡◌, ◌⊎◌, ◌||◌, false, true, unwrap_or};
+ghost use Rattle.std.specs.Prelude.{◌≡◌, ◌≢◌, ◌⊎◌, ◌||◌, false, true, unwrap_or};
 ghost use Rattle.std.specs.Io.KnownBytes.{Appends};
-ghost use Rattle.std.specs.Io.Buffered.{writer_contents, writer_inner};
+ghost use Rattle.std.specs.Io.Buffered.{writer_contents};
+ghost use Rattle.zerotrie_files.specs.Notes.{NothingFailed};
 ghost use Rattle.zerotrie_run.specs.Runs.{Runs, TellsNumber, ReadsTwice, LeavesInput, HandsOn, tells_steps, world};
-ghost use Rattle.zerotrie_run.specs.Statuses.{failure};
+ghost use Rattle.zerotrie_run.specs.Statuses.{failure, number_of};
 ghost use Rattle.zerotrie_run.specs.Told.{IsTold, Notes, ended, last_text};
 ghost use Rattle.zerotrie_run.specs.declared.status.Status.TheVariants.{Done, Absent, BadUsage, Unread, Unwritten};
 
@@ -22,14 +23,14 @@ use zerotrie_files::{Disk, Noted, Store};
 fn failure<D: Disk, R: Read, W: Write + Drop>(
     files: &Store<D>,
     input: &Noted<R>,
-    output: &BufWriter<Noted<W>>,
+    output: &Noted<BufWriter<W>>,
 ) -> Status
     ensures { result ≡ failure (input.now.failed || files.now.unread)
-        ((writer_inner output.now).failed || files.now.unwritten) }
+        (output.now.failed || files.now.unwritten) }
 {
     if input.failed() || files.unread() {
         Status::Unread
-    } else if output.get_ref().failed() || files.unwritten() {
+    } else if output.failed() || files.unwritten() {
         Status::Unwritten
     } else {
         Status::OutOfMemory
@@ -41,10 +42,10 @@ fn end_of<D: Disk, R: Read, W: Write + Drop>(
     refusal: Option<Status>,
     files: &Store<D>,
     input: &Noted<R>,
-    output: &BufWriter<Noted<W>>,
+    output: &Noted<BufWriter<W>>,
 ) -> Status
     ensures { result ≡ unwrap_or refusal (failure (input.now.failed || files.now.unread)
-        ((writer_inner output.now).failed || files.now.unwritten)) }
+        (output.now.failed || files.now.unwritten)) }
 {
     match refusal {
         Some(status) => status,
@@ -87,7 +88,8 @@ fn end<M: Write>(
 ///
 /// It ends in `Unread` only if a read of a file or of standard input failed, in `Unwritten` only if
 /// a replacement of a file or a write to the output did, and if neither did, it ends by itself or
-/// in `OutOfMemory`.
+/// in `OutOfMemory`. If one of these did, its number is 3: otherwise nothing failed that the files
+/// and streams note. A message that can't be written changes nothing.
 ///
 /// After success, or if a key is absent, the buffer is flushed if it was empty before. The only
 /// messages are then the steps of a build, if they were asked for, and a warning for a file that is
@@ -99,19 +101,21 @@ pub fn run<D: Disk, R: Read, W: Write + Drop, M: Write>(
     command: Command<'_>,
     files: &mut Store<D>,
     input: &mut Noted<R>,
-    output: &mut BufWriter<Noted<W>>,
+    output: &mut Noted<BufWriter<W>>,
     messages: &mut Noted<M>,
 ) -> Status
     ensures runs { Runs command.entry (R.remaining input.old.inner)
         (world (D.story files.old.disk)
-        (writer_contents (λ w. W.contents w.inner) output.old))
+        (writer_contents W.contents output.old.inner))
         (world (D.story files.new.disk)
-        (writer_contents (λ w. W.contents w.inner) output.new)) result }
+        (writer_contents W.contents output.new.inner)) result }
     ensures read_failed { result ≡ Unread
         → (input.new.failed ≡ true) ⊎ (files.new.unread ≡ true) }
     ensures write_failed { result ≡ Unwritten
-        → ((writer_inner output.new).failed ≡ true) ⊎ (files.new.unwritten ≡ true) }
-    ensures handed { (result ≡ Done) ⊎ (result ≡ Absent) → HandsOn output.old output.new }
+        → (output.new.failed ≡ true) ⊎ (files.new.unwritten ≡ true) }
+    ensures failed { number_of result ≢ 3
+        → NothingFailed input.old input.new output.old output.new files.old files.new }
+    ensures handed { (result ≡ Done) ⊎ (result ≡ Absent) → HandsOn output.old.inner output.new.inner }
     ensures told { messages.new.failed ≡ false
         → IsTold command.entry (R.remaining input.old.inner) (D.story files.old.disk)
         (M.contents messages.old.inner) (M.contents messages.new.inner) result }

@@ -2,6 +2,8 @@
 
 ghost use Rattle.std.specs.Prelude.{◌≡◌, ◌≤◌, ℕ, length, take, drop, true, false, IfOk, IfErr, OnOk, OnErr};
 ghost use Rattle.std.specs.Io.Buffered.{writer_contents};
+ghost use Rattle.zerotrie_files.specs.Faults.{IsNoted};
+ghost use Rattle.zerotrie_files.specs.Notes.{SameNotes};
 ghost use Rattle.zerotrie_lines.specs.Lines.{lines_of};
 ghost use Rattle.zerotrie_lines.specs.Blocks.{AreWhole, HasFeed};
 ghost use Rattle.zerotrie_queries.specs.Answers.{AreAnswered, AreAnsweredInPart};
@@ -13,7 +15,8 @@ ghost use Rattle.zerotrie_run.specs.declared.stdin_lines.AnswerError.TheVariants
 use std::alloc::Global;
 use std::io;
 use std::io::{BufWriter, ErrorKind, Read, Write};
-use zerotrie_lines::{read_lines, read_more, whole_lines};
+use zerotrie_files::Noted;
+use zerotrie_lines::{read_lines, whole_lines};
 use zerotrie_queries::{Asked, Trie, write_answers};
 
 /// Why there is no answer, or not all of it.
@@ -39,17 +42,18 @@ fn answer_part<W: Write + Drop>(
     trie: &Trie<'_>,
     asked: Asked,
     part: &[u8],
-    output: &mut BufWriter<W>,
+    output: &mut Noted<BufWriter<W>>,
 ) -> io::Result<bool>
     ensures answered { IfOk result (AreAnswered asked trie.now.kind trie.now.bytes.now
-        (lines_of part.now) (writer_contents W.contents output.old) (writer_contents W.contents output.new)) }
+        (lines_of part.now) (writer_contents W.contents output.old.inner) (writer_contents W.contents output.new.inner)) }
     ensures part { OnErr result (AreAnsweredInPart asked trie.now.kind trie.now.bytes.now
-        (lines_of part.now) (writer_contents W.contents output.old) (writer_contents W.contents output.new)) }
-    ensures handed { OnOk result (HandsOn output.old output.new) }
+        (lines_of part.now) (writer_contents W.contents output.old.inner) (writer_contents W.contents output.new.inner)) }
+    ensures handed { OnOk result (HandsOn output.old.inner output.new.inner) }
+    ensures noted { IsNoted result output.old.failed output.new.failed }
 {
     let lines = read_lines(alloc, part)?;
     let all = write_answers(alloc, trie, asked, lines.as_slice(), output)?;
-    output.flush()?;
+    output.hand_on()?;
     Ok(all)
 }
 
@@ -84,24 +88,25 @@ pub fn answer_lines<R: Read, W: Write + Drop>(
     alloc: Global,
     trie: &Trie<'_>,
     asked: Asked,
-    input: &mut R,
-    output: &mut BufWriter<W>,
+    input: &mut Noted<R>,
+    output: &mut Noted<BufWriter<W>>,
 ) -> Result<bool, AnswerError>
-    ensures answered { IfOk result (KeysAnswered asked Lines (R.remaining input.old)
-        trie.now.kind trie.now.bytes.now (writer_contents W.contents output.old) (writer_contents W.contents output.new)) }
-    ensures part { OnErr result (KeysAnsweredInPart asked Lines (R.remaining input.old)
-        trie.now.kind trie.now.bytes.now (writer_contents W.contents output.old) (writer_contents W.contents output.new)) }
+    ensures answered { IfOk result (KeysAnswered asked Lines (R.remaining input.old.inner)
+        trie.now.kind trie.now.bytes.now (writer_contents W.contents output.old.inner) (writer_contents W.contents output.new.inner)) }
+    ensures part { OnErr result (KeysAnsweredInPart asked Lines (R.remaining input.old.inner)
+        trie.now.kind trie.now.bytes.now (writer_contents W.contents output.old.inner) (writer_contents W.contents output.new.inner)) }
     ensures before { IfErr result (λ e. AreAnsweredSoFar asked trie.now.kind trie.now.bytes.now
-        (R.remaining input.old) (R.remaining input.new)
-        (writer_contents W.contents output.old) (writer_contents W.contents output.new)
-        (HandsOn output.old output.new) e) }
+        (R.remaining input.old.inner) (R.remaining input.new.inner)
+        (writer_contents W.contents output.old.inner) (writer_contents W.contents output.new.inner)
+        (HandsOn output.old.inner output.new.inner) e) }
+    ensures noted { OnOk result (SameNotes input.old input.new output.old output.new) }
 {
     let mut held = Vec::new(alloc);
     let mut all = true;
     // each loop has to end: no input has as many parts
     for _ in 0..u64::MAX {
         let before = held.len();
-        let ended = match read_more(input, &mut held) {
+        let ended = match input.read_more(&mut held) {
             Ok(ended) => ended,
             Err(error) => return Err(AnswerError::Input(error)),
         };

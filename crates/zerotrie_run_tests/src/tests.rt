@@ -283,7 +283,7 @@ fn disk_with(alloc: Global, files: &[(&str, &[u8])]) -> io::Result<MemoryDisk> {
 /// Whether a run prints, tells, leaves and ends as it is to.
 fn is_run(alloc: Global, row: &Row) -> io::Result<bool> {
     let mut files = Store::new(disk_with(alloc, row.files)?);
-    let mut output = BufWriter::new(alloc, Noted::new(Vec::new(alloc)))?;
+    let mut output = Noted::new(BufWriter::new(alloc, Vec::new(alloc))?);
     let mut messages = Noted::new(Vec::new(alloc));
     let (first, second) = TYPED;
     let mut input = Noted::new(first.chain(second));
@@ -362,7 +362,7 @@ impl Read for Broken {
 fn whole_lines_are_answered_before_a_fault(rt: HostRuntime) -> Result<(), Fail> {
     let alloc = rt.alloc();
     let mut files = Store::new(disk_with(alloc, &[("names.trie", TRIE)])?);
-    let mut output = BufWriter::new(alloc, Noted::new(Vec::new(alloc)))?;
+    let mut output = Noted::new(BufWriter::new(alloc, Vec::new(alloc))?);
     let mut messages = Noted::new(Vec::new(alloc));
     let mut input = Noted::new(Broken { left: b"barn\nf" });
     let status = run(
@@ -386,7 +386,7 @@ fn whole_lines_are_answered_before_a_fault(rt: HostRuntime) -> Result<(), Fail> 
 fn a_beginning_is_printed_as_far_as_there_is_room(rt: HostRuntime) -> Result<(), Fail> {
     let alloc = rt.alloc();
     let mut files = Store::new(disk_with(alloc, &[("names.trie", TRIE)])?);
-    let mut output = BufWriter::new(alloc, Noted::new(Cursor::new([0; 7])))?;
+    let mut output = Noted::new(BufWriter::new(alloc, Cursor::new([0; 7]))?);
     let mut messages = Noted::new(Vec::new(alloc));
     let status = run(
         alloc,

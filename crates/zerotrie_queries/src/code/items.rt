@@ -2,12 +2,13 @@
 
 ghost use Rattle.std.specs.Prelude.{◌≡◌, OnOk, OnErr};
 ghost use Rattle.std.specs.Io.KnownBytes.{Appends};
-ghost use Rattle.zerotrie_queries.specs.Parts.{AppendsPart};
+ghost use Rattle.zerotrie_files.specs.Faults.{IsNoted};
+ghost use Rattle.zerotrie_files.specs.Parts.{AppendsPart};
 ghost use Rattle.zerotrie_queries.specs.code.Items.{before_item, item_number, items};
 
-use crate::output::write_bytes;
 use std::io;
 use std::io::Write;
+use zerotrie_files::Noted;
 use zerotrie_lines::hex_digit;
 
 /// Returns the white space before an item: a new line before each sixteenth.
@@ -26,15 +27,16 @@ fn item_number(byte: u8) -> [u8; 5]
 
 /// Writes bytes as items, sixteen a line. It does not allocate. If it fails, a beginning of them
 /// was written.
-pub fn write_items<W: Write>(bytes: &[u8], output: &mut W) -> io::Result<()>
-    ensures all { OnOk result (Appends (W.contents output.old) (W.contents output.new)
+pub fn write_items<W: Write>(bytes: &[u8], output: &mut Noted<W>) -> io::Result<()>
+    ensures all { OnOk result (Appends (W.contents output.old.inner) (W.contents output.new.inner)
         (items 0 bytes.now)) }
-    ensures part { OnErr result (AppendsPart (W.contents output.old) (W.contents output.new)
+    ensures part { OnErr result (AppendsPart (W.contents output.old.inner) (W.contents output.new.inner)
         (items 0 bytes.now)) }
+    ensures noted { IsNoted result output.old.failed output.new.failed }
 {
     for (index, byte) in bytes.iter().enumerate() {
-        write_bytes(output, before_item(index).as_bytes())?;
-        write_bytes(output, &item_number(*byte))?;
+        output.write_bytes(before_item(index).as_bytes())?;
+        output.write_bytes(&item_number(*byte))?;
     }
     Ok(())
 }

@@ -2,18 +2,19 @@
 
 ghost use Rattle.std.specs.Prelude.{◌≡◌, ◌++◌, OnOk, OnErr};
 ghost use Rattle.std.specs.Io.KnownBytes.{Appends};
-ghost use Rattle.zerotrie_queries.specs.Parts.{AppendsPart};
+ghost use Rattle.zerotrie_files.specs.Faults.{IsNoted};
+ghost use Rattle.zerotrie_files.specs.Parts.{AppendsPart};
 ghost use Rattle.zerotrie_queries.specs.code.Texts.{rust_front, c_front, rattle_front, c_len, c_get, c_end, rattle_end, front, end};
 ghost use Rattle.zerotrie_queries.specs.code.Code.{code};
 
 use crate::code::items::write_items;
 use crate::code::{Language, c_kind, rattle_type, rust_kind};
-use crate::output::write_bytes;
 use crate::trie::Trie;
 use std::alloc::{AllocError, Global};
 use std::io;
 use std::io::Write;
 use zerotrie_core::TrieKind;
+use zerotrie_files::Noted;
 
 /// Adds the Rust code before the bytes.
 fn add_rust_front(text: &mut Vec<u8>, kind: TrieKind, name: &str) -> Result<(), AllocError>
@@ -159,18 +160,19 @@ pub fn write_trie_code<W: Write>(
     trie: &Trie<'_>,
     language: Language,
     name: &str,
-    output: &mut W,
+    output: &mut Noted<W>,
 ) -> io::Result<()>
-    ensures all { OnOk result (Appends (W.contents output.old) (W.contents output.new)
+    ensures all { OnOk result (Appends (W.contents output.old.inner) (W.contents output.new.inner)
         (code language trie.now.kind name.now trie.now.bytes.now)) }
-    ensures part { OnErr result (AppendsPart (W.contents output.old) (W.contents output.new)
+    ensures part { OnErr result (AppendsPart (W.contents output.old.inner) (W.contents output.new.inner)
         (code language trie.now.kind name.now trie.now.bytes.now)) }
+    ensures noted { IsNoted result output.old.failed output.new.failed }
 {
     let mut front = Vec::new(alloc);
     let mut end = Vec::new(alloc);
     add_front(&mut front, language, trie.kind, name)?;
     add_end(&mut end, language, trie.kind, name)?;
-    write_bytes(output, front.as_slice())?;
+    output.write_bytes(front.as_slice())?;
     write_items(trie.bytes, output)?;
-    write_bytes(output, end.as_slice())
+    output.write_bytes(end.as_slice())
 }

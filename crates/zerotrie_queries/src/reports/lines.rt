@@ -2,14 +2,15 @@
 
 ghost use Rattle.std.specs.Prelude.{◌≡◌, ◌++◌, ◌<◌, ◌*◌, ◌/◌, OnOk, OnErr, codes};
 ghost use Rattle.std.specs.Io.KnownBytes.{Appends};
-ghost use Rattle.zerotrie_queries.specs.Parts.{AppendsPart};
+ghost use Rattle.zerotrie_files.specs.Faults.{IsNoted};
+ghost use Rattle.zerotrie_files.specs.Parts.{AppendsPart};
 ghost use Rattle.zerotrie_queries.specs.reports.Lines.{text_line, number_line, option_text, ratio_text, group_text, group_name, cell_name, cell_line, cell_lines, size_lines, key_lines, node_lines, report_lines};
 
-use crate::output::write_bytes;
 use crate::reports::counting::Report;
 use std::alloc::{AllocError, Global};
 use std::io;
 use std::io::Write;
+use zerotrie_files::Noted;
 use zerotrie_lines::write_number;
 
 /// Adds a text.
@@ -194,14 +195,15 @@ fn add_report(lines: &mut Vec<u8>, report: &Report) -> Result<(), AllocError>
 pub(crate) fn write_report<W: Write>(
     alloc: Global,
     report: &Report,
-    output: &mut W,
+    output: &mut Noted<W>,
 ) -> io::Result<()>
-    ensures all { OnOk result (Appends (W.contents output.old) (W.contents output.new)
+    ensures all { OnOk result (Appends (W.contents output.old.inner) (W.contents output.new.inner)
         (report_lines report.now)) }
-    ensures part { OnErr result (AppendsPart (W.contents output.old) (W.contents output.new)
+    ensures part { OnErr result (AppendsPart (W.contents output.old.inner) (W.contents output.new.inner)
         (report_lines report.now)) }
+    ensures noted { IsNoted result output.old.failed output.new.failed }
 {
     let mut lines = Vec::new(alloc);
     add_report(&mut lines, report)?;
-    write_bytes(output, lines.as_slice())
+    output.write_bytes(lines.as_slice())
 }

@@ -6,16 +6,17 @@ ghost use Rattle.zerotrie_core.specs.Shapes.{shape};
 ghost use Rattle.zerotrie_core.specs.walk.Visits.{nodes_of};
 ghost use Rattle.zerotrie_core.specs.walk.Seen.{part_of, visit_of};
 ghost use Rattle.zerotrie_core.specs.Kinds.{kind_of};
-ghost use Rattle.zerotrie_queries.specs.Parts.{AppendsPart};
+ghost use Rattle.zerotrie_files.specs.Faults.{IsNoted};
+ghost use Rattle.zerotrie_files.specs.Parts.{AppendsPart};
 ghost use Rattle.zerotrie_queries.specs.views.Dots.{quoted_byte, quoted, shape_text, label, edge_label, ends_text, arrow, name_text, dot_node, dot_nodes, drawing};
 
-use crate::output::write_bytes;
 use crate::trie::Trie;
 use crate::views::meaning::add_text;
 use std::alloc::{AllocError, Global};
 use std::io;
 use std::io::Write;
 use zerotrie_core::{Node, Nodes, Part, Visit};
+use zerotrie_files::Noted;
 use zerotrie_lines::{hex_digit, write_number};
 
 /// Adds a byte of a label.
@@ -139,12 +140,13 @@ fn write_nodes<W: Write>(
     alloc: Global,
     nodes: &mut Nodes<'_>,
     most: usize,
-    output: &mut W,
+    output: &mut Noted<W>,
 ) -> io::Result<()>
-    ensures all { OnOk result (Appends (W.contents output.old) (W.contents output.new)
+    ensures all { OnOk result (Appends (W.contents output.old.inner) (W.contents output.new.inner)
         (dot_nodes (take most nodes.old))) }
-    ensures part { OnErr result (AppendsPart (W.contents output.old) (W.contents output.new)
+    ensures part { OnErr result (AppendsPart (W.contents output.old.inner) (W.contents output.new.inner)
         (dot_nodes (take most nodes.old))) }
+    ensures noted { IsNoted result output.old.failed output.new.failed }
 {
     let mut line = Vec::new(alloc);
     let mut left = most;
@@ -154,7 +156,7 @@ fn write_nodes<W: Write>(
         };
         line.clear();
         add_node(&mut line, &visit)?;
-        write_bytes(output, line.as_slice())?;
+        output.write_bytes(line.as_slice())?;
         left -= 1;
     }
     Ok(())
@@ -165,16 +167,17 @@ fn write_drawing<W: Write>(
     alloc: Global,
     nodes: &mut Nodes<'_>,
     most: usize,
-    output: &mut W,
+    output: &mut Noted<W>,
 ) -> io::Result<()>
-    ensures all { OnOk result (Appends (W.contents output.old) (W.contents output.new)
+    ensures all { OnOk result (Appends (W.contents output.old.inner) (W.contents output.new.inner)
         (drawing most nodes.old)) }
-    ensures part { OnErr result (AppendsPart (W.contents output.old) (W.contents output.new)
+    ensures part { OnErr result (AppendsPart (W.contents output.old.inner) (W.contents output.new.inner)
         (drawing most nodes.old)) }
+    ensures noted { IsNoted result output.old.failed output.new.failed }
 {
-    write_bytes(output, b"digraph trie {\n  rankdir=LR;\n")?;
+    output.write_bytes(b"digraph trie {\n  rankdir=LR;\n")?;
     write_nodes(alloc, nodes, most, output)?;
-    write_bytes(output, b"}\n")
+    output.write_bytes(b"}\n")
 }
 
 /// Writes a drawing of the first nodes of a trie, at most this many. If it fails, a beginning of it
@@ -183,12 +186,13 @@ pub fn write_dot<W: Write>(
     alloc: Global,
     trie: &Trie<'_>,
     most: usize,
-    output: &mut W,
+    output: &mut Noted<W>,
 ) -> io::Result<()>
-    ensures all { OnOk result (Appends (W.contents output.old) (W.contents output.new)
+    ensures all { OnOk result (Appends (W.contents output.old.inner) (W.contents output.new.inner)
         (drawing most (nodes_of (kind_of trie.now.kind) trie.now.bytes.now))) }
-    ensures part { OnErr result (AppendsPart (W.contents output.old) (W.contents output.new)
+    ensures part { OnErr result (AppendsPart (W.contents output.old.inner) (W.contents output.new.inner)
         (drawing most (nodes_of (kind_of trie.now.kind) trie.now.bytes.now))) }
+    ensures noted { IsNoted result output.old.failed output.new.failed }
 {
     let mut nodes = trie.nodes(alloc)?;
     write_drawing(alloc, &mut nodes, most, output)

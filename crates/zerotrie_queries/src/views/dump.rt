@@ -6,16 +6,17 @@ ghost use Rattle.std.specs.Io.KnownBytes.{Appends};
 ghost use Rattle.zerotrie_core.specs.walk.Visits.{nodes_of};
 ghost use Rattle.zerotrie_core.specs.walk.Seen.{part_of, visit_of};
 ghost use Rattle.zerotrie_core.specs.Kinds.{kind_of};
-ghost use Rattle.zerotrie_queries.specs.Parts.{AppendsPart};
+ghost use Rattle.zerotrie_files.specs.Faults.{IsNoted};
+ghost use Rattle.zerotrie_files.specs.Parts.{AppendsPart};
 ghost use Rattle.zerotrie_queries.specs.views.Dumps.{edge_text, stand_text, dump_line, dump_lines};
 
-use crate::output::write_bytes;
 use crate::trie::Trie;
 use crate::views::meaning::{add_hex, add_meaning};
 use std::alloc::{AllocError, Global};
 use std::io;
 use std::io::Write;
 use zerotrie_core::{Nodes, Part, Visit};
+use zerotrie_files::Noted;
 use zerotrie_lines::{write_escaped, write_number};
 
 /// Adds the byte of an edge, if there is one.
@@ -53,11 +54,16 @@ fn add_line(line: &mut Vec<u8>, visit: &Visit<'_>) -> Result<(), AllocError>
 }
 
 /// Writes the lines of the remaining nodes of a walk.
-fn write_lines<W: Write>(alloc: Global, nodes: &mut Nodes<'_>, output: &mut W) -> io::Result<()>
-    ensures all { OnOk result (Appends (W.contents output.old) (W.contents output.new)
+fn write_lines<W: Write>(
+    alloc: Global,
+    nodes: &mut Nodes<'_>,
+    output: &mut Noted<W>,
+) -> io::Result<()>
+    ensures all { OnOk result (Appends (W.contents output.old.inner) (W.contents output.new.inner)
         (dump_lines nodes.old)) }
-    ensures part { OnErr result (AppendsPart (W.contents output.old) (W.contents output.new)
+    ensures part { OnErr result (AppendsPart (W.contents output.old.inner) (W.contents output.new.inner)
         (dump_lines nodes.old)) }
+    ensures noted { IsNoted result output.old.failed output.new.failed }
 {
     let mut line = Vec::new(alloc);
     loop {
@@ -66,17 +72,18 @@ fn write_lines<W: Write>(alloc: Global, nodes: &mut Nodes<'_>, output: &mut W) -
         };
         line.clear();
         add_line(&mut line, &visit)?;
-        write_bytes(output, line.as_slice())?;
+        output.write_bytes(line.as_slice())?;
     }
 }
 
 /// Writes a line for each node of a trie, in the order of their bytes. If it fails, a beginning of
 /// the lines was written.
-pub fn write_dump<W: Write>(alloc: Global, trie: &Trie<'_>, output: &mut W) -> io::Result<()>
-    ensures all { OnOk result (Appends (W.contents output.old) (W.contents output.new)
+pub fn write_dump<W: Write>(alloc: Global, trie: &Trie<'_>, output: &mut Noted<W>) -> io::Result<()>
+    ensures all { OnOk result (Appends (W.contents output.old.inner) (W.contents output.new.inner)
         (dump_lines (nodes_of (kind_of trie.now.kind) trie.now.bytes.now))) }
-    ensures part { OnErr result (AppendsPart (W.contents output.old) (W.contents output.new)
+    ensures part { OnErr result (AppendsPart (W.contents output.old.inner) (W.contents output.new.inner)
         (dump_lines (nodes_of (kind_of trie.now.kind) trie.now.bytes.now))) }
+    ensures noted { IsNoted result output.old.failed output.new.failed }
 {
     let mut nodes = trie.nodes(alloc)?;
     write_lines(alloc, &mut nodes, output)

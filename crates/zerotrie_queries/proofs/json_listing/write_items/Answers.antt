@@ -2,7 +2,8 @@ use Rattle.std.proofs.Common.{rules, ◌≡◌, ◌++◌, ◌∙◌, Ok, true, f
 use Rattle.serde_json.specs.Written.{comma_if}
 use Rattle.zerotrie_queries.specs.Json.{item_text, item_texts}
 use Rattle.zerotrie_queries.proofs.PartLemmas.{part_next, on_err}
-use Rattle.zerotrie_queries.proofs.WriteLemmas.{wrote_more, listed_first}
+use Rattle.zerotrie_files.proofs.WroteLemmas.{wrote_more}
+use Rattle.zerotrie_queries.proofs.WriteLemmas.{listed_first}
 use Rattle.zerotrie_queries.proofs.json_listing.write_items.Goals as goal
 
 pub loop-text-preserved : goal.loop-text-preserved
@@ -15,10 +16,12 @@ loop-text-preserved g c =
     let more : c.advance.result ≡ Ok true = search rules in
     let first = listed_first c.loop-text.pairs.left c.advance.result c.advance.new.self more c.advance.ensures.lists in
     let one : item_texts in_object later c.loop-text.pairs.left.pairs ≡ c.as_slice.result.now ++ item_texts in_object true left =
-    ap (item_texts in_object later) first ∙ ap (λ l. l ++ item_texts in_object true left) (sym line) in
-    wrote_more (contents c.args.output.now) (contents c.loop-text.output) (contents c.write_bytes.new.output) c.as_slice.result.now
-    (item_texts in_object later c.loop-text.pairs.left.pairs) (item_texts in_object true left) (item_texts in_object false c.args.pairs.now.left.pairs)
-    c.loop-text.invariant c.in_ok-write_bytes.ensures.all one
+    ap (item_texts in_object later) first ∙ ap (λ l. l ++ item_texts in_object true left) (sym line) in (
+      wrote_more (contents c.args.output.now.inner) (contents c.loop-text.output.inner) (contents c.write_bytes.new.self.inner) c.as_slice.result.now
+          (item_texts in_object later c.loop-text.pairs.left.pairs) (item_texts in_object true left) (item_texts in_object false c.args.pairs.now.left.pairs)
+          c.loop-text.invariant.0 c.in_ok-write_bytes.ensures.all one,
+      c.in_ok-write_bytes.ensures.noted ∙ c.loop-text.invariant.1,
+    )
 
 pub returns-in_err-write_bytes-clause-part : goal.returns-in_err-write_bytes-clause-part
 returns-in_err-write_bytes-clause-part g c =
@@ -32,6 +35,6 @@ returns-in_err-write_bytes-clause-part g c =
     let one : item_texts in_object later c.loop-text.pairs.left.pairs ≡ c.as_slice.result.now ++ item_texts in_object true left =
     ap (item_texts in_object later) first ∙ ap (λ l. l ++ item_texts in_object true left) (sym line) in
     on_err c.from_residual-in_err-write_bytes.result
-    (part_next (contents c.args.output.now) (contents c.loop-text.output) (contents c.write_bytes.new.output) c.as_slice.result.now
+    (part_next (contents c.args.output.now.inner) (contents c.loop-text.output.inner) (contents c.write_bytes.new.self.inner) c.as_slice.result.now
     (item_texts in_object true left) (item_texts in_object later c.loop-text.pairs.left.pairs) (item_texts in_object false c.args.pairs.now.left.pairs)
-    c.loop-text.invariant c.in_err-write_bytes.ensures.part one)
+    c.loop-text.invariant.0 c.in_err-write_bytes.ensures.part one)

@@ -5,7 +5,7 @@ use Rattle.zerotrie_core.specs.Maps.{Pairs, beginning}
 use Rattle.zerotrie_any.specs.Json.{are_text}
 use Rattle.zerotrie_core.specs.Kinds.{kind_of}
 use Rattle.zerotrie_queries.specs.Json.{json_line, item_texts, opening, closing}
-use Rattle.zerotrie_queries.specs.Parts.{AppendsPart}
+use Rattle.zerotrie_files.specs.Parts.{AppendsPart}
 use Rattle.zerotrie_queries.proofs.JsonLemmas.{json_line-is}
 use Rattle.zerotrie_queries.proofs.json_listing.write_json.Goals as goal
 
@@ -18,7 +18,7 @@ text_is all seen left in_object seen_is left_is is = ap (λ ps. (opening in_obje
 pub returns-clause-all : goal.returns-clause-all
 returns-clause-all g c = on_ok_weaker c.write_value.result
     (λ writes pairs lists.
-    subst (Appends (g.W.Write.contents c.args.output.now) (g.W.Write.contents c.write_value.new.output))
+    subst (Appends (g.W.Write.contents c.args.output.now.inner) (g.W.Write.contents c.write_value.new.output.inner))
     (text_is (beginning (kind_of c.args.trie.now.kind) c.args.prefix.now pairs) c.in_ok-seen.seen.left.pairs c.in_ok-pairs.pairs.left.pairs c.in_ok-in_object.in_object
     (ap (λ l. l.pairs) (c.in_ok-seen.ensures pairs lists)) (ap (λ l. l.pairs) (c.in_ok-pairs.ensures pairs lists)) c.in_ok-in_object.ensures)
     writes)
@@ -27,7 +27,7 @@ returns-clause-all g c = on_ok_weaker c.write_value.result
 pub returns-clause-part : goal.returns-clause-part
 returns-clause-part g c = on_err_weaker c.write_value.result
     (λ part pairs lists.
-    subst (AppendsPart (g.W.Write.contents c.args.output.now) (g.W.Write.contents c.write_value.new.output))
+    subst (AppendsPart (g.W.Write.contents c.args.output.now.inner) (g.W.Write.contents c.write_value.new.output.inner))
     (text_is (beginning (kind_of c.args.trie.now.kind) c.args.prefix.now pairs) c.in_ok-seen.seen.left.pairs c.in_ok-pairs.pairs.left.pairs c.in_ok-in_object.in_object
     (ap (λ l. l.pairs) (c.in_ok-seen.ensures pairs lists)) (ap (λ l. l.pairs) (c.in_ok-pairs.ensures pairs lists)) c.in_ok-in_object.ensures)
     part)

@@ -1,4 +1,4 @@
-use Rattle.std.proofs.Common.{take}
+use Rattle.std.proofs.Common.{◌≡◌, take}
 use Rattle.zerotrie_queries.specs.declared.lookups.Asked.TheVariants.{Longest}
 use Rattle.zerotrie_queries.specs.Answers.{AreAnswered}
 use Rattle.zerotrie_queries.proofs.FoundLemmas.{nows}
@@ -6,4 +6,5 @@ use Rattle.zerotrie_queries.proofs.lookups.write_longest.Given as goal
 
 abbrev pub invariant-loop-text : goal.invariant-loop-text
 invariant-loop-text g l = AreAnswered Longest l.trie.kind l.trie.bytes.now (take l.text-index (nows l.texts))
-    (g.W.Write.contents l.initial.output) (g.W.Write.contents l.output) l.all
+    (g.W.Write.contents l.initial.output.inner) (g.W.Write.contents l.output.inner) l.all
+    × (l.output.failed ≡ l.initial.output.failed)

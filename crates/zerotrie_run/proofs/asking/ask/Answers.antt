@@ -3,26 +3,26 @@ use Rattle.std.specs.Io.Buffered.{writer_contents}
 use Rattle.zerotrie_run.proofs.AskLemmas.{kept_answer, same_answer, answer_in_part, same_part, is_not, ends_unanswered, reason_unanswered}
 use Rattle.zerotrie_run.proofs.asking.ask.Goals as goal
 
-pub returns-in-Ok-flush-clause-ok : goal.returns-in-Ok-flush-clause-ok
-returns-in-Ok-flush-clause-ok g c =
+pub returns-in-Ok-hand_on-clause-ok : goal.returns-in-Ok-hand_on-clause-ok
+returns-in-Ok-hand_on-clause-ok g c =
     let contents = writer_contents g.W.Write.contents in
     let remaining = g.R.Read.remaining in
-    let old = contents c.args.output.now in
-    let now = contents c.answer_held.new.output in
+    let old = contents c.args.output.now.inner in
+    let now = contents c.answer_held.new.output.inner in
     let answered = c.in-Ok-answer_held.ensures.ok in
-    let kept = kept_answer c.args.question (remaining c.read_place.new.input) answered.0 answered.1 old now (contents c.flush.new.self) c.in-Ok-answer_held.all answered.3 c.flush.ensures.bytes in
+    let kept = kept_answer c.args.question (remaining c.read_place.new.input.inner) answered.0 answered.1 old now (contents c.hand_on.new.self.inner) c.in-Ok-answer_held.all answered.3 c.hand_on.ensures.bytes in
     record {
       held = c.as_slice-held.result.now;
       read = rw c.as_slice-held.ensures.value c.in-Ok.ensures.read;
       kind = answered.0;
       bytes = answered.1;
       opens = answered.2;
-      answers = same_answer c.args.file.place remaining c.args.input.now c.read_place.new.input c.args.question answered.0 answered.1 old (contents c.flush.new.self) c.in-Ok-answer_held.all
+      answers = same_answer c.args.file.place remaining c.args.input.now c.read_place.new.input c.args.question answered.0 answered.1 old (contents c.hand_on.new.self.inner) c.in-Ok-answer_held.all
           (λ both. is_not c.reads_twice.result c.if-reads_twice.false (c.reads_twice.ensures.1 both)) c.read_place.ensures.untouched kept;
     }
 
-pub returns-in-Ok-flush-clause-quiet : goal.returns-in-Ok-flush-clause-quiet
-returns-in-Ok-flush-clause-quiet g c = λ none.
+pub returns-in-Ok-hand_on-clause-quiet : goal.returns-in-Ok-hand_on-clause-quiet
+returns-in-Ok-hand_on-clause-quiet g c = λ none.
     c.tell_number.ensures.quiet (λ both. none (c.as_slice-held.result.now, rw c.as_slice-held.ensures.value c.in-Ok.ensures.read, both))
 
 pub returns-clause-quiet : goal.returns-clause-quiet
@@ -33,27 +33,27 @@ pub returns-clause-err : goal.returns-clause-err
 returns-clause-err g c =
     let contents = writer_contents g.W.Write.contents in
     let remaining = g.R.Read.remaining in
-    let old = contents c.args.output.now in
+    let old = contents c.args.output.now.inner in
     let answered = c.in-Ok-answer_held.ensures.ok in
-    let kept = kept_answer c.args.question (remaining c.read_place.new.input) answered.0 answered.1 old (contents c.answer_held.new.output) (contents c.flush.new.self) c.in-Ok-answer_held.all answered.3 c.flush.ensures.bytes in
+    let kept = kept_answer c.args.question (remaining c.read_place.new.input.inner) answered.0 answered.1 old (contents c.answer_held.new.output.inner) (contents c.hand_on.new.self.inner) c.in-Ok-answer_held.all answered.3 c.hand_on.ensures.bytes in
     inr (record {
       held = c.as_slice-held.result.now;
       read = rw c.as_slice-held.ensures.value c.in-Ok.ensures.read;
       kind = answered.0;
       bytes = answered.1;
       opens = answered.2;
-      begun = same_part c.args.file.place remaining c.args.input.now c.read_place.new.input c.args.question answered.0 answered.1 old (contents c.flush.new.self)
+      begun = same_part c.args.file.place remaining c.args.input.now c.read_place.new.input c.args.question answered.0 answered.1 old (contents c.hand_on.new.self.inner)
           (λ both. is_not c.reads_twice.result c.if-reads_twice.false (c.reads_twice.ensures.1 both)) c.read_place.ensures.untouched
-          (answer_in_part c.args.question (remaining c.read_place.new.input) answered.0 answered.1 old (contents c.flush.new.self) c.in-Ok-answer_held.all kept);
+          (answer_in_part c.args.question (remaining c.read_place.new.input.inner) answered.0 answered.1 old (contents c.hand_on.new.self.inner) c.in-Ok-answer_held.all kept);
     })
 
 pub returns-in-Err-answer_held-clause-err : goal.returns-in-Err-answer_held-clause-err
 returns-in-Err-answer_held-clause-err g c =
     let contents = writer_contents g.W.Write.contents in
     let remaining = g.R.Read.remaining in
-    let old = contents c.args.output.now in
-    let new = contents c.answer_held.new.output in
-    ends_unanswered c.args.file c.args.question (remaining c.args.input.now) (remaining c.read_place.new.input) (g.D.Disk.story c.args.files.now.disk) c.as_slice-held.result.now old new
+    let old = contents c.args.output.now.inner in
+    let new = contents c.answer_held.new.output.inner in
+    ends_unanswered c.args.file c.args.question (remaining c.args.input.now.inner) (remaining c.read_place.new.input.inner) (g.D.Disk.story c.args.files.now.disk) c.as_slice-held.result.now old new
     c.in-Err-answer_held.error (rw c.as_slice-held.ensures.value c.in-Ok.ensures.read)
     (λ kind bytes h. same_part c.args.file.place remaining c.args.input.now c.read_place.new.input c.args.question kind bytes old new
     (λ both. is_not c.reads_twice.result c.if-reads_twice.false (c.reads_twice.ensures.1 both)) c.read_place.ensures.untouched h)
@@ -63,5 +63,5 @@ pub returns-in-Err-answer_held-clause-why : goal.returns-in-Err-answer_held-clau
 returns-in-Err-answer_held-clause-why g c =
     let contents = writer_contents g.W.Write.contents in
     let remaining = g.R.Read.remaining in
-    reason_unanswered c.args.file c.args.question (remaining c.args.input.now) (remaining c.read_place.new.input) (g.D.Disk.story c.args.files.now.disk) c.as_slice-held.result.now
-    (contents c.args.output.now) (contents c.answer_held.new.output) c.in-Err-answer_held.error (rw c.as_slice-held.ensures.value c.in-Ok.ensures.read) c.in-Err-answer_held.ensures.err
+    reason_unanswered c.args.file c.args.question (remaining c.args.input.now.inner) (remaining c.read_place.new.input.inner) (g.D.Disk.story c.args.files.now.disk) c.as_slice-held.result.now
+    (contents c.args.output.now.inner) (contents c.answer_held.new.output.inner) c.in-Err-answer_held.error (rw c.as_slice-held.ensures.value c.in-Ok.ensures.read) c.in-Err-answer_held.ensures.err

@@ -14,14 +14,17 @@ returns-then-ended-clause-answered g c =
     let contents = writer_contents g.W.Write.contents in
     let trie = c.args.trie.now in
     let held = c.read_more.new.held.items in
-    let read = lines_read c.args.asked trie.kind trie.bytes.now (remaining c.args.input.now) (remaining c.loop.input) (remaining c.read_more.new.input) c.loop.held.items held
-    (contents c.args.output.now) (contents c.loop.output) c.loop.all c.in-Ok.ended c.loop.invariant.lines c.in-Ok.ensures.gives in
-    lines_ends c.args.asked trie.kind trie.bytes.now (remaining c.args.input.now) (remaining c.read_more.new.input) held (take c.part_len-len.result held)
-    (contents c.args.output.now) (contents c.loop.output) (contents c.answer_part.new.output) c.loop.all c.in_ok-all.field-0 _ read
+    let read = lines_read c.args.asked trie.kind trie.bytes.now (remaining c.args.input.now.inner) (remaining c.loop.input.inner) (remaining c.read_more.new.self.inner) c.loop.held.items held
+    (contents c.args.output.now.inner) (contents c.loop.output.inner) c.loop.all c.in-Ok.ended c.loop.invariant.lines c.in-Ok.ensures.gives in
+    lines_ends c.args.asked trie.kind trie.bytes.now (remaining c.args.input.now.inner) (remaining c.read_more.new.self.inner) held (take c.part_len-len.result held)
+    (contents c.args.output.now.inner) (contents c.loop.output.inner) (contents c.answer_part.new.output.inner) c.loop.all c.in_ok-all.field-0 _ read
     (ap (λ n. take n held) (c.part_len-len.ensures.all c.if-ended.true ∙ ap length c.as_slice.ensures.value) ∙ take_all (length held) held (omega arith))
     (c.in-Ok.ensures.gives.at_end c.if-ended.true)
-    (subst (λ all. AreAnswered c.args.asked trie.kind trie.bytes.now (lines_of (take c.part_len-len.result all)) (contents c.loop.output) (contents c.answer_part.new.output) c.in_ok-all.field-0) c.deref.ensures.value c.in_ok-all.ensures.answered)
+    (subst (λ all. AreAnswered c.args.asked trie.kind trie.bytes.now (lines_of (take c.part_len-len.result all)) (contents c.loop.output.inner) (contents c.answer_part.new.output.inner) c.in_ok-all.field-0) c.deref.ensures.value c.in_ok-all.ensures.answered)
     refl
+
+pub returns-then-ended-clause-noted : goal.returns-then-ended-clause-noted
+returns-then-ended-clause-noted g c = (c.in-Ok.ensures.noted ∙ c.loop.invariant.notes.0, c.in_ok-all.ensures.noted ∙ c.loop.invariant.notes.1)
 
 pub loop-preserved : goal.loop-preserved
 loop-preserved g c =
@@ -29,16 +32,17 @@ loop-preserved g c =
     let contents = writer_contents g.W.Write.contents in
     let trie = c.args.trie.now in
     let held = c.read_more.new.held.items in
-    let read = lines_read c.args.asked trie.kind trie.bytes.now (remaining c.args.input.now) (remaining c.loop.input) (remaining c.read_more.new.input) c.loop.held.items held
-    (contents c.args.output.now) (contents c.loop.output) c.loop.all c.in-Ok.ended c.loop.invariant.lines c.in-Ok.ensures.gives in
+    let read = lines_read c.args.asked trie.kind trie.bytes.now (remaining c.args.input.now.inner) (remaining c.loop.input.inner) (remaining c.read_more.new.self.inner) c.loop.held.items held
+    (contents c.args.output.now.inner) (contents c.loop.output.inner) c.loop.all c.in-Ok.ended c.loop.invariant.lines c.in-Ok.ensures.gives in
     record {
-      lines = lines_part c.args.asked trie.kind trie.bytes.now (remaining c.args.input.now) (remaining c.read_more.new.input) held (take c.part_len-len.result held) _
-          (contents c.args.output.now) (contents c.loop.output) (contents c.answer_part.new.output) c.loop.all c.in_ok-all.field-0 _ read
+      lines = lines_part c.args.asked trie.kind trie.bytes.now (remaining c.args.input.now.inner) (remaining c.read_more.new.self.inner) held (take c.part_len-len.result held) _
+          (contents c.args.output.now.inner) (contents c.loop.output.inner) (contents c.answer_part.new.output.inner) c.loop.all c.in_ok-all.field-0 _ read
           (sym (take-append-drop c.part_len-len.result held) ∙ ap (λ rest. take c.part_len-len.result held ++ rest) (sym c.drop_front.ensures))
           (subst (λ all. AreWhole (take c.part_len-len.result all)) c.as_slice.ensures.value (c.part_len-len.ensures.whole c.if-ended.false))
-          (subst (λ all. AreAnswered c.args.asked trie.kind trie.bytes.now (lines_of (take c.part_len-len.result all)) (contents c.loop.output) (contents c.answer_part.new.output) c.in_ok-all.field-0) c.deref.ensures.value c.in_ok-all.ensures.answered)
+          (subst (λ all. AreAnswered c.args.asked trie.kind trie.bytes.now (lines_of (take c.part_len-len.result all)) (contents c.loop.output.inner) (contents c.answer_part.new.output.inner) c.in_ok-all.field-0) c.deref.ensures.value c.in_ok-all.ensures.answered)
           refl;
       handed = λ empty. c.in_ok-all.ensures.handed (c.loop.invariant.handed empty);
+      notes = (c.in-Ok.ensures.noted ∙ c.loop.invariant.notes.0, c.in_ok-all.ensures.noted ∙ c.loop.invariant.notes.1);
       no_feed = λ k. subst (λ left. HasFeed left k → ⊥) (sym c.drop_front.ensures)
           (no_feed_left c.loop.held.items c.in-Ok.ensures.gives.bytes held c.part_len-len.result c.in-Ok.ensures.gives.adds c.loop.invariant.no_feed
           (λ n below past. subst (λ all. HasFeed all n → ⊥) c.as_slice.ensures.value
@@ -48,14 +52,14 @@ loop-preserved g c =
 pub returns-in-Err-clause-part : goal.returns-in-Err-clause-part
 returns-in-Err-clause-part g c =
     let trie = c.args.trie.now in
-    lines_stops c.args.asked trie.kind trie.bytes.now (g.R.Read.remaining c.args.input.now) (g.R.Read.remaining c.loop.input) c.loop.held.items (writer_contents g.W.Write.contents c.args.output.now)
-    (writer_contents g.W.Write.contents c.loop.output) c.loop.all c.loop.invariant.lines
+    lines_stops c.args.asked trie.kind trie.bytes.now (g.R.Read.remaining c.args.input.now.inner) (g.R.Read.remaining c.loop.input.inner) c.loop.held.items (writer_contents g.W.Write.contents c.args.output.now.inner)
+    (writer_contents g.W.Write.contents c.loop.output.inner) c.loop.all c.loop.invariant.lines
 
 pub returns-clause-part : goal.returns-clause-part
 returns-clause-part g c =
     let trie = c.args.trie.now in
-    lines_stops c.args.asked trie.kind trie.bytes.now (g.R.Read.remaining c.args.input.now) (g.R.Read.remaining c.loop.input) c.loop.held.items (writer_contents g.W.Write.contents c.args.output.now)
-    (writer_contents g.W.Write.contents c.loop.output) c.loop.all c.loop.invariant.lines
+    lines_stops c.args.asked trie.kind trie.bytes.now (g.R.Read.remaining c.args.input.now.inner) (g.R.Read.remaining c.loop.input.inner) c.loop.held.items (writer_contents g.W.Write.contents c.args.output.now.inner)
+    (writer_contents g.W.Write.contents c.loop.output.inner) c.loop.all c.loop.invariant.lines
 
 pub returns-in_err-all-clause-part : goal.returns-in_err-all-clause-part
 returns-in_err-all-clause-part g c =
@@ -64,23 +68,23 @@ returns-in_err-all-clause-part g c =
     let trie = c.args.trie.now in
     let held = c.read_more.new.held.items in
     let len = c.part_len-len.result in
-    let read = lines_read c.args.asked trie.kind trie.bytes.now (remaining c.args.input.now) (remaining c.loop.input) (remaining c.read_more.new.input) c.loop.held.items held
-    (contents c.args.output.now) (contents c.loop.output) c.loop.all c.in-Ok.ended c.loop.invariant.lines c.in-Ok.ensures.gives in
-    let next : IsNext c.in-Ok.ended (remaining c.read_more.new.input) held (take len held) (drop len held) = record {
+    let read = lines_read c.args.asked trie.kind trie.bytes.now (remaining c.args.input.now.inner) (remaining c.loop.input.inner) (remaining c.read_more.new.self.inner) c.loop.held.items held
+    (contents c.args.output.now.inner) (contents c.loop.output.inner) c.loop.all c.in-Ok.ended c.loop.invariant.lines c.in-Ok.ensures.gives in
+    let next : IsNext c.in-Ok.ended (remaining c.read_more.new.self.inner) held (take len held) (drop len held) = record {
       cut = sym (take-append-drop len held);
       all = λ ended. (ap (λ n. take n held) (c.part_len-len.ensures.all ended ∙ ap length c.as_slice.ensures.value) ∙ take_all (length held) held (omega arith), c.in-Ok.ensures.gives.at_end ended);
       whole = λ more. subst (λ all. AreWhole (take len all)) c.as_slice.ensures.value (c.part_len-len.ensures.whole more);
     } in
     on_err c.from_residual.result
-    (lines_fails c.args.asked trie.kind trie.bytes.now (remaining c.args.input.now) (remaining c.read_more.new.input) held (take len held) (drop len held)
-    (contents c.args.output.now) (contents c.loop.output) (contents c.answer_part.new.output) c.loop.all c.in-Ok.ended read next
-    (subst (λ all. AreAnsweredInPart c.args.asked trie.kind trie.bytes.now (lines_of (take len all)) (contents c.loop.output) (contents c.answer_part.new.output)) c.deref.ensures.value c.in_err-all.ensures.part))
+    (lines_fails c.args.asked trie.kind trie.bytes.now (remaining c.args.input.now.inner) (remaining c.read_more.new.self.inner) held (take len held) (drop len held)
+    (contents c.args.output.now.inner) (contents c.loop.output.inner) (contents c.answer_part.new.output.inner) c.loop.all c.in-Ok.ended read next
+    (subst (λ all. AreAnsweredInPart c.args.asked trie.kind trie.bytes.now (lines_of (take len all)) (contents c.loop.output.inner) (contents c.answer_part.new.output.inner)) c.deref.ensures.value c.in_err-all.ensures.part))
 
 pub returns-in-Err-clause-before : goal.returns-in-Err-clause-before
 returns-in-Err-clause-before g c =
     let trie = c.args.trie.now in
     elim c.in-Err.ensures.stays [
       | inl none ↦ inl none
-      | inr keeps ↦ inr (lines_break c.args.asked trie.kind trie.bytes.now (g.R.Read.remaining c.args.input.now) (g.R.Read.remaining c.loop.input) (g.R.Read.remaining c.read_more.new.input) c.loop.held.items
-          (writer_contents g.W.Write.contents c.args.output.now) (writer_contents g.W.Write.contents c.loop.output) c.loop.all c.loop.invariant.lines keeps c.loop.invariant.no_feed c.loop.invariant.handed)
+      | inr keeps ↦ inr (lines_break c.args.asked trie.kind trie.bytes.now (g.R.Read.remaining c.args.input.now.inner) (g.R.Read.remaining c.loop.input.inner) (g.R.Read.remaining c.read_more.new.self.inner) c.loop.held.items
+          (writer_contents g.W.Write.contents c.args.output.now.inner) (writer_contents g.W.Write.contents c.loop.output.inner) c.loop.all c.loop.invariant.lines keeps c.loop.invariant.no_feed c.loop.invariant.handed)
     ]

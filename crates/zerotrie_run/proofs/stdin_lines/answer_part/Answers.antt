@@ -11,28 +11,28 @@ pub returns-clause-answered : goal.returns-clause-answered
 returns-clause-answered g c =
     let contents = writer_contents g.W.Write.contents in
     let trie = c.args.trie.now in
-    let old = contents c.args.output.now in
-    let mid = contents c.write_answers.new.output in
+    let old = contents c.args.output.now.inner in
+    let mid = contents c.write_answers.new.output.inner in
     let lines = ap (map (λ line. line.now)) c.as_slice.ensures.value ∙ c.in_ok-lines.ensures in
     let answered = subst (λ ts. AreAnswered c.args.asked trie.kind trie.bytes.now ts old mid c.in_ok-all.all) lines c.in_ok-all.ensures.answered in
-    kept_texts c.args.asked trie.kind trie.bytes.now _ old mid (contents c.flush.new.self) c.in_ok-all.all answered c.flush.ensures.bytes
+    kept_texts c.args.asked trie.kind trie.bytes.now _ old mid (contents c.hand_on.new.self.inner) c.in_ok-all.all answered c.hand_on.ensures.bytes
 
 pub returns-in_err-lines-clause-part : goal.returns-in_err-lines-clause-part
-returns-in_err-lines-clause-part g c = on_err c.from_residual.result (begun_none c.args.asked c.args.trie.now.kind c.args.trie.now.bytes.now (lines_of c.args.part.now) (writer_contents g.W.Write.contents c.args.output.now))
+returns-in_err-lines-clause-part g c = on_err c.from_residual.result (begun_none c.args.asked c.args.trie.now.kind c.args.trie.now.bytes.now (lines_of c.args.part.now) (writer_contents g.W.Write.contents c.args.output.now.inner))
 
 pub returns-in_err-all-clause-part : goal.returns-in_err-all-clause-part
 returns-in_err-all-clause-part g c =
     let lines = ap (map (λ line. line.now)) c.as_slice.ensures.value ∙ c.in_ok-lines.ensures in
     on_err c.from_residual-in_err-all.result
-    (subst (λ ts. AreAnsweredInPart c.args.asked c.args.trie.now.kind c.args.trie.now.bytes.now ts (writer_contents g.W.Write.contents c.args.output.now) (writer_contents g.W.Write.contents c.write_answers.new.output)) lines c.in_err-all.ensures.part)
+    (subst (λ ts. AreAnsweredInPart c.args.asked c.args.trie.now.kind c.args.trie.now.bytes.now ts (writer_contents g.W.Write.contents c.args.output.now.inner) (writer_contents g.W.Write.contents c.write_answers.new.output.inner)) lines c.in_err-all.ensures.part)
 
-pub returns-in_err-flush-clause-part : goal.returns-in_err-flush-clause-part
-returns-in_err-flush-clause-part g c =
+pub returns-in_err-hand_on-clause-part : goal.returns-in_err-hand_on-clause-part
+returns-in_err-hand_on-clause-part g c =
     let contents = writer_contents g.W.Write.contents in
     let trie = c.args.trie.now in
-    let old = contents c.args.output.now in
-    let mid = contents c.write_answers.new.output in
+    let old = contents c.args.output.now.inner in
+    let mid = contents c.write_answers.new.output.inner in
     let lines = ap (map (λ line. line.now)) c.as_slice.ensures.value ∙ c.in_ok-lines.ensures in
     let answered = subst (λ ts. AreAnswered c.args.asked trie.kind trie.bytes.now ts old mid c.in_ok-all.all) lines c.in_ok-all.ensures.answered in
-    let kept = kept_texts c.args.asked trie.kind trie.bytes.now _ old mid (contents c.flush.new.self) c.in_ok-all.all answered c.flush.ensures.bytes in
-    on_err c.from_residual-in_err-flush.result (begun_all c.args.asked trie.kind trie.bytes.now (lines_of c.args.part.now) old (contents c.flush.new.self) c.in_ok-all.all kept)
+    let kept = kept_texts c.args.asked trie.kind trie.bytes.now _ old mid (contents c.hand_on.new.self.inner) c.in_ok-all.all answered c.hand_on.ensures.bytes in
+    on_err c.from_residual-in_err-hand_on.result (begun_all c.args.asked trie.kind trie.bytes.now (lines_of c.args.part.now) old (contents c.hand_on.new.self.inner) c.in_ok-all.all kept)

@@ -1,9 +1,9 @@
 use Rattle.std.proofs.Common.{◌≡◌, ◌++◌, refl, sym, [], ◌∙◌, ap, take, drop, take-append-drop}
 use Rattle.std.specs.Io.KnownBytes.{Keeps}
 use Rattle.std.proofs.KnownBytes.{Appends-nil}
-use Rattle.zerotrie_queries.proofs.WriteLemmas.{wrote_more, wrote_kept}
-use Rattle.zerotrie_queries.proofs.output.write_bytes.Goals.{in-Ok, in-Err}
-use Rattle.zerotrie_queries.proofs.output.write_bytes.Goals as goal
+use Rattle.zerotrie_files.proofs.WroteLemmas.{wrote_more, wrote_kept}
+use Rattle.zerotrie_files.proofs.writing.write_bytes.Goals.{in-Ok, in-Err}
+use Rattle.zerotrie_files.proofs.writing.write_bytes.Goals as goal
 
 pub loop-init : goal.loop-init
 loop-init g c = record { done = []; appends = Appends-nil (g.W.Write.contents c.args.output.now); is = refl }

@@ -1,5 +1,5 @@
-use Rattle.zerotrie_queries.proofs.WriteLemmas.{Wrote}
-use Rattle.zerotrie_queries.proofs.output.write_bytes.Given as goal
+use Rattle.zerotrie_files.proofs.WroteLemmas.{Wrote}
+use Rattle.zerotrie_files.proofs.writing.write_bytes.Given as goal
 
 abbrev pub invariant-loop : goal.invariant-loop
 invariant-loop g l = Wrote (g.W.Write.contents l.initial.output) (g.W.Write.contents l.output) l.rest l.bytes
