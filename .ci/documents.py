@@ -27,6 +27,7 @@ LIMITS = {
     "README.md": 1000,
     "CONTRIBUTING.md": 1800,
     "bindings/README.md": 380,
+    "bindings/python/README.md": 120,
     "crates/zerotrie_cli/README.md": 2970,
     "crates/zerotrie_search/README.md": 430,
     "crates/zerotrie_tool/README.md": 480,

@@ -124,7 +124,7 @@ impl Subcommand {
 pub fn command<'a>(alloc: Global) -> Result<Command<'a>, AllocError> {
     let mut program = Command::new(alloc, "zerotrie")
         .bin_name("zerotrie")?
-        .version("0.2.5-1")
+        .version("0.3.0")
         .about("Makes tries in files and reads them")
         .after_help(STATUSES)
         .subcommand_required(true)

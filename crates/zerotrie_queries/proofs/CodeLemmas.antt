@@ -116,7 +116,7 @@ rattle_type_read Ext text = refl
 pub front_read : (language : Language) (kind : TrieKind) (name rest : List ℕ) → is_name name ≡ true → numbers_after outside (front language kind name ++ rest) ≡ numbers_after outside rest
 front_read lang.Rust kind name rest is =
     let last = codes ", &[" in
-    let kinds = codes ": zerotrie_proved::ZeroTrie<'static> =\n    zerotrie_proved::ZeroTrie::from_bytes(zerotrie_proved::Kind::" ++ (rust_kind kind ++ last) in
+    let kinds = codes ": zerotrie_proved::ZeroTrie<&'static [u8]> =\n    zerotrie_proved::ZeroTrie::from_bytes(zerotrie_proved::Kind::" ++ (rust_kind kind ++ last) in
     let static = codes ".get(key)` is the value of a key.\npub static " ++ (name ++ kinds) in
     named name static rest is ∙ named name kinds rest is ∙ rust_kind_read kind last rest
 front_read lang.C kind name rest is =

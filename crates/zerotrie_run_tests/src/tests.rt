@@ -195,7 +195,7 @@ const SHOWN: &[Row] = &[
         command: Command::Ask(FILE, Question::Code(Language::Rust, "NAMES")),
         status: Status::Done,
         printed: b"/// The trie: `NAMES.get(key)` is the value of a key.\n\
-            pub static NAMES: zerotrie_proved::ZeroTrie<'static> =\n    \
+            pub static NAMES: zerotrie_proved::ZeroTrie<&'static [u8]> =\n    \
             zerotrie_proved::ZeroTrie::from_bytes(zerotrie_proved::Kind::SimpleAscii, &[\n    \
             0x61, 0x85,\n]);\n",
         told: b"",

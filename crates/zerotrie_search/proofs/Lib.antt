@@ -6,3 +6,4 @@ mod GlobLemmas
 mod WordLemmas
 mod CharLemmas
 mod TableLemmas
+mod PlaceLemmas

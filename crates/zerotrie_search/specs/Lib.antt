@@ -3,6 +3,7 @@ pub mod Ranges
 pub mod Edits
 pub mod Trails
 pub mod Searches
+pub mod OtherKeys
 pub mod Globs
 pub mod GlobItems
 pub mod Words

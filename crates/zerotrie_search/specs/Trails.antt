@@ -1,7 +1,7 @@
 -- The states of an automaton along a key.
-use Rattle.std.specs.Prelude.{◌≡◌, ℕ, List, [], ◌∷◌, ◌++◌, Bool, true, false, take, map}
+use Rattle.std.specs.Prelude.{◌≡◌, ℕ, List, [], ◌∷◌, ◌++◌, Bool, false, length, take, map}
 use Rattle.zerotrie_search.specs.declared.trail.Verdict.{Verdict}
-use Rattle.zerotrie_search.specs.declared.trail.Verdict.TheVariants.{Accepted, Refused, Dead}
+use Rattle.zerotrie_search.specs.declared.trail.Verdict.TheVariants.{Alive, Dead}
 
 module _ {S : Type 0} (IsAfter : List ℕ → S → Type 0) (accepts_from : S → List ℕ → Bool) (accepts : List ℕ → Bool) where
   -- the automaton may be in the state after these bytes, and accepts from there what it accepts
@@ -13,13 +13,16 @@ module _ {S : Type 0} (IsAfter : List ℕ → S → Type 0) (accepts_from : S �
   IsTrail front [] = Unit {0}
   IsTrail front (e ∷ trail) = StandsAfter (front ++ e.0 ∷ []) e.1 × IsTrail (front ++ e.0 ∷ []) trail
 
-  -- a verdict on a key: it is accepted, and the state is that after it; or it is not; or no key is
-  -- that begins with so many of its bytes
+  -- a verdict on the first bytes of keys: the automaton is in the state after them, or it accepts
+  -- no key that begins with this many of them
   abbrev pub IsVerdict : List ℕ → Verdict S → Type 0
-  IsVerdict key (Accepted state) = StandsAfter key state × (accepts key ≡ true)
-  IsVerdict key Refused = accepts key ≡ false
+  IsVerdict key (Alive state) = StandsAfter key state
   IsVerdict key (Dead depth) = (more : List ℕ) → accepts (take depth key ++ more) ≡ false
 
 -- the bytes of a trail
 abbrev pub trail_bytes : {S : Type 0} → List (ℕ × S) → List ℕ
 trail_bytes {S = S} trail = map {B = ℕ} (λ (e : ℕ × S). e.0) trail
+
+-- the key begins with these bytes
+abbrev pub IsFront : List ℕ → List ℕ → Type 0
+IsFront bytes key = bytes ≡ take (length bytes) key

@@ -1,15 +1,15 @@
 //! The pairs of a listing whose keys an automaton accepts.
 
-ghost use Rattle.std.specs.Prelude.{◌≡◌, [], true, IfOk};
+ghost use Rattle.std.specs.Prelude.{◌≡◌, [], false, true, IfOk};
 ghost use Rattle.zerotrie_core.specs.Listings.{ListsOne, MemoryOnly, item_of};
 ghost use Rattle.zerotrie_search.specs.Searches.{accepted_left};
-ghost use Rattle.zerotrie_search.specs.Trails.{IsTrail};
+ghost use Rattle.zerotrie_search.specs.Trails.{IsTrail, IsFront, trail_bytes};
 
 use crate::automaton::Automaton;
 use crate::trail::{Verdict, read};
 use std::alloc::{AllocError, Allocator, Global};
 use std::marker::Model;
-use zerotrie_core::ZeroTrieStream;
+use zerotrie_core::{Reached, ZeroTrieStream};
 
 /// Lists the pairs of a stream whose keys an automaton accepts, in the stream's order, each key
 /// borrowed from one buffer.
@@ -27,8 +27,8 @@ use zerotrie_core::ZeroTrieStream;
 /// assert!(rt; !search.advance()?);
 /// ```
 ///
-/// Once no accepted key begins with the bytes so far, it skips the pairs that begin with them and
-/// reads nothing of them. It allocates for the longest key alone, and nothing for each pair: the
+/// It goes from node to node. Once no accepted key begins with the bytes so far, it skips the pairs
+/// that begin with them and reads no node of them. It allocates for the longest key alone, and nothing for each pair: the
 /// stream's buffer, and one state a byte, which keys that begin alike share. If memory for a state
 /// is refused, it reads the next key from an earlier byte.
 #[derive(Drop)]
@@ -40,9 +40,9 @@ pub struct ZeroTrieSearch<'a, T: Automaton, A: Allocator = Global> {
 }
 
 impl<'a, T: Automaton, A: Allocator> Model for ZeroTrieSearch<'a, T, A> {
-    ghost use Rattle.std.specs.Prelude.{[]};
+    ghost use Rattle.std.specs.Prelude.{◌≡◌, [], false};
     ghost use Rattle.zerotrie_search.specs.Searches.{Searching, accepted_left};
-    ghost use Rattle.zerotrie_search.specs.Trails.{IsTrail};
+    ghost use Rattle.zerotrie_search.specs.Trails.{IsTrail, IsFront, trail_bytes};
 
     ghost Value = { Searching T T.State };
 
@@ -55,7 +55,8 @@ impl<'a, T: Automaton, A: Allocator> Model for ZeroTrieSearch<'a, T, A> {
 
     ghost invariant = { λ s.
         IsTrail (T.IsAfter s.automaton) (T.accepts_from s.automaton) (T.accepts s.automaton)
-        [] s.trail.items };
+        [] s.trail.items
+        × (s.pairs.left.ended ≡ false → IsFront (trail_bytes s.trail.items) s.pairs.key) };
 }
 
 impl<'a, T: Automaton, A: Allocator> ZeroTrieSearch<'a, T, A> {
@@ -95,6 +96,14 @@ impl<'a, T: Automaton, A: Allocator> ZeroTrieSearch<'a, T, A> {
         self.pairs.value()
     }
 
+    /// Returns the automaton.
+    #[inline]
+    pub fn automaton(&self) -> &T
+        ensures { result.now ≡ self.now.automaton }
+    {
+        &self.automaton
+    }
+
     /// Returns the state of the automaton after the key of the current pair.
     #[inline]
     pub fn state(&self) -> T::State
@@ -129,25 +138,39 @@ fn next_accepted<'a, T: Automaton, A: Allocator>(
     trail: &mut Vec<(u8, T::State), A>,
     state: &mut T::State,
 ) -> Result<bool, AllocError>
-    requires { IsTrail (T.IsAfter automaton.now) (T.accepts_from automaton.now)
+    requires trail { IsTrail (T.IsAfter automaton.now) (T.accepts_from automaton.now)
         (T.accepts automaton.now) [] trail.old.items }
+    requires front { pairs.old.left.ended ≡ false
+        → IsFront (trail_bytes trail.old.items) pairs.old.key }
     ensures trail { IsTrail (T.IsAfter automaton.now) (T.accepts_from automaton.now)
         (T.accepts automaton.now) [] trail.new.items }
+    ensures front { pairs.new.left.ended ≡ false
+        → IsFront (trail_bytes trail.new.items) pairs.new.key }
     ensures lists { ListsOne (λ key. key) MemoryOnly
         (accepted_left (T.accepts automaton.now) pairs.old.left)
         (item_of result pairs.new) (accepted_left (T.accepts automaton.now) pairs.new.left) }
     ensures state { IfOk result (λ found. found ≡ true
         → T.IsAfter automaton.now pairs.new.key state.new) }
 {
-    while pairs.advance()? {
-        match read(automaton, pairs.key(), trail) {
-            Verdict::Accepted(after) => {
-                *state = after;
-                return Ok(true);
+    loop {
+        match pairs.advance_node()? {
+            Reached::End => return Ok(false),
+            Reached::Bytes(kept) => match read(automaton, pairs.key(), kept, trail) {
+                Verdict::Alive(_after) => {}
+                Verdict::Dead(depth) => pairs.skip(depth),
+            },
+            Reached::Pair => {
+                let key = pairs.key();
+                match read(automaton, key, key.len(), trail) {
+                    Verdict::Dead(depth) => pairs.skip(depth),
+                    Verdict::Alive(after) => {
+                        if automaton.is_match(after) {
+                            *state = after;
+                            return Ok(true);
+                        }
+                    }
+                }
             }
-            Verdict::Refused => {}
-            Verdict::Dead(depth) => pairs.skip(depth),
         }
     }
-    Ok(false)
 }

@@ -1,33 +1,18 @@
 //! The states of an automaton along a key, kept for the keys that begin alike.
 
 ghost use Rattle.std.specs.Prelude.{◌≡◌, ◌≤◌, ◌⊎◌, ◌∷◌, ◌++◌, [], length, take};
-ghost use Rattle.zerotrie_search.specs.Trails.{IsTrail, StandsAfter, IsVerdict, trail_bytes};
+ghost use Rattle.zerotrie_search.specs.Trails.{IsTrail, IsFront, StandsAfter, IsVerdict, trail_bytes};
 
 use crate::automaton::Automaton;
 use std::alloc::Allocator;
 
-/// What an automaton says of a key.
+/// What an automaton says of the first bytes of keys.
 #[derive(Clone, Copy, Debug)]
 pub(crate) enum Verdict<S> {
-    /// It accepts the key, and is in this state after it.
-    Accepted(S),
-    /// It does not accept the key.
-    Refused,
-    /// It accepts no key that begins with this many of its bytes.
+    /// It is in this state after them.
+    Alive(S),
+    /// It accepts no key that begins with this many of them.
     Dead(usize),
-}
-
-/// Returns how many bytes of a key are those of the trail.
-fn common<S: Copy>(key: &[u8], trail: &[(u8, S)]) -> usize
-    ensures key { result ≤ length key.now }
-    ensures trail { result ≤ length trail.now }
-    ensures same { take result key.now ≡ trail_bytes (take result trail.now) }
-{
-    let mut count = 0;
-    while count < key.len() && count < trail.len() && key[count] == trail[count].0 {
-        count += 1;
-    }
-    count
 }
 
 /// Returns the state after all bytes of a trail.
@@ -54,22 +39,26 @@ fn keep<S: Copy + Drop, A: Allocator>(trail: &mut Vec<(u8, S), A>, count: usize,
     }
 }
 
-/// Returns what an automaton says of a key. The trail has the states after the key's first bytes,
-/// as many as there was memory for.
+/// Returns what an automaton says of the first bytes of keys. The first `kept` bytes of the trail
+/// are bytes of the key. The trail gets the states after the other bytes, as many as there is
+/// memory for.
 pub(crate) fn read<T: Automaton, A: Allocator>(
     automaton: &T,
     key: &[u8],
+    kept: usize,
     trail: &mut Vec<(u8, T::State), A>,
 ) -> Verdict<T::State>
-    requires { IsTrail (T.IsAfter automaton.now) (T.accepts_from automaton.now)
+    requires trail { IsTrail (T.IsAfter automaton.now) (T.accepts_from automaton.now)
         (T.accepts automaton.now) [] trail.old.items }
+    requires kept { IsFront (take kept (trail_bytes trail.old.items)) key.now }
     ensures trail { IsTrail (T.IsAfter automaton.now) (T.accepts_from automaton.now)
         (T.accepts automaton.now) [] trail.new.items }
+    ensures front { IsFront (trail_bytes trail.new.items) key.now }
     ensures says { IsVerdict (T.IsAfter automaton.now) (T.accepts_from automaton.now)
         (T.accepts automaton.now) key.now result }
 {
-    let mut place = common(key, trail.as_slice());
-    trail.truncate(place);
+    trail.truncate(kept);
+    let mut place = trail.len();
     let mut state = last_state(automaton, trail.as_slice());
     while place < key.len() {
         let byte = key[place];
@@ -80,9 +69,5 @@ pub(crate) fn read<T: Automaton, A: Allocator>(
         keep(trail, place, byte, state);
         place += 1;
     }
-    if automaton.is_match(state) {
-        Verdict::Accepted(state)
-    } else {
-        Verdict::Refused
-    }
+    Verdict::Alive(state)
 }

@@ -37,7 +37,7 @@ abbrev pub rust_front : TrieKind → List ℕ → List ℕ
 rust_front kind name =
     codes "/// The trie: `" ++ (name
     ++ (codes ".get(key)` is the value of a key.\npub static " ++ (name
-    ++ (codes ": zerotrie_proved::ZeroTrie<'static> =\n    zerotrie_proved::ZeroTrie::from_bytes(zerotrie_proved::Kind::" ++ (rust_kind kind
+    ++ (codes ": zerotrie_proved::ZeroTrie<&'static [u8]> =\n    zerotrie_proved::ZeroTrie::from_bytes(zerotrie_proved::Kind::" ++ (rust_kind kind
     ++ codes ", &[")))))
 
 -- what C has

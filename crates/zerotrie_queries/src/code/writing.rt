@@ -24,7 +24,7 @@ fn add_rust_front(text: &mut Vec<u8>, kind: TrieKind, name: &str) -> Result<(), 
     write!(
         text,
         "/// The trie: `{name}.get(key)` is the value of a key.
-pub static {name}: zerotrie_proved::ZeroTrie<'static> =
+pub static {name}: zerotrie_proved::ZeroTrie<&'static [u8]> =
     zerotrie_proved::ZeroTrie::from_bytes(zerotrie_proved::Kind::{kind}, &["
     )
     .map_err(|_| AllocError)

@@ -1,5 +1,5 @@
-use Rattle.std.proofs.Common.{◌≡◌, ◌≤◌, ◌-◌, [], length, take}
-use Rattle.zerotrie_search.specs.Trails.{IsTrail, StandsAfter, trail_bytes}
+use Rattle.std.proofs.Common.{◌≤◌, ◌-◌, [], length, take}
+use Rattle.zerotrie_search.specs.Trails.{IsTrail, IsFront, StandsAfter, trail_bytes}
 use Rattle.zerotrie_search.proofs.trail.read.Given as goal
 
 abbrev pub invariant-loop-place : goal.invariant-loop-place
@@ -9,7 +9,7 @@ invariant-loop-place g l =
     let accepts = g.T.Automaton.accepts l.automaton in
     record {
       within : l.place ≤ length l.key;
-      bytes : trail_bytes l.trail.items ≡ take (length l.trail.items) l.key;
+      front : IsFront (trail_bytes l.trail.items) l.key;
       trail : IsTrail after from accepts [] l.trail.items;
       state : StandsAfter after from accepts (take l.place l.key) l.state;
     }
