@@ -2,8 +2,8 @@
 use Rattle.std.proofs.Common.{◌≡◌, ℕ, List, ◌++◌, Option, sym, ◌∙◌, ap, append_assoc}
 use Rattle.std.specs.Io.KnownBytes.{Appends, Keeps}
 use Rattle.std.proofs.KnownBytes.{Appends-trans, Appends-kept}
-
 use Rattle.zerotrie_files.specs.Parts.{AppendsPart}
+
 -- What was written from one state of a writer to another, and with what follows it is all that is to be written.
 pub record Wrote (before now : Option (List ℕ)) (rest all : List ℕ) : Type 0 where
   pub done : List ℕ
