@@ -28,9 +28,9 @@ use zerotrie_core::{Reached, ZeroTrieStream};
 /// ```
 ///
 /// It goes from node to node. Once no accepted key begins with the bytes so far, it skips the pairs
-/// that begin with them and reads no node of them. It allocates for the longest key alone, and nothing for each pair: the
-/// stream's buffer, and one state a byte, which keys that begin alike share. If memory for a state
-/// is refused, it reads the next key from an earlier byte.
+/// that begin with them and reads no node of them. It allocates for the longest key alone, and
+/// nothing for each pair: the stream's buffer, and one state a byte, which keys that begin alike
+/// share. If an allocation for a state fails, it reads the next key from an earlier byte.
 #[derive(Drop)]
 pub struct ZeroTrieSearch<'a, T: Automaton, A: Allocator = Global> {
     pairs: ZeroTrieStream<'a, A>,
