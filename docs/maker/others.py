@@ -18,14 +18,14 @@ def rust(out):
     if not shutil.which("rustdoc"):
         return "Rust: <code>rustdoc</code> is not installed, so its pages are left out."
     source = BINDINGS / "rust" / "zerotrie-proved" / "src" / "lib.rs"
-    subprocess.run(["rustdoc", "--edition", "2024", "--crate-name", "zerotrie_proved", source, "--out-dir", out / "rust"], check=True,
+    subprocess.run(["rustdoc", "--edition", "2021", "--cfg", 'feature="std"', "--crate-name", "zerotrie_proved", source, "--out-dir", out / "rust"], check=True,
                    capture_output=True, text=True)
     return '<a href="rust/zerotrie_proved/index.html">Rust</a>: the crate <code>zerotrie-proved</code>, by rustdoc'
 
 
 DOXYGEN = """
 PROJECT_NAME = zerotrie
-INPUT = {c}/zerotrie.h {c}/zerotrie.hpp
+INPUT = {c}/zerotrie.h {c}/zerotrie.hpp {c}/zerotrie_read.h
 OUTPUT_DIRECTORY = {out}
 HTML_OUTPUT = c
 GENERATE_LATEX = NO
@@ -39,29 +39,22 @@ HAVE_DOT = NO
 CLASS_GRAPH = NO
 INCLUDE_GRAPH = NO
 INCLUDED_BY_GRAPH = NO
-PREDEFINED = __cplusplus=202002L "ZEROTRIE_PROVED=" "ZEROTRIE_NONNULL="
+MACRO_EXPANSION = YES
+EXPAND_ONLY_PREDEF = YES
+PREDEFINED = __cplusplus=202002L ZEROTRIE_NONNULL= ZEROTRIE_ANSWERS= ZEROTRIE_MUST_USE= ZEROTRIE_NEEDS(x)= ZEROTRIE_ENUM= \\
+    "ZEROTRIE_INLINE=static inline" ZEROTRIE_LIFETIMEBOUND= ZEROTRIE_VIEW=
 EXCLUDE_SYMBOLS = zerotrie::detail
 HTML_COLORSTYLE = AUTO_LIGHT
-INPUT_FILTER = "{filter}"
 """
 
 
 def c(out):
-    """Runs doxygen on the headers, whose comments are plain. Returns a line for the first page."""
+    """Runs doxygen on the headers. Returns a line for the first page."""
     if not shutil.which("doxygen"):
         return "C and C++: <code>doxygen</code> is not installed, so its pages are left out."
     with tempfile.TemporaryDirectory() as folder:
-        script = pathlib.Path(folder) / "filter.sed"
-        # The first comment is on the file, and others at the beginning of a line are on what follows them.
-        script.write_text(r"""
-            1s|^/\* |/** @file\n * |
-            1s|^// |/// @file\n/// |
-            s|^\( *\)/\* |\1/** |
-            s|^\( *\)// |\1/// |
-            s|^\( *\)//$|\1///|
-        """)
         config = pathlib.Path(folder) / "Doxyfile"
-        config.write_text(DOXYGEN.format(c=BINDINGS / "c", out=out, filter=f"sed -f {script}"))
+        config.write_text(DOXYGEN.format(c=BINDINGS / "c", out=out))
         subprocess.run(["doxygen", config], check=True, capture_output=True, text=True, cwd=folder)
     return '<a href="c/zerotrie_8h.html">C</a> and <a href="c/annotated.html">C++</a>: the headers, by doxygen'
 
