@@ -1,0 +1,6 @@
+mod AscendLemmas
+mod BucketLemmas
+mod PermutedLemmas
+mod RecordLemmas
+mod WordLemmas
+mod WrittenLemmas

@@ -1,0 +1,157 @@
+//! Look-ups in the bytes of an index.
+
+ghost use Rattle.std.specs.Prelude.{◌≡◌, ℕ, ◌+◌, ◌*◌, ◌/◌, ◌%◌, ◌^◌, ◌<◌, List, ◌∷◌, ◌++◌, length, get_or, All, Some, IfSome, IfNone, MatchOption};
+ghost use Rattle.std.specs.List.{flat_map};
+ghost use Rattle.zerotrie_base.specs.Kind.{simple_ascii};
+ghost use Rattle.zerotrie_base.specs.Numbers.{BeginsWith};
+ghost use Rattle.zerotrie_base.specs.Maps.{Pairs, value_at};
+ghost use Rattle.zerotrie_index.specs.Layout.{word, hash_of, place_of, mark_of, AreRecords, IsIndex};
+
+use std::hash::{FoldHasher, Hasher};
+use zerotrie_base::read_varint_meta2;
+
+/// Returns the hash of a key under a seed.
+#[inline(always)]
+pub(crate) fn hash_with(seed: u64, key: &[u8]) -> u64
+    ensures { result ≡ hash_of seed key.now }
+{
+    let mut hasher = FoldHasher::default();
+    hasher.write(&seed.to_le_bytes());
+    hasher.write(key);
+    hasher.finish()
+}
+
+/// Returns the number of a hash's bucket.
+#[inline(always)]
+pub(crate) fn bucket_of(count: u32, hash: u64) -> u32
+    ensures { result ≡ place_of count hash }
+{
+    ((hash >> 32) * u64::from(count) >> 32) as u32
+}
+
+/// Reads the word that the bytes begin with. Returns it and the bytes after it.
+#[inline(always)]
+fn read_word(bytes: &[u8]) -> Option<(u64, &[u8])>
+    ensures first { (n : ℕ) (after : List ℕ) → n < 2 ^ 64 → bytes.now ≡ word n ++ after
+        → MatchOption result ⊥ (λ r. (r.0 ≡ n) × (r.1.now ≡ after)) }
+{
+    let (front, rest) = bytes.split_first_chunk::<8>()?;
+    Some((u64::from_le_bytes(*front), rest))
+}
+
+/// Reads the number that the bytes begin with. Returns it and the bytes after it.
+#[inline(always)]
+fn read_number(bytes: &[u8]) -> Option<(usize, &[u8])>
+    ensures first { (v : ℕ) (after : List ℕ) → BeginsWith 32 0 v bytes.now after
+        → MatchOption result ⊥ (λ r. (r.0 ≡ v) × (r.1.now ≡ after)) }
+    ensures shorter { IfSome result (λ r. length r.1.now < length bytes.now) }
+{
+    let (start, rest) = bytes.split_first()?;
+    read_varint_meta2(*start, rest)
+}
+
+/// A record, and the bytes after it.
+#[derive(Clone, Copy)]
+struct Record<'a> {
+    key: &'a [u8],
+    value: usize,
+    rest: &'a [u8],
+}
+
+/// Reads the record that the bytes begin with.
+#[inline(always)]
+fn read_record(bytes: &[u8]) -> Option<Record<'_>>
+    ensures first { (e : List ℕ × ℕ) (pairs : Pairs) → AreRecords (e ∷ pairs) bytes.now
+        → MatchOption result ⊥ (λ r. (r.key.now ≡ e.0) × (r.value ≡ e.1) × AreRecords pairs r.rest.now) }
+    ensures shorter { IfSome result (λ r. length r.rest.now < length bytes.now) }
+{
+    let (len, rest) = read_number(bytes)?;
+    let (value, rest) = read_number(rest)?;
+    let (key, rest) = rest.split_at_checked(len)?;
+    Some(Record { key, value, rest })
+}
+
+/// Finds the value of a key among records.
+#[inline(always)]
+fn find_in(records: &[u8], key: &[u8]) -> Option<usize>
+    ensures { (pairs : Pairs) → AreRecords pairs records.now → result ≡ value_at simple_ascii pairs key.now }
+{
+    let mut rest = records;
+    while let Some(record) = read_record(rest) {
+        if record.key == key {
+            return Some(record.value);
+        }
+        rest = record.rest;
+    }
+    None
+}
+
+/// The parts of an index.
+#[derive(Clone, Copy)]
+struct Parts<'a> {
+    seed: u64,
+    count: u32,
+    table: &'a [u8],
+    pool: &'a [u8],
+}
+
+/// Takes an index apart.
+#[inline(always)]
+fn parts_of(bytes: &[u8]) -> Option<Parts<'_>>
+    ensures { (pairs : Pairs) (is : IsIndex pairs bytes.now) → MatchOption result ⊥ (λ p.
+        (p.seed ≡ is.seed) × (p.count ≡ length is.buckets)
+        × (p.table.now ≡ flat_map word is.entries) × (p.pool.now ≡ is.pool)) }
+{
+    let (seed, rest) = read_word(bytes)?;
+    let (count, rest) = read_word(rest)?;
+    let count = u32::try_from(count).ok()?;
+    let (table, pool) = rest.split_at_checked(8 * (count as usize + 1))?;
+    Some(Parts {
+        seed,
+        count,
+        table,
+        pool,
+    })
+}
+
+/// Reads the entry of this number in a table.
+#[inline(always)]
+fn entry_at(table: &[u8], number: usize) -> Option<u64>
+    requires { number < 2 ^ 32 }
+    ensures { (entries : List ℕ) → table.now ≡ flat_map word entries → All (λ entry. entry < 2 ^ 64) entries
+        → number < length entries → result ≡ Some (get_or entries number 0) }
+{
+    let (_, from) = table.split_at_checked(8 * number)?;
+    let (entry, _) = read_word(from)?;
+    Some(entry)
+}
+
+/// Returns the bytes of a pool from one place to another.
+#[inline(always)]
+fn between(pool: &[u8], start: usize, end: usize) -> Option<&[u8]>
+    ensures { (before records after : List ℕ) → pool.now ≡ before ++ (records ++ after)
+        → start ≡ length before → end ≡ length before + length records
+        → MatchOption result ⊥ (λ r. r.now ≡ records) }
+{
+    let len = end.checked_sub(start)?;
+    let (_, from) = pool.split_at_checked(start)?;
+    let (records, _) = from.split_at_checked(len)?;
+    Some(records)
+}
+
+/// Returns the value of a key in an index.
+pub fn get(bytes: &[u8], key: &[u8]) -> Option<usize>
+    ensures { (pairs : Pairs) → IsIndex pairs bytes.now
+        → result ≡ value_at simple_ascii pairs key.now }
+{
+    let parts = parts_of(bytes)?;
+    let hash = hash_with(parts.seed, key);
+    let number = bucket_of(parts.count, hash) as usize;
+    let entry = entry_at(parts.table, number)?;
+    if (entry >> (hash % 32)) % 2 == 0 {
+        return None;
+    }
+    let next = entry_at(parts.table, number + 1)?;
+    let records = between(parts.pool, (entry >> 32) as usize, (next >> 32) as usize)?;
+    find_in(records, key)
+}
