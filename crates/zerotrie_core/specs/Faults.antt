@@ -1,5 +1,5 @@
 -- Where bytes are malformed, and which rule of the format fails there.
-use Rattle.std.specs.Prelude.{◌≡◌, ◌≢◌, ℕ, ◌-◌, ◌<◌, ◌≤◌, List, [], length, All, take, false}
+use Rattle.std.specs.Prelude.{◌≡◌, ◌≢◌, ℕ, ◌-◌, ◌<◌, ◌≤◌, List, [], length, All, take, codes, false}
 use Rattle.std.specs.List.{Contains}
 use Rattle.zerotrie_base.specs.Kind.{Kind, edge_limit, has_spans}
 use Rattle.zerotrie_base.specs.Branches.{IsTable, IsWidth}
@@ -46,6 +46,19 @@ IsRightWidth n w behind = IsWidth (length (targets_behind n w behind)) (w - 1)
 abbrev pub AreRightOffsets : ℕ → ℕ → List ℕ → Type 0
 AreRightOffsets n w behind =
     (i : ℕ) → i < n → (begin_of n w behind i < end_of n w behind i) × (end_of n w behind i ≤ length (targets_behind n w behind))
+
+-- the rule in words
+abbrev pub rule_text : FaultCause → List ℕ
+rule_text NoNode = codes "no whole node of this kind of trie begins here"
+rule_text NoSpans = codes "a span stands in a kind of trie that has none"
+rule_text UnexpectedEnd = codes "the bytes end where a key has to go on"
+rule_text ValueAfterValue = codes "a value follows a value"
+rule_text SpanAfterSpan = codes "a span follows a span"
+rule_text EmptySpan = codes "a span is empty"
+rule_text AsciiInSpan = codes "a span has an ASCII byte"
+rule_text WrongTable = codes "the search table of a branch is not one of this kind of trie"
+rule_text WrongWidth = codes "the offsets of a branch do not have the least width"
+rule_text WrongOffsets = codes "the offsets of a branch do not ascend within its targets"
 
 -- the bytes begin with a branch of which this is true
 abbrev pub BeginsBranchWith : Kind → List ℕ → (ℕ → ℕ → List ℕ → List ℕ → Type 0) → Type 0

@@ -20,13 +20,16 @@ use crate::simd::edge_search::{before_end, place_in};
 use crate::simd::lanes::{first_in_16, first_in_32, first_in_64};
 use zerotrie_base::{PerfectByteHashMap, ZeroTrieWithOptions, both_cases, folded};
 
-/// A branch: the number of its edges, the width of an offset in bytes, its search table, and all
-/// bytes from the edges on. The edges are the last bytes of the table.
+/// A branch.
 #[derive(Clone, Copy, Debug)]
 pub struct Branch<'a> {
+    /// The number of edges, from 2 to 256.
     pub edges: usize,
+    /// The bytes of one offset, from 1 to 8.
     pub width: usize,
+    /// The search table. Its last bytes are the edges.
     pub table: &'a [u8],
+    /// All bytes from the edges on: edges, offsets, targets.
     pub behind: &'a [u8],
     ghost some: { (2 ≤ edges) × (edges ≤ 256) },
     ghost narrow: { (1 ≤ width) × (width ≤ 8) },

@@ -9,7 +9,7 @@ ghost use Rattle.zerotrie_base.specs.Nodes.{Shape, Begins};
 ghost use Rattle.zerotrie_base.specs.Nodes.Shape.{span};
 ghost use Rattle.zerotrie_core.specs.Shapes.{shape, branch_shape};
 ghost use Rattle.zerotrie_core.specs.WellFormed.{IsWellFormed};
-ghost use Rattle.zerotrie_core.specs.Faults.{Before, Fails, IsFirstFault};
+ghost use Rattle.zerotrie_core.specs.Faults.{Before, Fails, IsFirstFault, rule_text};
 ghost use Rattle.zerotrie_base.specs.Kind.{Kind};
 ghost use Rattle.zerotrie_core.specs.listing.Listed.{node_of};
 ghost use Rattle.zerotrie_core.specs.walk.Seen.{part_of};
@@ -24,54 +24,79 @@ use crate::well_formed::branches::{has_table, has_width};
 use crate::well_formed::known_table::KnownTable;
 use crate::well_formed::{Expected, is_run};
 use std::alloc::{AllocError, Allocator};
-use thiserror::Error;
+use std::error::Error;
+use std::fmt;
 use zerotrie_base::ZeroTrieWithOptions;
 
 /// The rule of the format that fails.
-#[derive(Clone, Copy, PartialEq, Eq, Debug, Error)]
+#[derive(Clone, Copy, PartialEq, Eq, Debug)]
 pub enum FaultCause {
     /// No node of the kind begins with these bytes.
     ///
     /// They are cut off, a number in them is too large, or they are a branch with one edge or with
     /// offsets that are wider than the kind allows.
-    #[error("no whole node of this kind of trie begins here")]
     NoNode,
     /// A span begins, and the kind has no spans.
-    #[error("a span stands in a kind of trie that has none")]
     NoSpans,
     /// The bytes end where a key has to continue: after a literal or a span, or at the beginning of
     /// a target.
-    #[error("the bytes end where a key has to go on")]
     UnexpectedEnd,
     /// A value follows a value.
-    #[error("a value follows a value")]
     ValueAfterValue,
     /// A span follows a span. They should be one.
-    #[error("a span follows a span")]
     SpanAfterSpan,
     /// A span has no bytes.
-    #[error("a span is empty")]
     EmptySpan,
     /// A span has a byte below 128.
-    #[error("a span has an ASCII byte")]
     AsciiInSpan,
     /// The search table of a branch is invalid.
     ///
     /// Its edges do not ascend, or it is hashed and does not find each edge at its place, or an
     /// edge is not ASCII in a kind over ASCII keys.
-    #[error("the search table of a branch is not one of this kind of trie")]
     WrongTable,
     /// The offsets of a branch do not have the least width that reaches all its targets.
-    #[error("the offsets of a branch do not have the least width")]
     WrongWidth,
     /// The offsets of a branch do not ascend, or one is beyond the last target, so a target is
     /// empty or missing.
-    #[error("the offsets of a branch do not ascend within its targets")]
     WrongOffsets,
 }
 
+impl FaultCause {
+    /// Returns the rule in words, as the message of an error has it.
+    ///
+    /// ```
+    /// assert_eq!(rt; FaultCause::EmptySpan.text(), "a span is empty");
+    /// ```
+    pub fn text(self) -> &'static str
+        ensures { result.now ≡ rule_text self }
+    {
+        match self {
+            FaultCause::NoNode => "no whole node of this kind of trie begins here",
+            FaultCause::NoSpans => "a span stands in a kind of trie that has none",
+            FaultCause::UnexpectedEnd => "the bytes end where a key has to go on",
+            FaultCause::ValueAfterValue => "a value follows a value",
+            FaultCause::SpanAfterSpan => "a span follows a span",
+            FaultCause::EmptySpan => "a span is empty",
+            FaultCause::AsciiInSpan => "a span has an ASCII byte",
+            FaultCause::WrongTable => {
+                "the search table of a branch is not one of this kind of trie"
+            }
+            FaultCause::WrongWidth => "the offsets of a branch do not have the least width",
+            FaultCause::WrongOffsets => "the offsets of a branch do not ascend within its targets",
+        }
+    }
+}
+
+impl fmt::Display for FaultCause {
+    fn fmt<W: fmt::Write>(&self, f: &mut fmt::Formatter<W>) -> fmt::Result {
+        f.write_str(self.text())
+    }
+}
+
+impl Error for FaultCause {}
+
 /// The first fault of malformed bytes.
-#[derive(Clone, Copy, PartialEq, Eq, Debug, Error)]
+#[derive(Clone, Copy, PartialEq, Eq, Debug, thiserror::Error)]
 #[error("{cause}, at byte {place}")]
 pub struct Fault {
     /// The number of bytes before the malformed node, or before the end that comes too early.

@@ -1,8 +1,7 @@
 -- What messages on standard error say.
 use Rattle.std.specs.Prelude.{◌≡◌, ◌≢◌, ◌⊎◌, ◌<◌, ℕ, List, [], ◌∷◌, ◌++◌, take, codes, decimal}
 use Rattle.zerotrie_core.specs.declared.ZeroTrieBuildError.TheVariants as cause
-use Rattle.zerotrie_core.specs.declared.faults.FaultCause.{FaultCause}
-use Rattle.zerotrie_core.specs.declared.faults.FaultCause.TheVariants as fault
+use Rattle.zerotrie_core.specs.Faults.{rule_text}
 use Rattle.zerotrie_lines.specs.Escapes.{escaped}
 use Rattle.zerotrie_queries.specs.declared.file.OpenError.{OpenError}
 use Rattle.zerotrie_queries.specs.declared.file.OpenError.TheVariants as unopened
@@ -64,19 +63,6 @@ TellsMade (made.NotPair bad) text = TellsNoPair bad text
 TellsMade (made.Keys s) text = NamesPairs s text × SaysKeys s text
 TellsMade (made.Refused e) text = Unit {0}
 TellsMade made.OutOfMemory text = Unit {0}
-
--- the rule of the format that fails
-abbrev pub rule_text : FaultCause → List ℕ
-rule_text fault.NoNode = codes "no whole node of this kind of trie begins here"
-rule_text fault.NoSpans = codes "a span stands in a kind of trie that has none"
-rule_text fault.UnexpectedEnd = codes "the bytes end where a key has to go on"
-rule_text fault.ValueAfterValue = codes "a value follows a value"
-rule_text fault.SpanAfterSpan = codes "a span follows a span"
-rule_text fault.EmptySpan = codes "a span is empty"
-rule_text fault.AsciiInSpan = codes "a span has an ASCII byte"
-rule_text fault.WrongTable = codes "the search table of a branch is not one of this kind of trie"
-rule_text fault.WrongWidth = codes "the offsets of a branch do not have the least width"
-rule_text fault.WrongOffsets = codes "the offsets of a branch do not ascend within its targets"
 
 -- a message tells why a file has no trie, with the rule and the place of the first fault
 abbrev pub TellsNoTrie : OpenError → List ℕ → Type 0

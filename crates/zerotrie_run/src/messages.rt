@@ -3,7 +3,8 @@
 ghost use Rattle.std.specs.Prelude.{◌≡◌, ◌≢◌, ◌⊎◌, ◌++◌, ◌∷◌, [], List, ℕ, true, false, IfOk, IfSome, IfNone, OnOk, codes, take};
 ghost use Rattle.std.specs.Io.KnownBytes.{Appends};
 ghost use Rattle.zerotrie_run.specs.Runs.{HasNumberToo};
-ghost use Rattle.zerotrie_run.specs.Messages.{BeginsWithNoDigit, Extends, IsLine, Names, NamesPairs, Says, SaysKeys, TellsAsk, TellsBuild, TellsMade, TellsNoPair, TellsNoTrie, rule_text, told_key};
+ghost use Rattle.zerotrie_core.specs.Faults.{rule_text};
+ghost use Rattle.zerotrie_run.specs.Messages.{BeginsWithNoDigit, Extends, IsLine, Names, NamesPairs, Says, SaysKeys, TellsAsk, TellsBuild, TellsMade, TellsNoPair, TellsNoTrie, told_key};
 ghost use Rattle.zerotrie_run.specs.Told.{LineTold, TellsMore, place_name, told_step};
 
 use crate::asking::AskError;
@@ -130,31 +131,13 @@ fn fault_on(alloc: Global, place: &str, error: &io::Error) -> Result<Vec<u8>, Al
     Ok(text)
 }
 
-/// The rule of the format that fails, as the library's errors say it.
-fn rule_text(cause: FaultCause) -> &'static str
-    ensures { result.now ≡ rule_text cause }
-{
-    match cause {
-        FaultCause::NoNode => "no whole node of this kind of trie begins here",
-        FaultCause::NoSpans => "a span stands in a kind of trie that has none",
-        FaultCause::UnexpectedEnd => "the bytes end where a key has to go on",
-        FaultCause::ValueAfterValue => "a value follows a value",
-        FaultCause::SpanAfterSpan => "a span follows a span",
-        FaultCause::EmptySpan => "a span is empty",
-        FaultCause::AsciiInSpan => "a span has an ASCII byte",
-        FaultCause::WrongTable => { "the search table of a branch is not one of this kind of trie" }
-        FaultCause::WrongWidth => "the offsets of a branch do not have the least width",
-        FaultCause::WrongOffsets => "the offsets of a branch do not ascend within its targets",
-    }
-}
-
 /// Adds the rule that fails.
 #[tactic(auto, using(crate::proofs::MessageLemmas::says_here))]
 fn add_rule(text: &mut Vec<u8>, cause: FaultCause) -> Result<(), AllocError>
     ensures says { OnOk result (Says text.new.items (rule_text cause)) }
     ensures adds { OnOk result (Extends text.old.items text.new.items) }
 {
-    add(text, rule_text(cause))
+    add(text, cause.text())
 }
 
 /// A line that tells of the first fault in the bytes of a file.

@@ -164,6 +164,7 @@ fn table_of<A: Allocator + Copy>(alloc: A, keys: &[u8]) -> Result<Vec<u8, A>, Ze
 /// if each key is at its own place. Each call also returns on bytes that are not a perfect table.
 #[derive(Debug, Drop)]
 pub struct PerfectByteHashMap<S> {
+    /// The bytes of the table.
     pub store: S,
 }
 
