@@ -78,7 +78,7 @@ fn bytes(rt: &HostRuntime) -> Result<()> {
     let loaded = ZeroTrieSimpleAscii::load(tagged.as_slice());
     tell(rt, "the tag of its own kind", loaded)?;
 
-    // Validation can't tell that these bytes have a tag: it is read as the first byte of each key.
+    // Validation can't know that these bytes have a tag: it is read as the first byte of each key.
     let bare = ZeroTrieSimpleAscii::try_from_bytes(tagged.as_slice());
     tell(rt, "a tag read as part of the trie", bare)?;
     let bare = ZeroTrieSimpleAscii::from_bytes(tagged.as_slice());

@@ -1,5 +1,5 @@
-//! The tests of `zerotrie_session`, which has none of its own: tests are proved together with all
-//! of the crate that they stand in.
+//! The tests of `zerotrie_session`, which has none of its own: tests are proved together with the
+//! rest of their crate.
 #![tactic(auto)]
 
 #[cfg(test)]

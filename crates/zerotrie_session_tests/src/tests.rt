@@ -38,7 +38,7 @@ fn builds_are_refused(rt: HostRuntime) -> Result<(), Fail> {
         (b"", b"", 0),
         // The last line may lack its end.
         (b"kind hash\n+ 1 b\nbuild\n? b", b"ok 2 6281\n1\n", 0),
-        // A twin is refused, and the pairs stay.
+        // A key that comes twice is an error, and the pairs stay.
         (
             b"kind simple\n+ 1 b\nbuild\n? b\n+ 2 b\nbuild\n? b\n",
             b"ok 2 6281\n1\nrefused DuplicateKey\nnone\n",
@@ -55,7 +55,7 @@ fn builds_are_refused(rt: HostRuntime) -> Result<(), Fail> {
             b"refused MixedCase\nnone\n",
             1,
         ),
-        // Before a build, and after one that was refused, there is nothing to list or to walk.
+        // Before a build, and after one that returned an error, there is nothing to list or to walk.
         (
             b"kind ext\nlist\nwalk t p0\n+ 1 a\n+ 1 a\nbuild\nlist\nwalk s61 t\n",
             b"t- p-\nrefused DuplicateKey\ns- t-\n",

@@ -1,4 +1,4 @@
-//! Why builds are refused, and the texts of errors.
+//! Which errors builds return, and the texts of errors.
 
 use super::*;
 use std::alloc::AllocError;
