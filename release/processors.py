@@ -1,5 +1,5 @@
-"""Runs the program and the library of a release on the oldest x86-64, which qemu-user plays. Arguments: the folder of the release, and one
-to work in."""
+"""Runs the program and the library of a release on the oldest x86-64, and the library for ARM, which qemu-user plays. Arguments: the folder
+of the release, and one to work in."""
 
 import glob
 import pathlib
@@ -30,13 +30,15 @@ def by_program():
     assert run(*oldest, program, "get", room / "numbers.trie", "abc") == "2748\n"
 
 
-def by_library():
-    run("tar", "-xzf", glob.glob(f"{dist}/*-x86_64.tar.gz")[0], "-C", room)
-    folder = next(room.glob("zerotrie-*"))
+def by_library(processor, compiler, player):
+    """The library's test in C, linked with the static library of an archive."""
+    run("tar", "-xzf", glob.glob(f"{dist}/*-{processor}.tar.gz")[0], "-C", room)
+    folder = next(path for path in room.glob(f"zerotrie-*-{processor}") if path.is_dir())
     tests = pathlib.Path(__file__).resolve().parent.parent / "bindings/tests"
-    run("cc", "-std=c11", "-O2", f"-I{folder}/include", tests / "test.c", folder / "lib/libzerotrie.a", "-o", room / "test")
-    run(*oldest, room / "test")
+    run(*compiler, "-std=c11", "-O2", f"-I{folder}/include", tests / "test.c", folder / "lib/libzerotrie.a", "-o", room / "test")
+    run(*player, room / "test")
 
 
 tried("the program on the first x86-64", by_program)
-tried("the library and its test in C on the first x86-64", by_library)
+tried("the library and its test in C on the first x86-64", lambda: by_library("x86_64", ["cc"], oldest))
+tried("the library and its test in C on ARM", lambda: by_library("aarch64", ["aarch64-linux-gnu-gcc", "-static"], ["qemu-aarch64"]))
