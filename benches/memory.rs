@@ -16,6 +16,7 @@ mod table;
 use calls::{Flat, Kind};
 use sets::{Random, Set};
 use std::collections::{BTreeMap, HashMap};
+use std::process::Command;
 use std::time::Instant;
 use table::Table;
 
@@ -57,6 +58,36 @@ fn held(sets: &[Set]) -> Table {
         ]);
         let each = values.into_iter().map(|(name, bytes)| (name, bytes as f64 / set.keys.len() as f64)).collect();
         table.add(set.name.clone(), each);
+    }
+    table
+}
+
+/// How many bytes the program zstd makes of these, at its level 19.
+fn compressed(bytes: &[u8]) -> usize {
+    let file = std::env::temp_dir().join(format!("zerotrie-shipped-{}", std::process::id()));
+    std::fs::write(&file, bytes).unwrap();
+    let made = Command::new("zstd").args(["-19", "-q", "-c"]).arg(&file).output().expect("Debian's zstd is not installed");
+    std::fs::remove_file(&file).unwrap();
+    made.stdout.len()
+}
+
+/// What is shipped of a set: with the numbers of the keys in their order as values, and with zeros.
+fn shipped(sets: &[Set]) -> Table {
+    let mut table = Table::plain("Bytes a key, compressed by zstd -19");
+    for set in sets {
+        let numbered = Set::numbered(&set.name, set.keys.clone());
+        let zeros = Set { values: vec![0; set.keys.len()], ..Set::numbered(&set.name, set.keys.clone()) };
+        let smallest = |set: &Set| Kind::of(&set.keys).iter().map(|kind| compressed(&calls::built(*kind, set.pairs()))).min().unwrap_or(0);
+        let values: Vec<(&str, usize)> = vec![
+            ("trie, numbered", smallest(&numbered)),
+            ("trie, zeros", smallest(&zeros)),
+            #[cfg(fst)]
+            ("fst, numbered", compressed(&peers::fst_bytes(&numbered))),
+            #[cfg(fst)]
+            ("fst, zeros", compressed(&peers::fst_bytes(&zeros))),
+            ("the keys as lines", compressed(&set.keys.join(&b'\n'))),
+        ];
+        table.add(set.name.clone(), values.into_iter().map(|(name, bytes)| (name, bytes as f64 / set.keys.len() as f64)).collect());
     }
     table
 }
@@ -220,6 +251,9 @@ fn main() {
     }
     if "peaks".contains(&part) {
         peaks(&sets).print();
+    }
+    if "shipped".contains(&part) {
+        shipped(&sets).print();
     }
     if "growth".contains(&part) {
         let (times, peaks, panels) = growth(Kind::Simple);
