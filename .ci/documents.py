@@ -29,7 +29,7 @@ LIMITS = {
     "bindings/README.md": 380,
     "bindings/python/README.md": 120,
     "crates/zerotrie_cli/README.md": 2970,
-    "crates/zerotrie_index/README.md": 290,
+    "crates/zerotrie_index/README.md": 480,
     "crates/zerotrie_search/README.md": 470,
     "crates/zerotrie_tool/README.md": 480,
     "docs/ARCHITECTURE.md": 1700,

@@ -6,8 +6,8 @@ pub const REFUSED: usize = usize::MAX;
 /// Out of memory while the arguments were made or the answer written down.
 pub const UNREADY: usize = usize::MAX - 2;
 
-/// The kinds, `ZeroTrie`, arrays and the plain encoder, by the numbers of the library.
-pub const NAMES: [&str; 7] = ["simple", "ignore", "hash", "ext", "auto", "array", "plain"];
+/// The kinds, `ZeroTrie`, arrays, the plain encoder and an index, by the numbers of the library.
+pub const NAMES: [&str; 8] = ["simple", "ignore", "hash", "ext", "auto", "array", "plain", "index"];
 pub const ROUTES: [&str; 4] = ["slice", "iterator", "map", "map of texts"];
 pub const ASKED: [&str; 7] =
     ["to_json_value", "to_tagged_bytes", "to_owned", "to_btreemap", "iter", "stream", "first_fault"];

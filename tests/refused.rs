@@ -277,6 +277,17 @@ fn questions(tally: &mut Tally, set: &Set, kind: u8, bytes: &[u8]) {
     }
 }
 
+/// Builds an index of the set by all routes. All of them give the same bytes.
+fn indexes(tally: &mut Tally, set: &Set) {
+    let flat = set.flat();
+    let mut out = vec![0; 1 << 16];
+    let len = calls::build(7, 0, &flat, &mut out);
+    for (route, by) in ["a sorted slice", "an iterator", "a slice", "lent keys", "a copy"].iter().enumerate() {
+        let name = format!("{}, an index by {by}", set.name);
+        tally.plainly(&name, &out[..len], |out| calls::build(7, route as u8, &flat, out));
+    }
+}
+
 /// A walk through a trie, in the four kinds.
 fn walks(tally: &mut Tally) {
     let calls = [2, 0, 2, 0, 1, 0, 2, 1, 2, 0, 1, 0, 1, 0, 2, 0];
@@ -407,6 +418,7 @@ fn main() -> ExitCode {
     let mut tally = Tally::default();
     for set in sets() {
         builds(&mut tally, &set);
+        indexes(&mut tally, &set);
     }
     walks(&mut tally);
     tables(&mut tally);

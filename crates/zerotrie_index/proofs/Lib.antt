@@ -1,6 +1,9 @@
 mod AscendLemmas
 mod BucketLemmas
+mod LentLemmas
 mod PermutedLemmas
 mod RecordLemmas
+mod RepeatLemmas
 mod WordLemmas
 mod WrittenLemmas
+mod ValidLemmas

@@ -1,54 +1,58 @@
 -- What a build has written.
-use Rattle.std.specs.Prelude.{◌≡◌, ℕ, ◌+◌, ◌-◌, ◌*◌, ◌/◌, ◌%◌, ◌^◌, ◌<◌, ◌≤◌, [], ◌∷◌, ◌++◌, List, length, get_or, take, drop, All, zero, suc, Result, Ok, Err, IfOk, IfErr}
-use Rattle.std.specs.List.{flat_map}
+use Rattle.std.specs.Prelude.{◌≡◌, ◌==◌, ◌⊎◌, ℕ, ◌+◌, ◌-◌, ◌*◌, ◌/◌, ◌%◌, ◌^◌, ◌<◌, ◌≤◌, [], ◌∷◌, ◌++◌, List, length, get_or, take, drop, All, zero, suc, Result, Ok, Err, MatchResult, if◌then◌else◌}
+use Rattle.std.specs.List.{flat_map, sum_by}
 use Rattle.std.specs.List.Sorted.{IsPermutation, IsNonDecreasingBy}
 use Rattle.std.proofs.lemmas.List.Sorted.{sum_by-IsPermutation}
 use Rattle.std.proofs.Common.{refl, inl, inr, bit_or, ap, sym, ◌∙◌, arith, subst, length-append}
-use Rattle.std.proofs.lemmas.List.{append_assoc, append-nil, map-append, drop_more, drop_all, length-drop, take-append-drop, take_all}
-use Rattle.std.proofs.lemmas.List.Elements.{All-push, All-drop, All-more, All-weaker}
+use Rattle.std.proofs.lemmas.List.{append_assoc, append-nil, map-append, drop_more, drop_all, length-drop, length-map, take-append-drop, take_all}
+use Rattle.std.proofs.lemmas.List.Elements.{All-push, All-take, All-drop, All-more, All-weaker}
 use Rattle.std.proofs.lemmas.List.Sums.{sum_by-cons, sum_by-append}
+use Rattle.std.proofs.lemmas.Bool.{eq-eqb, cases_lt}
 use Rattle.std.proofs.lemmas.Nat.Bits.{bit_at_or, bit_at-lt}
 use Rattle.std.proofs.Math.Nat.{mul-le-mul_right}
 use Rattle.std.proofs.Math.Seq.{take-add}
 use Rattle.std.specs.Int.{bit_at}
 use Rattle.std.proofs.lemmas.List.Concat.{flat_map-append}
 use Rattle.zerotrie_base.specs.Maps.{Pairs, Ascends, RepeatsKey}
-use Rattle.zerotrie_base.specs.Numbers.{spelled}
-use Rattle.zerotrie_base.proofs.CallerLemmas.{spelling_is}
-use Rattle.zerotrie_index.specs.Layout.{word, place_of, mark_of, AreRecords, IsAt, AreBuckets, IsIndex}
+use Rattle.zerotrie_base.proofs.CallerLemmas.{spelling_is, ascends_apart}
+use Rattle.zerotrie_index.specs.Layout.{word, hash_of, place_of, mark_of, bucket_limit, AreRecords, IsAt, AreBuckets, IsIndex}
 use Rattle.zerotrie_index.specs.Hashed.{hashed_pairs, IsHashed, Rises, IsRecord}
-use Rattle.zerotrie_index.specs.Built.{record_size, records_size, IsTooLong, IndexCause, AreWritten, IsIndexBuild}
+use Rattle.zerotrie_index.specs.Built.{record_size, records_size, IsTooLong, crowd, IsCrowded, CauseWith, IndexCause, AreWritten, IsIndexOf, IsIndexBuild, IsSortedIndexBuild, IsIndexBuildOfAll}
 use Rattle.zerotrie_index.specs.declared.error.ZeroIndexBuildError.{ZeroIndexBuildError}
+use Rattle.zerotrie_index.specs.declared.error.ZeroIndexBuildError.TheVariants.{Unsorted, DuplicateKey, Crowded, CapacityExceeded, OutOfMemory}
 use Rattle.zerotrie_index.specs.declared.builder.Hashed.{Hashed}
 use Rattle.zerotrie_index.proofs.BucketLemmas.{place_below}
+use Rattle.zerotrie_index.proofs.WordLemmas.{length-word}
+use Rattle.zerotrie_index.proofs.PermutedLemmas.{repeats_permuted}
+use Rattle.zerotrie_index.proofs.RepeatLemmas.{distinct_all, repeats_part}
 
 -- a record and what follows it
 pub record_first : (key : List ℕ) (value : ℕ) (written : List ℕ) (pairs : Pairs) (after : List ℕ) → IsRecord key value written → AreRecords pairs after → AreRecords ((key, value) ∷ pairs) (written ++ after)
 record_first key value written pairs after r are = (
-  r.1 ++ (key ++ after),
+  word value ++ (key ++ after),
   after,
-  record { spelling = r.0; spells = r.2; bytes_are = ap (λ x. x ++ after) r.4 ∙ append_assoc r.0 (r.1 ++ key) after ∙ ap (λ x. r.0 ++ x) (append_assoc r.1 key after) },
-  record { spelling = r.1; spells = r.3; bytes_are = refl },
+  record { spelling = r.0; spells = r.1; bytes_are = ap (λ x. x ++ after) r.3 ∙ append_assoc r.0 (word value ++ key) after ∙ ap (λ x. r.0 ++ x) (append_assoc (word value) key after) },
+  r.2,
+  refl,
   are,
 )
 
 -- the length of a record
 pub length-record : (key : List ℕ) (value : ℕ) (written : List ℕ) → IsRecord key value written → length written ≡ record_size (key, value)
 length-record key value written r =
-    ap length r.4 ∙ length-append r.0 (r.1 ++ key) ∙ ap (λ n. length r.0 + n) (length-append r.1 key)
-    ∙ ap (λ x. length x + (length r.1 + length key)) (spelling_is (record { latent_value = 32; metadata = 0 }) (length key) r.0 (inr refl) r.2)
-    ∙ ap (λ x. length (spelled 32 0 (length key)) + (length x + length key)) (spelling_is (record { latent_value = 32; metadata = 0 }) value r.1 (inr refl) r.3)
+    ap length r.3 ∙ length-append r.0 (word value ++ key) ∙ ap (λ n. length r.0 + n) (length-append (word value) key ∙ ap (λ n. n + length key) (length-word value))
+    ∙ ap (λ x. length x + (8 + length key)) (spelling_is (record { latent_value = 32; metadata = 0 }) (length key) r.0 (inr refl) r.1)
 
 -- the length of records
 pub length-records : (pairs : Pairs) (bytes : List ℕ) → AreRecords pairs bytes → length bytes ≡ records_size pairs
 length-records [] bytes h = ap length h
 length-records (e ∷ pairs) bytes h =
     let a = ap length h.2.bytes_are ∙ length-append h.2.spelling h.0 in
-    let b = ap length h.3.bytes_are ∙ length-append h.3.spelling (e.0 ++ h.1) in
+    let b = ap length h.4 ∙ length-append (word e.1) (e.0 ++ h.1) in
+    let w = length-word e.1 in
     let c = length-append e.0 h.1 in
     let own = ap length (spelling_is (record { latent_value = 32; metadata = 0 }) (length e.0) h.2.spelling (inr refl) h.2.spells) in
-    let number = ap length (spelling_is (record { latent_value = 32; metadata = 0 }) e.1 h.3.spelling (inr refl) h.3.spells) in
-    let rest = length-records pairs h.1 h.4 in
+    let rest = length-records pairs h.1 h.5 in
     let whole = sum_by-cons record_size e pairs in
     omega arith
 
@@ -64,6 +68,8 @@ pub record Filled (seed count number : ℕ) (done : Pairs) (before table pool : 
   pub below : All (λ entry. entry < 2 ^ 64) entries
   pub table_is : table ≡ before ++ flat_map word entries
   pub pairs_are : done ≡ flat_map (λ bucket. bucket) buckets
+  pub short : All (λ bucket. length bucket ≤ bucket_limit) buckets
+  pub distinct : All (λ bucket. RepeatsKey bucket → ⊥) buckets
   pub onward : (bs : List Pairs) (es ps : List ℕ) → AreBuckets seed count number (length pool) bs es ps → AreBuckets seed count 0 0 (buckets ++ bs) (entries ++ es) (pool ++ ps)
 
 pub filled_none : (seed count : ℕ) (before : List ℕ) → Filled seed count 0 [] before before []
@@ -74,14 +80,17 @@ filled_none seed count before = record {
   below = λ k d inside. absurd (omega arith);
   table_is = sym (append-nil before);
   pairs_are = refl;
+  short = λ k d inside. absurd (omega arith);
+  distinct = λ k d inside. absurd (omega arith);
   onward = λ bs es ps h. h;
 }
 
 -- one more bucket
 pub filled_more : (seed count number : ℕ) (done : Pairs) (before table pool : List ℕ) → Filled seed count number done before table pool
     → (bucket : Pairs) (records : List ℕ) (entry : ℕ) → entry < 2 ^ 64 → AreRecords bucket records → entry / 2 ^ 32 ≡ length pool → All (λ e. IsAt seed count number entry e.0) bucket
+    → length bucket ≤ bucket_limit → (RepeatsKey bucket → ⊥)
     → Filled seed count (number + 1) (done ++ bucket) before (table ++ word entry) (pool ++ records)
-filled_more seed count number done before table pool f bucket records entry small are start at = record {
+filled_more seed count number done before table pool f bucket records entry small are start at few apart = record {
   buckets = f.buckets ++ bucket ∷ [];
   entries = f.entries ++ entry ∷ [];
   many = length-append f.buckets (bucket ∷ []) ∙ ap (λ n. n + 1) f.many;
@@ -89,6 +98,8 @@ filled_more seed count number done before table pool f bucket records entry smal
   table_is = ap (λ x. x ++ word entry) f.table_is ∙ append_assoc before (flat_map word f.entries) (word entry)
       ∙ ap (λ x. before ++ x) (sym (flat_map-append word f.entries (entry ∷ []) ∙ ap (λ x. flat_map word f.entries ++ x) (append-nil (word entry))));
   pairs_are = ap (λ x. x ++ bucket) f.pairs_are ∙ sym (flat_map-append (λ b. b) f.buckets (bucket ∷ []) ∙ ap (λ x. flat_map (λ b. b) f.buckets ++ x) (append-nil bucket));
+  short = All-push (λ b. length b ≤ bucket_limit) f.buckets bucket f.short few;
+  distinct = All-push (λ b. RepeatsKey b → ⊥) f.buckets bucket f.distinct apart;
   onward = λ bs es ps h.
       let next : AreBuckets seed count (suc number) (length pool + length records) bs es ps =
       subst (λ n. AreBuckets seed count n (length pool + length records) bs es ps) (let e : number + 1 ≡ suc number = omega arith in e)
@@ -114,6 +125,8 @@ filled_all seed count done before table pool f last small start = record {
       subst (λ x. AreBuckets seed count 0 0 f.buckets (f.entries ++ last ∷ []) x) (append-nil pool)
       (subst (λ x. AreBuckets seed count 0 0 x (f.entries ++ last ∷ []) (pool ++ [])) (append-nil f.buckets) whole);
   pairs_are = f.pairs_are;
+  short = f.short;
+  distinct = f.distinct;
 }
 
 -- a higher hash has no lower bucket
@@ -164,6 +177,10 @@ pub size_more : (bucket : List Hashed) (i : ℕ) (d : Hashed) → i < length buc
     → records_size (hashed_pairs (drop i bucket)) ≡ record_size ((get_or bucket i d).key.now, (get_or bucket i d).value) + records_size (hashed_pairs (drop (i + 1) bucket))
 size_more bucket i d inside = ap (λ x. records_size (hashed_pairs x)) (drop_more bucket i d inside)
     ∙ sum_by-cons record_size ((get_or bucket i d).key.now, (get_or bucket i d).value) (hashed_pairs (drop (i + 1) bucket))
+
+-- there are as many pairs as hashes
+pub length-pairs : (hashed : List Hashed) → length (hashed_pairs hashed) ≡ length hashed
+length-pairs hashed = length-map hashed _
 
 -- the pairs of one more bucket
 pub pairs_more : (hashed : List Hashed) (at len : ℕ) → hashed_pairs (take (at + len) hashed) ≡ hashed_pairs (take at hashed) ++ hashed_pairs (take len (drop at hashed))
@@ -220,8 +237,8 @@ too_long a b e more h = elim h [
 
 -- the seed, the count, what was written, and the pool
 pub index_of : (seed count : ℕ) (pairs : Pairs) (table pool : List ℕ) → AreWritten seed count pairs (word seed ++ word count) table pool
-    → seed < 2 ^ 64 → 0 < count → count < 2 ^ 32 → (RepeatsKey pairs → ⊥) → IsIndex pairs (table ++ pool)
-index_of seed count pairs table pool w small some few distinct = record {
+    → seed < 2 ^ 64 → 0 < count → count < 2 ^ 32 → IsIndex pairs (table ++ pool)
+index_of seed count pairs table pool w small some few = record {
   seed = seed;
   buckets = w.buckets;
   entries = w.entries;
@@ -234,7 +251,8 @@ index_of seed count pairs table pool w small some few distinct = record {
       ∙ ap (λ n. word seed ++ (word n ++ (flat_map word w.entries ++ pool))) (sym w.many);
   are_buckets = subst (λ n. AreBuckets seed n 0 0 w.buckets w.entries pool) (sym w.many) w.are_buckets;
   pairs_are = w.pairs_are;
-  distinct = distinct;
+  short = w.short;
+  distinct = λ twice. distinct_all seed count 0 0 w.buckets w.entries pool w.are_buckets w.distinct (subst RepeatsKey w.pairs_are twice);
 }
 
 -- hashes in order rise
@@ -242,20 +260,84 @@ pub rises_sorted : (hashed : List Hashed) → IsNonDecreasingBy (λ h. h.hash) h
 rises_sorted [] up = tt
 rises_sorted (h ∷ hashed) up = (λ k d inside. up 0 (suc k) d (omega arith) (omega arith), rises_sorted hashed (λ i j d le inside. up (suc i) (suc j) d (omega arith) (omega arith)))
 
--- a record has a byte
-some_record : (e : List ℕ × ℕ) → 1 ≤ record_size e
-unfolding spelled
-some_record e = omega arith
-
-pub not_fewer : (pairs : Pairs) → length pairs ≤ records_size pairs
+-- a record has more bytes than two
+pub not_fewer : (pairs : Pairs) → 2 * length pairs ≤ records_size pairs
 not_fewer [] = omega arith
-not_fewer (e ∷ pairs) = let whole = sum_by-cons record_size e pairs in let one = some_record e in let rest = not_fewer pairs in omega arith
+not_fewer (e ∷ pairs) = let whole = sum_by-cons record_size e pairs in let rest = not_fewer pairs in omega arith
 
--- what a build returns
-pub built : {B : Type 0} (bytes : B → List ℕ) (given pairs : Pairs) (r : Result B ZeroIndexBuildError) → Ascends given → IsPermutation given pairs
-    → IfOk r (λ b. IsIndex pairs (bytes b)) → IfErr r (IsTooLong (records_size pairs)) → IsIndexBuild bytes given r
-built bytes given pairs (Ok b) up permuted ok err = (up, (pairs, ok, permuted))
-built bytes given pairs (Err e) up permuted ok err = elim err [
-  | inl memory ↦ subst (IndexCause given) (sym memory) tt
-  | inr long ↦ let same = sum_by-IsPermutation record_size given pairs permuted in let l = long.1 in subst (IndexCause given) (sym long.0) (let g : 2 ^ 32 ≤ records_size given = omega arith in g)
+-- the hashes of a bucket's pairs put all of them into it
+pub crowd_all : (seed count number : ℕ) (bucket : List Hashed) → All (IsHashed seed) bucket → All (λ h. place_of count h.hash ≡ number) bucket
+    → crowd seed count number (hashed_pairs bucket) ≡ length bucket
+crowd_all seed count number [] hashes here = refl
+crowd_all seed count number (h ∷ bucket) hashes here =
+    let one = eq-eqb _ _ (ap (place_of count) (sym (hashes zero h (omega arith)).0) ∙ here zero h (omega arith)) in
+    let more = rw one at (sum_by-cons (λ e. if place_of count (hash_of seed e.0) == number then 1 else 0) (h.key.now, h.value) (hashed_pairs bucket)) in
+    let rest = crowd_all seed count number bucket (λ i e l. hashes (suc i) e (omega arith)) (λ i e l. here (suc i) e (omega arith)) in
+    omega arith
+
+sum_front : (f : List ℕ × ℕ → ℕ) (n : ℕ) (hashed : List Hashed) → sum_by f (hashed_pairs hashed) ≡ sum_by f (hashed_pairs (take n hashed)) + sum_by f (hashed_pairs (drop n hashed))
+sum_front f n hashed = ap (λ x. sum_by f (hashed_pairs x)) (sym (take-append-drop n hashed)) ∙ ap (sum_by f) (map-append {B = List ℕ × ℕ} (λ h. (h.key.now, h.value)) (take n hashed) (drop n hashed))
+    ∙ sum_by-append f (hashed_pairs (take n hashed)) (hashed_pairs (drop n hashed))
+
+sum_part : (f : List ℕ × ℕ → ℕ) (at len : ℕ) (hashed : List Hashed) → sum_by f (hashed_pairs (take len (drop at hashed))) ≤ sum_by f (hashed_pairs hashed)
+sum_part f at len hashed = let whole = sum_front f at hashed in let back = sum_front f len (drop at hashed) in omega arith
+
+pub crowded : (seed count number at len : ℕ) (hashed : List Hashed) → All (IsHashed seed) hashed → All (λ h. place_of count h.hash ≡ number) (take len (drop at hashed))
+    → bucket_limit < length (take len (drop at hashed)) → IsCrowded seed count (hashed_pairs hashed)
+crowded seed count number at len hashed hashes here many =
+    let own = crowd_all seed count number (take len (drop at hashed)) (All-take (IsHashed seed) len (drop at hashed) (All-drop (IsHashed seed) at hashed hashes)) here in
+    let part : crowd seed count number (hashed_pairs (take len (drop at hashed))) ≤ crowd seed count number (hashed_pairs hashed) = sum_part _ at len hashed in
+    (number, omega arith)
+
+-- the error of a bucket is one of the whole
+pub bucket_cause : (seed count number at len : ℕ) (hashed : List Hashed) (e : ZeroIndexBuildError) → All (IsHashed seed) hashed → All (λ h. place_of count h.hash ≡ number) (take len (drop at hashed))
+    → ((e ≡ DuplicateKey) × RepeatsKey (hashed_pairs (take len (drop at hashed)))) ⊎ ((e ≡ Crowded) × (bucket_limit < length (take len (drop at hashed))))
+    → CauseWith (IsCrowded seed count (hashed_pairs hashed)) (hashed_pairs hashed) e
+bucket_cause seed count number at len hashed e hashes here err = elim err [
+  | inl twice ↦ subst (CauseWith (IsCrowded seed count (hashed_pairs hashed)) (hashed_pairs hashed)) (sym twice.0) (repeats_part at len hashed twice.1)
+  | inr many ↦ subst (CauseWith (IsCrowded seed count (hashed_pairs hashed)) (hashed_pairs hashed)) (sym many.0) (crowded seed count number at len hashed hashes here many.1)
 ]
+
+pub long_cause : (Crowd : Type 0) (pairs : Pairs) (size : ℕ) (e : ZeroIndexBuildError) → size ≤ records_size pairs → IsTooLong size e → CauseWith Crowd pairs e
+long_cause Crowd pairs size e less err = elim err [
+  | inl memory ↦ subst (CauseWith Crowd pairs) (sym memory) tt
+  | inr long ↦ let l = long.1 in subst (CauseWith Crowd pairs) (sym long.0) (let g : 2 ^ 32 ≤ records_size pairs = omega arith in g)
+]
+
+pub memory_cause : (Crowd : Type 0) (pairs : Pairs) (e : ZeroIndexBuildError) → e ≡ OutOfMemory → CauseWith Crowd pairs e
+memory_cause Crowd pairs e memory = subst (CauseWith Crowd pairs) (sym memory) tt
+
+-- a cause holds in each order
+pub cause_permuted : (seed count : ℕ) (given pairs : Pairs) (e : ZeroIndexBuildError) → IsPermutation given pairs
+    → CauseWith (IsCrowded seed count pairs) pairs e → CauseWith (IsCrowded seed count given) given e
+cause_permuted seed count given pairs Unsorted permuted h = h
+cause_permuted seed count given pairs DuplicateKey permuted h = repeats_permuted given pairs permuted h
+cause_permuted seed count given pairs Crowded permuted h =
+    let same : crowd seed count h.0 pairs ≡ crowd seed count h.0 given = sum_by-IsPermutation _ given pairs permuted in let many = h.1 in (h.0, omega arith)
+cause_permuted seed count given pairs CapacityExceeded permuted h = let same = sum_by-IsPermutation record_size given pairs permuted in omega arith
+cause_permuted seed count given pairs OutOfMemory permuted h = h
+
+pub under : {B : Type 0} (bytes : B → List ℕ) (seed count : ℕ) (given pairs : Pairs) (r : Result B ZeroIndexBuildError) → IsPermutation given pairs
+    → MatchResult r (λ b. IsIndex pairs (bytes b)) (CauseWith (IsCrowded seed count pairs) pairs)
+    → MatchResult r (λ b. IsIndexOf given (bytes b)) (CauseWith (IsCrowded seed count given) given)
+under bytes seed count given pairs (Ok b) permuted is = (pairs, is, permuted)
+under bytes seed count given pairs (Err e) permuted h = cause_permuted seed count given pairs e permuted h
+
+-- one more seed is tried
+pub next_tried : (P : ℕ → Type 0) (n : ℕ) → ((k : ℕ) → k < n → P k) → P n → (k : ℕ) → k < n + 1 → P k
+next_tried P n before here k below = elim (cases_lt k n) [
+  | inl less ↦ before k less
+  | inr not_less ↦ let same : n ≡ k = omega arith in subst P same here
+]
+
+-- a build of pairs that ascend
+pub sorted_build : {B : Type 0} (bytes : B → List ℕ) (first : ℕ) (given : Pairs) (r : Result B ZeroIndexBuildError) → Ascends given
+    → IsIndexBuild first bytes given r → IsSortedIndexBuild first bytes given r
+sorted_build bytes first given (Ok b) up is = (up, is)
+sorted_build bytes first given (Err e) up h = inr (up, λ twice. ascends_apart given up (subst (IndexCause first given) twice h), h)
+
+-- a build of all pairs of an iterator
+pub built_all : {B : Type 0} (bytes : B → List ℕ) (first : ℕ) (OfAll : (Pairs → Type 0) → Type 0) (given : Pairs) → ((Fact : Pairs → Type 0) → Fact given → OfAll Fact)
+    → (r : Result B ZeroIndexBuildError) → IsIndexBuild first bytes given r → IsIndexBuildOfAll OfAll first bytes r
+built_all bytes first OfAll given all (Ok b) is = all (λ pairs. IsIndexOf pairs (bytes b)) is
+built_all bytes first OfAll given all (Err e) h = inr (all (λ pairs. IndexCause first pairs e) h)

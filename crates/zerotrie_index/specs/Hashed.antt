@@ -2,7 +2,7 @@
 use Rattle.std.specs.Prelude.{◌≡◌, ℕ, ◌^◌, ◌<◌, ◌≤◌, ◌++◌, List, [], ◌∷◌, length, map, All}
 use Rattle.zerotrie_base.specs.Maps.{Pairs}
 use Rattle.zerotrie_base.specs.Numbers.{Spells}
-use Rattle.zerotrie_index.specs.Layout.{hash_of}
+use Rattle.zerotrie_index.specs.Layout.{word, hash_of}
 use Rattle.zerotrie_index.specs.declared.builder.Hashed.{Hashed}
 
 -- the pairs alone
@@ -20,5 +20,4 @@ Rises (h ∷ hashed) = All (λ g. h.hash ≤ g.hash) hashed × Rises hashed
 
 -- the bytes are the record of a pair
 abbrev pub IsRecord : List ℕ → ℕ → List ℕ → Type 0
-IsRecord key value bytes = (len number : List ℕ) × Spells 32 0 (length key) len × Spells 32 0 value number
-    × (bytes ≡ len ++ (number ++ key))
+IsRecord key value bytes = (len : List ℕ) × Spells 32 0 (length key) len × (value < 2 ^ 64) × (bytes ≡ len ++ (word value ++ key))

@@ -1,5 +1,5 @@
 -- The bytes of an index, which has the pairs of a map in buckets by the hashes of their keys.
-use Rattle.std.specs.Prelude.{◌≡◌, ℕ, ◌+◌, ◌*◌, ◌/◌, ◌%◌, ◌^◌, ◌<◌, List, [], ◌∷◌, ◌++◌, length, suc, All}
+use Rattle.std.specs.Prelude.{◌≡◌, ℕ, ◌+◌, ◌*◌, ◌/◌, ◌%◌, ◌^◌, ◌<◌, ◌≤◌, List, [], ◌∷◌, ◌++◌, length, suc, All}
 use Rattle.std.specs.List.{flat_map}
 use Rattle.std.specs.Int.{to_le_bytes, w64}
 use Rattle.std.specs.Hash.FoldHasher.{initial, write, finish}
@@ -22,11 +22,16 @@ place_of count hash = hash / 2 ^ 32 * count / 2 ^ 32
 abbrev pub mark_of : ℕ → ℕ → ℕ
 mark_of entry hash = entry / 2 ^ (hash % 32) % 2
 
--- A record is the length of a key, its value and the key. The bytes are the records of the pairs.
+-- the most pairs that a bucket has
+abbrev pub bucket_limit : ℕ
+bucket_limit = 16
+
+-- A record is the length of a key, its value as a word, and the key. The bytes are the records of
+-- the pairs.
 abbrev pub AreRecords : Pairs → List ℕ → Type 0
 AreRecords [] bytes = bytes ≡ []
 AreRecords (e ∷ pairs) bytes = (middle after : List ℕ) × BeginsWith 32 0 (length e.0) bytes middle
-    × BeginsWith 32 0 e.1 middle (e.0 ++ after) × AreRecords pairs after
+    × (e.1 < 2 ^ 64) × (middle ≡ word e.1 ++ (e.0 ++ after)) × AreRecords pairs after
 
 -- the hash of a key belongs into the bucket of this number, and is marked in its entry
 abbrev pub IsAt : ℕ → ℕ → ℕ → ℕ → List ℕ → Type 0
@@ -56,4 +61,5 @@ pub record IsIndex (pairs : Pairs) (bytes : List ℕ) : Type 0 where
   pub bytes_are : bytes ≡ word seed ++ (word (length buckets) ++ (flat_map word entries ++ pool))
   pub are_buckets : AreBuckets seed (length buckets) 0 0 buckets entries pool
   pub pairs_are : pairs ≡ flat_map (λ bucket. bucket) buckets
+  pub short : All (λ bucket. length bucket ≤ bucket_limit) buckets
   pub distinct : RepeatsKey pairs → ⊥

@@ -1,3 +1,5 @@
 pub mod Layout
 pub mod Hashed
 pub mod Built
+pub mod Valid
+pub mod Lent

@@ -1,16 +1,29 @@
 //! Builds of an index.
 
-ghost use Rattle.std.specs.Prelude.{◌≡◌, ℕ, ◌+◌, ◌/◌, ◌^◌, ◌<◌, ◌≤◌, ◌↔◌, List, [], ◌++◌, length, take, drop, All, IfOk, IfErr, IsTrue};
+ghost use Rattle.std.specs.Prelude.{◌≡◌, ℕ, ◌+◌, ◌/◌, ◌^◌, ◌<◌, ◌≤◌, ◌⊎◌, ◌↔◌, List, [], ◌++◌, length, map, max, take, drop, All, Contains, IfOk, IfErr, IsTrue, MatchResult};
+ghost use Rattle.std.specs.Iterator.{IsFiniteIterable};
+ghost use Rattle.std.specs.List.Sorted.{IsPermutation};
 ghost use Rattle.zerotrie_base.specs.Items.{keyed};
 ghost use Rattle.zerotrie_base.specs.Maps.{FirstAbove, Ascends, RepeatsKey};
-ghost use Rattle.zerotrie_index.specs.Layout.{word, place_of, mark_of, AreRecords, IsIndex};
+ghost use Rattle.zerotrie_base.specs.Routes.{HoldsOfItsPairs};
+ghost use Rattle.zerotrie_index.specs.Layout.{word, place_of, mark_of, bucket_limit, AreRecords, IsIndex};
 ghost use Rattle.zerotrie_index.specs.Hashed.{hashed_pairs, IsHashed, Rises, IsRecord};
-ghost use Rattle.zerotrie_index.specs.Built.{records_size, IsTooLong, AreWritten, IsIndexBuild};
+ghost use Rattle.zerotrie_index.specs.Built.{records_size, bucket_count, IsTooLong, IsCrowded, CauseWith, AreWritten, IsIndexOf, IsIndexBuild, IsSortedIndexBuild, IsIndexBuildOfAll};
+ghost use Rattle.zerotrie_index.specs.declared.error.ZeroIndexBuildError.TheVariants.{DuplicateKey, Crowded};
 
 use crate::error::ZeroIndexBuildError;
 use crate::reader::{bucket_of, hash_with};
-use std::alloc::{AllocError, Allocator};
+use std::alloc::{AllocError, Allocator, Global};
 use zerotrie_base::{TrieKey, write_varint_meta2};
+
+/// The most pairs that a bucket has. A build of pairs that do not fit tries another seed.
+///
+/// Of n keys in 2n buckets, 17 share one less than once in 10^19 / n times, if nobody has chosen
+/// them for that.
+pub const BUCKET_LIMIT: usize = 16;
+
+/// How many seeds a build tries.
+pub const SEEDS_TRIED: u64 = 8;
 
 /// A pair, and the hash of its key.
 #[derive(Clone, Copy, Drop)]
@@ -116,7 +129,7 @@ fn put_record<A: Allocator>(
         × IsRecord key.now value written) }
 {
     pool.extend_from_slice(write_varint_meta2(key.len()).as_slice())?;
-    pool.extend_from_slice(write_varint_meta2(value).as_slice())?;
+    put_word(pool, value as u64)?;
     pool.extend_from_slice(key)?;
     Ok(())
 }
@@ -142,6 +155,46 @@ fn put_records<A: Allocator>(
     Ok(())
 }
 
+/// Whether the key of a pair is among those of others.
+fn repeats_in(pair: &Hashed<'_>, others: &[Hashed<'_>]) -> bool
+    ensures { IsTrue result ↔
+        Contains (map {B = List ℕ} (λ e. e.0) (hashed_pairs others.now)) pair.now.key.now }
+{
+    for other in others {
+        if other.key == pair.key {
+            return true;
+        }
+    }
+    false
+}
+
+/// Whether a bucket has a key twice. Calls itself as often as it has pairs.
+fn repeats_key(bucket: &[Hashed<'_>]) -> bool
+    ensures { IsTrue result ↔ RepeatsKey (hashed_pairs bucket.now) }
+{
+    match bucket.split_first() {
+        Some((first, rest)) => repeats_in(first, rest) || repeats_key(rest),
+        None => false,
+    }
+}
+
+/// Tests that a bucket is not too long and has no key twice. Compares a bounded number of keys.
+fn test_bucket(bucket: &[Hashed<'_>]) -> Result<(), ZeroIndexBuildError>
+    ensures short { IfOk result (λ _. length bucket.now ≤ bucket_limit) }
+    ensures distinct { IfOk result (λ _. RepeatsKey (hashed_pairs bucket.now) → ⊥) }
+    ensures err { IfErr result (λ e. ((e ≡ DuplicateKey) × RepeatsKey (hashed_pairs bucket.now))
+        ⊎ ((e ≡ Crowded) × (bucket_limit < length bucket.now))) }
+{
+    let some = &bucket[..bucket.len().min(BUCKET_LIMIT + 1)];
+    if repeats_key(some) {
+        return Err(ZeroIndexBuildError::DuplicateKey);
+    }
+    if bucket.len() > BUCKET_LIMIT {
+        return Err(ZeroIndexBuildError::Crowded);
+    }
+    Ok(())
+}
+
 /// Appends the entries of the buckets of pairs to the table, and their records to the empty pool.
 fn put_buckets<A: Allocator>(
     table: &mut Vec<u8, A>,
@@ -152,14 +205,17 @@ fn put_buckets<A: Allocator>(
     requires fresh { pool.old.items ≡ [] }
     requires rises { Rises hashed.now }
     ensures ok { IfOk result (λ _. (seed : ℕ) → All (IsHashed seed) hashed.now → 0 < count
-        → AreWritten seed count (hashed_pairs hashed.now) table.old.items table.new.items pool.new.items) }
-    ensures err { IfErr result (IsTooLong (records_size (hashed_pairs hashed.now))) }
+        → AreWritten seed count (hashed_pairs hashed.now) table.old.items table.new.items
+        pool.new.items) }
+    ensures err { IfErr result (λ e. (seed : ℕ) → All (IsHashed seed) hashed.now
+        → CauseWith (IsCrowded seed count (hashed_pairs hashed.now)) (hashed_pairs hashed.now) e) }
 {
     let mut at = 0;
     for number in 0..count {
         let rest = &hashed[at..];
         let len = bucket_len(count, number, rest);
         let bucket = &rest[..len];
+        test_bucket(bucket)?;
         put_word(table, entry_of(pool.len() as u32, bucket))?;
         put_records(pool, bucket)?;
         at += len;
@@ -178,9 +234,8 @@ fn write_index<A: Allocator + Copy>(
     requires some { 0 < count }
     requires hashes { All (IsHashed seed) hashed.now }
     requires rises { Rises hashed.now }
-    requires distinct { RepeatsKey (hashed_pairs hashed.now) → ⊥ }
-    ensures ok { IfOk result (λ bytes. IsIndex (hashed_pairs hashed.now) bytes.items) }
-    ensures err { IfErr result (IsTooLong (records_size (hashed_pairs hashed.now))) }
+    ensures { MatchResult result (λ bytes. IsIndex (hashed_pairs hashed.now) bytes.items)
+        (CauseWith (IsCrowded seed count (hashed_pairs hashed.now)) (hashed_pairs hashed.now)) }
 {
     let mut bytes = Vec::new(alloc);
     put_word(&mut bytes, seed)?;
@@ -191,21 +246,69 @@ fn write_index<A: Allocator + Copy>(
     Ok(bytes)
 }
 
-/// Returns the bytes of an index of a slice, whose keys must strictly ascend by their bytes.
-pub fn build<K: TrieKey, A: Allocator + Copy>(
+/// Returns the bytes of an index of a slice under one seed, in this many buckets.
+fn build_under<K: TrieKey, A: Allocator + Copy>(
     alloc: A,
+    seed: u64,
+    count: u32,
     items: &[(K, usize)],
 ) -> Result<Vec<u8, A>, ZeroIndexBuildError>
-    ensures { IsIndexBuild (λ bytes. bytes.items) (keyed K.key items.now) result }
+    requires { 0 < count }
+    ensures { MatchResult result (λ bytes. IsIndexOf (keyed K.key items.now) bytes.items)
+        (CauseWith (IsCrowded seed count (keyed K.key items.now)) (keyed K.key items.now)) }
+{
+    let mut hashed = hashed_of(alloc, seed, items)?;
+    hashed.sort_unstable_by_key(|pair| pair.hash);
+    write_index(alloc, seed, count, hashed.as_slice())
+}
+
+/// Returns the bytes of an index of a slice in any order. Tries `SEEDS_TRIED` seeds from this one
+/// on.
+pub fn build<K: TrieKey, A: Allocator + Copy>(
+    alloc: A,
+    seed: u64,
+    items: &[(K, usize)],
+) -> Result<Vec<u8, A>, ZeroIndexBuildError>
+    ensures { IsIndexBuild seed (λ bytes. bytes.items) (keyed K.key items.now) result }
+{
+    let Ok(count) = u32::try_from(2 * items.len()) else {
+        return Err(ZeroIndexBuildError::CapacityExceeded);
+    };
+    for tried in 0..SEEDS_TRIED {
+        match build_under(alloc, seed.wrapping_add(tried), count.max(1), items) {
+            Err(ZeroIndexBuildError::Crowded) => {}
+            done => return done,
+        }
+    }
+    Err(ZeroIndexBuildError::Crowded)
+}
+
+/// Returns the bytes of an index of a slice, whose keys must strictly ascend by their bytes.
+pub fn build_sorted<K: TrieKey, A: Allocator + Copy>(
+    alloc: A,
+    seed: u64,
+    items: &[(K, usize)],
+) -> Result<Vec<u8, A>, ZeroIndexBuildError>
+    ensures { IsSortedIndexBuild seed (λ bytes. bytes.items) (keyed K.key items.now) result }
 {
     if !is_ascending(items) {
         return Err(ZeroIndexBuildError::Unsorted);
     }
-    let Ok(count) = u32::try_from(items.len()) else {
-        return Err(ZeroIndexBuildError::CapacityExceeded);
-    };
-    let seed = 0;
-    let mut hashed = hashed_of(alloc, seed, items)?;
-    hashed.sort_unstable_by_key(|pair| pair.hash);
-    write_index(alloc, seed, count.max(1), hashed.as_slice())
+    build(alloc, seed, items)
+}
+
+/// Returns the bytes of an index of all pairs of an iterator, in any order.
+pub fn build_all<K: TrieKey + Drop, U: IntoIterator<Item = (K, usize)>>(
+    alloc: Global,
+    seed: u64,
+    iter: U,
+) -> Result<Vec<u8>, ZeroIndexBuildError>
+where
+    U::IntoIter: Drop,
+    requires { IsFiniteIterable U.into_iter_gives U.IntoIter.can_next U.IntoIter.remaining iter }
+    ensures { IsIndexBuildOfAll (HoldsOfItsPairs U.into_iter_gives U.IntoIter.next_gives K.key iter)
+        seed (λ bytes. bytes.items) result }
+{
+    let given: Vec<(K, usize)> = iter.into_iter().collect(alloc)?;
+    build(alloc, seed, given.as_slice())
 }

@@ -2,7 +2,7 @@
 
 ghost use Rattle.zerotrie_index.specs.Built.{AnswersAsGiven};
 
-/// Pairs whose keys ascend return the same in each order.
+/// Pairs with distinct keys return the same in each order.
 pub fn built_answers_as_given()
     ensures { AnswersAsGiven }
 {}

@@ -5,9 +5,13 @@ mod builder;
 mod error;
 mod index;
 pub mod laws;
+mod lent;
 mod reader;
+mod well_formed;
 
-pub use builder::build;
-pub use error::ZeroIndexBuildError;
+pub use builder::{BUCKET_LIMIT, SEEDS_TRIED, build, build_all, build_sorted};
+pub use error::{NotAnIndex, ZeroIndexBuildError};
 pub use index::ZeroIndex;
+pub use lent::ZeroIndexBuilder;
 pub use reader::get;
+pub use well_formed::is_well_formed;

@@ -5,8 +5,8 @@ use Rattle.zerotrie_index.specs.Built.{AreWritten}
 use Rattle.zerotrie_index.proofs.WrittenLemmas.{index_of}
 use Rattle.zerotrie_index.proofs.builder.write_index.Goals as goal
 
-pub returns-clause-ok : goal.returns-clause-ok
-returns-clause-ok g c =
+pub returns : goal.returns
+returns g c =
     let seed = c.args.seed in
     let count = c.args.count in
     let pairs = hashed_pairs c.args.hashed.now in
@@ -16,4 +16,4 @@ returns-clause-ok g c =
     c.in_ok-extend_from_slice.ensures.items ∙ ap (λ x. c.put_buckets.new.table.items ++ x) c.as_slice.ensures.value in
     let written = subst (λ before. AreWritten seed count pairs before c.put_buckets.new.table.items c.put_buckets.new.pool.items) head (c.in_ok-put_buckets.ensures.ok seed c.requires.hashes c.requires.some) in
     subst (IsIndex pairs) (sym whole)
-    (index_of seed count pairs c.put_buckets.new.table.items c.put_buckets.new.pool.items written (omega (arith, c.ranges.seed.fits)) c.requires.some (omega (arith, c.ranges.count.fits)) c.requires.distinct)
+    (index_of seed count pairs c.put_buckets.new.table.items c.put_buckets.new.pool.items written (omega (arith, c.ranges.seed.fits)) c.requires.some (omega (arith, c.ranges.count.fits)))

@@ -6,8 +6,8 @@ use Rattle.zerotrie_index.proofs.RecordLemmas.{cut_at, not_shorter}
 use Rattle.zerotrie_index.proofs.BucketLemmas.{one_more}
 use Rattle.zerotrie_index.proofs.reader.parts_of.Goals as goal
 
-pub returns-in_err-table : goal.returns-in_err-table
-returns-in_err-table c pairs is =
+pub returns-in_err-table-clause-first : goal.returns-in_err-table-clause-first
+returns-in_err-table-clause-first c pairs is =
     let seed = c.in_ok-seed.ensures.first is.seed _ is.seed_below is.bytes_are in
     let count = c.in_ok-count.ensures.first (length is.buckets) _ (let few = is.few_buckets in omega arith) seed.1 in
     let long = length-words is.entries in
@@ -16,8 +16,8 @@ returns-in_err-table c pairs is =
     absurd (not_shorter (8 * (c.in_ok-count-2.count + 1)) c.in_ok-count.rest.now (flat_map word is.entries) is.pool count.1
     (let n = count.0 in omega arith) c.in_err-table.ensures.cases)
 
-pub returns : goal.returns
-returns c pairs is =
+pub returns-clause-first : goal.returns-clause-first
+returns-clause-first c pairs is =
     let seed = c.in_ok-seed.ensures.first is.seed _ is.seed_below is.bytes_are in
     let count = c.in_ok-count.ensures.first (length is.buckets) _ (let few = is.few_buckets in omega arith) seed.1 in
     let long = length-words is.entries in
