@@ -31,6 +31,7 @@ LIMITS = {
     "crates/zerotrie_cli/README.md": 2970,
     "crates/zerotrie_index/README.md": 480,
     "crates/zerotrie_search/README.md": 470,
+    "crates/zerotrie_sets/README.md": 300,
     "crates/zerotrie_tool/README.md": 480,
     "docs/ARCHITECTURE.md": 1700,
     "docs/CALLING.md": 2940,

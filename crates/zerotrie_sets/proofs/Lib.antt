@@ -1,0 +1,6 @@
+mod MergeLemmas
+mod SliceLemmas
+mod ChangeLemmas
+mod RowLemmas
+mod ManyLemmas
+mod StepLemmas

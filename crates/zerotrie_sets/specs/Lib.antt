@@ -1,0 +1,9 @@
+pub mod Streams
+pub mod Merges
+pub mod Inputs
+pub mod Choices
+pub mod Rows
+pub mod ManyInputs
+pub mod Operations
+pub mod Changes
+pub mod Laws

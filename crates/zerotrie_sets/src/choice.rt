@@ -1,0 +1,36 @@
+//! What is chosen of the rows of a merge.
+
+ghost use Rattle.std.specs.Prelude.{◌≡◌, ℕ, Option};
+ghost use Rattle.zerotrie_sets.specs.Choices.{Finds, chosen_left};
+
+use crate::merge::Merge;
+use crate::stream::SortedStream;
+use std::alloc::AllocError;
+
+/// Chooses a value of what two streams have for a key, or passes over the key.
+pub trait Choice {
+    type Value: Copy + Drop;
+
+    // What is chosen.
+    ghost choose: { Self → Option ℕ → Option ℕ → Option Self.Value };
+
+    fn choose(&self, first: Option<usize>, second: Option<usize>) -> Option<Self::Value>
+        ensures { result ≡ choose self.now first second };
+}
+
+/// Moves a merge to the next row of which something is chosen, and returns that.
+pub fn next_chosen<S: SortedStream, T: SortedStream, C: Choice>(
+    choice: &C,
+    rows: &mut Merge<S, T>,
+) -> Result<Option<C::Value>, AllocError>
+    ensures { Finds (chosen_left (C.choose choice.now) rows.old.left) result rows.new.current.0
+        (chosen_left (C.choose choice.now) rows.new.left) }
+{
+    while rows.advance()? {
+        let value = choice.choose(rows.first(), rows.second());
+        if value.is_some() {
+            return Ok(value);
+        }
+    }
+    Ok(None)
+}

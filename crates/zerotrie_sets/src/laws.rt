@@ -1,0 +1,34 @@
+//! Laws of the definitions alone, as contracts that a caller's proof can cite.
+//!
+//! Each function does nothing: a call brings its law into a proof.
+
+ghost use Rattle.zerotrie_sets.specs.Laws.{RowsAreOfMaps, RowsOfAllAreOfMaps, CombinedAreMaps, DiffsAreOfMaps, NoChange};
+
+/// The rows of a merge of two ascending lists ascend, and their keys are those of either list, each
+/// with what each list has for it.
+pub fn rows_are_of_maps()
+    ensures { RowsAreOfMaps }
+{}
+
+/// The rows of a merge of any number of ascending lists ascend, and their keys are those of any
+/// list, each with what each list has for it.
+pub fn rows_of_all_are_of_maps()
+    ensures { RowsOfAllAreOfMaps }
+{}
+
+/// A union, an intersection or a difference of two ascending lists ascends, and has for each key
+/// what is chosen of the values of the lists.
+pub fn combined_are_maps()
+    ensures { CombinedAreMaps }
+{}
+
+/// The changes from one ascending list to another ascend, and a key is among them exactly as it
+/// changed.
+pub fn diffs_are_of_maps()
+    ensures { DiffsAreOfMaps }
+{}
+
+/// Nothing changed exactly if the lists are equal.
+pub fn no_change()
+    ensures { NoChange }
+{}

@@ -1,0 +1,19 @@
+//! Streams of pairs in the order of bytes, merged: unions, intersections, differences and changes.
+#![tactic(auto)]
+
+mod choice;
+mod combined;
+mod diff;
+mod input;
+pub mod laws;
+mod merge;
+mod merge_all;
+mod slice;
+mod stream;
+
+pub use combined::{Combined, Keep, Operation};
+pub use diff::{Change, Diff};
+pub use merge::Merge;
+pub use merge_all::MergeAll;
+pub use slice::SortedSlice;
+pub use stream::{SimpleStream, SortedStream};

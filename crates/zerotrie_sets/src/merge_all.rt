@@ -1,0 +1,228 @@
+//! Any number of streams merged: a row for each key of any of them.
+
+ghost use Rattle.std.specs.Prelude.{◌≡◌, ◌<◌, length, map, IfOk, Some, None, false, if◌then◌else◌};
+ghost use Rattle.std.specs.Option.{option_map, option_flatten};
+ghost use Rattle.std.specs.List.{slice_get};
+ghost use Rattle.zerotrie_sets.specs.Streams.{Advances, coming};
+ghost use Rattle.zerotrie_sets.specs.Inputs.{MergesOne};
+ghost use Rattle.zerotrie_sets.specs.Rows.{all_joined, first_of, last_of, EachAscends, IsMergeAll};
+ghost use Rattle.zerotrie_sets.specs.ManyInputs.{pendings, after_key, least_key, lesser_key, listed_all, AllFetched};
+
+use crate::input::Input;
+use crate::stream::SortedStream;
+use std::alloc::{AllocError, Allocator, Global};
+use std::cmp::Ordering;
+use std::marker::Model;
+
+/// Lists the keys of any number of streams in the order of bytes, each key once, with the value
+/// that each stream has for it.
+///
+/// ```
+/// let mut streams = Vec::new(rt.alloc());
+/// streams.push(SortedSlice::new(&[(b"a", 1), (b"c", 2)]).ok_or("not sorted")?)?;
+/// streams.push(SortedSlice::new(&[(b"b", 3)]).ok_or("not sorted")?)?;
+/// streams.push(SortedSlice::new(&[(b"a", 4)]).ok_or("not sorted")?)?;
+/// let mut rows = MergeAll::new(rt.alloc(), streams)?;
+/// assert!(rt; rows.advance()?);
+/// assert_eq!(rt; rows.key(), b"a".as_slice());
+/// assert_eq!(rt; (rows.value(0), rows.value(1), rows.value(2)), (Some(1), None, Some(4)));
+/// assert_eq!(rt; (rows.first(), rows.last()), (Some(1), Some(4)));
+/// ```
+///
+/// It allocates for the streams at first, and then for the longest key alone. A step costs a
+/// comparison of keys for each stream.
+#[derive(Drop)]
+pub struct MergeAll<S: SortedStream, A: Allocator = Global> {
+    inputs: Vec<Input<S>, A>,
+    key: Vec<u8, A>,
+    ended: bool,
+}
+
+impl<S: SortedStream, A: Allocator> Model for MergeAll<S, A> {
+    ghost use Rattle.zerotrie_sets.specs.Streams.{coming};
+    ghost use Rattle.zerotrie_sets.specs.Rows.{MergingAll, all_joined};
+    ghost use Rattle.zerotrie_sets.specs.ManyInputs.{pendings, listed_all};
+
+    ghost Value = { MergingAll };
+
+    ghost view = { λ s. record {
+      current = (s.key.items, listed_all S.current s.inputs.items);
+      left = coming s.ended (all_joined (pendings S.left S.current s.inputs.items));
+    } };
+}
+
+impl<S: SortedStream + Drop, A: Allocator + Copy> MergeAll<S, A> {
+    /// Merges streams. Does not advance them before the first call of `advance`.
+    pub fn new(alloc: A, streams: Vec<S, A>) -> Result<Self, AllocError>
+        ensures always { IfOk result (λ rows. rows.left
+            ≡ coming false (all_joined (map (λ s. (S.left s).pairs) streams.items))) }
+        ensures is { IfOk result (λ rows. EachAscends (map (λ s. (S.left s).pairs) streams.items)
+            → IsMergeAll (map (λ s. (S.left s).pairs) streams.items) rows.left.items) }
+    {
+        crate::laws::rows_of_all_are_of_maps();
+        let mut inputs = Vec::new(alloc);
+        for stream in streams {
+            inputs.push(Input::new(stream))?;
+        }
+        Ok(MergeAll {
+            inputs,
+            key: Vec::new(alloc),
+            ended: false,
+        })
+    }
+}
+
+impl<S: SortedStream, A: Allocator> MergeAll<S, A> {
+    /// Moves to the next key, and returns whether there is one. An error ends the merge. The only
+    /// error is a failed allocation for a longer key or in a stream.
+    pub fn advance(&mut self) -> Result<bool, AllocError>
+        ensures { Advances self.old.left result self.new.current self.new.left }
+    {
+        if self.ended {
+            return Ok(false);
+        }
+        self.ended = true;
+        let found = next_row(&mut self.inputs, &mut self.key)?;
+        self.ended = !found;
+        Ok(found)
+    }
+
+    /// Returns the current key, the one that the last call of `advance` moved to. Before the first
+    /// call and after the end, it is not a key of the streams.
+    pub fn key(&self) -> &[u8]
+        ensures { result.now ≡ self.now.current.0 }
+    {
+        self.key.as_slice()
+    }
+
+    /// Returns the value that a stream has for the current key, if it has the key. The streams are
+    /// numbered from 0 on.
+    pub fn value(&self, stream: usize) -> Option<usize>
+        ensures { result ≡ option_flatten (slice_get self.now.current.1 stream) }
+    {
+        match self.inputs.get(stream) {
+            Some(input) => input.listed(),
+            None => None,
+        }
+    }
+
+    /// Returns the value of the first stream that has the current key, as in a union that keeps the
+    /// first.
+    pub fn first(&self) -> Option<usize>
+        ensures { result ≡ first_of self.now.current.1 }
+    {
+        first_listed(&self.inputs)
+    }
+
+    /// Returns the value of the last stream that has the current key, as in a union that keeps the
+    /// last.
+    pub fn last(&self) -> Option<usize>
+        ensures { result ≡ last_of self.now.current.1 }
+    {
+        last_listed(&self.inputs)
+    }
+}
+
+/// Returns the first value that was listed.
+fn first_listed<S: SortedStream>(inputs: &[Input<S>]) -> Option<usize>
+    ensures { result ≡ first_of (listed_all S.current inputs.now) }
+{
+    for input in inputs {
+        let value = input.listed();
+        if value.is_some() {
+            return value;
+        }
+    }
+    None
+}
+
+/// Returns the last value that was listed.
+fn last_listed<S: SortedStream>(inputs: &[Input<S>]) -> Option<usize>
+    ensures { result ≡ last_of (listed_all S.current inputs.now) }
+{
+    let mut last = None;
+    for input in inputs {
+        last = input.listed().or(last);
+    }
+    last
+}
+
+/// Moves each input to its first pair that is still to be listed.
+fn fetch_all<S: SortedStream>(inputs: &mut [Input<S>]) -> Result<(), AllocError>
+    ensures { IfOk result (λ _. AllFetched inputs.new
+        × (pendings S.left S.current inputs.new ≡ pendings S.left S.current inputs.old)) }
+{
+    for input in inputs.iter_mut() {
+        input.fetch()?;
+    }
+    Ok(())
+}
+
+/// Returns the lesser of two keys, by their bytes.
+fn lesser_key<'k>(least: Option<&'k [u8]>, waiting: Option<&'k [u8]>) -> Option<&'k [u8]>
+    ensures { option_map (λ k. k.now) result ≡ lesser_key (option_map (λ k. k.now) least.entry)
+        (option_map (λ k. k.now) waiting.entry) }
+{
+    match (least, waiting) {
+        (Some(key), Some(other)) => match other.cmp(key) {
+            Ordering::Less => waiting,
+            Ordering::Equal | Ordering::Greater => least,
+        },
+        (Some(_key), None) => least,
+        (None, _) => waiting,
+    }
+}
+
+/// Returns the least key that waits.
+fn least<S: SortedStream>(inputs: &[Input<S>]) -> Option<&[u8]>
+    ensures { option_map (λ k. k.now) result ≡ least_key S.current None inputs.now }
+{
+    let mut least: Option<&[u8]> = None;
+    for input in inputs {
+        least = lesser_key(least, input.waiting());
+    }
+    least
+}
+
+/// Copies the least key that waits, and returns whether there is one.
+fn take_least<S: SortedStream, A: Allocator>(
+    inputs: &[Input<S>],
+    key: &mut Vec<u8, A>,
+) -> Result<bool, AllocError>
+    ensures { IfOk result (λ found. least_key S.current None inputs.now
+        ≡ (if found then Some key.new.items else None)) }
+{
+    let Some(least) = least(inputs) else {
+        return Ok(false);
+    };
+    key.clear();
+    key.extend_from_slice(least)?;
+    Ok(true)
+}
+
+/// Lists the pairs that wait with this key.
+fn list_all<S: SortedStream>(inputs: &mut [Input<S>], key: &[u8])
+    ensures { inputs.new ≡ map (after_key S.current key.now) inputs.old }
+{
+    for input in inputs.iter_mut() {
+        input.list_key(key);
+    }
+}
+
+/// Moves to the next row, and returns whether there is one.
+fn next_row<S: SortedStream, A: Allocator>(
+    inputs: &mut [Input<S>],
+    key: &mut Vec<u8, A>,
+) -> Result<bool, AllocError>
+    ensures { IfOk result (MergesOne
+        (all_joined (pendings S.left S.current inputs.old))
+        (key.new.items, listed_all S.current inputs.new)
+        (all_joined (pendings S.left S.current inputs.new))) }
+{
+    fetch_all(inputs)?;
+    if !take_least(inputs, key)? {
+        return Ok(false);
+    }
+    list_all(inputs, key.as_slice());
+    Ok(true)
+}
