@@ -12,12 +12,12 @@
  *         && zerotrie_get(ZEROTRIE_SIMPLE_ASCII, trie, len, (const uint8_t *)"bar", 3, &value))
  *         printf("bar is %zu, in %zu bytes\n", value, len);
  *
- * A file that the program `zerotrie build` wrote is tagged bytes: the number of the kind, then the
- * trie. Another function would take the number for the first byte of each key. Read such a file by
- * zerotrie_trie_from_tagged():
+ * A file that the program `zerotrie build` wrote is sealed, or tagged bytes: its kind stands before
+ * the trie. Another function would take that for the first bytes of each key. Read such a file by
+ * zerotrie_trie_open():
  *
  *     zerotrie_trie trie;
- *     if (zerotrie_trie_from_tagged(file, file_len, &trie) == ZEROTRIE_DONE
+ *     if (zerotrie_trie_open(file, file_len, &trie) == ZEROTRIE_DONE
  *         && zerotrie_trie_is_well_formed(trie)
  *         && zerotrie_trie_get(trie, (const uint8_t *)"bar", 3, &value))
  *         printf("bar is %zu\n", value);
@@ -40,9 +40,10 @@
  *     zerotrie_pair, for which zerotrie_bytes_of() exists, and not a place for a result. The
  *     address of a function of the library, as in `f = zerotrie_get`, is the library's own
  *     function, to which NULL may not be passed at all.
- *   - Lifetimes. A trie is only your bytes: there is nothing to open, close or free. A zerotrie_trie,
+ *   - Lifetimes. A trie is only your bytes: there is nothing to close or free. A zerotrie_trie,
  *     zerotrie_untagged(), zerotrie_cursor_run() and zerotrie_cursor_trie() point into them: use
- *     the result only while the bytes stay where they are and unchanged. A cursor has no pointer.
+ *     the result only while the bytes stay where they are and unchanged. A cursor has no pointer. A
+ *     zerotrie_search points to its texts likewise.
  *     Keys and pairs are needed during the call only.
  *   - Memory. "Allocates" marks the functions that call malloc, realloc and free. Call none of them
  *     from a signal handler, nor in the forked child of a process with threads.
@@ -139,7 +140,7 @@ typedef enum zerotrie_status ZEROTRIE_ENUM {
     /** a key has a byte of 128 or more, and the kind is for ASCII only */
     ZEROTRIE_NON_ASCII = 1,
     /** a branch would reach 2^32 bytes (not in EXTENDED_CAPACITY), or the trie 2^64;
-     * zerotrie_dense_build(): also more than 65,535 suffixes */
+     * zerotrie_dense_build(): also more than 65,535 suffixes; zerotrie_index_build(): 4 GiB */
     ZEROTRIE_CAPACITY_EXCEEDED = 2,
     /** no perfect hash was found for the edges of a branch; this is rare */
     ZEROTRIE_NO_PERFECT_HASH = 3,
@@ -147,7 +148,7 @@ typedef enum zerotrie_status ZEROTRIE_ENUM {
     ZEROTRIE_MIXED_CASE = 4,
     /** zerotrie_dense_build(): a text has the delimiter in it */
     ZEROTRIE_ILLEGAL_DELIMITER = 5,
-    /** zerotrie_build(): a key comes twice */
+    /** zerotrie_build() and zerotrie_index_build(): a key comes twice */
     ZEROTRIE_DUPLICATE_KEY = 6,
     /** zerotrie_build_sorted(): the keys don't ascend strictly by their bytes */
     ZEROTRIE_UNSORTED = 7,
@@ -170,7 +171,19 @@ typedef enum zerotrie_status ZEROTRIE_ENUM {
     /** zerotrie_dense_get(): fewer bytes than a record of a table asks for */
     ZEROTRIE_RECORD_TRUNCATED = 16,
     /** zerotrie_dense_get(): more bytes than a record of a table asks for */
-    ZEROTRIE_TRAILING_BYTES = 17
+    ZEROTRIE_TRAILING_BYTES = 17,
+    /** zerotrie_open(): the parts of a sealed file don't agree: it was cut, joined or changed */
+    ZEROTRIE_DAMAGED = 18,
+    /** zerotrie_open(): a sealed file of another version of the format */
+    ZEROTRIE_UNKNOWN_VERSION = 19,
+    /** zerotrie_search_some(): no search, or no bound, has this number */
+    ZEROTRIE_UNKNOWN_SEARCH = 20,
+    /** zerotrie_search_some(): the pattern is malformed, or the word is not UTF-8 */
+    ZEROTRIE_MALFORMED_SEARCH = 21,
+    /** zerotrie_search_some(): the pattern, the word or the number of edits is over its limit */
+    ZEROTRIE_SEARCH_TOO_LONG = 22,
+    /** zerotrie_index_build(): too many keys share a bucket under this seed; this is rare */
+    ZEROTRIE_CROWDED = 23
 } zerotrie_status;
 
 /** The rule of the format that malformed bytes break first. */
@@ -234,6 +247,48 @@ typedef struct zerotrie_cursor {
     size_t end;  /**< where that ends */
 } zerotrie_cursor;
 
+/** How a search finds keys. It compares bytes as they are stored, in IGNORE_CASE too. */
+typedef enum zerotrie_search_by ZEROTRIE_ENUM {
+    /** the keys between two bounds, in the order of bytes as memcmp has it, a shorter key first */
+    ZEROTRIE_BY_RANGE = 0,
+    /** the keys that a pattern matches: `*` is any number of bytes, `?` is one byte, `[a-z_]` is
+     * one byte of the class, and `[!a-z_]` one that is not of it. A backslash takes the meaning of
+     * the byte after it, in a class too. All other bytes are themselves. A pattern has at most 63
+     * items. */
+    ZEROTRIE_BY_GLOB = 1,
+    /** the keys that have these bytes in this order, with any bytes before, between and after */
+    ZEROTRIE_BY_SUBSEQUENCE = 2,
+    /** the keys that at most `edits` edits make of a word of at most 63 bytes. An edit inserts,
+     * deletes or changes one byte. At most 254 edits. */
+    ZEROTRIE_BY_EDITS = 3,
+    /** the same by characters, of a word in UTF-8 of at most 63 of them. No key that is not UTF-8
+     * is found. */
+    ZEROTRIE_BY_CHAR_EDITS = 4
+} zerotrie_search_by;
+
+/** What a bound of a range is. */
+typedef enum zerotrie_bound ZEROTRIE_ENUM {
+    /** there is no bound on this side */
+    ZEROTRIE_UNBOUNDED = 0,
+    /** the key of the bound is in the range: from it on, or up to it */
+    ZEROTRIE_INCLUDED = 1,
+    /** the key of the bound is not in the range: after it, or below it */
+    ZEROTRIE_EXCLUDED = 2
+} zerotrie_bound;
+
+/** What is searched, which zerotrie_range(), zerotrie_glob(), zerotrie_subsequence(),
+ * zerotrie_fuzzy() and zerotrie_fuzzy_chars() return. It has pointers to your bytes, which are
+ * never NULL. */
+typedef struct zerotrie_search {
+    zerotrie_search_by by;     /**< how the keys are found */
+    uint32_t edits;            /**< the most edits; used by EDITS and CHAR_EDITS alone */
+    zerotrie_bound from_bound; /**< what the lower bound is; used by RANGE alone */
+    zerotrie_bound to_bound;   /**< what the upper bound is; used by RANGE alone */
+    zerotrie_bytes text;       /**< the pattern, the word, the bytes, or the lower bound */
+    zerotrie_bytes to;         /**< the upper bound; used by RANGE alone */
+    bool beginnings;           /**< true: find all keys that begin with such a key, too */
+} zerotrie_search;
+
 /** Returns bytes from any pointer; NULL is no bytes. */
 ZEROTRIE_INLINE zerotrie_bytes zerotrie_bytes_of(const void *ptr, size_t len) {
     zerotrie_bytes made;
@@ -245,6 +300,63 @@ ZEROTRIE_INLINE zerotrie_bytes zerotrie_bytes_of(const void *ptr, size_t len) {
 /** The bytes of a string literal, without its end, as an initializer. */
 #define ZEROTRIE_TEXT(literal)                                                                     \
     { ZEROTRIE_POINTER(const uint8_t *, "" literal), sizeof("" literal) - 1 }
+
+/** Returns a search of one text, without edits and bounds; see zerotrie_search_by. */
+ZEROTRIE_INLINE zerotrie_search zerotrie_search_for(zerotrie_search_by by, const uint8_t *text,
+                                                    size_t text_len) {
+    zerotrie_search made;
+    made.by = by;
+    made.edits = 0;
+    made.from_bound = made.to_bound = ZEROTRIE_UNBOUNDED;
+    made.text = zerotrie_bytes_of(text, text_len);
+    made.to = zerotrie_bytes_of("", 0);
+    made.beginnings = false;
+    return made;
+}
+
+/**
+ * Returns a search for the keys between two bounds; see ZEROTRIE_BY_RANGE. A key that bounds
+ * nothing may be NULL with the length 0.
+ *
+ *     zerotrie_range(ZEROTRIE_INCLUDED, (const uint8_t *)"b", 1, ZEROTRIE_UNBOUNDED, NULL, 0)
+ */
+ZEROTRIE_INLINE zerotrie_search zerotrie_range(zerotrie_bound from_bound, const uint8_t *from,
+                                               size_t from_len, zerotrie_bound to_bound,
+                                               const uint8_t *to, size_t to_len) {
+    zerotrie_search made = zerotrie_search_for(ZEROTRIE_BY_RANGE, from, from_len);
+    made.from_bound = from_bound;
+    made.to_bound = to_bound;
+    made.to = zerotrie_bytes_of(to, to_len);
+    return made;
+}
+
+/** Returns a search for the keys that a pattern matches, as "s*ing"; see ZEROTRIE_BY_GLOB. */
+ZEROTRIE_INLINE zerotrie_search zerotrie_glob(const uint8_t *pattern, size_t pattern_len) {
+    return zerotrie_search_for(ZEROTRIE_BY_GLOB, pattern, pattern_len);
+}
+
+/** Returns a search for the keys that have these bytes in this order; see
+ * ZEROTRIE_BY_SUBSEQUENCE. */
+ZEROTRIE_INLINE zerotrie_search zerotrie_subsequence(const uint8_t *letters, size_t letters_len) {
+    return zerotrie_search_for(ZEROTRIE_BY_SUBSEQUENCE, letters, letters_len);
+}
+
+/** Returns a search for the keys that at most `edits` edits of bytes make of a word; see
+ * ZEROTRIE_BY_EDITS. */
+ZEROTRIE_INLINE zerotrie_search zerotrie_fuzzy(const uint8_t *word, size_t word_len,
+                                               uint32_t edits) {
+    zerotrie_search made = zerotrie_search_for(ZEROTRIE_BY_EDITS, word, word_len);
+    made.edits = edits;
+    return made;
+}
+
+/** The same by characters of UTF-8; see ZEROTRIE_BY_CHAR_EDITS. */
+ZEROTRIE_INLINE zerotrie_search zerotrie_fuzzy_chars(const uint8_t *word, size_t word_len,
+                                                     uint32_t edits) {
+    zerotrie_search made = zerotrie_search_for(ZEROTRIE_BY_CHAR_EDITS, word, word_len);
+    made.edits = edits;
+    return made;
+}
 
 /** Returns the version of the library as one number, as ZEROTRIE_VERSION. */
 uint32_t zerotrie_version(void);
@@ -380,6 +492,23 @@ ZEROTRIE_INLINE zerotrie_bytes zerotrie_cursor_trie(const uint8_t *bytes, size_t
  */
 ZEROTRIE_ANSWERS
 zerotrie_status zerotrie_tagged_kind(const uint8_t *tagged, size_t len, uint32_t *kind);
+
+/**
+ * Finds the trie in a file, which is sealed or tagged bytes: see zerotrie_seal() and
+ * zerotrie_tagged(). Sets *kind to its kind, *at to where its bytes begin and *trie_len to their
+ * number: they are in the file, whatever the bytes are. zerotrie_trie_open() returns them as one
+ * value.
+ *
+ * A sealed file is taken exactly if zerotrie_seal() of some kind and bytes writes it, and these are
+ * what is found. If it begins as one but its parts don't agree, the result is ZEROTRIE_DAMAGED, or
+ * ZEROTRIE_UNKNOWN_VERSION if it says another version of the format. For other bytes it is as in
+ * zerotrie_tagged_kind(): ZEROTRIE_NO_TAG or ZEROTRIE_INVALID_TAG. All three numbers stay then. The
+ * trie is not validated: zerotrie_is_well_formed() does that. After a seal that was right its bytes
+ * are those that were sealed. A call costs the checksum, and does not allocate.
+ */
+ZEROTRIE_ANSWERS
+zerotrie_status zerotrie_open(const uint8_t *file, size_t len, uint32_t *kind, size_t *at,
+                              size_t *trie_len);
 /** @} */
 
 /** @name Faults
@@ -464,6 +593,16 @@ zerotrie_kind zerotrie_auto_kind(const zerotrie_pair *pairs, size_t count);
 ZEROTRIE_ANSWERS
 zerotrie_status zerotrie_tagged(zerotrie_kind_number kind, const uint8_t *bytes, size_t len,
                                 uint8_t *out, size_t out_len, size_t *tagged_len);
+
+/** Writes a sealed file to `out`, which knows when it is damaged: ZEROTRIE_SEAL_LEN bytes, with the
+ * kind, the length and a checksum, and then the bytes. zerotrie_open() reads it. The bytes are not
+ * validated. ZEROTRIE_DONE and ZEROTRIE_BUFFER_TOO_SMALL as in a build. Does not allocate. */
+ZEROTRIE_ANSWERS
+zerotrie_status zerotrie_seal(zerotrie_kind_number kind, const uint8_t *bytes, size_t len,
+                              uint8_t *out, size_t out_len, size_t *sealed_len);
+
+/** The number of bytes in front of the trie in a sealed file. */
+#define ZEROTRIE_SEAL_LEN 24
 /** @} */
 
 /** @name Dense tables
@@ -563,6 +702,75 @@ zerotrie_status zerotrie_list_some(zerotrie_kind_number kind, const uint8_t *byt
                                    const uint8_t *last, size_t last_len, uint8_t *keys,
                                    size_t keys_len, size_t *ends, size_t ends_len, size_t *values,
                                    size_t values_len, size_t *count, size_t *next_len);
+
+/**
+ * Lists the next pairs whose keys begin with the prefix and are found by the search, which reads
+ * the whole key. All else is as in zerotrie_list_some(), also for malformed bytes: the rooms,
+ * `goes_on` and `last`, *count, *next_len and the status. With these statuses too nothing is
+ * written: ZEROTRIE_UNKNOWN_SEARCH, if no search or no bound that it uses has its number;
+ * ZEROTRIE_MALFORMED_SEARCH, of a pattern where a class has no end or no byte, or the last byte is
+ * a backslash that escapes nothing, or of a word that is not UTF-8; ZEROTRIE_SEARCH_TOO_LONG, of a
+ * pattern of more than 63 items, or of a word of more than 63 bytes or characters, or of more than
+ * 254 edits.
+ *
+ *     zerotrie_search near = zerotrie_fuzzy((const uint8_t *)"exampel", 7, 1);
+ *     status = zerotrie_search_some(kind, trie, len, NULL, 0, &near, false, NULL, 0, keys,
+ *                                   sizeof keys, ends, 10, values, 10, &count, &next_len);
+ *
+ * It reads the keys node by node, and passes over those that begin as no key that is found does. So
+ * a call costs a look-up of `last` and what it reads: of a range about what it lists, of a pattern
+ * or a word with few edits a small part of the trie. Allocates as zerotrie_list_some(), and one
+ * state for each byte of the longest key.
+ */
+ZEROTRIE_ANSWERS
+zerotrie_status zerotrie_search_some(zerotrie_kind_number kind, const uint8_t *bytes, size_t len,
+                                     const uint8_t *prefix, size_t prefix_len,
+                                     const zerotrie_search *search, bool goes_on,
+                                     const uint8_t *last, size_t last_len, uint8_t *keys,
+                                     size_t keys_len, size_t *ends, size_t ends_len, size_t *values,
+                                     size_t values_len, size_t *count, size_t *next_len);
+/** @} */
+
+/** @name Indexes
+ * An index is a map for exact look-ups alone, as bytes of its own that are read in place: larger
+ * than a trie, and faster. Its keys are any bytes. Statements about keys hold for bytes that
+ * zerotrie_index_build() wrote, and for those from elsewhere for which zerotrie_index_is_valid()
+ * returned true. On other bytes each function still returns, and reads nothing outside them. */
+/** @{ */
+
+/** Returns whether the index has the key, and then sets *value to its value; otherwise *value
+ * stays. Does not allocate. */
+ZEROTRIE_ANSWERS
+bool zerotrie_index_get(const uint8_t *bytes, size_t len, const uint8_t *key, size_t key_len,
+                        size_t *value);
+
+/** Returns whether the bytes are a valid index. Does not allocate. */
+ZEROTRIE_ANSWERS
+bool zerotrie_index_is_valid(const uint8_t *bytes, size_t len);
+
+/**
+ * Builds the index of pairs in any order. Allocates.
+ *
+ * ZEROTRIE_DONE: it is the first *len bytes of `out`, and the rest stays.
+ * ZEROTRIE_BUFFER_TOO_SMALL: it has *len bytes, more than `out_len`, and `out` stays; call again
+ * with as many. Otherwise nothing is written: ZEROTRIE_DUPLICATE_KEY; ZEROTRIE_CROWDED: build from
+ * another seed; ZEROTRIE_CAPACITY_EXCEEDED, of keys and values of 4 GiB or more; or
+ * ZEROTRIE_OUT_OF_MEMORY.
+ *
+ * The seed is any number. Keys that somebody chose for the seed can make a build ZEROTRIE_CROWDED,
+ * and no look-up slow. So take 0, or a random number if the keys come from elsewhere.
+ */
+ZEROTRIE_ANSWERS
+zerotrie_status zerotrie_index_build(uint64_t seed, const zerotrie_pair *pairs, size_t count,
+                                     uint8_t *out, size_t out_len, size_t *len);
+
+/** The same of keys that are one after another, each up to its end, as in zerotrie_build_many().
+ * Allocates. */
+ZEROTRIE_ANSWERS
+zerotrie_status zerotrie_index_build_many(uint64_t seed, const uint8_t *keys, size_t keys_len,
+                                          const size_t *ends, size_t ends_len, const size_t *values,
+                                          size_t values_len, uint8_t *out, size_t out_len,
+                                          size_t *len);
 /** @} */
 
 /** @cond */
@@ -570,7 +778,9 @@ zerotrie_status zerotrie_list_some(zerotrie_kind_number kind, const uint8_t *byt
  * -fshort-enums. */
 typedef char zerotrie_enums_have_32_bits[sizeof(zerotrie_kind) == 4 &&
                                                  sizeof(zerotrie_status) == 4 &&
-                                                 sizeof(zerotrie_fault) == 4
+                                                 sizeof(zerotrie_fault) == 4 &&
+                                                 sizeof(zerotrie_search_by) == 4 &&
+                                                 sizeof(zerotrie_bound) == 4
                                              ? 1
                                              : -1];
 
@@ -709,6 +919,16 @@ ZEROTRIE_INLINE zerotrie_status zerotrie_tagged_kind_or_null(const uint8_t *tagg
 #define zerotrie_tagged_kind(...) zerotrie_tagged_kind_or_null(__VA_ARGS__)
 
 ZEROTRIE_MUST_USE
+ZEROTRIE_NEEDS((3, 4, 5))
+ZEROTRIE_INLINE zerotrie_status zerotrie_open_or_null(const uint8_t *file, size_t len,
+                                                      uint32_t *kind, size_t *at,
+                                                      size_t *trie_len) {
+    const uint8_t no_byte = 0;
+    return zerotrie_open(ZEROTRIE_SOME(file, &no_byte), len, kind, at, trie_len);
+}
+#define zerotrie_open(...) zerotrie_open_or_null(__VA_ARGS__)
+
+ZEROTRIE_MUST_USE
 ZEROTRIE_NEEDS((4))
 ZEROTRIE_INLINE zerotrie_fault zerotrie_first_fault_or_null(zerotrie_kind_number kind,
                                                             const uint8_t *bytes, size_t len,
@@ -807,6 +1027,19 @@ ZEROTRIE_INLINE zerotrie_status zerotrie_tagged_or_null(zerotrie_kind_number kin
 #define zerotrie_tagged(...) zerotrie_tagged_or_null(__VA_ARGS__)
 
 ZEROTRIE_MUST_USE
+ZEROTRIE_NEEDS((6))
+ZEROTRIE_INLINE zerotrie_status zerotrie_seal_or_null(zerotrie_kind_number kind,
+                                                      const uint8_t *bytes, size_t len,
+                                                      uint8_t *out, size_t out_len,
+                                                      size_t *sealed_len) {
+    const uint8_t no_byte = 0;
+    uint8_t byte;
+    return zerotrie_seal(kind, ZEROTRIE_SOME(bytes, &no_byte), len, ZEROTRIE_SOME(out, &byte),
+                         out_len, sealed_len);
+}
+#define zerotrie_seal(...) zerotrie_seal_or_null(__VA_ARGS__)
+
+ZEROTRIE_MUST_USE
 ZEROTRIE_NEEDS((7))
 ZEROTRIE_INLINE zerotrie_status zerotrie_dense_get_or_null(const uint8_t *record, size_t len,
                                                            const uint8_t *prefix, size_t prefix_len,
@@ -869,6 +1102,70 @@ ZEROTRIE_INLINE zerotrie_status zerotrie_list_some_or_null(
                               ZEROTRIE_SOME(values, &number), values_len, count, next_len);
 }
 #define zerotrie_list_some(...) zerotrie_list_some_or_null(__VA_ARGS__)
+
+ZEROTRIE_MUST_USE
+ZEROTRIE_NEEDS((6, 16, 17))
+ZEROTRIE_INLINE zerotrie_status zerotrie_search_some_or_null(
+    zerotrie_kind_number kind, const uint8_t *bytes, size_t len, const uint8_t *prefix,
+    size_t prefix_len, const zerotrie_search *search, bool goes_on, const uint8_t *last,
+    size_t last_len, uint8_t *keys, size_t keys_len, size_t *ends, size_t ends_len, size_t *values,
+    size_t values_len, size_t *count, size_t *next_len) {
+    const uint8_t no_byte = 0;
+    uint8_t byte;
+    size_t number;
+    return zerotrie_search_some(kind, ZEROTRIE_SOME(bytes, &no_byte), len,
+                                ZEROTRIE_SOME(prefix, &no_byte), prefix_len, search, goes_on,
+                                ZEROTRIE_SOME(last, &no_byte), last_len, ZEROTRIE_SOME(keys, &byte),
+                                keys_len, ZEROTRIE_SOME(ends, &number), ends_len,
+                                ZEROTRIE_SOME(values, &number), values_len, count, next_len);
+}
+#define zerotrie_search_some(...) zerotrie_search_some_or_null(__VA_ARGS__)
+
+ZEROTRIE_MUST_USE
+ZEROTRIE_NEEDS((5))
+ZEROTRIE_INLINE bool zerotrie_index_get_or_null(const uint8_t *bytes, size_t len,
+                                                const uint8_t *key, size_t key_len, size_t *value) {
+    const uint8_t no_byte = 0;
+    return zerotrie_index_get(ZEROTRIE_SOME(bytes, &no_byte), len, ZEROTRIE_SOME(key, &no_byte),
+                              key_len, value);
+}
+#define zerotrie_index_get(...) zerotrie_index_get_or_null(__VA_ARGS__)
+
+ZEROTRIE_MUST_USE
+ZEROTRIE_INLINE bool zerotrie_index_is_valid_or_null(const uint8_t *bytes, size_t len) {
+    const uint8_t no_byte = 0;
+    return zerotrie_index_is_valid(ZEROTRIE_SOME(bytes, &no_byte), len);
+}
+#define zerotrie_index_is_valid(...) zerotrie_index_is_valid_or_null(__VA_ARGS__)
+
+ZEROTRIE_MUST_USE
+ZEROTRIE_NEEDS((6))
+ZEROTRIE_INLINE zerotrie_status zerotrie_index_build_or_null(uint64_t seed,
+                                                             const zerotrie_pair *pairs,
+                                                             size_t count, uint8_t *out,
+                                                             size_t out_len, size_t *len) {
+    const uint8_t no_byte = 0;
+    const zerotrie_pair no_pair = { { &no_byte, 0 }, 0 };
+    uint8_t byte;
+    return zerotrie_index_build(seed, ZEROTRIE_SOME(pairs, &no_pair), count,
+                                ZEROTRIE_SOME(out, &byte), out_len, len);
+}
+#define zerotrie_index_build(...) zerotrie_index_build_or_null(__VA_ARGS__)
+
+ZEROTRIE_MUST_USE
+ZEROTRIE_NEEDS((10))
+ZEROTRIE_INLINE zerotrie_status zerotrie_index_build_many_or_null(
+    uint64_t seed, const uint8_t *keys, size_t keys_len, const size_t *ends, size_t ends_len,
+    const size_t *values, size_t values_len, uint8_t *out, size_t out_len, size_t *len) {
+    const uint8_t no_byte = 0;
+    const size_t no_number = 0;
+    uint8_t byte;
+    return zerotrie_index_build_many(seed, ZEROTRIE_SOME(keys, &no_byte), keys_len,
+                                     ZEROTRIE_SOME(ends, &no_number), ends_len,
+                                     ZEROTRIE_SOME(values, &no_number), values_len,
+                                     ZEROTRIE_SOME(out, &byte), out_len, len);
+}
+#define zerotrie_index_build_many(...) zerotrie_index_build_many_or_null(__VA_ARGS__)
 /** @endcond */
 
 /** @name A trie as one value */
@@ -911,6 +1208,20 @@ ZEROTRIE_INLINE zerotrie_status zerotrie_trie_from_tagged(const uint8_t *tagged,
     const zerotrie_status status = zerotrie_tagged_kind(tagged, len, &kind);
     if (status == ZEROTRIE_DONE)
         *trie = zerotrie_trie_of(ZEROTRIE_AS_KIND(kind), tagged + 1, len - 1);
+    return status;
+}
+
+/** Sets *trie to the trie in a file that is sealed or tagged bytes, in place. It is not validated.
+ * See zerotrie_open(). With another status than ZEROTRIE_DONE *trie stays. */
+ZEROTRIE_MUST_USE
+ZEROTRIE_NEEDS((3))
+ZEROTRIE_INLINE zerotrie_status zerotrie_trie_open(const uint8_t *file, size_t len,
+                                                   zerotrie_trie *trie) {
+    uint32_t kind = 0;
+    size_t at = 0, trie_len = 0;
+    const zerotrie_status status = zerotrie_open(file, len, &kind, &at, &trie_len);
+    if (status == ZEROTRIE_DONE)
+        *trie = zerotrie_trie_of(ZEROTRIE_AS_KIND(kind), file + at, trie_len);
     return status;
 }
 
@@ -1027,8 +1338,10 @@ ZEROTRIE_INLINE bool zerotrie_trie_probe(zerotrie_trie trie, zerotrie_cursor *cu
  * *)zerotrie_listing_key(&part, i).ptr, values[i]);
  */
 typedef struct zerotrie_listing {
-    zerotrie_trie trie;    /**< the trie */
-    zerotrie_bytes prefix; /**< what the keys begin with */
+    zerotrie_trie trie;     /**< the trie */
+    zerotrie_bytes prefix;  /**< what the keys begin with */
+    zerotrie_search search; /**< what finds the keys, if it searches */
+    bool searches;          /**< whether it searches, or lists all */
     uint8_t *room; /**< room for keys: one half for those of a part, the other for those of the part
                       before */
     size_t room_len;     /**< its bytes */
@@ -1040,7 +1353,8 @@ typedef struct zerotrie_listing {
     size_t next_len; /**< with ZEROTRIE_BUFFER_TOO_SMALL the length of the key that comes next */
     size_t listed;   /**< the number of pairs of all parts so far */
     zerotrie_bytes last;    /**< the last key of the part */
-    zerotrie_status status; /**< what the part came to, as zerotrie_list_some() returned it */
+    zerotrie_status status; /**< what the part came to, as zerotrie_list_some() or
+                               zerotrie_search_some() returned it */
 } zerotrie_listing;
 
 /** Returns a listing of the pairs whose keys begin with a prefix, before its first part. The key of
@@ -1052,6 +1366,8 @@ ZEROTRIE_INLINE zerotrie_listing zerotrie_listing_of(zerotrie_trie trie, const u
     zerotrie_listing made;
     made.trie = trie;
     made.prefix = zerotrie_bytes_of(prefix, prefix_len);
+    made.search = zerotrie_search_for(ZEROTRIE_BY_RANGE, prefix, 0);
+    made.searches = false;
     made.room = room;
     made.room_len = room_len;
     made.ends = ends;
@@ -1061,6 +1377,24 @@ ZEROTRIE_INLINE zerotrie_listing zerotrie_listing_of(zerotrie_trie trie, const u
     made.count = made.next_len = made.listed = 0;
     made.last = zerotrie_bytes_of("", 0);
     made.status = ZEROTRIE_BUFFER_TOO_SMALL;
+    return made;
+}
+
+/**
+ * Returns a listing of the pairs whose keys a search finds, before its first part.
+ *
+ *     zerotrie_listing part = zerotrie_listing_by(trie, zerotrie_glob(pattern, pattern_len), room,
+ *                                                 sizeof room, ends, values, 10);
+ *
+ * For keys that begin with a prefix too, set `prefix` of what it returns.
+ */
+ZEROTRIE_INLINE zerotrie_listing zerotrie_listing_by(zerotrie_trie trie, zerotrie_search search,
+                                                     uint8_t *room, size_t room_len, size_t *ends,
+                                                     size_t *values, size_t places) {
+    zerotrie_listing made =
+        zerotrie_listing_of(trie, room, 0, room, room_len, ends, values, places);
+    made.search = search;
+    made.searches = true;
     return made;
 }
 
@@ -1088,11 +1422,18 @@ ZEROTRIE_INLINE bool zerotrie_listing_next(zerotrie_listing *listing) {
         listing->status = ZEROTRIE_DONE;
         return false;
     }
-    listing->status = zerotrie_list_some(
-        listing->trie.kind, listing->trie.bytes.ptr, listing->trie.bytes.len, listing->prefix.ptr,
-        listing->prefix.len, listing->listed > 0, listing->last.ptr, listing->last.len, keys, half,
-        listing->ends, listing->places, listing->values, listing->places, &listing->count,
-        &listing->next_len);
+    listing->status =
+        listing->searches
+            ? zerotrie_search_some(
+                  listing->trie.kind, listing->trie.bytes.ptr, listing->trie.bytes.len,
+                  listing->prefix.ptr, listing->prefix.len, &listing->search, listing->listed > 0,
+                  listing->last.ptr, listing->last.len, keys, half, listing->ends, listing->places,
+                  listing->values, listing->places, &listing->count, &listing->next_len)
+            : zerotrie_list_some(listing->trie.kind, listing->trie.bytes.ptr,
+                                 listing->trie.bytes.len, listing->prefix.ptr, listing->prefix.len,
+                                 listing->listed > 0, listing->last.ptr, listing->last.len, keys,
+                                 half, listing->ends, listing->places, listing->values,
+                                 listing->places, &listing->count, &listing->next_len);
     listing->keys = keys;
     listing->listed += listing->count;
     if (listing->count > 0) listing->last = zerotrie_listing_key(listing, listing->count - 1);
@@ -1135,6 +1476,15 @@ ZEROTRIE_INLINE const char *zerotrie_status_text(uint32_t status) {
     case ZEROTRIE_NO_ENTRY: return "the table has no such entry";
     case ZEROTRIE_RECORD_TRUNCATED: return "the record is cut: give all of its bytes";
     case ZEROTRIE_TRAILING_BYTES: return "bytes follow the record: give its bytes alone";
+    case ZEROTRIE_DAMAGED: return "the sealed file is damaged: get it anew";
+    case ZEROTRIE_UNKNOWN_VERSION:
+        return "the sealed file has another version of the format: take a library that knows it";
+    case ZEROTRIE_UNKNOWN_SEARCH: return "no search, or no bound, has the number";
+    case ZEROTRIE_MALFORMED_SEARCH: return "the pattern is malformed, or the word is not UTF-8";
+    case ZEROTRIE_SEARCH_TOO_LONG:
+        return "a pattern has at most 63 items, a word at most 63 letters, and at most 254 edits "
+               "are allowed";
+    case ZEROTRIE_CROWDED: return "too many keys share a bucket: build from another seed";
     default: return "Unknown status";
     }
 }

@@ -10,10 +10,11 @@ import subprocess
 import sys
 
 here, library = pathlib.Path(sys.argv[1]), sys.argv[2] if len(sys.argv) > 2 else None
-NUMBERS = {"u8": 1, "u16": 2, "u32": 4, "usize": 8, "bool": "bool", "Bytes": 16, "Cursor": 24, "CursorPlace": 24, "Pair": 24}
-C_NUMBERS = {"uint8_t": 1, "uint16_t": 2, "uint32_t": 4, "size_t": 8, "bool": "bool", "void": None,
+NUMBERS = {"u8": 1, "u16": 2, "u32": 4, "u64": 8, "usize": 8, "bool": "bool", "Bytes": 16, "Cursor": 24, "CursorPlace": 24, "Pair": 24,
+           "Search": 56}
+C_NUMBERS = {"uint8_t": 1, "uint16_t": 2, "uint32_t": 4, "uint64_t": 8, "size_t": 8, "bool": "bool", "void": None,
              "zerotrie_kind": 4, "zerotrie_kind_number": 4, "zerotrie_status": 4, "zerotrie_fault": 4,
-             "zerotrie_bytes": 16, "zerotrie_cursor": 24, "zerotrie_pair": 24}
+             "zerotrie_bytes": 16, "zerotrie_cursor": 24, "zerotrie_pair": 24, "zerotrie_search": 56}
 #: what the texts of errors say to programs in other languages, in place of what they say to those in Rattle
 IN_OTHER_WORDS = {
     "take one of this many bytes: {0}": "take a smaller one",
@@ -134,7 +135,7 @@ def statuses():
     by_name = texts_of(header, "status")
     cases = [name for name in by_name if name in numbers]
     texts = [by_name[name] for name in sorted(cases, key=numbers.get)]
-    assert len(texts) == len(by_name) == 18 and [numbers[name] for name in cases] == [*range(18)], by_name
+    assert len(texts) == len(by_name) == 24 and [numbers[name] for name in cases] == [*range(24)], by_name
     errors = re.findall(r'#\[error\("(.*?)"\)\]\n\s+(\w+)', (here / "../crates/zerotrie_base/src/error.rt").read_text())
     for number, (text, name) in enumerate(errors, 1):
         for word, instead in IN_OTHER_WORDS.items():

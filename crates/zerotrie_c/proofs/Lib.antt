@@ -8,3 +8,4 @@ pub mod Parts
 mod FlatLemmas
 mod FrontsLemmas
 mod BoundLemmas
+mod FileLemmas

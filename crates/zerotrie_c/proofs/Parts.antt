@@ -64,6 +64,10 @@ pub values_len : (ps : Pairs) → length (values_of ps) ≡ length ps
 values_len [] = refl
 values_len (p ∷ ps) = ap suc (values_len ps)
 
+-- nothing is written
+pub nothing_written : (keys ends values : List ℕ) → IsWritten [] keys keys ends ends values values
+nothing_written keys ends values = record { keys_are = (omega arith, refl); ends_are = (omega arith, refl); values_are = (omega arith, refl) }
+
 -- Of the pairs these are left, and the others are written.
 pub record Going (pairs left : Pairs) (old_keys keys old_ends ends old_values values : List ℕ) (count used : ℕ) : Type 0 where
   pub written : Pairs

@@ -25,9 +25,12 @@ IsHandedOut bytes status len old out = (len ≡ length bytes)
     ⊎ ((status ≡ status_of BufferTooSmall) × (length old < length bytes) × (out ≡ old)))
 
 -- what an answer of a build is told as: a refusal by its number, and then nothing is written
+abbrev pub IsToldBy : {E : Type 0} → (E → ℕ) → Result (List ℕ) E → ℕ → ℕ → ℕ → List ℕ → List ℕ → Type 0
+IsToldBy number (Ok bytes) status old_len len old out = IsHandedOut bytes status len old out
+IsToldBy number (Err e) status old_len len old out = (status ≡ number e) × (len ≡ old_len) × (out ≡ old)
+
 abbrev pub IsTold : Result (List ℕ) ZeroTrieBuildError → ℕ → ℕ → ℕ → List ℕ → List ℕ → Type 0
-IsTold (Ok bytes) status old_len len old out = IsHandedOut bytes status len old out
-IsTold (Err e) status old_len len old out = (status ≡ status_of e) × (len ≡ old_len) × (out ≡ old)
+IsTold answer status old_len len old out = IsToldBy status_of answer status old_len len old out
 
 -- what C is told of a build of the pairs by the route: an answer that it may have
 abbrev pub IsBuildTold : Route → Kind → Pairs → ℕ → ℕ → ℕ → List ℕ → List ℕ → Type 0

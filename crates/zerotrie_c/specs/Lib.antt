@@ -7,6 +7,9 @@ pub mod Refusals
 pub mod FaultNumbers
 pub mod Fronts
 pub mod Tags
+pub mod Files
 pub mod Listed
+pub mod Searched
 pub mod Entries
 pub mod Dense
+pub mod Indexes

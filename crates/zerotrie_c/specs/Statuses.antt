@@ -43,3 +43,24 @@ record_truncated = 16
 
 abbrev pub trailing_bytes : ℕ
 trailing_bytes = 17
+
+-- a file begins as a sealed one, and its parts do not agree; or it has another version of the format
+abbrev pub damaged : ℕ
+damaged = 18
+
+abbrev pub unknown_version : ℕ
+unknown_version = 19
+
+-- no search, or no bound, has the number; a text is not one of the search; a text or a number is over its limit
+abbrev pub unknown_search : ℕ
+unknown_search = 20
+
+abbrev pub malformed_search : ℕ
+malformed_search = 21
+
+abbrev pub search_too_long : ℕ
+search_too_long = 22
+
+-- too many keys of an index share a bucket
+abbrev pub crowded : ℕ
+crowded = 23

@@ -15,7 +15,7 @@ use zerotrie_any::bytes_from_unsorted_slice;
 use zerotrie_core::{ZeroTrieBuildError, ZeroTrieWithOptions, by_kind};
 
 /// Returns the pairs as items. The keys are borrowed.
-fn items_between<'k>(
+pub fn items_between<'k>(
     alloc: Global,
     keys: &'k [u8],
     ends: &[usize],

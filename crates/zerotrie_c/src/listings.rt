@@ -3,7 +3,7 @@
 ghost use Rattle.std.specs.Prelude.{◌≡◌, ◌≤◌, ◌+◌, ◌++◌, ◌&&◌, length, take, drop, IfOk, IfErr, IfSome, IfNone};
 ghost use Rattle.zerotrie_core.specs.Maps.{Pairs, beginning};
 ghost use Rattle.zerotrie_core.specs.Texts.{Lists};
-ghost use Rattle.zerotrie_core.specs.Listings.{to_come};
+ghost use Rattle.zerotrie_core.specs.Listings.{Left, Standing, ListsOne, MemoryOnly, item_of, to_come};
 ghost use Rattle.zerotrie_core.specs.declared.listing.ListError.TheVariants.{OutOfMemory};
 ghost use Rattle.zerotrie_c.specs.Numbers.{kind_of};
 ghost use Rattle.zerotrie_c.specs.Statuses.{unknown_kind};
@@ -183,16 +183,56 @@ fn put_at(bytes: &[u8], room: &mut [u8], place: usize)
     part.copy_from_slice(bytes);
 }
 
-/// Writes the next pairs of a stream, as many as the rooms have places for.
-fn write_some(
-    mut pairs: ZeroTrieStream<'_>,
+/// Pairs that come one after another, as those of a stream and of a search do.
+pub trait Listing {
+    // What it has in hand.
+    ghost standing: { Self → Standing };
+
+    // What is left of it.
+    ghost left: { Self → Left };
+
+    /// Moves to the next pair, and returns whether there is one.
+    fn advance(&mut self) -> Result<bool, AllocError>
+        ensures { ListsOne (λ key. key) MemoryOnly (left self.old)
+            (item_of result (standing self.new)) (left self.new) };
+
+    /// Returns the key of the current pair.
+    fn key(&self) -> &[u8]
+        ensures { result.now ≡ (standing self.now).key };
+
+    /// Returns the value of the current pair.
+    fn value(&self) -> usize
+        ensures { result ≡ (standing self.now).value };
+}
+
+impl<'a> Listing for ZeroTrieStream<'a> {
+    ghost standing = { λ s. s };
+
+    ghost left = { λ s. s.left };
+
+    fn advance(&mut self) -> Result<bool, AllocError> {
+        ZeroTrieStream::advance(self)
+    }
+
+    fn key(&self) -> &[u8] {
+        ZeroTrieStream::key(self)
+    }
+
+    fn value(&self) -> usize {
+        ZeroTrieStream::value(self)
+    }
+}
+
+/// Writes the next pairs of a listing, as many as the rooms have places for.
+pub fn write_some<L: Listing + Drop>(
+    mut pairs: L,
     keys: &mut [u8],
     ends: &mut [usize],
     values: &mut [usize],
     count: &mut usize,
     next_len: &mut usize,
 ) -> u32
-    ensures { IsListedSome pairs.entry.left.pairs result keys.old keys.new ends.old ends.new
+    ensures { IsListedSome (L.left pairs).pairs result keys.old keys.new ends.old ends.new
         values.old values.new count.new next_len.old next_len.new }
 {
     *count = 0;
@@ -221,7 +261,7 @@ fn write_some(
 }
 
 /// Returns the pairs of a prefix that are left of a listing.
-fn left_of<'a, K: ZeroTrieWithOptions>(
+pub fn left_of<'a, K: ZeroTrieWithOptions>(
     alloc: Global,
     bytes: &'a [u8],
     prefix: &[u8],

@@ -49,6 +49,24 @@ pub const RECORD_TRUNCATED: u32 = 16;
 /// Bytes follow the record of a table.
 pub const TRAILING_BYTES: u32 = 17;
 
+/// The parts of a sealed file do not agree.
+pub const DAMAGED: u32 = 18;
+
+/// A sealed file has another version of the format.
+pub const UNKNOWN_VERSION: u32 = 19;
+
+/// No search, or no bound, has this number.
+pub const UNKNOWN_SEARCH: u32 = 20;
+
+/// A pattern is malformed, or a word is not UTF-8.
+pub const MALFORMED_SEARCH: u32 = 21;
+
+/// A pattern, a word or a number of edits is over its limit.
+pub const SEARCH_TOO_LONG: u32 = 22;
+
+/// Too many keys of an index share a bucket.
+pub const CROWDED: u32 = 23;
+
 /// Returns the status of a build error.
 pub fn status_of(error: ZeroTrieBuildError) -> u32
     ensures { result ≡ status_of error }

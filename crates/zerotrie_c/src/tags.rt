@@ -1,6 +1,6 @@
 //! Tagged bytes, which begin with the number of a kind, and the validation of bytes.
 
-ghost use Rattle.std.specs.Prelude.{◌≡◌, ◌↔◌, ◌<◌, ◌+◌, ◌∷◌, ◌++◌, length, drop, false, IfSome, IfNone, IsTrue};
+ghost use Rattle.std.specs.Prelude.{◌≡◌, ◌↔◌, ◌≤◌, ◌+◌, ◌++◌, length, drop, false, IfSome, IfNone, IsTrue};
 ghost use Rattle.zerotrie_any.specs.Tagged.{tagged};
 ghost use Rattle.zerotrie_core.specs.WellFormed.{IsWellFormed};
 ghost use Rattle.zerotrie_c.specs.Numbers.{kind_of};
@@ -24,13 +24,16 @@ pub extern "C" fn zerotrie_is_well_formed(kind: u32, bytes: &[u8]) -> bool
     }
 }
 
-/// Copies a byte and others after it to the beginning of the room, which has enough.
-fn put_behind(first: u8, bytes: &[u8], out: &mut [u8])
-    requires { length bytes.now < length out.old }
-    ensures { out.new ≡ first ∷ bytes.now ++ drop (length bytes.now + 1) out.old }
+/// Copies bytes and others after them to the beginning of the room, which has enough.
+pub fn put_both(front: &[u8], behind: &[u8], out: &mut [u8])
+    requires { length front.now + length behind.now ≤ length out.old }
+    ensures { out.new ≡ (front.now ++ behind.now)
+        ++ drop (length front.now + length behind.now) out.old }
 {
-    out[0] = first;
-    out[1..bytes.len() + 1].copy_from_slice(bytes);
+    let (first, rest) = out.split_at_mut(front.len());
+    first.copy_from_slice(front);
+    let (second, _) = rest.split_at_mut(behind.len());
+    second.copy_from_slice(behind);
 }
 
 /// Writes the number of the kind and the bytes to the beginning of `out`, if there is room, and
@@ -49,7 +52,7 @@ pub extern "C" fn zerotrie_tagged(kind: u32, bytes: &[u8], out: &mut [u8], len: 
     if out.len() <= bytes.len() {
         return BUFFER_TOO_SMALL;
     }
-    put_behind(kind as u8, bytes, out);
+    put_both(&[kind as u8], bytes, out);
     DONE
 }
 

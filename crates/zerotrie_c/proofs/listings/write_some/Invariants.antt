@@ -3,12 +3,12 @@ use Rattle.zerotrie_c.proofs.Parts.{Going}
 use Rattle.zerotrie_c.proofs.listings.write_some.Given as goal
 
 abbrev pub invariant-loop-next_len : goal.invariant-loop-next_len
-invariant-loop-next_len l = record {
+invariant-loop-next_len g l = record {
   within : l.used ≤ length l.keys;
   few : l.count ≤ l.room;
   untold : l.next_len ≡ l.initial.next_len;
-  going : Going l.fn.pairs.left.pairs l.pairs.left.pairs l.initial.keys l.keys l.initial.ends l.ends l.initial.values l.values l.count l.used;
+  going : Going (g.L.Listing.left l.fn.pairs).pairs (g.L.Listing.left l.pairs).pairs l.initial.keys l.keys l.initial.ends l.ends l.initial.values l.values l.count l.used;
 }
 
 abbrev pub decreases-loop-next_len : goal.decreases-loop-next_len
-decreases-loop-next_len l = l.room - l.count
+decreases-loop-next_len g l = l.room - l.count

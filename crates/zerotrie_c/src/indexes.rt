@@ -1,0 +1,118 @@
+//! Indexes.
+
+ghost use Rattle.std.specs.Prelude.{◌≡◌, ◌↔◌, false, IsTrue};
+ghost use Rattle.zerotrie_core.specs.Kind.{simple_ascii};
+ghost use Rattle.zerotrie_core.specs.Maps.{Pairs, value_at};
+ghost use Rattle.zerotrie_index.specs.Layout.{IsIndex};
+ghost use Rattle.zerotrie_index.specs.Built.{IsIndexOf, IsIndexBuild};
+ghost use Rattle.zerotrie_c.specs.Answers.{told};
+ghost use Rattle.zerotrie_c.specs.Builds.{given, given_flat};
+ghost use Rattle.zerotrie_c.specs.Indexes.{index_status_of, IsIndexBuildTold};
+
+use crate::builds::{Pair, hand_out, items_of};
+use crate::flat::items_between;
+use crate::numbers::{CROWDED, OUT_OF_MEMORY, status_of};
+use std::alloc::Global;
+use zerotrie_core::ZeroTrieBuildError;
+use zerotrie_index::{ZeroIndex, ZeroIndexBuildError, build, is_well_formed};
+
+/// Returns whether the index has the key, and then sets `value` to its value.
+#[unsafe(no_mangle)]
+pub extern "C" fn zerotrie_index_get(bytes: &[u8], key: &[u8], value: &mut usize) -> bool
+    ensures index { (pairs : Pairs) → IsIndex pairs bytes.now
+        → told result value.new ≡ value_at simple_ascii pairs key.now }
+    ensures given { (given : Pairs) → IsIndexOf given bytes.now
+        → told result value.new ≡ value_at simple_ascii given key.now }
+    ensures kept { result ≡ false → value.new ≡ value.old }
+{
+    match ZeroIndex::from_bytes(bytes).get(key) {
+        Some(found) => {
+            *value = found;
+            true
+        }
+        None => false,
+    }
+}
+
+/// Whether the bytes are a valid index: yes exactly if they are one of some pairs.
+#[unsafe(no_mangle)]
+pub extern "C" fn zerotrie_index_is_valid(bytes: &[u8]) -> bool
+    ensures { IsTrue result ↔ ((pairs : Pairs) × IsIndex pairs bytes.now) }
+{
+    is_well_formed(bytes)
+}
+
+/// Returns the status of an error of a build.
+fn index_status_of(error: ZeroIndexBuildError) -> u32
+    ensures { result ≡ index_status_of error }
+{
+    match error {
+        ZeroIndexBuildError::Unsorted => status_of(ZeroTrieBuildError::Unsorted),
+        ZeroIndexBuildError::DuplicateKey => status_of(ZeroTrieBuildError::DuplicateKey),
+        ZeroIndexBuildError::Crowded => CROWDED,
+        ZeroIndexBuildError::CapacityExceeded => status_of(ZeroTrieBuildError::CapacityExceeded),
+        ZeroIndexBuildError::OutOfMemory => OUT_OF_MEMORY,
+    }
+}
+
+/// Builds the index of pairs.
+fn index_of(alloc: Global, seed: u64, pairs: &[Pair<'_>]) -> Result<Vec<u8>, ZeroIndexBuildError>
+    ensures { IsIndexBuild seed (λ bytes. bytes.items) (given pairs.now) result }
+{
+    let items = items_of(alloc, pairs)?;
+    build(alloc, seed, items.as_slice())
+}
+
+/// Builds the index of pairs whose keys are one after another.
+fn index_of_flat(
+    alloc: Global,
+    seed: u64,
+    keys: &[u8],
+    ends: &[usize],
+    values: &[usize],
+) -> Result<Vec<u8>, ZeroIndexBuildError>
+    ensures { IsIndexBuild seed (λ bytes. bytes.items)
+        (given_flat keys.now ends.now values.now) result }
+{
+    let items = items_between(alloc, keys, ends, values)?;
+    build(alloc, seed, items.as_slice())
+}
+
+/// Builds the index of pairs in any order into `out`, if there is room, and sets `len`. It tries
+/// some seeds, from this one on.
+#[unsafe(no_mangle)]
+pub extern "C" fn zerotrie_index_build(
+    alloc: Global,
+    seed: u64,
+    pairs: &[Pair<'_>],
+    out: &mut [u8],
+    len: &mut usize,
+) -> u32
+    ensures { IsIndexBuildTold seed (given pairs.now) result len.old len.new out.old out.new }
+{
+    match index_of(alloc, seed, pairs) {
+        Ok(bytes) => hand_out(bytes.as_slice(), out, len),
+        Err(error) => index_status_of(error),
+    }
+}
+
+/// Like `zerotrie_index_build`, of keys that are one after another, each up to its end, as in
+/// `zerotrie_build_many`.
+#[unsafe(no_mangle)]
+pub extern "C" fn zerotrie_index_build_many(
+    alloc: Global,
+    seed: u64,
+    keys: &[u8],
+    ends: &[usize],
+    values: &[usize],
+    out: &mut [u8],
+    len: &mut usize,
+) -> u32
+    ensures { IsIndexBuildTold seed (given_flat keys.now ends.now values.now) result
+        len.old len.new out.old out.new }
+{
+    match index_of_flat(alloc, seed, keys, ends, values) {
+        Ok(bytes) => hand_out(bytes.as_slice(), out, len),
+        Err(error) => index_status_of(error),
+    }
+}
