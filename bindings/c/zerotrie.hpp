@@ -12,14 +12,14 @@
 ///     const std::string bytes = zerotrie::build(zerotrie::Kind::SimpleAscii, pairs);
 ///     const zerotrie::Trie trie(zerotrie::Kind::SimpleAscii, bytes);
 ///
-/// A file that the program `zerotrie build` wrote is tagged: Trie::from_tagged(file) reads it, and
-/// Trie::checked(kind, file) would take its first byte for that of every key. The table that
+/// A file that the program `zerotrie build` wrote is sealed or tagged: Trie::open(file) reads it,
+/// and Trie::checked(kind, file) would take what is before the trie for it. The table that
 /// `zerotrie code --lang c --name names` wrote has a zero after it, which is no part of the trie:
 /// Trie(Kind(names_kind), Bytes(names_bytes, names_len)).
 ///
-/// Bytes, Trie, Cursor, Stream and DenseTable are views: copying one copies no bytes, and the bytes
-/// that it was made of have to outlive it, as those of a std::string_view. clang warns of some that
-/// do not. Map owns its bytes, and Items what it lists.
+/// Bytes, Trie, Cursor, Stream, DenseTable and Index are views: copying one copies no bytes, and
+/// the bytes that it was made of have to outlive it, as those of a std::string_view. clang warns of
+/// some that do not. Map owns its bytes, Search its texts, and Items what it lists.
 ///
 /// Errors are thrown as Error, a value below 0 or from 2^64 on as std::out_of_range, and out of
 /// memory as std::bad_alloc; what is noexcept throws nothing. With exceptions off (-fno-exceptions)
@@ -322,24 +322,109 @@ private:
     std::vector<zerotrie_pair> pairs_;
 };
 
+class Parts;
+} // namespace detail
+/// @endcond
+
+/// Which keys a search finds. It compares bytes as they are stored, in Kind::IgnoreCase too, and
+/// owns its texts. Trie::search() lists what it finds.
+class Search {
+public:
+    /// All keys.
+    Search() = default;
+    /// The keys from one on and below another one, in the order of their bytes. nullopt: there is
+    /// no bound on this side.
+    [[nodiscard]] static Search range(std::optional<std::string_view> from,
+                                      std::optional<std::string_view> below) {
+        Search made(ZEROTRIE_BY_RANGE, from.value_or(std::string_view()));
+        made.to_ = below.value_or(std::string_view());
+        made.from_bound_ = from ? ZEROTRIE_INCLUDED : ZEROTRIE_UNBOUNDED;
+        made.to_bound_ = below ? ZEROTRIE_EXCLUDED : ZEROTRIE_UNBOUNDED;
+        return made;
+    }
+    /// The keys that a pattern matches, as "s*ing": `*` is any number of bytes, `?` one byte, and
+    /// `[a-z]` or `[!a-z]` a byte that is of a class or is not; a backslash takes the meaning of
+    /// the byte after it. Throws Error if the pattern is malformed, or has more than 63 items.
+    [[nodiscard]] static Search glob(std::string_view pattern) {
+        return Search(ZEROTRIE_BY_GLOB, pattern).checked();
+    }
+    /// The keys that have these bytes in this order, with any bytes before, between and after.
+    [[nodiscard]] static Search subsequence(std::string_view letters) {
+        return Search(ZEROTRIE_BY_SUBSEQUENCE, letters);
+    }
+    /// The keys that at most so many edits make of a word. An edit inserts, deletes or changes one
+    /// byte. Throws Error if the word has more than 63 bytes, or for more than 254 edits.
+    [[nodiscard]] static Search fuzzy(std::string_view word, uint32_t edits = 1) {
+        return Search(ZEROTRIE_BY_EDITS, word, edits).checked();
+    }
+    /// The same by characters of UTF-8, of a word of at most 63. Throws Error for other words, too.
+    [[nodiscard]] static Search fuzzy_chars(std::string_view word, uint32_t edits = 1) {
+        return Search(ZEROTRIE_BY_CHAR_EDITS, word, edits).checked();
+    }
+    /// A search for all keys that begin with such a key: completions.
+    [[nodiscard]] Search beginnings() const {
+        Search made = *this;
+        made.beginnings_ = true;
+        return made;
+    }
+    /// A search for those of these keys that begin with a prefix.
+    [[nodiscard]] Search within(std::string_view prefix) const {
+        Search made = *this;
+        made.prefix_ = prefix;
+        return made;
+    }
+
+private:
+    friend class detail::Parts;
+    Search(zerotrie_search_by by, std::string_view text, uint32_t edits = 0)
+        : text_(text), by_(by), edits_(edits) {}
+    bool finds_all() const noexcept {
+        return by_ == ZEROTRIE_BY_RANGE && from_bound_ == ZEROTRIE_UNBOUNDED &&
+               to_bound_ == ZEROTRIE_UNBOUNDED;
+    }
+    // As C has it, with pointers into the texts.
+    zerotrie_search raw() const noexcept {
+        zerotrie_search made = zerotrie_search_for(by_, detail::of(text_).ptr, text_.size());
+        made.edits = edits_;
+        made.from_bound = from_bound_;
+        made.to_bound = to_bound_;
+        made.to = detail::of(to_);
+        made.beginnings = beginnings_;
+        return made;
+    }
+    // Throws Error if it is none: searches no bytes by it.
+    Search checked() const {
+        const zerotrie_search search = raw();
+        size_t count = 0, next_len = 0;
+        detail::check(zerotrie_search_some(ZEROTRIE_SIMPLE_ASCII, nullptr, 0, nullptr, 0, &search,
+                                           false, nullptr, 0, nullptr, 0, nullptr, 0, nullptr, 0,
+                                           &count, &next_len));
+        return *this;
+    }
+    std::string text_, to_, prefix_;
+    zerotrie_search_by by_ = ZEROTRIE_BY_RANGE;
+    uint32_t edits_ = 0;
+    zerotrie_bound from_bound_ = ZEROTRIE_UNBOUNDED, to_bound_ = ZEROTRIE_UNBOUNDED;
+    bool beginnings_ = false;
+};
+
+/// @cond
+namespace detail {
 // The parts of a listing, one after another. Each has twice the room of the one before, up to a
 // megabyte, and places for keys as long as those so far.
 class Parts {
 public:
-    Parts(Kind kind, Bytes bytes, std::string_view prefix, size_t first_room = 4096)
-        : kind_(kind), trie_(of(bytes.view())), prefix_(prefix), room_(first_room) {}
+    Parts(Kind kind, Bytes bytes, Search search, size_t first_room = 4096)
+        : kind_(static_cast<uint32_t>(kind)), trie_(of(bytes.view())), search_(std::move(search)),
+          room_(first_room) {}
     // Goes on to the next part. false: none is left.
     bool next() {
         if (status_ != ZEROTRIE_BUFFER_TOO_SMALL) return false;
         const size_t places =
             room_ / std::max<size_t>(listed_ == 0 ? 0 : bytes_listed_ / listed_, 4) + 1;
         keys_.resize(room_), ends_.resize(places), values_.resize(places);
-        const auto last = of(last_), prefix = of(prefix_);
         size_t next_len = 0;
-        status_ =
-            zerotrie_list_some(static_cast<uint32_t>(kind_), trie_.ptr, trie_.len, prefix.ptr,
-                               prefix.len, listed_ > 0, last.ptr, last.len, room(keys_), room_,
-                               ends_.data(), places, values_.data(), places, &count_, &next_len);
+        status_ = list(places, &next_len);
         if (status_ != ZEROTRIE_BUFFER_TOO_SMALL) check(status_);
         room_ = std::max(std::min<size_t>(2 * room_, 1 << 20), next_len);
         listed_ += count_, bytes_listed_ += keys().size();
@@ -361,9 +446,23 @@ public:
     const size_t *values() const noexcept { return values_.data(); }
 
 private:
-    Kind kind_;
+    // Lists a part with this many places.
+    uint32_t list(size_t places, size_t *next_len) {
+        const auto last = of(last_), prefix = of(search_.prefix_);
+        if (search_.finds_all())
+            return zerotrie_list_some(kind_, trie_.ptr, trie_.len, prefix.ptr, prefix.len,
+                                      listed_ > 0, last.ptr, last.len, room(keys_), room_,
+                                      ends_.data(), places, values_.data(), places, &count_,
+                                      next_len);
+        const zerotrie_search search = search_.raw();
+        return zerotrie_search_some(kind_, trie_.ptr, trie_.len, prefix.ptr, prefix.len, &search,
+                                    listed_ > 0, last.ptr, last.len, room(keys_), room_,
+                                    ends_.data(), places, values_.data(), places, &count_,
+                                    next_len);
+    }
+    uint32_t kind_;
     zerotrie_bytes trie_;
-    std::string prefix_;
+    Search search_;
     uint32_t status_ = ZEROTRIE_BUFFER_TOO_SMALL;
     size_t room_, count_ = 0, listed_ = 0, bytes_listed_ = 0;
     std::string keys_, last_;
@@ -496,7 +595,7 @@ public:
     /// @endcond
     /// Lists the pairs of a trie whose keys begin with a prefix.
     Items(Kind kind, Bytes bytes, std::string_view prefix = {}) {
-        for (detail::Parts parts(kind, bytes, prefix); parts.next();) {
+        for (detail::Parts parts(kind, bytes, Search().within(prefix)); parts.next();) {
             const size_t from = keys_.size();
             keys_ += parts.keys();
             for (size_t i = 0; i < parts.size(); i++) ends_.push_back(from + parts.ends()[i]);
@@ -541,11 +640,14 @@ public:
     /// @endcond
     /// After the last pair.
     StreamIterator() noexcept = default;
-    /// At the first pair whose key begins with a prefix.
-    StreamIterator(Kind kind, Bytes bytes, std::string_view prefix)
-        : parts_(std::make_shared<detail::Parts>(kind, bytes, prefix, 256)) {
+    /// At the first pair whose key a search finds.
+    StreamIterator(Kind kind, Bytes bytes, Search what)
+        : parts_(std::make_shared<detail::Parts>(kind, bytes, std::move(what), 256)) {
         next_part();
     }
+    /// At the first pair whose key begins with a prefix.
+    StreamIterator(Kind kind, Bytes bytes, std::string_view prefix)
+        : StreamIterator(kind, bytes, Search().within(prefix)) {}
     /// The pair.
     value_type operator*() const noexcept { return (*parts_)[at_]; }
     /// The pair.
@@ -578,22 +680,25 @@ private:
     size_t at_ = 0;
 };
 
-/// The pairs of a trie whose keys begin with a prefix, as a range that lists a part of them at a
-/// time. The trie's bytes have to outlive it.
+/// The pairs of a trie whose keys a search finds, as a range that lists a part of them at a time.
+/// The trie's bytes have to outlive it.
 class ZEROTRIE_VIEW Stream {
 public:
+    /// The pairs of a trie whose keys a search finds.
+    Stream(Kind kind, Bytes bytes ZEROTRIE_LIFETIMEBOUND, Search what)
+        : kind_(kind), bytes_(bytes), what_(std::move(what)) {}
     /// The pairs of a trie whose keys begin with a prefix.
     Stream(Kind kind, Bytes bytes ZEROTRIE_LIFETIMEBOUND, std::string_view prefix)
-        : kind_(kind), bytes_(bytes), prefix_(prefix) {}
+        : Stream(kind, bytes, Search().within(prefix)) {}
     /// The first pair.
-    [[nodiscard]] StreamIterator begin() const { return StreamIterator(kind_, bytes_, prefix_); }
+    [[nodiscard]] StreamIterator begin() const { return StreamIterator(kind_, bytes_, what_); }
     /// After the last.
     [[nodiscard]] StreamIterator end() const noexcept { return {}; }
 
 private:
     Kind kind_;
     Bytes bytes_;
-    std::string prefix_;
+    Search what_;
 };
 
 /// A trie over bytes that are elsewhere, which have to outlive it. It is a range of its pairs.
@@ -631,6 +736,17 @@ public:
         uint32_t kind;
         if (zerotrie_tagged_kind(at.ptr, at.len, &kind) != ZEROTRIE_DONE) return std::nullopt;
         return checked(static_cast<Kind>(kind), tagged.view().substr(1));
+    }
+    /// Of a file that is sealed or tagged. Throws Error if a sealed one is damaged, or if tagged
+    /// bytes are malformed. Those of a sealed file are those that were sealed, and not validated.
+    [[nodiscard]] static Trie open(Bytes file ZEROTRIE_LIFETIMEBOUND) {
+        const auto at = detail::of(file.view());
+        uint32_t kind = 0;
+        size_t from = 0, len = 0;
+        detail::check(zerotrie_open(at.ptr, at.len, &kind, &from, &len));
+        const Bytes bytes = file.view().substr(from, len);
+        return from == ZEROTRIE_SEAL_LEN ? Trie(static_cast<Kind>(kind), bytes)
+                                         : valid(static_cast<Kind>(kind), bytes);
     }
     /// Where the bytes are malformed. nullopt: they are valid.
     [[nodiscard]] std::optional<Fault> first_fault() const {
@@ -735,6 +851,23 @@ public:
     [[nodiscard]] Stream stream(std::string_view prefix = {}) const {
         return Stream(kind_, bytes_, prefix);
     }
+    /// The pairs whose keys a search finds, as a range that lists a part of them at a time.
+    [[nodiscard]] Stream search(Search what) const {
+        return Stream(kind_, bytes_, std::move(what));
+    }
+    /// See Search::range().
+    [[nodiscard]] Stream range(std::optional<std::string_view> from,
+                               std::optional<std::string_view> below = std::nullopt) const {
+        return search(Search::range(from, below));
+    }
+    /// See Search::glob().
+    [[nodiscard]] Stream glob(std::string_view pattern) const {
+        return search(Search::glob(pattern));
+    }
+    /// See Search::fuzzy().
+    [[nodiscard]] Stream fuzzy(std::string_view word, uint32_t edits = 1) const {
+        return search(Search::fuzzy(word, edits));
+    }
     /// The pairs, or those whose keys begin with a prefix, all listed at once.
     [[nodiscard]] Items items(std::string_view prefix = {}) const {
         return Items(kind_, bytes_, prefix);
@@ -751,7 +884,7 @@ public:
     /// a bool. They are listed a part at a time; a key is a view for the call alone. Returns
     /// whether no call returned false.
     template <class Each> bool for_each(Each &&each, std::string_view prefix = {}) const {
-        for (detail::Parts parts(kind_, bytes_, prefix, 256); parts.next();) {
+        for (detail::Parts parts(kind_, bytes_, Search().within(prefix), 256); parts.next();) {
             for (size_t i = 0; i < parts.size(); i++) {
                 const auto [key, value] = parts[i];
                 if constexpr (std::is_same_v<decltype(each(key, value)), bool>) {
@@ -841,6 +974,17 @@ template <class Pairs = PairList> [[nodiscard]] Kind auto_kind(Pairs &&pairs) {
         detail::check);
 }
 
+/// A sealed file: the kind, the length and a checksum, and then the bytes. Trie::open() reads it.
+[[nodiscard]] inline std::string seal(Kind kind, Bytes bytes) {
+    const auto at = detail::of(bytes.view());
+    return detail::written(
+        at.len + ZEROTRIE_SEAL_LEN,
+        [&](uint8_t *out, size_t room, size_t *len) {
+            return zerotrie_seal(static_cast<uint32_t>(kind), at.ptr, at.len, out, room, len);
+        },
+        detail::check);
+}
+
 /// A trie that owns its bytes. It is a range of its pairs.
 class Map {
 public:
@@ -891,6 +1035,17 @@ public:
         detail::check(zerotrie_tagged_kind(at.ptr, at.len, &kind));
         return from_bytes(static_cast<Kind>(kind), std::string(tagged.substr(1)));
     }
+    /// Of a file that is sealed or tagged. Throws Error, as Trie::open().
+    [[nodiscard]] static Map open(std::string_view file) {
+        const Trie opened = Trie::open(file);
+        Map made;
+        made.kind_ = opened.kind();
+        made.bytes_ = opened.bytes();
+        made.size_ = opened.size();
+        return made;
+    }
+    /// A sealed file.
+    [[nodiscard]] std::string seal() const { return zerotrie::seal(kind_, bytes_); }
     /// Tagged bytes, for a file.
     [[nodiscard]] std::string tagged() const { return zerotrie::tagged(kind_, bytes_); }
     /// The trie as a view.
@@ -952,6 +1107,30 @@ public:
         return trie().stream(prefix);
     }
     Stream stream(std::string_view prefix = {}) const && = delete;
+    /// See Trie::search().
+    [[nodiscard]] Stream search(Search what) const &ZEROTRIE_LIFETIMEBOUND {
+        return trie().search(std::move(what));
+    }
+    Stream search(Search what) const && = delete;
+    /// See Search::range().
+    [[nodiscard]] Stream range(
+        std::optional<std::string_view> from,
+        std::optional<std::string_view> below = std::nullopt) const &ZEROTRIE_LIFETIMEBOUND {
+        return trie().range(from, below);
+    }
+    Stream range(std::optional<std::string_view> from,
+                 std::optional<std::string_view> below = std::nullopt) const && = delete;
+    /// See Search::glob().
+    [[nodiscard]] Stream glob(std::string_view pattern) const &ZEROTRIE_LIFETIMEBOUND {
+        return trie().glob(pattern);
+    }
+    Stream glob(std::string_view pattern) const && = delete;
+    /// See Search::fuzzy().
+    [[nodiscard]] Stream fuzzy(std::string_view word,
+                               uint32_t edits = 1) const &ZEROTRIE_LIFETIMEBOUND {
+        return trie().fuzzy(word, edits);
+    }
+    Stream fuzzy(std::string_view word, uint32_t edits = 1) const && = delete;
     /// See Trie::items().
     [[nodiscard]] Items items(std::string_view prefix = {}) const { return trie().items(prefix); }
     /// See Trie::for_each().
@@ -1018,6 +1197,49 @@ template <class Rows> [[nodiscard]] std::string build_dense(Rows &&rows, char de
                                         static_cast<uint8_t>(delimiter), out, room, len);
         },
         detail::check);
+}
+
+/// A map for exact look-ups alone, over bytes that build_index() wrote, which have to outlive it:
+/// larger than a trie, and faster.
+class ZEROTRIE_VIEW Index {
+public:
+    /// Of bytes that are not validated; if they are malformed, the result of a call is unspecified.
+    explicit constexpr Index(Bytes bytes ZEROTRIE_LIFETIMEBOUND) noexcept : bytes_(bytes.view()) {}
+    /// Validates the bytes. nullopt: they are no index.
+    [[nodiscard]] static std::optional<Index> checked(Bytes bytes ZEROTRIE_LIFETIMEBOUND) noexcept {
+        const auto at = detail::of(bytes.view());
+        if (!zerotrie_index_is_valid(at.ptr, at.len)) return std::nullopt;
+        return Index(bytes);
+    }
+    /// The bytes.
+    [[nodiscard]] constexpr std::string_view bytes() const noexcept { return bytes_; }
+    /// The value of the key. nullopt: the index does not have it.
+    [[nodiscard]] std::optional<size_t> get(std::string_view key) const noexcept {
+        const auto at = detail::of(bytes_), k = detail::of(key);
+        size_t value = 0;
+        if (!zerotrie_index_get(at.ptr, at.len, k.ptr, k.len, &value)) return std::nullopt;
+        return value;
+    }
+    /// Whether the index has the key.
+    [[nodiscard]] bool contains(std::string_view key) const noexcept {
+        return get(key).has_value();
+    }
+
+private:
+    std::string_view bytes_;
+};
+
+/// The bytes of the index of pairs in any order, as build() takes them. If keys come from
+/// elsewhere, take a random seed; an Error with the status ZEROTRIE_CROWDED asks for another one.
+template <class Pairs = PairList>
+[[nodiscard]] std::string build_index(Pairs &&pairs, uint64_t seed = 0) {
+    const detail::Pairs list(pairs);
+    return detail::written(
+        2 * list.most_bytes() + 16 * list.size(),
+        [&](uint8_t *out, size_t room, size_t *len) {
+            return zerotrie_index_build(seed, list.data(), list.size(), out, room, len);
+        },
+        [&](uint32_t status) { list.check(Kind::PerfectHash, status); });
 }
 
 } // namespace zerotrie

@@ -1,10 +1,15 @@
-"""Packs the one package for `pip install .`, so that no other one is asked for. The library goes along: a libzerotrie.so that lies
-in the package, or else where bindings/make leaves it or in the folder ZEROTRIE_LIB, is installed in the package, which finds it
-there. Without one nothing is packed. The version is that of the file VERSION, and goes into the module zerotrie._version. The extension zerotrie/_fast.c, by which single look-ups are fast, is compiled and goes along if a C compiler and Python.h
-are there; else the package does without. `pip install -e .` installs the way to this folder alone: the library and the extension are
-those that bindings/make made, before or after.
+"""Packs the one package for `pip install .`, so that no other one is asked for. The library goes
+along: a libzerotrie.so that lies in the package, or else where bindings/make leaves it or in the
+folder ZEROTRIE_LIB, is installed in the package, which finds it there. Without one nothing is
+packed. The version is that of the file VERSION, and goes into the module zerotrie._version. The
+extension zerotrie/_fast.c, by which single look-ups are fast, is compiled and goes along if a C
+compiler and Python.h are there; else the package does without. `pip install -e .` installs the way
+to this folder alone: the library and the extension are those that bindings/make made, before or
+after.
 
-As a program, which bindings/make calls, it makes that module, and compiles the extension into the folder that is its argument."""
+As a program, which bindings/make calls, it makes that module, and compiles the extension into the
+folder that is its argument.
+"""
 
 import base64
 import gzip
@@ -59,7 +64,8 @@ def read(*names):
 
 
 def beside(name, *places):
-    """The bytes of a file that an sdist has in this folder, and a checkout at one of these places."""
+    """The bytes of a file that an sdist has in this folder, and a checkout at one of these places.
+    """
     data = first_of(HERE / name, *places)
     if data is None:
         raise SystemExit(f"no {name}: take the whole of a checkout or of the sdist")
@@ -84,11 +90,22 @@ def metadata():
 
 
 def platforms(*binaries):
-    """The platforms of a wheel with these files: manylinux2014 takes no symbol of glibc that is later than 2.17."""
-    if sysconfig.get_platform() != "linux-x86_64" or "musl" in (sysconfig.get_config_var("HOST_GNU_TYPE") or ""):
+    """The platforms of a wheel with these files: manylinux2014 takes no symbol of glibc that is
+    later than 2.17.
+    """
+    if sysconfig.get_platform() != "linux-x86_64" or "musl" in (
+        sysconfig.get_config_var("HOST_GNU_TYPE") or ""
+    ):
         return [sysconfig.get_platform().replace("-", "_").replace(".", "_")]
-    newest = max((int(found) for data in binaries for found in re.findall(rb"GLIBC_2\.(\d+)", data)), default=0)
-    return ["manylinux_2_17_x86_64", "manylinux2014_x86_64"] if newest <= 17 else [f"manylinux_2_{newest}_x86_64"]
+    newest = max(
+        (int(found) for data in binaries for found in re.findall(rb"GLIBC_2\.(\d+)", data)),
+        default=0,
+    )
+    return (
+        ["manylinux_2_17_x86_64", "manylinux2014_x86_64"]
+        if newest <= 17
+        else [f"manylinux_2_{newest}_x86_64"]
+    )
 
 
 def package():
@@ -97,30 +114,53 @@ def package():
     library = first_of(HERE / "zerotrie/libzerotrie.so", made / "libzerotrie.so")
     if library is None:
         raise SystemExit("no libzerotrie.so: run bindings/make first, or take a wheel of a release")
-    modules = [str(path.relative_to(HERE)) for path in sorted((HERE / "zerotrie").glob("*.py")) if path.name != "_version.py"]
-    return {**read(*modules, "zerotrie/py.typed"), "zerotrie/_version.py": version_module(), "zerotrie/libzerotrie.so": library}
+    modules = [
+        str(path.relative_to(HERE))
+        for path in sorted((HERE / "zerotrie").glob("*.py"))
+        if path.name != "_version.py"
+    ]
+    return {
+        **read(*modules, "zerotrie/py.typed"),
+        "zerotrie/_version.py": version_module(),
+        "zerotrie/libzerotrie.so": library,
+    }
 
 
 def extension(folder):
-    """Compiles the extension into the folder, and answers its bytes. None, with the reason on standard error, if that can't be done.
-    The variables CC and CFLAGS are heeded."""
+    """Compiles the extension into the folder, and answers its bytes. None, with the reason on
+    standard error, if that can't be done. The variables CC and CFLAGS are heeded.
+    """
     made = pathlib.Path(folder) / EXTENSION
     compiler = shlex.split(os.environ.get("CC") or "cc")
     flags = ["-std=c11", "-O2", "-fPIC", "-shared", *shlex.split(os.environ.get("CFLAGS", ""))]
-    places = [f"-I{HERE}", f"-I{HERE.parent / 'c'}", "-isystem", sysconfig.get_config_var("INCLUDEPY") or ""]
+    places = [
+        f"-I{HERE}",
+        f"-I{HERE.parent / 'c'}",
+        "-isystem",
+        sysconfig.get_config_var("INCLUDEPY") or "",
+    ]
     if sys.implementation.name != "cpython" or "t" in sys.abiflags:
         why = "it is for CPython with its lock"
     else:
         try:
-            done = subprocess.run([*compiler, *flags, *places, str(HERE / "zerotrie/_fast.c"), "-o", str(made)],
-                                  stdout=subprocess.DEVNULL, stderr=subprocess.PIPE, text=True, errors="replace")
+            done = subprocess.run(
+                [*compiler, *flags, *places, str(HERE / "zerotrie/_fast.c"), "-o", str(made)],
+                stdout=subprocess.DEVNULL,
+                stderr=subprocess.PIPE,
+                text=True,
+                errors="replace",
+            )
             why = done.stderr if done.returncode or not made.exists() else None
         except OSError as error:
             why = f"{error}\n"
     if why is None:
         return made.read_bytes()
-    print(f"{why.rstrip()}\nzerotrie goes without its extension, and a single look-up takes some 2 us in place of 0.2. To have it, "
-          "install a C compiler and Python's headers (as gcc and python3-dev) first.", file=sys.stderr)
+    print(
+        f"{why.rstrip()}\nzerotrie goes without its extension, and a single look-up takes "
+            "some 2 us in place of 0.2. To have it, "
+        "install a C compiler and Python's headers (as gcc and python3-dev) first.",
+        file=sys.stderr,
+    )
     return None
 
 
@@ -129,11 +169,15 @@ def licence():
 
 
 def wheel(directory, files, tag, platforms):
-    """Writes the wheel of these files, and what it says of itself. Answers its name. The same files make the same bytes."""
+    """Writes the wheel of these files, and what it says of itself. Answers its name. The same files
+    make the same bytes.
+    """
     about = f"{name()}.dist-info"
     files = {**files, f"{about}/LICENSE": licence(), f"{about}/METADATA": metadata()}
     tags = "".join(f"Tag: {tag}-{platform}\n" for platform in platforms)
-    files[f"{about}/WHEEL"] = f"Wheel-Version: 1.0\nGenerator: packed\nRoot-Is-Purelib: false\n{tags}".encode()
+    files[
+        f"{about}/WHEEL"
+    ] = f"Wheel-Version: 1.0\nGenerator: packed\nRoot-Is-Purelib: false\n{tags}".encode()
     rows = []
     for path, data in files.items():
         digest = base64.urlsafe_b64encode(hashlib.sha256(data).digest()).rstrip(b"=").decode()
@@ -150,8 +194,14 @@ def wheel(directory, files, tag, platforms):
 
 
 def build_sdist(sdist_directory, config_settings=None):
-    files = {**package(), **read("packed.py", "pyproject.toml", "README.md", "zerotrie/_fast.c"), "PKG-INFO": metadata(), "LICENSE": licence(),
-             "VERSION": f"{version()}\n".encode(), "zerotrie.h": beside("zerotrie.h", HERE.parent / "c/zerotrie.h")}
+    files = {
+        **package(),
+        **read("packed.py", "pyproject.toml", "README.md", "zerotrie/_fast.c"),
+        "PKG-INFO": metadata(),
+        "LICENSE": licence(),
+        "VERSION": f"{version()}\n".encode(),
+        "zerotrie.h": beside("zerotrie.h", HERE.parent / "c/zerotrie.h"),
+    }
     made, stream = f"{name()}.tar.gz", io.BytesIO()
     with tarfile.open(fileobj=stream, mode="w", format=tarfile.PAX_FORMAT) as packed:
         for path, data in files.items():
@@ -169,7 +219,12 @@ def build_wheel(wheel_directory, config_settings=None, metadata_directory=None):
         fast = extension(room)
     if fast is None:
         return wheel(wheel_directory, files, WITHOUT, platforms(library))
-    return wheel(wheel_directory, {**files, f"zerotrie/{EXTENSION}": fast}, WITH_EXTENSION, platforms(library, fast))
+    return wheel(
+        wheel_directory,
+        {**files, f"zerotrie/{EXTENSION}": fast},
+        WITH_EXTENSION,
+        platforms(library, fast),
+    )
 
 
 def build_editable(wheel_directory, config_settings=None, metadata_directory=None):

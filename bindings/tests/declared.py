@@ -1,6 +1,8 @@
-"""Compares what is declared for C, Rust and Python with what the library exports: names, and each parameter and result by its
-size, and that of what it points to. Arguments: the folder bindings, and the shared library. Without a library, nothing is asked of it:
-what is declared is compared with the sources alone, which needs no proof."""
+"""Compares what is declared for C, Rust and Python with what the library exports: names, and each
+parameter and result by its size, and that of what it points to. Arguments: the folder bindings, and
+the shared library. Without a library, nothing is asked of it: what is declared is compared with the
+sources alone, which needs no proof.
+"""
 
 import ast
 import ctypes
@@ -9,16 +11,46 @@ import re
 import subprocess
 import sys
 
+sys.dont_write_bytecode = True
+import pages  # noqa: E402
+
 here, library = pathlib.Path(sys.argv[1]), sys.argv[2] if len(sys.argv) > 2 else None
-NUMBERS = {"u8": 1, "u16": 2, "u32": 4, "u64": 8, "usize": 8, "bool": "bool", "Bytes": 16, "Cursor": 24, "CursorPlace": 24, "Pair": 24,
-           "Search": 56}
-C_NUMBERS = {"uint8_t": 1, "uint16_t": 2, "uint32_t": 4, "uint64_t": 8, "size_t": 8, "bool": "bool", "void": None,
-             "zerotrie_kind": 4, "zerotrie_kind_number": 4, "zerotrie_status": 4, "zerotrie_fault": 4,
-             "zerotrie_bytes": 16, "zerotrie_cursor": 24, "zerotrie_pair": 24, "zerotrie_search": 56}
-#: what the texts of errors say to programs in other languages, in place of what they say to those in Rattle
+NUMBERS = {
+    "u8": 1,
+    "u16": 2,
+    "u32": 4,
+    "u64": 8,
+    "usize": 8,
+    "bool": "bool",
+    "Bytes": 16,
+    "Cursor": 24,
+    "CursorPlace": 24,
+    "Pair": 24,
+    "Search": 56,
+}
+C_NUMBERS = {
+    "uint8_t": 1,
+    "uint16_t": 2,
+    "uint32_t": 4,
+    "uint64_t": 8,
+    "size_t": 8,
+    "bool": "bool",
+    "void": None,
+    "zerotrie_kind": 4,
+    "zerotrie_kind_number": 4,
+    "zerotrie_status": 4,
+    "zerotrie_fault": 4,
+    "zerotrie_bytes": 16,
+    "zerotrie_cursor": 24,
+    "zerotrie_pair": 24,
+    "zerotrie_search": 56,
+}
+#: what the texts of errors say to programs in other languages, in place of what they say to those
+#: in Rattle
 IN_OTHER_WORDS = {
     "take one of this many bytes: {0}": "take a smaller one",
-    "take ZeroTrieExtendedCapacity, or fewer pairs": "take extended capacity, kind 7, or fewer pairs; a dense table has at most 65,535 suffixes",
+    "take ZeroTrieExtendedCapacity, or fewer pairs": "take extended capacity, kind 7, or fewer "
+    "pairs; a dense table has at most 65,535 suffixes",
 }
 
 
@@ -27,10 +59,17 @@ def parts(text):
 
 
 def exported():
-    """The exports as they are written in Rattle: a slice is a pointer and a length, and an allocator is nothing."""
+    """The exports as they are written in Rattle: a slice is a pointer and a length, and an
+    allocator is nothing.
+    """
     found = {}
     for file in (here / "../crates/zerotrie_c/src").glob("*.rt"):
-        for name, taken, answer in re.findall(r'#\[unsafe\(no_mangle\)\]\npub extern "C" fn (\w+)(?:<[^>]*>)?\((.*?)\)(?: -> (\w+))?\n', file.read_text(), re.S):
+        for name, taken, answer in re.findall(
+            r'#\[unsafe\(no_mangle\)\]\npub extern "C" fn (\w+)'
+            r"(?:<[^>]*>)?\((.*?)\)(?: -> (\w+))?\n",
+            file.read_text(),
+            re.S,
+        ):
             sizes = []
             for part in parts(re.sub(r"<[^>]*>|'\w+ ", "", taken)):
                 kind = part.split(": ")[1]
@@ -61,7 +100,9 @@ def in_c():
 def in_rust():
     found = {}
     text = (here / "rust/zerotrie-proved/src/ffi.rs").read_text()
-    for name, taken, answer in re.findall(r"pub fn (zerotrie_\w+)\(([^)]*)\)(?:\s*-> (\w+))?;", text):
+    for name, taken, answer in re.findall(
+        r"pub fn (zerotrie_\w+)\(([^)]*)\)(?:\s*-> (\w+))?;", text
+    ):
         sizes = []
         for part in parts(taken):
             star, kind = re.fullmatch(r"\w+: (\*(?:const|mut) )?(\w+)", part).groups()
@@ -71,10 +112,16 @@ def in_rust():
 
 
 def declared_in_python():
-    """The table of the functions. Its module runs up to that table, since what follows loads the library."""
+    """The table of the functions. Its module runs up to that table, since what follows loads the
+    library.
+    """
     for path in sorted((here / "python/zerotrie").glob("*.py")):
         module = ast.parse(path.read_text(), str(path))
-        ends = [place for place, line in enumerate(module.body, 1) if ast.unparse(line).split(" = ")[0].split(":")[0] == "_DECLARED"]
+        ends = [
+            place
+            for place, line in enumerate(module.body, 1)
+            if ast.unparse(line).split(" = ")[0].split(":")[0] == "_DECLARED"
+        ]
         if ends:
             module.body = [line for line in module.body[: ends[0]] if not getattr(line, "level", 0)]
             names = {"__name__": "zerotrie", "__file__": str(path), "__path__": [str(path.parent)]}
@@ -92,7 +139,10 @@ def in_python():
         to = getattr(kind, "_type_", None)
         return ("to", ctypes.sizeof(to)) if isinstance(to, type) else ctypes.sizeof(kind)
 
-    return {name: ([size(kind) for kind in taken], answer and size(answer)) for name, (answer, taken) in declared_in_python().items()}
+    return {
+        name: ([size(kind) for kind in taken], answer and size(answer))
+        for name, (answer, taken) in declared_in_python().items()
+    }
 
 
 def numbers_of(header, enum):
@@ -104,19 +154,25 @@ def numbers_of(header, enum):
 def texts_of(header, enum):
     """The texts of its constants."""
     body = re.search(rf"zerotrie_{enum}_text\(uint32_t \w+\) \{{.*?\n\}}", header, re.S)[0]
-    return {name: "".join(re.findall(r'"(.*?)"', text)) for name, text in re.findall(r'case (ZEROTRIE_\w+):\s+return ((?:\s*"[^"]*")+);', body)}
+    return {
+        name: "".join(re.findall(r'"(.*?)"', text))
+        for name, text in re.findall(r'case (ZEROTRIE_\w+):\s+return ((?:\s*"[^"]*")+);', body)
+    }
 
 
 def faults():
-    """The texts of the rules of the format are those of the library, in the order of their numbers, which those of statuses continue."""
+    """The texts of the rules of the format are those of the library, in the order of their numbers,
+    which those of statuses continue.
+    """
     header = (here / "c/zerotrie.h").read_text()
+    rules = (here / "../crates/zerotrie_core/src/faults.rt").read_text()
     numbers, texts = numbers_of(header, "fault"), texts_of(header, "fault")
-    causes = re.search(r"pub enum FaultCause \{.*?\n\}", (here / "../crates/zerotrie_core/src/faults.rt").read_text(), re.S)[0]
-    want = re.findall(r'#\[error\("(.*?)"\)\]\n\s+(\w+)', causes)
+    want = re.findall(r'FaultCause::(\w+) => \{?\s*"(.*?)"', rules)
     assert len(want) == 10 and [*numbers.values()] == [*range(11)], numbers
-    assert [texts[name] for name in numbers if numbers[name]] == [text for text, _ in want], (texts, want)
-    names = [name.removeprefix("ZEROTRIE_FAULT_").replace("_", "").lower() for name in numbers if numbers[name]]
-    assert names == [name.lower() for _, name in want], (names, want)
+    broken = [name for name in numbers if numbers[name]]
+    assert [texts[name] for name in broken] == [text for _, text in want], (texts, want)
+    names = [name.removeprefix("ZEROTRIE_FAULT_").replace("_", "").lower() for name in broken]
+    assert names == [name.lower() for name, _ in want], (names, want)
 
 
 def versions():
@@ -129,40 +185,76 @@ def versions():
 
 
 def statuses():
-    """The text of each status is that of the library's error, in each language, and the numbers are those of the header and of Rust."""
+    """The text of each status is that of the library's error, in each language, and the numbers are
+    those of the header and of Rust.
+    """
     header = (here / "c/zerotrie.h").read_text()
     numbers = numbers_of(header, "status")
     by_name = texts_of(header, "status")
     cases = [name for name in by_name if name in numbers]
     texts = [by_name[name] for name in sorted(cases, key=numbers.get)]
-    assert len(texts) == len(by_name) == 24 and [numbers[name] for name in cases] == [*range(24)], by_name
-    errors = re.findall(r'#\[error\("(.*?)"\)\]\n\s+(\w+)', (here / "../crates/zerotrie_base/src/error.rt").read_text())
+    assert len(texts) == len(by_name) == 24, by_name
+    assert [numbers[name] for name in cases] == [*range(24)], by_name
+    errors = re.findall(
+        r'#\[error\("(.*?)"\)\]\n\s+(\w+)',
+        (here / "../crates/zerotrie_base/src/error.rt").read_text(),
+    )
     for number, (text, name) in enumerate(errors, 1):
         for word, instead in IN_OTHER_WORDS.items():
             text = text.replace(word, instead)
         assert texts[number] == text, (number, name, text, texts[number])
-    records = dict(zip(("ZEROTRIE_RECORD_TRUNCATED", "ZEROTRIE_TRAILING_BYTES"),
-                       re.findall(r'#\[error\("(.*?)"\)\]', (here / "../crates/zerotrie/src/dense/record.rt").read_text())))
+    records = dict(
+        zip(
+            ("ZEROTRIE_RECORD_TRUNCATED", "ZEROTRIE_TRAILING_BYTES"),
+            re.findall(
+                r'#\[error\("(.*?)"\)\]',
+                (here / "../crates/zerotrie/src/dense/record.rt").read_text(),
+            ),
+        )
+    )
     assert len(records) == 2 and all(texts[numbers[name]] == text for name, text in records.items())
     in_rust = (here / "rust/zerotrie-proved/src/error.rs").read_text()
-    rules = [text for name, text in texts_of(header, "fault").items() if numbers_of(header, "fault").get(name)]
-    for language, text in [("rust", in_rust), ("python", (here / "python/zerotrie/_errors.py").read_text())]:
+    rules = [
+        text
+        for name, text in texts_of(header, "fault").items()
+        if numbers_of(header, "fault").get(name)
+    ]
+    for language, text in [
+        ("rust", in_rust),
+        ("python", (here / "python/zerotrie/_errors.py").read_text()),
+    ]:
         for name, wanted in [("TEXTS", texts), ("RULES", rules)]:
             table = re.search(rf"{name}\b.*?[\[(]\n(.*?)\n[\])]", text, re.S)[1]
             assert re.findall(r'^    "(.*)",$', table, re.M) == wanted, (language, name)
-    cases = {int(number): name for number, name in re.findall(r"\((\d+), ErrorKind::(\w+)\)", in_rust)}
-    in_c = {number: name.removeprefix("ZEROTRIE_").replace("_", "").lower() for name, number in numbers.items()}
-    assert cases and all(name.lower() == in_c[number] for number, name in cases.items()), (cases, in_c)
+    cases = {
+        int(number): name for number, name in re.findall(r"\((\d+), ErrorKind::(\w+)\)", in_rust)
+    }
+    in_c = {
+        number: name.removeprefix("ZEROTRIE_").replace("_", "").lower()
+        for name, number in numbers.items()
+    }
+    assert cases and all(name.lower() == in_c[number] for number, name in cases.items()), (
+        cases,
+        in_c,
+    )
 
 
 want = exported()
 if library:
-    symbols = subprocess.run(["nm", "-D", "--defined-only", "--without-symbol-versions", library], capture_output=True, text=True, check=True).stdout
-    assert sorted(line.split()[2] for line in symbols.splitlines() if " T " in line) == sorted(want), symbols
+    symbols = subprocess.run(
+        ["nm", "-D", "--defined-only", "--without-symbol-versions", library],
+        capture_output=True,
+        text=True,
+        check=True,
+    ).stdout
+    assert sorted(line.split()[2] for line in symbols.splitlines() if " T " in line) == sorted(
+        want
+    ), symbols
 for language, have in [("c", in_c()), ("rust", in_rust()), ("python", in_python())]:
     for name in sorted(set(want) | set(have)):
         assert want.get(name) == have.get(name), (language, name, want.get(name), have.get(name))
 statuses()
 faults()
 versions()
+pages.compare(here)
 print(f"declared: {len(want)} functions, in C, Rust and Python as they are exported")

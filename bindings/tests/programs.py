@@ -42,7 +42,7 @@ for program, command, environment in commands():
         printed = run([*command, *taken], environment)
         assert want and printed == want, (program, printed, want)
     count += 1
-assert count == 6, count
+assert count == 8, count
 
 large = pathlib.Path("/usr/share/dict/words")
 if large.exists():

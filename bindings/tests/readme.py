@@ -1,5 +1,6 @@
-"""Runs what bindings/README.md shows of each language, and compares what it prints with the remark on the line that prints. Arguments: the
-folder bindings, and a folder to work in."""
+"""Runs what the pages on the bindings show of each language, and compares what it prints with the
+remark on the line that prints. Arguments: the folder bindings, and a folder to work in.
+"""
 
 import os
 import pathlib
@@ -9,15 +10,16 @@ import sys
 
 here, room = pathlib.Path(sys.argv[1]), pathlib.Path(sys.argv[2])
 build = pathlib.Path(os.environ["ZEROTRIE_LIB"])
-page = (here / "README.md").read_text()
-shown = {language: body for language, body in re.findall(r"```(c|cpp|rs|python)\n(.*?)```", page, re.S)}
+docs = [here.parent / "docs" / name for name in ("C.md", "CPP.md", "RUST.md", "PYTHON.md")]
+pages = [here / "README.md", here / "python/README.md", *docs]
 
 
 def compiled(command, name, text):
     """The program that the compiler makes of the text."""
     (room / name).write_text(text)
     flags = [f"-I{here}/c", "-Wall", "-Wextra", "-Werror"]
-    subprocess.run([*command, *flags, str(room / name), str(build / "libzerotrie.a"), "-o", str(room / "shown")], check=True)
+    made = [str(room / name), str(build / "libzerotrie.a"), "-o", str(room / "shown")]
+    subprocess.run([*command, *flags, *made], check=True)
     return [str(room / "shown")]
 
 
@@ -25,10 +27,16 @@ def in_rust(body):
     """The program that cargo makes of a package that depends on the crate."""
     project = room / "shown-rust"
     (project / "src").mkdir(parents=True, exist_ok=True)
-    (project / "Cargo.toml").write_text('[package]\nname = "shown"\nversion = "0.0.0"\nedition = "2024"\n[dependencies]\n'
-                                        f'zerotrie-proved = {{ path = "{here}/rust/zerotrie-proved" }}\n[workspace]\n')
-    (project / "src/main.rs").write_text(f"fn main() -> Result<(), Box<dyn std::error::Error>> {{\n{body}Ok(())\n}}\n")
-    subprocess.run(["cargo", "build", "--offline", "--quiet", "--manifest-path", str(project / "Cargo.toml")], check=True)
+    (project / "Cargo.toml").write_text(
+        '[package]\nname = "shown"\nversion = "0.0.0"\nedition = "2024"\n[dependencies]\n'
+        f'zerotrie-proved = {{ path = "{here}/rust/zerotrie-proved" }}\n[workspace]\n'
+    )
+    (project / "src/main.rs").write_text(
+        f"fn main() -> Result<(), Box<dyn std::error::Error>> {{\n{body}Ok(())\n}}\n"
+    )
+    manifest = str(project / "Cargo.toml")
+    cargo = ["cargo", "build", "--offline", "--quiet", "--manifest-path", manifest]
+    subprocess.run(cargo, check=True)
     return [str(pathlib.Path(os.environ["CARGO_TARGET_DIR"]) / "debug/shown")]
 
 
@@ -37,7 +45,8 @@ def program(language, body):
         text = '#include "zerotrie.h"\n#include <stdio.h>\nint main(void) {\n' + body + "}\n"
         return compiled([os.environ.get("CC", "cc"), "-std=c11"], "shown.c", text)
     if language == "cpp":
-        text = '#include "zerotrie.hpp"\n#include <iostream>\n#include <map>\nint main() {\n' + body + "}\n"
+        headers = "".join(f"#include {it}\n" for it in ('"zerotrie.hpp"', "<iostream>", "<map>"))
+        text = f"{headers}int main() {{\n{body}}}\n"
         compiler = [os.environ.get("CXX", "c++"), "-std=c++17"]
         # programs without exceptions and run-time types take the header too
         compiled([*compiler, "-fno-exceptions", "-fno-rtti"], "shown.cpp", text)
@@ -45,10 +54,24 @@ def program(language, body):
     return in_rust(body) if language == "rs" else [sys.executable, "-c", body]
 
 
-assert set(shown) == {"c", "cpp", "rs", "python"}, set(shown)
-for language, body in shown.items():
+def shown(page):
+    """The languages and the texts of the examples of a page."""
+    found = re.findall(r"^```(c|cpp|rs|python)\n(.*?)^```", page.read_text(), re.M | re.S)
+    assert found, page
+    return found
+
+
+def run(page, language, body):
+    """Runs an example."""
     want = re.findall(r"(?:print|cout).*?(?://|#) (.*)", body)
     environment = {**os.environ, "PYTHONPATH": str(here / "python")}
-    printed = subprocess.run(program(language, body), check=True, capture_output=True, text=True, env=environment).stdout
-    assert want and printed.splitlines() == want, (language, printed, want)
-print("readme: what it shows of four languages runs")
+    command = program(language, body)
+    done = subprocess.run(command, check=True, capture_output=True, text=True, env=environment)
+    assert want and done.stdout.splitlines() == want, (page, language, done.stdout, want)
+
+
+examples = [(page, *example) for page in pages for example in shown(page)]
+assert {language for _, language, _ in examples} == {"c", "cpp", "rs", "python"}
+for example in examples:
+    run(*example)
+print(f"readme: {len(examples)} examples on {len(pages)} pages run")

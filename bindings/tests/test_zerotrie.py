@@ -1,5 +1,6 @@
-"""Calls the library from Python. The argument `extension` or `ctypes` says by which of the two ways single look-ups go; with none they
-go by the extension if there is one."""
+"""Calls the library from Python. The argument `extension` or `ctypes` says by which of the two ways
+single look-ups go; with none they go by the extension if there is one.
+"""
 
 import array
 import contextlib
@@ -32,12 +33,25 @@ if way == "ctypes":
     sys.modules["zerotrie._fast"] = None
 import packed  # noqa: E402
 import zerotrie  # noqa: E402
-from zerotrie import EXTENDED_CAPACITY, IGNORE_CASE, PERFECT_HASH, SIMPLE_ASCII, Kind, StrTrie, ZeroTrie, ZeroTrieError, build  # noqa: E402
+from zerotrie import (
+    EXTENDED_CAPACITY,
+    IGNORE_CASE,
+    PERFECT_HASH,
+    SIMPLE_ASCII,
+    Kind,
+    StrTrie,
+    ZeroTrie,
+    ZeroTrieError,
+    build,
+)  # noqa: E402
 
 random.seed(5)
 by_extension = isinstance(ZeroTrie.get, types.MethodDescriptorType)
 zerotrie_version = zerotrie.__version__
-assert way in (None, "extension" if by_extension else "ctypes"), (way, "the extension was not made, or not found")
+assert way in (None, "extension" if by_extension else "ctypes"), (
+    way,
+    "the extension was not made, or not found",
+)
 
 
 def refused(kind, call, *arguments):
@@ -58,18 +72,29 @@ def peak(call, *arguments):
 
 
 for module in (zerotrie, zerotrie._errors, zerotrie._pairs):
-    assert doctest.testmod(module, extraglobs=vars(zerotrie), optionflags=doctest.ELLIPSIS).failed == 0
+    assert (
+        doctest.testmod(module, extraglobs=vars(zerotrie), optionflags=doctest.ELLIPSIS).failed == 0
+    )
 for kind in Kind:
     for size in (0, 1, 30, 2000):
         high = 256 if kind in (PERFECT_HASH, EXTENDED_CAPACITY) else 128
         letters = [b for b in range(high) if kind != IGNORE_CASE or not 65 <= b < 91]
-        pairs = {bytes(random.choice(letters) for _ in range(random.randrange(9))): random.randrange(1 << 64) for _ in range(size)}
+        pairs = {
+            bytes(random.choice(letters) for _ in range(random.randrange(9))): random.randrange(
+                1 << 64
+            )
+            for _ in range(size)
+        }
         data = build(pairs, kind)
         assert data[0] == kind and zerotrie.build_sorted(sorted(pairs.items()), kind) == data
         assert zerotrie.encoded_len(sorted(pairs.items()), kind) == len(data) - 1
         for lent in (data, bytearray(data), memoryview(data), memoryview(b"?" + data)[1:]):
             trie = ZeroTrie(lent)
-            assert trie.kind is kind and dict(trie) == dict(trie.items()) == pairs and len(trie) == len(pairs)
+            assert (
+                trie.kind is kind
+                and dict(trie) == dict(trie.items()) == pairs
+                and len(trie) == len(pairs)
+            )
             keys = [*pairs, b"no such key", "text"]
             assert list(trie.get_many(keys, 7)) == [pairs.get(key, 7) for key in keys]
         for text in [b"", *pairs][:300]:
@@ -78,41 +103,74 @@ for kind in Kind:
             assert trie.longest_prefix(text) == ((fronts[0], pairs[fronts[0]]) if fronts else None)
             assert trie.prefixes(text) == [(front, pairs[front]) for front in reversed(fronts)]
             borders = bytes(random.sample(letters, 20))
-            ends = [front for front in fronts if front in (b"", text) or text[len(front)] in borders]
-            assert trie.longest_prefix(text, at=borders) == ((ends[0], pairs[ends[0]]) if ends else None)
+            ends = [
+                front for front in fronts if front in (b"", text) or text[len(front)] in borders
+            ]
+            assert trie.longest_prefix(text, at=borders) == (
+                (ends[0], pairs[ends[0]]) if ends else None
+            )
         for key in list(pairs)[:50]:
             front = key[:2]
             wanted = {k: v for k, v in pairs.items() if k.startswith(front)}
             assert trie.items(front) == wanted.items() and trie.keys(front) == wanted.keys()
-            assert sorted(trie.values(front)) == sorted(wanted.values()) and len(trie.keys(front)) == len(wanted)
+            assert sorted(trie.values(front)) == sorted(wanted.values()) and len(
+                trie.keys(front)
+            ) == len(wanted)
             cursor = trie.with_prefix(key)
-            assert cursor is not None and cursor.copy().take_value() == cursor.take_value() == pairs[key] and cursor.take_value() is None
+            assert (
+                cursor is not None
+                and cursor.copy().take_value() == cursor.take_value() == pairs[key]
+                and cursor.take_value() is None
+            )
         alone = ZeroTrie(data[1:], kind)
-        assert alone == trie == ZeroTrie(trie) == pairs and pairs == trie and trie != {**pairs, b"no such key": 1}
-        assert hash(trie) == hash(alone) == hash(frozenset(pairs.items())) and bytes(trie) == data == bytes(alone)
+        assert (
+            alone == trie == ZeroTrie(trie) == pairs
+            and pairs == trie
+            and trie != {**pairs, b"no such key": 1}
+        )
+        assert hash(trie) == hash(alone) == hash(frozenset(pairs.items())) and bytes(
+            trie
+        ) == data == bytes(alone)
         assert alone.untagged == trie.untagged == data[1:] and trie.untagged.readonly
 
 trie = ZeroTrie.build({"foo": 1, "bar": 2})
-assert trie.kind == SIMPLE_ASCII and "foo" in trie and "fo" not in trie and trie and sorted(trie.values()) == [1, 2]
+assert (
+    trie.kind == SIMPLE_ASCII
+    and "foo" in trie
+    and "fo" not in trie
+    and trie
+    and sorted(trie.values()) == [1, 2]
+)
 assert ZeroTrie.build([("å", 1)]).kind == PERFECT_HASH
 refused(KeyError, trie.__getitem__, "fo")
 refused(ZeroTrieError, ZeroTrie, b"into")
 refused(OverflowError, build, {"a": -1})
 assert refused(ZeroTrieError, build, [("a", 1), ("a", 2)]).status == 6
 ascii_only = refused(ZeroTrieError, build, {"a": 1, "å": 1}, SIMPLE_ASCII)
-assert str(ascii_only) == "a key has a byte that is not ASCII: take a kind of trie for keys of any bytes: key 1 is 'å'"
+assert (
+    str(ascii_only)
+    == "a key has a byte that is not ASCII: take a kind of trie for keys of any bytes: key 1 is 'å'"
+)
 assert (ascii_only.key, ascii_only.index, ascii_only.other, ascii_only.at) == ("å", 1, None, None)
-mixed = refused(ZeroTrieError, ZeroTrie.build, [("host", 0), (b"Date", 1), ("date", 2)], IGNORE_CASE)
+mixed = refused(
+    ZeroTrieError, ZeroTrie.build, [("host", 0), (b"Date", 1), ("date", 2)], IGNORE_CASE
+)
 assert (mixed.status, mixed.key, mixed.index, mixed.other) == (4, b"Date", 1, 2)
 assert len(str(refused(ZeroTrieError, build, [("x" * 10000, 1)] * 2))) < 200
 assert refused(ZeroTrieError, build, {}, 9).status == 12
 for unsorted in ([("b", 1), ("a", 2)], [("a", 1), ("a", 2)]):
-    for error in (refused(ZeroTrieError, zerotrie.build_sorted, unsorted), refused(ZeroTrieError, zerotrie.encoded_len, unsorted, 0)):
+    for error in (
+        refused(ZeroTrieError, zerotrie.build_sorted, unsorted),
+        refused(ZeroTrieError, zerotrie.encoded_len, unsorted, 0),
+    ):
         assert (error.status, error.key, error.index, error.other) == (7, unsorted[0][0], 0, 1)
 # malformed bytes: the first byte that breaks a rule
 for data, kind in ((b"into", SIMPLE_ASCII), (b"\0into", None)):
     malformed = refused(ZeroTrieError, ZeroTrie, data, kind)
-    assert (malformed.status, malformed.at) == (None, 4) and "SIMPLE_ASCII: the bytes end where a key" in str(malformed)
+    assert (malformed.status, malformed.at) == (
+        None,
+        4,
+    ) and "SIMPLE_ASCII: the bytes end where a key" in str(malformed)
 assert zerotrie.build_sorted({"a": 1, "å": 2}) == build({"å": 2, "a": 1})
 # the kind is one, and stays as it is
 for number in (1, 5, 255):
@@ -121,20 +179,41 @@ assert refused(ZeroTrieError, ZeroTrie, b"").status == 13
 refused(TypeError, ZeroTrie, b"", 0.0)
 refused(AttributeError, setattr, trie, "kind", PERFECT_HASH)
 again = pickle.loads(pickle.dumps(refused(ZeroTrieError, build, [("a", 1), ("a", 2)])))
-assert (again.status, again.key, again.other) == (6, "a", 1) and str(again).startswith("a key was given twice: give each key once: ")
+assert (again.status, again.key, again.other) == (6, "a", 1) and str(again).startswith(
+    "a key was given twice: give each key once: "
+)
 assert refused(ZeroTrieError, ZeroTrie, b"\1").status == 14
 # numbers that are no keys, and such as are too large
-for call in (trie.__getitem__, trie.get, trie.__contains__, trie.longest_prefix, lambda key: build([(key, 1)]), zerotrie.DenseTable):
+for call in (
+    trie.__getitem__,
+    trie.get,
+    trie.__contains__,
+    trie.longest_prefix,
+    lambda key: build([(key, 1)]),
+    zerotrie.DenseTable,
+):
     refused(TypeError, call, 5)
-for call in (trie.cursor().step, trie.cursor().probe, lambda n: trie.get_many(["x"], n), lambda n: ZeroTrie(b"", n), lambda n: build({}, n)):
+for call in (
+    trie.cursor().step,
+    trie.cursor().probe,
+    lambda n: trie.get_many(["x"], n),
+    lambda n: ZeroTrie(b"", n),
+    lambda n: build({}, n),
+):
     refused(OverflowError, call, 1 << 64)
     refused(OverflowError, call, -1)
 assert list(trie.get_many(["foo", "x"], (1 << 64) - 1)) == [1, (1 << 64) - 1]
 numbers = array.array("I", [1, 2, 3])
 assert zerotrie.tagged(numbers, 0) == b"\0" + numbers.tobytes()
-assert pickle.loads(pickle.dumps(trie)) == copy.deepcopy(trie) == trie == unittest.mock.ANY and trie != 5
+assert (
+    pickle.loads(pickle.dumps(trie)) == copy.deepcopy(trie) == trie == unittest.mock.ANY
+    and trie != 5
+)
 assert copy.copy(trie)._data is trie._data and copy.copy(trie) == trie
-assert repr(ZeroTrie(b"a\x85", 0)) == "ZeroTrie(b'\\x00a\\x85')" and repr(ZeroTrie(bytes(99), 3, False)) == "<ZeroTrie of 99 bytes, PERFECT_HASH>"
+assert (
+    repr(ZeroTrie(b"a\x85", 0)) == "ZeroTrie(b'\\x00a\\x85')"
+    and repr(ZeroTrie(bytes(99), 3, False)) == "<ZeroTrie of 99 bytes, PERFECT_HASH>"
+)
 # bytes that are no trie, of which each byte is a value of the empty key: their listing ends
 assert 5000 <= len(ZeroTrie(b"\x81" * 5000, 0, check=False)) <= 5001
 # a cursor holds the bytes and the kind, whatever becomes of its trie
@@ -145,26 +224,47 @@ del gone
 refused(BufferError, lent.append, 1)
 assert (cursor.step(ord("A")), cursor.take_value()) == (ord("a"), 1)
 cursor = trie.cursor()
-assert (cursor.step(ord("f")), cursor.probe(0), cursor.run, bool(cursor)) == (ord("f"), (ord("o"), 1), b"", True)
+assert (cursor.step(ord("f")), cursor.probe(0), cursor.run, bool(cursor)) == (
+    ord("f"),
+    (ord("o"), 1),
+    b"",
+    True,
+)
 assert cursor.step(ord("x")) is None and not cursor
 
 # any numbers may be a cursor: those that are none in the bytes have nothing left
-for numbers in ((0, 0, 1 << 40), (5, 3, 6), ((1 << 64) - 1,) * 3, (0, 1 << 63, 2), (1 << 63, 0, 1 << 62)):
+for numbers in (
+    (0, 0, 1 << 40),
+    (5, 3, 6),
+    ((1 << 64) - 1,) * 3,
+    (0, 1 << 63, 2),
+    (1 << 63, 0, 1 << 62),
+):
     _, kind, *lent = trie._lent()
-    made_up, byte, count = zerotrie._library.CursorPlace(*numbers), ctypes.c_uint8(), ctypes.c_size_t()
+    made_up, byte, count = (
+        zerotrie._library.CursorPlace(*numbers),
+        ctypes.c_uint8(),
+        ctypes.c_size_t(),
+    )
     assert not zerotrie.lib.zerotrie_cursor_take_value(*lent, made_up, count)
     assert (made_up.run, made_up.trie, made_up.end) == numbers
     assert not zerotrie.lib.zerotrie_cursor_step(kind, *lent, made_up, ord("f"), byte)
     assert (made_up.run, made_up.trie, made_up.end) == (0, 0, 0)
 
 # what another module says of a function of Python stays its own
-with unittest.mock.patch.object(ctypes.pythonapi.PyObject_GetBuffer, "argtypes", [ctypes.c_int] * 3):
+with unittest.mock.patch.object(
+    ctypes.pythonapi.PyObject_GetBuffer, "argtypes", [ctypes.c_int] * 3
+):
     assert ZeroTrie(memoryview(bytes(trie)))["foo"] == 1
 
 # what copies, and how often
 long = bytes(1 << 20)
 large = ZeroTrie(memoryview(long), check=False)
-assert bytes(trie) is trie._data and bytes(large) == long and bytes(ZeroTrie(long, check=False)) is long
+assert (
+    bytes(trie) is trie._data
+    and bytes(large) == long
+    and bytes(ZeroTrie(long, check=False)) is long
+)
 assert peak(ZeroTrie, long, None, False) < 1 << 15 and peak(bytes, large) < 1.1 * len(long)
 assert zerotrie.tagged(memoryview(b"a?b?")[::2], PERFECT_HASH) == b"\3ab"
 
@@ -193,7 +293,10 @@ class Refused(ZeroTrieError):
 named, place = Named("foo"), Place(trie)
 for again in (copy.copy(named), copy.deepcopy(named), pickle.loads(pickle.dumps(named))):
     assert type(again) is Named and again == named and again.name == ["foo"] and again["foo"] == 1
-assert copy.copy(named).name is named.name is not copy.deepcopy(named).name and repr(named) == "Named(b'\\x00foo\\x81')"
+assert (
+    copy.copy(named).name is named.name is not copy.deepcopy(named).name
+    and repr(named) == "Named(b'\\x00foo\\x81')"
+)
 place.step(ord("f"))
 place.way = [place]
 shallow, deep = copy.copy(place), copy.deepcopy(place)
@@ -207,12 +310,23 @@ for made in (Table(zerotrie.build_dense({})), Refused(7)):
 
 # a library that is another one, or of another version
 with unittest.mock.patch.dict(os.environ, ZEROTRIE_SO="libc.so.6"):
-    assert "libc.so.6 has no function zerotrie_version, so it is not version" in str(refused(ImportError, zerotrie._library.load))
+    assert "libc.so.6 has no function zerotrie_version, so it is not version" in str(
+        refused(ImportError, zerotrie._library.load)
+    )
 with unittest.mock.patch.object(zerotrie._library, "__version__", "1.20.3"):
     words = str(refused(ImportError, zerotrie._library.load))
-    assert f"is version {zerotrie_version} of the library" in words and "this module needs 1.20.3" in words, words
+    assert (
+        f"is version {zerotrie_version} of the library" in words
+        and "this module needs 1.20.3" in words
+    ), words
 
-rows = {p: {s: random.choice((70000, 1 << 40)) + random.randrange(50) for s in ("", *map(str, range(p % 30)))} for p in range(40)}
+rows = {
+    p: {
+        s: random.choice((70000, 1 << 40)) + random.randrange(50)
+        for s in ("", *map(str, range(p % 30)))
+    }
+    for p in range(40)
+}
 rows = {str(p): row for p, row in rows.items() if p % 7}
 record = zerotrie.build_dense(rows)
 table = zerotrie.DenseTable(record)
@@ -228,6 +342,7 @@ for status, wrong in ((5, {"a": {"b/c": 1}}), (1, {"a": {"å": 1}}), (1, {b"\xFF
 refused(OverflowError, zerotrie.build_dense, {"a": {"b": -1}})
 assert zerotrie.DenseTable(zerotrie.build_dense({})).get("", "") is None
 
+
 def descriptors():
     return len(os.listdir("/proc/self/fd"))
 
@@ -239,8 +354,9 @@ def maps(path):
 with tempfile.TemporaryDirectory() as room:
     path = os.path.join(room, "tagged")
     for saved in (trie, ZeroTrie(bytes(trie)[1:], SIMPLE_ASCII), ZeroTrie(bytearray(bytes(trie)))):
-        assert saved.save(path) is None and pathlib.Path(path).read_bytes() == bytes(trie) == bytes(ZeroTrie.open(path))
-        assert os.listdir(room) == ["tagged"]
+        for tagged, file in ((False, trie.seal()), (True, bytes(trie))):
+            assert saved.save(path, tagged) is None and pathlib.Path(path).read_bytes() == file
+            assert bytes(ZeroTrie.open(path)) == bytes(trie) and os.listdir(room) == ["tagged"]
     before, opened = descriptors(), [ZeroTrie.open(pathlib.Path(path)) for _ in range(50)]
     assert descriptors() == before and dict(opened[0]) == dict(trie) and maps(path)
     # a cursor keeps the map, and so does nothing else
@@ -253,31 +369,57 @@ with tempfile.TemporaryDirectory() as room:
     assert not maps(path)
     # a closed trie says so, and stays closed
     closed = opened[0]
-    for call in (lambda: closed["foo"], lambda: closed.get("foo"), lambda: "foo" in closed, lambda: closed.longest_prefix("foo"), lambda: closed.prefixes("foo"),
-                 lambda: closed.get_many(["foo"]), lambda: list(closed), lambda: closed.keys("f") & {"foo"}, closed.cursor, lambda: bytes(closed), lambda: bool(closed),
-                 lambda: closed.save(path), lambda: closed.kind, lambda: closed == trie, lambda: closed.untagged, closed.is_well_formed):
+    for call in (
+        lambda: closed["foo"],
+        lambda: closed.get("foo"),
+        lambda: "foo" in closed,
+        lambda: closed.longest_prefix("foo"),
+        lambda: closed.prefixes("foo"),
+        lambda: closed.get_many(["foo"]),
+        lambda: list(closed),
+        lambda: closed.keys("f") & {"foo"},
+        closed.cursor,
+        lambda: bytes(closed),
+        lambda: bool(closed),
+        lambda: closed.save(path),
+        lambda: closed.kind,
+        lambda: closed == trie,
+        lambda: closed.untagged,
+        lambda: list(closed.glob("*")),
+        closed.is_well_formed,
+        closed.seal,
+    ):
         assert str(refused(ValueError, call)) == "the trie is closed"
     assert closed.close() is None and repr(closed) == "<closed ZeroTrie>"
     refused(TypeError, closed.__init__, bytes(trie))
-    # what is open stays as it was when the file is replaced, and a failure leaves the file and nothing else
+    # what is open stays as it was when the file is replaced, and a failure leaves the file and
+    # nothing else
     old = ZeroTrie.open(path)
     os.symlink("tagged", os.path.join(room, "link"))
     os.chmod(path, 0o640)
     ZeroTrie.build({"new": 9}).save(os.path.join(room, "link"))
     assert os.stat(path).st_mode & 0o777 == 0o640
-    assert old == {b"foo": 1, b"bar": 2} and ZeroTrie.open(path) == {b"new": 9} and os.path.islink(os.path.join(room, "link"))
+    assert (
+        old == {b"foo": 1, b"bar": 2}
+        and ZeroTrie.open(path) == {b"new": 9}
+        and os.path.islink(os.path.join(room, "link"))
+    )
     with unittest.mock.patch.object(os, "replace", side_effect=OSError("full")):
         assert refused(OSError, trie.save, path).args == ("full",)
     assert ZeroTrie.open(path) == {b"new": 9} and sorted(os.listdir(room)) == ["link", "tagged"]
     refused(FileNotFoundError, trie.save, os.path.join(room, "no such folder", "tagged"))
     refused(IsADirectoryError, trie.save, room)
-    assert sorted(os.listdir(room)) == ["link", "tagged"] and not [name for name in os.listdir(os.path.dirname(room)) if name.startswith(".zerotrie")]
+    assert sorted(os.listdir(room)) == ["link", "tagged"] and not [
+        name for name in os.listdir(os.path.dirname(room)) if name.startswith(".zerotrie")
+    ]
     # a file with no trie, and none: the error names it
     for wrong, at in ((b"", None), (b"\1", None), (b"\0into", 4)):
         pathlib.Path(path).write_bytes(wrong)
         for name in (path, os.fsencode(path), pathlib.Path(path)):
             error = refused(ZeroTrieError, ZeroTrie.open, name)
-            assert (error.path, error.at) == (name, at) and str(error).startswith(path + ": "), error
+            assert (error.path, error.at) == (name, at) and str(error).startswith(
+                path + ": "
+            ), error
             assert str(pickle.loads(pickle.dumps(error))) == str(error)
     refused(FileNotFoundError, ZeroTrie.open, path + "?")
     pipe = os.pipe()
@@ -293,17 +435,60 @@ with tempfile.TemporaryDirectory() as room:
 names = ZeroTrie.build({"bar": 2, "bazaar": 3, "foo": 1})
 keys, items, values = names.keys(), names.items(), names.values()
 given = {b"bar": 2, b"bazaar": 3, b"foo": 1}
-assert (keys, items) == (given.keys(), given.items()) and list(values) == [*given.values()] and names == given and given == names
-assert len(keys) == len(items) == len(values) == len(names) == 3 and list(keys) == list(keys) == [b"bar", b"bazaar", b"foo"]
-assert keys & {b"foo", b"x"} == {b"foo"} and keys - {b"foo"} == {b"bar", b"bazaar"} and keys | {b"x"} > {b"x"} and keys ^ keys == set()
-assert keys >= {"foo"} and keys.isdisjoint({"x"}) and items & {("foo", 1), ("foo", 2)} == {("foo", 1)} and (b"foo", 1) in items
-assert "foo" in keys and "x" not in keys and 3 in values and 4 not in values and (b"foo", 2) not in items and "foo" not in items and None not in items
-assert "foo" not in names.keys("ba") and "bar" in names.keys("ba") and ("bar", 2) in names.items(b"ba") and ("foo", 1) not in names.items(b"ba")
-assert names.keys("ba") == {b"bar", b"bazaar"} and list(names.values("ba")) == [2, 3] and len(names.items("ba")) == 2 and 1 not in names.values("ba")
+assert (
+    (keys, items) == (given.keys(), given.items())
+    and list(values) == [*given.values()]
+    and names == given
+    and given == names
+)
+assert len(keys) == len(items) == len(values) == len(names) == 3 and list(keys) == list(keys) == [
+    b"bar",
+    b"bazaar",
+    b"foo",
+]
+assert (
+    keys & {b"foo", b"x"} == {b"foo"}
+    and keys - {b"foo"} == {b"bar", b"bazaar"}
+    and keys | {b"x"} > {b"x"}
+    and keys ^ keys == set()
+)
+assert (
+    keys >= {"foo"}
+    and keys.isdisjoint({"x"})
+    and items & {("foo", 1), ("foo", 2)} == {("foo", 1)}
+    and (b"foo", 1) in items
+)
+assert (
+    "foo" in keys
+    and "x" not in keys
+    and 3 in values
+    and 4 not in values
+    and (b"foo", 2) not in items
+    and "foo" not in items
+    and None not in items
+)
+assert (
+    "foo" not in names.keys("ba")
+    and "bar" in names.keys("ba")
+    and ("bar", 2) in names.items(b"ba")
+    and ("foo", 1) not in names.items(b"ba")
+)
+assert (
+    names.keys("ba") == {b"bar", b"bazaar"}
+    and list(names.values("ba")) == [2, 3]
+    and len(names.items("ba")) == 2
+    and 1 not in names.values("ba")
+)
 assert "Keys(" in repr(keys) and names != {"foo": 1} and names != 5 and names == unittest.mock.ANY
-assert {names: 1}[ZeroTrie.build(given, PERFECT_HASH)] == 1 and names == ZeroTrie.build(given, PERFECT_HASH) != ZeroTrie.build({})
+assert {names: 1}[ZeroTrie.build(given, PERFECT_HASH)] == 1 and names == ZeroTrie.build(
+    given, PERFECT_HASH
+) != ZeroTrie.build({})
 ignoring = ZeroTrie.build({"Accept": 1, "Age": 2}, IGNORE_CASE)
-assert "ACCEPT" in ignoring.keys("aC") and "AGE" not in ignoring.keys("aC") and list(ignoring.keys("aC")) == [b"Accept"]
+assert (
+    "ACCEPT" in ignoring.keys("aC")
+    and "AGE" not in ignoring.keys("aC")
+    and list(ignoring.keys("aC")) == [b"Accept"]
+)
 # the length is known once
 with unittest.mock.patch.object(zerotrie._Trie, "_parts", side_effect=AssertionError):
     assert len(names) == 3
@@ -315,24 +500,58 @@ with unittest.mock.patch.object(zerotrie._Trie, "_parts", side_effect=AssertionE
 # text in, text out
 texts = {"zug": 1, "zürich": 2, "züri": 3, "": 4}
 read = StrTrie.build(texts)
-assert read == texts == dict(read) and sorted(read) == sorted(texts) and read.keys() == texts.keys() and read.items() == texts.items()
-assert read.longest_prefix("zürichberg") == ("zürich", 2) and read.longest_prefix("züri-x", at="-") == ("züri", 3)
-assert read.prefixes("zürichsee") == [("", 4), ("züri", 3), ("zürich", 2)] and list(read.keys("zür")) == ["züri", "zürich"]
-assert read["zug"] == read["zug".encode()] == 1 and list(read.get_many(["zug", "x"], 9)) == [1, 9] and "zug" in read.keys() & {"zug", "x"}
-assert type(copy.copy(read)) is type(pickle.loads(pickle.dumps(read))) is StrTrie and pickle.loads(pickle.dumps(read)) == read
-assert ZeroTrie(read) != read and StrTrie(ZeroTrie(read)) == read == StrTrie(bytes(read)) and bytes(read) == bytes(ZeroTrie(read))
-assert StrTrie.build({}) == ZeroTrie.build({}) == {} and hash(StrTrie.build({})) == hash(ZeroTrie.build({})) and repr(StrTrie.build({"a": 5})) == "StrTrie(b'\\x00a\\x85')"
-for call in (list, lambda one: one.items(), lambda one: one.longest_prefix(b"\xff"), lambda one: one.prefixes(b"\xff")):
+assert (
+    read == texts == dict(read)
+    and sorted(read) == sorted(texts)
+    and read.keys() == texts.keys()
+    and read.items() == texts.items()
+)
+assert read.longest_prefix("zürichberg") == ("zürich", 2) and read.longest_prefix(
+    "züri-x", at="-"
+) == ("züri", 3)
+assert read.prefixes("zürichsee") == [("", 4), ("züri", 3), ("zürich", 2)] and list(
+    read.keys("zür")
+) == ["züri", "zürich"]
+assert (
+    read["zug"] == read["zug".encode()] == 1
+    and list(read.get_many(["zug", "x"], 9)) == [1, 9]
+    and "zug" in read.keys() & {"zug", "x"}
+)
+assert (
+    type(copy.copy(read)) is type(pickle.loads(pickle.dumps(read))) is StrTrie
+    and pickle.loads(pickle.dumps(read)) == read
+)
+assert (
+    ZeroTrie(read) != read
+    and StrTrie(ZeroTrie(read)) == read == StrTrie(bytes(read))
+    and bytes(read) == bytes(ZeroTrie(read))
+)
+assert (
+    StrTrie.build({}) == ZeroTrie.build({}) == {}
+    and hash(StrTrie.build({})) == hash(ZeroTrie.build({}))
+    and repr(StrTrie.build({"a": 5})) == "StrTrie(b'\\x00a\\x85')"
+)
+for call in (
+    list,
+    lambda one: one.items(),
+    lambda one: one.longest_prefix(b"\xff"),
+    lambda one: one.prefixes(b"\xff"),
+):
     refused(UnicodeDecodeError, lambda: list(call(StrTrie.build({b"\xff": 1}))))
 for wrong in ("–", "-–"):
     refused(ValueError, lambda: read.longest_prefix("x", at=wrong))
-assert read.longest_prefix("zug–", at="–".encode()) == ("zug", 1) and read.longest_prefix("zugs", at="") == ("", 4)
+assert read.longest_prefix("zug–", at="–".encode()) == ("zug", 1) and read.longest_prefix(
+    "zugs", at=""
+) == ("", 4)
 tags = StrTrie.build({"en": 1, "en-GB": 2, "zh-Hant": 3})
-assert [tags.longest_prefix(tag, at="-_") for tag in ("en-GB-oxendict", "en_US", "english", "zh-Hans", "zh-Hant-TW")] == [
-    ("en-GB", 2), ("en", 1), None, None, ("zh-Hant", 3)]
+assert [
+    tags.longest_prefix(tag, at="-_")
+    for tag in ("en-GB-oxendict", "en_US", "english", "zh-Hans", "zh-Hant-TW")
+] == [("en-GB", 2), ("en", 1), None, None, ("zh-Hant", 3)]
 
-# what is packed: the package, its types and the library, the extension if it compiles, and for an editable install the way to this
-# folder. A wheel with the extension serves CPython from 3.9 on, and one without any Python
+# what is packed: the package, its types and the library, the extension if it compiles, and for an
+# editable install the way to this folder. A wheel with the extension serves CPython from 3.9 on,
+# and one without any Python
 with tempfile.TemporaryDirectory() as room:
     here = pathlib.Path(shutil.copytree(packed.HERE, os.path.join(room, "bindings/python")))
     shutil.copytree(packed.HERE.parent / "c", os.path.join(room, "bindings/c"))
@@ -341,29 +560,54 @@ with tempfile.TemporaryDirectory() as room:
     (here / "zerotrie/libzerotrie.so").write_bytes(b"library")
     with unittest.mock.patch.object(packed, "HERE", here):
         label = packed.name()
-        files = {"zerotrie/libzerotrie.so", "zerotrie/py.typed", "zerotrie/_version.py",
-                 *(f"zerotrie/{path.name}" for path in packed.HERE.glob("zerotrie/*.py"))}
+        files = {
+            "zerotrie/libzerotrie.so",
+            "zerotrie/py.typed",
+            "zerotrie/_version.py",
+            *(f"zerotrie/{path.name}" for path in packed.HERE.glob("zerotrie/*.py")),
+        }
         assert label == f"zerotrie-{zerotrie_version}" and len(files) >= 9
         with tarfile.open(os.path.join(room, packed.build_sdist(room))) as sdist:
-            names = {*files, "zerotrie/_fast.c", "zerotrie.h", "packed.py", "pyproject.toml", "README.md", "LICENSE", "VERSION"}
+            names = {
+                *files,
+                "zerotrie/_fast.c",
+                "zerotrie.h",
+                "packed.py",
+                "pyproject.toml",
+                "README.md",
+                "LICENSE",
+                "VERSION",
+            }
             assert {f"{label}/{name}" for name in names} <= set(sdist.getnames())
-        for build_it, compiler, tag, want in ((packed.build_wheel, "cc", "cp39-abi3", {*files, "zerotrie/_fast.abi3.so"}),
-                                              (packed.build_wheel, "true", "py3-none", files),
-                                              (packed.build_wheel, "false", "py3-none", files),
-                                              (packed.build_wheel, "no-such-compiler", "py3-none", files),
-                                              (packed.build_editable, "cc", "py3-none", {"zerotrie.pth"})):
+        for build_it, compiler, tag, want in (
+            (packed.build_wheel, "cc", "cp39-abi3", {*files, "zerotrie/_fast.abi3.so"}),
+            (packed.build_wheel, "true", "py3-none", files),
+            (packed.build_wheel, "false", "py3-none", files),
+            (packed.build_wheel, "no-such-compiler", "py3-none", files),
+            (packed.build_editable, "cc", "py3-none", {"zerotrie.pth"}),
+        ):
             if tag == "cp39-abi3" and not by_extension:
                 continue
             said = io.StringIO()
-            with unittest.mock.patch.dict(os.environ, CC=compiler, CFLAGS=""), contextlib.redirect_stderr(said):
+            with unittest.mock.patch.dict(
+                os.environ, CC=compiler, CFLAGS=""
+            ), contextlib.redirect_stderr(said):
                 wheel = build_it(room)
-            assert wheel.startswith(f"{label}-{tag}-") and ("python3-dev" in said.getvalue()) == (compiler != "cc"), said.getvalue()
+            assert wheel.startswith(f"{label}-{tag}-") and ("python3-dev" in said.getvalue()) == (
+                compiler != "cc"
+            ), said.getvalue()
             # the extension asks for symbols that each glibc from 2014 on has
             assert tag != "cp39-abi3" or sys.platform != "linux" or "manylinux2014" in wheel, wheel
             with zipfile.ZipFile(os.path.join(room, wheel)) as opened:
                 assert {name for name in opened.namelist() if not name.startswith(label)} == want
-                told = {name: opened.read(f"{label}.dist-info/{name}").decode() for name in ("METADATA", "WHEEL")}
-                assert "\nSummary: Maps from" in told["METADATA"] and "\nLicense: Unicode-3.0\n" in told["METADATA"]
+                told = {
+                    name: opened.read(f"{label}.dist-info/{name}").decode()
+                    for name in ("METADATA", "WHEEL")
+                }
+                assert (
+                    "\nSummary: Maps from" in told["METADATA"]
+                    and "\nLicense: Unicode-3.0\n" in told["METADATA"]
+                )
                 assert f"\nTag: {tag}-" in told["WHEEL"]
 
 
@@ -378,6 +622,7 @@ for thread in threads:
 for thread in threads:
     thread.join()
 
+
 def refused_in_words(call, *words):
     try:
         call()
@@ -390,9 +635,13 @@ def refused_in_words(call, *words):
 refused_in_words(lambda: zerotrie.build({"a": "b"}), "a value is a whole number, not str")
 refused_in_words(lambda: zerotrie.build({1: 1}), "a key is text or bytes, not int")
 refused_in_words(lambda: zerotrie.ZeroTrie.build({"a": 1}).get_many("a"), "takes keys")
-refused_in_words(lambda: zerotrie.ZeroTrie(zerotrie.build({"\u00e5": 1})[1:], 0), "no trie of kind SIMPLE_ASCII: ")
+refused_in_words(
+    lambda: zerotrie.ZeroTrie(zerotrie.build({"\u00e5": 1})[1:], 0),
+    "no trie of kind SIMPLE_ASCII: ",
+)
 
-# what a second set-up would let go of, another thread may be reading, or this one, in a call whose key or number runs code
+# what a second set-up would let go of, another thread may be reading, or this one, in a call whose
+# key or number runs code
 trie, other = ZeroTrie.build({"foo": 1, "bar": 2}), build({"foo": 3})
 for made, arguments in ((trie, (other,)), (trie.cursor(), (trie,)), (named, ("bar",))):
     assert "make another one" in str(refused(TypeError, made.__init__, *arguments))
@@ -441,27 +690,74 @@ def again():
 
 
 mine = ZeroTrie(bytearray(other))
-for call, wanted in (("get", 3), ("__getitem__", 3), ("__contains__", True), ("longest_prefix", (b"foo", 3))):
+for call, wanted in (
+    ("get", 3),
+    ("__getitem__", 3),
+    ("__contains__", True),
+    ("longest_prefix", (b"foo", 3)),
+):
     place = mine.cursor()
-    assert place.step(Meddling(again, ord("f"))) == ord("f") and place.probe(Meddling(again, 0)) == (ord("o"), 1)
+    assert place.step(Meddling(again, ord("f"))) == ord("f") and place.probe(
+        Meddling(again, 0)
+    ) == (ord("o"), 1)
     if sys.version_info >= (3, 12):
-        assert getattr(mine, call)(Meddling(again, b"foo")) == wanted and mine.with_prefix(Meddling(again, b"foo"))
+        assert getattr(mine, call)(Meddling(again, b"foo")) == wanted and mine.with_prefix(
+            Meddling(again, b"foo")
+        )
 # a type that says it is text, and is none
 lying = type("Lying", (bytearray,), {"__class__": property(lambda self: str)})(b"foo")
 assert isinstance(lying, str) and trie[lying] == 1
 assert trie.get(Text("foo")) == trie[Text("foo")] == trie[Long(b"foo")] == 1 and Text("foo") in trie
-assert trie.longest_prefix(Text("foobar")) == (b"foo", 1) and build({Text("foo"): 1}) == build({"foo": 1})
+assert trie.longest_prefix(Text("foobar")) == (b"foo", 1) and build({Text("foo"): 1}) == build(
+    {"foo": 1}
+)
 assert list(trie.get_many([Text("foo"), Long(b"bar")])) == [1, 2]
 assert trie.get(key="foo", default=5) == 1 and trie.get("x", default=5) == trie.get("x", 5) == 5
-for wrong in (trie.get, lambda: trie.get("x", 1, 2), lambda: trie.get("x", key="x"), lambda: trie.get("x", no=1), trie.longest_prefix):
+for wrong in (
+    trie.get,
+    lambda: trie.get("x", 1, 2),
+    lambda: trie.get("x", key="x"),
+    lambda: trie.get("x", no=1),
+    trie.longest_prefix,
+):
     refused(TypeError, wrong)
 
 # nothing was set up: no call reads at no address
-for call in ("get", "__getitem__", "__contains__", "longest_prefix", "prefixes", "with_prefix", "items", "get_many", "__len__", "__bool__",
-             "__bytes__", "is_well_formed", "cursor", "__hash__", "__copy__", "__reduce__"):
-    arguments = ["a"] if call in ("get", "__getitem__", "__contains__", "longest_prefix", "prefixes", "with_prefix") else [["a"]] if call == "get_many" else []
+for call in (
+    "get",
+    "__getitem__",
+    "__contains__",
+    "longest_prefix",
+    "prefixes",
+    "with_prefix",
+    "items",
+    "get_many",
+    "__len__",
+    "__bool__",
+    "__bytes__",
+    "is_well_formed",
+    "cursor",
+    "__hash__",
+    "__copy__",
+    "__reduce__",
+):
+    arguments = (
+        ["a"]
+        if call
+        in ("get", "__getitem__", "__contains__", "longest_prefix", "prefixes", "with_prefix")
+        else [["a"]]
+        if call == "get_many"
+        else []
+    )
     refused(AttributeError, lambda: list(getattr(ZeroTrie.__new__(ZeroTrie), call)(*arguments)))
-for call, *arguments in (("step", 1), ("probe", 1), ("take_value",), ("copy",), ("__bool__",), ("__copy__",)):
+for call, *arguments in (
+    ("step", 1),
+    ("probe", 1),
+    ("take_value",),
+    ("copy",),
+    ("__bool__",),
+    ("__copy__",),
+):
     refused(AttributeError, getattr(zerotrie.Cursor.__new__(zerotrie.Cursor), call), *arguments)
 refused(AttributeError, lambda: zerotrie.Cursor.__new__(zerotrie.Cursor).run)
 
@@ -475,21 +771,33 @@ class Index:
         return self.number
 
 
-assert build({"a": Index(5)}, Index(0)) == build({"a": 5}) and zerotrie.tagged(b"", Index(3)) == b"\3"
-assert list(trie.get_many(["x"], Index(9))) == [9] and trie.cursor().step(Index(ord("f"))) == trie.cursor().step(ord("f")) == ord("f")
+assert (
+    build({"a": Index(5)}, Index(0)) == build({"a": 5}) and zerotrie.tagged(b"", Index(3)) == b"\3"
+)
+assert list(trie.get_many(["x"], Index(9))) == [9] and trie.cursor().step(
+    Index(ord("f"))
+) == trie.cursor().step(ord("f")) == ord("f")
 for call in (trie.cursor().step, trie.cursor().probe):
     refused(TypeError, call, "f")
     refused(TypeError, call, 1.0)
     refused(OverflowError, call, Index(-1))
 refused(OverflowError, trie.cursor().step, 256)
-assert trie.cursor().probe((1 << 64) - 1) is trie.cursor().step(True) is None and trie.cursor().probe(True) == trie.cursor().probe(1)
+assert trie.cursor().probe((1 << 64) - 1) is trie.cursor().step(
+    True
+) is None and trie.cursor().probe(True) == trie.cursor().probe(1)
 
-# the library is the one that ZEROTRIE_SO names, for the extension too: another copy of it would come beside
+# the library is the one that ZEROTRIE_SO names, for the extension too: another copy of it would
+# come beside
 if os.environ.get("ZEROTRIE_SO"):
-    used = {line.split(maxsplit=5)[5] for line in pathlib.Path("/proc/self/maps").read_text().splitlines() if "libzerotrie" in line}
+    used = {
+        line.split(maxsplit=5)[5]
+        for line in pathlib.Path("/proc/self/maps").read_text().splitlines()
+        if "libzerotrie" in line
+    }
     assert used == {os.path.realpath(os.environ["ZEROTRIE_SO"])}, used
 
-# what takes long lets other threads run, and what is short does not, so that a cursor is whole whenever another thread looks at it
+# what takes long lets other threads run, and what is short does not, so that a cursor is whole
+# whenever another thread looks at it
 for name in zerotrie._library._DECLARED:
     keeps = name in zerotrie._library.SHORT
     assert bool(getattr(zerotrie.lib, name)._flags_ & 4) == keeps, name
@@ -519,8 +827,11 @@ for call in (trie.items, trie.keys, trie.values):
     refused(TypeError, call, 5)
 
 # a key that is not there is what KeyError has, whatever it is
-assert refused(KeyError, trie.__getitem__, "no").args == ("no",) and refused(KeyError, trie.__getitem__, b"no").args == (b"no",)
+assert refused(KeyError, trie.__getitem__, "no").args == ("no",) and refused(
+    KeyError, trie.__getitem__, b"no"
+).args == (b"no",)
 if sys.version_info >= (3, 12):
+
     class Odd(KeyError):
         def __buffer__(self, flags):
             return memoryview(b"no")
@@ -552,17 +863,46 @@ texts_out = StrTrie.build({"foo": 1, "f": 2, "å": 3})
 
 def ask_all():
     """Each call that the extension has, with each way out of it."""
-    for key in ("foo", "x", b"foo", bytearray(b"foo"), memoryview(b"x"), "å", "\ud800", 5, Text("foo")):
-        for call in (trie.get, trie.__getitem__, trie.__contains__, trie.longest_prefix, trie.with_prefix, trie.prefixes, trie.items, trie.keys,
-                     lambda key: trie.get(key, default=key), lambda key: trie.longest_prefix(key, at=key), lambda key: trie.get_many(["x", key]),
-                     lambda key: list(texts_out.items(key)), texts_out.prefixes, lambda key: trie.get_many([key] * 300)):
+    for key in (
+        "foo",
+        "x",
+        b"foo",
+        bytearray(b"foo"),
+        memoryview(b"x"),
+        "å",
+        "\ud800",
+        5,
+        Text("foo"),
+    ):
+        for call in (
+            trie.get,
+            trie.__getitem__,
+            trie.__contains__,
+            trie.longest_prefix,
+            trie.with_prefix,
+            trie.prefixes,
+            trie.items,
+            trie.keys,
+            lambda key: trie.get(key, default=key),
+            lambda key: trie.longest_prefix(key, at=key),
+            lambda key: trie.get_many(["x", key]),
+            lambda key: list(texts_out.items(key)),
+            texts_out.prefixes,
+            lambda key: trie.get_many([key] * 300),
+        ):
             try:
                 call(key)
             except (KeyError, TypeError, UnicodeEncodeError, ValueError):
                 pass
     cursor = trie.cursor()
-    for call, number in ((cursor.step, ord("f")), (cursor.copy().probe, 0), (cursor.copy().probe, int("1000000")), (cursor.probe, 7),
-                         (cursor.step, -1), (cursor.probe, "a")):
+    for call, number in (
+        (cursor.step, ord("f")),
+        (cursor.copy().probe, 0),
+        (cursor.copy().probe, int("1000000")),
+        (cursor.probe, 7),
+        (cursor.step, -1),
+        (cursor.probe, "a"),
+    ):
         try:
             call(number)
         except (OverflowError, TypeError):
@@ -577,14 +917,20 @@ def ask_all():
 # a reference too many keeps memory, and one too few ends the process later
 ask_all()
 gc.collect()
-blocks, uses = sys.getallocatedblocks(), [sys.getrefcount(each) for each in (ZeroTrie, zerotrie.Cursor, None, True)]
+blocks, uses = sys.getallocatedblocks(), [
+    sys.getrefcount(each) for each in (ZeroTrie, zerotrie.Cursor, None, True)
+]
 for _ in range(1000):
     ask_all()
 gc.collect()
 assert sys.getallocatedblocks() - blocks < 900, sys.getallocatedblocks() - blocks
-assert all(sys.getrefcount(each) - use < 900 for each, use in zip((ZeroTrie, zerotrie.Cursor, None, True), uses))
+assert all(
+    sys.getrefcount(each) - use < 900
+    for each, use in zip((ZeroTrie, zerotrie.Cursor, None, True), uses)
+)
 
-# threads that ask one trie, set it up again and go on by one cursor: each step is whole, so none reads beyond the bytes
+# threads that ask one trie, set it up again and go on by one cursor: each step is whole, so none
+# reads beyond the bytes
 shared = trie.cursor()
 stop = threading.Event()
 
@@ -592,8 +938,15 @@ stop = threading.Event()
 def meddle():
     while not stop.is_set():
         refused(TypeError, trie.__init__, other)
-        assert trie.get("foo") == 1 and trie["bar"] == 2 and "x" not in trie and list(trie.items("f")) == [(b"foo", 1)]
-        assert list(trie.get_many(["foo"] * 300))[-1] == 1 and trie.prefixes("food") == [(b"foo", 1)]
+        assert (
+            trie.get("foo") == 1
+            and trie["bar"] == 2
+            and "x" not in trie
+            and list(trie.items("f")) == [(b"foo", 1)]
+        )
+        assert list(trie.get_many(["foo"] * 300))[-1] == 1 and trie.prefixes("food") == [
+            (b"foo", 1)
+        ]
         closing = ZeroTrie(bytes(trie))
         threading.Thread(target=closing.close).start()
         try:
@@ -631,36 +984,93 @@ def imported(module):
     return importlib.import_module("zerotrie")
 
 
-# the two ways answer alike, down to the words of exceptions, and tell a reader the same of themselves
+# the two ways answer alike, down to the words of exceptions, and tell a reader the same of
+# themselves
 if by_extension:
     packages = imported("made"), imported(None)
     readers = [(package.ZeroTrie, package.Cursor) for package in packages]
     assert [isinstance(one.get, types.MethodDescriptorType) for one, _ in readers] == [True, False]
-    for which, name in ((0, "get"), (0, "longest_prefix"), (0, "prefixes"), (1, "step"), (1, "probe"), (1, "take_value")):
+    for which, name in (
+        (0, "get"),
+        (0, "longest_prefix"),
+        (0, "prefixes"),
+        (1, "step"),
+        (1, "probe"),
+        (1, "take_value"),
+    ):
         told = []
         for types_of in readers:
             call = getattr(types_of[which], name)
             taken = list(inspect.signature(call).parameters.values())[1:]
-            told.append((" ".join(call.__doc__.split()), [(each.name, each.kind, each.default) for each in taken]))
+            told.append(
+                (
+                    " ".join(call.__doc__.split()),
+                    [(each.name, each.kind, each.default) for each in taken],
+                )
+            )
         assert told[0] == told[1], told
     assert len({" ".join(one.run.__doc__.split()) for _, one in readers}) == 1
     pairs = {"": 0, "a": 1, "foo": 1 << 64 - 1, "food": 7, "fö": 3}
     released = memoryview(b"foo")
     released.release()
-    strange = [released, *pairs, "fo", "foods", b"", b"foo", b"f\xc3\xb6", b"\xff", "\ud800", "\ud800\udfff", "\0", Text("foo"), Long(b"foo"), bytearray(b"foo"),
-               memoryview(b"foo"), memoryview(b"f?o?o?")[::2], array.array("H", [0x6F66]), 5, None, 1.5, [], (), ("foo",), {}, object, "x" * 100000]
+    strange = [
+        released,
+        *pairs,
+        "fo",
+        "foods",
+        b"",
+        b"foo",
+        b"f\xc3\xb6",
+        b"\xff",
+        "\ud800",
+        "\ud800\udfff",
+        "\0",
+        Text("foo"),
+        Long(b"foo"),
+        bytearray(b"foo"),
+        memoryview(b"foo"),
+        memoryview(b"f?o?o?")[::2],
+        array.array("H", [0x6F66]),
+        5,
+        None,
+        1.5,
+        [],
+        (),
+        ("foo",),
+        {},
+        object,
+        "x" * 100000,
+    ]
     for letters in ({"a": 1, "foo": 1 << 63, "food": 7}, pairs, {}):
         tries = [package.ZeroTrie.build(letters) for package in packages]
         for key in strange:
-            for ask in (lambda one: one.get(key), lambda one: one.get(key, 5), lambda one: one[key], lambda one: key in one,
-                        lambda one: one.longest_prefix(key), lambda one: one.longest_prefix("food", at=key), lambda one: one.longest_prefix(key, "f"),
-                        lambda one: one.prefixes(key), lambda one: list(one.get_many(["foo", key], 9)), lambda one: list(one.get_many(["foo"], key)),
-                        lambda one: list(one.items(key)), lambda one: list(one.values(key)), lambda one: len(one.keys(key)),
-                        lambda one: bool(one.with_prefix(key)), lambda one: one.cursor().step(key),
-                        lambda one: one.cursor().probe(key)):
+            for ask in (
+                lambda one: one.get(key),
+                lambda one: one.get(key, 5),
+                lambda one: one[key],
+                lambda one: key in one,
+                lambda one: one.longest_prefix(key),
+                lambda one: one.longest_prefix("food", at=key),
+                lambda one: one.longest_prefix(key, "f"),
+                lambda one: one.prefixes(key),
+                lambda one: list(one.get_many(["foo", key], 9)),
+                lambda one: list(one.get_many(["foo"], key)),
+                lambda one: list(one.items(key)),
+                lambda one: list(one.values(key)),
+                lambda one: len(one.keys(key)),
+                lambda one: bool(one.with_prefix(key)),
+                lambda one: one.cursor().step(key),
+                lambda one: one.cursor().probe(key),
+            ):
                 assert outcome(ask, tries[0]) == outcome(ask, tries[1]), key
         for _ in range(300):
-            steps = [(random.choice(("step", "probe", "take_value", "run", "bool", "copy")), random.choice((*b"afod", 0, 1, 2, 300, -1))) for _ in range(8)]
+            steps = [
+                (
+                    random.choice(("step", "probe", "take_value", "run", "bool", "copy")),
+                    random.choice((*b"afod", 0, 1, 2, 300, -1)),
+                )
+                for _ in range(8)
+            ]
 
             def walk(one):
                 cursor, told = one.cursor(), []
@@ -670,7 +1080,13 @@ if by_extension:
                     elif step in ("step", "probe"):
                         told.append(outcome(getattr(cursor, step), number))
                     else:
-                        told.append({"take_value": cursor.take_value, "run": lambda: cursor.run, "bool": lambda: bool(cursor)}[step]())
+                        told.append(
+                            {
+                                "take_value": cursor.take_value,
+                                "run": lambda: cursor.run,
+                                "bool": lambda: bool(cursor),
+                            }[step]()
+                        )
                 return told
 
             assert walk(tries[0]) == walk(tries[1]), steps

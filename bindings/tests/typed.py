@@ -5,7 +5,7 @@ from __future__ import annotations
 from collections.abc import Mapping
 from typing import Optional, Union
 
-from zerotrie import Cursor, Kind, StrTrie, ZeroTrie, ZeroTrieError, build
+from zerotrie import Cursor, Index, Kind, StrTrie, ZeroTrie, ZeroTrieError, build
 
 
 def total(mapping: Mapping[str, int]) -> int:
@@ -29,7 +29,14 @@ fronts: list[tuple[bytes, int]] = t.prefixes("food")
 cursor: Optional[Cursor] = t.with_prefix("f")
 kind: Kind = t.kind
 with ZeroTrie.open("names.trie", check=False) as opened:
-    opened.save("other.trie")
+    opened.save("other.trie", tagged=True)
+    sealed: bytes = opened.seal()
+near: list[tuple[str, int]] = list(s.fuzzy("fop", edits=1, beginnings=True))
+between: dict[bytes, int] = dict(t.range("b", b"f"))
+globbed: set[tuple[str, int]] = s.glob("f*") & s.items("fo")
+joined: StrTrie = (s | {"b": 2}) - {"foo"} & t
+index: Index = Index.build({"foo": 1})
+found: int = index["foo"] + index.get("bar", 0)
 try:
     raw: bytes = build([("a", 1)], Kind.SIMPLE_ASCII)
 except ZeroTrieError as error:

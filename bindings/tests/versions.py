@@ -1,5 +1,7 @@
-"""Compares the version wherever it is written or printed with the file VERSION. Arguments: the folder bindings, and if there is one a folder
-that bindings/make filled, whose library, pkg-config file and program are asked too."""
+"""Compares the version wherever it is written or printed with the file VERSION. Arguments: the
+folder bindings, and if there is one a folder that bindings/make filled, whose library, pkg-config
+file and program are asked too.
+"""
 
 import ctypes
 import pathlib
@@ -23,12 +25,22 @@ def found(path, pattern):
 
 def written():
     """The version in each source that has to have it by itself. All others read VERSION."""
-    parts = [found("c/zerotrie.h", rf"^#define ZEROTRIE_VERSION_{part} (\d+)") for part in ("MAJOR", "MINOR", "PATCH")]
+    parts = [
+        found("c/zerotrie.h", rf"^#define ZEROTRIE_VERSION_{part} (\d+)")
+        for part in ("MAJOR", "MINOR", "PATCH")
+    ]
     yield "bindings/c/zerotrie.h", ".".join(parts)
-    parts = [found("../crates/zerotrie_c/src/version.rt", rf"^const {part}: u32 = (\d+);") for part in ("MAJOR", "MINOR", "PATCH")]
+    parts = [
+        found("../crates/zerotrie_c/src/version.rt", rf"^const {part}: u32 = (\d+);")
+        for part in ("MAJOR", "MINOR", "PATCH")
+    ]
     yield "crates/zerotrie_c/src/version.rt", ".".join(parts)
-    yield "bindings/rust/zerotrie-proved/Cargo.toml", found("rust/zerotrie-proved/Cargo.toml", r'^version = "(.*)"')
-    yield "crates/zerotrie_cli/src/arguments.rt", found("../crates/zerotrie_cli/src/arguments.rt", r'^\s*\.version\("(.*)"\)')
+    yield "bindings/rust/zerotrie-proved/Cargo.toml", found(
+        "rust/zerotrie-proved/Cargo.toml", r'^version = "(.*)"'
+    )
+    yield "crates/zerotrie_cli/src/arguments.rt", found(
+        "../crates/zerotrie_cli/src/arguments.rt", r'^\s*\.version\("(.*)"\)'
+    )
 
 
 def told():
@@ -37,11 +49,18 @@ def told():
     library = ctypes.CDLL(str(made / "libzerotrie.so"))
     number = library.zerotrie_version() if hasattr(library, "zerotrie_version") else 0
     yield "zerotrie_version()", f"{number // 1_000_000}.{number // 1_000 % 1_000}.{number % 1_000}"
-    symbols = subprocess.run(["nm", "-D", "--defined-only", made / "libzerotrie.so"], capture_output=True, text=True, check=True).stdout
+    symbols = subprocess.run(
+        ["nm", "-D", "--defined-only", made / "libzerotrie.so"],
+        capture_output=True,
+        text=True,
+        check=True,
+    ).stdout
     nodes = set(re.findall(r"zerotrie_\w+@@(\S+)", symbols))
     yield "the symbols' version", f"{' '.join(nodes).removeprefix('ZEROTRIE_')}.{PATCH}"
     if (made / "zerotrie").exists():
-        yield "zerotrie --version", subprocess.run([made / "zerotrie", "--version"], capture_output=True, text=True, check=True).stdout.split()[-1]
+        yield "zerotrie --version", subprocess.run(
+            [made / "zerotrie", "--version"], capture_output=True, text=True, check=True
+        ).stdout.split()[-1]
         yield "zerotrie.1", re.search(r'"zerotrie (.*?)"', (made / "zerotrie.1").read_text())[1]
     sys.path.insert(0, str(here / "python"))
     import zerotrie

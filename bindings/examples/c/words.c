@@ -18,7 +18,7 @@ int main(int count, char **arguments) {
     close(at);
     if (bytes == MAP_FAILED) return 2;
     size_t place, ends[10], values[10], len, value;
-    const zerotrie_status status = zerotrie_trie_from_tagged(bytes, (size_t)file.st_size, &trie);
+    const zerotrie_status status = zerotrie_trie_open(bytes, (size_t)file.st_size, &trie);
     const zerotrie_fault fault = status == ZEROTRIE_DONE ? zerotrie_trie_first_fault(trie, &place) : ZEROTRIE_NO_FAULT;
     if (status != ZEROTRIE_DONE || fault != ZEROTRIE_NO_FAULT) {
         fprintf(stderr, "%s: %s\n", arguments[1], fault ? zerotrie_fault_text(fault) : zerotrie_status_text(status));

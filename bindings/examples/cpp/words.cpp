@@ -7,8 +7,8 @@
 int main(int count, char **arguments) try {
     if (count != 3) return 2;
     std::ifstream file(arguments[1], std::ios::binary);
-    const std::string tagged{std::istreambuf_iterator<char>(file), {}};
-    const zerotrie::Map words = zerotrie::Map::from_tagged(tagged);
+    const std::string bytes{std::istreambuf_iterator<char>(file), {}};
+    const zerotrie::Map words = zerotrie::Map::open(bytes);
     const std::string_view text = arguments[2];
     size_t left = 10;
     for (const auto [word, value] : words.stream(text)) {

@@ -14,7 +14,7 @@ A trie is a read-only Mapping. ZeroTrie returns keys as `bytes`, and StrTrie as 
 
 Both read their bytes in place: `bytes`, a `memoryview`, an `mmap.mmap`, a file that open() maps
 into memory, so one file can serve many processes. The bytes are tagged: the first one is the number
-of the kind.
+of the kind. Those of a file are sealed: a header has the kind and a checksum.
 
     >>> import pathlib, tempfile
     >>> path = pathlib.Path(tempfile.mkdtemp(), "names.trie")
@@ -22,6 +22,14 @@ of the kind.
     >>> with ZeroTrie.open(path) as names:
     ...     names["foo"], names == trie == ZeroTrie(bytes(trie))
     (1, True)
+
+Searches find keys by their order, by a pattern and by edits, and tries are put together as sets:
+
+    >>> words = StrTrie.build({"sing": 1, "sting": 2, "tin": 3})
+    >>> dict(words.glob("s*ing")), [word for word, _ in words.fuzzy("tint", edits=2)]
+    ({'sing': 1, 'sting': 2}, ['sing', 'sting', 'tin'])
+    >>> dict(words.range("sj")), dict(words - {"sing"} | {"ton": 4})
+    ({'sting': 2, 'tin': 3}, {'sting': 2, 'tin': 3, 'ton': 4})
 
 Keys are bytes, or text, which means its UTF-8. Text that has none, such as a lone surrogate, raises
 UnicodeEncodeError, and what is neither text nor bytes raises TypeError, both in `in` too. Values
@@ -50,7 +58,7 @@ import os
 import secrets
 import shutil
 from array import array
-from collections.abc import Iterable, Iterator, Mapping, Sequence
+from collections.abc import Iterable, Iterator, Mapping, Sequence, Set
 from copy import deepcopy
 from ctypes import c_size_t
 from typing import Any, NoReturn, Optional, TypeVar, Union, cast, overload
@@ -59,22 +67,25 @@ from ._errors import (
     NO_ENTRY, TOO_SMALL, Kind, Other, ZeroTrieError, check_status, remade, with_attributes,
 )
 from ._library import lib
-from ._memory import in_place, mapped, tag_of, validate
+from ._memory import in_place, mapped, sealed, trie_in, validate
 from ._pairs import (
-    FlatPairs, Key, Pairs, Path, auto_kind, build, build_dense, build_sorted, encoded_len, key_bytes,
-    known_kind, tagged,
+    FlatPairs, Key, Pairs, Path, auto_kind, build, build_dense, build_sorted, encoded_len,
+    key_bytes, known_kind, tagged,
 )
-from ._readers import COUNT, AnyPlace, Place, Reader, Word
+from ._readers import COUNT, INDEX, AnyPlace, Place, Reader, Table, Word
+from ._search import BY_GLOB, BY_SUBSEQUENCE, Search
+from ._sets import Keyed, chosen, kind_of
 from ._version import __version__ as __version__
-from ._views import Items, Keys, Values
+from ._views import Found, Items, Keys, Values
 
 __all__ = [
     "SIMPLE_ASCII", "PERFECT_HASH", "EXTENDED_CAPACITY", "IGNORE_CASE",
-    "Cursor", "DenseTable", "Kind", "StrTrie", "ZeroTrie", "ZeroTrieError",
+    "Cursor", "DenseTable", "Index", "Kind", "StrTrie", "ZeroTrie", "ZeroTrieError",
     "auto_kind", "build", "build_dense", "build_sorted", "encoded_len", "tagged",
 ]
 
 Trie = TypeVar("Trie", bound="_Trie[Any]")
+AnyIndex = TypeVar("AnyIndex", bound="Index")
 
 SIMPLE_ASCII, PERFECT_HASH = Kind.SIMPLE_ASCII, Kind.PERFECT_HASH
 EXTENDED_CAPACITY, IGNORE_CASE = Kind.EXTENDED_CAPACITY, Kind.IGNORE_CASE
@@ -119,24 +130,27 @@ class _Trie(Reader[Word], Mapping[Any, int]):
     __slots__ = ("_data", "_hash", "_length", "__weakref__")
     #: Whether keys are returned as text.
     _as_text = False
-    #: What was given, if it is tagged.
+    #: What was given, if it is tagged, and not sealed.
     _data: Any
     _length: Optional[int]
     _hash: Optional[int]
 
-    def __init__(self, data: Any, kind: Optional[int] = None, check: bool = True) -> None:
+    def __init__(
+        self, data: Any, kind: Optional[int] = None, check: Optional[bool] = None
+    ) -> None:
         given, length = data, None
         if isinstance(data, _Trie):
             lent, given, length = data._lent(), data._data, data._length
         else:
-            view = memoryview(data).cast("B")
+            kind, is_sealed = None if kind is None else known_kind(kind), False
+            view, at = in_place(memoryview(data).cast("B"))
             if kind is None:
-                kind, view = tag_of(view), view[1:]
+                kind, view, at, is_sealed = trie_in(view, at)
+                given = None if is_sealed else data
             else:
-                kind, given = known_kind(kind), None
-            view, at = in_place(view)
+                given = None
             lent = view, kind, at, len(view)
-            if check:
+            if check or check is None and not is_sealed:
                 validate(*lent[1:])
         # this fails if the trie is set up already, and then it stays as it is
         self._hold(*lent, self._as_text)
@@ -155,12 +169,15 @@ class _Trie(Reader[Word], Mapping[Any, int]):
         return made
 
     @classmethod
-    def open(cls: type[Trie], path: Path, kind: Optional[int] = None, check: bool = True) -> Trie:
-        """The trie of a file, mapped into memory: tagged bytes, as save() and `zerotrie build`
-        write them, or with a kind those of the trie alone.
+    def open(
+        cls: type[Trie], path: Path, kind: Optional[int] = None, check: Optional[bool] = None
+    ) -> Trie:
+        """The trie of a file, mapped into memory: one that is sealed, as save() and `zerotrie
+        build` write it, or has tagged bytes, or with a kind those of the trie alone.
 
         The file is closed; the map lasts as long as the trie and its cursors, or until close().
-        ZeroTrieError, which names the file, if its bytes are malformed.
+        ZeroTrieError, which names the file, if it is damaged, or if its bytes are malformed. The
+        bytes of a sealed file are those that were sealed, and validated only if `check` is true.
 
         Don't cut or overwrite the file while a trie uses it: to read beyond its end kills the
         process. Replace it, as save() and `zerotrie build` do.
@@ -173,19 +190,33 @@ class _Trie(Reader[Word], Mapping[Any, int]):
             error.path = path
             raise
 
-    def save(self, path: Path) -> None:
-        """Writes the tagged bytes to a file, which open() reads.
+    def seal(self) -> bytes:
+        """The bytes of a sealed file: the kind, the length and a checksum, and then the trie.
+
+        >>> file = ZeroTrie.build({"foo": 1}).seal()
+        >>> ZeroTrie(file)["foo"]
+        1
+        >>> ZeroTrie(file[:-1])
+        Traceback (most recent call last):
+        zerotrie.ZeroTrieError: the sealed file is damaged: get it anew
+        """
+        # the view keeps the bytes in place during the call
+        view, *lent = self._lent()
+        return bytes(sealed(*lent))
+
+    def save(self, path: Path, tagged: bool = False) -> None:
+        """Writes a sealed file, or tagged bytes, which open() reads.
 
         They go to a new file in the same folder, which then replaces the old one at once, and has
         its permissions: whoever has that one open keeps it, and a failure leaves it as it was.
         """
-        view, kind, _, _ = self._lent()
+        view, *lent = self._lent()
         target = os.path.realpath(os.fsdecode(path))
         beside = os.path.join(os.path.dirname(target), f".zerotrie-{secrets.token_hex(8)}")
         try:
             with open(beside, "xb") as file:
-                file.write(bytes([kind]))
-                file.write(view)
+                file.write(bytes([lent[0]]) if tagged else b"")
+                file.write(view if tagged else sealed(*lent))
                 file.flush()
                 os.fsync(file.fileno())
             if os.path.exists(target):
@@ -245,13 +276,17 @@ class _Trie(Reader[Word], Mapping[Any, int]):
         cursor = Cursor(self)
         return cursor if cursor._go(prefix) else None
 
-    def _parts(self, what: int, front: bytes) -> Iterator[Sequence[Any]]:
-        """Parts of the listing of a prefix, small ones first."""
+    def _parts(
+        self, what: int, front: bytes, search: Optional[Search] = None
+    ) -> Iterator[Sequence[Any]]:
+        """Parts of the listing of a prefix, or of what a search finds, small ones first."""
+        # the search is in use until the last part
+        address = 0 if search is None else search.address()
         last, status, room, places = None, TOO_SMALL, 1 << 9, 1 << 5
         # a trie has no more pairs than bytes; if they are malformed, the parts may come round
         left = self._lent()[3] + 1
         while status == TOO_SMALL and left > 0:
-            part, last, status, next_len = self._part(what, front, last, room, places)
+            part, last, status, next_len = self._part(what, front, last, room, places, address)
             if status != TOO_SMALL:
                 check_status(status)
             yield part[:left] if len(part) > left else part
@@ -273,6 +308,76 @@ class _Trie(Reader[Word], Mapping[Any, int]):
     def values(self, prefix: Key = b"") -> Values:
         """A view of the values of items()."""
         return Values(self, prefix)
+
+    def range(self, start: Optional[Key] = None, stop: Optional[Key] = None) -> Found[Word]:
+        """A view of the pairs whose keys are from `start` on and below `stop`, in the order of
+        bytes. None: there is no bound.
+
+        It lists a part at a time, in the order of items(), as all searches.
+        """
+        return Found(self, search=Search.range(start, stop))
+
+    def glob(self, pattern: Key) -> Found[Word]:
+        """A view of the pairs whose keys a pattern matches, as "s*ing": `*` is any number of bytes,
+        `?` one byte, and `[a-z]` or `[!a-z]` a byte that is of a class or is not. A backslash takes
+        the meaning of the byte after it.
+
+        ZeroTrieError if it is malformed, or has more than 63 items.
+        """
+        return Found(self, search=Search(BY_GLOB, key_bytes(pattern)).checked())
+
+    def subsequence(self, letters: Key) -> Found[Word]:
+        """A view of the pairs whose keys have these bytes in this order, with any bytes before,
+        between and after.
+        """
+        return Found(self, search=Search(BY_SUBSEQUENCE, key_bytes(letters)))
+
+    def fuzzy(self, word: Key, edits: int = 1, beginnings: bool = False) -> Found[Word]:
+        """A view of the pairs whose keys at most so many edits make of a word: an edit inserts,
+        deletes or changes a character if the word is text, and else a byte. With `beginnings` also
+        those that begin with such a key, which are completions of the word.
+
+        >>> words = StrTrie.build({"exam": 1, "example": 2, "ample": 3})
+        >>> list(words.fuzzy("exampel", edits=2)), list(words.fuzzy("exm", beginnings=True))
+        ([('example', 2)], [('exam', 1), ('example', 2)])
+
+        ZeroTrieError if the word has more than 63 characters or bytes, or for more than 254 edits.
+        """
+        return Found(self, search=Search.fuzzy(word, edits, beginnings))
+
+    def __and__(self: Trie, other: Keyed) -> Trie:
+        """A trie of the pairs whose keys the other mapping or set has, too.
+
+        This and the next two build a trie, of the kind of auto_kind(), but IGNORE_CASE or
+        EXTENDED_CAPACITY if this trie or the other one is. Keys are compared as bytes, and letters
+        in either case if one of both tries is IGNORE_CASE.
+        """
+        return self._chosen(other, True)
+
+    def __sub__(self: Trie, other: Keyed) -> Trie:
+        """A trie of the pairs whose keys the other mapping or set does not have."""
+        return self._chosen(other, False)
+
+    def __or__(self: Trie, other: Mapping[Any, int]) -> Trie:
+        """A trie of the pairs of this one and of another mapping, whose values count where both
+        have a key.
+        """
+        if not isinstance(other, Mapping):
+            return NotImplemented
+        left = chosen(self, other, isinstance(other, _Trie), False)
+        return type(self).build([*left.items(), *other.items()], kind_of(self, other))
+
+    def __ror__(self: Trie, other: Mapping[Any, int]) -> Trie:
+        """A trie of the pairs of a mapping and of this one, whose values count."""
+        if not isinstance(other, Mapping):
+            return NotImplemented
+        return type(self).build(other, kind_of(self)) | self
+
+    def _chosen(self: Trie, other: Keyed, wanted: bool) -> Trie:
+        if not isinstance(other, (Mapping, Set)):
+            return NotImplemented
+        pairs = chosen(self, other, isinstance(other, _Trie), wanted)
+        return type(self).build(pairs, kind_of(self, other))
 
     def __iter__(self) -> Iterator[Word]:
         """The keys, as keys() lists them."""
@@ -335,12 +440,13 @@ class _Trie(Reader[Word], Mapping[Any, int]):
 class ZeroTrie(_Trie[bytes]):
     """A read-only map from byte strings to numbers, over bytes that are not copied.
 
-    `data` is tagged bytes: the number of the kind, then the trie, as bytes(trie), save() and
-    `zerotrie build` write them. With a kind it is the trie alone. It may be another trie, whose
-    bytes both share. The bytes stay in use as long as the trie is: don't change them. Unless
-    `check` is false, they are validated first, all of them: ZeroTrieError, which names the first
-    byte that breaks a rule, if they are malformed. A trie stays as it is: TypeError if it is set up
-    again.
+    `data` is tagged bytes: the number of the kind, then the trie, as bytes(trie) returns them; or
+    those of a sealed file, as seal(), save() and `zerotrie build` write it. With a kind it is the
+    trie alone. It may be another trie, whose bytes both share. The bytes stay in use as long as the
+    trie is: don't change them. Unless `check` is false, they are validated first, all of them:
+    ZeroTrieError, which names the first byte that breaks a rule, if they are malformed. Those of a
+    sealed file have a checksum in place of that, and are validated too if `check` is true. A trie
+    stays as it is: TypeError if it is set up again.
 
     It is a Mapping, by whose rules it is equal to another one. Keys are taken as text too, and
     returned as `bytes`.
@@ -390,3 +496,51 @@ class DenseTable:
             return default
         check_status(status)
         return value.value
+
+
+class Index(Table):
+    """A map from byte strings to numbers for exact look-ups alone, larger than a trie and faster.
+
+    >>> index = Index.build({"foo": 1, "bar": 2})
+    >>> index["bar"], index.get("x"), "foo" in index, Index(bytes(index)) == index
+    (2, None, True, True)
+
+    `data` is the bytes of an index, which are not copied: don't change them. Unless `check` is
+    false, they are validated first: ZeroTrieError if they are no index.
+    """
+
+    __slots__ = ("__weakref__",)
+
+    def __init__(self, data: Any, check: bool = True) -> None:
+        view, at = in_place(memoryview(data).cast("B"))
+        if check and not lib.zerotrie_index_is_valid(at, len(view)):
+            raise ZeroTrieError("the bytes are no index")
+        self._hold(view, INDEX, at, len(view))
+
+    @classmethod
+    def build(cls: type[AnyIndex], pairs: Pairs, seed: int = 0) -> AnyIndex:
+        """The index of pairs in any order, or of a mapping. If keys come from elsewhere, take a
+        random seed.
+
+        ZeroTrieError, which names the key, if one comes twice; it asks for another seed if too many
+        keys share a bucket. OverflowError if a value is out of range.
+        """
+        return cls(FlatPairs(pairs).indexed(seed), check=False)
+
+    def __bytes__(self) -> bytes:
+        """A copy of its bytes."""
+        return bytes(self._lent()[0])
+
+    def __eq__(self, other: object) -> bool:
+        """Whether it is an index of the same bytes."""
+        return isinstance(other, Index) and self._lent()[0] == other._lent()[0]
+
+    def __hash__(self) -> int:
+        return hash(bytes(self))
+
+    def __reduce__(self) -> tuple[Any, ...]:
+        state = getattr(self, "__dict__", None)
+        return remade, (type(self), Index, bytes(self), False), state
+
+    def __repr__(self) -> str:
+        return f"<{type(self).__name__} of {self._lent()[3]} bytes>"

@@ -46,6 +46,12 @@ TEXTS = (
     "the table has no such entry",
     "the record is cut: give all of its bytes",
     "bytes follow the record: give its bytes alone",
+    "the sealed file is damaged: get it anew",
+    "the sealed file has another version of the format: take a library that knows it",
+    "no search, or no bound, has the number",
+    "the pattern is malformed, or the word is not UTF-8",
+    "a pattern has at most 63 items, a word at most 63 letters, and at most 254 edits are allowed",
+    "too many keys share a bucket: build from another seed",
 )
 
 #: The texts of the rules of the format, by their numbers from 1 on. The test compares them.

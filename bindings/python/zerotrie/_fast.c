@@ -1,6 +1,6 @@
 /* The calls of zerotrie that a program makes one by one, for CPython: look-ups and listings of a
- * Reader, which a trie is, and steps of a Place, which Cursor is. __init__.py has both types once
- * more, by ctypes, and takes these if they are there.
+ * Reader, which a trie is, look-ups of a Table, which Index is, and steps of a Place, which Cursor
+ * is. _readers.py has these types once more, by ctypes, and takes these if they are there.
  *
  * A short call keeps the lock of the interpreter, as a look-up takes less time than to release it.
  * A long one releases it, and holds a reference to the bytes meanwhile. What may run code in
@@ -22,6 +22,8 @@ static struct {
     __typeof__(zerotrie_longest_prefix_at) *longest_prefix_at;
     __typeof__(zerotrie_common_prefixes) *common_prefixes;
     __typeof__(zerotrie_list_some) *list_some;
+    __typeof__(zerotrie_search_some) *search_some;
+    __typeof__(zerotrie_index_get) *index_get;
     __typeof__(zerotrie_cursor_new) *cursor_new;
     __typeof__(zerotrie_with_prefix) *with_prefix;
     __typeof__(zerotrie_cursor_step) *cursor_step;
@@ -30,8 +32,9 @@ static struct {
 } library;
 static const char *const names[] = {
     "zerotrie_get", "zerotrie_longest_prefix", "zerotrie_longest_prefix_at",
-    "zerotrie_common_prefixes", "zerotrie_list_some", "zerotrie_cursor_new", "zerotrie_with_prefix",
-    "zerotrie_cursor_step", "zerotrie_cursor_take_value", "zerotrie_cursor_probe",
+    "zerotrie_common_prefixes", "zerotrie_list_some", "zerotrie_search_some", "zerotrie_index_get",
+    "zerotrie_cursor_new", "zerotrie_with_prefix", "zerotrie_cursor_step",
+    "zerotrie_cursor_take_value", "zerotrie_cursor_probe",
 };
 enum { NAMES = sizeof names / sizeof *names };
 
@@ -40,7 +43,10 @@ enum { MANY = 256 };
 /* This many prefixes of a text are found without an allocation. */
 enum { FEW = 32 };
 
-/* A Reader or a Place: a kind, bytes that `view` keeps in place, whether keys are returned as text,
+/* The number that a Table holds in place of a kind. _readers.py has the same. */
+#define INDEX 0xFFFFFFFF
+
+/* A Reader, a Table or a Place: a kind, bytes that `view` keeps in place, whether keys are returned as text,
  * and the cursor of a Place. Before it is set up it has neither view nor bytes, and no view once
  * closed. */
 typedef struct {
@@ -175,14 +181,16 @@ static PyObject *pair_of(bool text, const uint8_t *start, size_t len, size_t val
     return pair;
 }
 
-/* 1 if the trie has the key, whose value goes to *value. 0 if not. -1 and an exception if it is no
+/* 1 if the trie or the index has the key, whose value goes to *value. 0 if not. -1 and an exception if it is no
  * key. */
 static int find(PyObject *object, PyObject *key, size_t *value) {
     zerotrie_bytes text;
     PyObject *bytes = bytes_of(key, &text);
     Held *held = bytes ? held_by(object) : NULL;
     int found = -1;
-    if (held)
+    if (held && held->kind == INDEX)
+        found = library.index_get(held->bytes, held->len, text.ptr, text.len, value);
+    else if (held)
         found = library.get(held->kind, held->bytes, held->len, text.ptr, text.len, value);
     Py_XDECREF(bytes);
     return found;
@@ -426,8 +434,10 @@ static PyObject *list_of(const Part *part, long what, bool text) {
     return list;
 }
 
-/* Lists a part behind the key `last`, or from the front if it is null. It releases the lock. */
-static void list_part(Held *held, zerotrie_bytes front, const zerotrie_bytes *last, Part *part) {
+/* Lists a part behind the key `last`, or from the front if it is null; of what a search finds if
+ * that is not null. It releases the lock. */
+static void list_part(Held *held, zerotrie_bytes front, const zerotrie_search *search,
+                      const zerotrie_bytes *last, Part *part) {
     const zerotrie_bytes after = last ? *last : zerotrie_bytes_of(NULL, 0);
     PyObject *view = held->view;
     const uint8_t *bytes = held->bytes;
@@ -436,10 +446,16 @@ static void list_part(Held *held, zerotrie_bytes front, const zerotrie_bytes *la
     PyThreadState *state;
     Py_INCREF(view);
     state = PyEval_SaveThread();
-    part->status = library.list_some(kind, bytes, len, front.ptr, front.len, last != NULL,
-                                     after.ptr, after.len, part->keys, part->room, part->ends,
-                                     part->places, part->values, part->places, &part->count,
-                                     &part->next_len);
+    if (search)
+        part->status = library.search_some(kind, bytes, len, front.ptr, front.len, search,
+                                           last != NULL, after.ptr, after.len, part->keys,
+                                           part->room, part->ends, part->places, part->values,
+                                           part->places, &part->count, &part->next_len);
+    else
+        part->status = library.list_some(kind, bytes, len, front.ptr, front.len, last != NULL,
+                                         after.ptr, after.len, part->keys, part->room, part->ends,
+                                         part->places, part->values, part->places, &part->count,
+                                         &part->next_len);
     PyEval_RestoreThread(state);
     Py_DECREF(view);
 }
@@ -457,16 +473,19 @@ static PyObject *told_of(const Part *part, long what, bool text, PyObject *last)
                          (Py_ssize_t)part->next_len);
 }
 
-/* _part(what, front, last, room, places): the pairs of a listing behind the key `last`, or the
- * first ones if it is None, as many as there is room for. */
+/* _part(what, front, last, room, places, search): the pairs of a listing behind the key `last`, or
+ * the first ones if it is None, as many as there is room for; those that are found by the search at
+ * this address, if it is not 0. */
 static PyObject *reader_part(PyObject *object, PyObject *args) {
     PyObject *front, *last, *result = NULL;
     zerotrie_bytes begins, after;
     Py_ssize_t room, places;
+    unsigned long long search = 0;
     long what;
     Part part = { 0 };
     Held *held = held_by(object);
-    if (!held || !PyArg_ParseTuple(args, "lSOnn:_part", &what, &front, &last, &room, &places))
+    if (!held
+        || !PyArg_ParseTuple(args, "lSOnn|K:_part", &what, &front, &last, &room, &places, &search))
         return NULL;
     begins = zerotrie_bytes_of(PyBytes_AsString(front), (size_t)PyBytes_Size(front));
     if (last != Py_None) {
@@ -482,7 +501,8 @@ static PyObject *reader_part(PyObject *object, PyObject *args) {
     part.ends = malloc(2 * sizeof *part.ends * part.places + 1);
     part.values = part.ends + part.places;
     if (part.keys && part.ends) {
-        list_part(held, begins, last == Py_None ? NULL : &after, &part);
+        list_part(held, begins, (const zerotrie_search *)(uintptr_t)search,
+                  last == Py_None ? NULL : &after, &part);
         result = told_of(&part, what, held->text, last);
     } else {
         PyErr_NoMemory();
@@ -645,6 +665,19 @@ static PyType_Slot reader_slots[] = {
 };
 static PyType_Spec reader = { "zerotrie._fast.Reader", sizeof(Held), 0, FLAGS, reader_slots };
 
+static PyMethodDef table_methods[] = {
+    { "_hold", hold, METH_VARARGS, NULL },
+    { "_lent", reader_lent, METH_NOARGS, NULL },
+    { "get", WORDS(reader_get),
+      DOC("get($self, /, key, default=None)", "The value of the key, or `default`.") },
+    { NULL, NULL, 0, NULL },
+};
+static PyType_Slot table_slots[] = {
+    HOLD, SLOT(Py_mp_subscript, reader_getitem), SLOT(Py_sq_contains, reader_contains),
+    { Py_tp_methods, table_methods }, { 0, NULL },
+};
+static PyType_Spec table = { "zerotrie._fast.Table", sizeof(Held), 0, FLAGS, table_slots };
+
 static PyMethodDef place_methods[] = {
     { "_hold", hold, METH_VARARGS, NULL },
     { "_go", place_go, METH_O, NULL },
@@ -693,9 +726,11 @@ static PyObject *names_wanted(void) {
     return list;
 }
 
-/* Fills the module: its two types, and the names. */
+/* Fills the module: its types, and the names. */
 static int fill(PyObject *module) {
     if (add(module, "Reader", PyType_FromSpec(&reader)) < 0)
+        return -1;
+    if (add(module, "Table", PyType_FromSpec(&table)) < 0)
         return -1;
     if (add(module, "Place", PyType_FromSpec(&place)) < 0)
         return -1;

@@ -6,7 +6,7 @@ import ctypes
 import os
 from ctypes import (
     POINTER, Structure, addressof, c_bool, c_char_p, c_size_t, c_uint8, c_uint16, c_uint32,
-    c_void_p,
+    c_uint64, c_void_p,
 )
 from typing import Any, Optional
 
@@ -30,6 +30,21 @@ class CursorPlace(Structure):
     trie: int
     end: int
     _fields_ = [("run", c_size_t), ("trie", c_size_t), ("end", c_size_t)]
+
+
+class RawSearch(Structure):
+    """What is searched; its texts are elsewhere."""
+
+    by: int
+    edits: int
+    from_bound: int
+    to_bound: int
+    text: Bytes
+    to: Bytes
+    beginnings: bool
+    _fields_ = [
+        ("by", c_uint32), ("edits", c_uint32), ("from_bound", c_uint32), ("to_bound", c_uint32),
+        ("text", Bytes), ("to", Bytes), ("beginnings", c_bool)]
 
 
 TEXT = [c_char_p, c_size_t]
@@ -57,6 +72,7 @@ _DECLARED: dict[str, tuple[Any, list[Any]]] = {
         c_bool,
         [c_uint32, *BYTES, POINTER(CursorPlace), c_size_t, POINTER(c_uint8), POINTER(c_uint16)]),
     "zerotrie_tagged_kind": (c_uint32, [*BYTES, POINTER(c_uint32)]),
+    "zerotrie_open": (c_uint32, [*BYTES, POINTER(c_uint32), SIZE, SIZE]),
     "zerotrie_build": (c_uint32, [c_uint32, *RAW_PAIRS, *BYTES, SIZE]),
     "zerotrie_build_sorted": (c_uint32, [c_uint32, *RAW_PAIRS, *BYTES, SIZE]),
     "zerotrie_build_many": (c_uint32, [c_uint32, *TEXT, *SIZES, *SIZES, *BYTES, SIZE]),
@@ -65,6 +81,7 @@ _DECLARED: dict[str, tuple[Any, list[Any]]] = {
     "zerotrie_why_refused": (c_uint32, [c_uint32, *RAW_PAIRS, SIZE, SIZE]),
     "zerotrie_auto_kind": (c_uint32, RAW_PAIRS),
     "zerotrie_tagged": (c_uint32, [c_uint32, *BYTES, *BYTES, SIZE]),
+    "zerotrie_seal": (c_uint32, [c_uint32, *BYTES, *BYTES, SIZE]),
     "zerotrie_dense_get": (c_uint32, [*BYTES, *TEXT, *TEXT, SIZE]),
     "zerotrie_dense_build": (
         c_uint32, [*TEXT, *SIZES, *TEXT, *SIZES, *SIZES, c_uint8, *BYTES, SIZE]),
@@ -73,6 +90,14 @@ _DECLARED: dict[str, tuple[Any, list[Any]]] = {
     "zerotrie_list_some": (
         c_uint32,
         [c_uint32, *BYTES, *TEXT, c_bool, *TEXT, *BYTES, *SIZES, *SIZES, SIZE, SIZE]),
+    "zerotrie_search_some": (
+        c_uint32,
+        [c_uint32, *BYTES, *TEXT, POINTER(RawSearch), c_bool, *TEXT, *BYTES, *SIZES, *SIZES, SIZE,
+         SIZE]),
+    "zerotrie_index_get": (c_bool, [*BYTES, *TEXT, SIZE]),
+    "zerotrie_index_is_valid": (c_bool, BYTES),
+    "zerotrie_index_build": (c_uint32, [c_uint64, *RAW_PAIRS, *BYTES, SIZE]),
+    "zerotrie_index_build_many": (c_uint32, [c_uint64, *TEXT, *SIZES, *SIZES, *BYTES, SIZE]),
 }
 
 #: The functions that take less time than to let other threads run. A cursor is whole after each.
@@ -80,7 +105,7 @@ SHORT = {
     "zerotrie_get", "zerotrie_longest_prefix", "zerotrie_longest_prefix_at",
     "zerotrie_common_prefixes", "zerotrie_with_prefix", "zerotrie_cursor_new",
     "zerotrie_cursor_step", "zerotrie_cursor_take_value", "zerotrie_cursor_probe",
-    "zerotrie_dense_get", "zerotrie_version", "zerotrie_build_bound",
+    "zerotrie_dense_get", "zerotrie_version", "zerotrie_build_bound", "zerotrie_index_get",
 }
 
 HERE = os.path.dirname(os.path.abspath(__file__))

@@ -15,11 +15,25 @@ from ._errors import RULES, Kind, ZeroTrieError, check_status
 from ._library import NOTHING, lib
 
 
-def tag_of(view: memoryview) -> int:
-    """The kind of tagged bytes."""
-    first, kind = bytes(view[:1]), c_uint32()
-    check_status(lib.zerotrie_tagged_kind(first, len(first), kind))
-    return kind.value
+#: How many bytes precede the trie in a sealed file.
+SEAL_LEN = 24
+
+
+def trie_in(view: memoryview, at: int) -> tuple[int, memoryview, int, bool]:
+    """The kind and the bytes of the trie in a file that is sealed or tagged, where they are, and
+    whether it is sealed. The file is at an address.
+    """
+    kind, begin, length = c_uint32(), c_size_t(), c_size_t()
+    check_status(lib.zerotrie_open(at, len(view), kind, begin, length))
+    trie = view[begin.value : begin.value + length.value]
+    return kind.value, trie, at + begin.value, begin.value == SEAL_LEN
+
+
+def sealed(kind: int, at: int, length: int) -> Any:
+    """The bytes of the sealed file of the trie at an address."""
+    room, made = (c_uint8 * (SEAL_LEN + length))(), c_size_t()
+    check_status(lib.zerotrie_seal(kind, at, length, room, len(room), made))
+    return room
 
 
 def validate(kind: int, at: int, length: int) -> None:

@@ -162,6 +162,21 @@ class FlatPairs:
         return ctypes.string_at(room, 1 + length.value)
 
 
+    def indexed(self, seed: int) -> bytes:
+        """The bytes of the index."""
+        number = whole_number(seed, 64, "a seed")
+        length = c_size_t(2 * len(self.joined) + 24 * len(self) + 64)
+        for _ in range(2):
+            room = (c_uint8 * length.value)()
+            status = lib.zerotrie_index_build_many(
+                number, self.joined, len(self.joined), sizes(self.ends), len(self),
+                sizes(self.values), len(self), room, len(room), length)
+            if status != TOO_SMALL:
+                break
+        self.check(status, Kind.PERFECT_HASH)
+        return ctypes.string_at(room, length.value)
+
+
 def build(pairs: Pairs, kind: Optional[int] = None) -> bytes:
     """The tagged bytes of the trie of pairs in any order, or of a mapping:
     bytes(ZeroTrie.build(pairs, kind)).

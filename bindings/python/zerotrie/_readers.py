@@ -13,7 +13,7 @@ from itertools import accumulate
 from typing import TYPE_CHECKING, Any, Generic, Optional, TypeVar, Union, overload
 
 from ._errors import Other, check_status
-from ._library import _DECLARED, MADE, CursorPlace, lib
+from ._library import _DECLARED, MADE, CursorPlace, RawSearch, lib
 from ._pairs import Key, all_key_bytes, delimiter_bytes, key_bytes, sizes, whole_number
 
 AnyPlace = TypeVar("AnyPlace", bound="Place")
@@ -137,9 +137,11 @@ class Reader(Generic[Word]):
         return values.tobytes()
 
     def _part(
-        self, what: int, front: bytes, last: Optional[bytes], room: int, places: int, /
+        self, what: int, front: bytes, last: Optional[bytes], room: int, places: int,
+        search: int = 0, /,
     ) -> tuple[Sequence[Any], Optional[bytes], int, int]:
-        """The pairs of a listing behind the key `last`, or the first ones if it is None.
+        """The pairs of a listing behind the key `last`, or the first ones if it is None; those that
+        are found by the search at an address, if one is given.
 
         Returns what is asked for of as many as there is room for, the last key, the status, and how
         long the next key is.
@@ -147,9 +149,14 @@ class Reader(Generic[Word]):
         view, kind, at, length, as_text = held_by(self)
         keys, ends, values = (c_uint8 * room)(), (c_size_t * places)(), (c_size_t * places)()
         count, next_len, after = c_size_t(), c_size_t(), last or b""
-        status = lib.zerotrie_list_some(
-            kind, at, length, front, len(front), last is not None, after, len(after), keys, room,
-            ends, places, values, places, count, next_len)
+        begins = kind, at, length, front, len(front)
+        rooms = keys, room, ends, places, values, places, count, next_len
+        goes_on = last is not None, after, len(after)
+        if search:
+            found_by = RawSearch.from_address(search)
+            status = lib.zerotrie_search_some(*begins, found_by, *goes_on, *rooms)
+        else:
+            status = lib.zerotrie_list_some(*begins, *goes_on, *rooms)
         to = ends[: count.value]
         text = ctypes.string_at(keys, to[-1]) if to else b""
         words = [text[begin:end] for begin, end in zip([0, *to], to)]
@@ -161,6 +168,51 @@ class Reader(Generic[Word]):
         if what == PAIRS:
             part = list(zip(part, values[: count.value]))
         return part, words[-1] if words else last, status, next_len.value
+
+
+#: The number that a Table holds in place of a kind. _fast.c has the same.
+INDEX = 0xFFFFFFFF
+
+
+class Table:
+    """Exact look-ups, in the bytes of an index that a view keeps in place.
+
+    It holds the view, INDEX, where the bytes are, and how many they are.
+    """
+
+    __slots__ = ("_held",)
+    _held: tuple[memoryview, int, int, int]
+
+    def _hold(self, view: memoryview, kind: int, at: int, length: int, /) -> None:
+        set_once(Table, self, (view, kind, at, length))
+
+    def _lent(self) -> tuple[memoryview, int, int, int]:
+        return self._held
+
+    @overload
+    def get(self, key: Key) -> Optional[int]: ...
+    @overload
+    def get(self, key: Key, default: Other) -> Union[int, Other]: ...
+    def get(self, key: Key, default: Any = None) -> Any:
+        """The value of the key, or `default`."""
+        text, value = key_bytes(key), c_size_t()
+        view, _, at, length = self._held
+        found = lib.zerotrie_index_get(at, length, text, len(text), value)
+        return value.value if found else default
+
+    def __getitem__(self, key: Key) -> int:
+        """The value of the key. KeyError if there is none."""
+        text, value = key_bytes(key), c_size_t()
+        view, _, at, length = self._held
+        if not lib.zerotrie_index_get(at, length, text, len(text), value):
+            raise KeyError(key)
+        return value.value
+
+    def __contains__(self, key: Any) -> bool:
+        """Whether there is the key."""
+        text, value = key_bytes(key), c_size_t()
+        view, _, at, length = self._held
+        return bool(lib.zerotrie_index_get(at, length, text, len(text), value))
 
 
 def word_of(word: bytes, as_text: bool) -> Any:
@@ -233,7 +285,7 @@ class Place:
 
 
 def extension() -> bool:
-    """Whether there is the extension, which makes the two types above in C, for this interpreter
+    """Whether there is the extension, which makes the three types above in C, for this interpreter
     and this library.
     """
     if sys.implementation.name != "cpython" or "t" in getattr(sys, "abiflags", ""):
@@ -253,4 +305,4 @@ def extension() -> bool:
 
 
 if not TYPE_CHECKING and extension():
-    from ._fast import Place, Reader
+    from ._fast import Place, Reader, Table

@@ -2,29 +2,38 @@
 
 from __future__ import annotations
 
-from collections.abc import ItemsView, Iterator, KeysView, MappingView, ValuesView
-from itertools import chain
-from typing import TYPE_CHECKING, Any, cast
+from collections.abc import ItemsView, Iterator, KeysView, MappingView, Sequence, ValuesView
+from itertools import chain, islice
+from typing import TYPE_CHECKING, Any, Optional, cast
 
 from ._errors import Kind
 from ._pairs import Key, key_bytes
 from ._readers import COUNT, KEYS, PAIRS, VALUES, Word
+from ._search import Search
 
 if TYPE_CHECKING:
     from . import _Trie
 
 
 class Listed(MappingView):
-    """What the views of a trie have in common: a prefix, with which their keys begin."""
+    """What the views of a trie have in common: a prefix, with which their keys begin, and a search
+    that finds them.
+    """
 
-    __slots__ = ("_prefix",)
+    __slots__ = ("_prefix", "_search")
 
-    def __init__(self, trie: _Trie[Any], prefix: Key = b"") -> None:
+    def __init__(
+        self, trie: _Trie[Any], prefix: Key = b"", search: Optional[Search] = None
+    ) -> None:
         super().__init__(trie)
         self._prefix = key_bytes(prefix)
+        self._search = search
+
+    def _parts(self, what: int) -> Iterator[Sequence[Any]]:
+        return self._trie()._parts(what, self._prefix, self._search)
 
     def _list(self, what: int) -> Iterator[Any]:
-        return chain.from_iterable(self._trie()._parts(what, self._prefix))
+        return chain.from_iterable(self._parts(what))
 
     def _trie(self) -> _Trie[Any]:
         return cast("_Trie[Any]", vars(MappingView)["_mapping"].__get__(self))
@@ -37,10 +46,10 @@ class Listed(MappingView):
         return front == self._prefix
 
     def __len__(self) -> int:
-        """How many pairs there are. Those of a prefix are counted by listing them."""
-        if not self._prefix:
+        """How many pairs there are. Those of a prefix or a search are counted by listing them."""
+        if not self._prefix and self._search is None:
             return len(self._trie())
-        return sum(map(len, self._trie()._parts(COUNT, self._prefix)))
+        return sum(map(len, self._parts(COUNT)))
 
 
 class Keys(Listed, KeysView[Word]):
@@ -71,6 +80,20 @@ class Items(Listed, ItemsView[Word, int]):
 
     def __iter__(self) -> Iterator[tuple[Word, int]]:
         return self._list(PAIRS)
+
+
+class Found(Items[Word]):
+    """The pairs whose keys a search finds. `in` finds what the trie finds, if the search does."""
+
+    __slots__ = ()
+
+    def __contains__(self, item: object) -> bool:
+        if not super().__contains__(item):
+            return False
+        # of the keys that begin with this one, it is the first
+        front = key_bytes(cast("tuple[Any, int]", item)[0])
+        keys = chain.from_iterable(self._trie()._parts(KEYS, front, self._search))
+        return any(len(key_bytes(key)) == len(front) for key in islice(keys, 1))
 
 
 class Values(Listed, ValuesView[int]):

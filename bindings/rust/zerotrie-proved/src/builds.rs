@@ -72,7 +72,7 @@ fn built<K: AsRef<[u8]>>(kind: Kind, pairs: &[(K, usize)], build: Build) -> Resu
 }
 
 /// The error of a status of a build, with the keys that are the cause.
-fn why<K: AsRef<[u8]>>(kind: Kind, pairs: &[(K, usize)], status: u32) -> Error {
+pub(crate) fn why<K: AsRef<[u8]>>(kind: Kind, pairs: &[(K, usize)], status: u32) -> Error {
     let error = ErrorKind::of(status);
     if error == ErrorKind::Unsorted {
         let ascend = |two: &[(K, usize)]| two[0].0.as_ref() < two[1].0.as_ref();

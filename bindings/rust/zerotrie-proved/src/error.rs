@@ -35,14 +35,24 @@ pub enum ErrorKind {
     RecordTruncated,
     /// The record of a dense table is shorter than the bytes.
     TrailingBytes,
-    /// The bytes are no trie of the kind.
+    /// The parts of a sealed file don't agree: it was cut, joined or changed.
+    Damaged,
+    /// A sealed file is of another version of the format.
+    UnknownVersion,
+    /// A pattern is malformed.
+    MalformedSearch,
+    /// A pattern, a word or the number of edits is over its limit.
+    SearchTooLong,
+    /// Too many keys of an index share a bucket under this seed.
+    Crowded,
+    /// The bytes are no trie of the kind, or no index.
     NotWellFormed,
     /// A status that this crate doesn't know, such as one of a newer library.
     Unknown(u32),
 }
 
 /// The kinds that a number of `zerotrie.h` means.
-const NUMBERED: [(u32, ErrorKind); 13] = [
+const NUMBERED: [(u32, ErrorKind); 18] = [
     (1, ErrorKind::NonAscii),
     (2, ErrorKind::CapacityExceeded),
     (3, ErrorKind::NoPerfectHash),
@@ -56,11 +66,16 @@ const NUMBERED: [(u32, ErrorKind); 13] = [
     (14, ErrorKind::InvalidTag),
     (16, ErrorKind::RecordTruncated),
     (17, ErrorKind::TrailingBytes),
+    (18, ErrorKind::Damaged),
+    (19, ErrorKind::UnknownVersion),
+    (21, ErrorKind::MalformedSearch),
+    (22, ErrorKind::SearchTooLong),
+    (23, ErrorKind::Crowded),
 ];
 
 /// The texts of the statuses from 0 on, as `zerotrie.h` has them. `bindings/test` compares them.
 #[rustfmt::skip]
-const TEXTS: [&str; 18] = [
+const TEXTS: [&str; 24] = [
     "Done",
     "a key has a byte that is not ASCII: take a kind of trie for keys of any bytes",
     "the text of the trie would be too long for its kind: take extended capacity, kind 7, or fewer pairs; a dense table has at most 65,535 suffixes",
@@ -79,6 +94,12 @@ const TEXTS: [&str; 18] = [
     "the table has no such entry",
     "the record is cut: give all of its bytes",
     "bytes follow the record: give its bytes alone",
+    "the sealed file is damaged: get it anew",
+    "the sealed file has another version of the format: take a library that knows it",
+    "no search, or no bound, has the number",
+    "the pattern is malformed, or the word is not UTF-8",
+    "a pattern has at most 63 items, a word at most 63 letters, and at most 254 edits are allowed",
+    "too many keys share a bucket: build from another seed",
 ];
 
 /// The texts of the rules of the format, by their numbers from 1 on. `bindings/test` compares them.

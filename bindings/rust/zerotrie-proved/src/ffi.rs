@@ -22,6 +22,18 @@ pub struct Cursor {
     pub end: usize,
 }
 
+#[repr(C)]
+#[derive(Clone, Copy)]
+pub struct Search {
+    pub by: u32,
+    pub edits: u32,
+    pub from_bound: u32,
+    pub to_bound: u32,
+    pub text: Bytes,
+    pub to: Bytes,
+    pub beginnings: bool,
+}
+
 #[rustfmt::skip]
 extern "C" {
     pub fn zerotrie_version() -> u32;
@@ -50,6 +62,8 @@ extern "C" {
     pub fn zerotrie_cursor_probe(kind: u32, bytes: *const u8, len: usize, cursor: *mut Cursor,
         index: usize, edge: *mut u8, siblings: *mut u16) -> bool;
     pub fn zerotrie_tagged_kind(tagged: *const u8, len: usize, kind: *mut u32) -> u32;
+    pub fn zerotrie_open(file: *const u8, len: usize, kind: *mut u32, at: *mut usize,
+        trie_len: *mut usize) -> u32;
     pub fn zerotrie_build(kind: u32, pairs: *const Pair, count: usize, out: *mut u8, out_len: usize,
         len: *mut usize) -> u32;
     pub fn zerotrie_build_sorted(kind: u32, pairs: *const Pair, count: usize, out: *mut u8,
@@ -66,6 +80,8 @@ extern "C" {
     pub fn zerotrie_auto_kind(pairs: *const Pair, count: usize) -> u32;
     pub fn zerotrie_tagged(kind: u32, bytes: *const u8, len: usize, out: *mut u8, out_len: usize,
         tagged_len: *mut usize) -> u32;
+    pub fn zerotrie_seal(kind: u32, bytes: *const u8, len: usize, out: *mut u8, out_len: usize,
+        sealed_len: *mut usize) -> u32;
     pub fn zerotrie_dense_get(record: *const u8, len: usize, prefix: *const u8, prefix_len: usize,
         suffix: *const u8, suffix_len: usize, value: *mut usize) -> u32;
     pub fn zerotrie_dense_build(prefixes: *const u8, prefixes_len: usize, prefix_ends: *const usize,
@@ -80,4 +96,17 @@ extern "C" {
         prefix_len: usize, goes_on: bool, last: *const u8, last_len: usize, keys: *mut u8,
         keys_len: usize, ends: *mut usize, ends_len: usize, values: *mut usize, values_len: usize,
         count: *mut usize, next_len: *mut usize) -> u32;
+    pub fn zerotrie_search_some(kind: u32, bytes: *const u8, len: usize, prefix: *const u8,
+        prefix_len: usize, search: *const Search, goes_on: bool, last: *const u8, last_len: usize,
+        keys: *mut u8, keys_len: usize, ends: *mut usize, ends_len: usize, values: *mut usize,
+        values_len: usize, count: *mut usize, next_len: *mut usize) -> u32;
+    pub fn zerotrie_index_get(bytes: *const u8, len: usize, key: *const u8, key_len: usize,
+        value: *mut usize) -> bool;
+    pub fn zerotrie_index_is_valid(bytes: *const u8, len: usize) -> bool;
+    pub fn zerotrie_index_build(seed: u64, pairs: *const Pair, count: usize, out: *mut u8,
+        out_len: usize, len: *mut usize) -> u32;
+    #[allow(dead_code)] // keys of this crate are slices, which need not be joined
+    pub fn zerotrie_index_build_many(seed: u64, keys: *const u8, keys_len: usize,
+        ends: *const usize, ends_len: usize, values: *const usize, values_len: usize, out: *mut u8,
+        out_len: usize, len: *mut usize) -> u32;
 }

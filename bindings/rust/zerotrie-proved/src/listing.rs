@@ -1,6 +1,7 @@
 //! Cursors and listings.
 
 use crate::error::Error;
+use crate::search::Search;
 use crate::{ffi, Kind};
 use alloc::{vec, vec::Vec};
 use core::fmt;
@@ -209,10 +210,10 @@ impl Items {
     /// The pairs whose keys begin with a prefix. They are listed a part at a time, each with twice
     /// the room of the one before, up to a megabyte, and places for keys as long as those so far.
     pub(crate) fn list(kind: Kind, bytes: &[u8], prefix: &[u8]) -> Result<Items, Error> {
-        let mut items = Items { keys: vec![], ends: vec![], values: vec![], next: 0 };
+        let (mut items, all) = (Items::new(), Search::all().within(prefix));
         let mut room = 4096;
         loop {
-            let (status, next_len) = items.list_part(kind, bytes, prefix, room);
+            let (status, next_len) = items.list_part(kind, bytes, &all, room);
             match status {
                 // a trie has no more pairs than bytes: these bytes are malformed, and their parts
                 // may come round
@@ -224,9 +225,34 @@ impl Items {
         }
     }
 
-    /// Lists the next part into a room for keys of this length. Returns the status, and the length
-    /// of the key that comes next.
-    fn list_part(&mut self, kind: Kind, bytes: &[u8], prefix: &[u8], room: usize) -> (u32, usize) {
+    /// No pairs.
+    pub(crate) fn new() -> Items {
+        Items { keys: vec![], ends: vec![], values: vec![], next: 0 }
+    }
+
+    /// Drops all pairs but the last one, which was taken.
+    pub(crate) fn keep_last(&mut self) {
+        let at = self.ends.len().saturating_sub(1);
+        let from = if at == 0 { 0 } else { self.ends[at - 1] };
+        self.keys.drain(..from);
+        self.ends.drain(..at);
+        self.values.drain(..at);
+        for end in &mut self.ends {
+            *end -= from;
+        }
+        self.next = self.ends.len();
+    }
+
+    /// Lists the next part of what a search finds, into a room for keys of this length. Returns the
+    /// status, and the length of the key that comes next.
+    pub(crate) fn list_part(
+        &mut self,
+        kind: Kind,
+        bytes: &[u8],
+        search: &Search,
+        room: usize,
+    ) -> (u32, usize) {
+        let (raw, prefix) = (search.raw(), search.prefix());
         let (from, at) = (self.keys.len(), self.ends.len());
         let places = room / (from / at.max(1)).max(4) + 1;
         let last_from = if at < 2 { 0 } else { self.ends[at - 2] };
@@ -236,26 +262,48 @@ impl Items {
         let (before, keys) = self.keys.split_at_mut(from);
         let last = &before[last_from..];
         let (mut count, mut next_len) = (0, 0);
-        // SAFETY: three slices that are read, three beside them that are written, and two places.
+        // SAFETY: three slices that are read, three beside them that are written, and two places; a
+        // search points to slices that it owns.
         let status = unsafe {
-            ffi::zerotrie_list_some(
-                kind.number(),
-                bytes.as_ptr(),
-                bytes.len(),
-                prefix.as_ptr(),
-                prefix.len(),
-                at > 0,
-                last.as_ptr(),
-                last.len(),
-                keys.as_mut_ptr(),
-                keys.len(),
-                self.ends[at..].as_mut_ptr(),
-                places,
-                self.values[at..].as_mut_ptr(),
-                places,
-                &mut count,
-                &mut next_len,
-            )
+            match &raw {
+                None => ffi::zerotrie_list_some(
+                    kind.number(),
+                    bytes.as_ptr(),
+                    bytes.len(),
+                    prefix.as_ptr(),
+                    prefix.len(),
+                    at > 0,
+                    last.as_ptr(),
+                    last.len(),
+                    keys.as_mut_ptr(),
+                    keys.len(),
+                    self.ends[at..].as_mut_ptr(),
+                    places,
+                    self.values[at..].as_mut_ptr(),
+                    places,
+                    &mut count,
+                    &mut next_len,
+                ),
+                Some(search) => ffi::zerotrie_search_some(
+                    kind.number(),
+                    bytes.as_ptr(),
+                    bytes.len(),
+                    prefix.as_ptr(),
+                    prefix.len(),
+                    search,
+                    at > 0,
+                    last.as_ptr(),
+                    last.len(),
+                    keys.as_mut_ptr(),
+                    keys.len(),
+                    self.ends[at..].as_mut_ptr(),
+                    places,
+                    self.values[at..].as_mut_ptr(),
+                    places,
+                    &mut count,
+                    &mut next_len,
+                ),
+            }
         };
         self.ends.truncate(at + count);
         self.values.truncate(at + count);

@@ -3,6 +3,7 @@
 use crate::builds::build;
 use crate::error::Error;
 use crate::listing::{Cursor, Items, Iter};
+use crate::search::{Found, KeyBounds, Search};
 use crate::{ffi, Kind};
 use alloc::{vec, vec::Vec};
 use core::fmt;
@@ -87,6 +88,41 @@ impl<'a> ZeroTrie<&'a [u8]> {
         ZeroTrie::try_from_bytes(trie.kind, trie.bytes)
     }
 
+    /// The trie in a file, which is sealed, as [`ZeroTrie::seal`] and the program `zerotrie` write
+    /// it, or has tagged bytes.
+    ///
+    /// ```
+    /// # use zerotrie_proved::{ErrorKind, Kind, ZeroTrie};
+    /// let mut file = ZeroTrie::build(Kind::PerfectHash, [("å", 1)])?.seal();
+    /// assert_eq!(ZeroTrie::open(&file)?.get("å"), Some(1));
+    /// file[25] ^= 1;
+    /// assert_eq!(ZeroTrie::open(&file).unwrap_err().kind(), ErrorKind::Damaged);
+    /// # Ok::<(), zerotrie_proved::Error>(())
+    /// ```
+    ///
+    /// Tagged bytes are validated. Those of a sealed file are those that were sealed, and not
+    /// validated.
+    ///
+    /// # Errors
+    ///
+    /// `Damaged` or `UnknownVersion` of a sealed file, and else as [`ZeroTrie::load`].
+    pub fn open(file: &'a [u8]) -> Result<Self, Error> {
+        let (mut number, mut at, mut len) = (0, 0, 0);
+        // SAFETY: a slice, and three places that are this call's own.
+        let status = unsafe {
+            ffi::zerotrie_open(file.as_ptr(), file.len(), &mut number, &mut at, &mut len)
+        };
+        if status != 0 {
+            return Err(Error::of(status));
+        }
+        let (kind, bytes) = (Kind::try_from(number)?, &file[at..at + len]);
+        if at == SEAL_LEN {
+            Ok(ZeroTrie { kind, bytes })
+        } else {
+            ZeroTrie::try_from_bytes(kind, bytes)
+        }
+    }
+
     /// The trie of tagged bytes, as [`ZeroTrie::load`], but what follows the tag is not validated.
     ///
     /// ```
@@ -140,6 +176,27 @@ impl<D: AsRef<[u8]>> ZeroTrie<D> {
         // SAFETY: a slice that is read, one that is written and is this call's own, and a place.
         let status = unsafe {
             ffi::zerotrie_tagged(
+                self.kind.number(),
+                bytes.as_ptr(),
+                bytes.len(),
+                out.as_mut_ptr(),
+                out.len(),
+                &mut len,
+            )
+        };
+        debug_assert_eq!((status, len), (0, out.len()));
+        out
+    }
+
+    /// A sealed file: the kind, the length and a checksum, and then the bytes. [`ZeroTrie::open`]
+    /// reads it.
+    #[must_use]
+    pub fn seal(&self) -> Vec<u8> {
+        let bytes = self.as_bytes();
+        let (mut out, mut len) = (vec![0; bytes.len() + SEAL_LEN], 0);
+        // SAFETY: a slice that is read, one that is written and is this call's own, and a place.
+        let status = unsafe {
+            ffi::zerotrie_seal(
                 self.kind.number(),
                 bytes.as_ptr(),
                 bytes.len(),
@@ -406,6 +463,43 @@ impl<D: AsRef<[u8]>> ZeroTrie<D> {
         Items::list(self.kind, self.as_bytes(), prefix.as_ref())
     }
 
+    /// The pairs whose keys a search finds, in the order of the bytes.
+    #[must_use]
+    pub fn search(&self, search: Search) -> Found<'_> {
+        Found::new(self.kind, self.as_bytes(), search)
+    }
+
+    /// The pairs whose keys are within these bounds, in the order of the bytes.
+    ///
+    /// ```
+    /// # use zerotrie_proved::{Kind, ZeroTrie};
+    /// let trie = ZeroTrie::build(Kind::SimpleAscii, [("bar", 2), ("bazaar", 3), ("foo", 1)])?;
+    /// assert!(trie.range("bar".."foo").eq(trie.prefix_iter("ba")));
+    /// # Ok::<(), zerotrie_proved::Error>(())
+    /// ```
+    #[must_use]
+    pub fn range(&self, bounds: impl KeyBounds) -> Found<'_> {
+        self.search(Search::range(bounds))
+    }
+
+    /// The pairs whose keys a pattern matches, as `s*ing`: see [`Search::glob`].
+    ///
+    /// # Errors
+    ///
+    /// As [`Search::glob`].
+    pub fn glob(&self, pattern: impl AsRef<[u8]>) -> Result<Found<'_>, Error> {
+        Ok(self.search(Search::glob(pattern)?))
+    }
+
+    /// The pairs whose keys at most so many edits of a byte make of a word: see [`Search::fuzzy`].
+    ///
+    /// # Errors
+    ///
+    /// As [`Search::fuzzy`].
+    pub fn fuzzy(&self, word: impl AsRef<[u8]>, edits: u32) -> Result<Found<'_>, Error> {
+        Ok(self.search(Search::fuzzy(word, edits)?))
+    }
+
     /// The keys, as [`ZeroTrie::iter`] lists them.
     pub fn keys(&self) -> impl Iterator<Item = Vec<u8>> + '_ {
         self.iter().map(|(key, _)| key)
@@ -429,6 +523,9 @@ impl<D: AsRef<[u8]>> ZeroTrie<D> {
         self.as_bytes().is_empty()
     }
 }
+
+/// The number of bytes in front of the trie in a sealed file.
+const SEAL_LEN: usize = 24;
 
 /// This many prefixes of a text are found by one walk.
 const FEW: usize = 16;

@@ -13,10 +13,10 @@ fn main() -> Result<(), Box<dyn Error>> {
     let list = fs::read_to_string(words)?;
     let pairs: Vec<(&str, usize)> = list.split_whitespace().zip(0..).collect();
     let built = ZeroTrie::build(Kind::for_pairs(&pairs), pairs)?;
-    fs::write(&file, built.to_tagged())?;
+    fs::write(&file, built.seal())?;
 
     let bytes = fs::read(&file)?;
-    let trie = ZeroTrie::load(&bytes)?;
+    let trie = ZeroTrie::open(&bytes)?;
     // the first completions take no more time if there are thousands
     let first = trie.prefix_iter("car").take(3).map(|(key, _)| String::from_utf8(key));
     println!("{:?}", first.collect::<Result<Vec<_>, _>>()?); // ["car", "cargo", "carp"]
