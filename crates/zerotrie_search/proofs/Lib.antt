@@ -7,3 +7,6 @@ mod WordLemmas
 mod CharLemmas
 mod TableLemmas
 mod PlaceLemmas
+mod OrderLemmas
+mod PathLemmas
+mod LeftLemmas

@@ -9,3 +9,6 @@ pub mod GlobItems
 pub mod Words
 pub mod Pending
 pub mod Laws
+pub mod Sorted
+pub mod Paths
+pub mod SortedLaws

@@ -1,4 +1,4 @@
-//! Keys that go on after another automaton's keys.
+//! Keys that continue another automaton's keys.
 
 ghost use Rattle.std.specs.Prelude.{IfSome};
 ghost use Rattle.zerotrie_search.specs.Sets.{some_front, some_front_from};

@@ -1,22 +1,27 @@
 //! Searches of the tries of each type.
 
 ghost use Rattle.std.specs.Prelude.{◌≡◌, ℕ, List, IfOk};
+ghost use Rattle.std.specs.Option.{option_map};
 ghost use Rattle.std.specs.Range.Bound.{bound_map, bounds_contain};
-ghost use Rattle.zerotrie_core.specs.Kind.{Kind};
-ghost use Rattle.zerotrie_core.specs.Maps.{Pairs, beginning};
-ghost use Rattle.zerotrie_core.specs.Listings.{rest_after};
+ghost use Rattle.std.specs.declared.ops.Bound.TheVariants.{Included, Excluded, Unbounded};
+ghost use Rattle.zerotrie_core.specs.Kind.{Kind, kind_with};
+ghost use Rattle.zerotrie_core.specs.Maps.{Pairs, Map, beginning};
+ghost use Rattle.zerotrie_core.specs.Texts.{Means};
+ghost use Rattle.zerotrie_core.specs.Listings.{rest_after, to_come};
 ghost use Rattle.zerotrie_any.specs.Flavors.{flavor_kind};
 ghost use Rattle.zerotrie_search.specs.Searches.{IsSearch};
 ghost use Rattle.zerotrie_search.specs.Sets.{by_bytes};
+ghost use Rattle.zerotrie_search.specs.Sorted.{within, first_of};
 
 use crate::automaton::Automaton;
 use crate::range::KeyRange;
 use crate::search::ZeroTrieSearch;
+use crate::sorted::ZeroTrieSorted;
 use std::alloc::{AllocError, Global};
 use std::ops::Bound;
 use zerotrie_any::{ZeroTrie, ZeroTrieFlavor};
 use zerotrie_ascii::{AsciiKind, AsciiTrie};
-use zerotrie_core::{Ext, Hash, Simple, TrieStore, ZeroTrieStream};
+use zerotrie_core::{Ext, Hash, Simple, TrieStore, ZeroTrieBuilderOptions, ZeroTrieStream};
 use zerotrie_hashed::{HashedKind, HashedTrie};
 
 /// A trie whose pairs can be searched: each type of trie, over each store.
@@ -121,12 +126,97 @@ pub trait Search {
     {
         self.search(alloc, KeyRange { from, to })
     }
+
+    /// Returns the options of the trie's kind, and its bytes.
+    fn parts(&self) -> (ZeroTrieBuilderOptions, &[u8])
+        ensures kind { kind_with result.0 ≡ kind self.now }
+        ensures bytes { result.1.now ≡ bytes self.now };
+
+    /// Lists the pairs whose keys are between two bounds in ascending order of bytes, in every kind.
+    ///
+    /// ```
+    /// use std::ops::Bound;
+    ///
+    /// let words = [("trial", 1), ("trie", 2), ("trio", 3)];
+    /// let trie = ZeroTriePerfectHash::try_from_iter(rt.alloc(), words)?;
+    /// let from = Bound::Excluded(b"trial".as_slice());
+    /// let mut sorted = trie.stream_sorted(rt.alloc(), from, Bound::Unbounded)?;
+    /// assert!(rt; sorted.advance()?);
+    /// assert_eq!(rt; (sorted.key(), sorted.value()), (b"trie".as_slice(), 2));
+    /// ```
+    ///
+    /// The order is that of the bytes of the stored keys, so where the kind ignores case, upper case
+    /// comes first. An error means that an allocation failed.
+    fn stream_sorted<'p>(
+        &self,
+        alloc: Global,
+        from: Bound<&[u8]>,
+        to: Bound<&'p [u8]>,
+    ) -> Result<ZeroTrieSorted<'_, 'p>, AllocError>
+        ensures pairs { IfOk result (λ s. (m : Map) → Means (kind self.now) (bytes self.now) m
+            → s.left ≡ to_come (within (bound_map (λ b. b.now) from.entry)
+            (bound_map (λ b. b.now) to.entry) m)) }
+        ensures kind { IfOk result (λ s. s.kind ≡ kind self.now) }
+        ensures bytes { IfOk result (λ s. s.bytes ≡ bytes self.now) }
+    {
+        let (options, bytes) = self.parts();
+        let sorted = ZeroTrieSorted::with_options(alloc, options, bytes, from, to)?;
+        Ok(sorted)
+    }
+
+    /// Returns the least pair, by the bytes of its key, whose key is at least this one, or `None` if
+    /// there is none.
+    ///
+    /// ```
+    /// let words = [("trial", 1), ("trie", 2), ("trio", 3)];
+    /// let trie = ZeroTriePerfectHash::try_from_iter(rt.alloc(), words)?;
+    /// let (key, value) = trie.first_from(rt.alloc(), b"tribe")?.ok_or("none")?;
+    /// assert_eq!(rt; (key.as_slice(), value), (b"trie".as_slice(), 2));
+    /// assert!(rt; trie.first_from(rt.alloc(), b"true")?.is_none());
+    /// ```
+    ///
+    /// It compares the edges at one place for each byte that it goes back or down. On malformed bytes
+    /// the result is unspecified. An error means that an allocation failed.
+    fn first_from(&self, alloc: Global, key: &[u8]) -> Result<Option<(Vec<u8>, usize)>, AllocError>
+        ensures { IfOk result (λ r. (m : Map) → Means (kind self.now) (bytes self.now) m
+            → option_map {U = List ℕ × ℕ} (λ p. (p.0.items, p.1)) r
+            ≡ first_of (within (Included key.now) Unbounded m)) }
+    {
+        let sorted = self.stream_sorted(alloc, Bound::Included(key), Bound::Unbounded)?;
+        let first = sorted.first()?;
+        Ok(first)
+    }
+
+    /// Returns the least pair, by the bytes of its key, whose key is above this one, or `None` if
+    /// there is none.
+    ///
+    /// ```
+    /// let words = [("trial", 1), ("trie", 2), ("trio", 3)];
+    /// let trie = ZeroTriePerfectHash::try_from_iter(rt.alloc(), words)?;
+    /// let (key, value) = trie.first_after(rt.alloc(), b"trie")?.ok_or("none")?;
+    /// assert_eq!(rt; (key.as_slice(), value), (b"trio".as_slice(), 3));
+    /// ```
+    ///
+    /// On malformed bytes the result is unspecified. An error means that an allocation failed.
+    fn first_after(&self, alloc: Global, key: &[u8]) -> Result<Option<(Vec<u8>, usize)>, AllocError>
+        ensures { IfOk result (λ r. (m : Map) → Means (kind self.now) (bytes self.now) m
+            → option_map {U = List ℕ × ℕ} (λ p. (p.0.items, p.1)) r
+            ≡ first_of (within (Excluded key.now) Unbounded m)) }
+    {
+        let sorted = self.stream_sorted(alloc, Bound::Excluded(key), Bound::Unbounded)?;
+        let first = sorted.first()?;
+        Ok(first)
+    }
 }
 
 impl<K: AsciiKind, S: TrieStore> Search for AsciiTrie<K, S> {
     ghost kind = { λ _. K.kind };
 
     ghost bytes = { λ t. S.stored t.store };
+
+    fn parts(&self) -> (ZeroTrieBuilderOptions, &[u8]) {
+        (ZeroTrieBuilderOptions::of::<K>(), self.as_bytes())
+    }
 
     fn search<T: Automaton>(&self, alloc: Global, automaton: T) -> ZeroTrieSearch<'_, T> {
         ZeroTrieSearch::new(alloc, self.stream(alloc), automaton)
@@ -159,6 +249,10 @@ impl<K: HashedKind, S: TrieStore> Search for HashedTrie<K, S> {
 
     ghost bytes = { λ t. S.stored t.store };
 
+    fn parts(&self) -> (ZeroTrieBuilderOptions, &[u8]) {
+        (ZeroTrieBuilderOptions::of::<K>(), self.as_bytes())
+    }
+
     fn search<T: Automaton>(&self, alloc: Global, automaton: T) -> ZeroTrieSearch<'_, T> {
         ZeroTrieSearch::new(alloc, self.stream(alloc), automaton)
     }
@@ -189,6 +283,15 @@ impl<S: TrieStore> Search for ZeroTrie<S> {
     ghost kind = { λ t. flavor_kind t.flavor };
 
     ghost bytes = { λ t. S.stored t.store };
+
+    fn parts(&self) -> (ZeroTrieBuilderOptions, &[u8]) {
+        let options = match self.flavor {
+            ZeroTrieFlavor::SimpleAscii => ZeroTrieBuilderOptions::of::<Simple>(),
+            ZeroTrieFlavor::PerfectHash => ZeroTrieBuilderOptions::of::<Hash>(),
+            ZeroTrieFlavor::ExtendedCapacity => ZeroTrieBuilderOptions::of::<Ext>(),
+        };
+        (options, self.as_bytes())
+    }
 
     fn search<T: Automaton>(&self, alloc: Global, automaton: T) -> ZeroTrieSearch<'_, T> {
         let pairs = self.stream(alloc);

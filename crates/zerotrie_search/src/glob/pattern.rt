@@ -34,7 +34,7 @@ fn letter(text: &[u8]) -> Option<((bool, u8), &[u8])>
 }
 
 /// Returns the last byte of a range whose first byte is `from`, and what is left of the text after
-/// it. If no range goes on here, that is the first byte itself.
+/// it. If no range continues here, that is the first byte itself.
 fn range_end(from: u8, text: &[u8]) -> (u8, &[u8])
     ensures has { (escaped : Bool) (b : ℕ) → has ((escaped, from) ∷ letters text.now) b
         ≡ (is_within from result.0 b || has (letters result.1.now) b) }

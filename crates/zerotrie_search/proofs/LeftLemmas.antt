@@ -1,0 +1,248 @@
+-- What is left of a sorted listing.
+use Rattle.std.proofs.Common.{◌≡◌, ℕ, List, [], ◌∷◌, ◌++◌, refl, sym, ◌∙◌, ap, subst, arith, Option, Some, None, Bool, true, false, cond, Ordering, Less, Equal, Greater}
+use Rattle.std.specs.Prelude.{T, filter, ◌&&◌}
+use Rattle.std.specs.Cmp.{tied_itself, unsigned_ties, eq_by_cmp_equiv}
+use Rattle.std.specs.Cmp.Lexicographic.{slice_cmp, nat_list_cmp_total, lists_ties}
+use Rattle.std.specs.FinMap.{entries, find, is_sorted, entries_sorted, nat_cmp-IsAntisymmetric, slice_cmp-IsAntisymmetric}
+use Rattle.std.specs.FinMap.Entries.{below_all, is_sorted-where_key, find-where_key, same_entries}
+use Rattle.std.specs.Ordering.{nat_cmp, is_le, is_lt, ordering_then, eq_by_cmp}
+use Rattle.std.specs.Range.Bound.{is_up_to_end, bounds_contain}
+use Rattle.std.specs.declared.ops.Bound.{Bound}
+use Rattle.std.specs.declared.ops.Bound.TheVariants.{Included, Excluded, Unbounded}
+use Rattle.zerotrie_base.specs.Kind.{Kind, simple_ascii}
+use Rattle.zerotrie_base.specs.Texts.{Lists, Means}
+use Rattle.zerotrie_core.proofs.ForCallers.{listed_pairs}
+use Rattle.std.proofs.lemmas.List.{append-nil}
+use Rattle.zerotrie_search.specs.Sorted.{within}
+use Rattle.zerotrie_search.specs.SortedLaws.{SortedAscends}
+use Rattle.zerotrie_base.specs.Maps.{Pairs, Map, map_of, value_at, same_key, Ascends}
+use Rattle.zerotrie_core.proofs.CallerLemmas.{same-entries, exact_same, exact_itself, entries-map_of}
+use Rattle.zerotrie_search.specs.Sets.{by_bytes}
+use Rattle.zerotrie_search.specs.Paths.{SameFrom, NoneFrom, Starts, IsFollowed, is_from, bound_at, pairs_from, edges_from}
+use Rattle.zerotrie_search.proofs.OrderLemmas.{one_from}
+
+-- keys are equal as the order of the map says
+same_as_order : (p q : List ℕ) → same_key simple_ascii p q ≡ eq_by_cmp (slice_cmp nat_cmp) q p
+same_as_order p q = lists_ties nat_cmp unsigned_ties p q ∙ (eq_by_cmp_equiv nat_list_cmp_total).symm p q
+
+value_find : (pairs : Pairs) (key : List ℕ) → value_at simple_ascii pairs key ≡ find (slice_cmp nat_cmp) key pairs
+value_find [] key = refl
+value_find (e ∷ pairs) key = rw (same_as_order e.0 key, value_find pairs key) refl
+
+alike_keys : (x y : List ℕ) → slice_cmp nat_cmp x y ≡ Equal → x ≡ y
+alike_keys = slice_cmp-IsAntisymmetric nat_cmp-IsAntisymmetric
+
+found_where : (p : List ℕ → Bool) (q : List ℕ) (es : Pairs) → find (slice_cmp nat_cmp) q (filter (λ e. p e.0) es) ≡ cond (p q) (find (slice_cmp nat_cmp) q es) None
+found_where p q es = find-where_key (slice_cmp nat_cmp) p q (λ x e. ap p (sym (alike_keys q x e))) es
+
+cond_same : (a b : Bool) (x : Option ℕ) → ((v : ℕ) → x ≡ Some v → a ≡ b) → cond a x None ≡ cond b x None
+cond_same true true x h = refl
+cond_same false false x h = refl
+cond_same true false None h = refl
+cond_same false true None h = refl
+cond_same true false (Some v) h = absurd (let e = h v refl in cc)
+cond_same false true (Some v) h = absurd (let e = h v refl in cc)
+
+-- tests that agree on the keys of a map choose the same pairs
+pub filter_alike : (m : Map) (p r : List ℕ → Bool) → ((q : List ℕ) (v : ℕ) → value_at simple_ascii (entries m) q ≡ Some v → p q ≡ r q) → filter (λ e. p e.0) (entries m) ≡ filter (λ e. r e.0) (entries m)
+filter_alike m p r h =
+    same_entries (slice_cmp nat_cmp) nat_list_cmp_total alike_keys (filter (λ e. p e.0) (entries m)) (filter (λ e. r e.0) (entries m))
+    (is_sorted-where_key (slice_cmp nat_cmp) p (entries m) (entries_sorted m)) (is_sorted-where_key (slice_cmp nat_cmp) r (entries m) (entries_sorted m))
+    (λ q. found_where p q (entries m) ∙ cond_same (p q) (r q) (find (slice_cmp nat_cmp) q (entries m)) (λ v e. h q v (value_find (entries m) q ∙ e)) ∙ sym (found_where r q (entries m)))
+
+filter_no : (es : Pairs) → filter (λ e. false) es ≡ []
+filter_no [] = refl
+filter_no (e ∷ es) = filter_no es
+
+pub filter_none : (m : Map) (p : List ℕ → Bool) → ((q : List ℕ) (v : ℕ) → value_at simple_ascii (entries m) q ≡ Some v → p q ≡ false) → filter (λ e. p e.0) (entries m) ≡ []
+filter_none m p h = filter_alike m p (λ q. false) h ∙ filter_no (entries m)
+
+-- behind a key come the keys above it
+pub above_is : (key q : List ℕ) → is_from (key ++ 0 ∷ []) q ≡ is_lt (slice_cmp nat_cmp key q)
+above_is [] [] = refl
+above_is [] (c ∷ q) = one_from 0 c q (omega arith)
+above_is (b ∷ key) [] = refl
+above_is (b ∷ key) (c ∷ q) = by (nat_cmp b c) (slice_cmp nat_cmp (key ++ 0 ∷ []) q) (slice_cmp nat_cmp key q) (above_is key q)
+  where
+    by : (o s t : Ordering) → is_le s ≡ is_lt t → is_le (ordering_then o s) ≡ is_lt (ordering_then o t)
+    by Less s t h = refl
+    by Equal s t h = h
+    by Greater s t h = refl
+
+lt_le : (o : Ordering) → (o ≡ Equal → ⊥) → is_lt o ≡ is_le o
+lt_le Less h = refl
+lt_le Equal h = absurd (h refl)
+lt_le Greater h = refl
+
+pub above_other : (key q : List ℕ) → (key ≡ q → ⊥) → is_from (key ++ 0 ∷ []) q ≡ is_from key q
+above_other key q other = above_is key q ∙ lt_le (slice_cmp nat_cmp key q) (λ e. other (alike_keys key q e))
+
+pub from_itself : (key : List ℕ) → is_from key key ≡ true
+from_itself key = ap is_le (tied_itself nat_list_cmp_total key)
+
+and_first : (a b : Bool) → (a && b) ≡ true → a ≡ true
+and_first true b e = refl
+and_first false b e = e
+
+and_second : (a b : Bool) → (a && b) ≡ true → b ≡ true
+and_second true b e = e
+and_second false b e = absurd (cc)
+
+true_T : (b : Bool) → b ≡ true → T b
+true_T b e = subst T (sym e) tt
+
+both_T : (a b : Bool) → T a → T b → T (a && b)
+both_T true b p q = q
+both_T false b p q = absurd p
+
+below_kept : (key : List ℕ) (e : List ℕ × ℕ) (es : Pairs) (t : Bool) → (t ≡ true → is_lt (slice_cmp nat_cmp key e.0) ≡ true) → T (below_all (slice_cmp nat_cmp) key es) → T (below_all (slice_cmp nat_cmp) key (cond t (e ∷ es) es))
+below_kept key e es true h b = both_T (is_lt (slice_cmp nat_cmp key e.0)) (below_all (slice_cmp nat_cmp) key es) (true_T (is_lt (slice_cmp nat_cmp key e.0)) (h refl)) b
+below_kept key e es false h b = b
+
+below_where : (key : List ℕ) (p : List ℕ → Bool) (es : Pairs) → ((q : List ℕ) → p q ≡ true → is_lt (slice_cmp nat_cmp key q) ≡ true) → T (below_all (slice_cmp nat_cmp) key (filter (λ e. p e.0) es))
+below_where key p [] h = tt
+below_where key p (e ∷ es) h = below_kept key e (filter (λ e. p e.0) es) (p e.0) (h e.0) (below_where key p es h)
+
+-- the value of a key, or what comes behind the key
+one_first : (t : Bool) (v : ℕ) (p r : Bool) (x : Option ℕ) → (t ≡ true → (x ≡ Some v) × (p ≡ true)) → (t ≡ false → (w : ℕ) → x ≡ Some w → p ≡ r) → cond p x None ≡ cond t (Some v) (cond r x None)
+one_first true v p r x h g = let a = h refl in ap (λ b. cond b x None) a.1 ∙ a.0
+one_first false v p r x h g = cond_same p r x (g refl)
+
+tied_same : (q key : List ℕ) → eq_by_cmp (slice_cmp nat_cmp) q key ≡ true → key ≡ q
+tied_same q key e = exact_same key q (same_as_order key q ∙ e)
+
+not_tied : (q key : List ℕ) → eq_by_cmp (slice_cmp nat_cmp) q key ≡ false → key ≡ q → ⊥
+not_tied q key e same =
+    let t : eq_by_cmp (slice_cmp nat_cmp) key key ≡ true = sym (same_as_order key key) ∙ exact_itself key in
+    let f : eq_by_cmp (slice_cmp nat_cmp) key key ≡ false = subst (λ x. eq_by_cmp (slice_cmp nat_cmp) x key ≡ false) (sym same) e in
+    cc
+
+-- the first pair of those that are left, and the others
+pub first_left : (m : Map) (p r : List ℕ → Bool) (key : List ℕ) (v : ℕ) → value_at simple_ascii (entries m) key ≡ Some v → p key ≡ true
+    → ((q : List ℕ) (w : ℕ) → value_at simple_ascii (entries m) q ≡ Some w → (key ≡ q → ⊥) → p q ≡ r q) → ((q : List ℕ) → r q ≡ true → is_lt (slice_cmp nat_cmp key q) ≡ true)
+    → filter (λ e. p e.0) (entries m) ≡ (key, v) ∷ filter (λ e. r e.0) (entries m)
+first_left m p r key v here passes others above =
+    same_entries (slice_cmp nat_cmp) nat_list_cmp_total alike_keys (filter (λ e. p e.0) (entries m)) ((key, v) ∷ filter (λ e. r e.0) (entries m))
+    (is_sorted-where_key (slice_cmp nat_cmp) p (entries m) (entries_sorted m))
+    (both_T (below_all (slice_cmp nat_cmp) key (filter (λ e. r e.0) (entries m))) (is_sorted (slice_cmp nat_cmp) (filter (λ e. r e.0) (entries m)))
+    (below_where key r (entries m) above) (is_sorted-where_key (slice_cmp nat_cmp) r (entries m) (entries_sorted m)))
+    (λ q. found_where p q (entries m)
+    ∙ one_first (eq_by_cmp (slice_cmp nat_cmp) q key) v (p q) (r q) (find (slice_cmp nat_cmp) q (entries m))
+    (λ t. (let same = tied_same q key t in (subst (λ x. find (slice_cmp nat_cmp) x (entries m) ≡ Some v) same (sym (value_find (entries m) key) ∙ here), subst (λ x. p x ≡ true) same passes)))
+    (λ f w e. others q w (value_find (entries m) q ∙ e) (not_tied q key f))
+    ∙ ap (λ x. cond (eq_by_cmp (slice_cmp nat_cmp) q key) (Some v) x) (sym (found_where r q (entries m))))
+
+-- an end that is past a key is past the keys below it
+le_more : (a b c : List ℕ) → is_le (slice_cmp nat_cmp a b) ≡ true → is_le (slice_cmp nat_cmp b c) ≡ true → is_le (slice_cmp nat_cmp a c) ≡ true
+le_more a b c = by (slice_cmp nat_cmp a b) (slice_cmp nat_cmp b c) refl refl
+  where
+    by : (o s : Ordering) → slice_cmp nat_cmp a b ≡ o → slice_cmp nat_cmp b c ≡ s → is_le o ≡ true → is_le s ≡ true → is_le (slice_cmp nat_cmp a c) ≡ true
+    by Less Less e f h g = ap is_le (nat_list_cmp_total.trans a b c e f)
+    by Less Equal e f h g = subst (λ x. is_le (slice_cmp nat_cmp a x) ≡ true) (alike_keys b c f) (ap is_le e)
+    by Less Greater e f h g = absurd (cc)
+    by Equal Less e f h g = subst (λ x. is_le (slice_cmp nat_cmp x c) ≡ true) (sym (alike_keys a b e)) (ap is_le f)
+    by Equal Equal e f h g = subst (λ x. is_le (slice_cmp nat_cmp x c) ≡ true) (sym (alike_keys a b e)) (ap is_le f)
+    by Equal Greater e f h g = absurd (cc)
+    by Greater s e f h g = absurd (cc)
+
+lt_more : (a b c : List ℕ) → is_le (slice_cmp nat_cmp a b) ≡ true → is_lt (slice_cmp nat_cmp b c) ≡ true → is_lt (slice_cmp nat_cmp a c) ≡ true
+lt_more a b c = by (slice_cmp nat_cmp a b) (slice_cmp nat_cmp b c) refl refl
+  where
+    by : (o s : Ordering) → slice_cmp nat_cmp a b ≡ o → slice_cmp nat_cmp b c ≡ s → is_le o ≡ true → is_lt s ≡ true → is_lt (slice_cmp nat_cmp a c) ≡ true
+    by Less Less e f h g = ap is_lt (nat_list_cmp_total.trans a b c e f)
+    by Equal Less e f h g = subst (λ x. is_lt (slice_cmp nat_cmp x c) ≡ true) (sym (alike_keys a b e)) (ap is_lt f)
+    by Less Equal e f h g = absurd (cc)
+    by Less Greater e f h g = absurd (cc)
+    by Equal Equal e f h g = absurd (cc)
+    by Equal Greater e f h g = absurd (cc)
+    by Greater s e f h g = absurd (cc)
+
+pub end_below : (to : Bound (List ℕ)) (key q : List ℕ) → is_from key q ≡ true → is_up_to_end by_bytes to q ≡ true → is_up_to_end by_bytes to key ≡ true
+end_below (Included b) key q h g = le_more key q b h g
+end_below (Excluded b) key q h g = lt_more key q b h g
+end_below Unbounded key q h g = refl
+
+-- a listing at a pair
+pub left_found : (pairs : Pairs) (to : Bound (List ℕ)) (bound key : List ℕ) (v : ℕ) → value_at simple_ascii pairs key ≡ Some v → SameFrom pairs bound key → is_up_to_end by_bytes to key ≡ true
+    → filter (λ e. is_from bound e.0 && is_up_to_end by_bytes to e.0) (entries (map_of pairs)) ≡ (key, v) ∷ filter (λ e. is_from (key ++ 0 ∷ []) e.0 && is_up_to_end by_bytes to e.0) (entries (map_of pairs))
+left_found pairs to bound key v here same ends =
+    first_left (map_of pairs) (λ q. is_from bound q && is_up_to_end by_bytes to q) (λ q. is_from (key ++ 0 ∷ []) q && is_up_to_end by_bytes to q) key v (same-entries pairs key ∙ here)
+    (ap (λ t. t && is_up_to_end by_bytes to key) (same key v here ∙ from_itself key) ∙ ends)
+    (λ q w e other. ap (λ t. t && is_up_to_end by_bytes to q) (same q w (sym (same-entries pairs q) ∙ e) ∙ sym (above_other key q other)))
+    (λ q t. sym (above_is key q) ∙ and_first (is_from (key ++ 0 ∷ []) q) (is_up_to_end by_bytes to q) t)
+
+pub left_none : (pairs : Pairs) (to : Bound (List ℕ)) (bound : List ℕ) → NoneFrom pairs bound → filter (λ e. is_from bound e.0 && is_up_to_end by_bytes to e.0) (entries (map_of pairs)) ≡ []
+left_none pairs to bound none =
+    filter_none (map_of pairs) (λ q. is_from bound q && is_up_to_end by_bytes to q) (λ q v e. ap (λ t. t && is_up_to_end by_bytes to q) (none q v (sym (same-entries pairs q) ∙ e)))
+
+beyond : (a b : Bool) → (a ≡ true → b ≡ true → ⊥) → (a && b) ≡ false
+beyond true true h = absurd (h refl refl)
+beyond true false h = refl
+beyond false b h = refl
+
+pub left_beyond : (pairs : Pairs) (to : Bound (List ℕ)) (bound key : List ℕ) → SameFrom pairs bound key → is_up_to_end by_bytes to key ≡ false → filter (λ e. is_from bound e.0 && is_up_to_end by_bytes to e.0) (entries (map_of pairs)) ≡ []
+left_beyond pairs to bound key same past =
+    filter_none (map_of pairs) (λ q. is_from bound q && is_up_to_end by_bytes to q)
+    (λ q v e. beyond (is_from bound q) (is_up_to_end by_bytes to q) (λ f u. (let t = end_below to key q (sym (same q v (sym (same-entries pairs q) ∙ e)) ∙ f) u in absurd (cc))))
+
+module _ {kind : Kind} {bytes : List ℕ} {pairs : Pairs} (lists : Lists kind bytes pairs) where
+  pub finds_pair : (to : Bound (List ℕ)) (bound key : List ℕ) (v : ℕ) → value_at simple_ascii pairs key ≡ Some v → SameFrom pairs bound key → is_up_to_end by_bytes to key ≡ true
+      → pairs_from kind bytes to bound ≡ (key, v) ∷ pairs_from kind bytes to (key ++ 0 ∷ [])
+  finds_pair to bound key v here same ends =
+      subst (λ ps. filter (λ e. is_from bound e.0 && is_up_to_end by_bytes to e.0) (entries (map_of ps)) ≡ (key, v) ∷ filter (λ e. is_from (key ++ 0 ∷ []) e.0 && is_up_to_end by_bytes to e.0) (entries (map_of ps)))
+      (sym (listed_pairs lists)) (left_found pairs to bound key v here same ends)
+
+  pub finds_none : (to : Bound (List ℕ)) (bound : List ℕ) → NoneFrom pairs bound → pairs_from kind bytes to bound ≡ []
+  finds_none to bound none = subst (λ ps. filter (λ e. is_from bound e.0 && is_up_to_end by_bytes to e.0) (entries (map_of ps)) ≡ []) (sym (listed_pairs lists)) (left_none pairs to bound none)
+
+  pub finds_beyond : (to : Bound (List ℕ)) (bound key : List ℕ) → SameFrom pairs bound key → is_up_to_end by_bytes to key ≡ false → pairs_from kind bytes to bound ≡ []
+  finds_beyond to bound key same past = subst (λ ps. filter (λ e. is_from bound e.0 && is_up_to_end by_bytes to e.0) (entries (map_of ps)) ≡ []) (sym (listed_pairs lists)) (left_beyond pairs to bound key same past)
+
+-- where a listing starts
+pub starts_included : (kind : Kind) (bytes bound key : List ℕ) (next : Option ℕ) → IsFollowed kind bytes bound key next → Starts kind bytes (Included bound) (bound_at key next)
+starts_included kind bytes bound key None is = λ pairs lists q v e. ap (λ x. is_from x q) (sym is)
+starts_included kind bytes bound key (Some b) same = λ pairs lists q v e. ap (λ x. is_from x q) (sym (append-nil bound)) ∙ same pairs lists [] q v e
+
+pub starts_excluded : (kind : Kind) (bytes bound key : List ℕ) (next : Option ℕ) → IsFollowed kind bytes bound key next → Starts kind bytes (Excluded bound) (key ++ edges_from next ∷ [])
+starts_excluded kind bytes bound key None is = λ pairs lists q v e. sym (above_is bound q) ∙ ap (λ x. is_from (x ++ 0 ∷ []) q) (sym is)
+starts_excluded kind bytes bound key (Some b) same = λ pairs lists q v e. sym (above_is bound q) ∙ same pairs lists (0 ∷ []) q v e
+
+pub starts_left : (kind : Kind) (bytes : List ℕ) (m : Map) (means : Means kind bytes m) (from to : Bound (List ℕ)) (bound : List ℕ) → Starts kind bytes from bound → pairs_from kind bytes to bound ≡ within from to m
+starts_left kind bytes m means from to bound starts =
+    ap (λ ps. filter (λ e. is_from bound e.0 && is_up_to_end by_bytes to e.0) (entries (map_of ps))) (listed_pairs means.lists)
+    ∙ filter_alike (map_of means.pairs) (λ q. is_from bound q && is_up_to_end by_bytes to q) (λ q. bounds_contain by_bytes from to q)
+    (λ q v e. ap (λ t. t && is_up_to_end by_bytes to q) (sym (starts means.pairs means.lists q v (sym (same-entries means.pairs q) ∙ e))))
+    ∙ ap (λ n. within from to n) (sym means.is)
+
+-- pairs that are sorted ascend
+less_is : (o : Ordering) → T (is_lt o) → o ≡ Less
+less_is Less h = refl
+less_is Equal h = absurd h
+less_is Greater h = absurd h
+
+first_T : (a b : Bool) → T (a && b) → T a
+first_T true b h = tt
+first_T false b h = absurd h
+
+second_T : (a b : Bool) → T (a && b) → T b
+second_T true b h = h
+second_T false b h = absurd h
+
+pub sorted_ascends : (es : Pairs) → T (is_sorted (slice_cmp nat_cmp) es) → Ascends es
+sorted_ascends [] h = tt
+sorted_ascends (e ∷ []) h = (tt, tt)
+sorted_ascends (e ∷ f ∷ es) h =
+    let below = first_T (below_all (slice_cmp nat_cmp) e.0 (f ∷ es)) (is_sorted (slice_cmp nat_cmp) (f ∷ es)) h in (
+      less_is (slice_cmp nat_cmp e.0 f.0) (first_T (is_lt (slice_cmp nat_cmp e.0 f.0)) (below_all (slice_cmp nat_cmp) e.0 es) below),
+      sorted_ascends (f ∷ es) (second_T (below_all (slice_cmp nat_cmp) e.0 (f ∷ es)) (is_sorted (slice_cmp nat_cmp) (f ∷ es)) h),
+    )
+
+pub within_ascends : SortedAscends
+within_ascends from to m = sorted_ascends (within from to m) (is_sorted-where_key (slice_cmp nat_cmp) (bounds_contain by_bytes from to) (entries m) (entries_sorted m))
+
+filter_all : (es : Pairs) → filter (λ e. true) es ≡ es
+filter_all [] = refl
+filter_all (e ∷ es) = ap (λ x. e ∷ x) (filter_all es)
+
+pub within_all : (pairs : Pairs) → Ascends pairs → within Unbounded Unbounded (map_of pairs) ≡ pairs
+within_all pairs up = filter_all (entries (map_of pairs)) ∙ entries-map_of pairs up

@@ -1,0 +1,42 @@
+-- The pairs of a map in the order of bytes.
+use Rattle.std.specs.Prelude.{ℕ, List, [], ◌∷◌, Bool, true, false, Option, Some, None, Result, Ok, Err, filter}
+use Rattle.std.specs.FinMap.{entries}
+use Rattle.std.specs.Range.Bound.{bounds_contain}
+use Rattle.std.specs.declared.alloc.AllocError.{AllocError}
+use Rattle.std.specs.declared.ops.Bound.{Bound}
+use Rattle.zerotrie_base.specs.Kind.{Kind}
+use Rattle.zerotrie_base.specs.Maps.{Pairs, Map}
+use Rattle.zerotrie_core.specs.Listings.{Left}
+use Rattle.zerotrie_core.specs.declared.listing.ListError.{ListError}
+use Rattle.zerotrie_core.specs.declared.listing.ListError.TheVariants.{OutOfMemory}
+use Rattle.zerotrie_search.specs.Sets.{by_bytes}
+
+-- the pairs of a map whose keys are between two bounds, in ascending order of their keys
+abbrev pub within : Bound (List ℕ) → Bound (List ℕ) → Map → Pairs
+within from to m = filter (λ e. bounds_contain by_bytes from to e.0) (entries m)
+
+-- the first of some pairs, if there is one
+abbrev pub first_of : Pairs → Option (List ℕ × ℕ)
+first_of [] = None
+first_of (e ∷ pairs) = Some e
+
+-- the last of some pairs, if there is one
+abbrev pub last_of : Pairs → Option (List ℕ × ℕ)
+last_of [] = None
+last_of (e ∷ []) = Some e
+last_of (e ∷ f ∷ pairs) = last_of (f ∷ pairs)
+
+-- A sorted listing: the key and the value in hand, what is left, and the trie.
+pub record Sorting : Type 0 where
+  pub key : List ℕ
+  pub value : ℕ
+  pub left : Left
+  pub kind : Kind
+  pub bytes : List ℕ
+
+-- the result of a call of `advance` as an item of the listing: the pair in hand after it, or the
+-- error, or the end
+abbrev pub sorted_item : Result Bool AllocError → Sorting → Option (Result (List ℕ × ℕ) ListError)
+sorted_item (Ok true) after = Some (Ok (after.key, after.value))
+sorted_item (Ok false) after = None
+sorted_item (Err e) after = Some (Err OutOfMemory)
